@@ -1,0 +1,9 @@
+pub mod CellLemmas
+pub mod RuleLemmas
+pub mod RuleTextLemmas
+pub mod SortedLemmas
+pub mod PatternMembers
+pub mod PatternOrder
+pub mod PatternBoxes
+pub mod GenerationsLaws
+pub mod CellListStep

@@ -1,0 +1,6 @@
+pub mod Cell
+pub mod Rule
+pub mod RuleFlags
+pub mod RuleText
+pub mod Pattern
+pub mod Generations

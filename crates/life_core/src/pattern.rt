@@ -1,0 +1,242 @@
+//! Finite sets of cells.
+ghost use Rattle.std.specs.Prelude.{◌≡◌, ◌↔◌, ◌≤ℤ◌, ◌+ℤ◌, ◌-ℤ◌, neg_ℤ, pos, [], IfOk, IfSome, IsNone, IsTrue, map};
+ghost use Rattle.std.specs.Int.{int_min, int_max};
+ghost use Rattle.std.specs.List.{All};
+ghost use Rattle.std.specs.FinSet as set;
+ghost use Rattle.life_core.specs.Cell.{cell_at, moved_cell, IsCellWithin};
+ghost use Rattle.life_core.specs.Pattern.{image, in_order, IsWithin, IsBox, normal};
+
+use crate::cell::{Cell, PLANE};
+use crate::fault::Fault;
+use crate::sorted::{find_cell, sort_cells};
+use std::alloc::{AllocError, Allocator, Global};
+use std::marker::Model;
+
+/// The box of a set of cells.
+#[derive(Clone, Copy, Debug, PartialEq, Eq)]
+pub struct Bounds {
+    pub left: i64,
+    pub top: i64,
+    pub width: u64,
+    pub height: u64,
+}
+
+/// A finite set of cells.
+#[derive(Debug, Drop)]
+pub struct Pattern<A: Allocator = Global> {
+    cells: Vec<Cell, A>,
+}
+
+impl<A: Allocator> Model for Pattern<A> {
+    ghost use Rattle.std.specs.FinSet as set;
+    ghost use Rattle.life_core.specs.Pattern.{Cells, coded_cells, IsCellList};
+    ghost use Rattle.life_core.specs.declared.cell.TheConstants.{PLANE};
+
+    ghost Value = { Cells };
+
+    ghost coded = { coded_cells };
+
+    ghost view = { λ a. set.from_list a.cells.items };
+
+    ghost invariant = { λ a. IsCellList PLANE a.cells.items };
+}
+
+impl<A: Allocator> Pattern<A> {
+    /// The set of the cells of the pairs (column, row). Repeats count once.
+    pub fn from_cells(alloc: A, cells: &[(i64, i64)]) -> Result<Pattern<A>, Fault>
+        requires { All (λ p. IsCellWithin PLANE (cell_at p)) cells.now }
+        ensures { IfOk result (λ X. X ≡ set.from_list (map cell_at cells.now)) }
+    {
+        Ok(Pattern::from_list(cells_of(alloc, cells)?))
+    }
+
+    /// The set of the cells of a list, in any order and with repeats.
+    pub fn from_list(cells: Vec<Cell, A>) -> Pattern<A>
+        requires { All (IsCellWithin PLANE) cells.items }
+        ensures { result ≡ set.from_list cells.items }
+    {
+        let mut cells = cells;
+        sort_cells(&mut cells);
+        Pattern { cells }
+    }
+
+    /// What the set's memory comes from.
+    pub fn allocator(&self) -> &A {
+        self.cells.allocator()
+    }
+
+    /// Whether the cell is live.
+    pub fn contains(&self, cell: Cell) -> bool
+        ensures { result ≡ set.contains self.now cell }
+    {
+        find_cell(&self.cells, cell)
+    }
+
+    /// The live cells, by row and then by column.
+    pub fn cells(&self) -> &[Cell]
+        ensures cells { result.now ≡ in_order self.now }
+        ensures inside { All (IsCellWithin PLANE) result.now }
+    {
+        self.cells.as_slice()
+    }
+
+    /// Whether both coordinates of every live cell lie between `-k` and `k`.
+    pub fn within(&self, k: u32) -> bool
+        ensures { IsTrue result ↔ IsWithin k self.now }
+    {
+        all_within(&self.cells, k)
+    }
+
+    /// The same set again.
+    pub fn copy(&self, alloc: A) -> Result<Pattern<A>, Fault>
+        ensures { IfOk result (λ X. X ≡ self.now) }
+    {
+        Ok(Pattern {
+            cells: Vec::from_slice(alloc, &self.cells)?,
+        })
+    }
+
+    /// The set moved `dx` columns to the right and `dy` rows down.
+    pub fn moved(&self, alloc: A, dx: i64, dy: i64) -> Result<Pattern<A>, Fault>
+        requires { IsWithin PLANE (image (moved_cell dx dy) self.now) }
+        ensures { IfOk result (λ X. X ≡ image (moved_cell dx dy) self.now) }
+    {
+        Ok(Pattern::from_list(moved_cells(alloc, &self.cells, dx, dy)?))
+    }
+
+    /// The box of the live cells, if there are any.
+    pub fn bounds(&self) -> Option<Bounds>
+        ensures none { IsNone result ↔ (self.now ≡ set.empty) }
+        ensures is_box { IfSome result (λ b. IsBox self.now b.left b.top b.width b.height) }
+    {
+        bounds_of(&self.cells)
+    }
+
+    /// The set moved so that its least column and its least row are 0.
+    pub fn normal(&self, alloc: A) -> Result<Pattern<A>, Fault>
+        requires { IsWithin 500_000_000 self.now }
+        ensures { IfOk result (λ X. X ≡ normal self.now) }
+    {
+        match self.bounds() {
+            None => self.copy(alloc),
+            Some(bounds) => self.moved(alloc, -bounds.left, -bounds.top),
+        }
+    }
+
+    /// Whether the sets are equal.
+    pub fn same(&self, other: &Pattern<A>) -> bool
+        ensures { IsTrue result ↔ (self.now ≡ other.now) }
+    {
+        self.cells == other.cells
+    }
+
+    /// How many cells are live.
+    pub fn population(&self) -> usize
+        ensures { result ≡ set.len self.now }
+    {
+        self.cells.len()
+    }
+}
+
+/// The cells of the pairs (column, row).
+fn cells_of<A: Allocator>(alloc: A, pairs: &[(i64, i64)]) -> Result<Vec<Cell, A>, AllocError>
+    ensures { IfOk result (λ v. v.items ≡ map cell_at pairs.now) }
+{
+    pairs
+        .iter()
+        .map(|pair| Cell {
+            row: pair.1,
+            column: pair.0,
+        })
+        .collect(alloc)
+}
+
+/// Whether both coordinates of each cell lie between `-k` and `k`.
+fn all_within(cells: &[Cell], k: u32) -> bool
+    ensures { IsTrue result ↔ All (IsCellWithin k) cells.now }
+{
+    cells.iter().all(|c| c.is_within(k))
+}
+
+/// The cells moved `dx` columns to the right and `dy` rows down.
+fn moved_cells<A: Allocator>(
+    alloc: A,
+    cells: &[Cell],
+    dx: i64,
+    dy: i64,
+) -> Result<Vec<Cell, A>, AllocError>
+    requires here { All (IsCellWithin PLANE) cells.now }
+    requires there { All (λ c. IsCellWithin PLANE (moved_cell dx dy c)) cells.now }
+    ensures { IfOk result (λ v. v.items ≡ map (moved_cell dx dy) cells.now) }
+{
+    cells.iter().map(|c| c.moved(dx, dy)).collect(alloc)
+}
+
+/// The box of the cells, if there are any.
+fn bounds_of(cells: &[Cell]) -> Option<Bounds>
+    requires { All (IsCellWithin PLANE) cells.now }
+    ensures none { IsNone result ↔ (cells.now ≡ []) }
+    ensures is_box { IfSome result (λ b. IsBox (set.from_list cells.now) b.left b.top b.width b.height) }
+{
+    let first = cells.first()?;
+    let mut corners = Corners::of(*first);
+    for c in cells {
+        corners.include(*c);
+    }
+    Some(corners.bounds())
+}
+
+/// The least and the greatest coordinates that were seen.
+#[derive(Clone, Copy)]
+struct Corners {
+    left: i64,
+    right: i64,
+    top: i64,
+    bottom: i64,
+}
+
+impl Corners {
+    fn of(cell: Cell) -> Corners
+        ensures left { result.left ≡ cell.column }
+        ensures right { result.right ≡ cell.column }
+        ensures top { result.top ≡ cell.row }
+        ensures bottom { result.bottom ≡ cell.row }
+    {
+        Corners {
+            left: cell.column,
+            right: cell.column,
+            top: cell.row,
+            bottom: cell.row,
+        }
+    }
+
+    fn include(&mut self, cell: Cell)
+        ensures left { self.new.left ≡ int_min self.old.left cell.column }
+        ensures right { self.new.right ≡ int_max self.old.right cell.column }
+        ensures top { self.new.top ≡ int_min self.old.top cell.row }
+        ensures bottom { self.new.bottom ≡ int_max self.old.bottom cell.row }
+    {
+        self.left = self.left.min(cell.column);
+        self.right = self.right.max(cell.column);
+        self.top = self.top.min(cell.row);
+        self.bottom = self.bottom.max(cell.row);
+    }
+
+    fn bounds(self) -> Bounds
+        requires columns { self.left ≤ℤ self.right }
+        requires rows { self.top ≤ℤ self.bottom }
+        requires low { (neg_ℤ (pos PLANE) ≤ℤ self.left) × (neg_ℤ (pos PLANE) ≤ℤ self.top) }
+        requires high { (self.right ≤ℤ pos PLANE) × (self.bottom ≤ℤ pos PLANE) }
+        ensures left { result.left ≡ self.left }
+        ensures top { result.top ≡ self.top }
+        ensures right { (result.left +ℤ pos result.width) -ℤ pos 1 ≡ self.right }
+        ensures bottom { (result.top +ℤ pos result.height) -ℤ pos 1 ≡ self.bottom }
+    {
+        Bounds {
+            left: self.left,
+            top: self.top,
+            width: (self.right - self.left + 1) as u64,
+            height: (self.bottom - self.top + 1) as u64,
+        }
+    }
+}

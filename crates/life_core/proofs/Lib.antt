@@ -7,3 +7,4 @@ pub mod PatternOrder
 pub mod PatternBoxes
 pub mod GenerationsLaws
 pub mod CellListStep
+pub mod CellCountsLemmas

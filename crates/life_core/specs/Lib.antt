@@ -4,3 +4,5 @@ pub mod RuleFlags
 pub mod RuleText
 pub mod Pattern
 pub mod Generations
+pub mod CellCounts
+pub mod CellList

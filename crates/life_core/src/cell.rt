@@ -1,5 +1,5 @@
 //! Cells of the plane.
-ghost use Rattle.std.specs.Prelude.{◌≡◌, ◌∷◌, ◌↔◌, IsTrue, pos, ◌≤ℤ◌, neg_ℤ, ◌+ℤ◌, FitsSigned};
+ghost use Rattle.std.specs.Prelude.{◌≡◌, ◌↔◌, IsTrue, pos, ◌≤ℤ◌, neg_ℤ, ◌+ℤ◌, FitsSigned};
 ghost use Rattle.std.specs.Int.{w64};
 
 /// A cell of the plane. Columns grow to the right, rows downwards. Cells are ordered by row, and
@@ -14,7 +14,7 @@ pub struct Cell {
 pub const PLANE: u32 = 1_000_000_000;
 
 impl Cell {
-    ghost use Rattle.life_core.specs.Cell.{moved_cell, IsCellWithin, around};
+    ghost use Rattle.life_core.specs.Cell.{moved_cell, IsCellWithin};
 
     /// Whether both coordinates lie between `-k` and `k`.
     pub fn is_within(self, k: u32) -> bool
@@ -34,23 +34,5 @@ impl Cell {
             row: self.row + dy,
             column: self.column + dx,
         }
-    }
-
-    /// The cell itself and the eight cells round it.
-    pub fn block(self) -> [Cell; 9]
-        requires { IsCellWithin PLANE self }
-        ensures { result ≡ self ∷ around self }
-    {
-        [
-            self,
-            self.moved(-1, -1),
-            self.moved(0, -1),
-            self.moved(1, -1),
-            self.moved(-1, 0),
-            self.moved(1, 0),
-            self.moved(-1, 1),
-            self.moved(0, 1),
-            self.moved(1, 1),
-        ]
     }
 }

@@ -2,6 +2,7 @@
 #![tactic(auto)]
 
 pub mod cell;
+mod cell_counts;
 pub mod cell_list;
 pub mod fault;
 pub mod generations;

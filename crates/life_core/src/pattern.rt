@@ -4,7 +4,7 @@ ghost use Rattle.std.specs.Int.{int_min, int_max};
 ghost use Rattle.std.specs.List.{All};
 ghost use Rattle.std.specs.FinSet as set;
 ghost use Rattle.life_core.specs.Cell.{cell_at, moved_cell, IsCellWithin};
-ghost use Rattle.life_core.specs.Pattern.{image, in_order, IsWithin, IsBox, normal};
+ghost use Rattle.life_core.specs.Pattern.{image, in_order, IsWithin, IsCellList, IsBox, normal};
 
 use crate::cell::{Cell, PLANE};
 use crate::fault::Fault;
@@ -57,6 +57,14 @@ impl<A: Allocator> Pattern<A> {
     {
         let mut cells = cells;
         sort_cells(&mut cells);
+        Pattern { cells }
+    }
+
+    /// The set of the cells of a list that is strictly sorted already.
+    pub(crate) fn from_sorted(cells: Vec<Cell, A>) -> Pattern<A>
+        requires { IsCellList PLANE cells.items }
+        ensures { result ≡ set.from_list cells.items }
+    {
         Pattern { cells }
     }
 

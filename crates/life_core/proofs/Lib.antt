@@ -1,5 +1,7 @@
 pub mod CellLemmas
 pub mod RuleLemmas
+pub mod RuleTextDigits
+pub mod RuleTextForms
 pub mod RuleTextLemmas
 pub mod SortedLemmas
 pub mod PatternMembers

@@ -1,5 +1,5 @@
 -- Rules of Life-like cellular automata: two sets of neighbour counts (LifeWiki, "Rulestring").
-use Rattle.std.specs.Prelude.{◌≡◌, ℕ, ◌+◌, Bool, false, cond, if◌then◌else◌, List, [], ◌∷◌, map, length, slice_index_or, refl}
+use Rattle.std.specs.Prelude.{◌≡◌, ℕ, ◌+◌, ◌≤◌, Bool, true, false, cond, if◌then◌else◌, List, [], ◌∷◌, map, length, slice_index_or, refl}
 use Rattle.std.specs.Ordering.{nat_cmp}
 use Rattle.std.specs.Coded.{Coded, code_by, coded×, coded_ℕ}
 use Rattle.std.specs.FinSet as set
@@ -12,6 +12,12 @@ Counts = set.FinSet nat_cmp
 pub record RuleSets : Type 0 where
   pub birth : Counts
   pub survival : Counts
+
+-- what every rule keeps: no birth where no neighbour is live, and counts of the eight neighbours that there are
+pub record IsRule (r : RuleSets) : Type 0 where
+  pub quiet : set.contains r.birth 0 ≡ false
+  pub births : (n : ℕ) → set.contains r.birth n ≡ true → n ≤ 8
+  pub survivals : (n : ℕ) → set.contains r.survival n ≡ true → n ≤ 8
 
 -- a rule is stored as the pair of its sets
 abbrev pub coded_rule : Coded RuleSets

@@ -19,6 +19,7 @@ pub use generations::{GENERATION_LIMIT, generation, generation_by, laws_of_gener
 pub use pattern::{Bounds, Pattern};
 pub use plane::Plane;
 pub use rule::Rule;
+pub use rule_text::{RuleFault, laws_of_rule_texts};
 
 #[cfg(test)]
 mod tests;

@@ -1,0 +1,81 @@
+#!/usr/bin/env python3
+"""Writes a soup of live cells as RLE: soup.py CELLS SEED.
+
+The cells are drawn one in three in the rows of a square, until there are CELLS of them. The same words give the same
+file on every machine: the numbers come from a generator of our own (Marsaglia's xorshift, 64 bits).
+
+soup.py --long BYTES writes a file of exactly that many bytes with as many items as fit.
+"""
+import sys
+
+
+def numbers(seed):
+    state = seed * 2654435761 + 88172645463325252
+    mask = 2**64 - 1
+    state &= mask
+    while True:
+        state ^= (state << 13) & mask
+        state ^= state >> 7
+        state ^= (state << 17) & mask
+        yield state
+
+
+def rows_of(cells, seed):
+    """Rows of a soup, each a string of b and o."""
+    side = 1
+    while side * side < 3 * cells:
+        side += 1
+    source = numbers(seed)
+    left = cells
+    rows = []
+    while left > 0:
+        row = []
+        for _ in range(side):
+            live = left > 0 and next(source) % 3 == 0
+            left -= live
+            row.append("o" if live else "b")
+        rows.append("".join(row))
+    return rows
+
+
+def body_of(rows):
+    lines = []
+    line = ""
+    for number, row in enumerate(rows):
+        items = []
+        start = 0
+        row = row.rstrip("b")
+        while start < len(row):
+            end = start
+            while end < len(row) and row[end] == row[start]:
+                end += 1
+            items.append((str(end - start) if end - start > 1 else "") + row[start])
+            start = end
+        items.append("$" if number + 1 < len(rows) else "!")
+        for item in items:
+            if len(line) + len(item) > 70:
+                lines.append(line)
+                line = ""
+            line += item
+    lines.append(line)
+    return "\n".join(lines) + "\n"
+
+
+def main():
+    if sys.argv[1] == "--long":
+        size = int(sys.argv[2])
+        head = "x = 1024, y = 1024\n"
+        body = []
+        used = len(head) + 1
+        row = "bo" * 512 + "$"
+        while used + len(row) <= size and len(body) < 1000:
+            body.append(row)
+            used += len(row)
+        filler = "\n" * (size - used)
+        sys.stdout.write(head + "".join(body) + filler + "!")
+        return
+    rows = rows_of(int(sys.argv[1]), int(sys.argv[2]))
+    sys.stdout.write("x = %d, y = %d\n" % (max(len(row) for row in rows), len(rows)) + body_of(rows))
+
+
+main()

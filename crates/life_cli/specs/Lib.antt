@@ -1,0 +1,3 @@
+pub mod Stop
+pub mod Words
+pub mod Jobs

@@ -1,0 +1,44 @@
+//! Why a job stops before its end, and the line that is printed for it.
+ghost use Rattle.std.specs.Prelude.{◌≡◌};
+ghost use Rattle.life_cli.specs.Stop.{line_of};
+
+use life_rle::RleFault;
+
+/// Why a job stopped.
+#[derive(Clone, Copy, Debug, PartialEq, Eq)]
+pub enum Stop {
+    /// A number of the command line is out of its range.
+    OutOfLimit,
+    /// Standard input is no pattern file.
+    BadPattern(RleFault),
+    /// Standard input failed.
+    Unreadable,
+    /// Memory was refused.
+    Unavailable,
+    /// Standard output failed.
+    Unwritable,
+}
+
+impl Stop {
+    /// The line for standard error, without its line end. It is empty where nothing is printed.
+    pub fn line(&self) -> &'static str
+        ensures { result.now ≡ line_of self.now }
+    {
+        match self {
+            Stop::OutOfLimit => "refused: out-of-limit",
+            Stop::BadPattern(RleFault::TooLong) => "refused: bad-pattern too-long",
+            Stop::BadPattern(RleFault::TextLimit) => "refused: bad-pattern text-limit",
+            Stop::BadPattern(RleFault::NoHeader) => "refused: bad-pattern no-header",
+            Stop::BadPattern(RleFault::BadHeader) => "refused: bad-pattern bad-header",
+            Stop::BadPattern(RleFault::BadRule) => "refused: bad-pattern bad-rule",
+            Stop::BadPattern(RleFault::BirthZero) => "refused: bad-pattern birth-zero",
+            Stop::BadPattern(RleFault::OtherTag) => "refused: bad-pattern other-tag",
+            Stop::BadPattern(RleFault::BadCount) => "refused: bad-pattern bad-count",
+            Stop::BadPattern(RleFault::TooWide) => "refused: bad-pattern too-wide",
+            Stop::BadPattern(RleFault::NoEnd) => "refused: bad-pattern no-end",
+            Stop::Unreadable => "refused: unreadable",
+            Stop::Unavailable | Stop::BadPattern(RleFault::Memory) => "refused: unavailable",
+            Stop::Unwritable => "",
+        }
+    }
+}

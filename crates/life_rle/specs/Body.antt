@@ -1,0 +1,123 @@
+-- The items of a body, where they stand, the cells that they place, and the first that is faulty (LifeWiki, "Run Length Encoded").
+use Rattle.std.specs.Prelude.{ℕ, zero, suc, Bool, true, false, not, ◌&&◌, ◌||◌, List, [], ◌∷◌, ◌++◌, ◌+◌, ◌<◌, ◌==◌, nat_lt, if◌then◌else◌, Option, Some, None, Result, Ok, Err}
+use Rattle.std.specs.List.{sum_by, filter, after_last}
+use Rattle.std.specs.Char.{is_ascii_digit}
+use Rattle.std.specs.Str.Parse.{digits_value}
+use Rattle.life_rle.specs.declared.fault.RleFault.{RleFault}
+use Rattle.life_rle.specs.declared.fault.RleFault.TheVariants.{OtherTag, BadCount, TooWide, NoEnd}
+
+-- the digits of a count, and the byte after them; at the end of the body there is no byte
+pub record Item : Type 0 where
+  pub digits : List ℕ
+  pub tag : Option ℕ
+
+-- the items of a body; `digits` are those that stand before it
+unfoldable pub items_after : List ℕ → List ℕ → List Item
+items_after digits [] = record { digits = digits; tag = None } ∷ []
+items_after digits (b ∷ bytes) =
+    if is_ascii_digit b then items_after (digits ++ b ∷ []) bytes
+    else record { digits = digits; tag = Some b } ∷ items_after [] bytes
+
+abbrev pub items_of : List ℕ → List Item
+items_of body = items_after [] body
+
+abbrev pub is_empty : List ℕ → Bool
+is_empty [] = true
+is_empty (x ∷ xs) = false
+
+-- no count means 1
+abbrev pub count_of : List ℕ → ℕ
+count_of digits = if is_empty digits then 1 else digits_value 10 digits
+
+abbrev pub has_tag : ℕ → Option ℕ → Bool
+has_tag byte None = false
+has_tag byte (Some b) = b == byte
+
+abbrev pub is_dead : Item → Bool
+is_dead item = has_tag 98 item.tag
+
+abbrev pub is_live : Item → Bool
+is_live item = has_tag 111 item.tag
+
+abbrev pub is_row_end : Item → Bool
+is_row_end item = has_tag 36 item.tag
+
+abbrev pub is_end : Item → Bool
+is_end item = has_tag 33 item.tag
+
+abbrev pub count : Item → ℕ
+count item = count_of item.digits
+
+-- the row of an item: the sum of the counts of the row ends before it
+unfoldable pub row_after : List Item → ℕ
+row_after before = sum_by count (filter is_row_end before)
+
+-- its column: the sum of the counts of the dead and live items between the last row end before it and itself
+unfoldable pub column_after : List Item → ℕ
+column_after before = sum_by count (filter (λ i. is_dead i || is_live i) (after_last is_row_end before))
+
+-- the n cells of a row from a column on
+unfoldable pub run : ℕ → ℕ → ℕ → List (ℕ × ℕ)
+run column row zero = []
+run column row (suc n) = (column, row) ∷ run (column + 1) row n
+
+-- how many live cells an item places
+abbrev pub live_count : Item → ℕ
+live_count item = if is_live item then count item else 0
+
+-- the cells of an item that stands after these
+abbrev pub cells_at : List Item → Item → List (ℕ × ℕ)
+cells_at before item = run (column_after before) (row_after before) (live_count item)
+
+unfoldable pub placed_after : List Item → List Item → List (ℕ × ℕ)
+placed_after before [] = []
+placed_after before (item ∷ items) = cells_at before item ++ placed_after (before ++ item ∷ []) items
+
+-- the cells that the items place
+abbrev pub placed : List Item → List (ℕ × ℕ)
+placed items = placed_after [] items
+
+abbrev pub is_counted : Item → Bool
+is_counted item = not (is_empty item.digits)
+
+abbrev pub is_bad_number : ℕ → Bool
+is_bad_number n = n == 0 || nat_lt 1000000 n
+
+-- what is wrong with an item's byte, for an item that stands after these
+abbrev pub fault_at_tag : List Item → Item → Option ℕ → Option RleFault
+fault_at_tag before item None = if is_counted item then Some BadCount else Some NoEnd
+fault_at_tag before item (Some b) =
+    if b == 33 then (if is_counted item then Some BadCount else None)
+    else (if b == 98 || b == 36 then None
+    else (if not (b == 111) then Some OtherTag
+    else (if nat_lt 1024 (column_after before + count item) || nat_lt 1023 (row_after before) then Some TooWide
+    else None)))
+
+-- what is wrong with an item: its count, then its byte, then its cells
+abbrev pub fault_at : List Item → Item → Option RleFault
+fault_at before item =
+    if is_counted item && is_bad_number (count item) then Some BadCount
+    else fault_at_tag before item item.tag
+
+abbrev pub unless_faulty : {X : Type 0} → Option RleFault → Result X RleFault → Result X RleFault
+unless_faulty (Some fault) answer = Err fault
+unless_faulty None answer = answer
+
+-- the items before the first `!`, or the fault of the first faulty one
+unfoldable pub judged_after : List Item → List Item → Result (List Item) RleFault
+judged_after before [] = Err NoEnd
+judged_after before (item ∷ items) =
+    unless_faulty (fault_at before item) (if is_end item then Ok before else judged_after (before ++ item ∷ []) items)
+
+abbrev pub place : Result (List Item) RleFault → Result (List (ℕ × ℕ)) RleFault
+place (Ok items) = Ok (placed items)
+place (Err fault) = Err fault
+
+-- the cells that a body places, or its first fault
+unfoldable pub body_cells : List ℕ → Result (List (ℕ × ℕ)) RleFault
+body_cells body = place (judged_after [] (items_of body))
+
+-- a cell in the columns and rows 0 to 1023
+pub record IsPairInside (cell : ℕ × ℕ) : Type 0 where
+  pub column : cell.0 < 1024
+  pub row : cell.1 < 1024

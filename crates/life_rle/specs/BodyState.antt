@@ -1,0 +1,91 @@
+-- Reading a body byte by byte: where the next item stands, and what the body is read as, if these bytes are what is left.
+use Rattle.std.specs.Prelude.{◌≡◌, ℕ, ◌+◌, ◌*◌, ◌-◌, min, Bool, true, false, not, ◌||◌, ◌==◌, nat_lt, if◌then◌else◌, List, [], ◌∷◌, ◌++◌, Option, Some, None, is_some, unwrap_or, Result, Ok, Err, MatchResult}
+use Rattle.std.specs.Char.{is_ascii_digit}
+use Rattle.life_rle.specs.declared.fault.RleFault.{RleFault}
+use Rattle.life_rle.specs.declared.fault.RleFault.TheVariants.{OtherTag, BadCount, TooWide, NoEnd, Memory}
+use Rattle.life_rle.specs.declared.body.Body.{Body}
+use Rattle.life_rle.specs.declared.body.Progress.{Progress}
+use Rattle.life_rle.specs.declared.body.Progress.TheVariants.{More, Ended, Failed}
+use Rattle.life_rle.specs.declared.body.BodyReader.{BodyReader}
+use Rattle.life_rle.specs.Body.{run, is_bad_number}
+
+-- where the next item stands, the count so far, and the cells placed so far. A row or a column past 1023 is 1024, and a count over 1,000,000 is 1,000,001.
+pub record Place : Type 0 where
+  pub row : ℕ
+  pub column : ℕ
+  pub count : Option ℕ
+  pub cells : List (ℕ × ℕ)
+
+abbrev pub start : Place
+start = record { row = 0; column = 0; count = None; cells = [] }
+
+pub data Step : Type 0 where
+  goes : Place → Step
+  ends : List (ℕ × ℕ) → Step
+  fails : RleFault → Step
+
+abbrev pub next_count : Option ℕ → ℕ → ℕ
+next_count count b = min (unwrap_or count 0 * 10 + (b - 48)) 1000001
+
+abbrev pub is_bad_count : Option ℕ → Bool
+is_bad_count None = false
+is_bad_count (Some n) = is_bad_number n
+
+abbrev pub moved : Place → ℕ → Place
+moved p n = record { row = p.row; column = min (p.column + n) 1024; count = None; cells = p.cells }
+
+abbrev pub down : Place → ℕ → Place
+down p n = record { row = min (p.row + n) 1024; column = 0; count = None; cells = p.cells }
+
+abbrev pub live : Place → ℕ → Place
+live p n = record { row = p.row; column = p.column + n; count = None; cells = p.cells ++ run p.column p.row n }
+
+-- an item with this tag and this count
+abbrev pub item_step : Place → ℕ → ℕ → Step
+item_step p n b =
+    if b == 98 then goes (moved p n)
+    else (if b == 36 then goes (down p n)
+    else (if not (b == 111) then fails OtherTag
+    else (if nat_lt 1024 (p.column + n) || nat_lt 1023 p.row then fails TooWide
+    else goes (live p n))))
+
+unfoldable pub step : Place → ℕ → Step
+step p b =
+    if is_ascii_digit b then goes (record p { count = Some (next_count p.count b) })
+    else (if is_bad_count p.count then fails BadCount
+    else (if b == 33 then (if is_some p.count then fails BadCount else ends p.cells)
+    else item_step p (unwrap_or p.count 1) b))
+
+-- What the function of a step answered, with the place that it left. Where there is a place to go on at, memory may be refused.
+abbrev pub Took : Step → Place → Result Bool RleFault → Type 0
+Took (goes q) new answer = MatchResult answer (λ ended. (ended ≡ false) × (new ≡ q)) (λ e. e ≡ Memory)
+Took (ends cells) new answer = (answer ≡ Ok true) × (new.cells ≡ cells)
+Took (fails fault) new answer = answer ≡ Err fault
+
+abbrev pub Acts : {X : Type 0} → Step → Place → Result X RleFault → Type 0
+Acts (goes q) new answer = MatchResult answer (λ _. new ≡ q) (λ e. e ≡ Memory)
+Acts (ends cells) new answer = ⊥
+Acts (fails fault) new answer = answer ≡ Err fault
+
+abbrev pub going : Step → (Place → Result (List (ℕ × ℕ)) RleFault) → Result (List (ℕ × ℕ)) RleFault
+going (goes q) next = next q
+going (ends cells) next = Ok cells
+going (fails fault) next = Err fault
+
+-- the cells that a body places from here on, with those so far, or its first fault
+unfoldable pub body_from : Place → List ℕ → Result (List (ℕ × ℕ)) RleFault
+body_from p [] = if is_some p.count then Err BadCount else Err NoEnd
+body_from p (b ∷ bytes) = going (step p b) (λ q. body_from q bytes)
+
+-- what a body so far means
+abbrev pub place : {A : Type 0} → Body A → Place
+place b = record { row = b.row; column = b.column; count = b.count; cells = b.cells.items }
+
+abbrev pub outcome_at : Progress → Place → List ℕ → Result (List (ℕ × ℕ)) RleFault
+outcome_at More p rest = body_from p rest
+outcome_at Ended p rest = Ok p.cells
+outcome_at (Failed fault) p rest = Err fault
+
+-- the cells or the fault, if these bytes are what is left
+abbrev pub outcome : {A : Type 0} → BodyReader A → List ℕ → Result (List (ℕ × ℕ)) RleFault
+outcome r rest = outcome_at r.progress (place r.body) rest

@@ -1,0 +1,65 @@
+-- What a file is read as: a record, or its first fault (LifeWiki, "Run Length Encoded"; Golly's help, "File formats").
+use Rattle.std.specs.Prelude.{◌≡◌, ℕ, pos, map, List, [], ◌∷◌, length, take, drop, nat_lt, if◌then◌else◌, Option, Some, None, Result, Ok, Err}
+use Rattle.std.specs.List.{flat_map, position_or_len}
+use Rattle.std.specs.FinSet as set
+use Rattle.life_core.specs.declared.cell.Cell.{Cell}
+use Rattle.life_core.specs.Rule.{RuleSets, life}
+use Rattle.life_core.specs.RuleText.{without_blanks, read_rule}
+use Rattle.life_core.specs.Pattern.{normal}
+use Rattle.life_rle.specs.declared.fault.RleFault.{RleFault}
+use Rattle.life_rle.specs.declared.fault.RleFault.TheVariants.{TooLong, TextLimit, NoHeader}
+use Rattle.life_rle.specs.Fault.{in_file, ◌>>=◌}
+use Rattle.life_rle.specs.Lines.{lines_of, is_mark_line}
+use Rattle.life_rle.specs.Notes.{Notes, no_notes, notes_of, is_header, is_past_limit}
+use Rattle.life_rle.specs.Header.{header_rule}
+use Rattle.life_rle.specs.Body.{body_cells}
+use Rattle.life_rle.specs.Record.{Contents}
+
+-- the lines before the header, and the header with what follows it
+abbrev pub front_lines : List (List ℕ) → List (List ℕ)
+front_lines lines = take (position_or_len is_header lines) lines
+
+abbrev pub header_lines : List (List ℕ) → List (List ℕ)
+header_lines lines = drop (position_or_len is_header lines) lines
+
+-- the rule: the text of the header if it has one, else that of the first `#r` line, else Life
+abbrev pub chosen_rule : Option (List ℕ) → Option (List ℕ) → Result RuleSets RleFault
+chosen_rule (Some text) noted = in_file (read_rule text)
+chosen_rule None (Some text) = in_file (read_rule text)
+chosen_rule None None = Ok life
+
+-- the part of the body that a line is
+abbrev pub body_part : List ℕ → List ℕ
+body_part line = if is_mark_line line then [] else without_blanks line
+
+-- the cell of a pair (column, row)
+abbrev pub cell_of : ℕ × ℕ → Cell
+cell_of p = record { row = pos p.1; column = pos p.0 }
+
+-- the record of these texts, this rule and the cells that a body places, moved so that the least column and the least row are 0
+abbrev pub contents : Notes → RuleSets → List (ℕ × ℕ) → Contents
+contents notes rule cells =
+    record { name = notes.name; author = notes.author; comments = notes.comments; rule = rule; cells = normal (set.from_list (map cell_of cells)) }
+
+-- what the lines from the header on are read as, by the texts before them
+unfoldable pub after_front : Notes → List (List ℕ) → Result Contents RleFault
+after_front notes [] = Err NoHeader
+after_front notes (line ∷ lines) = do
+  given ← header_rule (without_blanks line)
+  rule ← chosen_rule given notes.rule
+  cells ← body_cells (flat_map body_part lines)
+  Ok (contents notes rule cells)
+
+-- what lines are read as, after the texts that the lines before them left
+unfoldable pub read_lines : Notes → List (List ℕ) → Result Contents RleFault
+read_lines before lines =
+    let notes = notes_of before (front_lines lines) in
+    if is_past_limit notes then Err TextLimit else after_front notes (header_lines lines)
+
+-- what a file is read as where its length plays no part
+unfoldable pub kept : List ℕ → Result Contents RleFault
+kept bytes = read_lines no_notes (lines_of bytes)
+
+-- what a file is read as: one of more than 1,048,576 bytes is too long
+unfoldable pub file : List ℕ → Result Contents RleFault
+file bytes = if nat_lt 1048576 (length bytes) then Err TooLong else kept bytes

@@ -1,0 +1,59 @@
+-- The form of the header line: `x = W, y = H`, and `, rule = R` where a rule is given (LifeWiki, "Run Length Encoded").
+use Rattle.std.specs.Prelude.{ℕ, codes, Bool, not, ◌||◌, List, [], ◌∷◌, length, ◌==◌, if◌then◌else◌, slice_index, Option, Some, None, Result, Ok, Err}
+use Rattle.std.specs.Option.{option_map, option_copied}
+use Rattle.std.specs.Borrow.{Bor}
+use Rattle.std.specs.Char.{is_ascii_digit, to_ascii_lowercase}
+use Rattle.life_rle.specs.declared.fault.RleFault.{RleFault}
+use Rattle.life_rle.specs.declared.fault.RleFault.TheVariants.{NoHeader, BadHeader}
+
+-- what follows these words, which are in small letters; in the text the letters may be of either case
+abbrev pub after_words : List ℕ → List ℕ → Option (List ℕ)
+after_words [] text = Some text
+after_words (word ∷ words) [] = None
+after_words (word ∷ words) (b ∷ text) = if to_ascii_lowercase b == word then after_words words text else None
+
+abbrev pub past_digits : List ℕ → List ℕ
+past_digits [] = []
+past_digits (b ∷ text) = if is_ascii_digit b then past_digits text else b ∷ text
+
+-- what follows a number of one digit or more
+abbrev pub after_number : List ℕ → Option (List ℕ)
+after_number [] = None
+after_number (b ∷ text) = if is_ascii_digit b then Some (past_digits text) else None
+
+infixl 10 ◌>>=◌
+abbrev pub ◌>>=◌ : {A B : Type 0} → Option A → (A → Option B) → Option B
+None >>= f = None
+(Some x) >>= f = f x
+
+-- nothing, or `,rule=` and a rule text
+unfoldable pub rule_part : List ℕ → Option (Option (List ℕ))
+rule_part text =
+    if length text == 0 then Some None
+    else do
+      rule ← after_words (codes ",rule=") text
+      Some (Some rule)
+
+-- the rule text of a header without blanks, where it has one; nothing where it has not the form
+unfoldable pub header_form : List ℕ → Option (Option (List ℕ))
+header_form text = do
+  width ← after_words (codes "x=") text
+  comma ← after_number width
+  height ← after_words (codes ",y=") comma
+  rest ← after_number height
+  rule_part rest
+
+abbrev pub begins_with_x : List ℕ → Bool
+begins_with_x text = slice_index text 0 == 120 || slice_index text 0 == 88
+
+abbrev pub formed : Option (Option (List ℕ)) → Result (Option (List ℕ)) RleFault
+formed (Some rule) = Ok rule
+formed None = Err BadHeader
+
+-- the rule text of a header line without its blanks
+unfoldable pub header_rule : List ℕ → Result (Option (List ℕ)) RleFault
+header_rule text = if not (begins_with_x text) then Err NoHeader else formed (header_form text)
+
+-- what the reference to a rule text points to
+abbrev pub rule_copied : Option (Option (Bor (List ℕ))) → Option (Option (List ℕ))
+rule_copied rule = option_map option_copied rule

@@ -1,0 +1,14 @@
+pub mod Fault
+pub mod Stream
+pub mod Lines
+pub mod Notes
+pub mod Header
+pub mod Body
+pub mod Record
+pub mod File
+pub mod BodyState
+pub mod Reader
+pub mod Machine
+pub mod Writer
+pub mod WriterState
+pub mod Laws

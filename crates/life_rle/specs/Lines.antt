@@ -1,0 +1,63 @@
+-- The lines of a file, and what each of them is (LifeWiki, "Run Length Encoded": lines that begin with `#`).
+use Rattle.std.specs.Prelude.{ℕ, codes, not, ◌||◌, List, [], ◌∷◌, ◌++◌, reverse, length, drop, ◌==◌, if◌then◌else◌, slice_index, nat_eq, Bool}
+use Rattle.std.specs.List.{starts_with}
+use Rattle.life_core.specs.RuleText.{is_blank}
+use Rattle.life_rle.specs.declared.lines.LineKind.{LineKind}
+use Rattle.life_rle.specs.declared.lines.LineKind.TheVariants as kinds
+
+-- the lines of these bytes, with what has come of the first before them; after a last line feed stands an empty line, which says nothing
+unfoldable pub lines_after : List ℕ → List ℕ → List (List ℕ)
+lines_after line [] = line ∷ []
+lines_after line (b ∷ bytes) = if b == 10 then line ∷ lines_after [] bytes else lines_after (line ++ b ∷ []) bytes
+
+abbrev pub lines_of : List ℕ → List (List ℕ)
+lines_of bytes = lines_after [] bytes
+
+abbrev pub trim_start : List ℕ → List ℕ
+trim_start [] = []
+trim_start (b ∷ bytes) = if is_blank b then trim_start bytes else b ∷ bytes
+
+abbrev pub trim_end : List ℕ → List ℕ
+trim_end line = reverse (trim_start (reverse line))
+
+abbrev pub trim : List ℕ → List ℕ
+trim line = trim_end (trim_start line)
+
+-- what a line is, before and at the header
+pub data Line : Type 0 where
+  passed : Line
+  named : List ℕ → Line
+  authored : List ℕ → Line
+  comment : List ℕ → Line
+  ruled : List ℕ → Line
+  header : Line
+
+-- a line whose first byte that is no blank is `#`
+abbrev pub is_mark_line : List ℕ → Bool
+is_mark_line line = slice_index (trim_start line) 0 == 35
+
+-- what the letter after `#` makes of the text
+abbrev pub marked : ℕ → List ℕ → Line
+marked letter text =
+    if letter == 78 then named text
+    else (if letter == 79 then authored text
+    else (if letter == 67 || letter == 99 then comment text
+    else (if letter == 114 then ruled text
+    else passed)))
+
+unfoldable pub line_kind : List ℕ → Line
+line_kind line =
+    let front = trim_start line in
+    if length front == 0 then passed
+    else (if not (slice_index front 0 == 35) then header
+    else (if starts_with nat_eq front (codes "#CXRLE") then passed
+    else marked (slice_index front 1) (trim (drop 2 front))))
+
+-- what a line is, with its text as a list
+abbrev pub kind_of : LineKind → Line
+kind_of kinds.Passed = passed
+kind_of (kinds.Name text) = named text.now
+kind_of (kinds.Author text) = authored text.now
+kind_of (kinds.Comment text) = comment text.now
+kind_of (kinds.Rule text) = ruled text.now
+kind_of kinds.Header = header

@@ -1,0 +1,54 @@
+-- What a take and a put do to the bytes that a stream tells, and to its count of failures.
+use Rattle.std.specs.Prelude.{◌≡◌, ℕ, ◌+◌, ◌-◌, ◌^◌, ◌<◌, ◌≤◌, ◌⊎◌, min, List, [], ◌++◌, length, take, Option, None, Some, Result, Ok, Err, ⊤}
+
+-- the greatest count
+abbrev pub last_count : ℕ
+last_count = 2 ^ 64 - 1
+
+-- the count after one more failure
+abbrev pub raised : ℕ → ℕ
+raised n = min (n + 1) last_count
+
+-- the count that a call leaves: only an Err raises it
+abbrev pub counted : {E : Type 0} → ℕ → Result ℕ E → ℕ
+counted n (Ok k) = n
+counted n (Err e) = raised n
+
+-- a call failed between these two counts
+abbrev pub FailedBetween : ℕ → ℕ → Type 0
+FailedBetween old new = (old < new) ⊎ (new ≡ last_count)
+
+-- told bytes begin with these, and lose them
+abbrev pub Loses : Option (List ℕ) → Option (List ℕ) → List ℕ → Type 0
+Loses None new bytes = ⊤
+Loses (Some left) None bytes = ⊥
+Loses (Some left) (Some rest) bytes = left ≡ bytes ++ rest
+
+-- told bytes lose at most so many
+abbrev pub LosesUpTo : ℕ → Option (List ℕ) → Option (List ℕ) → Type 0
+LosesUpTo most old new = (bytes : List ℕ) × (length bytes ≤ most) × Loses old new bytes
+
+-- told bytes gain these at their end
+abbrev pub Gains : Option (List ℕ) → Option (List ℕ) → List ℕ → Type 0
+Gains None new bytes = ⊤
+Gains (Some put) None bytes = ⊥
+Gains (Some put) (Some all) bytes = all ≡ put ++ bytes
+
+-- nothing is left of told bytes
+abbrev pub IsEnded : Option (List ℕ) → Type 0
+IsEnded None = ⊤
+IsEnded (Some left) = left ≡ []
+
+-- a take: Ok(k) is the next k bytes, and none into some room is the end; an Err moves none
+abbrev pub Takes : {E : Type 0} → Option (List ℕ) → Option (List ℕ) → Result ℕ E → List ℕ → Type 0
+Takes old new (Ok k) place = Loses old new (take k place) × (k ≡ 0 → 0 < length place → IsEnded old)
+Takes old new (Err e) place = Loses old new []
+
+-- a put: Ok(k) is the first k bytes; an Err moves none
+abbrev pub Puts : {E : Type 0} → Option (List ℕ) → Option (List ℕ) → Result ℕ E → List ℕ → Type 0
+Puts old new (Ok k) bytes = Gains old new (take k bytes)
+Puts old new (Err e) bytes = Gains old new []
+
+-- a beginning of these bytes was put
+abbrev pub GainsSome : Option (List ℕ) → Option (List ℕ) → List ℕ → Type 0
+GainsSome old new bytes = (front : List ℕ) × (rest : List ℕ) × (bytes ≡ front ++ rest) × Gains old new front

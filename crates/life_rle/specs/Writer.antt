@@ -1,0 +1,100 @@
+-- The one text of a record: its texts, its header, and the longest runs of its cells in lines of at most 70 bytes (LifeWiki, "Run Length
+-- Encoded": "lines should be no more than 70 characters").
+use Rattle.std.specs.Prelude.{◌≡◌, ◌≤◌, ℕ, ◌+◌, ◌-◌, ◌==◌, max, nat_le, if◌then◌else◌, nat_abs, pos, ◌≤ℤ◌, List, [], ◌∷◌, ◌++◌, length, replicate, map, Option, Some, None}
+use Rattle.std.specs.List.{flat_map, fold}
+use Rattle.std.specs.Fmt.{decimal}
+use Rattle.life_core.specs.declared.cell.Cell.{Cell}
+use Rattle.life_core.specs.declared.cell.TheConstants.{PLANE}
+use Rattle.life_core.specs.Pattern.{Cells, in_order}
+use Rattle.life_core.specs.RuleText.{rule_text}
+use Rattle.life_rle.specs.Record.{Contents}
+
+-- one tag for each step that a reader at this row and column takes to the cells, which stand in the order of rows and columns
+unfoldable pub tags_from : ℕ → ℕ → List (ℕ × ℕ) → List ℕ
+tags_from row column [] = []
+tags_from row column (cell ∷ cells) =
+    replicate (cell.1 - row) 36 ++ replicate (cell.0 - (if cell.1 == row then column else 0)) 98 ++ 111 ∷ tags_from cell.1 (cell.0 + 1) cells
+
+-- the cells stand in the order of rows and columns, from this row and column on, each once
+abbrev pub InOrder : ℕ → ℕ → List (ℕ × ℕ) → Type 0
+InOrder row column [] = Unit {0}
+InOrder row column (cell ∷ cells) = (row ≤ cell.1) × (row ≡ cell.1 → column ≤ cell.0) × InOrder cell.1 (cell.0 + 1) cells
+
+-- one more tag in front of runs: a run is a count and a tag
+abbrev pub onto_run : ℕ → List (ℕ × ℕ) → List (ℕ × ℕ)
+onto_run tag [] = (1, tag) ∷ []
+onto_run tag (run ∷ runs) = if run.1 == tag then (run.0 + 1, tag) ∷ runs else (1, tag) ∷ run ∷ runs
+
+-- the longest runs of equal tags
+unfoldable pub runs_of : List ℕ → List (ℕ × ℕ)
+runs_of [] = []
+runs_of (tag ∷ tags) = onto_run tag (runs_of tags)
+
+-- the count is left out where it is 1
+abbrev pub item_text : ℕ × ℕ → List ℕ
+item_text run = (if run.0 == 1 then [] else decimal run.0) ++ run.1 ∷ []
+
+-- the items' texts at a place behind this many live cells
+abbrev pub texts_from : ℕ → ℕ → ℕ → List (ℕ × ℕ) → List (List ℕ)
+texts_from live row column cells = map item_text (runs_of (replicate live 111 ++ tags_from row column cells))
+
+-- the items' texts, the last of them `!`
+abbrev pub item_texts : List (ℕ × ℕ) → List (List ℕ)
+item_texts cells = map item_text (runs_of (tags_from 0 0 cells)) ++ (33 ∷ []) ∷ []
+
+-- the text of an item of this count, or nothing where it is 0
+abbrev pub counted : ℕ → ℕ → List (List ℕ)
+counted count tag = if count == 0 then [] else item_text (count, tag) ∷ []
+
+-- the items laid into lines, after a line that has this many bytes: a line takes the next item if it then has at most 70
+unfoldable pub laid : ℕ → List (List ℕ) → List ℕ
+laid used [] = 10 ∷ []
+laid used (item ∷ items) =
+    if nat_le (used + length item) 70 then item ++ laid (used + length item) items
+    else 10 ∷ item ++ laid (length item) items
+
+-- `#N text`
+abbrev pub text_line : ℕ → List ℕ → List ℕ
+text_line letter text = 35 ∷ letter ∷ 32 ∷ text ++ 10 ∷ []
+
+abbrev pub optional_line : ℕ → Option (List ℕ) → List ℕ
+optional_line letter None = []
+optional_line letter (Some text) = text_line letter text
+
+-- `#C text`, or `#C` alone
+abbrev pub comment_line : List ℕ → List ℕ
+comment_line text = if length text == 0 then 35 ∷ 67 ∷ 10 ∷ [] else text_line 67 text
+
+-- one past the greatest
+abbrev pub width_of : List (ℕ × ℕ) → ℕ
+width_of cells = fold (λ n cell. max n (cell.0 + 1)) 0 cells
+
+abbrev pub height_of : List (ℕ × ℕ) → ℕ
+height_of cells = fold (λ n cell. max n (cell.1 + 1)) 0 cells
+
+-- `x = W, y = H, rule = R`
+abbrev pub header_line : ℕ → ℕ → List ℕ → List ℕ
+header_line width height rule =
+    120 ∷ 32 ∷ 61 ∷ 32 ∷ decimal width ++ 44 ∷ 32 ∷ 121 ∷ 32 ∷ 61 ∷ 32 ∷ decimal height
+    ++ 44 ∷ 32 ∷ 114 ∷ 117 ∷ 108 ∷ 101 ∷ 32 ∷ 61 ∷ 32 ∷ rule ++ 10 ∷ []
+
+-- a cell of a normal set: both coordinates lie between 0 and the greatest of the plane
+pub record IsQuarterCell (c : Cell) : Type 0 where
+  pub row_low : pos 0 ≤ℤ c.row
+  pub row_high : c.row ≤ℤ pos PLANE
+  pub column_low : pos 0 ≤ℤ c.column
+  pub column_high : c.column ≤ℤ pos PLANE
+
+-- the cells of a normal set as pairs (column, row), by row and then by column
+abbrev pub coordinates : Cell → ℕ × ℕ
+coordinates c = (nat_abs c.column, nat_abs c.row)
+
+abbrev pub pairs_of : Cells → List (ℕ × ℕ)
+pairs_of X = map coordinates (in_order X)
+
+-- the one text of a record
+unfoldable pub text : Contents → List ℕ
+text r =
+    optional_line 78 r.name ++ optional_line 79 r.author ++ flat_map comment_line r.comments
+    ++ header_line (width_of (pairs_of r.cells)) (height_of (pairs_of r.cells)) (rule_text r.rule)
+    ++ laid 0 (item_texts (pairs_of r.cells))

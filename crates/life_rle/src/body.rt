@@ -1,0 +1,194 @@
+//! The items of a body, byte by byte.
+ghost use Rattle.std.specs.Prelude.{◌≡◌, ◌++◌, ◌<◌, ◌≤◌, ◌+◌, ◌^◌, OnOk, IfErr, IfOk, unwrap_or, Some};
+ghost use Rattle.std.specs.List.{All};
+ghost use Rattle.life_rle.specs.Body.{run, IsPairInside};
+
+use crate::fault::RleFault;
+use crate::lines::is_blank;
+use std::alloc::{AllocError, Allocator};
+
+/// The greatest count of an item.
+const MOST: u32 = 1_000_000;
+/// How many columns and rows hold live cells.
+const SIDE: u32 = 1024;
+
+/// Places `count` cells of a row from a column on.
+#[tactic(auto, using(crate::proofs::BodyPositions::run_more))]
+fn push_run<A: Allocator>(
+    cells: &mut Vec<(u32, u32), A>,
+    column: u32,
+    row: u32,
+    count: u32,
+) -> Result<(), AllocError>
+    requires columns { column + count ≤ 1024 }
+    requires row { row < 1024 }
+    requires inside { All IsPairInside cells.old.items }
+    ensures run { OnOk result (cells.new.items ≡ cells.old.items ++ run column row count) }
+    ensures inside { All IsPairInside cells.new.items }
+{
+    for k in 0..count {
+        cells.push((column + k, row))?;
+    }
+    Ok(())
+}
+
+/// The body so far: where the next item stands, its count as far as it has come, and the cells.
+#[derive(Drop)]
+pub(crate) struct Body<A: Allocator> {
+    row: u32,
+    column: u32,
+    count: Option<u32>,
+    cells: Vec<(u32, u32), A>,
+    ghost inside: { All IsPairInside cells.items },
+    ghost row_in: { row ≤ 1024 },
+    ghost column_in: { column ≤ 1024 },
+    ghost count_in: { unwrap_or count 0 ≤ 1000001 },
+}
+
+impl<A: Allocator> Body<A> {
+    ghost use Rattle.life_rle.specs.BodyState.{Took, Acts, step, item_step, next_count, start, place};
+
+    fn new(alloc: A) -> Body<A>
+        ensures { place result ≡ start }
+    {
+        Body {
+            row: 0,
+            column: 0,
+            count: None,
+            cells: Vec::new(alloc),
+        }
+    }
+
+    fn digit(&mut self, byte: u8)
+        requires low { 48 ≤ byte }
+        requires high { byte ≤ 57 }
+        ensures { place self.new ≡ record (place self.old) { count = Some (next_count self.old.count byte) } }
+    {
+        let value = self.count.unwrap_or(0) * 10 + u32::from(byte - b'0');
+        self.count = Some(value.min(MOST + 1));
+    }
+
+    /// Reads the next byte; says whether it ended the body.
+    #[tactic(auto, unfolding(crate::specs::BodyState::step))]
+    fn take(&mut self, byte: u8) -> Result<bool, RleFault>
+        ensures { Took (step (place self.old) byte) (place self.new) result }
+    {
+        if byte.is_ascii_digit() {
+            self.digit(byte);
+            return Ok(false);
+        }
+        if let Some(0 | 1_000_001..) = self.count {
+            return Err(RleFault::BadCount);
+        }
+        match byte {
+            b'!' => {
+                if self.count.is_some() {
+                    Err(RleFault::BadCount)
+                } else {
+                    Ok(true)
+                }
+            }
+            _ => {
+                self.item(self.count.unwrap_or(1), byte)?;
+                Ok(false)
+            }
+        }
+    }
+
+    fn item(&mut self, count: u32, tag: u8) -> Result<(), RleFault>
+        requires { count ≤ 1000000 }
+        ensures { Acts (item_step (place self.old) count tag) (place self.new) result }
+    {
+        match tag {
+            b'b' => self.column = (self.column + count).min(SIDE),
+            b'$' => {
+                self.row = (self.row + count).min(SIDE);
+                self.column = 0;
+            }
+            b'o' => {
+                if self.column + count > SIDE || self.row >= SIDE {
+                    return Err(RleFault::TooWide);
+                }
+                push_run(&mut self.cells, self.column, self.row, count)?;
+                self.column += count;
+            }
+            _ => return Err(RleFault::OtherTag),
+        }
+        self.count = None;
+        Ok(())
+    }
+}
+
+/// Whether a body has come to its end.
+#[derive(Clone, Copy, Debug)]
+pub(crate) enum Progress {
+    More,
+    Ended,
+    Failed(RleFault),
+}
+
+/// A body that is being read; its end and its first fault are kept.
+#[derive(Drop)]
+pub(crate) struct BodyReader<A: Allocator> {
+    body: Body<A>,
+    progress: Progress,
+}
+
+impl<A: Allocator> BodyReader<A> {
+    ghost use Rattle.std.specs.Prelude.{List, ℕ, ◌∷◌, MatchResult, Ok, Err, []};
+    ghost use Rattle.life_core.specs.RuleText.{without_blanks};
+    ghost use Rattle.life_rle.specs.BodyState.{start, body_from, outcome};
+    ghost use Rattle.life_rle.specs.declared.fault.RleFault.TheVariants.{Memory};
+
+    pub(crate) fn new(alloc: A) -> BodyReader<A>
+        ensures { (rest : List ℕ) → outcome result rest ≡ body_from start rest }
+    {
+        BodyReader {
+            body: Body::new(alloc),
+            progress: Progress::More,
+        }
+    }
+
+    /// Reads the next byte.
+    fn take(&mut self, byte: u8) -> Result<(), RleFault>
+        ensures { MatchResult result (λ _. (rest : List ℕ) → outcome self.new rest ≡ outcome self.old (byte ∷ rest)) (λ e. e ≡ Memory) }
+    {
+        if let Progress::More = self.progress {
+            match self.body.take(byte) {
+                Ok(false) => {}
+                Ok(true) => self.progress = Progress::Ended,
+                Err(fault) => match fault {
+                    RleFault::Memory => return Err(RleFault::Memory),
+                    _ => self.progress = Progress::Failed(fault),
+                },
+            }
+        }
+        Ok(())
+    }
+
+    /// Reads the next line, whose blanks are nothing.
+    pub(crate) fn line(&mut self, line: &[u8]) -> Result<(), RleFault>
+        ensures { MatchResult result (λ _. (rest : List ℕ) → outcome self.new rest ≡ outcome self.old (without_blanks line.now ++ rest)) (λ e. e ≡ Memory) }
+    {
+        for byte in line {
+            if !is_blank(*byte) {
+                self.take(*byte)?;
+            }
+        }
+        Ok(())
+    }
+
+    /// The cells, or the first fault, where nothing is left.
+    #[tactic(auto, unfolding(crate::specs::BodyState::body_from))]
+    pub(crate) fn finish(self) -> Result<Vec<(u32, u32), A>, RleFault>
+        ensures cells { MatchResult result (λ cells. outcome self [] ≡ Ok cells.items) (λ e. outcome self [] ≡ Err e) }
+        ensures inside { IfOk result (λ cells. All IsPairInside cells.items) }
+    {
+        match self.progress {
+            Progress::More if self.body.count.is_some() => Err(RleFault::BadCount),
+            Progress::More => Err(RleFault::NoEnd),
+            Progress::Ended => Ok(self.body.cells),
+            Progress::Failed(fault) => Err(fault),
+        }
+    }
+}

@@ -1,0 +1,99 @@
+//! Why a file is not read.
+ghost use Rattle.std.specs.Prelude.{◌≡◌};
+ghost use Rattle.life_rle.specs.declared.fault.RleFault.TheVariants.{Memory};
+ghost use Rattle.life_rle.specs.Fault.{fault_of_rule};
+
+use life_core::{Fault, RuleFault};
+use std::alloc::{AllocError, AllocFailed};
+
+/// Why a file was not read, in the order in which the faults are judged.
+#[derive(Clone, Copy, Debug, PartialEq, Eq)]
+pub enum RleFault {
+    /// The file has more than 1,048,576 bytes.
+    TooLong = 1,
+    /// A kept text has more than 200 bytes, or there are more than 64 comments.
+    TextLimit = 2,
+    /// There is no header line, or it does not begin with `x`.
+    NoHeader = 3,
+    /// The header does not have its form.
+    BadHeader = 4,
+    /// The rule text does not have the form of a rule.
+    BadRule = 5,
+    /// The rule has 0 among its births.
+    BirthZero = 6,
+    /// An item's byte is none of `b`, `o`, `$`, `!`.
+    OtherTag = 7,
+    /// A count is 0 or over 1,000,000, or stands before `!` or at the end of the file.
+    BadCount = 8,
+    /// A live cell stands past column or row 1023.
+    TooWide = 9,
+    /// The body ends without `!`.
+    NoEnd = 10,
+    /// A growth was refused.
+    Memory = 11,
+}
+
+impl RleFault {
+    ghost use Rattle.life_rle.specs.Fault.{fault_number, fault_name};
+
+    /// The fault's number, from 1 on.
+    pub fn number(self) -> u8
+        ensures { result ≡ fault_number self }
+    {
+        self as u8
+    }
+
+    /// What the fault is called, in small letters.
+    pub fn name(self) -> &'static str
+        ensures { result.now ≡ fault_name self }
+    {
+        match self {
+            RleFault::TooLong => "too-long",
+            RleFault::TextLimit => "text-limit",
+            RleFault::NoHeader => "no-header",
+            RleFault::BadHeader => "bad-header",
+            RleFault::BadRule => "bad-rule",
+            RleFault::BirthZero => "birth-zero",
+            RleFault::OtherTag => "other-tag",
+            RleFault::BadCount => "bad-count",
+            RleFault::TooWide => "too-wide",
+            RleFault::NoEnd => "no-end",
+            RleFault::Memory => "memory",
+        }
+    }
+}
+
+impl From<AllocError> for RleFault {
+    ghost from_gives = { λ _ e. e ≡ Memory };
+
+    fn from(_error: AllocError) -> RleFault {
+        RleFault::Memory
+    }
+}
+
+impl<T: Drop> From<AllocFailed<T>> for RleFault {
+    ghost from_gives = { λ _ e. e ≡ Memory };
+
+    fn from(_error: AllocFailed<T>) -> RleFault {
+        RleFault::Memory
+    }
+}
+
+impl From<Fault> for RleFault {
+    ghost from_gives = { λ _ e. e ≡ Memory };
+
+    fn from(_fault: Fault) -> RleFault {
+        RleFault::Memory
+    }
+}
+
+impl From<RuleFault> for RleFault {
+    ghost from_gives = { λ fault e. e ≡ fault_of_rule fault };
+
+    fn from(fault: RuleFault) -> RleFault {
+        match fault {
+            RuleFault::BadRule => RleFault::BadRule,
+            RuleFault::BirthZero => RleFault::BirthZero,
+        }
+    }
+}

@@ -1,0 +1,28 @@
+//! Patterns in run length encoded files.
+#![tactic(auto)]
+
+mod body;
+mod fault;
+mod header;
+mod laws;
+mod lines;
+mod machine;
+mod memory;
+mod notes;
+mod reader;
+mod record;
+mod stream;
+mod text;
+mod writer;
+
+pub use fault::RleFault;
+pub use laws::laws_of_files;
+pub use machine::{ReadFault, read, read_from, read_kept};
+pub use memory::{MemoryOutlet, SliceInlet};
+pub use record::{Record, plain};
+pub use stream::{Failed, FromRead, FromWrite, Inlet, Outlet, put_all};
+pub use text::{Text, Texts};
+pub use writer::write;
+
+#[cfg(test)]
+mod tests;

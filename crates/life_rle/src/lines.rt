@@ -1,0 +1,76 @@
+//! What a line is.
+ghost use Rattle.std.specs.Prelude.{◌≡◌};
+ghost use Rattle.life_core.specs.RuleText.{is_blank};
+ghost use Rattle.life_rle.specs.Lines.{trim_start, trim_end, is_mark_line, line_kind, kind_of};
+
+pub(crate) fn is_blank(byte: u8) -> bool
+    ensures { result ≡ is_blank byte }
+{
+    byte == b' ' || byte == b'\t' || byte == b'\r'
+}
+
+fn trim_start(line: &[u8]) -> &[u8]
+    ensures { result.now ≡ trim_start line.now }
+{
+    let mut rest = line;
+    while let [first, after @ ..] = rest {
+        if !is_blank(*first) {
+            break;
+        }
+        rest = after;
+    }
+    rest
+}
+
+fn trim_end(line: &[u8]) -> &[u8]
+    ensures { result.now ≡ trim_end line.now }
+{
+    let mut rest = line;
+    while let [before @ .., last] = rest {
+        if !is_blank(*last) {
+            break;
+        }
+        rest = before;
+    }
+    rest
+}
+
+/// Whether the first byte that is no blank is `#`.
+pub(crate) fn is_mark_line(line: &[u8]) -> bool
+    ensures { result ≡ is_mark_line line.now }
+{
+    trim_start(line).first() == Some(&b'#')
+}
+
+/// What a line before the body is.
+pub(crate) enum LineKind<'a> {
+    Passed,
+    Name(&'a [u8]),
+    Author(&'a [u8]),
+    Comment(&'a [u8]),
+    Rule(&'a [u8]),
+    Header,
+}
+
+#[tactic(auto, unfolding(crate::specs::Lines::line_kind))]
+pub(crate) fn line_kind(line: &[u8]) -> LineKind<'_>
+    ensures { kind_of result ≡ line_kind line.now }
+{
+    let front = trim_start(line);
+    match front {
+        [] => LineKind::Passed,
+        [b'#', b'C', b'X', b'R', b'L', b'E', ..] => LineKind::Passed,
+        [b'#'] => LineKind::Passed,
+        [b'#', letter, text @ ..] => {
+            let text = trim_end(trim_start(text));
+            match *letter {
+                b'N' => LineKind::Name(text),
+                b'O' => LineKind::Author(text),
+                b'C' | b'c' => LineKind::Comment(text),
+                b'r' => LineKind::Rule(text),
+                _ => LineKind::Passed,
+            }
+        }
+        _ => LineKind::Header,
+    }
+}

@@ -1,0 +1,165 @@
+//! Reading a file byte by byte.
+ghost use Rattle.std.specs.Prelude.{◌≡◌, ℕ, ◌++◌, ◌∷◌, [], List, IfOk, OnOk, MatchResult, Err};
+ghost use Rattle.life_rle.specs.declared.fault.RleFault.TheVariants.{Memory};
+ghost use Rattle.life_rle.specs.Fault.{Gives};
+ghost use Rattle.life_rle.specs.File.{kept, file};
+ghost use Rattle.life_rle.specs.Machine.{IsSound, Followed, FollowGives, ReadsTold};
+ghost use Rattle.life_rle.specs.Record.{IsInside};
+ghost use Rattle.life_rle.specs.Stream.{LosesUpTo, FailedBetween};
+
+use crate::fault::RleFault;
+use crate::reader::Reader;
+use crate::record::Record;
+use crate::stream::Inlet;
+use std::alloc::Allocator;
+
+/// The most bytes of a file.
+const LONGEST_FILE: usize = 1_048_576;
+
+/// The most bytes that are taken from a stream: one more than a file may have.
+const MOST_TAKEN: usize = 1_048_577;
+
+/// A file that is being read byte by byte: what the whole lines said, and the line that has begun.
+#[derive(Drop)]
+pub(crate) struct Machine<A: Allocator> {
+    reader: Reader<A>,
+    line: Vec<u8, A>,
+}
+
+impl<A: Allocator + Copy> Machine<A> {
+    ghost use Rattle.life_rle.specs.Machine.{awaited};
+
+    #[tactic(auto, unfolding(crate::specs::File::kept))]
+    fn new(alloc: A) -> Machine<A>
+        ensures { (bytes : List ℕ) → awaited result bytes ≡ kept bytes }
+    {
+        Machine {
+            reader: Reader::new(alloc),
+            line: Vec::new(alloc),
+        }
+    }
+
+    /// Reads the next byte.
+    #[tactic(auto, unfolding(crate::specs::Lines::lines_after))]
+    fn take(&mut self, alloc: A, byte: u8) -> Result<(), RleFault>
+        ensures { MatchResult result (λ _. (bytes : List ℕ) → awaited self.new bytes ≡ awaited self.old (byte ∷ bytes)) (λ e. e ≡ Memory) }
+    {
+        if byte == b'\n' {
+            self.reader.line(alloc, &self.line)?;
+            self.line.clear();
+        } else {
+            self.line.push(byte)?;
+        }
+        Ok(())
+    }
+
+    /// Reads the next bytes.
+    fn take_all(&mut self, alloc: A, piece: &[u8]) -> Result<(), RleFault>
+        ensures { MatchResult result (λ _. (bytes : List ℕ) → awaited self.new bytes ≡ awaited self.old (piece.now ++ bytes)) (λ e. e ≡ Memory) }
+    {
+        for byte in piece {
+            self.take(alloc, *byte)?;
+        }
+        Ok(())
+    }
+
+    /// What the file is read as, where nothing is left.
+    #[tactic(auto, unfolding(crate::specs::Lines::lines_after))]
+    fn finish(self, alloc: A) -> Result<Record<A>, RleFault>
+        requires { IsSound self }
+        ensures gives { Gives result (awaited self []) }
+        ensures inside { IfOk result (λ r. IsInside 1024 r.cells) }
+    {
+        let Machine { mut reader, line } = self;
+        reader.line(alloc, &line)?;
+        reader.finish(alloc)
+    }
+}
+
+/// Reads a file of any length.
+pub fn read_kept<A: Allocator + Copy>(alloc: A, bytes: &[u8]) -> Result<Record<A>, RleFault>
+    ensures gives { Gives result (kept bytes.now) }
+    ensures inside { IfOk result (λ r. IsInside 1024 r.cells) }
+{
+    let mut machine = Machine::new(alloc);
+    machine.take_all(alloc, bytes)?;
+    machine.finish(alloc)
+}
+
+/// Reads a file of at most 1,048,576 bytes.
+#[tactic(auto, unfolding(crate::specs::File::file))]
+pub fn read<A: Allocator + Copy>(alloc: A, bytes: &[u8]) -> Result<Record<A>, RleFault>
+    ensures gives { Gives result (file bytes.now) }
+    ensures inside { IfOk result (λ r. IsInside 1024 r.cells) }
+{
+    if bytes.len() > LONGEST_FILE {
+        return Err(RleFault::TooLong);
+    }
+    read_kept(alloc, bytes)
+}
+
+/// Why a file was not read from a stream.
+#[derive(Clone, Copy, Debug, PartialEq, Eq)]
+pub enum ReadFault {
+    /// The file is not read, whatever pieces it comes in.
+    Rle(RleFault),
+    /// A take failed.
+    Unreadable,
+}
+
+/// Takes the bytes to their end, or to one more than a file may have; says how many there were.
+fn follow<A: Allocator + Copy, I: Inlet>(
+    alloc: A,
+    inlet: &mut I,
+    machine: &mut Machine<A>,
+) -> Result<usize, ReadFault>
+    requires followed { Followed (I.to_come inlet.old) (I.to_come inlet.old) machine.old 0 }
+    requires sound { IsSound machine.old }
+    ensures follows { FollowGives (I.to_come inlet.old) (I.failures inlet.old) (I.failures inlet.new) machine.new result }
+    ensures sound { OnOk result (IsSound machine.new) }
+    ensures few { LosesUpTo MOST_TAKEN (I.to_come inlet.old) (I.to_come inlet.new) }
+{
+    let mut buffer = [0u8; 4096];
+    let mut taken = 0;
+    while taken < MOST_TAKEN {
+        let room = buffer.len().min(MOST_TAKEN - taken);
+        let place = &mut buffer[..room];
+        match inlet.take(place) {
+            Err(_) => return Err(ReadFault::Unreadable),
+            Ok(0) => return Ok(taken),
+            Ok(k) => {
+                match machine.take_all(alloc, &place[..k]) {
+                    Ok(()) => {}
+                    Err(fault) => return Err(ReadFault::Rle(fault)),
+                }
+                taken += k;
+            }
+        }
+    }
+    Ok(taken)
+}
+
+/// Reads a file from a stream. At most 4,096 bytes are taken at a time, to the end of the stream or
+/// to the first byte that is too many.
+pub fn read_from<A: Allocator + Copy, I: Inlet>(
+    alloc: A,
+    inlet: &mut I,
+) -> Result<Record<A>, ReadFault>
+    // Where the bytes are told, they are read as the file that they are, however they were cut.
+    ensures exact { ReadsTold (I.to_come inlet.old) result }
+    // Unreadable comes only where a take failed.
+    ensures unreadable { result ≡ Err ReadFault.Unreadable → FailedBetween (I.failures inlet.old) (I.failures inlet.new) }
+    // At most 1,048,577 bytes are taken.
+    ensures few { LosesUpTo MOST_TAKEN (I.to_come inlet.old) (I.to_come inlet.new) }
+    ensures inside { IfOk result (λ r. IsInside 1024 r.cells) }
+{
+    let mut machine = Machine::new(alloc);
+    let taken = follow(alloc, inlet, &mut machine)?;
+    if taken == MOST_TAKEN {
+        return Err(ReadFault::Rle(RleFault::TooLong));
+    }
+    match machine.finish(alloc) {
+        Ok(record) => Ok(record),
+        Err(fault) => Err(ReadFault::Rle(fault)),
+    }
+}

@@ -1,0 +1,215 @@
+//! A file, line by line.
+ghost use Rattle.std.specs.Prelude.{◌≡◌, ◌∷◌, [], List, ℕ, MatchResult, IfOk, Ok, map};
+ghost use Rattle.std.specs.FinSet as set;
+ghost use Rattle.std.specs.List.{All};
+ghost use Rattle.life_core.specs.Pattern.{normal};
+ghost use Rattle.life_core.specs.RuleText.{without_blanks};
+ghost use Rattle.life_rle.specs.declared.fault.RleFault.TheVariants.{Memory};
+ghost use Rattle.life_rle.specs.Body.{IsPairInside};
+ghost use Rattle.life_rle.specs.Fault.{Gives};
+ghost use Rattle.life_rle.specs.File.{cell_of};
+
+use crate::body::BodyReader;
+use crate::fault::RleFault;
+use crate::header::header_rule;
+use crate::lines::{LineKind, is_blank, is_mark_line, line_kind};
+use crate::notes::Notes;
+use crate::record::Record;
+use life_core::{Cell, Fault, Pattern, Rule};
+use std::alloc::{AllocError, Allocator};
+
+/// How far a file has come.
+#[derive(Clone, Copy, Debug)]
+pub(crate) enum Stage {
+    Front,
+    Body,
+    Failed(RleFault),
+}
+
+/// A file that is being read line by line; its first fault is kept.
+#[derive(Drop)]
+pub(crate) struct Reader<A: Allocator> {
+    notes: Notes<A>,
+    rule: Rule,
+    body: BodyReader<A>,
+    stage: Stage,
+}
+
+/// The bytes of a line that are no blanks.
+fn without_blanks<A: Allocator>(alloc: A, line: &[u8]) -> Result<Vec<u8, A>, AllocError>
+    ensures { IfOk result (λ text. text.items ≡ without_blanks line.now) }
+{
+    let mut text = Vec::new(alloc);
+    for byte in line {
+        if !is_blank(*byte) {
+            text.push(*byte)?;
+        }
+    }
+    Ok(text)
+}
+
+impl<A: Allocator + Copy> Reader<A> {
+    ghost use Rattle.std.specs.Option.{option_copied};
+    ghost use Rattle.life_rle.specs.Lines.{line_kind, header};
+    ghost use Rattle.life_rle.specs.Notes.{no_notes, notes};
+    ghost use Rattle.life_rle.specs.Record.{Contents, IsRecord, IsInside};
+    ghost use Rattle.life_rle.specs.File.{read_lines, chosen_rule};
+    ghost use Rattle.life_rle.specs.Reader.{front_rule, resumed};
+    ghost use Rattle.life_rle.specs.declared.reader.Stage.TheVariants.{Front, Body};
+
+    pub(crate) fn new(alloc: A) -> Reader<A>
+        ensures { (lines : List (List ℕ)) → resumed result lines ≡ read_lines no_notes lines }
+    {
+        Reader {
+            notes: Notes::new(alloc),
+            rule: Rule::LIFE,
+            body: BodyReader::new(alloc),
+            stage: Stage::Front,
+        }
+    }
+
+    /// The rule of a header line.
+    fn rule_of(&self, given: Option<&[u8]>) -> Result<Rule, RleFault>
+        ensures { Gives result (chosen_rule (option_copied given.entry) (notes self.now.notes).rule) }
+    {
+        match given {
+            Some(text) => Ok(Rule::read(text)?),
+            None => match &self.notes.rule {
+                Some(text) => Ok(Rule::read(text.as_bytes())?),
+                None => Ok(Rule::LIFE),
+            },
+        }
+    }
+
+    /// Judges a header line without its blanks.
+    #[tactic(auto, unfolding(crate::specs::Reader::front_rule))]
+    fn judge(&self, text: &[u8]) -> Result<Rule, RleFault>
+        ensures { Gives result (front_rule (notes self.now.notes) text.now) }
+    {
+        if self.notes.is_past_limit() {
+            return Err(RleFault::TextLimit);
+        }
+        let given = header_rule(text)?;
+        self.rule_of(given)
+    }
+
+    /// Reads the next line.
+    pub(crate) fn line(&mut self, alloc: A, line: &[u8]) -> Result<(), RleFault>
+        ensures { MatchResult result (λ _. (lines : List (List ℕ)) → resumed self.new lines ≡ resumed self.old (line.now ∷ lines)) (λ e. e ≡ Memory) }
+    {
+        match self.stage {
+            Stage::Failed(_) => Ok(()),
+            Stage::Body => self.body_line(line),
+            Stage::Front => self.front_line(alloc, line),
+        }
+    }
+
+    fn body_line(&mut self, line: &[u8]) -> Result<(), RleFault>
+        requires { self.old.stage ≡ Body }
+        ensures { MatchResult result (λ _. (lines : List (List ℕ)) → resumed self.new lines ≡ resumed self.old (line.now ∷ lines)) (λ e. e ≡ Memory) }
+    {
+        if is_mark_line(line) {
+            Ok(())
+        } else {
+            self.body.line(line)
+        }
+    }
+
+    fn front_line(&mut self, alloc: A, line: &[u8]) -> Result<(), RleFault>
+        requires { self.old.stage ≡ Front }
+        ensures { MatchResult result (λ _. (lines : List (List ℕ)) → resumed self.new lines ≡ resumed self.old (line.now ∷ lines)) (λ e. e ≡ Memory) }
+    {
+        match line_kind(line) {
+            LineKind::Header => self.header(alloc, line),
+            kind => {
+                self.notes.line(alloc, kind)?;
+                Ok(())
+            }
+        }
+    }
+
+    fn header(&mut self, alloc: A, line: &[u8]) -> Result<(), RleFault>
+        requires front { self.old.stage ≡ Front }
+        requires header { line_kind line.now ≡ header }
+        ensures { MatchResult result (λ _. (lines : List (List ℕ)) → resumed self.new lines ≡ resumed self.old (line.now ∷ lines)) (λ e. e ≡ Memory) }
+    {
+        let text = without_blanks(alloc, line)?;
+        match self.judge(&text) {
+            Ok(rule) => {
+                self.rule = rule;
+                self.body = BodyReader::new(alloc);
+                self.stage = Stage::Body;
+                Ok(())
+            }
+            Err(fault) => match fault {
+                RleFault::Memory => Err(RleFault::Memory),
+                _ => {
+                    self.stage = Stage::Failed(fault);
+                    Ok(())
+                }
+            },
+        }
+    }
+
+    /// What the file is read as, where no line is left.
+    #[tactic(auto, unfolding(crate::specs::File::read_lines, crate::specs::File::after_front))]
+    pub(crate) fn finish(self, alloc: A) -> Result<Record<A>, RleFault>
+        requires { (r : Contents) → resumed self [] ≡ Ok r → IsRecord r }
+        ensures gives { Gives result (resumed self []) }
+        ensures inside { IfOk result (λ r. IsInside 1024 r.cells) }
+    {
+        let Reader {
+            notes,
+            rule,
+            body,
+            stage,
+        } = self;
+        match stage {
+            Stage::Failed(fault) => Err(fault),
+            Stage::Front => {
+                if notes.is_past_limit() {
+                    Err(RleFault::TextLimit)
+                } else {
+                    Err(RleFault::NoHeader)
+                }
+            }
+            Stage::Body => {
+                let cells = normal_of(alloc, &body.finish()?)?;
+                let Notes {
+                    name,
+                    author,
+                    comments,
+                    ..
+                } = notes;
+                Ok(Record {
+                    name,
+                    author,
+                    comments,
+                    rule,
+                    cells,
+                })
+            }
+        }
+    }
+}
+
+/// The set of the cells of the pairs (column, row), moved so that its least column and row are 0.
+fn normal_of<A: Allocator + Copy>(alloc: A, pairs: &[(u32, u32)]) -> Result<Pattern<A>, Fault>
+    requires { All IsPairInside pairs.now }
+    ensures { IfOk result (λ X. X ≡ normal (set.from_list (map cell_of pairs.now))) }
+{
+    Pattern::from_list(cells_of(alloc, pairs)?).normal(alloc)
+}
+
+/// The cells of the pairs (column, row).
+fn cells_of<A: Allocator>(alloc: A, pairs: &[(u32, u32)]) -> Result<Vec<Cell, A>, AllocError>
+    ensures { IfOk result (λ v. v.items ≡ map cell_of pairs.now) }
+{
+    pairs
+        .iter()
+        .map(|pair| Cell {
+            row: i64::from(pair.1),
+            column: i64::from(pair.0),
+        })
+        .collect(alloc)
+}

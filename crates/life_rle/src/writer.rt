@@ -1,0 +1,268 @@
+//! The text of a record.
+ghost use Rattle.std.specs.Prelude.{◌≡◌, ◌≤◌, ◌<◌, ◌+◌, ◌-◌, ◌^◌, ◌==◌, if◌then◌else◌, ℕ, List, ◌∷◌, ◌++◌, length, map, Ok, IfOk, OnOk};
+ghost use Rattle.std.specs.List.{All, flat_map};
+ghost use Rattle.life_rle.specs.File.{kept};
+ghost use Rattle.life_rle.specs.Record.{IsInside};
+ghost use Rattle.life_rle.specs.Writer.{InOrder, counted, item_texts, laid, text_line, optional_line, comment_line, width_of, height_of, header_line, IsQuarterCell, coordinates, text};
+
+use crate::record::Record;
+use crate::text::Text;
+use life_core::{Cell, Fault};
+use std::alloc::{AllocError, Allocator};
+
+/// The most bytes of a line of items.
+const WIDTH: usize = 70;
+
+/// Items laid into lines.
+#[derive(Drop)]
+struct ItemLines<A: Allocator> {
+    out: Vec<u8, A>,
+    used: usize,
+    ghost used_in: { used ≤ 70 },
+}
+
+impl<A: Allocator + Copy> ItemLines<A> {
+    ghost use Rattle.life_rle.specs.WriterState.{written};
+
+    fn new(out: Vec<u8, A>) -> ItemLines<A>
+        ensures out { result.out ≡ out }
+        ensures used { result.used ≡ 0 }
+    {
+        ItemLines { out, used: 0 }
+    }
+
+    /// Lays one item.
+    fn put(&mut self, item: &[u8]) -> Result<(), AllocError>
+        requires { length item.now ≤ 70 }
+        ensures { OnOk result ((items : List (List ℕ)) → written self.new items ≡ written self.old (item.now ∷ items)) }
+    {
+        if self.used + item.len() <= WIDTH {
+            self.out.extend_from_slice(item)?;
+            self.used += item.len();
+        } else {
+            self.out.push(b'\n')?;
+            self.out.extend_from_slice(item)?;
+            self.used = item.len();
+        }
+        Ok(())
+    }
+
+    /// Lays the item of this count, where the count is not 0.
+    fn item(&mut self, alloc: A, count: u64, tag: u8) -> Result<(), AllocError>
+        ensures { OnOk result ((items : List (List ℕ)) → written self.new items ≡ written self.old (counted count tag ++ items)) }
+    {
+        if count == 0 {
+            return Ok(());
+        }
+        let mut text = Vec::new(alloc);
+        if count > 1 {
+            text.extend_from_slice(count.to_string(alloc)?.as_bytes())?;
+        }
+        text.push(tag)?;
+        self.put(&text)
+    }
+}
+
+/// A body so far: where the next cell may stand, and how many live cells are right before it.
+#[derive(Drop)]
+struct BodyWriter<A: Allocator> {
+    lines: ItemLines<A>,
+    row: u32,
+    column: u64,
+    live: u64,
+}
+
+impl<A: Allocator + Copy> BodyWriter<A> {
+    ghost use Rattle.life_rle.specs.WriterState.{written, body_written};
+
+    /// Takes the next cell.
+    fn cell(&mut self, alloc: A, cell: (u32, u32)) -> Result<(), AllocError>
+        requires row { self.old.row ≤ cell.1 }
+        requires column { self.old.row ≡ cell.1 → self.old.column ≤ cell.0 }
+        requires live { self.old.live < 2 ^ 63 }
+        ensures text { OnOk result ((cells : List (ℕ × ℕ)) (items : List (List ℕ)) → body_written self.new cells items ≡ body_written self.old (cell ∷ cells) items) }
+        ensures row_after { OnOk result (self.new.row ≡ cell.1) }
+        ensures column_after { OnOk result (self.new.column ≡ cell.0 + 1) }
+        ensures live_after { OnOk result (self.new.live ≤ self.old.live + 1) }
+    {
+        let (x, y) = cell;
+        let here = u64::from(x);
+        if y == self.row && here == self.column {
+            self.live += 1;
+            self.column = here + 1;
+            return Ok(());
+        }
+        self.gap(alloc, x, y)?;
+        self.row = y;
+        self.column = here + 1;
+        Ok(())
+    }
+
+    /// Lays the live cells so far, and what lies between them and the cell at x and y.
+    fn gap(&mut self, alloc: A, x: u32, y: u32) -> Result<(), AllocError>
+        requires row { self.old.row ≤ y }
+        requires column { self.old.row ≡ y → self.old.column ≤ x }
+        ensures text { OnOk result ((items : List (List ℕ)) → written self.new.lines items ≡ written self.old.lines (counted self.old.live 111 ++ (counted (y - self.old.row) 36 ++ (counted (x - (if y == self.old.row then self.old.column else 0)) 98 ++ items)))) }
+        ensures live_after { OnOk result (self.new.live ≡ 1) }
+    {
+        let from = if y == self.row { self.column } else { 0 };
+        self.lines.item(alloc, self.live, b'o')?;
+        self.lines.item(alloc, u64::from(y - self.row), b'$')?;
+        self.lines.item(alloc, u64::from(x) - from, b'b')?;
+        self.live = 1;
+        Ok(())
+    }
+}
+
+/// Writes the body for cells in the order of rows and columns.
+fn write_body<A: Allocator + Copy>(
+    alloc: A,
+    out: Vec<u8, A>,
+    cells: &[(u32, u32)],
+) -> Result<Vec<u8, A>, AllocError>
+    requires { InOrder 0 0 cells.now }
+    ensures { IfOk result (λ text. text.items ≡ out.items ++ laid 0 (item_texts cells.now)) }
+{
+    let mut body = BodyWriter {
+        lines: ItemLines::new(out),
+        row: 0,
+        column: 0,
+        live: 0,
+    };
+    for cell in cells {
+        body.cell(alloc, *cell)?;
+    }
+    body.lines.item(alloc, body.live, b'o')?;
+    body.lines.put(b"!")?;
+    body.lines.out.push(b'\n')?;
+    Ok(body.lines.out)
+}
+
+/// Writes `#`, the letter, and the text.
+fn text_line<A: Allocator>(out: &mut Vec<u8, A>, letter: u8, text: &[u8]) -> Result<(), AllocError>
+    ensures { OnOk result (out.new.items ≡ out.old.items ++ text_line letter text.now) }
+{
+    out.push(b'#')?;
+    out.push(letter)?;
+    out.push(b' ')?;
+    out.extend_from_slice(text)?;
+    out.push(b'\n')?;
+    Ok(())
+}
+
+/// Writes the line of a text that may be missing.
+fn optional_line<A: Allocator>(
+    out: &mut Vec<u8, A>,
+    letter: u8,
+    text: &Option<Text<A>>,
+) -> Result<(), AllocError>
+    ensures { OnOk result (out.new.items ≡ out.old.items ++ optional_line letter text.now) }
+{
+    match text {
+        None => Ok(()),
+        Some(text) => text_line(out, letter, text.as_bytes()),
+    }
+}
+
+/// Writes the line of a comment.
+fn comment_line<A: Allocator>(out: &mut Vec<u8, A>, text: &[u8]) -> Result<(), AllocError>
+    ensures { OnOk result (out.new.items ≡ out.old.items ++ comment_line text.now) }
+{
+    if text.is_empty() {
+        out.extend_from_slice(b"#C\n")
+    } else {
+        text_line(out, b'C', text)
+    }
+}
+
+/// Writes the lines of the comments.
+fn comment_lines<A: Allocator>(out: &mut Vec<u8, A>, texts: &[Text<A>]) -> Result<(), AllocError>
+    ensures { OnOk result (out.new.items ≡ out.old.items ++ flat_map comment_line texts.now) }
+{
+    for text in texts {
+        comment_line(out, text.as_bytes())?;
+    }
+    Ok(())
+}
+
+/// Writes the header line.
+fn header_line<A: Allocator + Copy>(
+    alloc: A,
+    out: &mut Vec<u8, A>,
+    width: u64,
+    height: u64,
+    rule: &[u8],
+) -> Result<(), AllocError>
+    ensures { OnOk result (out.new.items ≡ out.old.items ++ header_line width height rule.now) }
+{
+    out.extend_from_slice(b"x = ")?;
+    out.extend_from_slice(width.to_string(alloc)?.as_bytes())?;
+    out.extend_from_slice(b", y = ")?;
+    out.extend_from_slice(height.to_string(alloc)?.as_bytes())?;
+    out.extend_from_slice(b", rule = ")?;
+    out.extend_from_slice(rule)?;
+    out.push(b'\n')?;
+    Ok(())
+}
+
+/// One past the greatest column, and 0 where there are no cells.
+fn width_of(cells: &[(u32, u32)]) -> u64
+    ensures { result ≡ width_of cells.now }
+{
+    let mut width = 0;
+    for cell in cells {
+        width = width.max(u64::from(cell.0) + 1);
+    }
+    width
+}
+
+/// One past the greatest row, and 0 where there are no cells.
+fn height_of(cells: &[(u32, u32)]) -> u64
+    ensures { result ≡ height_of cells.now }
+{
+    let mut height = 0;
+    for cell in cells {
+        height = height.max(u64::from(cell.1) + 1);
+    }
+    height
+}
+
+/// The coordinates of a cell.
+fn pair_of(cell: Cell) -> (u32, u32)
+    requires { IsQuarterCell cell }
+    ensures { result ≡ coordinates cell }
+{
+    (cell.column as u32, cell.row as u32)
+}
+
+/// The coordinates of the cells.
+fn pairs_of<A: Allocator>(alloc: A, cells: &[Cell]) -> Result<Vec<(u32, u32), A>, AllocError>
+    requires { All IsQuarterCell cells.now }
+    ensures { IfOk result (λ v. v.items ≡ map coordinates cells.now) }
+{
+    cells.iter().map(|cell| pair_of(*cell)).collect(alloc)
+}
+
+/// The text of a record: its texts, its header and its body. Cells stand in the longest runs, and a
+/// line takes whole items as long as it then has at most 70 bytes.
+#[tactic(auto, unfolding(crate::specs::Writer::text))]
+pub fn write<A: Allocator + Copy>(alloc: A, record: &Record<A>) -> Result<Vec<u8, A>, Fault>
+    ensures text { IfOk result (λ v. v.items ≡ text «record».now) }
+    // In a box of at most 1024 by 1024 it is read as the record again.
+    ensures again { IfOk result (λ v. IsInside 1024 «record».now.cells → kept v.items ≡ Ok «record».now) }
+{
+    let rule = record.rule.text(alloc)?;
+    let cells = pairs_of(alloc, record.cells.cells())?;
+    let mut out = Vec::new(alloc);
+    optional_line(&mut out, b'N', &record.name)?;
+    optional_line(&mut out, b'O', &record.author)?;
+    comment_lines(&mut out, record.comments.as_slice())?;
+    header_line(
+        alloc,
+        &mut out,
+        width_of(&cells),
+        height_of(&cells),
+        rule.as_bytes(),
+    )?;
+    Ok(write_body(alloc, out, &cells)?)
+}

@@ -1,7 +1,9 @@
 //! Generations of small patterns, texts of rules, and each public call once.
-use crate::cell::PLANE;
-use crate::generations::generation;
-use crate::pattern::Pattern;
+use crate::cell::{Cell, PLANE};
+use crate::cell_list::CellList;
+use crate::generations::{generation, laws_of_generations};
+use crate::pattern::{Bounds, Pattern};
+use crate::plane::Plane;
 use crate::rule::Rule;
 use crate::rule_text::{RuleFault, laws_of_rule_texts};
 use std::test::Fail;
@@ -69,7 +71,50 @@ fn other_texts_are_no_rules(rt: HostRuntime) -> Result<(), Fail> {
     ] {
         assert_eq!(rt; Rule::read(text.as_bytes()), Err(fault), "of {text}");
     }
-    assert_eq!(rt; RuleFault::BadRule.number(), 1);
-    assert_eq!(rt; RuleFault::BirthZero.number(), 2);
+    for (fault, number, message) in [
+        (RuleFault::BadRule, 1, "not a rule"),
+        (RuleFault::BirthZero, 2, "a rule with births from nothing"),
+    ] {
+        assert_eq!(rt; fault.number(), number);
+        assert_eq!(rt; format!(in rt.alloc(); "{fault}")?.as_str(), message);
+    }
+    Ok(())
+}
+
+#[test]
+fn each_call_of_a_pattern(rt: HostRuntime) -> Result<(), Fail> {
+    let pattern = Pattern::from_cells(rt.alloc(), &[(3, -1), (2, 5), (3, -1)])?;
+    assert_eq!(rt; pattern.population(), 2);
+    assert!(rt; pattern.contains(Cell { row: 5, column: 2 }));
+    assert!(rt; !pattern.contains(Cell { row: 2, column: 5 }));
+    assert!(rt; pattern.within(5) && !pattern.within(4));
+    let bounds = Bounds {
+        left: 2,
+        top: -1,
+        width: 2,
+        height: 7,
+    };
+    assert_eq!(rt; pattern.bounds(), Some(bounds));
+    assert!(rt; pattern.within(500_000_000));
+    let normal = pattern.normal(rt.alloc())?;
+    let cells = [Cell { row: 0, column: 1 }, Cell { row: 6, column: 0 }];
+    assert_eq!(rt; normal.cells(), cells.as_slice());
+    assert!(rt; normal.copy(rt.alloc())?.same(&normal));
+    assert!(rt; !normal.same(&pattern));
+    let empty = Pattern::from_cells(rt.alloc(), &[])?;
+    assert_eq!(rt; empty.bounds(), None);
+    Ok(())
+}
+
+#[test]
+fn a_plane_goes_on_and_is_trimmed(rt: HostRuntime) -> Result<(), Fail> {
+    let blinker = Pattern::from_cells(rt.alloc(), &[(-1, 0), (0, 0), (1, 0)])?;
+    assert!(rt; blinker.within(PLANE - 1));
+    let mut plane: CellList = CellList::from_pattern(rt.alloc(), &blinker)?;
+    plane.step(&Rule::LIFE)?;
+    plane.trim();
+    let turned = Pattern::from_cells(rt.alloc(), &[(0, -1), (0, 0), (0, 1)])?;
+    assert!(rt; plane.to_pattern(rt.alloc())?.same(&turned));
+    laws_of_generations();
     Ok(())
 }

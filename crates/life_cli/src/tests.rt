@@ -1,6 +1,9 @@
+ghost use Rattle.std.specs.Prelude.{None, ◌-◌, ◌^◌};
+
+use crate::jobs::run_generation;
 use crate::stop::Stop;
 use crate::words::{Job, WordFault, read_words};
-use life_rle::RleFault;
+use life_rle::{Failed, Inlet, MemoryOutlet, Outlet, RleFault, SliceInlet};
 use std::alloc::Global;
 use std::convert::AsStr;
 use std::test::Fail;
@@ -104,4 +107,69 @@ fn each_stop_has_its_line(rt: HostRuntime) {
     for (stop, line) in lines {
         assert_eq!(rt; stop.line(), line);
     }
+}
+
+const GLIDER: &[u8] = b"x = 3, y = 3\nbo$2bo$3o!\n";
+
+#[test]
+fn a_generation_is_put(rt: HostRuntime) {
+    let mut input = SliceInlet::new(GLIDER);
+    let mut output = MemoryOutlet::new(rt.alloc());
+    assert_eq!(rt;
+        run_generation(rt.alloc(), 1, &mut input, &mut output),
+        Ok(())
+    );
+    assert_eq!(rt;
+        output.bytes(),
+        b"x = 3, y = 3, rule = B3/S23\nobo$b2o$bo!\n".as_slice()
+    );
+}
+
+#[test]
+fn nothing_is_taken_for_a_number_out_of_its_limit(rt: HostRuntime) {
+    let mut input = SliceInlet::new(GLIDER);
+    let mut output = MemoryOutlet::new(rt.alloc());
+    let done = run_generation(rt.alloc(), 1025, &mut input, &mut output);
+    assert_eq!(rt; done, Err(Stop::OutOfLimit));
+    assert_eq!(rt; input.take(&mut [0; 1]), Ok(1));
+    assert!(rt; output.bytes().is_empty());
+}
+
+// The glider's bytes, and then a take that fails; no put that succeeds.
+#[derive(Drop)]
+struct Broken<'a>(SliceInlet<'a>);
+
+impl<'a> Inlet for Broken<'a> {
+    ghost to_come = { λ _. None };
+
+    ghost failures = { λ _. 2 ^ 64 - 1 };
+
+    fn take(&mut self, place: &mut [u8]) -> Result<usize, Failed> {
+        match self.0.take(place) {
+            Ok(0) | Err(_) => Err(Failed),
+            Ok(k) => Ok(k),
+        }
+    }
+}
+
+impl<'a> Outlet for Broken<'a> {
+    ghost already = { λ _. None };
+
+    ghost failures = { λ _. 2 ^ 64 - 1 };
+
+    fn put(&mut self, _bytes: &[u8]) -> Result<usize, Failed> {
+        Err(Failed)
+    }
+}
+
+#[test]
+fn a_failed_stream_stops_a_job(rt: HostRuntime) {
+    let mut input = Broken(SliceInlet::new(GLIDER));
+    let mut output = MemoryOutlet::new(rt.alloc());
+    let done = run_generation(rt.alloc(), 1, &mut input, &mut output);
+    assert_eq!(rt; done, Err(Stop::Unreadable));
+    assert!(rt; output.bytes().is_empty());
+    let mut input = SliceInlet::new(GLIDER);
+    let done = run_generation(rt.alloc(), 1, &mut input, &mut Broken(SliceInlet::new(b"")));
+    assert_eq!(rt; done, Err(Stop::Unwritable));
 }

@@ -1,0 +1,6 @@
+//! Tests over several crates, and what they share: an allocator that refuses.
+#![tactic(auto)]
+
+pub mod refusing;
+#[cfg(test)]
+mod tests;

@@ -8,7 +8,7 @@ use Rattle.life_rle.specs.Record.{Contents}
 use Rattle.life_rle.specs.Writer.{text}
 use Rattle.life_cli.specs.declared.stop.Stop.{Stop}
 use Rattle.life_cli.specs.declared.stop.Stop.TheVariants.{OutOfLimit, BadPattern, Unreadable, Unavailable, Unwritable}
-use Rattle.life_cli.specs.Jobs.{later, generation_text, IsOfInput, ReadsBytes, ReadsTold, PutsText, PutsBytes, PutsTold}
+use Rattle.life_cli.specs.Jobs.{later, generation_text, IsOfInput, ReadsTold, PutsText, PutsTold}
 
 -- the text for a file that is read as a record
 text_of_file : (n : ℕ) (bytes : List ℕ) (r : Contents) → file bytes ≡ Ok r → generation_text n bytes ≡ Ok (text (later n r))

@@ -25,7 +25,7 @@ pub enum RleFault {
     OtherTag = 7,
     /// A count is 0 or over 1,000,000, or stands before `!` or at the end of the file.
     BadCount = 8,
-    /// A live cell stands past column or row 1023.
+    /// A live cell stands past the first 1,024 columns or rows.
     TooWide = 9,
     /// The body ends without `!`.
     NoEnd = 10,

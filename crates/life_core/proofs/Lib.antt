@@ -9,4 +9,6 @@ pub mod PatternOrder
 pub mod PatternBoxes
 pub mod GenerationsLaws
 pub mod CellListStep
+pub mod PatternShifts
+pub mod OrientationLemmas
 pub mod CellCountsLemmas

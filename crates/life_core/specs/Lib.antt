@@ -5,5 +5,6 @@ pub mod RuleEquality
 pub mod RuleText
 pub mod Pattern
 pub mod Generations
+pub mod Orientation
 pub mod CellCounts
 pub mod CellList

@@ -1,5 +1,5 @@
 -- Patterns: finite sets of cells (LifeWiki, "Pattern"), their moves, their boxes and their normal form.
-use Rattle.std.specs.Prelude.{◌≡◌, ℕ, ℤ, pos, ◌+ℤ◌, ◌-ℤ◌, ◌≤ℤ◌, neg_ℤ, true, List, [], ◌∷◌, map}
+use Rattle.std.specs.Prelude.{◌≡◌, ◌≢◌, Option, None, Some, ℕ, ℤ, pos, ◌+ℤ◌, ◌-ℤ◌, ◌≤ℤ◌, neg_ℤ, true, List, [], ◌∷◌, map}
 use Rattle.std.specs.Coded.{Coded}
 use Rattle.std.specs.FinSet as set
 use Rattle.std.specs.BTreeSet.{insert_key}
@@ -40,6 +40,22 @@ in_order X = ordered (set.items X)
 pub record IsCellList (k : ℕ) (cs : List Cell) : Type 0 where
   pub sorted : IsStrictlySortedBy cell_cmp cs
   pub inside : All (IsCellWithin k) cs
+
+-- ---- moves from one set to another
+
+-- an answer to which move, columns and rows, takes X to Y: none where X is empty, or where no move takes it to Y
+abbrev pub ShiftsTo : Cells → Cells → Option (ℤ × ℤ) → Type 0
+ShiftsTo X Y None = (dx dy : ℤ) → image (moved_cell dx dy) X ≡ Y → X ≡ set.empty
+ShiftsTo X Y (Some move) = (X ≢ set.empty) × (image (moved_cell move.0 move.1) X ≡ Y)
+
+-- the same of lists of cells, each in its order
+abbrev pub ShiftsListTo : List Cell → List Cell → Option (ℤ × ℤ) → Type 0
+ShiftsListTo cs ds None = (dx dy : ℤ) → map (moved_cell dx dy) cs ≡ ds → cs ≡ []
+ShiftsListTo cs ds (Some move) = (cs ≢ []) × (map (moved_cell move.0 move.1) cs ≡ ds)
+
+-- Two moves that take a set with a cell to the same set are one.
+abbrev pub MovesAreOne : Type 0
+MovesAreOne = (X : Cells) (c : Cell) (dx dy ex ey : ℤ) → set.contains X c ≡ true → image (moved_cell dx dy) X ≡ image (moved_cell ex ey) X → (dx ≡ ex) × (dy ≡ ey)
 
 -- ---- boxes and normal sets
 

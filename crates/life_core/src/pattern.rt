@@ -1,13 +1,15 @@
 //! Finite sets of cells.
-ghost use Rattle.std.specs.Prelude.{◌≡◌, ◌↔◌, ◌≤ℤ◌, ◌+ℤ◌, ◌-ℤ◌, neg_ℤ, pos, [], IfOk, IfSome, IsNone, IsTrue, map};
+ghost use Rattle.std.specs.Prelude.{◌≡◌, ◌↔◌, ◌*◌, ◌≤ℤ◌, ◌+ℤ◌, ◌-ℤ◌, neg_ℤ, pos, [], IfOk, IfSome, IsNone, IsTrue, map};
 ghost use Rattle.std.specs.Int.{int_min, int_max};
 ghost use Rattle.std.specs.List.{All};
 ghost use Rattle.std.specs.FinSet as set;
 ghost use Rattle.life_core.specs.Cell.{cell_at, moved_cell, IsCellWithin};
-ghost use Rattle.life_core.specs.Pattern.{image, in_order, IsWithin, IsCellList, IsBox, normal};
+ghost use Rattle.life_core.specs.Orientation.{turned_cell};
+ghost use Rattle.life_core.specs.Pattern.{image, in_order, IsWithin, IsCellList, IsBox, normal, ShiftsTo, ShiftsListTo};
 
 use crate::cell::{Cell, PLANE};
 use crate::fault::Fault;
+use crate::orientation::Orientation;
 use crate::sorted::{find_cell, sort_cells};
 use std::alloc::{AllocError, Allocator, Global};
 use std::marker::Model;
@@ -112,6 +114,13 @@ impl<A: Allocator> Pattern<A> {
         Ok(Pattern::from_list(moved_cells(alloc, &self.cells, dx, dy)?))
     }
 
+    /// The set turned about the origin.
+    pub fn turned(&self, alloc: A, orientation: Orientation) -> Result<Pattern<A>, Fault>
+        ensures { IfOk result (λ X. X ≡ image (turned_cell orientation) self.now) }
+    {
+        Ok(Pattern::from_list(turned_cells(alloc, &self.cells, orientation)?))
+    }
+
     /// The box of the live cells, if there are any.
     pub fn bounds(&self) -> Option<Bounds>
         ensures none { IsNone result ↔ (self.now ≡ set.empty) }
@@ -136,6 +145,14 @@ impl<A: Allocator> Pattern<A> {
         ensures { IsTrue result ↔ (self.now ≡ other.now) }
     {
         self.cells == other.cells
+    }
+
+    /// The one move, columns and rows, that takes this set to the other; none where this set is
+    /// empty, or where no move does.
+    pub(crate) fn shift_to(&self, other: &Pattern<A>) -> Option<(i64, i64)>
+        ensures { ShiftsTo self.now other.now result }
+    {
+        shift_between(&self.cells, &other.cells)
     }
 
     /// How many cells are live.
@@ -178,6 +195,68 @@ fn moved_cells<A: Allocator>(
     ensures { IfOk result (λ v. v.items ≡ map (moved_cell dx dy) cells.now) }
 {
     cells.iter().map(|c| c.moved(dx, dy)).collect(alloc)
+}
+
+/// The cells turned about the origin.
+fn turned_cells<A: Allocator>(
+    alloc: A,
+    cells: &[Cell],
+    orientation: Orientation,
+) -> Result<Vec<Cell, A>, AllocError>
+    requires { All (IsCellWithin PLANE) cells.now }
+    ensures { IfOk result (λ v. v.items ≡ map (turned_cell orientation) cells.now) }
+{
+    cells.iter().map(|c| orientation.turned(*c)).collect(alloc)
+}
+
+/// The move that takes the cells of one list, in their order, to those of the other.
+fn shift_between(cells: &[Cell], others: &[Cell]) -> Option<(i64, i64)>
+    requires here { All (IsCellWithin PLANE) cells.now }
+    requires there { All (IsCellWithin PLANE) others.now }
+    ensures { ShiftsListTo cells.now others.now result }
+{
+    let from = cells.first()?;
+    let to = others.first()?;
+    let shift = shift_of(*from, *to);
+    if are_moved(cells, others, shift) {
+        Some(shift)
+    } else {
+        None
+    }
+}
+
+/// The columns and rows from one cell to another.
+fn shift_of(from: Cell, to: Cell) -> (i64, i64)
+    requires from { IsCellWithin PLANE from }
+    requires to { IsCellWithin PLANE to }
+    ensures columns { result.0 ≡ to.column -ℤ from.column }
+    ensures rows { result.1 ≡ to.row -ℤ from.row }
+{
+    (to.column - from.column, to.row - from.row)
+}
+
+/// Whether the shift takes the cells of one list, in their order, to those of the other.
+fn are_moved(cells: &[Cell], others: &[Cell], shift: (i64, i64)) -> bool
+    requires here { All (IsCellWithin PLANE) cells.now }
+    requires columns { (neg_ℤ (pos (2 * PLANE)) ≤ℤ shift.0) × (shift.0 ≤ℤ pos (2 * PLANE)) }
+    requires rows { (neg_ℤ (pos (2 * PLANE)) ≤ℤ shift.1) × (shift.1 ≤ℤ pos (2 * PLANE)) }
+    ensures { IsTrue result ↔ (map (moved_cell shift.0 shift.1) cells.now ≡ others.now) }
+{
+    cells.len() == others.len()
+        && cells
+            .iter()
+            .zip(others)
+            .all(|(cell, other)| goes_to(*cell, *other, shift))
+}
+
+/// Whether the shift takes the cell to the other.
+fn goes_to(cell: Cell, other: Cell, shift: (i64, i64)) -> bool
+    requires here { IsCellWithin PLANE cell }
+    requires columns { (neg_ℤ (pos (2 * PLANE)) ≤ℤ shift.0) × (shift.0 ≤ℤ pos (2 * PLANE)) }
+    requires rows { (neg_ℤ (pos (2 * PLANE)) ≤ℤ shift.1) × (shift.1 ≤ℤ pos (2 * PLANE)) }
+    ensures { IsTrue result ↔ (moved_cell shift.0 shift.1 cell ≡ other) }
+{
+    cell.moved(shift.0, shift.1) == other
 }
 
 /// The box of the cells, if there are any.

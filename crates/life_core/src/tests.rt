@@ -2,6 +2,7 @@
 use crate::cell::{Cell, PLANE};
 use crate::cell_list::CellList;
 use crate::generations::{generation, laws_of_generations};
+use crate::orientation::{Orientation, laws_of_symmetries};
 use crate::pattern::{Bounds, Pattern};
 use crate::plane::Plane;
 use crate::rule::Rule;
@@ -116,5 +117,48 @@ fn a_plane_goes_on_and_is_trimmed(rt: HostRuntime) -> Result<(), Fail> {
     let turned = Pattern::from_cells(rt.alloc(), &[(0, -1), (0, 0), (0, 1)])?;
     assert!(rt; plane.to_pattern(rt.alloc())?.same(&turned));
     laws_of_generations();
+    Ok(())
+}
+
+#[test]
+fn a_tromino_is_turned(rt: HostRuntime) -> Result<(), Fail> {
+    let tromino = Pattern::from_cells(rt.alloc(), &[(1, 2), (1, 3), (2, 3)])?;
+    let places = [
+        [(1, 2), (1, 3), (2, 3)],
+        [(-2, 1), (-3, 1), (-3, 2)],
+        [(-1, -2), (-1, -3), (-2, -3)],
+        [(2, -1), (3, -1), (3, -2)],
+        [(-1, 2), (-1, 3), (-2, 3)],
+        [(1, -2), (1, -3), (2, -3)],
+        [(2, 1), (3, 1), (3, 2)],
+        [(-2, -1), (-3, -1), (-3, -2)],
+    ];
+    for (orientation, cells) in Orientation::ALL.iter().zip(&places) {
+        let turned = tromino.turned(rt.alloc(), *orientation)?;
+        assert_eq!(rt; turned.population(), 3);
+        for (column, row) in *cells {
+            assert!(rt; turned.contains(Cell { row, column }), "of {orientation:?}");
+        }
+    }
+    laws_of_symmetries();
+    Ok(())
+}
+
+#[test]
+fn shifts_are_found(rt: HostRuntime) -> Result<(), Fail> {
+    let pair = Pattern::from_cells(rt.alloc(), &[(0, 0), (63, 0)])?;
+    let pair: CellList = CellList::from_pattern(rt.alloc(), &pair)?;
+    let later = Pattern::from_cells(rt.alloc(), &[(1, 5), (64, 5)])?;
+    let later: CellList = CellList::from_pattern(rt.alloc(), &later)?;
+    assert_eq!(rt; pair.shift_to(&later), Some((1, 5)));
+    let one = Pattern::from_cells(rt.alloc(), &[(0, 0)])?;
+    let one: CellList = CellList::from_pattern(rt.alloc(), &one)?;
+    let two = Pattern::from_cells(rt.alloc(), &[(0, 0), (1, 0)])?;
+    let two: CellList = CellList::from_pattern(rt.alloc(), &two)?;
+    assert_eq!(rt; one.shift_to(&two), None);
+    assert_eq!(rt; pair.shift_to(&two), None);
+    let empty = Pattern::from_cells(rt.alloc(), &[])?;
+    let empty: CellList = CellList::from_pattern(rt.alloc(), &empty)?;
+    assert_eq!(rt; empty.shift_to(&empty), None);
     Ok(())
 }

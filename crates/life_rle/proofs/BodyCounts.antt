@@ -1,10 +1,9 @@
 -- The count of an item as far as it has come.
-use Rattle.std.proofs.Common.{◌≡◌, ℕ, ◌+◌, ◌-◌, ◌*◌, ◌<◌, ◌≤◌, Bool, true, false, not, cond, ◌||◌, ◌&&◌, List, [], ◌∷◌, ◌++◌, length, refl, ap, ◌∙◌, sym, arith, Option, Some, None, is_some, ltb, leb, eqb, min, unwrap_or, subst, inl, inr}
+use Rattle.std.proofs.Common.{◌≡◌, ℕ, ◌+◌, ◌-◌, ◌*◌, ◌<◌, ◌≤◌, Bool, true, false, not, ◌||◌, ◌&&◌, List, [], ◌∷◌, ◌++◌, refl, ap, ◌∙◌, sym, arith, Option, Some, None, is_some, ltb, leb, eqb, min, unwrap_or, inl, inr}
 use Rattle.std.specs.Char.{is_ascii_digit, digit_value}
 use Rattle.std.specs.Str.Parse.{digits_value}
 use Rattle.std.proofs.lemmas.Int.Digits.{digits_value_push}
 use Rattle.std.proofs.lemmas.Bool.{false≢true, and_parts, leb-true, lt-ltb, le-ltb, cond-true, cond-false, cases_lt, eqb-false, ne_eqb, ltb-false}
-use Rattle.std.proofs.Math.Nat.{min-eq_left}
 use Rattle.life_rle.specs.Body.{is_empty, count_of, is_bad_number}
 use Rattle.life_rle.specs.BodyState.{next_count, is_bad_count}
 

@@ -1,13 +1,13 @@
 -- Reading a body byte by byte gives what its items give, whose places are sums over the items before them.
-use Rattle.std.proofs.Common.{◌≡◌, ℕ, ◌+◌, ◌-◌, ◌*◌, ◌<◌, ◌≤◌, Bool, true, false, not, cond, ◌||◌, ◌&&◌, List, [], ◌∷◌, ◌++◌, length, refl, ap, ◌∙◌, sym, arith, Option, Some, None, Result, Ok, Err, is_some, ltb, leb, eqb, min, unwrap_or, subst, inl, inr, ◌⊎◌}
+use Rattle.std.proofs.Common.{◌≡◌, ℕ, ◌+◌, ◌<◌, ◌≤◌, Bool, true, false, cond, ◌||◌, List, [], ◌∷◌, ◌++◌, refl, ap, ◌∙◌, sym, arith, Option, Some, None, Result, Ok, Err, is_some, ltb, eqb, min, unwrap_or, subst, inl, inr}
 use Rattle.std.specs.Char.{is_ascii_digit}
-use Rattle.std.proofs.lemmas.List.{append_assoc, append-nil}
-use Rattle.std.proofs.lemmas.Bool.{cases_eq, cases_lt, ne_eqb, eq-eqb, cases_Bool, lt-ltb, le-ltb, ltb-true, ltb-false, or_parts}
+use Rattle.std.proofs.lemmas.List.{append-nil}
+use Rattle.std.proofs.lemmas.Bool.{cases_eq, cases_lt, ne_eqb, lt-ltb, le-ltb, ltb-false}
 use Rattle.life_rle.specs.declared.fault.RleFault.{RleFault}
-use Rattle.life_rle.specs.declared.fault.RleFault.TheVariants.{OtherTag, BadCount, TooWide, NoEnd}
-use Rattle.life_rle.specs.Body.{Item, is_empty, count, count_of, is_bad_number, is_counted, is_row_end, is_dead, is_live, is_end, live_count, row_after, column_after, run, cells_at, placed_after, placed, items_after, fault_at, fault_at_tag, unless_faulty, judged_after, place, body_cells}
+use Rattle.life_rle.specs.declared.fault.RleFault.TheVariants.{BadCount, TooWide, NoEnd}
+use Rattle.life_rle.specs.Body.{Item, count_of, is_bad_number, is_end, row_after, column_after, run, placed_after, placed, items_after, fault_at, fault_at_tag, unless_faulty, judged_after, place, body_cells}
 use Rattle.life_rle.specs.BodyState.{Place, start, Step, goes, ends, fails, next_count, is_bad_count, moved, down, live, item_step, step, going, body_from}
-use Rattle.life_rle.proofs.BodyCounts.{so_far, so_far_push, bad_so_far, count_so_far, count_above, some_so_far}
+use Rattle.life_rle.proofs.BodyCounts.{so_far, so_far_push, bad_so_far, count_so_far, count_above}
 use Rattle.life_rle.proofs.BodyPositions.{row_after_push, column_after_row_end, column_after_push, placed_push}
 
 -- where an item stands after these items, with these digits of its count

@@ -1,8 +1,8 @@
 -- How positions and placed cells grow with one more item.
-use Rattle.std.proofs.Common.{◌≡◌, ℕ, zero, suc, ◌+◌, ◌-◌, Bool, true, false, not, cond, ◌||◌, List, [], ◌∷◌, ◌++◌, length, reverse, drop, refl, ap, ◌∙◌, sym, arith, zero-add, add-zero, Option, Some, None}
+use Rattle.std.proofs.Common.{◌≡◌, ℕ, zero, suc, ◌+◌, ◌-◌, Bool, true, false, not, cond, ◌||◌, List, [], ◌∷◌, ◌++◌, length, drop, refl, ap, ◌∙◌, sym, arith, zero-add, add-zero}
 use Rattle.std.specs.List.{sum_by, filter, after_last, suffix_len, prefix_len}
-use Rattle.std.proofs.lemmas.List.{append_assoc, append-nil, reverse-append, length-append, length_push, drop-append-le, drop_all}
-use Rattle.std.proofs.lemmas.List.Sums.{sum_by-append, suffix_len-le-length}
+use Rattle.std.proofs.lemmas.List.{append_assoc, append-nil, reverse-append, length_push, drop-append-le, drop_all}
+use Rattle.std.proofs.lemmas.List.Sums.{sum_by-append}
 use Rattle.std.proofs.lemmas.List.Elements.{filter-append}
 use Rattle.life_rle.specs.Body.{Item, count, is_row_end, is_dead, is_live, row_after, column_after, run, cells_at, placed_after, placed}
 

@@ -1,13 +1,13 @@
 -- Reading from a stream: one more take, and the end.
-use Rattle.std.proofs.Common.{◌≡◌, ℕ, ◌<◌, ◌≤◌, ◌+◌, ◌-◌, List, [], ◌∷◌, ◌++◌, length, take, drop, refl, ap, ◌∙◌, sym, subst, arith, Option, None, Some, Result, Ok, Err, cond, inr}
-use Rattle.std.proofs.lemmas.List.{append_assoc, take-append-drop, drop-drop, drop_at, take_at, length-drop, length-append, length-take-le, append-nil, take_all}
+use Rattle.std.proofs.Common.{◌≡◌, ℕ, ◌<◌, ◌≤◌, ◌+◌, ◌-◌, List, [], ◌++◌, length, take, drop, ap, ◌∙◌, sym, subst, arith, Option, None, Some, Result, Ok, Err, cond, inr}
+use Rattle.std.proofs.lemmas.List.{append_assoc, take-append-drop, drop_at, take_at, length-drop, length-append, length-take-le, append-nil, take_all}
 use Rattle.life_rle.specs.declared.machine.Machine.{Machine}
 use Rattle.std.proofs.lemmas.Bool.{lt-ltb, le-ltb}
 use Rattle.life_rle.specs.declared.fault.RleFault.{RleFault}
 use Rattle.life_rle.specs.declared.fault.RleFault.TheVariants.{TooLong}
 use Rattle.life_rle.specs.declared.machine.ReadFault.TheVariants.{Rle}
 use Rattle.life_rle.specs.Fault.{Fails}
-use Rattle.life_rle.specs.Record.{Contents, IsRecord}
+use Rattle.life_rle.specs.Record.{Contents}
 use Rattle.life_rle.specs.File.{kept, file}
 use Rattle.life_rle.specs.Stream.{Loses, IsEnded}
 use Rattle.life_rle.specs.Machine.{awaited, IsSound, Followed, IsFollowed, ReadsTold}

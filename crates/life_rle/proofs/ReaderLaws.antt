@@ -1,5 +1,5 @@
 -- Reading line by line gives what the lines are read as: one more line before the header, the header, and the end before it.
-use Rattle.std.proofs.Common.{◌≡◌, ℕ, suc, ◌+◌, Bool, true, false, not, cond, List, [], ◌∷◌, length, take, drop, map, refl, ap, ◌∙◌, sym, subst, arith, Result, Ok, Err, Option, inl, inr}
+use Rattle.std.proofs.Common.{◌≡◌, ℕ, suc, ◌+◌, Bool, true, false, not, cond, List, [], ◌∷◌, take, drop, map, refl, ap, ◌∙◌, sym, subst, arith, Result, Ok, Err, Option, inl, inr}
 use Rattle.std.specs.List.{All, flat_map, position_or_len}
 use Rattle.std.specs.FinSet as set
 use Rattle.life_core.specs.Rule.{RuleSets}

@@ -7,7 +7,6 @@ use Rattle.std.proofs.lemmas.Map.Views.{Contains-from_any}
 use Rattle.std.proofs.lemmas.Bool.{or_left}
 use Rattle.std.specs.FinSet as set
 use Rattle.life_core.specs.declared.cell.Cell.{Cell}
-use Rattle.life_core.specs.declared.cell.TheConstants.{PLANE}
 use Rattle.life_core.specs.Cell.{cell_cmp, moved_cell, IsCellWithin}
 use Rattle.life_core.specs.Pattern.{Cells, image, in_order, IsWithin, IsLeast, least, normal}
 use Rattle.life_core.proofs.GenerationsLaws.{move_back}

@@ -1,7 +1,7 @@
 -- What a file is read as is a record: its texts are within their limits, without line ends and without blanks at their ends.
-use Rattle.std.proofs.Common.{◌≡◌, ◌≢◌, ℕ, zero, suc, ◌≤◌, Bool, true, false, cond, eqb, ltb, not, ◌||◌, List, [], ◌∷◌, ◌++◌, length, reverse, take, drop, nat_eq, map, refl, ap, ◌∙◌, sym, subst, Option, Some, None, is_some, Result, Ok, Err, arith}
+use Rattle.std.proofs.Common.{◌≡◌, ◌≢◌, ℕ, zero, suc, Bool, true, false, cond, eqb, ltb, not, ◌||◌, List, [], ◌∷◌, ◌++◌, length, reverse, take, drop, nat_eq, map, refl, sym, subst, Option, Some, None, is_some, Result, Ok, Err, arith}
 use Rattle.std.specs.Prelude.{slice_index, codes}
-use Rattle.std.specs.List.{AllByRecursion, flat_map, list_any, starts_with, fold}
+use Rattle.std.specs.List.{AllByRecursion, flat_map, list_any, starts_with}
 use Rattle.std.proofs.lemmas.List.{reverse-append}
 use Rattle.std.proofs.lemmas.Bool.{or_parts, ltb-false, eqb-false}
 use Rattle.std.specs.FinSet as set
@@ -9,9 +9,9 @@ use Rattle.life_core.specs.Rule.{RuleSets}
 use Rattle.life_core.specs.Pattern.{Cells, normal}
 use Rattle.life_core.specs.RuleText.{is_blank, without_blanks}
 use Rattle.life_rle.specs.declared.fault.RleFault.{RleFault}
-use Rattle.life_rle.specs.declared.fault.RleFault.TheVariants.{TextLimit, NoHeader}
+use Rattle.life_rle.specs.declared.fault.RleFault.TheVariants.{TextLimit}
 use Rattle.life_rle.specs.Fault.{◌>>=◌}
-use Rattle.life_rle.specs.Lines.{lines_of, trim_start, trim_end, trim, Line, passed, named, authored, comment, ruled, header, marked, line_kind}
+use Rattle.life_rle.specs.Lines.{lines_of, trim_start, trim, Line, passed, named, authored, comment, ruled, header, marked, line_kind}
 use Rattle.life_rle.specs.Notes.{Notes, no_notes, with_comment, with_line, notes_of, is_long, is_long_text, is_past_limit}
 use Rattle.life_rle.specs.Header.{header_rule}
 use Rattle.life_rle.specs.Body.{body_cells}

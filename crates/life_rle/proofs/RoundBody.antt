@@ -1,12 +1,10 @@
 -- The body that is written for cells in order is read as these cells.
-use Rattle.std.proofs.Common.{◌≡◌, ℕ, zero, suc, ◌<◌, ◌≤◌, ◌+◌, ◌-◌, Bool, true, false, cond, eqb, List, [], ◌∷◌, ◌++◌, refl, ap, ◌∙◌, sym, arith, Option, Some, None, Result, Ok, Err, inl, inr, ◌⊎◌, min, subst}
-use Rattle.std.specs.List.{flat_map}
+use Rattle.std.proofs.Common.{◌≡◌, ℕ, ◌<◌, ◌≤◌, ◌+◌, ◌-◌, cond, eqb, List, [], ◌∷◌, ◌++◌, refl, ap, ◌∙◌, sym, arith, Ok, inl, inr, ◌⊎◌, subst}
 use Rattle.std.proofs.lemmas.List.{append_assoc, append-nil}
 use Rattle.std.proofs.lemmas.List.Concat.{flat_map-append}
-use Rattle.std.proofs.lemmas.Bool.{cases_eq, cases_lt, ne_eqb, eq-eqb}
-use Rattle.life_rle.specs.declared.fault.RleFault.{RleFault}
+use Rattle.std.proofs.lemmas.Bool.{cases_eq, ne_eqb, eq-eqb}
 use Rattle.life_rle.specs.Body.{run, body_cells}
-use Rattle.life_rle.specs.BodyState.{Place, start, going, step, body_from}
+use Rattle.life_rle.specs.BodyState.{start, step, body_from}
 use Rattle.life_rle.specs.Writer.{counted, texts_from, InOrder, item_texts}
 use Rattle.life_rle.proofs.RecordPairs.{AllInside}
 use Rattle.life_rle.proofs.BodyPositions.{run_more}

@@ -1,18 +1,15 @@
 -- The header line of a text is read as its rule.
-use Rattle.std.specs.Prelude.{codes}
-use Rattle.std.proofs.Common.{◌≡◌, ℕ, zero, suc, ◌<◌, ◌≤◌, ◌+◌, ◌-◌, ◌^◌, Bool, true, false, not, cond, eqb, List, [], ◌∷◌, ◌++◌, length, refl, ap, ◌∙◌, sym, arith, subst, Option, Some, None, Result, Ok, Err}
-use Rattle.std.specs.List.{filter}
+use Rattle.std.proofs.Common.{◌≡◌, ℕ, ◌<◌, ◌≤◌, false, not, cond, List, [], ◌∷◌, ◌++◌, length, refl, ap, ◌∙◌, arith, Option, Some, None, Ok}
 use Rattle.std.specs.Char.{is_ascii_digit}
 use Rattle.std.specs.Fmt.{decimal}
 use Rattle.std.specs.Str.Parse.{AllDigits}
 use Rattle.std.proofs.lemmas.Fmt.{decimal_is_IsNumeral}
-use Rattle.std.proofs.lemmas.List.{append_assoc, append-nil}
+use Rattle.std.proofs.lemmas.List.{append_assoc}
 use Rattle.std.proofs.lemmas.List.Elements.{filter-append}
 use Rattle.std.proofs.lemmas.Bool.{ne_eqb}
-use Rattle.life_rle.specs.declared.fault.RleFault.{RleFault}
 use Rattle.life_core.specs.RuleText.{is_blank, without_blanks}
 use Rattle.life_rle.specs.Lines.{line_kind, passed, header}
-use Rattle.life_rle.specs.Header.{after_words, past_digits, after_number, rule_part, header_form, header_rule, formed}
+use Rattle.life_rle.specs.Header.{past_digits, after_number, rule_part, header_form, header_rule, formed}
 use Rattle.life_rle.specs.Record.{HasNoLineEnd}
 use Rattle.life_rle.proofs.RoundItems.{is_digit}
 use Rattle.life_rle.proofs.RoundLines.{digits_plain, plain_kept, plain_parts, AllPlain}

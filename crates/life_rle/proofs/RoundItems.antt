@@ -1,5 +1,5 @@
 -- An item's text is read as the item.
-use Rattle.std.proofs.Common.{◌≡◌, ℕ, zero, suc, ◌<◌, ◌≤◌, ◌+◌, ◌-◌, ◌^◌, Bool, true, false, not, cond, eqb, ltb, ◌||◌, List, [], ◌∷◌, ◌++◌, length, refl, ap, ◌∙◌, sym, arith, Option, Some, None, Result, Ok, Err, min, inl, inr, unwrap_or, is_some}
+use Rattle.std.proofs.Common.{◌≡◌, ℕ, ◌<◌, ◌≤◌, ◌+◌, true, false, cond, eqb, ltb, ◌||◌, List, [], ◌∷◌, ◌++◌, length, refl, ap, ◌∙◌, sym, arith, Option, Some, None, min, inl, inr, unwrap_or, is_some}
 use Rattle.std.specs.List.{flat_map}
 use Rattle.std.specs.Char.{is_ascii_digit, digit_value}
 use Rattle.std.specs.Fmt.{decimal}
@@ -7,11 +7,10 @@ use Rattle.std.specs.Str.Parse.{AllDigits, digits_value}
 use Rattle.std.proofs.lemmas.Fmt.{decimal_is_IsNumeral}
 use Rattle.std.proofs.lemmas.Str.Parse.{digit_from_value}
 use Rattle.std.proofs.lemmas.List.{append_assoc, append-nil}
-use Rattle.std.proofs.lemmas.Bool.{cases_eq, cases_lt, ne_eqb, eq-eqb, le-leb, and_from, le-ltb, lt-ltb}
-use Rattle.life_rle.specs.declared.fault.RleFault.{RleFault}
+use Rattle.std.proofs.lemmas.Bool.{cases_eq, cases_lt, ne_eqb, eq-eqb, le-leb, and_from, le-ltb}
 use Rattle.life_rle.specs.declared.fault.RleFault.TheVariants.{BadCount, TooWide}
 use Rattle.life_rle.specs.Body.{run, is_bad_number}
-use Rattle.life_rle.specs.BodyState.{Place, Step, goes, ends, fails, moved, down, live, item_step, step, going, body_from, is_bad_count, next_count}
+use Rattle.life_rle.specs.BodyState.{Place, goes, ends, fails, live, item_step, going, body_from, is_bad_count}
 use Rattle.life_rle.specs.Writer.{item_text, counted}
 use Rattle.life_rle.proofs.BodyCounts.{so_far, so_far_push}
 use Rattle.life_rle.proofs.BodyLaws.{step_digit, step_good, body_next}

@@ -1,8 +1,7 @@
 -- What is written is read as the record again.
 use Rattle.std.specs.Prelude.{codes, slice_index}
-use Rattle.std.proofs.Common.{◌≡◌, ℕ, ◌≤◌, ◌+◌, Bool, true, false, cond, eqb, ltb, ◌||◌, max, List, [], ◌∷◌, ◌++◌, length, drop, map, refl, ap, ◌∙◌, sym, arith, Option, Some, None, Result, Ok, Err, nat_eq}
+use Rattle.std.proofs.Common.{◌≡◌, ℕ, ◌≤◌, ◌+◌, false, cond, ◌||◌, max, List, [], ◌∷◌, ◌++◌, length, drop, refl, ap, ◌∙◌, sym, arith, Option, Some, None, Ok, Err, nat_eq}
 use Rattle.std.specs.List.{flat_map, AllByRecursion, starts_with, list_any, fold}
-use Rattle.std.specs.FinSet as set
 use Rattle.std.proofs.lemmas.List.{append_assoc, append-nil}
 use Rattle.std.proofs.lemmas.Bool.{ne_eqb, le-ltb}
 use Rattle.life_core.specs.Rule.{IsRule}
@@ -16,7 +15,7 @@ use Rattle.life_rle.specs.Notes.{Notes, no_notes, with_line, is_header_kind, is_
 use Rattle.life_rle.specs.Header.{header_rule}
 use Rattle.life_rle.specs.Body.{body_cells}
 use Rattle.life_rle.specs.Record.{Contents, HasNoLineEnd, IsText, IsName, IsRecord}
-use Rattle.life_rle.specs.File.{cell_of, contents, chosen_rule, body_part, read_lines, kept, file}
+use Rattle.life_rle.specs.File.{contents, chosen_rule, body_part, read_lines, kept, file}
 use Rattle.life_rle.specs.Reader.{front_rule}
 use Rattle.life_rle.specs.Writer.{text_line, optional_line, comment_line, header_line, width_of, height_of, laid, item_texts, pairs_of, text}
 use Rattle.life_rle.specs.Laws.{IsReadAgain, IsFileAgain}

@@ -1,5 +1,5 @@
 -- Worked files, as computations: what they are read as, and what is written for lists of cells.
-use Rattle.std.specs.Prelude.{◌≡◌, ℕ, codes, zero, suc, ◌+◌, List, [], ◌∷◌, ◌++◌, replicate, take, drop, Option, Some, None, Result, Ok, Err, refl}
+use Rattle.std.specs.Prelude.{◌≡◌, ℕ, codes, zero, suc, ◌+◌, List, [], ◌∷◌, ◌++◌, replicate, take, drop, Some, None, Result, Ok, Err, refl}
 use Rattle.std.specs.List.{flat_map}
 use Rattle.std.specs.Fmt.{digits}
 use Rattle.life_core.specs.Rule.{life}

@@ -1,8 +1,8 @@
 -- The longest runs of tags, and their texts.
-use Rattle.std.proofs.Common.{◌≡◌, ◌≢◌, ℕ, zero, suc, ◌<◌, ◌≤◌, ◌+◌, ◌-◌, Bool, true, false, cond, eqb, List, [], ◌∷◌, ◌++◌, map, replicate, refl, ap, ◌∙◌, sym, arith, add-one, zero-add, inl, inr, ◌⊎◌}
+use Rattle.std.proofs.Common.{◌≡◌, ◌≢◌, ℕ, zero, suc, ◌<◌, ◌+◌, ◌-◌, Bool, true, false, cond, eqb, List, [], ◌∷◌, ◌++◌, map, replicate, refl, ap, ◌∙◌, sym, arith, add-one}
 use Rattle.std.proofs.lemmas.List.{append_assoc, append-nil, replicate_more}
-use Rattle.std.proofs.lemmas.Bool.{ne_eqb, eq-eqb, cases_eq, cases_lt}
-use Rattle.life_rle.specs.Writer.{tags_from, onto_run, runs_of, item_text, counted, texts_from, InOrder}
+use Rattle.std.proofs.lemmas.Bool.{ne_eqb, eq-eqb}
+use Rattle.life_rle.specs.Writer.{tags_from, onto_run, runs_of, item_text, counted, texts_from}
 
 -- the list is empty or begins with another tag
 abbrev pub Other : ℕ → List ℕ → Type 0
@@ -52,16 +52,21 @@ tags_cell : (row column : ℕ) (cell : ℕ × ℕ) (cells : List (ℕ × ℕ)) �
 unfolding tags_from
 tags_cell row column cell cells = refl
 
+tags_same : (row column : ℕ) (cell : ℕ × ℕ) (cells : List (ℕ × ℕ)) → cell.1 ≡ row → cell.0 ≡ column → tags_from row column (cell ∷ cells) ≡ 111 ∷ tags_from cell.1 (cell.0 + 1) cells
+tags_same row column cell cells same_row same_column =
+    let down : cell.1 - row ≡ 0 = omega arith in
+    let along : cell.0 - cond (eqb cell.1 row) column 0 ≡ 0 = ap (λ b. cell.0 - cond b column 0) (eq-eqb cell.1 row same_row) ∙ omega arith in
+    tags_cell row column cell cells
+    ∙ ap (λ n. tags_gap n (cell.0 - cond (eqb cell.1 row) column 0) (tags_from cell.1 (cell.0 + 1) cells)) down
+    ∙ ap (λ n. tags_gap 0 n (tags_from cell.1 (cell.0 + 1) cells)) along
+
+live_front : (live : ℕ) (tags : List ℕ) → replicate (live + 1) 111 ++ tags ≡ replicate live 111 ++ 111 ∷ tags
+live_front live tags = ap (λ s. s ++ tags) (sym (replicate_more live 111)) ∙ append_assoc (replicate live 111) (111 ∷ []) tags
+
 -- a cell right behind the live cells
 pub texts_same : (live row column : ℕ) (cell : ℕ × ℕ) (cells : List (ℕ × ℕ)) → cell.1 ≡ row → cell.0 ≡ column → texts_from (live + 1) cell.1 (cell.0 + 1) cells ≡ texts_from live row column (cell ∷ cells)
 texts_same live row column cell cells same_row same_column =
-    let down : cell.1 - row ≡ 0 = omega arith in
-    let along : cell.0 - cond (eqb cell.1 row) column 0 ≡ 0 = ap (λ b. cell.0 - cond b column 0) (eq-eqb cell.1 row same_row) ∙ omega arith in
-    let tags : tags_from row column (cell ∷ cells) ≡ 111 ∷ tags_from cell.1 (cell.0 + 1) cells =
-    tags_cell row column cell cells ∙ ap (λ n. tags_gap n (cell.0 - cond (eqb cell.1 row) column 0) (tags_from cell.1 (cell.0 + 1) cells)) down ∙ ap (λ n. tags_gap 0 n (tags_from cell.1 (cell.0 + 1) cells)) along in
-    let front : replicate (live + 1) 111 ++ tags_from cell.1 (cell.0 + 1) cells ≡ replicate live 111 ++ 111 ∷ tags_from cell.1 (cell.0 + 1) cells =
-    ap (λ s. s ++ tags_from cell.1 (cell.0 + 1) cells) (sym (replicate_more live 111)) ∙ append_assoc (replicate live 111) (111 ∷ []) (tags_from cell.1 (cell.0 + 1) cells) in
-    ap (λ t. map item_text (runs_of t)) (front ∙ ap (λ t. replicate live 111 ++ t) (sym tags))
+    ap (λ t. map item_text (runs_of t)) (live_front live (tags_from cell.1 (cell.0 + 1) cells) ∙ ap (λ t. replicate live 111 ++ t) (sym (tags_same row column cell cells same_row same_column)))
 
 other_gap : (down along : ℕ) (tags : List ℕ) → 0 < down + along → Other 111 (tags_gap down along tags)
 other_gap zero zero tags some = absurd (omega arith)

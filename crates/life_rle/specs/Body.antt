@@ -18,9 +18,11 @@ items_after digits (b ∷ bytes) =
     if is_ascii_digit b then items_after (digits ++ b ∷ []) bytes
     else record { digits = digits; tag = Some b } ∷ items_after [] bytes
 
+-- the items of a body
 abbrev pub items_of : List ℕ → List Item
 items_of body = items_after [] body
 
+-- whether there are no digits
 abbrev pub is_empty : List ℕ → Bool
 is_empty [] = true
 is_empty (x ∷ xs) = false
@@ -29,22 +31,28 @@ is_empty (x ∷ xs) = false
 abbrev pub count_of : List ℕ → ℕ
 count_of digits = if is_empty digits then 1 else digits_value 10 digits
 
+-- whether an item has this byte
 abbrev pub has_tag : ℕ → Option ℕ → Bool
 has_tag byte None = false
 has_tag byte (Some b) = b == byte
 
+-- a run of dead cells, `b`
 abbrev pub is_dead : Item → Bool
 is_dead item = has_tag 98 item.tag
 
+-- a run of live cells, `o`
 abbrev pub is_live : Item → Bool
 is_live item = has_tag 111 item.tag
 
+-- row ends, `$`
 abbrev pub is_row_end : Item → Bool
 is_row_end item = has_tag 36 item.tag
 
+-- the end of the body, `!`
 abbrev pub is_end : Item → Bool
 is_end item = has_tag 33 item.tag
 
+-- the count of an item
 abbrev pub count : Item → ℕ
 count item = count_of item.digits
 
@@ -69,6 +77,7 @@ live_count item = if is_live item then count item else 0
 abbrev pub cells_at : List Item → Item → List (ℕ × ℕ)
 cells_at before item = run (column_after before) (row_after before) (live_count item)
 
+-- the cells that items place behind these
 unfoldable pub placed_after : List Item → List Item → List (ℕ × ℕ)
 placed_after before [] = []
 placed_after before (item ∷ items) = cells_at before item ++ placed_after (before ++ item ∷ []) items
@@ -77,9 +86,11 @@ placed_after before (item ∷ items) = cells_at before item ++ placed_after (bef
 abbrev pub placed : List Item → List (ℕ × ℕ)
 placed items = placed_after [] items
 
+-- whether an item has a count
 abbrev pub is_counted : Item → Bool
 is_counted item = not (is_empty item.digits)
 
+-- 0, or over 1,000,000
 abbrev pub is_bad_number : ℕ → Bool
 is_bad_number n = n == 0 || nat_lt 1000000 n
 
@@ -99,6 +110,7 @@ fault_at before item =
     if is_counted item && is_bad_number (count item) then Some BadCount
     else fault_at_tag before item item.tag
 
+-- the fault, or the answer where there is none
 abbrev pub unless_faulty : {X : Type 0} → Option RleFault → Result X RleFault → Result X RleFault
 unless_faulty (Some fault) answer = Err fault
 unless_faulty None answer = answer
@@ -109,6 +121,7 @@ judged_after before [] = Err NoEnd
 judged_after before (item ∷ items) =
     unless_faulty (fault_at before item) (if is_end item then Ok before else judged_after (before ++ item ∷ []) items)
 
+-- the cells of items that have no fault
 abbrev pub place : Result (List Item) RleFault → Result (List (ℕ × ℕ)) RleFault
 place (Ok items) = Ok (placed items)
 place (Err fault) = Err fault

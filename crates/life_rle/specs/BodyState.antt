@@ -16,27 +16,34 @@ pub record Place : Type 0 where
   pub count : Option ℕ
   pub cells : List (ℕ × ℕ)
 
+-- where a body starts
 abbrev pub start : Place
 start = record { row = 0; column = 0; count = None; cells = [] }
 
+-- a byte leads to a place, to the end with its cells, or to a fault
 pub data Step : Type 0 where
   goes : Place → Step
   ends : List (ℕ × ℕ) → Step
   fails : RleFault → Step
 
+-- the count with one more digit
 abbrev pub next_count : Option ℕ → ℕ → ℕ
 next_count count b = min (unwrap_or count 0 * 10 + (b - 48)) 1000001
 
+-- whether there is a count, and a bad one
 abbrev pub is_bad_count : Option ℕ → Bool
 is_bad_count None = false
 is_bad_count (Some n) = is_bad_number n
 
+-- behind a run of dead cells
 abbrev pub moved : Place → ℕ → Place
 moved p n = record { row = p.row; column = min (p.column + n) 1024; count = None; cells = p.cells }
 
+-- behind row ends
 abbrev pub down : Place → ℕ → Place
 down p n = record { row = min (p.row + n) 1024; column = 0; count = None; cells = p.cells }
 
+-- behind a run of live cells
 abbrev pub live : Place → ℕ → Place
 live p n = record { row = p.row; column = p.column + n; count = None; cells = p.cells ++ run p.column p.row n }
 
@@ -49,6 +56,7 @@ item_step p n b =
     else (if nat_lt 1024 (p.column + n) || nat_lt 1023 p.row then fails TooWide
     else goes (live p n))))
 
+-- what the next byte leads to
 unfoldable pub step : Place → ℕ → Step
 step p b =
     if is_ascii_digit b then goes (record p { count = Some (next_count p.count b) })
@@ -62,11 +70,13 @@ Took (goes q) new answer = MatchResult answer (λ ended. (ended ≡ false) × (n
 Took (ends cells) new answer = (answer ≡ Ok true) × (new.cells ≡ cells)
 Took (fails fault) new answer = answer ≡ Err fault
 
+-- the same for a function that never ends the body
 abbrev pub Acts : {X : Type 0} → Step → Place → Result X RleFault → Type 0
 Acts (goes q) new answer = MatchResult answer (λ _. new ≡ q) (λ e. e ≡ Memory)
 Acts (ends cells) new answer = ⊥
 Acts (fails fault) new answer = answer ≡ Err fault
 
+-- what follows from where a step leads to
 abbrev pub going : Step → (Place → Result (List (ℕ × ℕ)) RleFault) → Result (List (ℕ × ℕ)) RleFault
 going (goes q) next = next q
 going (ends cells) next = Ok cells
@@ -81,6 +91,7 @@ body_from p (b ∷ bytes) = going (step p b) (λ q. body_from q bytes)
 abbrev pub place : {A : Type 0} → Body A → Place
 place b = record { row = b.row; column = b.column; count = b.count; cells = b.cells.items }
 
+-- the cells or the fault by how far the body has come, if these bytes are what is left
 abbrev pub outcome_at : Progress → Place → List ℕ → Result (List (ℕ × ℕ)) RleFault
 outcome_at More p rest = body_from p rest
 outcome_at Ended p rest = Ok p.cells

@@ -1,5 +1,5 @@
 -- What a file is read as: a record, or its first fault (LifeWiki, "Run Length Encoded"; Golly's help, "File formats").
-use Rattle.std.specs.Prelude.{◌≡◌, ℕ, pos, map, List, [], ◌∷◌, length, take, drop, nat_lt, if◌then◌else◌, Option, Some, None, Result, Ok, Err}
+use Rattle.std.specs.Prelude.{ℕ, pos, map, List, [], ◌∷◌, length, take, drop, nat_lt, if◌then◌else◌, Option, Some, None, Result, Ok, Err}
 use Rattle.std.specs.List.{flat_map, position_or_len}
 use Rattle.std.specs.FinSet as set
 use Rattle.life_core.specs.declared.cell.Cell.{Cell}
@@ -15,10 +15,11 @@ use Rattle.life_rle.specs.Header.{header_rule}
 use Rattle.life_rle.specs.Body.{body_cells}
 use Rattle.life_rle.specs.Record.{Contents}
 
--- the lines before the header, and the header with what follows it
+-- the lines before the header
 abbrev pub front_lines : List (List ℕ) → List (List ℕ)
 front_lines lines = take (position_or_len is_header lines) lines
 
+-- the header, and the lines behind it
 abbrev pub header_lines : List (List ℕ) → List (List ℕ)
 header_lines lines = drop (position_or_len is_header lines) lines
 

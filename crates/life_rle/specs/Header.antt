@@ -12,6 +12,7 @@ after_words [] text = Some text
 after_words (word ∷ words) [] = None
 after_words (word ∷ words) (b ∷ text) = if to_ascii_lowercase b == word then after_words words text else None
 
+-- what follows the digits at the front
 abbrev pub past_digits : List ℕ → List ℕ
 past_digits [] = []
 past_digits (b ∷ text) = if is_ascii_digit b then past_digits text else b ∷ text
@@ -21,7 +22,9 @@ abbrev pub after_number : List ℕ → Option (List ℕ)
 after_number [] = None
 after_number (b ∷ text) = if is_ascii_digit b then Some (past_digits text) else None
 
+-- nothing, or what follows from what was read
 infixl 10 ◌>>=◌
+-- nothing, or what follows from what was read
 abbrev pub ◌>>=◌ : {A B : Type 0} → Option A → (A → Option B) → Option B
 None >>= f = None
 (Some x) >>= f = f x
@@ -43,9 +46,11 @@ header_form text = do
   rest ← after_number height
   rule_part rest
 
+-- whether a text begins with `x` or `X`
 abbrev pub begins_with_x : List ℕ → Bool
 begins_with_x text = slice_index text 0 == 120 || slice_index text 0 == 88
 
+-- the rule text of a form, and a bad header where there is none
 abbrev pub formed : Option (Option (List ℕ)) → Result (Option (List ℕ)) RleFault
 formed (Some rule) = Ok rule
 formed None = Err BadHeader

@@ -1,5 +1,5 @@
 -- What makes the definitions of files believable: whatever is read is a record, and what is written is read as the record again.
-use Rattle.std.specs.Prelude.{◌≡◌, ◌≤◌, ℕ, List, length, Result, Ok}
+use Rattle.std.specs.Prelude.{◌≡◌, ◌≤◌, ℕ, List, length, Ok}
 use Rattle.life_core.specs.Rule.{IsRule}
 use Rattle.life_rle.specs.Record.{Contents, IsRecord, IsInside}
 use Rattle.life_rle.specs.File.{kept, file}

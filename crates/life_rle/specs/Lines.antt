@@ -10,16 +10,20 @@ unfoldable pub lines_after : List ℕ → List ℕ → List (List ℕ)
 lines_after line [] = line ∷ []
 lines_after line (b ∷ bytes) = if b == 10 then line ∷ lines_after [] bytes else lines_after (line ++ b ∷ []) bytes
 
+-- the lines of these bytes
 abbrev pub lines_of : List ℕ → List (List ℕ)
 lines_of bytes = lines_after [] bytes
 
+-- what is left of a line without the blanks at its front
 abbrev pub trim_start : List ℕ → List ℕ
 trim_start [] = []
 trim_start (b ∷ bytes) = if is_blank b then trim_start bytes else b ∷ bytes
 
+-- .. without those at its end
 abbrev pub trim_end : List ℕ → List ℕ
 trim_end line = reverse (trim_start (reverse line))
 
+-- .. without either
 abbrev pub trim : List ℕ → List ℕ
 trim line = trim_end (trim_start line)
 
@@ -45,6 +49,7 @@ marked letter text =
     else (if letter == 114 then ruled text
     else passed)))
 
+-- what a line is: one of blanks alone is passed over, and so is one that begins with `#CXRLE`, as Golly writes
 unfoldable pub line_kind : List ℕ → Line
 line_kind line =
     let front = trim_start line in

@@ -11,9 +11,11 @@ pub record Notes : Type 0 where
   pub comments : List (List ℕ)
   pub rule : Option (List ℕ)
 
+-- no texts
 abbrev pub no_notes : Notes
 no_notes = record { name = None; author = None; comments = []; rule = None }
 
+-- the texts with one more comment
 abbrev pub with_comment : Notes → List ℕ → Notes
 with_comment notes text = record notes { comments = notes.comments ++ text ∷ [] }
 
@@ -31,6 +33,7 @@ with_line notes (ruled text) =
     if length text == 0 || is_some notes.rule then notes else record notes { rule = Some text }
 with_line notes header = notes
 
+-- whether a line of this kind is the header
 abbrev pub is_header_kind : Line → Bool
 is_header_kind passed = false
 is_header_kind (named text) = false
@@ -39,15 +42,19 @@ is_header_kind (comment text) = false
 is_header_kind (ruled text) = false
 is_header_kind header = true
 
+-- whether a line is the header
 abbrev pub is_header : List ℕ → Bool
 is_header line = is_header_kind (line_kind line)
 
+-- the texts after these lines
 abbrev pub notes_of : Notes → List (List ℕ) → Notes
 notes_of notes lines = fold (λ n line. with_line n (line_kind line)) notes lines
 
+-- more than 200 bytes
 abbrev pub is_long : List ℕ → Bool
 is_long text = nat_lt 200 (length text)
 
+-- a text that is there, of more than 200 bytes
 abbrev pub is_long_text : Option (List ℕ) → Bool
 is_long_text None = false
 is_long_text (Some text) = is_long text

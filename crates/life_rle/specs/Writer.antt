@@ -57,6 +57,7 @@ laid used (item ∷ items) =
 abbrev pub text_line : ℕ → List ℕ → List ℕ
 text_line letter text = 35 ∷ letter ∷ 32 ∷ text ++ 10 ∷ []
 
+-- the line of a text that may be missing
 abbrev pub optional_line : ℕ → Option (List ℕ) → List ℕ
 optional_line letter None = []
 optional_line letter (Some text) = text_line letter text
@@ -65,10 +66,11 @@ optional_line letter (Some text) = text_line letter text
 abbrev pub comment_line : List ℕ → List ℕ
 comment_line text = if length text == 0 then 35 ∷ 67 ∷ 10 ∷ [] else text_line 67 text
 
--- one past the greatest
+-- one past the greatest column, and 0 where there are no cells
 abbrev pub width_of : List (ℕ × ℕ) → ℕ
 width_of cells = fold (λ n cell. max n (cell.0 + 1)) 0 cells
 
+-- one past the greatest row, and 0 where there are no cells
 abbrev pub height_of : List (ℕ × ℕ) → ℕ
 height_of cells = fold (λ n cell. max n (cell.1 + 1)) 0 cells
 
@@ -85,10 +87,11 @@ pub record IsQuarterCell (c : Cell) : Type 0 where
   pub column_low : pos 0 ≤ℤ c.column
   pub column_high : c.column ≤ℤ pos PLANE
 
--- the cells of a normal set as pairs (column, row), by row and then by column
+-- a cell of a normal set as a pair (column, row)
 abbrev pub coordinates : Cell → ℕ × ℕ
 coordinates c = (nat_abs c.column, nat_abs c.row)
 
+-- the cells of a normal set as such pairs, by row and then by column
 abbrev pub pairs_of : Cells → List (ℕ × ℕ)
 pairs_of X = map coordinates (in_order X)
 

@@ -48,6 +48,7 @@ pub(crate) struct Body<A: Allocator> {
 impl<A: Allocator> Body<A> {
     ghost use Rattle.life_rle.specs.BodyState.{Took, Acts, step, item_step, next_count, start, place};
 
+    /// The start of a body.
     fn new(alloc: A) -> Body<A>
         ensures { place result ≡ start }
     {
@@ -59,6 +60,7 @@ impl<A: Allocator> Body<A> {
         }
     }
 
+    /// Takes one more digit of the count.
     fn digit(&mut self, byte: u8)
         requires low { 48 ≤ byte }
         requires high { byte ≤ 57 }
@@ -95,6 +97,7 @@ impl<A: Allocator> Body<A> {
         }
     }
 
+    /// Takes the item of this count and byte.
     fn item(&mut self, count: u32, tag: u8) -> Result<(), RleFault>
         requires { count ≤ 1000000 }
         ensures { Acts (item_step (place self.old) count tag) (place self.new) result }

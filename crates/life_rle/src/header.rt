@@ -24,6 +24,7 @@ fn after_words<'a>(words: &[u8], text: &'a [u8]) -> Option<&'a [u8]>
     Some(rest)
 }
 
+/// What follows the digits at the front.
 fn past_digits(text: &[u8]) -> &[u8]
     ensures { result.now ≡ past_digits text.now }
 {

@@ -3,12 +3,14 @@ ghost use Rattle.std.specs.Prelude.{◌≡◌};
 ghost use Rattle.life_core.specs.RuleText.{is_blank};
 ghost use Rattle.life_rle.specs.Lines.{trim_start, trim_end, is_mark_line, line_kind, kind_of};
 
+/// A space, a tab or a CR.
 pub(crate) fn is_blank(byte: u8) -> bool
     ensures { result ≡ is_blank byte }
 {
     byte == b' ' || byte == b'\t' || byte == b'\r'
 }
 
+/// The line without the blanks at its front.
 fn trim_start(line: &[u8]) -> &[u8]
     ensures { result.now ≡ trim_start line.now }
 {
@@ -22,6 +24,7 @@ fn trim_start(line: &[u8]) -> &[u8]
     rest
 }
 
+/// The line without the blanks at its end.
 fn trim_end(line: &[u8]) -> &[u8]
     ensures { result.now ≡ trim_end line.now }
 {

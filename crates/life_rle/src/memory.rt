@@ -1,8 +1,8 @@
 //! Streams in memory.
-ghost use Rattle.std.specs.Prelude.{◌≡◌, [], Some, IfOk};
+ghost use Rattle.std.specs.Prelude.{◌≡◌, [], Some};
 
 use crate::stream::{Failed, Inlet, Outlet};
-use std::alloc::{AllocError, Allocator, Global};
+use std::alloc::{Allocator, Global};
 
 /// The bytes of a slice.
 #[derive(Drop)]
@@ -49,16 +49,6 @@ impl<A: Allocator> MemoryOutlet<A> {
             bytes: Vec::new(alloc),
             failures: 0,
         }
-    }
-
-    /// An outlet that takes this many bytes without a growth.
-    pub fn with_capacity(alloc: A, room: usize) -> Result<MemoryOutlet<A>, AllocError>
-        ensures { IfOk result (λ o. ⟦<MemoryOutlet<A> as Outlet>⟧.already o ≡ Some []) }
-    {
-        Ok(MemoryOutlet {
-            bytes: Vec::with_capacity(alloc, room)?,
-            failures: 0,
-        })
     }
 
     /// What was put.

@@ -1,6 +1,8 @@
 //! The texts that stand before the header.
 ghost use Rattle.std.specs.Prelude.{◌≡◌, OnOk, IfOk, MatchResult};
 ghost use Rattle.life_rle.specs.declared.fault.RleFault.TheVariants.{Memory};
+ghost use Rattle.std.specs.List.{list_any};
+ghost use Rattle.life_rle.specs.Notes.{is_long_text, is_long};
 
 use crate::fault::RleFault;
 use crate::lines::LineKind;
@@ -36,6 +38,7 @@ impl<A: Allocator> Notes<A> {
         }
     }
 
+    /// Takes one more comment.
     fn comment(&mut self, alloc: A, text: &[u8]) -> Result<(), AllocError>
         ensures { OnOk result (notes self.new ≡ with_comment (notes self.old) text.now) }
     {
@@ -89,15 +92,14 @@ impl<A: Allocator> Notes<A> {
     }
 }
 
-ghost use Rattle.life_rle.specs.Notes.{is_long_text, is_long};
-ghost use Rattle.std.specs.List.{list_any};
-
+/// Whether a text is too long.
 fn has_long<A: Allocator>(texts: &[Text<A>]) -> bool
     ensures { result ≡ list_any is_long texts.now }
 {
     texts.iter().any(|text| text.as_bytes().len() > LONGEST)
 }
 
+/// Whether the text is there, and too long.
 fn is_long<A: Allocator>(text: &Option<Text<A>>) -> bool
     ensures { result ≡ is_long_text text.now }
 {

@@ -104,6 +104,7 @@ impl<A: Allocator + Copy> Reader<A> {
         }
     }
 
+    /// Reads a line behind the header.
     fn body_line(&mut self, line: &[u8]) -> Result<(), RleFault>
         requires { self.old.stage ≡ Body }
         ensures { MatchResult result (λ _. (lines : List (List ℕ)) → resumed self.new lines ≡ resumed self.old (line.now ∷ lines)) (λ e. e ≡ Memory) }
@@ -115,6 +116,7 @@ impl<A: Allocator + Copy> Reader<A> {
         }
     }
 
+    /// Reads a line before the header, or the header.
     fn front_line(&mut self, alloc: A, line: &[u8]) -> Result<(), RleFault>
         requires { self.old.stage ≡ Front }
         ensures { MatchResult result (λ _. (lines : List (List ℕ)) → resumed self.new lines ≡ resumed self.old (line.now ∷ lines)) (λ e. e ≡ Memory) }
@@ -128,6 +130,7 @@ impl<A: Allocator + Copy> Reader<A> {
         }
     }
 
+    /// Reads the header.
     fn header(&mut self, alloc: A, line: &[u8]) -> Result<(), RleFault>
         requires front { self.old.stage ≡ Front }
         requires header { line_kind line.now ≡ header }

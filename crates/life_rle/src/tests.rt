@@ -363,9 +363,6 @@ fn streams_are_put(rt: HostRuntime) -> Result<(), Fail> {
     let mut memory = MemoryOutlet::new(rt.alloc());
     put_all(&mut memory, text).ok().ok_or("it is put")?;
     assert_eq!(rt; memory.bytes(), text.as_slice());
-    let mut room = MemoryOutlet::with_capacity(rt.alloc(), 4)?;
-    put_all(&mut room, text).ok().ok_or("it is put")?;
-    assert_eq!(rt; room.bytes(), text.as_slice());
     let mut writer = FromWrite::new(Vec::new(rt.alloc()));
     put_all(&mut writer, text).ok().ok_or("it is put")?;
     Ok(())

@@ -1,4 +1,4 @@
-use Rattle.std.proofs.Common.{◌≡◌, ◌<◌, ◌≤◌, ◌+◌, ◌∙◌, arith, take, length}
+use Rattle.std.proofs.Common.{◌<◌, ◌+◌, ◌∙◌, arith, take, length}
 use Rattle.std.proofs.lemmas.List.{length-take-le, length-take}
 use Rattle.life_rle.proofs.StreamLemmas.{loses_on}
 use Rattle.life_rle.proofs.MachineLaws.{follow_end, follow_more, sound_more}

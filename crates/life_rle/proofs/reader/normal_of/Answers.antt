@@ -1,4 +1,4 @@
-use Rattle.std.proofs.Common.{lit<, map, subst, sym, ap, ◌∙◌}
+use Rattle.std.proofs.Common.{lit<, subst, sym, ap, ◌∙◌}
 use Rattle.std.proofs.lemmas.List.Elements.{All-same}
 use Rattle.std.specs.FinSet as set
 use Rattle.life_core.specs.declared.cell.TheConstants.{PLANE}

@@ -1,5 +1,5 @@
 use Rattle.std.proofs.Common.{◌∙◌, ◌∷◌, ap, sym}
-use Rattle.life_rle.specs.BodyState.{outcome, outcome_at}
+use Rattle.life_rle.specs.BodyState.{outcome_at}
 use Rattle.life_rle.specs.BodyState.{place}
 use Rattle.life_rle.specs.BodyState.{body_from, step}
 use Rattle.life_rle.proofs.BodySteps.{body_next, took_more, took_end, took_fault}

@@ -1,4 +1,4 @@
-use Rattle.std.proofs.Common.{sym, arith, ◌∙◌}
+use Rattle.std.proofs.Common.{sym, ◌∙◌}
 use Rattle.life_rle.proofs.WriterLemmas.{cell_same, cell_gap, some_gap_row, some_gap_column}
 use Rattle.life_rle.proofs.writer.BodyWriter.cell.Goals as goal
 use Rattle.life_rle.proofs.writer.BodyWriter.cell.Goals.{else-y-self-via-then-y-self+else-here-self, else-y-self-via-else-y-self}

@@ -5,14 +5,14 @@ use Rattle.std.specs.Prelude.{◌≡◌, ◌≢◌, ℕ, ◌^◌, ◌-◌, true,
 use Rattle.std.specs.Prelude.{option_map, option_and_then, codes, bytes_eq, Result, Ok, Err}
 use Rattle.std.specs.Str.Parse.{digits_value, without_leading_plus}
 use Rattle.clap.specs.Words.{App, Row, Rule, Text, Kinds, new_app, new_rule, with_rule, with_subcommand}
-use Rattle.clap.specs.Words.{fault_of, kind_of, one_of, subcommand_of}
+use Rattle.clap.specs.Words.{fault_of, first_of, kind_of, one_of, subcommand_of}
 use Rattle.clap.specs.Simple.{on_top}
 use Rattle.clap.specs.ValueTests.{is_unsigned_in}
 use Rattle.clap.specs.declared.builder.value_parser.ValueParser.TheVariants as vp
 use Rattle.clap.specs.declared.error.Error.{Error}
 use Rattle.clap.specs.declared.error.kind.ErrorKind.TheVariants.{OutOfMemory}
 use Rattle.life_cli.specs.declared.words.Job.{Job}
-use Rattle.life_cli.specs.declared.words.Job.TheVariants.{Generation}
+use Rattle.life_cli.specs.declared.words.Job.TheVariants.{Generation, Kind, Object, Census}
 use Rattle.life_cli.specs.declared.words.WordFault.{WordFault}
 use Rattle.life_cli.specs.declared.words.WordFault.TheVariants.{BadWords, Memory}
 
@@ -26,13 +26,29 @@ last_number = 2 ^ 64 - 1
 abbrev pub number_rule : Text → Rule
 number_rule id = record (new_rule id) { parser = Some (vp.Unsigned 0 last_number); required = true }
 
+-- a required word that is a text
+abbrev pub text_rule : Text → Rule
+text_rule id = record (new_rule id) { required = true }
+
 -- `generation N`
 abbrev pub generation : App
 generation = with_rule (new_app (codes "generation")) (number_rule (codes "N"))
 
+-- `kind LIMIT`
+abbrev pub kind : App
+kind = with_rule (new_app (codes "kind")) (number_rule (codes "LIMIT"))
+
+-- `object RULE CODE LIMIT`
+abbrev pub object : App
+object = with_rule (with_rule (with_rule (new_app (codes "object")) (text_rule (codes "RULE"))) (text_rule (codes "CODE"))) (number_rule (codes "LIMIT"))
+
+-- `census N LIMIT`
+abbrev pub census : App
+census = with_rule (with_rule (new_app (codes "census")) (number_rule (codes "N"))) (number_rule (codes "LIMIT"))
+
 -- the subcommands, in the order in which help lists them
 abbrev pub subcommands : List App
-subcommands = generation ∷ []
+subcommands = generation ∷ kind ∷ object ∷ census ∷ []
 
 -- the program's name, which wants one of its subcommands
 abbrev pub life_alone : App
@@ -44,6 +60,20 @@ life = fold (λ command below. with_subcommand command below.top) life_alone sub
 
 -- ---- the job
 
+-- a job with the texts of its words
+pub data Asked : Type 0 where
+  AsksGeneration : (n : ℕ) → Asked
+  AsksKind : (limit : ℕ) → Asked
+  AsksObject : (rule code : Text) (limit : ℕ) → Asked
+  AsksCensus : (n limit : ℕ) → Asked
+
+-- what a job asks for
+abbrev pub asked_by : Job → Asked
+asked_by (Generation n) = AsksGeneration n
+asked_by (Kind limit) = AsksKind limit
+asked_by (Object rule code limit) = AsksObject rule.now code.now limit
+asked_by (Census n limit) = AsksCensus n limit
+
 -- the number that a text writes in decimal digits, before which a `+` may stand
 abbrev pub number_text : Text → Option ℕ
 number_text text = if is_unsigned_in 0 last_number text then Some (digits_value 10 (without_leading_plus text)) else None
@@ -52,24 +82,41 @@ number_text text = if is_unsigned_in 0 last_number text then Some (digits_value 
 abbrev pub number_at : Text → List Row → Option ℕ
 number_at id rows = option_and_then number_text (one_of id rows)
 
+-- the text of the word with this id
+abbrev pub text_at : Text → List Row → Option Text
+text_at id rows = first_of id rows
+
+-- the object of these words, if all of them are there
+abbrev pub object_of : Option Text → Option Text → Option ℕ → Option Asked
+object_of (Some rule) (Some code) (Some limit) = Some (AsksObject rule code limit)
+object_of rule code limit = None
+
+-- the census of these words, if both of them are there
+abbrev pub census_of : Option ℕ → Option ℕ → Option Asked
+census_of (Some n) (Some limit) = Some (AsksCensus n limit)
+census_of n limit = None
+
 -- the job of the subcommand of this name with these matches
-abbrev pub job_named : Text → List Row → Option Job
+abbrev pub job_named : Text → List Row → Option Asked
 job_named name rows =
-    if bytes_eq name (codes "generation") then option_map Generation (number_at (codes "N") rows)
+    if bytes_eq name (codes "generation") then option_map AsksGeneration (number_at (codes "N") rows)
+    else if bytes_eq name (codes "kind") then option_map AsksKind (number_at (codes "LIMIT") rows)
+    else if bytes_eq name (codes "object") then object_of (text_at (codes "RULE") rows) (text_at (codes "CODE") rows) (number_at (codes "LIMIT") rows)
+    else if bytes_eq name (codes "census") then census_of (number_at (codes "N") rows) (number_at (codes "LIMIT") rows)
     else None
 
 -- the job of the subcommand that was met, which comes with its matches
-abbrev pub job_of : Option (Text × List Row) → Option Job
+abbrev pub job_of : Option (Text × List Row) → Option Asked
 job_of None = None
 job_of (Some met) = job_named met.0 met.1
 
 -- no job, where the words have a fault of one of these kinds
-abbrev pub unless_fault : Kinds → Option Job → Option Job
+abbrev pub unless_fault : Kinds → Option Asked → Option Asked
 unless_fault [] job = job
 unless_fault (first ∷ others) job = None
 
 -- the job that the words name, the program's name first
-unfoldable pub words_job : List Text → Option Job
+unfoldable pub words_job : List Text → Option Asked
 words_job words = unless_fault (fault_of life words) (job_of (subcommand_of life words))
 
 -- ---- the answer
@@ -87,6 +134,6 @@ ComesFrom error (BadWords (Some kept)) = (kept ≡ error) × (kind_of error ≢ 
 
 -- the answer to words: their job, or bad words where they name none; want of memory may come with any words
 abbrev pub Answers : List Text → Result Job WordFault → Type 0
-Answers words (Ok job) = words_job words ≡ Some job
+Answers words (Ok job) = words_job words ≡ Some (asked_by job)
 Answers words (Err (BadWords error)) = words_job words ≡ None
 Answers words (Err Memory) = Unit {0}

@@ -8,7 +8,7 @@ mod tests;
 mod words;
 
 use clap::Error;
-use jobs::run_generation;
+use jobs::{run_census, run_generation, run_kind, run_object};
 use life_rle::{FromRead, FromWrite};
 use std::process::ExitCode;
 use std::{env, io};
@@ -45,6 +45,11 @@ fn main(rt: HostRuntime) -> io::Result<ExitCode> {
     let mut output = FromWrite::new(io::writer(&rt));
     let done = match job {
         Job::Generation(n) => run_generation(rt.alloc(), n, &mut input, &mut output),
+        Job::Kind(limit) => run_kind(rt.alloc(), limit, &mut input, &mut output),
+        Job::Object { rule, code, limit } => {
+            run_object(rt.alloc(), rule, code, limit, &mut output)
+        }
+        Job::Census { n, limit } => { run_census(rt.alloc(), n, limit, &mut input, &mut output) }
     };
     match done {
         Ok(()) => Ok(ExitCode::SUCCESS),

@@ -2,6 +2,7 @@
 ghost use Rattle.std.specs.Prelude.{◌≡◌};
 ghost use Rattle.life_cli.specs.Stop.{line_of};
 
+use life_code::CodeFault;
 use life_rle::RleFault;
 
 /// Why a job stopped.
@@ -11,6 +12,10 @@ pub enum Stop {
     OutOfLimit,
     /// Standard input is no pattern file.
     BadPattern(RleFault),
+    /// A rule of the command line is no rule.
+    BadRule,
+    /// A code of the command line is no pattern's code under the rule and the limit.
+    BadCode(CodeFault),
     /// Standard input failed.
     Unreadable,
     /// Memory was refused.
@@ -36,8 +41,14 @@ impl Stop {
             Stop::BadPattern(RleFault::BadCount) => "refused: bad-pattern bad-count",
             Stop::BadPattern(RleFault::TooWide) => "refused: bad-pattern too-wide",
             Stop::BadPattern(RleFault::NoEnd) => "refused: bad-pattern no-end",
+            Stop::BadRule => "refused: bad-rule",
+            Stop::BadCode(CodeFault::BadText) => "refused: bad-code bad-text",
+            Stop::BadCode(CodeFault::NotCanonical) => "refused: bad-code not-canonical",
+            Stop::BadCode(CodeFault::NotWithinLimit) => "refused: bad-code not-within-limit",
             Stop::Unreadable => "refused: unreadable",
-            Stop::Unavailable | Stop::BadPattern(RleFault::Memory) => "refused: unavailable",
+            Stop::Unavailable
+            | Stop::BadPattern(RleFault::Memory)
+            | Stop::BadCode(CodeFault::Memory) => "refused: unavailable",
             Stop::Unwritable => "",
         }
     }

@@ -1,8 +1,8 @@
 //! The words of the command line, read by `clap`.
-ghost use Rattle.std.specs.Prelude.{◌≡◌, map, IfOk, false};
+ghost use Rattle.std.specs.Prelude.{◌≡◌, codes, map, option_map, IfOk, false};
 ghost use Rattle.clap.specs.Words.{app_of, rule_of, rows_of, found_of, subcommand_rows_of, with_subcommand};
 ghost use Rattle.clap.specs.declared.builder.command.Command.TheViews.{out-Command as fields_of};
-ghost use Rattle.life_cli.specs.Words.{number_rule, generation, life, number_at, job_of, number_of, ComesFrom, Answers};
+ghost use Rattle.life_cli.specs.Words.{number_rule, text_rule, generation, kind, object, census, life, asked_by, number_at, text_at, object_of, census_of, job_of, number_of, ComesFrom, Answers};
 
 use clap::error::ErrorKind;
 use clap::{Arg, ArgMatches, Command, Error};
@@ -11,9 +11,23 @@ use std::convert::AsStr;
 
 /// What the program is to do.
 #[derive(Clone, Copy, Debug, PartialEq, Eq)]
-pub enum Job {
+pub enum Job<'a> {
     /// Print the generation of this number of the pattern on standard input.
     Generation(u64),
+    /// Print the kind of the pattern on standard input, whose period is at most this limit.
+    Kind(u64),
+    /// Print the pattern of a code under a rule and a limit of the period.
+    Object {
+        rule: &'a str,
+        code: &'a str,
+        limit: u64,
+    },
+    /// Print the tally of the clusters of this generation of the pattern on standard input, under this
+    /// limit of the period.
+    Census {
+        n: u64,
+        limit: u64,
+    },
 }
 
 /// Why words name no job.
@@ -58,14 +72,28 @@ impl From<Error> for WordFault {
     }
 }
 
+// A required word that is a text.
+fn text_arg<'a>(alloc: Global, id: &'a str) -> Arg<'a>
+    ensures rule { rule_of result ≡ text_rule id.entry.now }
+    ensures local { result.global ≡ false }
+{
+    Arg::new(alloc, id).required(true)
+}
+
 // A required word that is a number.
 fn number_arg<'a>(alloc: Global, id: &'a str) -> Arg<'a>
     ensures rule { rule_of result ≡ number_rule id.entry.now }
     ensures local { result.global ≡ false }
 {
-    Arg::new(alloc, id)
-        .required(true)
-        .value_parser(clap::value_parser!(u64))
+    text_arg(alloc, id).value_parser(clap::value_parser!(u64))
+}
+
+// The word that is the number of a generation.
+fn generation_arg<'a>(alloc: Global) -> Arg<'a>
+    ensures rule { rule_of result ≡ number_rule (codes "N") }
+    ensures local { result.global ≡ false }
+{
+    number_arg(alloc, "N").help("The number of the generation, from 0 to 1024")
 }
 
 fn generation_command<'a>(alloc: Global) -> Result<Command<'a>, AllocError>
@@ -74,7 +102,47 @@ fn generation_command<'a>(alloc: Global) -> Result<Command<'a>, AllocError>
 {
     Command::new(alloc, "generation")
         .about("Prints generation N of the pattern on standard input")
-        .arg(number_arg(alloc, "N").help("The number of the generation, from 0 to 1024"))
+        .arg(generation_arg(alloc))
+}
+
+// The word that is a limit of the period.
+fn limit_arg<'a>(alloc: Global) -> Arg<'a>
+    ensures rule { rule_of result ≡ number_rule (codes "LIMIT") }
+    ensures local { result.global ≡ false }
+{
+    number_arg(alloc, "LIMIT").help("The limit of the period, from 1 to 1024")
+}
+
+fn kind_command<'a>(alloc: Global) -> Result<Command<'a>, AllocError>
+    ensures app { IfOk result (λ command. app_of command ≡ kind) }
+    ensures local { IfOk result (λ command. (fields_of command).has_globals ≡ false) }
+{
+    Command::new(alloc, "kind")
+        .about("Prints the kind and the code of the pattern on standard input")
+        .arg(limit_arg(alloc))
+}
+
+fn object_command<'a>(alloc: Global) -> Result<Command<'a>, AllocError>
+    ensures app { IfOk result (λ command. app_of command ≡ object) }
+    ensures local { IfOk result (λ command. (fields_of command).has_globals ≡ false) }
+{
+    Command::new(alloc, "object")
+        .about("Prints the pattern of a code")
+        .arg(text_arg(alloc, "RULE").help("The rule, as B3/S23"))?
+        .arg(text_arg(alloc, "CODE").help("The code, as xs4_33"))?
+        .arg(limit_arg(alloc))
+}
+
+fn census_command<'a>(alloc: Global) -> Result<Command<'a>, AllocError>
+    ensures app { IfOk result (λ command. app_of command ≡ census) }
+    ensures local { IfOk result (λ command. (fields_of command).has_globals ≡ false) }
+{
+    Command::new(alloc, "census")
+        .about(
+            "Prints how many clusters generation N of the pattern on standard input has of each code",
+        )
+        .arg(generation_arg(alloc))?
+        .arg(limit_arg(alloc))
 }
 
 // The command with one more subcommand, which has no global argument.
@@ -85,6 +153,14 @@ fn with_command<'a>(above: Command<'a>, below: Command<'a>) -> Result<Command<'a
     above.subcommand(below)
 }
 
+// The command with the subcommands of codes.
+fn with_code_commands<'a>(alloc: Global, above: Command<'a>) -> Result<Command<'a>, AllocError>
+    ensures { IfOk result (λ command. app_of command ≡ with_subcommand (with_subcommand (app_of above.entry) object.top) census.top) }
+{
+    let command = with_command(above, object_command(alloc)?)?;
+    with_command(command, census_command(alloc)?)
+}
+
 fn life_command<'a>(alloc: Global) -> Result<Command<'a>, AllocError>
     ensures { IfOk result (λ command. app_of command ≡ life) }
 {
@@ -92,7 +168,8 @@ fn life_command<'a>(alloc: Global) -> Result<Command<'a>, AllocError>
         .about("An archive of Game of Life patterns")
         .subcommand_required(true);
     let command = with_command(command, generation_command(alloc)?)?;
-    Ok(command)
+    let command = with_command(command, kind_command(alloc)?)?;
+    with_code_commands(alloc, command)
 }
 
 // The number of the word with this id.
@@ -102,11 +179,40 @@ fn number_in(found: &ArgMatches<'_>, id: &str) -> Option<u64>
     found.get_one(id)
 }
 
-fn job_in(matches: &ArgMatches<'_>) -> Option<Job>
-    ensures { result ≡ job_of (subcommand_rows_of matches.now) }
+// The text of the word with this id.
+fn text_in<'a>(found: &ArgMatches<'a>, id: &str) -> Option<&'a str>
+    ensures { option_map (λ text. text.now) result ≡ text_at id.now (rows_of (found_of found.now)) }
+{
+    found.get_str(id)
+}
+
+fn object_in<'a>(found: &ArgMatches<'a>) -> Option<Job<'a>>
+    ensures { option_map asked_by result ≡ object_of (text_at (codes "RULE") (rows_of (found_of found.now))) (text_at (codes "CODE") (rows_of (found_of found.now))) (number_at (codes "LIMIT") (rows_of (found_of found.now))) }
+{
+    Some(Job::Object {
+        rule: text_in(found, "RULE")?,
+        code: text_in(found, "CODE")?,
+        limit: number_in(found, "LIMIT")?,
+    })
+}
+
+fn census_in<'a>(found: &ArgMatches<'a>) -> Option<Job<'a>>
+    ensures { option_map asked_by result ≡ census_of (number_at (codes "N") (rows_of (found_of found.now))) (number_at (codes "LIMIT") (rows_of (found_of found.now))) }
+{
+    Some(Job::Census {
+        n: number_in(found, "N")?,
+        limit: number_in(found, "LIMIT")?,
+    })
+}
+
+fn job_in<'a>(matches: &ArgMatches<'a>) -> Option<Job<'a>>
+    ensures { option_map asked_by result ≡ job_of (subcommand_rows_of matches.now) }
 {
     match matches.subcommand() {
-        Some(("generation", found)) => number_in(found, "N").map(Job::Generation),
+        Some(("generation", found)) => Some(Job::Generation(number_in(found, "N")?)),
+        Some(("kind", found)) => Some(Job::Kind(number_in(found, "LIMIT")?)),
+        Some(("object", found)) => object_in(found),
+        Some(("census", found)) => census_in(found),
         _ => None,
     }
 }
@@ -114,8 +220,8 @@ fn job_in(matches: &ArgMatches<'_>) -> Option<Job>
 /// The job that the words name. The first of them is the program's name, as in `env::args`.
 ///
 /// A request for help is a fault too, `BadWords` with the text of the help.
-pub fn read_words<S: AsStr>(alloc: Global, words: &[S]) -> Result<Job, WordFault>
-    ensures { Answers (map S.text words.now) result }
+pub fn read_words<'a, S: AsStr>(alloc: Global, words: &'a [S]) -> Result<Job<'a>, WordFault>
+    ensures { Answers (map S.text words.entry.now) result }
 {
     let matches = life_command(alloc)?.try_get_matches_from(words)?;
     job_in(&matches).ok_or(WordFault::BadWords(None))

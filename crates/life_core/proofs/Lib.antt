@@ -12,3 +12,6 @@ pub mod CellListStep
 pub mod PatternShifts
 pub mod OrientationLemmas
 pub mod CellCountsLemmas
+pub mod Placements
+pub mod PatternCorners
+pub mod PatternExtents

@@ -85,6 +85,10 @@ least_in f (c ∷ cs) = fold (λ n d. int_min n (f d)) (f c) cs
 abbrev pub least : (Cell → ℤ) → Cells → ℤ
 least f X = least_in f (set.items X)
 
+-- the cell at the least row and the least column of X
+abbrev pub corner : Cells → Cell
+corner X = record { row = least (λ c. c.row) X; column = least (λ c. c.column) X }
+
 -- X moved so that its least column and row are 0; the empty set is its own normal
 abbrev pub normal : Cells → Cells
-normal X = image (moved_cell (neg_ℤ (least (λ (c : Cell). c.column) X)) (neg_ℤ (least (λ (c : Cell). c.row) X))) X
+normal X = image (moved_cell (neg_ℤ (corner X).column) (neg_ℤ (corner X).row)) X

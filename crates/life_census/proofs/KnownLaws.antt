@@ -1,0 +1,21 @@
+-- What is known of shapes that came before.
+use Rattle.std.proofs.Common.{◌≡◌, ℕ, ◌∷◌, [], ◌++◌, List, sym, ap, subst, ◌∙◌}
+use Rattle.std.specs.List.{All}
+use Rattle.std.proofs.lemmas.List.Elements.{All-push}
+use Rattle.life_core.specs.Pattern.{Cells, normal}
+use Rattle.life_core.specs.Rule.{RuleSets}
+use Rattle.life_code.specs.Codes.{code_of}
+use Rattle.life_code.proofs.CodesNormal.{code_normal}
+use Rattle.life_census.specs.declared.counting.Known.{Known}
+use Rattle.life_census.specs.Counting.{IsKnown, HasShapeAt, HasCodeAt}
+
+-- where the shape of a cluster is known, its code is
+pub code_at : {A : Type 0} (r : RuleSets) (limit : ℕ) (known searched : List (Known A)) (X S : Cells) (i : ℕ) → All (IsKnown r limit) known → searched ≡ known → S ≡ normal X → HasShapeAt searched S i → HasCodeAt known (code_of r X limit) i
+code_at {A = A} r limit known searched X S i all same shape found =
+    let has : HasShapeAt known S i = subst (λ (ks : List (Known A)). HasShapeAt ks S i) same found in
+    (has.0, λ d. all i d has.0 ∙ ap (λ (Y : Cells). code_of r Y limit) (has.1 d ∙ shape) ∙ code_normal r X limit)
+
+-- one more that is known
+pub known_more : {A : Type 0} (r : RuleSets) (limit : ℕ) (known after : List (Known A)) (X : Cells) (one : Known A) → All (IsKnown r limit) known → one.shape ≡ normal X → one.code ≡ code_of r X limit → after ≡ known ++ one ∷ [] → All (IsKnown r limit) after
+known_more {A = A} r limit known after X one all shape code same =
+    subst (λ (ks : List (Known A)). All (IsKnown r limit) ks) (sym same) (All-push (IsKnown {A = A} r limit) known one all (code ∙ sym (ap (λ (Y : Cells). code_of r Y limit) shape ∙ code_normal r X limit)))

@@ -1,0 +1,33 @@
+-- Sets of cells that lose or gain one cell.
+use Rattle.std.specs.Prelude.{◌≡◌, ℕ, ◌+◌, ◌<◌, Bool, true, false, cond, not, ◌&&◌, ◌||◌, List, length, take, refl}
+use Rattle.std.proofs.Common.{sym, ap, ◌∙◌, get_or}
+use Rattle.std.proofs.lemmas.List.{take_more}
+use Rattle.std.specs.FinSet as set
+use Rattle.life_core.specs.declared.cell.Cell.{Cell}
+use Rattle.life_core.specs.Cell.{cell_cmp}
+use Rattle.life_core.specs.Pattern.{Cells}
+use Rattle.life_core.proofs.PatternMembers.{same_cell, has_cell, same_cell_laws, cell_cmp_total, cell_cmp_exact, contains-list, cells_by_members}
+
+cond_not : (b c : Bool) → cond b false c ≡ (not b && c)
+cond_not true c = refl
+cond_not false c = refl
+
+cond_or : (b c : Bool) → cond b true c ≡ (b || c)
+cond_or true c = refl
+cond_or false c = refl
+
+pub removed : (ks ls : List Cell) (k : Cell) → ((q : Cell) → has_cell ls q ≡ cond (same_cell k q) false (has_cell ks q)) → set.from_list {R = cell_cmp} ls ≡ set.remove (set.from_list ks) k
+removed ks ls k h = cells_by_members _ _ (λ q.
+    contains-list ls q ∙ h q ∙ cond_not (same_cell k q) (has_cell ks q)
+    ∙ sym (set.contains-remove cell_cmp_total (set.from_list ks) k q ∙ (λ i. not (same_cell_laws.symm q k i) && contains-list ks q i)))
+
+pub inserted : (ks ls : List Cell) (k : Cell) → ((q : Cell) → has_cell ls q ≡ cond (same_cell k q) true (has_cell ks q)) → set.from_list {R = cell_cmp} ls ≡ set.insert (set.from_list ks) k
+inserted ks ls k h = cells_by_members _ _ (λ q.
+    contains-list ls q ∙ h q ∙ cond_or (same_cell k q) (has_cell ks q)
+    ∙ sym (set.contains-insert cell_cmp_total (set.from_list ks) k q ∙ (λ i. same_cell_laws.symm q k i || contains-list ks q i)))
+
+pub inserted_next : (ks ls cs : List Cell) (i : ℕ) (d : Cell) → ((q : Cell) → has_cell ls q ≡ cond (same_cell (get_or cs i d) q) true (has_cell ks q)) → i < length cs
+    → set.from_list {R = cell_cmp} ks ≡ set.from_list (take i cs) → set.from_list {R = cell_cmp} ls ≡ set.from_list (take (i + 1) cs)
+inserted_next ks ls cs i d h low same =
+    inserted ks ls (get_or cs i d) h ∙ ap (λ (X : Cells). set.insert X (get_or cs i d)) same ∙ sym (set.from_list_push cell_cmp_total cell_cmp_exact (take i cs) (get_or cs i d))
+    ∙ ap (set.from_list {R = cell_cmp}) (sym (take_more cs i d low))

@@ -1,0 +1,14 @@
+pub mod NearLaws
+pub mod PartsLaws
+pub mod LeftLaws
+pub mod FloodLaws
+pub mod PartsSteps
+pub mod PartsListing
+pub mod RowsLaws
+pub mod CountingLaws
+pub mod CountingSteps
+pub mod CountingRows
+pub mod CountingTotals
+pub mod TableLines
+pub mod CodeTextLaws
+pub mod KnownLaws

@@ -1,0 +1,5 @@
+use Rattle.life_census.specs.Counting.{AreBelow}
+use Rattle.life_census.proofs.counting.place_of.Given as goal
+
+abbrev pub invariant-loop-i : goal.invariant-loop-i
+invariant-loop-i g l = AreBelow l.rows l.code l.i

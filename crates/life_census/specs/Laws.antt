@@ -1,0 +1,34 @@
+-- What makes the definitions of parts and tallies believable.
+use Rattle.std.specs.Prelude.{◌≡◌, ◌↔◌, ◌≤◌, ℕ, ◌+◌, true, List, Option, map, sum_by}
+use Rattle.std.specs.List.{Contains}
+use Rattle.std.specs.List.Sorted.{IsStrictlySortedBy}
+use Rattle.std.specs.FinSet as set
+use Rattle.life_core.specs.declared.cell.Cell.{Cell}
+use Rattle.life_core.specs.Pattern.{Cells}
+use Rattle.life_census.specs.Parts.{ArePartsOf, parts}
+use Rattle.life_census.specs.Rows.{Counts}
+use Rattle.life_census.specs.Counting.{row_cmp, how_often, counts_of, IsTally}
+
+-- `parts` lists the parts of each set ..
+abbrev pub PartsAreParts : Type 0
+PartsAreParts = (X : Cells) → ArePartsOf X (parts X)
+
+-- .. and no other list does.
+abbrev pub OneListOfParts : Type 0
+OneListOfParts = (X : Cells) (Ps : List Cells) → ArePartsOf X Ps → Ps ≡ parts X
+
+-- Each cell of a set is in one of its parts, and in no other.
+abbrev pub OnePartEach : Type 0
+OnePartEach = (X : Cells) (c : Cell) → set.contains X c ≡ true → (P : Cells) × Contains (parts X) P × (set.contains P c ≡ true) × ((Q : Cells) → Contains (parts X) Q → set.contains Q c ≡ true → Q ≡ P)
+
+-- The rows of a tally are the codes that some set has, each with how many have it ..
+abbrev pub RowsAreCounts : Type 0
+RowsAreCounts = (codes : List (List ℕ)) (code : List ℕ) (n : ℕ) → Contains (counts_of codes) (code, n) ↔ ((n ≡ how_often code codes) × (1 ≤ n))
+
+-- .. and their codes ascend, byte by byte.
+abbrev pub RowsAscend : Type 0
+RowsAscend = (codes : List (List ℕ)) → IsStrictlySortedBy row_cmp (map (λ (row : List ℕ × ℕ). row.0) (counts_of codes))
+
+-- The counts of a tally and what is unresolved add up to the total.
+abbrev pub TalliesAddUp : Type 0
+TalliesAddUp = (code : Cells → Option (List ℕ)) (Ps : List Cells) (t : Counts) → IsTally code Ps t → sum_by (λ (row : List ℕ × ℕ). row.1) t.rows + t.unresolved ≡ t.total

@@ -1,0 +1,76 @@
+-- Parts of a set of cells: the classes of the chains of near cells. Cells at most 2 apart are taken together, for they can have a neighbour in common.
+use Rattle.std.specs.Prelude.{◌≡◌, ℤ, pos, ◌+ℤ◌, Bool, true, false, cond, not, ◌&&◌, int_le, List, [], ◌∷◌}
+use Rattle.std.specs.declared.cmp.Ordering.TheVariants.{Less}
+use Rattle.std.specs.List.{AllByRecursion, Contains, list_any, filter}
+use Rattle.std.specs.FinSet as set
+use Rattle.life_core.specs.declared.cell.Cell.{Cell}
+use Rattle.life_core.specs.Cell.{cell_cmp}
+use Rattle.life_core.specs.Pattern.{Cells, in_order}
+
+-- ---- what a part is
+
+-- the numbers differ by at most 2
+abbrev pub within_two : ℤ → ℤ → Bool
+within_two a b = int_le a (b +ℤ pos 2) && int_le b (a +ℤ pos 2)
+
+-- the rows and the columns differ by at most 2
+unfoldable pub near : Cell → Cell → Bool
+near c d = within_two c.row d.row && within_two c.column d.column
+
+-- these cells of X, each near to the one before it, lead from c to d
+abbrev pub IsChain : Cells → Cell → List Cell → Cell → Type 0
+IsChain X c [] d = c ≡ d
+IsChain X c (e ∷ es) d = (set.contains X e ≡ true) × (near c e ≡ true) × IsChain X e es d
+
+-- a chain of cells of X leads from c to d
+abbrev pub AreJoined : Cells → Cell → Cell → Type 0
+AreJoined X c d = (es : List Cell) × IsChain X c es d
+
+-- P is a part of X: it has a cell, chains join all its cells, and no other cell of X is near it
+pub record IsPart (X P : Cells) : Type 0 where
+  pub inside : (c : Cell) → set.contains P c ≡ true → set.contains X c ≡ true
+  pub cell : (c : Cell) × (set.contains P c ≡ true)
+  pub joined : (c d : Cell) → set.contains P c ≡ true → set.contains P d ≡ true → AreJoined X c d
+  pub apart : (c d : Cell) → set.contains P c ≡ true → set.contains X d ≡ true → set.contains P d ≡ false → near c d ≡ false
+
+-- ---- the list of the parts
+
+-- some cell of P comes before all cells of Q, by row and then by column
+abbrev pub IsBefore : Cells → Cells → Type 0
+IsBefore P Q = (c : Cell) × (set.contains P c ≡ true) × ((d : Cell) → set.contains Q d ≡ true → cell_cmp c d ≡ Less)
+
+-- each set comes before all later ones
+abbrev pub AreInOrder : List Cells → Type 0
+AreInOrder [] = Unit {0}
+AreInOrder (P ∷ Ps) = AllByRecursion (IsBefore P) Ps × AreInOrder Ps
+
+-- a set of the list has the cell
+abbrev pub IsCovered : Cell → List Cells → Type 0
+IsCovered c Ps = (P : Cells) × Contains Ps P × (set.contains P c ≡ true)
+
+-- the list of the parts of X, each once, by their least cells
+pub record ArePartsOf (X : Cells) (Ps : List Cells) : Type 0 where
+  pub each : AllByRecursion (IsPart X) Ps
+  pub all : (P : Cells) → IsPart X P → Contains Ps P
+  pub covers : (c : Cell) → set.contains X c ≡ true → IsCovered c Ps
+  pub ascend : AreInOrder Ps
+
+-- ---- the list as a function
+
+-- whether P has a cell near c
+abbrev pub touches : Cell → Cells → Bool
+touches c P = list_any (near c) (set.items P)
+
+-- c and the cells of those sets that have one near it
+abbrev pub joined_with : Cell → List Cells → Cells
+joined_with c [] = set.insert set.empty c
+joined_with c (P ∷ Ps) = cond (touches c P) (set.union P (joined_with c Ps)) (joined_with c Ps)
+
+-- the parts of the set of a sorted list's cells: those that the first cell does not touch stay, and the others become one
+abbrev pub parts_in : List Cell → List Cells
+parts_in [] = []
+parts_in (c ∷ cs) = joined_with c (parts_in cs) ∷ filter (λ P. not (touches c P)) (parts_in cs)
+
+-- the parts of X, by their least cells
+unfoldable pub parts : Cells → List Cells
+parts X = parts_in (in_order X)

@@ -1,0 +1,45 @@
+//! Texts of codes.
+ghost use Rattle.std.specs.Prelude.{◌≡◌, true, IfOk};
+ghost use Rattle.std.specs.List.{list_all};
+ghost use Rattle.life_census.specs.CodeText.{is_code_byte};
+
+use std::alloc::{AllocError, Allocator, Global};
+use std::marker::Model;
+
+/// The text of a code: lower-case letters, digits and `_`. Only `tally` makes one.
+#[derive(Debug, Drop)]
+pub struct CodeText<A: Allocator = Global> {
+    bytes: Vec<u8, A>,
+}
+
+impl<A: Allocator> Model for CodeText<A> {
+    ghost use Rattle.std.specs.Prelude.{◌≡◌, true, ℕ, List};
+    ghost use Rattle.std.specs.List.{list_all};
+    ghost use Rattle.life_census.specs.CodeText.{is_code_byte};
+
+    ghost Value = { List ℕ };
+
+    ghost view = { λ t. t.bytes.items };
+
+    ghost invariant = { λ t. list_all is_code_byte t.bytes.items ≡ true };
+}
+
+impl<A: Allocator> CodeText<A> {
+    /// The text of these bytes.
+    pub(crate) fn from_slice(alloc: A, bytes: &[u8]) -> Result<CodeText<A>, AllocError>
+        requires { list_all is_code_byte bytes.now ≡ true }
+        ensures { IfOk result (λ t. t ≡ bytes.now) }
+    {
+        Ok(CodeText {
+            bytes: Vec::from_slice(alloc, bytes)?,
+        })
+    }
+
+    /// The bytes.
+    pub fn as_bytes(&self) -> &[u8]
+        ensures bytes { result.now ≡ self.now }
+        ensures plain { list_all is_code_byte result.now ≡ true }
+    {
+        self.bytes.as_slice()
+    }
+}

@@ -1,0 +1,167 @@
+//! How many clusters there are of each code.
+ghost use Rattle.std.specs.Prelude.{◌≡◌, ℕ, ◌+◌, ◌<◌, ◌≤◌, ◌^◌, ◌++◌, ◌∷◌, [], map, IfOk, IfSome, OnOk, MatchResult};
+ghost use Rattle.std.specs.List.{All};
+ghost use Rattle.life_core.specs.Pattern.{IsWithin};
+ghost use Rattle.life_code.specs.Codes.{code_of};
+ghost use Rattle.life_census.specs.Parts.{parts};
+ghost use Rattle.life_census.specs.Rows.{row_seen};
+ghost use Rattle.life_census.specs.Counting.{IsTally, IsKnown, HasShapeAt, HasCodeAt, one_more, AreBelow, IsRowOf, IsPlaceFor};
+
+use crate::code_text::CodeText;
+use crate::parts::clusters;
+use crate::rows::{Row, Rows, Tally};
+use life_code::code;
+use life_core::{Fault, Pattern, Rule};
+use std::alloc::{AllocError, Allocator};
+use std::cmp::Ordering;
+
+/// The normal set of a cluster, and the code of all clusters that are this set moved, if they have
+/// one.
+#[derive(Drop)]
+struct Known<A: Allocator> {
+    shape: Pattern<A>,
+    code: Option<CodeText<A>>,
+}
+
+/// How many clusters of the pattern have each code under the rule and the limit of the period, and
+/// how many have none.
+pub fn tally<A: Allocator + Copy>(
+    alloc: A,
+    rule: &Rule,
+    pattern: &Pattern<A>,
+    limit: u32,
+) -> Result<Tally<A>, Fault>
+    requires from_one { 1 ≤ limit }
+    requires few { limit ≤ 1024 }
+    requires room { IsWithin 400_000_000 pattern.now }
+    ensures { IfOk result (IsTally (λ P. code_of rule.now P limit) (parts pattern.now)) }
+{
+    tally_of(alloc, rule, &clusters(alloc, pattern)?, limit)
+}
+
+/// How many of the patterns have each code, and how many have none.
+fn tally_of<A: Allocator + Copy>(
+    alloc: A,
+    rule: &Rule,
+    clusters: &[Pattern<A>],
+    limit: u32,
+) -> Result<Tally<A>, Fault>
+    requires from_one { 1 ≤ limit }
+    requires few { limit ≤ 1024 }
+    requires room { All (IsWithin 400_000_000) clusters.now }
+    ensures { IfOk result (IsTally (λ P. code_of rule.now P limit) clusters.now) }
+{
+    let mut known = Vec::new(alloc);
+    let mut rows = Vec::new(alloc);
+    let mut unresolved = 0;
+    for cluster in clusters {
+        let i = known_place(alloc, rule, cluster, limit, &mut known)?;
+        match &known[i].code {
+            Some(code) => count_code(alloc, &mut rows, code)?,
+            None => unresolved += 1,
+        }
+    }
+    Ok(Tally {
+        rows: Rows::of(rows),
+        unresolved,
+        total: clusters.len() as u64,
+    })
+}
+
+/// The place of a cluster's shape among those that are known; a new one gets the last place.
+fn known_place<A: Allocator + Copy>(
+    alloc: A,
+    rule: &Rule,
+    cluster: &Pattern<A>,
+    limit: u32,
+    known: &mut Vec<Known<A>, A>,
+) -> Result<usize, Fault>
+    requires from_one { 1 ≤ limit }
+    requires few { limit ≤ 1024 }
+    requires room { IsWithin 400_000_000 cluster.now }
+    requires known { All (IsKnown rule.now limit) known.old.items }
+    ensures known { OnOk result (All (IsKnown rule.now limit) known.new.items) }
+    ensures code { IfOk result (λ i. HasCodeAt known.new.items (code_of rule.now cluster.now limit) i) }
+{
+    let shape = cluster.normal(alloc)?;
+    if let Some(i) = place_of_shape(known, &shape) {
+        return Ok(i);
+    }
+    let code = code_of_cluster(alloc, rule, cluster, limit)?;
+    let i = known.len();
+    learn(known, Known { shape, code })?;
+    Ok(i)
+}
+
+/// The place of a shape among those that are known, if it is one of them.
+fn place_of_shape<A: Allocator>(known: &[Known<A>], shape: &Pattern<A>) -> Option<usize>
+    ensures { IfSome result (λ i. HasShapeAt known.now shape.now i) }
+{
+    for (i, one) in known.iter().enumerate() {
+        if one.shape.same(shape) {
+            return Some(i);
+        }
+    }
+    None
+}
+
+/// One more shape that is known.
+fn learn<A: Allocator>(known: &mut Vec<Known<A>, A>, one: Known<A>) -> Result<(), AllocError>
+    ensures { OnOk result (known.new.items ≡ known.old.items ++ one ∷ []) }
+{
+    known.push(one)?;
+    Ok(())
+}
+
+/// The code of a cluster, if it has one.
+fn code_of_cluster<A: Allocator + Copy>(
+    alloc: A,
+    rule: &Rule,
+    cluster: &Pattern<A>,
+    limit: u32,
+) -> Result<Option<CodeText<A>>, Fault>
+    requires from_one { 1 ≤ limit }
+    requires few { limit ≤ 1024 }
+    requires room { IsWithin 400_000_000 cluster.now }
+    ensures { IfOk result (λ o. o ≡ code_of rule.now cluster.now limit) }
+{
+    match code(alloc, rule, cluster, limit)? {
+        Some(coded) => Ok(Some(CodeText::from_slice(alloc, coded.text())?)),
+        None => Ok(None),
+    }
+}
+
+/// Counts one more of a code.
+fn count_code<A: Allocator + Copy>(
+    alloc: A,
+    rows: &mut Vec<Row<A>, A>,
+    code: &CodeText<A>,
+) -> Result<(), AllocError>
+    requires { All (λ r. r.count + 1 < 2 ^ 64) rows.old.items }
+    ensures counted { OnOk result (map row_seen rows.new.items ≡ one_more (map row_seen rows.old.items) code.now) }
+    ensures bounded { OnOk result ((n : ℕ) → All (λ r. r.count ≤ n) rows.old.items → All (λ r. r.count ≤ n + 1) rows.new.items) }
+{
+    match place_of(rows, code.as_bytes()) {
+        Ok(i) => rows[i].count += 1,
+        Err(i) => {
+            let code = CodeText::from_slice(alloc, code.as_bytes())?;
+            rows.insert(i, Row { code, count: 1 })?;
+        }
+    }
+    Ok(())
+}
+
+/// The place of a code among rows, or the place where it belongs.
+fn place_of<A: Allocator>(rows: &[Row<A>], code: &[u8]) -> Result<usize, usize>
+    ensures before { MatchResult result (AreBelow rows.now code.now) (AreBelow rows.now code.now) }
+    ensures here { MatchResult result (IsRowOf rows.now code.now) (IsPlaceFor rows.now code.now) }
+{
+    for (i, row) in rows.iter().enumerate() {
+        match code.cmp(row.code.as_bytes()) {
+            Ordering::Greater => {}
+            Ordering::Equal => return Ok(i),
+            Ordering::Less => return Err(i),
+        }
+    }
+    Err(rows.len())
+}

@@ -1,0 +1,21 @@
+//! The clusters of a pattern, and how many of them have each code.
+#![tactic(auto)]
+
+mod code_text;
+mod counting;
+mod flood;
+mod laws;
+mod left;
+mod parts;
+mod rows;
+mod table;
+
+pub use code_text::CodeText;
+pub use counting::tally;
+pub use laws::{laws_of_clusters, laws_of_tallies};
+pub use parts::clusters;
+pub use rows::{Row, Rows, Tally};
+pub use table::csv;
+
+#[cfg(test)]
+mod tests;

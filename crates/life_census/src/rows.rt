@@ -1,0 +1,63 @@
+//! What a tally holds: codes, each with its count.
+ghost use Rattle.std.specs.Prelude.{◌≡◌, map};
+ghost use Rattle.life_census.specs.Rows.{row_seen};
+
+use crate::code_text::CodeText;
+use std::alloc::{Allocator, Global};
+use std::marker::Model;
+
+/// A code, and how many clusters have it.
+#[derive(Debug, Drop)]
+pub struct Row<A: Allocator = Global> {
+    pub code: CodeText<A>,
+    pub count: u64,
+}
+
+/// Rows in the order of their codes, byte by byte. Only `tally` makes them.
+#[derive(Debug, Drop)]
+pub struct Rows<A: Allocator = Global> {
+    rows: Vec<Row<A>, A>,
+}
+
+impl<A: Allocator> Model for Rows<A> {
+    ghost use Rattle.std.specs.Prelude.{ℕ, List, map};
+    ghost use Rattle.life_census.specs.Rows.{row_seen};
+
+    ghost Value = { List (List ℕ × ℕ) };
+
+    ghost view = { λ t. map row_seen t.rows.items };
+}
+
+impl<A: Allocator> Rows<A> {
+    /// These rows.
+    pub(crate) fn of(rows: Vec<Row<A>, A>) -> Rows<A>
+        ensures { result ≡ map row_seen rows.items }
+    {
+        Rows { rows }
+    }
+
+    /// The rows.
+    pub fn as_slice(&self) -> &[Row<A>]
+        ensures { map row_seen result.now ≡ self.now }
+    {
+        self.rows.as_slice()
+    }
+}
+
+/// How many clusters of a pattern have each code, how many have none, and how many there are.
+#[derive(Debug, Drop)]
+pub struct Tally<A: Allocator = Global> {
+    pub rows: Rows<A>,
+    pub unresolved: u64,
+    pub total: u64,
+}
+
+impl<A: Allocator> Model for Tally<A> {
+    ghost use Rattle.life_census.specs.Rows.{Counts, coded_counts};
+
+    ghost Value = { Counts };
+
+    ghost coded = { coded_counts };
+
+    ghost view = { λ t. record { rows = t.rows; unresolved = t.unresolved; total = t.total } };
+}

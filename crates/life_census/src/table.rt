@@ -1,0 +1,82 @@
+//! A tally as CSV.
+ghost use Rattle.std.specs.Prelude.{◌≡◌, ℕ, List, [], ◌∷◌, ◌++◌, map, true, IfOk};
+ghost use Rattle.std.specs.List.{list_all};
+ghost use Rattle.csv.specs.Writing.{row_text, default_writer};
+ghost use Rattle.life_census.specs.CodeText.{is_code_byte};
+ghost use Rattle.life_census.specs.Rows.{row_seen};
+ghost use Rattle.life_census.specs.Table.{line, lines, csv_text, Holds};
+
+use crate::rows::{Row, Tally};
+use csv::{Writer, WriterBuilder};
+use itoa::Buffer;
+use life_core::Fault;
+use std::alloc::{AllocError, Allocator};
+
+/// The tally as CSV: a line of names, a line for each code with its count, and a line with the
+/// number of clusters that have no code.
+pub fn csv<A: Allocator + Copy>(alloc: A, tally: &Tally<A>) -> Result<Vec<u8, A>, Fault>
+    ensures { IfOk result (λ v. v.items ≡ csv_text tally.now) }
+{
+    Ok(text_of(alloc, tally.rows.as_slice(), tally.unresolved)?)
+}
+
+/// The text of rows and of how many have no code.
+fn text_of<A: Allocator + Copy>(
+    alloc: A,
+    rows: &[Row<A>],
+    unresolved: u64,
+) -> Result<Vec<u8, A>, AllocError>
+    ensures { IfOk result (λ v. v.items ≡ lines (map row_seen rows.now) unresolved) }
+{
+    let mut table = with_fields(new_table(alloc), b"code", b"count")?;
+    for row in rows {
+        table = with_line(table, row.code.as_bytes(), row.count)?;
+    }
+    finish(with_line(table, b"unresolved", unresolved)?)
+}
+
+/// A table of no lines.
+fn new_table<A: Allocator>(alloc: A) -> Writer<Vec<u8, A>>
+    ensures { Holds result [] }
+{
+    WriterBuilder::new().from_writer(Vec::new(alloc))
+}
+
+/// The table with one more line, of two fields.
+fn with_fields<A: Allocator>(
+    table: Writer<Vec<u8, A>>,
+    first: &[u8],
+    second: &[u8],
+) -> Result<Writer<Vec<u8, A>>, AllocError>
+    ensures { IfOk result (λ w. (text : List ℕ) → Holds table text → Holds w (text ++ row_text default_writer (first.now ∷ second.now ∷ []))) }
+{
+    let mut writer = table;
+    let fields = [first, second];
+    match writer.write_fields(&fields) {
+        Ok(()) => Ok(writer),
+        Err(_) => Err(AllocError),
+    }
+}
+
+/// The table with one more line, of a code and a count.
+fn with_line<A: Allocator>(
+    table: Writer<Vec<u8, A>>,
+    code: &[u8],
+    count: u64,
+) -> Result<Writer<Vec<u8, A>>, AllocError>
+    requires { list_all is_code_byte code.now ≡ true }
+    ensures { IfOk result (λ w. (text : List ℕ) → Holds table text → Holds w (text ++ line code.now count)) }
+{
+    let mut buffer = Buffer::new();
+    with_fields(table, code, buffer.format(count).as_bytes())
+}
+
+/// The text of the table.
+fn finish<A: Allocator>(table: Writer<Vec<u8, A>>) -> Result<Vec<u8, A>, AllocError>
+    ensures { IfOk result (λ v. (text : List ℕ) → Holds table text → v.items ≡ text) }
+{
+    match table.into_inner() {
+        Ok(text) => Ok(text),
+        Err(_) => Err(AllocError),
+    }
+}

@@ -1,0 +1,47 @@
+use Rattle.std.proofs.Common.{rules, ◌≡◌, ◌-◌, ◌+◌, arith, sym, ap, ◌∙◌, SFits, w64, to_z-of_z}
+use Rattle.life_core.specs.Generations.{generation_of}
+use Rattle.life_code.proofs.PeriodKinds.{kind_one}
+use Rattle.life_code.proofs.PeriodSteps.{room_at, generation_more, none_more, nothing, something, found_at, none_at}
+use Rattle.life_code.proofs.period.kind_by.Goals as goal
+
+pub returns-then-population-eq0-clause-meaning : goal.returns-then-population-eq0-clause-meaning
+returns-then-population-eq0-clause-meaning g c = nothing c.args.pattern.now _ c.population.ensures c.if-population-eq0.true
+
+pub returns-then-population-eq0-clause-value : goal.returns-then-population-eq0-clause-value
+returns-then-population-eq0-clause-value g c = sym (kind_one _ _ _ _ (returns-then-population-eq0-clause-meaning g c))
+
+pub step-requires : goal.step-requires
+step-requires g c = room_at c.args.rule.now c.args.pattern.now _ c.requires.room (c.loop-period.period - 1) (omega arith) c.loop-period.invariant.now
+
+pub returns-in-Some-clause-meaning : goal.returns-in-Some-clause-meaning
+returns-in-Some-clause-meaning g c =
+    let rule = c.args.rule.now in
+    let cells = c.args.pattern.now in
+    let some = something cells _ c.population.ensures c.if-population-eq0.false in
+    let now : g.P.Plane.cells c.step.new.self ≡ generation_of rule cells c.loop-period.period =
+    generation_more rule cells (g.P.Plane.cells c.loop-period.plane) (g.P.Plane.cells c.step.new.self) c.loop-period.period c.loop-period.auto.period c.loop-period.invariant.now c.in_ok-step.ensures.ok in
+    let fits_x : SFits w64 c.in-Some.dx = search rules in
+    let fits_y : SFits w64 c.in-Some.dy = search rules in
+    found_at rule cells _ _ c.args.limit c.loop-period.period c.in-Some.dx c.in-Some.dy _ _ _ some c.loop-period.auto.period (omega arith) c.loop-period.invariant.none c.in_ok-start.ensures now c.in-Some.ensures.1
+    (to_z-of_z fits_x) (to_z-of_z fits_y) c.kind_of_period.ensures
+
+pub returns-in-Some-clause-value : goal.returns-in-Some-clause-value
+returns-in-Some-clause-value g c = sym (kind_one _ _ _ _ (returns-in-Some-clause-meaning g c))
+
+pub loop-period-preserved : goal.loop-period-preserved
+loop-period-preserved g c =
+    let rule = c.args.rule.now in
+    let cells = c.args.pattern.now in
+    let some = something cells _ c.population.ensures c.if-population-eq0.false in
+    let now : g.P.Plane.cells c.step.new.self ≡ generation_of rule cells c.loop-period.period =
+    generation_more rule cells (g.P.Plane.cells c.loop-period.plane) (g.P.Plane.cells c.step.new.self) c.loop-period.period c.loop-period.auto.period c.loop-period.invariant.now c.in_ok-step.ensures.ok in
+    record {
+      now = now ∙ ap (generation_of rule cells) (let e : c.loop-period.period ≡ c.loop-period.period + 1 - 1 = omega arith in e);
+      none = none_more rule cells c.loop-period.period c.loop-period.invariant.none (none_at rule cells _ _ c.loop-period.period some c.in_ok-start.ensures now c.in_default.ensures);
+    }
+
+pub returns-clause-meaning : goal.returns-clause-meaning
+returns-clause-meaning g c = (something c.args.pattern.now _ c.population.ensures c.if-population-eq0.false, λ q from below. c.loop-period.invariant.none q from (omega arith))
+
+pub returns-clause-value : goal.returns-clause-value
+returns-clause-value g c = sym (kind_one _ _ _ _ (returns-clause-meaning g c))

@@ -1,0 +1,118 @@
+-- Codes of periodic patterns (LifeWiki, "Apgcode"). The choice among phases, orientations and texts is this project's: the shortest text, and
+-- of texts as long the least by bytes.
+use Rattle.std.specs.Prelude.{◌≡◌, ◌≢◌, ℕ, ◌<◌, Bool, ◌&&◌, nat_le, if◌then◌else◌, Option, Some, None, ℤ, List, [], ◌∷◌, ◌++◌, length, codes}
+use Rattle.std.specs.List.{range_with_len, flat_map}
+use Rattle.std.specs.Fmt.{decimal}
+use Rattle.std.specs.declared.cmp.Ordering.{Ordering}
+use Rattle.std.specs.Ordering.{ordering_then, nat_cmp, is_gt}
+use Rattle.std.specs.Cmp.Lexicographic.{slice_cmp}
+use Rattle.std.specs.Option.{option_map}
+use Rattle.std.specs.FinSet as set
+use Rattle.std.specs.declared.vec.Vec.{Vec}
+use Rattle.life_core.specs.declared.orientation.Orientation.{Orientation}
+use Rattle.life_core.specs.declared.orientation.Orientation.TheVariants.{O0, O1, O2, O3, O4, O5, O6, O7}
+use Rattle.life_core.specs.Cell.{moved_cell}
+use Rattle.life_core.specs.Orientation.{turned_cell}
+use Rattle.life_core.specs.Pattern.{Cells, image, normal}
+use Rattle.life_core.specs.Rule.{RuleSets}
+use Rattle.life_core.specs.Generations.{generation_of}
+use Rattle.life_code.specs.declared.kinds.Kind.{Kind}
+use Rattle.life_code.specs.declared.kinds.Kind.TheVariants.{Empty, Still, Oscillator, Ship, Unresolved}
+use Rattle.life_code.specs.Period.{HasPeriod, kind_of}
+use Rattle.life_code.specs.Wechsler.{width, height, wechsler}
+
+-- ---- candidates
+
+-- the eight orientations
+abbrev pub orientations : List Orientation
+orientations = O0 ∷ O1 ∷ O2 ∷ O3 ∷ O4 ∷ O5 ∷ O6 ∷ O7 ∷ []
+
+-- a normal set's box is at most 40 by 40
+abbrev pub fits : Cells → Bool
+fits X = nat_le (width X) 40 && nat_le (height X) 40
+
+-- X in an orientation, in normal form
+abbrev pub shape : Orientation → Cells → Cells
+shape o X = normal (image (turned_cell o) X)
+
+-- the text of a normal set, if its box is small enough
+unfoldable pub text_of : Cells → List (List ℕ)
+text_of X = if fits X then wechsler X ∷ [] else []
+
+-- the texts of a set in all orientations
+abbrev pub texts_of : Cells → List (List ℕ)
+texts_of X = flat_map (λ o. text_of (shape o X)) orientations
+
+-- the candidates: the texts of generations 0 to p - 1
+unfoldable pub candidates : RuleSets → Cells → ℕ → List (List ℕ)
+candidates r X p = flat_map (λ i. texts_of (generation_of r X i)) (range_with_len 0 p)
+
+-- ---- the least candidate
+
+-- texts are compared by length, and then by bytes
+abbrev pub text_cmp : List ℕ → List ℕ → Ordering
+text_cmp a b = ordering_then (nat_cmp (length a) (length b)) (slice_cmp nat_cmp a b)
+
+-- the lesser of a text and one that may be missing
+abbrev pub lesser : List ℕ → Option (List ℕ) → List ℕ
+lesser a None = a
+lesser a (Some b) = if is_gt (text_cmp a b) then b else a
+
+-- the least of some texts
+unfoldable pub least_text : List (List ℕ) → Option (List ℕ)
+least_text [] = None
+least_text (text ∷ texts) = Some (lesser text (least_text texts))
+
+-- the least of what is kept and some texts, taken one after the other
+abbrev pub kept_least : Option (List ℕ) → List (List ℕ) → Option (List ℕ)
+kept_least best [] = best
+kept_least best (text ∷ texts) = kept_least (Some (lesser text best)) texts
+
+-- the bytes of a text that may be missing
+abbrev pub bytes_of : {A : Type 0} → Option (Vec ℕ A) → Option (List ℕ)
+bytes_of None = None
+bytes_of (Some text) = Some text.items
+
+-- the same as a list of texts
+abbrev pub list_of : {A : Type 0} → Option (Vec ℕ A) → List (List ℕ)
+list_of None = []
+list_of (Some text) = text.items ∷ []
+
+-- ---- the code
+
+-- prefix, number, `_` and text, if there is a text
+abbrev pub with_prefix : List ℕ → ℕ → Option (List ℕ) → Option (List ℕ)
+with_prefix prefix n text = option_map (λ t. prefix ++ decimal n ++ 95 ∷ t) text
+
+-- the code by the kind: `xs` and the population, `xp` or `xq` and the period, and the least candidate
+abbrev pub code_by_kind : RuleSets → Cells → Kind → Option (List ℕ)
+code_by_kind r X Empty = None
+code_by_kind r X Still = with_prefix (codes "xs") (set.len X) (least_text (candidates r X 1))
+code_by_kind r X (Oscillator p) = with_prefix (codes "xp") p (least_text (candidates r X p))
+code_by_kind r X (Ship p dx dy) = with_prefix (codes "xq") p (least_text (candidates r X p))
+code_by_kind r X Unresolved = None
+
+-- the code of X under a limit of the period, if it has one
+unfoldable pub code_of : RuleSets → Cells → ℕ → Option (List ℕ)
+code_of r X limit = code_by_kind r X (kind_of r X limit)
+
+-- ---- when two patterns are one object
+
+-- X has a cell and a period
+pub record IsPeriodic (r : RuleSets) (X : Cells) : Type 0 where
+  pub cells : X ≢ set.empty
+  pub period : ℕ
+  pub dx : ℤ
+  pub dy : ℤ
+  pub has_period : HasPeriod r X period dx dy
+
+-- both are periodic, and an orientation and a move take a phase of Y to X
+pub record Same (r : RuleSets) (X Y : Cells) : Type 0 where
+  pub first : IsPeriodic r X
+  pub second : IsPeriodic r Y
+  pub phase : ℕ
+  pub below : phase < second.period
+  pub orientation : Orientation
+  pub dx : ℤ
+  pub dy : ℤ
+  pub taken : image (moved_cell dx dy) (image (turned_cell orientation) (generation_of r Y phase)) ≡ X

@@ -1,0 +1,35 @@
+-- Which cells a Wechsler text spells.
+use Rattle.std.specs.Prelude.{ℕ, ◌+◌, ◌-◌, ◌/◌, ◌%◌, ◌^◌, Bool, true, false, ◌&&◌, ◌==◌, nat_lt, if◌then◌else◌, List, [], ◌∷◌, map, pos}
+use Rattle.std.specs.List.{filter, range_with_len}
+use Rattle.std.specs.FinSet as set
+use Rattle.life_core.specs.declared.cell.Cell.{Cell}
+use Rattle.life_core.specs.Pattern.{Cells}
+
+-- the value of a character
+abbrev pub value_of : ℕ → ℕ
+value_of c = if nat_lt c 58 then c - 48 else c - 87
+
+-- whether the bit of this number is set
+abbrev pub has_bit : ℕ → ℕ → Bool
+has_bit n value = ((value / 2 ^ n) % 2) == 1
+
+-- whether a text spells the cell in column x and row y; the text goes on at column k of the strip whose top row is row 0, behind a `y` where the flag is set
+unfoldable pub spells_cell : ℕ → Bool → List ℕ → ℕ → ℕ → Bool
+spells_cell k behind_y [] x y = false
+spells_cell k true (c ∷ text) x y = spells_cell (k + 4 + value_of c) false text x y
+spells_cell k false (c ∷ text) x y =
+    if c == 122 then (if nat_lt y 5 then false else spells_cell 0 false text x (y - 5))
+    else if c == 48 then spells_cell (k + 1) false text x y
+    else if c == 119 then spells_cell (k + 2) false text x y
+    else if c == 120 then spells_cell (k + 3) false text x y
+    else if c == 121 then spells_cell k true text x y
+    else if (k == x) && nat_lt y 5 then has_bit y (value_of c)
+    else spells_cell (k + 1) false text x y
+
+-- the cell of place i of a box of 40 columns, row by row
+abbrev pub cell_of_place : ℕ → Cell
+cell_of_place i = record { row = pos (i / 40); column = pos (i % 40) }
+
+-- the cells of the box of 40 by 40 that a text spells
+unfoldable pub decoded : List ℕ → Cells
+decoded text = set.from_list (map cell_of_place (filter (λ i. spells_cell 0 false text (i % 40) (i / 40)) (range_with_len 0 1600)))

@@ -1,0 +1,57 @@
+-- What makes the definitions of kinds and codes believable, and what a code is good for.
+use Rattle.std.specs.Prelude.{◌≡◌, ◌↔◌, ℕ, ◌<◌, ◌≤◌, ◌%◌, MatchOption, ℤ, true, false, Some, List}
+use Rattle.std.specs.Ordering.{is_gt}
+use Rattle.life_core.specs.declared.orientation.Orientation.{Orientation}
+use Rattle.life_core.specs.Cell.{moved_cell}
+use Rattle.life_core.specs.Pattern.{Cells, image, normal}
+use Rattle.life_core.specs.Rule.{RuleSets}
+use Rattle.life_core.specs.Generations.{generation_of}
+use Rattle.life_code.specs.declared.kinds.Kind.{Kind}
+use Rattle.life_code.specs.Period.{HasPeriod, HasKind, kind_of}
+use Rattle.life_code.specs.Wechsler.{wechsler}
+use Rattle.life_code.specs.Codes.{fits, shape, candidates, text_cmp, least_text, code_of, IsPeriodic, Same}
+use Rattle.life_code.specs.Open.{Spells}
+
+-- A set has one kind, and the kind says what it means.
+abbrev pub OneKind : Type 0
+OneKind = (r : RuleSets) (X : Cells) (limit : ℕ) (k : Kind) → HasKind r X limit k ↔ (kind_of r X limit ≡ k)
+
+-- The phases of a periodic set form one cycle: generation i is generation i % p, moved ..
+abbrev pub PhasesComeAgain : Type 0
+PhasesComeAgain = (r : RuleSets) (X : Cells) (p : ℕ) (dx dy : ℤ) → HasPeriod r X p dx dy → (i : ℕ) → (ex : ℤ) × (ey : ℤ) × (generation_of r X i ≡ image (moved_cell ex ey) (generation_of r X (i % p)))
+
+-- .. and no two of the first p are one but for a move.
+abbrev pub PhasesDiffer : Type 0
+PhasesDiffer = (r : RuleSets) (X : Cells) (p : ℕ) (dx dy : ℤ) → HasPeriod r X p dx dy → (i j : ℕ) → i < j → j < p → (ex ey : ℤ) → ¬ (generation_of r X j ≡ image (moved_cell ex ey) (generation_of r X i))
+
+-- Two normal sets of at most 40 by 40 have two texts.
+abbrev pub TextsTellApart : Type 0
+TextsTellApart = (X Y : Cells) → normal X ≡ X → normal Y ≡ Y → fits X ≡ true → fits Y ≡ true → wechsler X ≡ wechsler Y → X ≡ Y
+
+-- a text is the one of a phase in an orientation
+abbrev pub IsCandidate : RuleSets → Cells → ℕ → List ℕ → Type 0
+IsCandidate r X p text = (i : ℕ) × (i < p) × (o : Orientation) × (fits (shape o (generation_of r X i)) ≡ true) × (wechsler (shape o (generation_of r X i)) ≡ text)
+
+-- The least candidate is a candidate that no other undercuts, and there is none only where there is no candidate.
+abbrev pub LeastIsLeast : Type 0
+LeastIsLeast = (r : RuleSets) (X : Cells) (p : ℕ) → MatchOption (least_text (candidates r X p)) ((text : List ℕ) → ¬ IsCandidate r X p text) (λ text. IsCandidate r X p text × ((other : List ℕ) → IsCandidate r X p other → is_gt (text_cmp text other) ≡ false))
+
+-- To be one object is an equivalence of periodic sets.
+abbrev pub SameIsEquivalence : Type 0
+SameIsEquivalence = (r : RuleSets) → ((X : Cells) → IsPeriodic r X → Same r X X) × ((X Y : Cells) → Same r X Y → Same r Y X) × ((X Y Z : Cells) → Same r X Y → Same r Y Z → Same r X Z)
+
+-- Sets that are one object have one code, or none both.
+abbrev pub CodeIsInvariant : Type 0
+CodeIsInvariant = (r : RuleSets) (X Y : Cells) (limit : ℕ) → Same r X Y → code_of r X limit ≡ code_of r Y limit
+
+-- Two codes are equal exactly where the sets are one object, whatever the limits.
+abbrev pub CodeIsComplete : Type 0
+CodeIsComplete = (r : RuleSets) (X Y : Cells) (limit other : ℕ) (s t : List ℕ) → code_of r X limit ≡ Some s → code_of r Y other ≡ Some t → (s ≡ t) ↔ Same r X Y
+
+-- A code spells a set, which has that code.
+abbrev pub CodeSpells : Type 0
+CodeSpells = (r : RuleSets) (X : Cells) (limit : ℕ) (text : List ℕ) → limit ≤ 999999 → code_of r X limit ≡ Some text → (Y : Cells) × Spells text Y × (code_of r Y limit ≡ Some text)
+
+-- A text spells one set at most.
+abbrev pub SpellsOne : Type 0
+SpellsOne = (text : List ℕ) (X Y : Cells) → Spells text X → Spells text Y → X ≡ Y

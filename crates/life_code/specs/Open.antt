@@ -1,0 +1,69 @@
+-- Which set of cells a code spells, and what a refusal of a code says.
+use Rattle.std.specs.Prelude.{◌≡◌, ◌≢◌, ◌⊎◌, ℕ, Bool, true, false, not, ◌&&◌, ◌==◌, nat_le, Some, List, [], ◌∷◌, ◌++◌, length, codes}
+use Rattle.std.specs.List.{list_all}
+use Rattle.std.specs.FinSet as set
+use Rattle.life_core.specs.Pattern.{Cells, normal}
+use Rattle.life_core.specs.Rule.{RuleSets}
+use Rattle.life_code.specs.declared.kinds.Kind.TheVariants.{Unresolved}
+use Rattle.life_code.specs.declared.open.CodeFault.{CodeFault}
+use Rattle.life_code.specs.declared.open.CodeFault.TheVariants.{BadText, NotCanonical, NotWithinLimit, Memory}
+use Rattle.life_code.specs.Period.{kind_of}
+use Rattle.life_code.specs.Wechsler.{wechsler}
+use Rattle.life_code.specs.Codes.{fits, code_of}
+
+-- the numbers of the faults
+abbrev pub fault_number : CodeFault → ℕ
+fault_number BadText = 1
+fault_number NotCanonical = 2
+fault_number NotWithinLimit = 3
+fault_number Memory = 4
+
+-- what a fault is called
+abbrev pub fault_name : CodeFault → List ℕ
+fault_name BadText = codes "bad-text"
+fault_name NotCanonical = codes "not-canonical"
+fault_name NotWithinLimit = codes "not-within-limit"
+fault_name Memory = codes "memory"
+
+-- a prefix of a code
+abbrev pub IsPrefix : List ℕ → Type 0
+IsPrefix prefix = (prefix ≡ codes "xs") ⊎ ((prefix ≡ codes "xp") ⊎ (prefix ≡ codes "xq"))
+
+-- a digit from `0` to `9`
+abbrev pub is_digit : ℕ → Bool
+is_digit b = nat_le 48 b && nat_le b 57
+
+-- a number in a code: one to six digits, the first of them not `0`
+abbrev pub is_number : List ℕ → Bool
+is_number [] = false
+is_number (digit ∷ digits) = not (digit == 48) && nat_le (length digits) 5 && list_all is_digit (digit ∷ digits)
+
+-- a prefix and a number
+pub record IsFront (front : List ℕ) : Type 0 where
+  pub prefix : List ℕ
+  pub is_prefix : IsPrefix prefix
+  pub number : List ℕ
+  pub is_number : is_number number ≡ true
+  pub parts : front ≡ prefix ++ number
+
+-- the text is the Wechsler text of X, which is normal, not empty, and at most 40 by 40
+pub record IsWechsler (text : List ℕ) (X : Cells) : Type 0 where
+  pub text_is : text ≡ wechsler X
+  pub at_origin : normal X ≡ X
+  pub cells : X ≢ set.empty
+  pub small : fits X ≡ true
+
+-- the text is a prefix, a number, `_`, and the Wechsler text of X
+pub record Spells (text : List ℕ) (X : Cells) : Type 0 where
+  pub front : List ℕ
+  pub is_front : IsFront front
+  pub back : List ℕ
+  pub is_wechsler : IsWechsler back X
+  pub parts : text ≡ front ++ 95 ∷ back
+
+-- what a refusal of a code says: it spells no set; the set that it spells has no period within the limit; or that set has another code, or none
+abbrev pub Refuses : RuleSets → List ℕ → ℕ → CodeFault → Type 0
+Refuses r text limit BadText = (X : Cells) → ¬ Spells text X
+Refuses r text limit NotWithinLimit = (X : Cells) × Spells text X × (kind_of r X limit ≡ Unresolved)
+Refuses r text limit NotCanonical = (X : Cells) × Spells text X × (kind_of r X limit ≢ Unresolved) × (code_of r X limit ≢ Some text)
+Refuses r text limit Memory = Unit {0}

@@ -1,0 +1,62 @@
+-- Periods and kinds of patterns (LifeWiki, "Period", "Still life", "Oscillator" and "Spaceship").
+use Rattle.std.specs.Prelude.{◌≡◌, ◌≢◌, ℕ, ◌<◌, ◌≤◌, Bool, ◌&&◌, ◌==◌, if◌then◌else◌, Option, Some, None, ℤ, pos, ◌-ℤ◌}
+use Rattle.std.specs.List.{find, range_with_len}
+use Rattle.std.specs.Ordering.{int_eq}
+use Rattle.std.specs.FinSet as set
+use Rattle.life_core.specs.Cell.{moved_cell}
+use Rattle.life_core.specs.Pattern.{Cells, image, corner, normal}
+use Rattle.life_core.specs.Rule.{RuleSets}
+use Rattle.life_core.specs.Generations.{generation_of}
+use Rattle.life_code.specs.declared.kinds.Kind.{Kind}
+use Rattle.life_code.specs.declared.kinds.Kind.TheVariants.{Empty, Still, Oscillator, Ship, Unresolved}
+
+-- ---- what a kind says
+
+-- generation p of X is X moved dx columns to the right and dy rows down
+abbrev pub Returns : RuleSets → Cells → ℕ → ℤ → ℤ → Type 0
+Returns r X p dx dy = generation_of r X p ≡ image (moved_cell dx dy) X
+
+-- the period of X is p, in which it moves by dx and dy: the least number of generations, from 1 on, after which it is X moved
+abbrev pub HasPeriod : RuleSets → Cells → ℕ → ℤ → ℤ → Type 0
+HasPeriod r X p dx dy = (1 ≤ p) × Returns r X p dx dy × ((q : ℕ) → 1 ≤ q → q < p → (ex ey : ℤ) → ¬ Returns r X q ex ey)
+
+-- what each kind says of X under a limit of the period
+abbrev pub HasKind : RuleSets → Cells → ℕ → Kind → Type 0
+HasKind r X limit Empty = X ≡ set.empty
+HasKind r X limit Still = (X ≢ set.empty) × (1 ≤ limit) × HasPeriod r X 1 (pos 0) (pos 0)
+HasKind r X limit (Oscillator p) = (X ≢ set.empty) × (p ≤ limit) × (1 < p) × HasPeriod r X p (pos 0) (pos 0)
+HasKind r X limit (Ship p dx dy) = (X ≢ set.empty) × (p ≤ limit) × ¬ ((dx ≡ pos 0) × (dy ≡ pos 0)) × HasPeriod r X p dx dy
+HasKind r X limit Unresolved = (X ≢ set.empty) × ((p : ℕ) → 1 ≤ p → p ≤ limit → (dx dy : ℤ) → ¬ Returns r X p dx dy)
+
+-- ---- the kind
+
+-- whether two sets are one
+abbrev pub same_cells : Cells → Cells → Bool
+same_cells X Y = set.is_subset X Y && set.is_subset Y X
+
+-- whether generation p is X moved: whether their normal sets are one
+unfoldable pub returns : RuleSets → Cells → ℕ → Bool
+returns r X p = same_cells (normal X) (normal (generation_of r X p))
+
+-- the least p from 1 to the limit at which X returns
+abbrev pub period_of : RuleSets → Cells → ℕ → Option ℕ
+period_of r X limit = find (returns r X) (range_with_len 1 limit)
+
+-- the kind of a pattern of period p that moves by dx and dy in it
+abbrev pub kind_of_period : ℕ → ℤ → ℤ → Kind
+kind_of_period p dx dy = if int_eq dx (pos 0) && int_eq dy (pos 0) then (if p == 1 then Still else Oscillator p) else Ship p dx dy
+
+-- the kind by the period, if there is one; the move is that of the corner
+abbrev pub kind_at : RuleSets → Cells → Option ℕ → Kind
+kind_at r X None = Unresolved
+kind_at r X (Some p) = kind_of_period p ((corner (generation_of r X p)).column -ℤ (corner X).column) ((corner (generation_of r X p)).row -ℤ (corner X).row)
+
+-- the kind of X under a limit of the period
+unfoldable pub kind_of : RuleSets → Cells → ℕ → Kind
+kind_of r X limit = if set.len X == 0 then Empty else kind_at r X (period_of r X limit)
+
+-- the period of a kind, if it has one, is at most the limit
+abbrev pub PeriodWithin : ℕ → Kind → Type 0
+PeriodWithin limit (Oscillator p) = p ≤ limit
+PeriodWithin limit (Ship p dx dy) = p ≤ limit
+PeriodWithin limit k = Unit {0}

@@ -1,0 +1,60 @@
+-- The extended Wechsler text of a normal set (LifeWiki, "Apgcode": the set is cut into strips of five rows, each column of a strip is one
+-- character, and runs of empty columns have characters of their own).
+use Rattle.std.specs.Prelude.{ℕ, ◌+◌, ◌-◌, ◌*◌, ◌/◌, max, ◌==◌, nat_lt, if◌then◌else◌, List, [], ◌∷◌, ◌++◌, map, ℤ, pos, nat_abs}
+use Rattle.std.specs.List.{fold, range_with_len, join_with_byte}
+use Rattle.std.specs.FinSet as set
+use Rattle.life_core.specs.declared.cell.Cell.{Cell}
+use Rattle.life_core.specs.Pattern.{Cells}
+
+-- ---- the box of a normal set
+
+-- one more than the greatest that f gives at the cells of X, where it gives nothing below 0; and 0 where X is empty
+abbrev pub past_greatest : (Cell → ℤ) → Cells → ℕ
+past_greatest f X = fold (λ n c. max n (nat_abs (f c) + 1)) 0 (set.items X)
+
+-- the number of columns of a normal set's box
+unfoldable pub width : Cells → ℕ
+width X = past_greatest (λ c. c.column) X
+
+-- the number of its rows
+unfoldable pub height : Cells → ℕ
+height X = past_greatest (λ c. c.row) X
+
+-- ---- characters
+
+-- the character of a value up to 35: `0` to `9`, then `a` to `z`
+abbrev pub character : ℕ → ℕ
+character n = if nat_lt n 10 then 48 + n else 87 + n
+
+-- a run of n zero columns before another column: `0`, `w` and `x` for one, two and three, and `y` with a character for 4 to 39
+abbrev pub zero_run : ℕ → List ℕ
+zero_run n =
+    if n == 0 then []
+    else if n == 1 then 48 ∷ []
+    else if n == 2 then 119 ∷ []
+    else if n == 3 then 120 ∷ []
+    else 121 ∷ character (n - 4) ∷ []
+
+-- the columns of a strip, spelled behind n zero columns: those of zero at the end are left out
+unfoldable pub spelled : ℕ → List ℕ → List ℕ
+spelled n [] = []
+spelled n (value ∷ columns) = if value == 0 then spelled (n + 1) columns else zero_run n ++ character value ∷ spelled 0 columns
+
+-- ---- the text
+
+-- 1 where the cell in this column and row is live
+abbrev pub bit_at : Cells → ℕ → ℕ → ℕ
+bit_at X x y = if set.contains X (record { row = pos y; column = pos x }) then 1 else 0
+
+-- the value of column x of strip s: its top row is the bit of value 1
+unfoldable pub column_value : Cells → ℕ → ℕ → ℕ
+column_value X s x =
+    bit_at X x (5 * s) + 2 * bit_at X x (5 * s + 1) + 4 * bit_at X x (5 * s + 2) + 8 * bit_at X x (5 * s + 3) + 16 * bit_at X x (5 * s + 4)
+
+-- the text of strip s
+unfoldable pub strip : Cells → ℕ → List ℕ
+strip X s = spelled 0 (map (column_value X s) (range_with_len 0 (width X)))
+
+-- the texts of the strips of the box from the top, joined by `z`
+unfoldable pub wechsler : Cells → List ℕ
+wechsler X = join_with_byte 122 (map (strip X) (range_with_len 0 ((height X + 4) / 5)))

@@ -1,0 +1,31 @@
+//! Kinds of patterns.
+ghost use Rattle.std.specs.Prelude.{◌≡◌};
+ghost use Rattle.life_code.specs.Period.{kind_of_period};
+
+/// What becomes of a pattern within a limit of generations.
+#[derive(Clone, Copy, Debug, PartialEq, Eq)]
+pub enum Kind {
+    /// It has no cell.
+    Empty,
+    /// Each generation is the one before.
+    Still,
+    /// It is back in its place after this many generations, 2 or more, and not before.
+    Oscillator(u32),
+    /// It is back after this many generations, moved by these columns and rows, and not before.
+    Ship(u32, i64, i64),
+    /// It is not back within the limit; patterns that die are of this kind too.
+    Unresolved,
+}
+
+/// The kind of a pattern of this period that moves by this many columns and rows in it.
+pub(crate) fn kind_of_period(period: u32, dx: i64, dy: i64) -> Kind
+    ensures { result ≡ kind_of_period period dx dy }
+{
+    if dx != 0 || dy != 0 {
+        Kind::Ship(period, dx, dy)
+    } else if period == 1 {
+        Kind::Still
+    } else {
+        Kind::Oscillator(period)
+    }
+}

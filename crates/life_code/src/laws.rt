@@ -1,0 +1,17 @@
+//! What holds of all kinds and codes.
+ghost use Rattle.life_code.specs.Laws.{OneKind, PhasesComeAgain, PhasesDiffer, TextsTellApart, LeastIsLeast, SameIsEquivalence, CodeIsInvariant, CodeIsComplete, CodeSpells, SpellsOne};
+
+/// A pattern has one kind; a code names exactly one object, which is a class of patterns that moves,
+/// turns and reflections take to phases of one another. A law: calling it does nothing.
+pub fn laws_of_codes()
+    ensures one_kind { OneKind }
+    ensures phases_come_again { PhasesComeAgain }
+    ensures phases_differ { PhasesDiffer }
+    ensures texts_tell_apart { TextsTellApart }
+    ensures least { LeastIsLeast }
+    ensures equivalence { SameIsEquivalence }
+    ensures invariant { CodeIsInvariant }
+    ensures complete { CodeIsComplete }
+    ensures spells { CodeSpells }
+    ensures spells_one { SpellsOne }
+{}

@@ -1,0 +1,20 @@
+//! Kinds and codes of periodic patterns.
+#![tactic(auto)]
+
+mod codes;
+mod decode;
+mod kinds;
+mod laws;
+mod object;
+mod open;
+mod period;
+mod wechsler;
+
+pub use kinds::Kind;
+pub use laws::laws_of_codes;
+pub use object::{Coded, code, same_object};
+pub use open::{CodeFault, open_code};
+pub use period::{PERIOD_LIMIT, kind, kind_by};
+
+#[cfg(test)]
+mod tests;

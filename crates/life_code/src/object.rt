@@ -1,0 +1,94 @@
+//! Patterns with their codes.
+ghost use Rattle.std.specs.Prelude.{◌≡◌, ◌≢◌, ◌≤◌, ◌↔◌, None, Some, IfOk, IsTrue, MatchOption};
+ghost use Rattle.life_core.specs.Pattern.{Cells, IsWithin};
+ghost use Rattle.life_code.specs.Period.{kind_of};
+ghost use Rattle.life_code.specs.Codes.{code_of, Same};
+ghost use Rattle.life_code.specs.Object.{IsCodeOf};
+
+use crate::codes::code_by_kind;
+use crate::kinds::Kind;
+use crate::period::{PERIOD_LIMIT, kind};
+use life_core::{Fault, Pattern, Rule};
+use std::alloc::{Allocator, Global};
+use std::marker::Model;
+
+/// A pattern with the code that it has under a rule and a limit of the period. Only `code` makes one.
+#[derive(Debug, Drop)]
+pub struct Coded<A: Allocator = Global> {
+    rule: Rule,
+    pattern: Pattern<A>,
+    limit: u32,
+    text: Vec<u8, A>,
+}
+
+impl<A: Allocator> Model for Coded<A> {
+    ghost use Rattle.life_code.specs.Object.{CodedCells, coded_object, IsCoded};
+
+    ghost Value = { CodedCells };
+
+    ghost coded = { coded_object };
+
+    ghost view = { λ c. record { rule = c.rule; cells = c.pattern; limit = c.limit; text = c.text.items } };
+
+    ghost invariant = { λ c. IsCoded (record { rule = c.rule; cells = c.pattern; limit = c.limit; text = c.text.items }) };
+}
+
+impl<A: Allocator> Coded<A> {
+    /// The code.
+    pub fn text(&self) -> &[u8]
+        ensures { result.now ≡ self.now.text }
+    {
+        self.text.as_slice()
+    }
+}
+
+/// The code of a pattern whose kind under the limit is known.
+pub(crate) fn code_of_kind<A: Allocator + Copy>(
+    alloc: A,
+    rule: &Rule,
+    pattern: &Pattern<A>,
+    limit: u32,
+    kind: Kind,
+) -> Result<Option<Coded<A>>, Fault>
+    requires few { limit ≤ PERIOD_LIMIT }
+    requires room { IsWithin 400_000_000 pattern.now }
+    requires kind { kind ≡ kind_of rule.now pattern.now limit }
+    ensures { IfOk result (IsCodeOf rule.now pattern.now limit) }
+{
+    match code_by_kind(alloc, rule, pattern, kind)? {
+        None => Ok(None),
+        Some(text) => Ok(Some(Coded {
+            rule: *rule,
+            pattern: pattern.copy(alloc)?,
+            limit,
+            text,
+        })),
+    }
+}
+
+/// The pattern with its code under a limit of the period, if it has one: it has none where it is
+/// empty, where it is not back within the limit, and where no phase of it fits in a box of 40 by 40.
+pub fn code<A: Allocator + Copy>(
+    alloc: A,
+    rule: &Rule,
+    pattern: &Pattern<A>,
+    limit: u32,
+) -> Result<Option<Coded<A>>, Fault>
+    requires from_one { 1 ≤ limit }
+    requires few { limit ≤ PERIOD_LIMIT }
+    requires room { IsWithin 400_000_000 pattern.now }
+    ensures value { IfOk result (IsCodeOf rule.now pattern.now limit) }
+    // All patterns that are the same object have the same code, or none each.
+    ensures object { IfOk result (λ o. (X : Cells) → Same rule.now X pattern.now → MatchOption o (code_of rule.now X limit ≡ None) (λ c. code_of rule.now X limit ≡ Some c.text)) }
+{
+    let kind = kind(alloc, rule, pattern, limit)?;
+    code_of_kind(alloc, rule, pattern, limit, kind)
+}
+
+/// Whether the patterns are one object: whether their rules are one, and an orientation and a move
+/// take a phase of the one to the other. The limits under which they were coded play no part.
+pub fn same_object<A: Allocator>(a: &Coded<A>, b: &Coded<A>) -> bool
+    ensures { IsTrue result ↔ (a.now.rule ≡ b.now.rule) × Same a.now.rule a.now.cells b.now.cells }
+{
+    a.rule == b.rule && a.text.as_slice() == b.text.as_slice()
+}

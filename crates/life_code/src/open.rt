@@ -1,0 +1,178 @@
+//! From a code to the pattern that it spells.
+ghost use Rattle.std.specs.Prelude.{◌≡◌, ◌≢◌, ◌≤◌, ◌↔◌, Some, IfOk, IfErr, IsTrue, MatchOption};
+ghost use Rattle.std.specs.Prelude.{◌==◌};
+ghost use Rattle.std.specs.List.{list_all, position};
+ghost use Rattle.life_core.specs.Pattern.{Cells};
+ghost use Rattle.life_code.specs.Codes.{code_of};
+ghost use Rattle.life_code.specs.Open.{IsPrefix, is_digit, is_number, IsFront, IsWechsler, Spells, Refuses};
+
+use crate::codes::text_of;
+use crate::decode::decoded;
+use crate::kinds::Kind;
+use crate::object::code_of_kind;
+use crate::period::{PERIOD_LIMIT, kind};
+use life_core::{Fault, Pattern, Rule};
+use std::alloc::{AllocError, Allocator};
+
+/// Why a text is not opened as a code. `NotWithinLimit` is judged before `NotCanonical`.
+#[derive(Clone, Copy, Debug, PartialEq, Eq)]
+pub enum CodeFault {
+    /// It is no prefix, number, `_` and Wechsler text.
+    BadText = 1,
+    /// The pattern that it spells has another code, or none.
+    NotCanonical = 2,
+    /// The pattern that it spells is not back within the limit.
+    NotWithinLimit = 3,
+    /// A growth was refused.
+    Memory = 4,
+}
+
+impl CodeFault {
+    ghost use Rattle.life_code.specs.Open.{fault_number, fault_name};
+
+    /// The fault's number, from 1 on.
+    pub fn number(self) -> u8
+        ensures { result ≡ fault_number self }
+    {
+        self as u8
+    }
+
+    /// What the fault is called, in small letters.
+    pub fn name(self) -> &'static str
+        ensures { result.now ≡ fault_name self }
+    {
+        match self {
+            CodeFault::BadText => "bad-text",
+            CodeFault::NotCanonical => "not-canonical",
+            CodeFault::NotWithinLimit => "not-within-limit",
+            CodeFault::Memory => "memory",
+        }
+    }
+}
+
+impl From<AllocError> for CodeFault {
+    ghost use Rattle.life_code.specs.declared.open.CodeFault.TheVariants.{Memory};
+
+    ghost from_gives = { λ _ fault. fault ≡ Memory };
+
+    fn from(_error: AllocError) -> CodeFault {
+        CodeFault::Memory
+    }
+}
+
+impl From<Fault> for CodeFault {
+    ghost use Rattle.life_code.specs.declared.open.CodeFault.TheVariants.{Memory};
+
+    ghost from_gives = { λ _ fault. fault ≡ Memory };
+
+    fn from(_fault: Fault) -> CodeFault {
+        CodeFault::Memory
+    }
+}
+
+/// Whether the bytes are digits.
+fn are_digits(bytes: &[u8]) -> bool
+    ensures { result ≡ list_all is_digit bytes.now }
+{
+    bytes.iter().all(|b| b.is_ascii_digit())
+}
+
+/// Whether the bytes are a number of a code: one to six digits, the first of them not `0`.
+fn is_number(bytes: &[u8]) -> bool
+    ensures { result ≡ is_number bytes.now }
+{
+    match bytes {
+        [] => false,
+        [first, ..] => *first != b'0' && bytes.len() <= 6 && are_digits(bytes),
+    }
+}
+
+/// Whether the bytes are a prefix of a code.
+fn is_prefix(bytes: &[u8]) -> bool
+    ensures { IsTrue result ↔ IsPrefix bytes.now }
+{
+    bytes == "xs".as_bytes() || bytes == "xp".as_bytes() || bytes == "xq".as_bytes()
+}
+
+/// Whether the bytes are a prefix and a number.
+fn is_front(front: &[u8]) -> bool
+    ensures { IsTrue result ↔ IsFront front.now }
+{
+    match front.split_at_checked(2) {
+        Some((prefix, number)) => is_prefix(prefix) && is_number(number),
+        None => false,
+    }
+}
+
+/// The pattern of a Wechsler text, if it is the text of one that is not empty.
+fn read_wechsler<A: Allocator + Copy>(alloc: A, text: &[u8]) -> Result<Option<Pattern<A>>, Fault>
+    ensures { IfOk result (λ o. MatchOption o ((X : Cells) → ¬ IsWechsler text.now X) (IsWechsler text.now)) }
+{
+    let pattern = decoded(alloc, text)?;
+    if pattern.population() == 0 {
+        return Ok(None);
+    }
+    let normal = pattern.normal(alloc)?;
+    if !normal.same(&pattern) {
+        return Ok(None);
+    }
+    let Some(again) = text_of(alloc, &pattern)? else {
+        return Ok(None);
+    };
+    if again.as_slice() == text {
+        Ok(Some(pattern))
+    } else {
+        Ok(None)
+    }
+}
+
+/// Where the first `_` stands.
+fn first_mark(text: &[u8]) -> Option<usize>
+    ensures { result ≡ position (λ b. b == 95) text.now }
+{
+    text.iter().position(|b| *b == b'_')
+}
+
+/// The pattern that a text spells, if it spells one.
+fn read_code<A: Allocator + Copy>(alloc: A, text: &[u8]) -> Result<Option<Pattern<A>>, Fault>
+    ensures { IfOk result (λ o. MatchOption o ((X : Cells) → ¬ Spells text.now X) (Spells text.now)) }
+{
+    let Some(mark) = first_mark(text) else {
+        return Ok(None);
+    };
+    if !is_front(&text[..mark]) {
+        return Ok(None);
+    }
+    read_wechsler(alloc, &text[mark + 1..])
+}
+
+/// The pattern that a code spells. A text that is refused, want of memory apart, is no pattern's code
+/// under the rule and the limit.
+pub fn open_code<A: Allocator + Copy>(
+    alloc: A,
+    rule: &Rule,
+    text: &[u8],
+    limit: u32,
+) -> Result<Pattern<A>, CodeFault>
+    requires from_one { 1 ≤ limit }
+    requires few { limit ≤ PERIOD_LIMIT }
+    ensures opened { IfOk result (λ X. Spells text.now X × (code_of rule.now X limit ≡ Some text.now)) }
+    ensures refused { IfErr result (Refuses rule.now text.now limit) }
+    ensures no_code { IfErr result (λ fault. fault ≢ CodeFault.Memory → (X : Cells) → code_of rule.now X limit ≢ Some text.now) }
+{
+    let Some(pattern) = read_code(alloc, text)? else {
+        return Err(CodeFault::BadText);
+    };
+    let kind = kind(alloc, rule, &pattern, limit)?;
+    if let Kind::Unresolved = kind {
+        return Err(CodeFault::NotWithinLimit);
+    }
+    let Some(coded) = code_of_kind(alloc, rule, &pattern, limit, kind)? else {
+        return Err(CodeFault::NotCanonical);
+    };
+    if coded.text() == text {
+        Ok(pattern)
+    } else {
+        Err(CodeFault::NotCanonical)
+    }
+}

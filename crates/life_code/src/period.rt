@@ -1,0 +1,54 @@
+//! The search for the period of a pattern.
+ghost use Rattle.std.specs.Prelude.{◌≡◌, ◌≤◌, IfOk};
+ghost use Rattle.life_core.specs.Pattern.{IsWithin};
+ghost use Rattle.life_code.specs.Period.{kind_of, HasKind};
+
+use crate::kinds::{Kind, kind_of_period};
+use life_core::{CellList, Fault, Pattern, Plane, Rule};
+use std::alloc::Allocator;
+
+/// The greatest limit of a period that may be asked for.
+pub const PERIOD_LIMIT: u32 = 1024;
+
+/// The kind of the pattern under a limit of its period, found on planes of the kind `P`.
+pub fn kind_by<A: Allocator + Copy, P: Plane<A>>(
+    alloc: A,
+    rule: &Rule,
+    pattern: &Pattern<A>,
+    limit: u32,
+) -> Result<Kind, Fault>
+    requires from_one { 1 ≤ limit }
+    requires few { limit ≤ PERIOD_LIMIT }
+    requires room { IsWithin 400_000_000 pattern.now }
+    ensures value { IfOk result (λ k. k ≡ kind_of rule.now pattern.now limit) }
+    ensures meaning { IfOk result (HasKind rule.now pattern.now limit) }
+{
+    if pattern.population() == 0 {
+        return Ok(Kind::Empty);
+    }
+    let start = P::from_pattern(alloc, pattern)?;
+    let mut plane = P::from_pattern(alloc, pattern)?;
+    for period in 1..limit + 1 {
+        plane.step(rule)?;
+        if let Some((dx, dy)) = start.shift_to(&plane) {
+            return Ok(kind_of_period(period, dx, dy));
+        }
+    }
+    Ok(Kind::Unresolved)
+}
+
+/// The kind of the pattern under a limit of its period.
+pub fn kind<A: Allocator + Copy>(
+    alloc: A,
+    rule: &Rule,
+    pattern: &Pattern<A>,
+    limit: u32,
+) -> Result<Kind, Fault>
+    requires from_one { 1 ≤ limit }
+    requires few { limit ≤ PERIOD_LIMIT }
+    requires room { IsWithin 400_000_000 pattern.now }
+    ensures value { IfOk result (λ k. k ≡ kind_of rule.now pattern.now limit) }
+    ensures meaning { IfOk result (HasKind rule.now pattern.now limit) }
+{
+    kind_by::<A, CellList<A>>(alloc, rule, pattern, limit)
+}

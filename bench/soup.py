@@ -5,6 +5,7 @@ The cells are drawn one in three in the rows of a square, until there are CELLS 
 file on every machine: the numbers come from a generator of our own (Marsaglia's xorshift, 64 bits).
 
 soup.py --long BYTES writes a file of exactly that many bytes with as many items as fit.
+soup.py --field OBJECTS SEED writes a field of scattered blocks, blinkers and gliders, each in a square of 6 by 6 of its own.
 """
 import sys
 
@@ -35,6 +36,23 @@ def rows_of(cells, seed):
             left -= live
             row.append("o" if live else "b")
         rows.append("".join(row))
+    return rows
+
+
+OBJECTS = [["oo", "oo"], ["ooo"], ["bo", "bbo", "ooo"]]
+
+
+def field_of(objects, seed):
+    """Rows of a field of 170 squares a row, each with a block, a blinker or a glider."""
+    source = numbers(seed)
+    rows = []
+    for first in range(0, objects, 170):
+        band = [[] for _ in range(6)]
+        for _ in range(min(170, objects - first)):
+            drawn = OBJECTS[next(source) % 3]
+            for number, row in enumerate(band):
+                row.append((drawn[number] if number < len(drawn) else "").ljust(6, "b"))
+        rows += ["".join(row) for row in band]
     return rows
 
 
@@ -74,7 +92,10 @@ def main():
         filler = "\n" * (size - used)
         sys.stdout.write(head + "".join(body) + filler + "!")
         return
-    rows = rows_of(int(sys.argv[1]), int(sys.argv[2]))
+    if sys.argv[1] == "--field":
+        rows = field_of(int(sys.argv[2]), int(sys.argv[3]))
+    else:
+        rows = rows_of(int(sys.argv[1]), int(sys.argv[2]))
     sys.stdout.write("x = %d, y = %d\n" % (max(len(row) for row in rows), len(rows)) + body_of(rows))
 
 

@@ -17,7 +17,7 @@ use Rattle.life_core.proofs.PatternMembers.{contains-image, contains-items, cont
 
 -- ---- cells as vectors
 
--- the cell at row 0 and column 0
+-- the origin of the plane; as a vector, no move
 abbrev pub origin : Cell
 origin = record { row = pos 0; column = pos 0 }
 

@@ -1,4 +1,5 @@
--- Parts of a set of cells: the classes of the chains of near cells. Cells at most 2 apart are taken together, for they can have a neighbour in common.
+-- Parts of a set of cells: the classes of the chains of near cells. Cells at most 2 apart are taken together, for they can have a neighbour in common
+-- (Life Lexicon, "cluster": each live cell is connected to every other by a path that does not pass through two consecutive dead cells).
 use Rattle.std.specs.Prelude.{◌≡◌, ℤ, pos, ◌+ℤ◌, Bool, true, false, cond, not, ◌&&◌, int_le, List, [], ◌∷◌}
 use Rattle.std.specs.declared.cmp.Ordering.TheVariants.{Less}
 use Rattle.std.specs.List.{AllByRecursion, Contains, list_any, filter}

@@ -1,4 +1,4 @@
--- The text of a tally, as comma-separated values.
+-- The text of a tally, as comma-separated values (RFC 4180, with a header line; lines end in a line feed alone).
 use Rattle.std.specs.Prelude.{◌≡◌, ℕ, List, [], ◌∷◌, ◌++◌, codes, Some, false, Vec}
 use Rattle.std.specs.Fmt.{decimal}
 use Rattle.std.specs.List.{flat_map}

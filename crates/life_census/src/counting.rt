@@ -10,7 +10,7 @@ ghost use Rattle.life_census.specs.Counting.{IsTally, IsKnown, HasShapeAt, HasCo
 use crate::code_text::CodeText;
 use crate::parts::clusters;
 use crate::rows::{Row, Rows, Tally};
-use life_code::code;
+use life_code::{PERIOD_LIMIT, code};
 use life_core::{Fault, Pattern, Rule};
 use std::alloc::{AllocError, Allocator};
 use std::cmp::Ordering;
@@ -32,7 +32,7 @@ pub fn tally<A: Allocator + Copy>(
     limit: u32,
 ) -> Result<Tally<A>, Fault>
     requires from_one { 1 ≤ limit }
-    requires few { limit ≤ 1024 }
+    requires few { limit ≤ PERIOD_LIMIT }
     requires room { IsWithin 400_000_000 pattern.now }
     ensures { IfOk result (IsTally (λ P. code_of rule.now P limit) (parts pattern.now)) }
 {
@@ -47,7 +47,7 @@ fn tally_of<A: Allocator + Copy>(
     limit: u32,
 ) -> Result<Tally<A>, Fault>
     requires from_one { 1 ≤ limit }
-    requires few { limit ≤ 1024 }
+    requires few { limit ≤ PERIOD_LIMIT }
     requires room { All (IsWithin 400_000_000) clusters.now }
     ensures { IfOk result (IsTally (λ P. code_of rule.now P limit) clusters.now) }
 {
@@ -77,7 +77,7 @@ fn known_place<A: Allocator + Copy>(
     known: &mut Vec<Known<A>, A>,
 ) -> Result<usize, Fault>
     requires from_one { 1 ≤ limit }
-    requires few { limit ≤ 1024 }
+    requires few { limit ≤ PERIOD_LIMIT }
     requires room { IsWithin 400_000_000 cluster.now }
     requires known { All (IsKnown rule.now limit) known.old.items }
     ensures known { OnOk result (All (IsKnown rule.now limit) known.new.items) }
@@ -121,7 +121,7 @@ fn code_of_cluster<A: Allocator + Copy>(
     limit: u32,
 ) -> Result<Option<CodeText<A>>, Fault>
     requires from_one { 1 ≤ limit }
-    requires few { limit ≤ 1024 }
+    requires few { limit ≤ PERIOD_LIMIT }
     requires room { IsWithin 400_000_000 cluster.now }
     ensures { IfOk result (λ o. o ≡ code_of rule.now cluster.now limit) }
 {

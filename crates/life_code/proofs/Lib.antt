@@ -7,6 +7,7 @@ pub mod PeriodSteps
 pub mod WechslerReading
 pub mod WechslerTexts
 pub mod WechslerGrid
+pub mod WechslerLengths
 pub mod CodesSteps
 pub mod WechslerSteps
 pub mod DecodeLemmas

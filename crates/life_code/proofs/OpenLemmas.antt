@@ -1,19 +1,15 @@
 -- Which texts spell a set, and what the refusals of a code are worth.
-use Rattle.std.proofs.Common.{◌≡◌, ◌≢◌, ℕ, zero, suc, ◌+◌, ◌%◌, ◌/◌, ◌<◌, ◌≤◌, Bool, true, false, cond, Option, Some, None, List, [], ◌∷◌, ◌++◌, map, Result, Ok, Err, refl, sym, ap, ◌∙◌, subst, arith, true≢false}
+use Rattle.std.proofs.Common.{◌≡◌, ◌≢◌, ℕ, ◌≤◌, Bool, true, false, cond, Option, Some, None, List, [], ◌∷◌, ◌++◌, Result, Ok, Err, refl, sym, ap, ◌∙◌, subst, true≢false}
 use Rattle.std.specs.Prelude.{IfOk, IsTrue, MatchOption, ◌↔◌}
 use Rattle.std.specs.Bool.{Decides}
-use Rattle.std.specs.List.{AllByRecursion, filter, range_with_len}
 use Rattle.std.specs.FinSet as set
-use Rattle.std.proofs.lemmas.Int.{ints}
-use Rattle.std.proofs.lemmas.List.Elements.{All-from_recursion}
-use Rattle.life_core.specs.Cell.{cell_cmp, IsCellWithin}
+use Rattle.life_core.specs.Cell.{cell_cmp}
 use Rattle.life_core.specs.Pattern.{Cells, normal, IsWithin}
-use Rattle.life_core.proofs.GenerationsLaws.{within_more}
-use Rattle.life_core.proofs.PatternMembers.{within_from_list}
 use Rattle.life_code.specs.Wechsler.{wechsler}
-use Rattle.life_code.specs.Decode.{spells_cell, cell_of_place, decoded}
+use Rattle.life_code.specs.Decode.{decoded}
 use Rattle.life_code.specs.Codes.{fits, text_of}
 use Rattle.life_code.specs.Open.{IsFront, IsWechsler, Spells}
+use Rattle.life_code.proofs.DecodeLemmas.{decoded_within}
 use Rattle.life_code.proofs.WechslerGrid.{decoded_wechsler}
 use Rattle.life_code.proofs.CodeMarks.{NoMark, front_unmarked, before_mark, behind_mark, not_unmarked}
 
@@ -44,30 +40,13 @@ read_behind (Ok (Some X)) text front back h e is read = record { front = front; 
 pub decoded_is : (text : List ℕ) (X : Cells) → IsWechsler text X → decoded text ≡ X
 decoded_is text X is = ap decoded is.text_is ∙ decoded_wechsler X is.at_origin is.small
 
--- the cells of places lie within the box
-place_within : (i : ℕ) → i < 1600 → IsCellWithin 39 (cell_of_place i)
-place_within i h = record { top = omega (arith, ints); bottom = omega (arith, ints); left = omega (arith, ints); right = omega (arith, ints) }
-
-each_within : (p : ℕ → Bool) (a n : ℕ) → a + n ≤ 1600 → AllByRecursion (IsCellWithin 39) (map cell_of_place (filter p (range_with_len a n)))
-each_within p a zero h = tt
-each_within p a (suc n) h =
-    let rest = each_within p (a + 1) n (omega arith) in
-    elim (p a) as (λ b. AllByRecursion (IsCellWithin 39) (map cell_of_place (cond b (a ∷ filter p (range_with_len (a + 1) n)) (filter p (range_with_len (a + 1) n))))) [
-      | true ↦ (place_within a (omega arith), rest)
-      | false ↦ rest
-    ]
-
 -- what is decoded lies within the box
-decoded_within : (text : List ℕ) → IsWithin 39 (decoded text)
-unfolding decoded
-decoded_within text = within_from_list 39 _ (All-from_recursion (IsCellWithin 39) _ (each_within (λ i. spells_cell 0 false text (i % 40) (i / 40)) 0 1600 (omega arith)))
-
 pub decoded_room : (text : List ℕ) (X : Cells) (k : ℕ) → 39 ≤ k → X ≡ decoded text → IsWithin k X
-decoded_room text X k le is = within_more 39 k X le (subst (IsWithin 39) (sym is) (decoded_within text))
+decoded_room text X k far is = subst (IsWithin k) (sym is) (decoded_within k far text)
 
 -- a set that a text spells lies within the box
 pub spelled_room : (text : List ℕ) (X : Cells) (k : ℕ) → 39 ≤ k → Spells text X → IsWithin k X
-spelled_room text X k le s = decoded_room s.back X k le (sym (decoded_is s.back X s.is_wechsler))
+spelled_room text X k far s = decoded_room s.back X k far (sym (decoded_is s.back X s.is_wechsler))
 
 pub refused_empty : (text : List ℕ) (Z : Cells) → Z ≡ decoded text → set.len Z ≡ 0 → (X : Cells) → IsWechsler text X → ⊥
 refused_empty text Z is none X w = w.cells (sym (is ∙ decoded_is text X w) ∙ set.empty_of_len Z none)

@@ -112,10 +112,6 @@ module _ (r : RuleSets) where
   period_of_phase X p v k (h, e, first) =
       (h, return_of_phase X p v k e, λ q from below ex ey back. first q from below ex ey (return_from_phase X p v h e k q (cell_at (ex, ey)) back))
 
-  pub period_from_phase : (X : Cells) (p : ℕ) (v : Cell) → 1 ≤ p → Returns r X p v.column v.row → (k q : ℕ) (w : Cell) → HasPeriod r (generation_of r X k) q w.column w.row → HasPeriod r X q w.column w.row
-  period_from_phase X p v h e k q w (from, back, first) =
-      (from, return_from_phase X p v h e k q w back, λ n some below ex ey again. first n some below ex ey (return_of_phase X n (cell_at (ex, ey)) k again))
-
   -- the period is that of each placement, and the move is turned
   pub period_of_placed : (X : Cells) (p : ℕ) (w : Cell) (o : Orientation) (v : Cell) → HasPeriod r X p w.column w.row → HasPeriod r (placed o v X) p (turned_cell o w).column (turned_cell o w).row
   period_of_placed X p w o v (h, e, first) = (

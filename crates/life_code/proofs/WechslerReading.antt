@@ -60,7 +60,7 @@ bit_zero y = ap (λ n. nat_eq (n % 2) 1) (zero_over (2 ^ y))
     zero_over : (n : ℕ) → 0 / n ≡ 0
     zero_over n = grind arith
 
-zero_run_long : (n : ℕ) → 4 ≤ n → zero_run n ≡ 121 ∷ character (n - 4) ∷ []
+pub zero_run_long : (n : ℕ) → 4 ≤ n → zero_run n ≡ 121 ∷ character (n - 4) ∷ []
 zero_run_long n h =
     cond-false (nat_eq n 0) _ _ (ne_eqb n 0 (λ e. omega arith))
     ∙ cond-false (nat_eq n 1) _ _ (ne_eqb n 1 (λ e. omega arith))

@@ -1,16 +1,11 @@
 -- The extended Wechsler text of a normal set (LifeWiki, "Apgcode": the set is cut into strips of five rows, each column of a strip is one
 -- character, and runs of empty columns have characters of their own).
-use Rattle.std.specs.Prelude.{ℕ, ◌+◌, ◌-◌, ◌*◌, ◌/◌, max, ◌==◌, nat_lt, if◌then◌else◌, List, [], ◌∷◌, ◌++◌, map, ℤ, pos, nat_abs}
-use Rattle.std.specs.List.{fold, range_with_len, join_with_byte}
+use Rattle.std.specs.Prelude.{ℕ, ◌+◌, ◌-◌, ◌*◌, ◌/◌, ◌==◌, nat_lt, if◌then◌else◌, List, [], ◌∷◌, ◌++◌, map, pos}
+use Rattle.std.specs.List.{range_with_len, join_with_byte}
 use Rattle.std.specs.FinSet as set
-use Rattle.life_core.specs.declared.cell.Cell.{Cell}
-use Rattle.life_core.specs.Pattern.{Cells}
+use Rattle.life_core.specs.Pattern.{Cells, past_greatest}
 
 -- ---- the box of a normal set
-
--- one more than the greatest that f gives at the cells of X, where it gives nothing below 0; and 0 where X is empty
-abbrev pub past_greatest : (Cell → ℤ) → Cells → ℕ
-past_greatest f X = fold (λ n c. max n (nat_abs (f c) + 1)) 0 (set.items X)
 
 -- the number of columns of a normal set's box
 unfoldable pub width : Cells → ℕ

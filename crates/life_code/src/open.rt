@@ -104,10 +104,16 @@ fn is_front(front: &[u8]) -> bool
     }
 }
 
+/// The most bytes that a Wechsler text has: eight strips of 40 columns, and a `z` behind each.
+const LONGEST_TEXT: usize = 8 * 41;
+
 /// The pattern of a Wechsler text, if it is the text of one that is not empty.
 fn read_wechsler<A: Allocator + Copy>(alloc: A, text: &[u8]) -> Result<Option<Pattern<A>>, Fault>
     ensures { IfOk result (λ o. MatchOption o ((X : Cells) → ¬ IsWechsler text.now X) (IsWechsler text.now)) }
 {
+    if text.len() > LONGEST_TEXT {
+        return Ok(None);
+    }
     let pattern = decoded(alloc, text)?;
     if pattern.population() == 0 {
         return Ok(None);

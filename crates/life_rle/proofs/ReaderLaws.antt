@@ -6,7 +6,7 @@ use Rattle.life_core.specs.Rule.{RuleSets}
 use Rattle.life_core.specs.Pattern.{Cells, normal}
 use Rattle.life_core.specs.RuleText.{without_blanks}
 use Rattle.life_rle.specs.declared.fault.RleFault.{RleFault}
-use Rattle.life_rle.specs.declared.fault.RleFault.TheVariants.{TextLimit, NoHeader, Memory}
+use Rattle.life_rle.specs.declared.fault.RleFault.TheVariants.{TextLimit, Memory}
 use Rattle.life_rle.specs.declared.lines.LineKind.{LineKind}
 use Rattle.life_rle.specs.declared.lines.LineKind.TheVariants as kinds
 use Rattle.life_rle.specs.declared.reader.Reader.{Reader}
@@ -39,10 +39,6 @@ read_lines_front before line lines h =
     ∙ ap (λ b. by_place before (line ∷ lines) (cond (not b) (1 + position_or_len is_header lines) 0)) h
     ∙ ap (λ n. by_place before (line ∷ lines) n) (let e : 1 + position_or_len is_header lines ≡ suc (position_or_len is_header lines) = omega arith in e)
     ∙ sym (read_lines_is (with_line before (line_kind line)) lines)
-
-pub read_lines_end : (before : Notes) → read_lines before [] ≡ cond (is_past_limit before) (Err TextLimit) (Err NoHeader)
-unfolding read_lines after_front
-read_lines_end before = refl
 
 sides : (t : Bool) (given : Result (Option (List ℕ)) RleFault) (before : Notes) (lines : List (List ℕ)) →
     cond t (Err TextLimit) (given >>= λ g. chosen_rule g before.rule >>= λ rule. body_cells (flat_map body_part lines) >>= λ cells. Ok (contents before rule cells))

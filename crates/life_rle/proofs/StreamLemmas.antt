@@ -32,10 +32,6 @@ pub gains_some : (old mid new : Option (List ℕ)) (bytes : List ℕ) (at : ℕ)
 gains_some old mid new bytes at p q =
     (take at bytes ++ [], drop at bytes, rw (append-nil, take-append-drop) refl, gains_more old mid new _ _ p q)
 
--- a place k bytes long in front of a tail
-pub taken_front : (left : List ℕ) (k : ℕ) (tail : List ℕ) → k ≤ length left → left ≡ take k (take k left ++ tail) ++ drop k left
-taken_front left k tail h = grind (arith, common_steps)
-
 -- ---- taking
 
 loses_more : (a b c : Option (List ℕ)) (x y : List ℕ) → Loses a b x → Loses b c y → Loses a c (x ++ y)
@@ -54,6 +50,3 @@ pub loses_on : (old now new : Option (List ℕ)) (n k most : ℕ) (piece : List 
 loses_on old now new n k most piece taken more short few =
     let both : length (taken.0 ++ piece) ≡ length taken.0 + length piece = length-append taken.0 piece in
     (taken.0 ++ piece, omega (arith, taken.1), loses_more old now new taken.0 piece taken.2 more)
-
-pub loses_fewer : (old now : Option (List ℕ)) (n most : ℕ) → LosesUpTo n old now → n ≤ most → LosesUpTo most old now
-loses_fewer old now n most taken few = (taken.0, omega (arith, taken.1), taken.2)

@@ -1,6 +1,7 @@
 //! Codes of known objects of Conway's Life, whatever their place, orientation and phase.
 //!
-//! Source: the public catalogue of objects, Catagolue (the codes) and the LifeWiki (the names).
+//! Source: the codes by which the objects are commonly cited, as in the public catalogue Catagolue, and their names in the
+//! LifeWiki.
 ghost use Rattle.std.specs.Prelude.{◌≤◌};
 ghost use Rattle.life_core.specs.Pattern.{IsWithin};
 

@@ -1,10 +1,11 @@
-//! Each growth of a call refused in turn: the call answers want of memory, or goes on in less room; it leaves
-//! what it was lent, and gives its answer when it is made again with memory.
+//! Each growth of a call refused in turn: the call answers want of memory, or goes on in less room, and
+//! gives its answer when it is made again with memory.
 use crate::refusing::Refusing;
 use life_census::{clusters, csv, tally};
 use life_code::{CodeFault, Kind, code, kind, open_code};
 use life_core::{Fault, PLANE, Pattern, Rule, generation};
 use life_rle::{Record, RleFault, read, write};
+use std::process::Abort;
 use std::test::Fail;
 
 /// More growths than any of the calls asks for.
@@ -19,283 +20,209 @@ const TEXT: &[u8] =
 
 const GLIDER: [(i64, i64); 5] = [(1, 0), (2, 1), (0, 2), (1, 2), (2, 2)];
 
+/// The glider four generations later.
+const GLIDER_LATER: [(i64, i64); 5] = [(2, 1), (3, 2), (1, 3), (2, 3), (3, 3)];
+
 const BLINKER: [(i64, i64); 3] = [(0, 0), (1, 0), (2, 0)];
 
 /// The phase of the toad that its code spells.
 const TOAD: [(i64, i64); 6] = [(0, 0), (0, 1), (0, 2), (1, 1), (1, 2), (1, 3)];
 
-/// A block and a blinker, and the CSV of their tally.
-const FIELD: [(i64, i64); 7] = [(0, 0), (1, 0), (0, 1), (1, 1), (10, 0), (11, 0), (12, 0)];
+/// A field with what is known of it.
+#[derive(Clone, Copy, Debug)]
+enum Field {
+    /// Two blocks at distance 3.
+    TwoBlocks,
+    /// Two blocks at distance 2.
+    BlocksTogether,
+    /// A block and a blinker.
+    BlockAndBlinker,
+}
 
-const TABLE: &[u8] = b"code,count\nxp2_7,1\nxs4_33,1\nunresolved,0\n";
+impl Field {
+    fn pattern(self, alloc: &Refusing) -> Result<Pattern<&Refusing>, Fault> {
+        match self {
+            Field::TwoBlocks => Pattern::from_cells(
+                alloc,
+                &[
+                    (0, 0),
+                    (1, 0),
+                    (4, 0),
+                    (5, 0),
+                    (0, 1),
+                    (1, 1),
+                    (4, 1),
+                    (5, 1),
+                ],
+            ),
+            Field::BlocksTogether => Pattern::from_cells(
+                alloc,
+                &[
+                    (0, 0),
+                    (1, 0),
+                    (3, 0),
+                    (4, 0),
+                    (0, 1),
+                    (1, 1),
+                    (3, 1),
+                    (4, 1),
+                ],
+            ),
+            Field::BlockAndBlinker => Pattern::from_cells(
+                alloc,
+                &[(0, 0), (1, 0), (0, 1), (1, 1), (10, 0), (11, 0), (12, 0)],
+            ),
+        }
+    }
 
-/// A file that is kept in memory which may refuse.
-type Kept<'a> = Record<&'a Refusing>;
+    /// How many clusters it has.
+    fn clusters(self) -> usize {
+        match self {
+            Field::TwoBlocks | Field::BlockAndBlinker => 2,
+            Field::BlocksTogether => 1,
+        }
+    }
 
-#[test]
-fn reading_with_each_growth_refused(rt: HostRuntime) -> Result<(), Fail> {
-    let refusing = Refusing::new(rt.alloc(), u64::MAX);
-    let mut refusals = 0u64;
+    /// The CSV of its tally under limit 2.
+    fn table(self) -> &'static [u8] {
+        match self {
+            Field::TwoBlocks => b"code,count\nxs4_33,2\nunresolved,0\n",
+            Field::BlocksTogether => b"code,count\nxs8_rr,1\nunresolved,0\n",
+            Field::BlockAndBlinker => b"code,count\nxp2_7,1\nxs4_33,1\nunresolved,0\n",
+        }
+    }
+}
+
+/// Calls whose answers are known.
+#[derive(Clone, Copy, Debug)]
+enum Calls {
+    /// `read` and `write`.
+    Files,
+    /// `generation`.
+    Generations,
+    /// `kind`.
+    Kinds,
+    /// `code`.
+    Codes,
+    /// `open_code`.
+    OpenedCodes,
+    /// `clusters`.
+    Clusters(Field),
+    /// `tally` and `csv`.
+    Tallies(Field),
+}
+
+impl Calls {
+    /// Makes the calls in this memory, and tells whether the answer is right.
+    fn are_right(self, alloc: &Refusing) -> Result<bool, Fault> {
+        match self {
+            Calls::Files => file_is_right(alloc),
+            Calls::Generations => generation_is_right(alloc),
+            Calls::Kinds => kind_is_right(alloc),
+            Calls::Codes => code_is_right(alloc),
+            Calls::OpenedCodes => opened_code_is_right(alloc),
+            Calls::Clusters(field) => clusters_are_right(alloc, field),
+            Calls::Tallies(field) => tally_is_right(alloc, field),
+        }
+    }
+}
+
+fn file_is_right(alloc: &Refusing) -> Result<bool, Fault> {
+    let read: Result<Record<&Refusing>, RleFault> = read(alloc, FILE);
+    match read {
+        Ok(record) => Ok(write(alloc, &record)?.as_slice() == TEXT),
+        Err(RleFault::Memory) => Err(Fault::Memory),
+        Err(_) => Ok(false),
+    }
+}
+
+fn generation_is_right(alloc: &Refusing) -> Result<bool, Fault> {
+    let glider = Pattern::from_cells(alloc, &GLIDER)?;
+    let later = Pattern::from_cells(alloc, &GLIDER_LATER)?;
+    Ok(glider.within(PLANE - 4) && generation(alloc, &Rule::LIFE, &glider, 4)?.same(&later))
+}
+
+fn kind_is_right(alloc: &Refusing) -> Result<bool, Fault> {
+    let glider = Pattern::from_cells(alloc, &GLIDER)?;
+    Ok(glider.within(400_000_000) && kind(alloc, &Rule::LIFE, &glider, 4)? == Kind::Ship(4, 1, 1))
+}
+
+fn code_is_right(alloc: &Refusing) -> Result<bool, Fault> {
+    let blinker = Pattern::from_cells(alloc, &BLINKER)?;
+    if !blinker.within(400_000_000) {
+        return Ok(false);
+    }
+    match code(alloc, &Rule::LIFE, &blinker, 2)? {
+        Some(coded) => Ok(coded.text() == b"xp2_7".as_slice()),
+        None => Ok(false),
+    }
+}
+
+fn opened_code_is_right(alloc: &Refusing) -> Result<bool, Fault> {
+    let toad = Pattern::from_cells(alloc, &TOAD)?;
+    match open_code(alloc, &Rule::LIFE, b"xp2_7e", 2) {
+        Ok(found) => Ok(found.same(&toad)),
+        Err(CodeFault::Memory) => Err(Fault::Memory),
+        Err(_) => Ok(false),
+    }
+}
+
+fn clusters_are_right(alloc: &Refusing, field: Field) -> Result<bool, Fault> {
+    let found = clusters(alloc, &field.pattern(alloc)?)?;
+    Ok(found.len() == field.clusters())
+}
+
+fn tally_is_right(alloc: &Refusing, field: Field) -> Result<bool, Fault> {
+    let pattern = field.pattern(alloc)?;
+    if !pattern.within(400_000_000) {
+        return Ok(false);
+    }
+    let counts = tally(alloc, &Rule::LIFE, &pattern, 2)?;
+    Ok(csv(alloc, &counts)?.as_slice() == field.table())
+}
+
+/// Refuses the first growth of the calls, then the second, and so on until none is left to refuse.
+fn refuse_each_growth(rt: &impl Abort, refusing: &Refusing, calls: Calls) -> Result<(), Fail> {
     for growth in 1..MANY {
         refusing.refuse(growth);
-        let first: Result<Kept<'_>, RleFault> = read(&refusing, FILE);
+        let first = calls.are_right(refusing);
         let ended = !refusing.has_refused();
         refusing.refuse(u64::MAX);
         match first {
-            Ok(record) => assert_eq!(rt; write(&refusing, &record)?.as_slice(), TEXT),
-            Err(fault) => {
-                assert_eq!(rt; fault, RleFault::Memory, "at growth {growth}");
-                assert!(rt; !ended, "at growth {growth}");
-                let again: Kept<'_> = read(&refusing, FILE)?;
-                assert_eq!(rt; write(&refusing, &again)?.as_slice(), TEXT);
-                refusals = refusals.saturating_add(1);
-            }
+            Ok(right) => assert!(rt; right, "{calls:?} at growth {growth}"),
+            Err(_) => assert!(rt; !ended, "{calls:?} at growth {growth}"),
         }
+        assert!(rt;
+            calls.are_right(refusing)?,
+            "{calls:?} after growth {growth}"
+        );
         if ended {
-            assert!(rt; refusals > 0);
+            assert!(rt; growth > 1, "{calls:?} asks for no growth");
             return Ok(());
         }
     }
-    panic!(rt; "a growth is refused each time");
+    panic!(rt; "{calls:?}: a growth is refused each time");
 }
 
 #[test]
-fn writing_with_each_growth_refused(rt: HostRuntime) -> Result<(), Fail> {
+fn calls_with_each_growth_refused(rt: HostRuntime) -> Result<(), Fail> {
     let refusing = Refusing::new(rt.alloc(), u64::MAX);
-    let record: Kept<'_> = read(&refusing, FILE)?;
-    let mut refusals = 0u64;
-    for growth in 1..MANY {
-        refusing.refuse(growth);
-        let first = write(&refusing, &record);
-        let ended = !refusing.has_refused();
-        refusing.refuse(u64::MAX);
-        match first {
-            Ok(text) => assert_eq!(rt; text.as_slice(), TEXT),
-            Err(fault) => {
-                assert_eq!(rt; fault, Fault::Memory, "at growth {growth}");
-                assert!(rt; !ended, "at growth {growth}");
-                assert_eq!(rt; write(&refusing, &record)?.as_slice(), TEXT);
-                refusals = refusals.saturating_add(1);
-            }
-        }
-        if ended {
-            assert!(rt; refusals > 0);
-            return Ok(());
-        }
+    for calls in [
+        Calls::Files,
+        Calls::Generations,
+        Calls::Kinds,
+        Calls::Codes,
+        Calls::OpenedCodes,
+    ] {
+        refuse_each_growth(&rt, &refusing, calls)?;
     }
-    panic!(rt; "a growth is refused each time");
-}
-
-#[test]
-fn generations_with_each_growth_refused(rt: HostRuntime) -> Result<(), Fail> {
-    let refusing = Refusing::new(rt.alloc(), u64::MAX);
-    let glider = Pattern::from_cells(&refusing, &GLIDER)?;
-    let lent = Pattern::from_cells(&refusing, &GLIDER)?;
-    let later = Pattern::from_cells(&refusing, &[(2, 1), (3, 2), (1, 3), (2, 3), (3, 3)])?;
-    let mut refusals = 0u64;
-    for growth in 1..MANY {
-        assert!(rt; glider.within(PLANE - 4));
-        refusing.refuse(growth);
-        let first = generation(&refusing, &Rule::LIFE, &glider, 4);
-        let ended = !refusing.has_refused();
-        refusing.refuse(u64::MAX);
-        match first {
-            Ok(found) => assert!(rt; found.same(&later)),
-            Err(fault) => {
-                assert_eq!(rt; fault, Fault::Memory, "at growth {growth}");
-                assert!(rt; !ended, "at growth {growth}");
-                assert!(rt; glider.same(&lent), "at growth {growth}");
-                assert!(rt; generation(&refusing, &Rule::LIFE, &glider, 4)?.same(&later));
-                refusals = refusals.saturating_add(1);
-            }
-        }
-        if ended {
-            assert!(rt; refusals > 0);
-            return Ok(());
-        }
+    for field in [
+        Field::TwoBlocks,
+        Field::BlocksTogether,
+        Field::BlockAndBlinker,
+    ] {
+        refuse_each_growth(&rt, &refusing, Calls::Clusters(field))?;
+        refuse_each_growth(&rt, &refusing, Calls::Tallies(field))?;
     }
-    panic!(rt; "a growth is refused each time");
-}
-
-#[test]
-fn kinds_with_each_growth_refused(rt: HostRuntime) -> Result<(), Fail> {
-    let refusing = Refusing::new(rt.alloc(), u64::MAX);
-    let glider = Pattern::from_cells(&refusing, &GLIDER)?;
-    let lent = Pattern::from_cells(&refusing, &GLIDER)?;
-    let mut refusals = 0u64;
-    for growth in 1..MANY {
-        assert!(rt; glider.within(400_000_000));
-        refusing.refuse(growth);
-        let first = kind(&refusing, &Rule::LIFE, &glider, 4);
-        let ended = !refusing.has_refused();
-        refusing.refuse(u64::MAX);
-        match first {
-            Ok(found) => assert_eq!(rt; found, Kind::Ship(4, 1, 1)),
-            Err(fault) => {
-                assert_eq!(rt; fault, Fault::Memory, "at growth {growth}");
-                assert!(rt; !ended, "at growth {growth}");
-                assert!(rt; glider.same(&lent), "at growth {growth}");
-                assert_eq!(rt;
-                    kind(&refusing, &Rule::LIFE, &glider, 4)?,
-                    Kind::Ship(4, 1, 1)
-                );
-                refusals = refusals.saturating_add(1);
-            }
-        }
-        if ended {
-            assert!(rt; refusals > 0);
-            return Ok(());
-        }
-    }
-    panic!(rt; "a growth is refused each time");
-}
-
-#[test]
-fn codes_with_each_growth_refused(rt: HostRuntime) -> Result<(), Fail> {
-    let refusing = Refusing::new(rt.alloc(), u64::MAX);
-    let blinker = Pattern::from_cells(&refusing, &BLINKER)?;
-    let lent = Pattern::from_cells(&refusing, &BLINKER)?;
-    let mut refusals = 0u64;
-    for growth in 1..MANY {
-        assert!(rt; blinker.within(400_000_000));
-        refusing.refuse(growth);
-        let first = code(&refusing, &Rule::LIFE, &blinker, 2);
-        let ended = !refusing.has_refused();
-        refusing.refuse(u64::MAX);
-        match first {
-            Ok(found) => {
-                let coded = found.ok_or("no code")?;
-                assert_eq!(rt; coded.text(), b"xp2_7".as_slice());
-            },
-            Err(fault) => {
-                assert_eq!(rt; fault, Fault::Memory, "at growth {growth}");
-                assert!(rt; !ended, "at growth {growth}");
-                assert!(rt; blinker.same(&lent), "at growth {growth}");
-                let coded = code(&refusing, &Rule::LIFE, &blinker, 2)?.ok_or("no code")?;
-                assert_eq!(rt; coded.text(), b"xp2_7".as_slice());
-                refusals = refusals.saturating_add(1);
-            }
-        }
-        if ended {
-            assert!(rt; refusals > 0);
-            return Ok(());
-        }
-    }
-    panic!(rt; "a growth is refused each time");
-}
-
-#[test]
-fn opening_with_each_growth_refused(rt: HostRuntime) -> Result<(), Fail> {
-    let refusing = Refusing::new(rt.alloc(), u64::MAX);
-    let toad = Pattern::from_cells(&refusing, &TOAD)?;
-    let mut refusals = 0u64;
-    for growth in 1..MANY {
-        refusing.refuse(growth);
-        let first = open_code(&refusing, &Rule::LIFE, b"xp2_7e", 2);
-        let ended = !refusing.has_refused();
-        refusing.refuse(u64::MAX);
-        match first {
-            Ok(found) => assert!(rt; found.same(&toad)),
-            Err(fault) => {
-                assert_eq!(rt; fault, CodeFault::Memory, "at growth {growth}");
-                assert!(rt; !ended, "at growth {growth}");
-                assert!(rt; open_code(&refusing, &Rule::LIFE, b"xp2_7e", 2)?.same(&toad));
-                refusals = refusals.saturating_add(1);
-            }
-        }
-        if ended {
-            assert!(rt; refusals > 0);
-            return Ok(());
-        }
-    }
-    panic!(rt; "a growth is refused each time");
-}
-
-#[test]
-fn clusters_with_each_growth_refused(rt: HostRuntime) -> Result<(), Fail> {
-    let refusing = Refusing::new(rt.alloc(), u64::MAX);
-    let field = Pattern::from_cells(&refusing, &FIELD)?;
-    let lent = Pattern::from_cells(&refusing, &FIELD)?;
-    let mut refusals = 0u64;
-    for growth in 1..MANY {
-        refusing.refuse(growth);
-        let first = clusters(&refusing, &field);
-        let ended = !refusing.has_refused();
-        refusing.refuse(u64::MAX);
-        match first {
-            Ok(found) => assert_eq!(rt; found.len(), 2),
-            Err(fault) => {
-                assert_eq!(rt; fault, Fault::Memory, "at growth {growth}");
-                assert!(rt; !ended, "at growth {growth}");
-                assert!(rt; field.same(&lent), "at growth {growth}");
-                assert_eq!(rt; clusters(&refusing, &field)?.len(), 2);
-                refusals = refusals.saturating_add(1);
-            }
-        }
-        if ended {
-            assert!(rt; refusals > 0);
-            return Ok(());
-        }
-    }
-    panic!(rt; "a growth is refused each time");
-}
-
-#[test]
-fn tallies_with_each_growth_refused(rt: HostRuntime) -> Result<(), Fail> {
-    let refusing = Refusing::new(rt.alloc(), u64::MAX);
-    let field = Pattern::from_cells(&refusing, &FIELD)?;
-    let lent = Pattern::from_cells(&refusing, &FIELD)?;
-    let mut refusals = 0u64;
-    for growth in 1..MANY {
-        assert!(rt; field.within(400_000_000));
-        refusing.refuse(growth);
-        let first = tally(&refusing, &Rule::LIFE, &field, 2);
-        let ended = !refusing.has_refused();
-        refusing.refuse(u64::MAX);
-        match first {
-            Ok(found) => assert_eq!(rt; csv(&refusing, &found)?.as_slice(), TABLE),
-            Err(fault) => {
-                assert_eq!(rt; fault, Fault::Memory, "at growth {growth}");
-                assert!(rt; !ended, "at growth {growth}");
-                assert!(rt; field.same(&lent), "at growth {growth}");
-                let again = tally(&refusing, &Rule::LIFE, &field, 2)?;
-                assert_eq!(rt; csv(&refusing, &again)?.as_slice(), TABLE);
-                refusals = refusals.saturating_add(1);
-            }
-        }
-        if ended {
-            assert!(rt; refusals > 0);
-            return Ok(());
-        }
-    }
-    panic!(rt; "a growth is refused each time");
-}
-
-#[test]
-fn tables_with_each_growth_refused(rt: HostRuntime) -> Result<(), Fail> {
-    let refusing = Refusing::new(rt.alloc(), u64::MAX);
-    let field = Pattern::from_cells(&refusing, &FIELD)?;
-    assert!(rt; field.within(400_000_000));
-    let counts = tally(&refusing, &Rule::LIFE, &field, 2)?;
-    let mut refusals = 0u64;
-    for growth in 1..MANY {
-        refusing.refuse(growth);
-        let first = csv(&refusing, &counts);
-        let ended = !refusing.has_refused();
-        refusing.refuse(u64::MAX);
-        match first {
-            Ok(text) => assert_eq!(rt; text.as_slice(), TABLE),
-            Err(fault) => {
-                assert_eq!(rt; fault, Fault::Memory, "at growth {growth}");
-                assert!(rt; !ended, "at growth {growth}");
-                assert_eq!(rt; csv(&refusing, &counts)?.as_slice(), TABLE);
-                refusals = refusals.saturating_add(1);
-            }
-        }
-        if ended {
-            assert!(rt; refusals > 0);
-            return Ok(());
-        }
-    }
-    panic!(rt; "a growth is refused each time");
+    Ok(())
 }

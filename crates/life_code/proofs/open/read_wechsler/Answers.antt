@@ -3,8 +3,12 @@ use Rattle.std.specs.Prelude.{nat_eq}
 use lib.Pointwise.{pointwise}
 use Rattle.life_code.specs.Codes.{list_of}
 use Rattle.life_code.proofs.ObjectLemmas.{texts_decide}
+use Rattle.life_code.proofs.WechslerLengths.{long_spells}
 use Rattle.life_code.proofs.OpenLemmas.{decoded_room, refused_empty, refused_normal, refused_large, refused_text, is_wechsler, same_as_normal}
 use Rattle.life_code.proofs.open.read_wechsler.Goals as goal
+
+pub returns-then-text-gt-LONGEST_TEXT : goal.returns-then-text-gt-LONGEST_TEXT
+returns-then-text-gt-LONGEST_TEXT g c = long_spells c.args.text.now c.if-text-gt-LONGEST_TEXT.true
 
 pub returns-then-population-eq0 : goal.returns-then-population-eq0
 returns-then-population-eq0 g c = refused_empty c.args.text.now _ c.in_ok-pattern.ensures (sym c.population.ensures ∙ c.if-population-eq0.true)

@@ -51,15 +51,15 @@ impl<A: Allocator + Copy> ItemLines<A> {
     fn item(&mut self, alloc: A, count: u64, tag: u8) -> Result<(), AllocError>
         ensures { OnOk result ((items : List (List ℕ)) → written self.new items ≡ written self.old (counted count tag ++ items)) }
     {
-        if count == 0 {
-            return Ok(());
+        match count {
+            0 => Ok(()),
+            1 => self.put(&[tag]),
+            _ => {
+                let mut item = count.to_string(alloc)?.into_bytes();
+                item.push(tag)?;
+                self.put(&item)
+            }
         }
-        let mut text = Vec::new(alloc);
-        if count > 1 {
-            text.extend_from_slice(count.to_string(alloc)?.as_bytes())?;
-        }
-        text.push(tag)?;
-        self.put(&text)
     }
 }
 

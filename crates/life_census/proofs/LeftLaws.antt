@@ -1,6 +1,12 @@
 -- Sets of cells that lose or gain one cell.
-use Rattle.std.specs.Prelude.{◌≡◌, ℕ, ◌+◌, ◌<◌, Bool, true, false, cond, not, ◌&&◌, ◌||◌, List, length, take, refl}
-use Rattle.std.proofs.Common.{sym, ap, ◌∙◌, get_or}
+use Rattle.std.specs.Prelude.{◌≡◌, ℕ, ◌+◌, ◌<◌, ◌≤ℤ◌, ◌<ℤ◌, Bool, true, false, cond, not, ◌&&◌, ◌||◌, Option, Some, None, is_some, MatchOption, List, [], ◌∷◌, length, take, refl}
+use Rattle.std.specs.Borrow.{Bor}
+use Rattle.std.proofs.Common.{sym, ap, ◌∙◌, get_or, arith, true≢false}
+use Rattle.std.proofs.lemmas.Int.{ints}
+use Rattle.std.specs.declared.cmp.Ordering.{Ordering}
+use Rattle.std.specs.declared.cmp.Ordering.TheVariants.{Less, Equal, Greater}
+use Rattle.std.specs.Ordering.{MatchOrdering, int_cmp, is_gt, ordering_then}
+use Rattle.std.specs.Cmp.{int_cmp_is, int_ranks}
 use Rattle.std.proofs.lemmas.List.{take_more}
 use Rattle.std.specs.FinSet as set
 use Rattle.life_core.specs.declared.cell.Cell.{Cell}
@@ -31,3 +37,17 @@ pub inserted_next : (ks ls cs : List Cell) (i : ℕ) (d : Cell) → ((q : Cell) 
 inserted_next ks ls cs i d h low same =
     inserted ks ls (get_or cs i d) h ∙ ap (λ (X : Cells). set.insert X (get_or cs i d)) same ∙ sym (set.from_list_push cell_cmp_total cell_cmp_exact (take i cs) (get_or cs i d))
     ∙ ap (set.from_list {R = cell_cmp}) (sym (take_more cs i d low))
+
+-- of two cells of one row the one in the lesser column does not come later
+pub in_row : (a b : Cell) → a.row ≡ b.row → a.column ≤ℤ b.column → is_gt (cell_cmp a b) ≡ false
+in_row a b row low = ap (λ o. is_gt (ordering_then o (int_cmp a.column b.column))) (sym (int_cmp_is a.row b.row Equal row)) ∙ not_later (int_cmp a.column b.column) (int_ranks a.column b.column)
+  where
+    not_later : (o : Ordering) → MatchOrdering o (a.column <ℤ b.column) (a.column ≡ b.column) (b.column <ℤ a.column) → is_gt o ≡ false
+    not_later Less h = refl
+    not_later Equal h = refl
+    not_later Greater h = absurd (omega (arith, ints))
+
+-- where a list has no first item, it has none
+pub none_there : {A : Type 0} (first : Option (Bor A)) (all rest : List A) (none : Bool) → MatchOption first ((all ≡ []) × (rest ≡ [])) (λ x. all ≡ x.now ∷ rest) → is_some first ≡ not none → none ≡ true → all ≡ []
+none_there None all rest none found told is = found.0
+none_there (Some x) all rest none found told is = absurd (true≢false (told ∙ ap not is))

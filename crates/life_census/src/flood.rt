@@ -64,6 +64,26 @@ fn take_row<A: Allocator + Copy>(
     ensures grown { OnOk result (HasGrown cell left.old cluster.old.items left.new cluster.new.items) }
     ensures clear { OnOk result ((d : Cell) → near cell d ≡ true → d.row ≡ row → set.contains left.new d ≡ false) }
 {
+    let from = cell.column - 2;
+    let to = cell.column + 2;
+    if left.is_clear(Cell { row, column: from }, Cell { row, column: to }) {
+        return Ok(());
+    }
+    take_columns(left, cluster, cell, row)
+}
+
+/// Takes out the cells of one row that are near a cell, column by column.
+fn take_columns<A: Allocator + Copy>(
+    left: &mut Left<A>,
+    cluster: &mut Vec<Cell, A>,
+    cell: Cell,
+    row: i64,
+) -> Result<(), AllocError>
+    requires cell { IsCellWithin PLANE cell }
+    requires row { within_two cell.row row ≡ true }
+    ensures grown { OnOk result (HasGrown cell left.old cluster.old.items left.new cluster.new.items) }
+    ensures clear { OnOk result ((d : Cell) → near cell d ≡ true → d.row ≡ row → set.contains left.new d ≡ false) }
+{
     for column in cell.column - 2..cell.column + 3 {
         take_cell(left, cluster, Cell { row, column })?;
     }

@@ -1,7 +1,8 @@
 //! A set of cells from which cells are taken.
-ghost use Rattle.std.specs.Prelude.{◌≡◌, IfOk};
+ghost use Rattle.std.specs.Prelude.{◌≡◌, ◌≤ℤ◌, true, false, IfOk};
 ghost use Rattle.std.specs.FinSet as set;
 ghost use Rattle.life_core.specs.Cell.{cell_cmp};
+ghost use Rattle.life_core.specs.declared.cell.Cell.{Cell as CellValue};
 
 use life_core::Cell;
 use std::alloc::{AllocError, Allocator};
@@ -40,6 +41,15 @@ impl<A: Allocator + Copy> Left<A> {
         ensures { result ≡ set.contains self.now cell }
     {
         self.cells.contains(&cell)
+    }
+
+    /// Whether no cell is left from one cell to another of its row; `false` promises nothing.
+    pub fn is_clear(&self, from: Cell, to: Cell) -> bool
+        requires row { from.row ≡ to.row }
+        requires order { from.column ≤ℤ to.column }
+        ensures { result ≡ true → (c : CellValue) → c.row ≡ from.row → from.column ≤ℤ c.column → c.column ≤ℤ to.column → set.contains self.now c ≡ false }
+    {
+        self.cells.range(from..=to).next().is_none()
     }
 
     /// Takes the cell out, and tells whether it was left.

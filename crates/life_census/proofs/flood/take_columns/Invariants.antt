@@ -3,7 +3,7 @@ use Rattle.std.specs.FinSet as set
 use Rattle.life_core.specs.declared.cell.Cell.{Cell}
 use Rattle.life_census.specs.Parts.{near}
 use Rattle.life_census.specs.Flood.{HasGrown}
-use Rattle.life_census.proofs.flood.take_row.Given as goal
+use Rattle.life_census.proofs.flood.take_columns.Given as goal
 
 abbrev pub invariant-loop-column : goal.invariant-loop-column
 invariant-loop-column g l = record {

@@ -1,10 +1,12 @@
 -- Sets of cells that lose or gain one cell.
-use Rattle.std.specs.Prelude.{◌≡◌, ℕ, ◌+◌, ◌<◌, ◌≤ℤ◌, ◌<ℤ◌, Bool, true, false, cond, not, ◌&&◌, ◌||◌, Option, Some, None, is_some, MatchOption, List, [], ◌∷◌, length, take, refl}
+use Rattle.std.specs.Prelude.{◌≡◌, ℕ, ◌+◌, ◌<◌, ◌≤ℤ◌, ◌<ℤ◌, Bool, true, false, cond, not, ◌&&◌, ◌||◌, ◌⊎◌, Option, Some, None, is_some, MatchOption, List, [], ◌∷◌, length, take, refl}
 use Rattle.std.specs.Borrow.{Bor}
-use Rattle.std.proofs.Common.{sym, ap, ◌∙◌, get_or, arith, true≢false}
+use Rattle.std.proofs.Common.{sym, ap, subst, ◌∙◌, get_or, arith, true≢false, inl, inr}
 use Rattle.std.proofs.lemmas.Int.{ints}
 use Rattle.std.specs.declared.cmp.Ordering.{Ordering}
 use Rattle.std.specs.declared.cmp.Ordering.TheVariants.{Less, Equal, Greater}
+use Rattle.std.specs.Option.{IfSome}
+use Rattle.std.specs.List.{slice_get}
 use Rattle.std.specs.Ordering.{MatchOrdering, int_cmp, is_gt, ordering_then}
 use Rattle.std.specs.Cmp.{int_cmp_is, int_ranks}
 use Rattle.std.proofs.lemmas.List.{take_more}
@@ -47,7 +49,37 @@ in_row a b row low = ap (λ o. is_gt (ordering_then o (int_cmp a.column b.column
     not_later Equal h = refl
     not_later Greater h = absurd (omega (arith, ints))
 
+-- a cell that does not come later than another is in a row before it, or in its row and not behind it
+not_behind : (a b : Cell) → is_gt (cell_cmp a b) ≡ false → (a.row <ℤ b.row) ⊎ ((a.row ≡ b.row) × (a.column ≤ℤ b.column))
+not_behind a b h = rows (int_cmp a.row b.row) (int_ranks a.row b.row) h
+  where
+    columns : (o : Ordering) → MatchOrdering o (a.column <ℤ b.column) (a.column ≡ b.column) (b.column <ℤ a.column) → is_gt o ≡ false → a.column ≤ℤ b.column
+    columns Less low e = omega (arith, ints)
+    columns Equal same e = omega (arith, ints)
+    columns Greater high e = absurd (true≢false e)
+
+    rows : (o : Ordering) → MatchOrdering o (a.row <ℤ b.row) (a.row ≡ b.row) (b.row <ℤ a.row) → is_gt (ordering_then o (int_cmp a.column b.column)) ≡ false → (a.row <ℤ b.row) ⊎ ((a.row ≡ b.row) × (a.column ≤ℤ b.column))
+    rows Less low e = inl low
+    rows Equal same e = inr (same, columns (int_cmp a.column b.column) (int_ranks a.column b.column) e)
+    rows Greater high e = absurd (true≢false e)
+
+-- what lies between two cells of one row is in that row
+pub between_in_row : (a b c : Cell) → a.row ≡ b.row → is_gt (cell_cmp a c) ≡ false → is_gt (cell_cmp c b) ≡ false → (c.row ≡ a.row) × (a.column ≤ℤ c.column) × (c.column ≤ℤ b.column)
+between_in_row a b c row from to = elim (not_behind a c from) [
+  | inl low ↦ elim (not_behind c b to) [ inl lower ↦ absurd (omega (arith, ints)) | inr here ↦ let same = here.0 in absurd (omega (arith, ints)) ]
+  | inr here ↦ elim (not_behind c b to) [ inl lower ↦ let same = here.0 in absurd (omega (arith, ints)) | inr there ↦ (sym here.0, here.1, there.1) ]
+]
+
 -- where a list has no first item, it has none
 pub none_there : {A : Type 0} (first : Option (Bor A)) (all rest : List A) (none : Bool) → MatchOption first ((all ≡ []) × (rest ≡ [])) (λ x. all ≡ x.now ∷ rest) → is_some first ≡ not none → none ≡ true → all ≡ []
 none_there None all rest none found told is = found.0
 none_there (Some x) all rest none found told is = absurd (true≢false (told ∙ ap not is))
+
+-- where it has one, the list begins with it
+pub first_there : {A : Type 0} (first : Option (Bor A)) (all rest : List A) (none : Bool) → MatchOption first ((all ≡ []) × (rest ≡ [])) (λ x. all ≡ x.now ∷ rest) → is_some first ≡ not none → none ≡ false → (x : A) × (all ≡ x ∷ rest)
+first_there None all rest none found told is = absurd (true≢false (sym (ap not is) ∙ sym told))
+first_there (Some x) all rest none found told is = (x.now, found)
+
+-- and what holds of a list's first item holds of it
+pub of_first : {A : Type 0} (P : A → Type 0) (all rest : List A) (x : A) → all ≡ x ∷ rest → IfSome (slice_get all 0) P → P x
+of_first {A} P all rest x is h = subst (λ (r : List A). IfSome (slice_get r 0) P) is h

@@ -43,11 +43,12 @@ impl<A: Allocator + Copy> Left<A> {
         self.cells.contains(&cell)
     }
 
-    /// Whether no cell is left from one cell to another of its row; `false` promises nothing.
+    /// Whether no cell is left from one cell to another of its row.
     pub fn is_clear(&self, from: Cell, to: Cell) -> bool
         requires row { from.row ≡ to.row }
         requires order { from.column ≤ℤ to.column }
-        ensures { result ≡ true → (c : CellValue) → c.row ≡ from.row → from.column ≤ℤ c.column → c.column ≤ℤ to.column → set.contains self.now c ≡ false }
+        ensures clear { result ≡ true → (c : CellValue) → c.row ≡ from.row → from.column ≤ℤ c.column → c.column ≤ℤ to.column → set.contains self.now c ≡ false }
+        ensures found { result ≡ false → (c : CellValue) × (c.row ≡ from.row) × (from.column ≤ℤ c.column) × (c.column ≤ℤ to.column) × (set.contains self.now c ≡ true) }
     {
         self.cells.range(from..=to).next().is_none()
     }

@@ -9,7 +9,7 @@ use Rattle.life_census.proofs.flood.take_row.Goals as goal
 pub returns-then-is_clear-clause-clear : goal.returns-then-is_clear-clause-clear
 returns-then-is_clear-clause-clear g c d close row =
     let w = near_within c.args.cell d close in
-    c.is_clear.ensures c.if-is_clear.true d (row ∙ sym (to_z-of_z w64 c.args.row c.ranges.row)) (omega (arith, ints, w.columns_up)) (omega (arith, ints, w.columns_down))
+    c.is_clear.ensures.clear c.if-is_clear.true d (row ∙ sym (to_z-of_z w64 c.args.row c.ranges.row)) (omega (arith, ints, w.columns_up)) (omega (arith, ints, w.columns_down))
 
 pub returns-clause-clear : goal.returns-clause-clear
 returns-clause-clear g c =

@@ -18,7 +18,8 @@ use Rattle.life_core.proofs.Placements.{turn_back, turn_there}
 use Rattle.life_core.proofs.GenerationsLaws.{generation_within, within_more}
 use Rattle.life_core.proofs.OrientationLemmas.{opposite, turned_within}
 use Rattle.life_code.specs.Wechsler.{width, height, wechsler}
-use Rattle.life_code.specs.Codes.{orientations, shape, text_of, texts_of, candidates, kept_least}
+use Rattle.life_code.specs.Codes.{orientations, shape, text_of, texts_of, candidates}
+use Rattle.life_code.specs.CodesState.{kept_least}
 use Rattle.life_code.proofs.TextLists.{keep-append}
 
 -- ---- the box of a normal set

@@ -9,7 +9,8 @@ use Rattle.life_core.specs.Pattern.{Cells}
 use Rattle.life_core.specs.Rule.{RuleSets}
 use Rattle.life_code.specs.declared.kinds.Kind.{Kind}
 use Rattle.life_code.specs.declared.kinds.Kind.TheVariants.{Empty, Still, Oscillator, Ship, Unresolved}
-use Rattle.life_code.specs.Period.{HasKind, PeriodWithin, kind_of}
+use Rattle.life_code.specs.Period.{HasKind, kind_of}
+use Rattle.life_code.specs.PeriodState.{PeriodWithin}
 use Rattle.life_code.specs.Codes.{code_by_kind, code_of, Same}
 use Rattle.life_code.specs.Object.{CodedCells, IsCoded, IsCodeOf}
 use Rattle.life_code.proofs.PeriodKinds.{kind_is}

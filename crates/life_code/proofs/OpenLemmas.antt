@@ -6,7 +6,7 @@ use Rattle.std.specs.FinSet as set
 use Rattle.life_core.specs.Cell.{cell_cmp}
 use Rattle.life_core.specs.Pattern.{Cells, normal, IsWithin}
 use Rattle.life_code.specs.Wechsler.{wechsler}
-use Rattle.life_code.specs.Decode.{decoded}
+use Rattle.life_code.specs.DecodeState.{decoded}
 use Rattle.life_code.specs.Codes.{fits, text_of}
 use Rattle.life_code.specs.Open.{IsFront, IsWechsler, Spells}
 use Rattle.life_code.proofs.DecodeLemmas.{decoded_within}

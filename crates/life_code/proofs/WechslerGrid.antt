@@ -13,7 +13,7 @@ use Rattle.life_core.proofs.PatternMembers.{cell_cmp_total, same_cell, same_cell
 use Rattle.life_core.proofs.PatternCorners.{Has, normal_low, normal-normal}
 use Rattle.life_code.specs.Wechsler.{wechsler}
 use Rattle.life_code.specs.Codes.{fits}
-use Rattle.life_code.specs.Decode.{spells_cell, cell_of_place, decoded}
+use Rattle.life_code.specs.DecodeState.{spells_cell, cell_of_place, decoded}
 use Rattle.life_code.proofs.WechslerTexts.{cell, narrow, low, negative, within_width, within_height, read_wechsler}
 
 -- a set of a list has at most as many cells as the list

@@ -14,7 +14,7 @@ use Rattle.life_core.proofs.PatternCorners.{Has, normal_low}
 use Rattle.life_core.proofs.PatternExtents.{within_past}
 use Rattle.life_code.specs.Wechsler.{width, height, spelled, column_value, strip, wechsler}
 use Rattle.life_code.specs.Codes.{fits}
-use Rattle.life_code.specs.Decode.{spells_cell, has_bit}
+use Rattle.life_code.specs.DecodeState.{spells_cell, has_bit}
 use Rattle.life_code.specs.Laws.{TextsTellApart}
 use Rattle.life_code.proofs.WechslerReading.{AllColumns, read_spelled, read_spelled_other, bit_zero, read_end, read_strip_end}
 

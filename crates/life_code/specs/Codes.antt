@@ -8,7 +8,6 @@ use Rattle.std.specs.Ordering.{ordering_then, nat_cmp, is_gt}
 use Rattle.std.specs.Cmp.Lexicographic.{slice_cmp}
 use Rattle.std.specs.Option.{option_map}
 use Rattle.std.specs.FinSet as set
-use Rattle.std.specs.declared.vec.Vec.{Vec}
 use Rattle.life_core.specs.declared.orientation.Orientation.{Orientation}
 use Rattle.life_core.specs.declared.orientation.Orientation.TheVariants.{O0, O1, O2, O3, O4, O5, O6, O7}
 use Rattle.life_core.specs.Cell.{moved_cell}
@@ -62,21 +61,6 @@ lesser a (Some b) = if is_gt (text_cmp a b) then b else a
 unfoldable pub least_text : List (List ℕ) → Option (List ℕ)
 least_text [] = None
 least_text (text ∷ texts) = Some (lesser text (least_text texts))
-
--- the least of what is kept and some texts, taken one after the other
-abbrev pub kept_least : Option (List ℕ) → List (List ℕ) → Option (List ℕ)
-kept_least best [] = best
-kept_least best (text ∷ texts) = kept_least (Some (lesser text best)) texts
-
--- the bytes of a text that may be missing
-abbrev pub bytes_of : {A : Type 0} → Option (Vec ℕ A) → Option (List ℕ)
-bytes_of None = None
-bytes_of (Some text) = Some text.items
-
--- the same as a list of texts
-abbrev pub list_of : {A : Type 0} → Option (Vec ℕ A) → List (List ℕ)
-list_of None = []
-list_of (Some text) = text.items ∷ []
 
 -- ---- the code
 

@@ -3,12 +3,12 @@ use Rattle.std.specs.Prelude.{◌≡◌, ◌↔◌, ℕ, ◌<◌, ◌≤◌, ◌
 use Rattle.std.specs.Ordering.{is_gt}
 use Rattle.life_core.specs.declared.orientation.Orientation.{Orientation}
 use Rattle.life_core.specs.Cell.{moved_cell}
-use Rattle.life_core.specs.Pattern.{Cells, image, normal}
+use Rattle.life_core.specs.Pattern.{Cells, image, IsBox, normal}
 use Rattle.life_core.specs.Rule.{RuleSets}
 use Rattle.life_core.specs.Generations.{generation_of}
 use Rattle.life_code.specs.declared.kinds.Kind.{Kind}
 use Rattle.life_code.specs.Period.{HasPeriod, HasKind, kind_of}
-use Rattle.life_code.specs.Wechsler.{wechsler}
+use Rattle.life_code.specs.Wechsler.{width, height, wechsler}
 use Rattle.life_code.specs.Codes.{fits, shape, candidates, text_cmp, least_text, code_of, IsPeriodic, Same}
 use Rattle.life_code.specs.Open.{Spells}
 
@@ -23,6 +23,10 @@ PhasesComeAgain = (r : RuleSets) (X : Cells) (p : ℕ) (dx dy : ℤ) → HasPeri
 -- .. and no two of the first p are one but for a move.
 abbrev pub PhasesDiffer : Type 0
 PhasesDiffer = (r : RuleSets) (X : Cells) (p : ℕ) (dx dy : ℤ) → HasPeriod r X p dx dy → (i j : ℕ) → i < j → j < p → (ex ey : ℤ) → ¬ (generation_of r X j ≡ image (moved_cell ex ey) (generation_of r X i))
+
+-- The columns and rows of a normal set's text are those of its box.
+abbrev pub BoxesHaveOneSize : Type 0
+BoxesHaveOneSize = (X : Cells) (left top : ℤ) (columns rows : ℕ) → normal X ≡ X → IsBox X left top columns rows → (width X ≡ columns) × (height X ≡ rows)
 
 -- Two normal sets of at most 40 by 40 have two texts.
 abbrev pub TextsTellApart : Type 0

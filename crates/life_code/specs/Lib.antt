@@ -1,7 +1,9 @@
 pub mod Period
+pub mod PeriodState
 pub mod Wechsler
-pub mod Decode
+pub mod DecodeState
 pub mod Codes
+pub mod CodesState
 pub mod Object
 pub mod Open
 pub mod Laws

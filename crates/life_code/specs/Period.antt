@@ -54,9 +54,3 @@ kind_at r X (Some p) = kind_of_period p ((corner (generation_of r X p)).column -
 -- the kind of X under a limit of the period
 unfoldable pub kind_of : RuleSets → Cells → ℕ → Kind
 kind_of r X limit = if set.len X == 0 then Empty else kind_at r X (period_of r X limit)
-
--- the period of a kind, if it has one, is at most the limit
-abbrev pub PeriodWithin : ℕ → Kind → Type 0
-PeriodWithin limit (Oscillator p) = p ≤ limit
-PeriodWithin limit (Ship p dx dy) = p ≤ limit
-PeriodWithin limit k = Unit {0}

@@ -4,9 +4,10 @@ ghost use Rattle.std.specs.Fmt.{decimal};
 ghost use Rattle.std.specs.FinSet as set;
 ghost use Rattle.std.specs.Option.{option_map};
 ghost use Rattle.life_core.specs.Pattern.{IsWithin, normal};
-ghost use Rattle.life_code.specs.Period.{PeriodWithin};
+ghost use Rattle.life_code.specs.PeriodState.{PeriodWithin};
 ghost use Rattle.life_code.specs.Wechsler.{width, height};
-ghost use Rattle.life_code.specs.Codes.{text_cmp, lesser, kept_least, text_of, texts_of, shape, candidates, least_text, with_prefix, code_by_kind, bytes_of, list_of};
+ghost use Rattle.life_code.specs.Codes.{text_cmp, lesser, text_of, texts_of, shape, candidates, least_text, with_prefix, code_by_kind};
+ghost use Rattle.life_code.specs.CodesState.{kept_least, bytes_of, list_of};
 
 use crate::kinds::Kind;
 use crate::period::PERIOD_LIMIT;
@@ -16,7 +17,7 @@ use std::alloc::{AllocError, Allocator};
 use std::cmp::Ordering;
 
 /// The most columns and rows of a box whose text is a candidate.
-const LARGEST_BOX: u64 = 40;
+pub(crate) const LARGEST_BOX: u64 = 40;
 
 /// Which of two texts comes first: the shorter one, and of two as long the lesser by bytes.
 fn compare_texts(a: &[u8], b: &[u8]) -> Ordering

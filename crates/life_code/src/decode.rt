@@ -2,10 +2,17 @@
 ghost use Rattle.std.specs.Prelude.{◌≡◌, ◌<◌, ◌≤◌, ◌+◌, ◌^◌, ◌∷◌, List, ℕ, MatchOption, IfOk, length, false, map};
 ghost use Rattle.std.specs.Prelude.{◌%◌, ◌/◌};
 ghost use Rattle.std.specs.List.{filter, range_with_len};
-ghost use Rattle.life_code.specs.Decode.{value_of, spells_cell, cell_of_place, decoded};
+ghost use Rattle.life_code.specs.DecodeState.{value_of, spells_cell, cell_of_place, decoded};
 
+use crate::codes::LARGEST_BOX;
 use life_core::{Cell, Pattern};
 use std::alloc::{AllocError, Allocator};
+
+/// The columns of the box.
+const COLUMNS: u16 = LARGEST_BOX as u16;
+
+/// The places of the box.
+const PLACES: u16 = COLUMNS * COLUMNS;
 
 /// The value of a character.
 fn value_of(c: u8) -> u8
@@ -32,7 +39,7 @@ struct Place {
 impl Place {
     /// Goes over one byte of the text. Tells whether the cell in column `x` is live, where this byte
     /// decides it.
-    #[tactic(auto, unfolding(crate::specs::Decode::spells_cell))]
+    #[tactic(auto, unfolding(crate::specs::DecodeState::spells_cell))]
     fn read(&mut self, c: u8, x: u128) -> Option<bool>
         requires { self.old.column < 2 ^ 127 }
         ensures decides { MatchOption result ((text : List ℕ) → spells_cell self.old.column self.old.behind_y (c ∷ text) x self.old.row ≡ spells_cell self.new.column self.new.behind_y text x self.new.row) (λ b. (text : List ℕ) → spells_cell self.old.column self.old.behind_y (c ∷ text) x self.old.row ≡ b) }
@@ -97,17 +104,17 @@ fn cell_of_place(place: u16) -> Cell
     ensures { result ≡ cell_of_place place }
 {
     Cell {
-        row: i64::from(place / 40),
-        column: i64::from(place % 40),
+        row: i64::from(place / COLUMNS),
+        column: i64::from(place % COLUMNS),
     }
 }
 
 /// Whether the text spells the cell of a place of the box.
 fn spells_place(text: &[u8], place: u16) -> bool
-    requires { place < 1600 }
-    ensures { result ≡ spells_cell 0 false text.now (place % 40) (place / 40) }
+    requires { place < PLACES }
+    ensures { result ≡ spells_cell 0 false text.now (place % COLUMNS) (place / COLUMNS) }
 {
-    spells_cell(text, (place % 40) as u8, (place / 40) as u8)
+    spells_cell(text, (place % COLUMNS) as u8, (place / COLUMNS) as u8)
 }
 
 /// The cells of the first places of the box that the text spells.
@@ -116,7 +123,7 @@ fn spelled_cells<A: Allocator>(
     text: &[u8],
     places: u16,
 ) -> Result<Vec<Cell, A>, AllocError>
-    requires { places ≤ 1600 }
+    requires { places ≤ PLACES }
     ensures { IfOk result (λ v. v.items ≡ map cell_of_place (filter (λ i. spells_cell 0 false text.now (i % 40) (i / 40)) (range_with_len 0 places))) }
 {
     (0..places)
@@ -129,5 +136,5 @@ fn spelled_cells<A: Allocator>(
 pub(crate) fn decoded<A: Allocator>(alloc: A, text: &[u8]) -> Result<Pattern<A>, AllocError>
     ensures { IfOk result (λ X. X ≡ decoded text.now) }
 {
-    Ok(Pattern::from_list(spelled_cells(alloc, text, 1600)?))
+    Ok(Pattern::from_list(spelled_cells(alloc, text, PLACES)?))
 }

@@ -1,9 +1,14 @@
 //! What holds of all kinds and codes.
-ghost use Rattle.life_code.specs.Laws.{OneKind, PhasesComeAgain, PhasesDiffer, TextsTellApart, LeastIsLeast, SameIsEquivalence, CodeIsInvariant, CodeIsComplete, CodeSpells, SpellsOne};
+ghost use Rattle.std.specs.Prelude.{◌≡◌};
+ghost use Rattle.life_code.specs.Laws.{BoxesHaveOneSize, OneKind, PhasesComeAgain, PhasesDiffer, TextsTellApart, LeastIsLeast, SameIsEquivalence, CodeIsInvariant, CodeIsComplete, CodeSpells, SpellsOne};
+
+use crate::period::PERIOD_LIMIT;
 
 /// A pattern has one kind; a code names exactly one object, which is a class of patterns that moves,
 /// turns and reflections take to phases of one another. A law: calling it does nothing.
 pub fn laws_of_codes()
+    ensures limit { PERIOD_LIMIT ≡ 1024 }
+    ensures one_size { BoxesHaveOneSize }
     ensures one_kind { OneKind }
     ensures phases_come_again { PhasesComeAgain }
     ensures phases_differ { PhasesDiffer }

@@ -12,9 +12,6 @@ mod wechsler;
 
 pub use kinds::Kind;
 pub use laws::laws_of_codes;
-pub use object::{Coded, code, same_object};
+pub use object::{Coded, code, code_of_kind, same_object};
 pub use open::{CodeFault, open_code};
 pub use period::{PERIOD_LIMIT, kind, kind_by};
-
-#[cfg(test)]
-mod tests;

@@ -42,8 +42,9 @@ impl<A: Allocator> Coded<A> {
     }
 }
 
-/// The code of a pattern whose kind under the limit is known.
-pub(crate) fn code_of_kind<A: Allocator + Copy>(
+/// The pattern with its code, as [`code`] gives it, where its kind under the limit is known already:
+/// no period is searched.
+pub fn code_of_kind<A: Allocator + Copy>(
     alloc: A,
     rule: &Rule,
     pattern: &Pattern<A>,

@@ -6,7 +6,7 @@ ghost use Rattle.life_core.specs.Pattern.{Cells};
 ghost use Rattle.life_code.specs.Codes.{code_of};
 ghost use Rattle.life_code.specs.Open.{IsPrefix, is_digit, is_number, IsFront, IsWechsler, Spells, Refuses};
 
-use crate::codes::text_of;
+use crate::codes::{LARGEST_BOX, text_of};
 use crate::decode::decoded;
 use crate::kinds::Kind;
 use crate::object::code_of_kind;
@@ -104,8 +104,9 @@ fn is_front(front: &[u8]) -> bool
     }
 }
 
-/// The most bytes that a Wechsler text has: eight strips of 40 columns, and a `z` behind each.
-const LONGEST_TEXT: usize = 8 * 41;
+/// The most bytes that a Wechsler text has: a byte for each column of each strip of five rows, and a
+/// `z` behind each strip.
+const LONGEST_TEXT: usize = (LARGEST_BOX / 5 * (LARGEST_BOX + 1)) as usize;
 
 /// The pattern of a Wechsler text, if it is the text of one that is not empty.
 fn read_wechsler<A: Allocator + Copy>(alloc: A, text: &[u8]) -> Result<Option<Pattern<A>>, Fault>

@@ -1,10 +1,10 @@
 //! The search for the period of a pattern.
-ghost use Rattle.std.specs.Prelude.{◌≡◌, ◌≤◌, IfOk};
+ghost use Rattle.std.specs.Prelude.{◌≡◌, ◌↔◌, ◌≤◌, ◌+◌, ◌*◌, IfOk, IsTrue};
 ghost use Rattle.life_core.specs.Pattern.{IsWithin};
 ghost use Rattle.life_code.specs.Period.{kind_of, HasKind};
 
 use crate::kinds::{Kind, kind_of_period};
-use life_core::{CellList, Fault, Pattern, Plane, Rule};
+use life_core::{CellList, Fault, PackedRows, Pattern, Plane, Rule, is_packed};
 use std::alloc::Allocator;
 
 /// The greatest limit of a period that may be asked for.
@@ -28,10 +28,27 @@ pub fn kind_by<A: Allocator + Copy, P: Plane<A>>(
     }
     let start = P::from_pattern(alloc, pattern)?;
     let mut plane = P::from_pattern(alloc, pattern)?;
+    // Generation `mark`. Where it comes again and the pattern has not, the pattern never does.
+    let mut kept = P::from_pattern(alloc, pattern)?;
+    let mut mark = 0;
     for period in 1..limit + 1 {
         plane.step(rule)?;
         if let Some((dx, dy)) = start.shift_to(&plane) {
             return Ok(kind_of_period(period, dx, dy));
+        }
+        if kept.shift_to(&plane).is_some() {
+            return Ok(Kind::Unresolved);
+        }
+        // Generations 1, 2, 4, 8 and so on are kept, so that one of them soon lies in the cycle. The
+        // plane is made anew with them: it gives up room that the cells have left.
+        if period >= 2 * mark {
+            let here = plane.to_pattern(alloc)?;
+            if here.population() == 0 {
+                return Ok(Kind::Unresolved);
+            }
+            kept = P::from_pattern(alloc, &here)?;
+            plane = P::from_pattern(alloc, &here)?;
+            mark = period;
         }
     }
     Ok(Kind::Unresolved)
@@ -50,5 +67,9 @@ pub fn kind<A: Allocator + Copy>(
     ensures value { IfOk result (λ k. k ≡ kind_of rule.now pattern.now limit) }
     ensures meaning { IfOk result (HasKind rule.now pattern.now limit) }
 {
-    kind_by::<A, CellList<A>>(alloc, rule, pattern, limit)
+    if is_packed(pattern.bounds(), limit) {
+        kind_by::<A, PackedRows<A>>(alloc, rule, pattern, limit)
+    } else {
+        kind_by::<A, CellList<A>>(alloc, rule, pattern, limit)
+    }
 }

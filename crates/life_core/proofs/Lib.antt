@@ -15,3 +15,15 @@ pub mod CellCountsLemmas
 pub mod Placements
 pub mod PatternCorners
 pub mod PatternExtents
+pub mod WordDigits
+pub mod WordShifts
+pub mod WordStretches
+pub mod PackedPlaces
+pub mod PackedSteps
+pub mod FrameBounds
+pub mod PackedCells
+pub mod PackedJoins
+pub mod PackedShifts
+pub mod PackedGrowth
+pub mod PackedOrder
+pub mod Spans

@@ -1,18 +1,22 @@
 //! Generations of a pattern.
-ghost use Rattle.std.specs.Prelude.{◌≡◌, ◌+◌, ◌-◌, ◌≤◌, ℕ, IfOk};
+ghost use Rattle.std.specs.Prelude.{◌≡◌, ◌↔◌, ◌+◌, ◌*◌, ◌-◌, ◌≤◌, ℕ, IfOk, IsTrue, MatchOption};
 ghost use Rattle.life_core.specs.Pattern.{IsWithin};
 ghost use Rattle.life_core.specs.Generations.{generation_of, NextByCells, GrowsByOne};
 
 use crate::cell::PLANE;
 use crate::cell_list::CellList;
 use crate::fault::Fault;
-use crate::pattern::Pattern;
+use crate::packed::rows::PackedRows;
+use crate::pattern::{Bounds, Pattern};
 use crate::plane::Plane;
 use crate::rule::Rule;
 use std::alloc::Allocator;
 
 /// The most generations that one call makes.
 pub const GENERATION_LIMIT: u32 = 1024;
+
+/// The widest and the tallest box, in cells, that is kept in rows of packed words.
+pub const PACKED_LIMIT: u64 = 16_384;
 
 /// Generation `n` of the pattern, made on a plane of the kind `P`.
 pub fn generation_by<A: Allocator + Copy, P: Plane<A>>(
@@ -45,7 +49,28 @@ pub fn generation<A: Allocator + Copy>(
     ensures value { IfOk result (λ X. X ≡ generation_of rule.now pattern.now n) }
     ensures grown { IfOk result (λ X. (k : ℕ) → IsWithin k pattern.now → IsWithin (k + n) X) }
 {
-    generation_by::<A, CellList<A>>(alloc, rule, pattern, n)
+    if n == 0 {
+        return pattern.copy(alloc);
+    }
+    if is_packed(pattern.bounds(), n) {
+        generation_by::<A, PackedRows<A>>(alloc, rule, pattern, n)
+    } else {
+        generation_by::<A, CellList<A>>(alloc, rule, pattern, n)
+    }
+}
+
+/// Whether a pattern with this box is kept in rows of packed words for so many generations: whether
+/// the box's width and height, each grown by `2 * n`, are at most [`PACKED_LIMIT`]. So is one without
+/// a cell, which has no box.
+pub fn is_packed(bounds: Option<Bounds>, n: u32) -> bool
+    requires { n ≤ GENERATION_LIMIT }
+    ensures { MatchOption bounds (IsTrue result) (λ b. IsTrue result ↔ ((b.width + 2 * n ≤ PACKED_LIMIT) × (b.height + 2 * n ≤ PACKED_LIMIT))) }
+{
+    let most = PACKED_LIMIT - 2 * u64::from(n);
+    match bounds {
+        None => true,
+        Some(bounds) => bounds.width <= most && bounds.height <= most,
+    }
 }
 
 /// What the definition of a generation means: each cell of the plane lives by the rule alone, and no

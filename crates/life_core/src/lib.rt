@@ -6,7 +6,9 @@ mod cell_counts;
 pub mod cell_list;
 pub mod fault;
 pub mod generations;
+mod laws;
 pub mod orientation;
+pub mod packed;
 pub mod pattern;
 pub mod plane;
 pub mod rule;
@@ -16,12 +18,14 @@ mod sorted;
 pub use cell::{Cell, PLANE};
 pub use cell_list::CellList;
 pub use fault::Fault;
-pub use generations::{GENERATION_LIMIT, generation, generation_by, laws_of_generations};
+pub use generations::{
+    GENERATION_LIMIT, PACKED_LIMIT, generation, generation_by, is_packed, laws_of_generations,
+};
+pub use laws::laws_of_constants;
 pub use orientation::{Orientation, laws_of_symmetries};
-pub use pattern::{Bounds, Pattern};
+pub use packed::row::row_step;
+pub use packed::rows::PackedRows;
+pub use pattern::{Bounds, Pattern, laws_of_patterns};
 pub use plane::Plane;
 pub use rule::Rule;
 pub use rule_text::{RuleFault, laws_of_rule_texts};
-
-#[cfg(test)]
-mod tests;

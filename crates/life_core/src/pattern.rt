@@ -5,7 +5,8 @@ ghost use Rattle.std.specs.List.{All};
 ghost use Rattle.std.specs.FinSet as set;
 ghost use Rattle.life_core.specs.Cell.{cell_at, moved_cell, IsCellWithin};
 ghost use Rattle.life_core.specs.Orientation.{turned_cell};
-ghost use Rattle.life_core.specs.Pattern.{image, in_order, IsWithin, IsCellList, IsBox, normal, ShiftsTo, ShiftsListTo};
+ghost use Rattle.life_core.specs.Pattern.{image, in_order, IsWithin, IsBox, normal, ShiftsTo, InOrderAscends, InOrderHasMembers, NormalAtOrigin};
+ghost use Rattle.life_core.specs.PatternState.{IsCellList, ShiftsListTo};
 
 use crate::cell::{Cell, PLANE};
 use crate::fault::Fault;
@@ -31,7 +32,8 @@ pub struct Pattern<A: Allocator = Global> {
 
 impl<A: Allocator> Model for Pattern<A> {
     ghost use Rattle.std.specs.FinSet as set;
-    ghost use Rattle.life_core.specs.Pattern.{Cells, coded_cells, IsCellList};
+    ghost use Rattle.life_core.specs.Pattern.{Cells, coded_cells};
+    ghost use Rattle.life_core.specs.PatternState.{IsCellList};
     ghost use Rattle.life_core.specs.declared.cell.TheConstants.{PLANE};
 
     ghost Value = { Cells };
@@ -71,7 +73,7 @@ impl<A: Allocator> Pattern<A> {
     }
 
     /// What the set's memory comes from.
-    pub fn allocator(&self) -> &A {
+    pub(crate) fn allocator(&self) -> &A {
         self.cells.allocator()
     }
 
@@ -111,7 +113,7 @@ impl<A: Allocator> Pattern<A> {
         requires { IsWithin PLANE (image (moved_cell dx dy) self.now) }
         ensures { IfOk result (λ X. X ≡ image (moved_cell dx dy) self.now) }
     {
-        Ok(Pattern::from_list(moved_cells(alloc, &self.cells, dx, dy)?))
+        Ok(Pattern::from_sorted(moved_cells(alloc, &self.cells, dx, dy)?))
     }
 
     /// The set turned about the origin.
@@ -162,6 +164,14 @@ impl<A: Allocator> Pattern<A> {
         self.cells.len()
     }
 }
+
+/// What the definitions of the order of a set's cells and of its normal form mean. A law: calling it
+/// does nothing.
+pub fn laws_of_patterns()
+    ensures ascends { InOrderAscends }
+    ensures members { InOrderHasMembers }
+    ensures at_origin { NormalAtOrigin }
+{}
 
 /// The cells of the pairs (column, row).
 fn cells_of<A: Allocator>(alloc: A, pairs: &[(i64, i64)]) -> Result<Vec<Cell, A>, AllocError>
@@ -226,7 +236,7 @@ fn shift_between(cells: &[Cell], others: &[Cell]) -> Option<(i64, i64)>
 }
 
 /// The columns and rows from one cell to another.
-fn shift_of(from: Cell, to: Cell) -> (i64, i64)
+pub(crate) fn shift_of(from: Cell, to: Cell) -> (i64, i64)
     requires from { IsCellWithin PLANE from }
     requires to { IsCellWithin PLANE to }
     ensures columns { result.0 ≡ to.column -ℤ from.column }

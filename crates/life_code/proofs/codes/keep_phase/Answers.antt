@@ -1,5 +1,5 @@
 use Rattle.std.proofs.Common.{refl}
-use Rattle.life_code.specs.Codes.{bytes_of}
+use Rattle.life_code.specs.CodesState.{bytes_of}
 use Rattle.life_code.proofs.CodesSteps.{keep_orientation, kept_all}
 use Rattle.life_code.proofs.codes.keep_phase.Goals as goal
 

@@ -1,5 +1,6 @@
 use Rattle.std.proofs.Common.{◌≡◌, take}
-use Rattle.life_code.specs.Codes.{orientations, bytes_of}
+use Rattle.life_code.specs.Codes.{orientations}
+use Rattle.life_code.specs.CodesState.{bytes_of}
 use Rattle.life_code.proofs.CodesSteps.{kept_of}
 use Rattle.life_code.proofs.codes.keep_phase.Given as goal
 

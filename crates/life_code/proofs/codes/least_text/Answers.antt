@@ -1,5 +1,6 @@
 use Rattle.std.proofs.Common.{◌≡◌, None, ap, ◌∙◌, arith}
-use Rattle.life_code.specs.Codes.{kept_least, candidates, bytes_of}
+use Rattle.life_code.specs.CodesState.{kept_least, bytes_of}
+use Rattle.life_code.specs.Codes.{candidates}
 use Rattle.life_code.proofs.TextLists.{keep_least}
 use Rattle.life_code.proofs.CodesSteps.{keep_none, keep_more, generation_next, phase_within}
 use Rattle.life_code.proofs.codes.least_text.Goals as goal

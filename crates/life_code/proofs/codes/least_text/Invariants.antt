@@ -1,6 +1,7 @@
 use Rattle.std.proofs.Common.{◌≡◌, None}
 use Rattle.life_core.specs.Generations.{generation_of}
-use Rattle.life_code.specs.Codes.{kept_least, candidates, bytes_of}
+use Rattle.life_code.specs.CodesState.{kept_least, bytes_of}
+use Rattle.life_code.specs.Codes.{candidates}
 use Rattle.life_code.proofs.codes.least_text.Given as goal
 
 abbrev pub invariant-loop-i : goal.invariant-loop-i

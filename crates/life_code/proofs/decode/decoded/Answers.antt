@@ -1,6 +1,6 @@
 use Rattle.std.proofs.Common.{false, ◌%◌, ◌/◌, arith}
 use Rattle.life_core.specs.declared.cell.TheConstants.{PLANE}
-use Rattle.life_code.specs.Decode.{spells_cell}
+use Rattle.life_code.specs.DecodeState.{spells_cell}
 use Rattle.life_code.proofs.DecodeLemmas.{places_within, decoded_from}
 use Rattle.life_code.proofs.decode.decoded.Goals as goal
 

@@ -1,6 +1,6 @@
 use Rattle.std.proofs.Common.{◌≤◌, length, sym, ap, ◌∙◌, arith}
 use Rattle.std.proofs.Math.ListN.{drop_of_length-le}
-use Rattle.life_code.specs.Decode.{spells_cell}
+use Rattle.life_code.specs.DecodeState.{spells_cell}
 use Rattle.life_code.proofs.DecodeLemmas.{spells_nothing}
 use Rattle.life_code.proofs.decode.spells_cell.Goals as goal
 

@@ -1,5 +1,5 @@
 use Rattle.std.proofs.Common.{◌≡◌, ◌≤◌, ◌*◌, drop, false}
-use Rattle.life_code.specs.Decode.{spells_cell}
+use Rattle.life_code.specs.DecodeState.{spells_cell}
 use Rattle.life_code.proofs.decode.spells_cell.Given as goal
 
 abbrev pub invariant-loop-c : goal.invariant-loop-c

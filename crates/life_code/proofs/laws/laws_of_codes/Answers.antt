@@ -1,4 +1,6 @@
+use Rattle.std.proofs.Common.{sym}
 use Rattle.life_code.proofs.PeriodKinds.{one_kind}
+use Rattle.life_code.proofs.CodesSteps.{width_of_box, height_of_box}
 use Rattle.life_code.proofs.PeriodLemmas.{phases_come_again, phases_differ}
 use Rattle.life_code.proofs.WechslerTexts.{texts_tell_apart}
 use Rattle.life_code.proofs.CandidateLemmas.{least_is_least}
@@ -35,3 +37,6 @@ returns-clause-spells c = codes_spell
 
 pub returns-clause-spells_one : goal.returns-clause-spells_one
 returns-clause-spells_one c = spells_one
+
+pub returns-clause-one_size : goal.returns-clause-one_size
+returns-clause-one_size c = λ X left top columns rows same box. (sym (width_of_box X left top columns rows same box), sym (height_of_box X left top columns rows same box))

@@ -1,5 +1,5 @@
 use Rattle.std.proofs.Common.{refl, ◌∙◌, sym, ap}
-use Rattle.life_code.specs.Codes.{bytes_of}
+use Rattle.life_code.specs.CodesState.{bytes_of}
 use Rattle.life_code.proofs.ObjectLemmas.{kind_within, code_is, code_of_copy}
 use Rattle.life_code.proofs.object.code_of_kind.Goals as goal
 

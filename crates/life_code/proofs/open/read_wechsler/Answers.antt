@@ -1,7 +1,7 @@
 use Rattle.std.proofs.Common.{sym, ap, ◌∙◌, arith}
 use Rattle.std.specs.Prelude.{nat_eq}
 use lib.Pointwise.{pointwise}
-use Rattle.life_code.specs.Codes.{list_of}
+use Rattle.life_code.specs.CodesState.{list_of}
 use Rattle.life_code.proofs.ObjectLemmas.{texts_decide}
 use Rattle.life_code.proofs.WechslerLengths.{long_spells}
 use Rattle.life_code.proofs.OpenLemmas.{decoded_room, refused_empty, refused_normal, refused_large, refused_text, is_wechsler, same_as_normal}

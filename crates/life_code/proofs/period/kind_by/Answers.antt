@@ -1,8 +1,9 @@
 use Rattle.std.proofs.Common.{rules, ◌≡◌, ◌-◌, ◌+◌, arith, sym, ap, ◌∙◌, SFits, w64, to_z-of_z}
 use Rattle.life_core.specs.Generations.{generation_of}
 use Rattle.life_code.proofs.PeriodKinds.{kind_one}
-use Rattle.life_code.proofs.PeriodSteps.{room_at, generation_more, none_more, nothing, something, found_at, none_at}
+use Rattle.life_code.proofs.PeriodSteps.{room_at, generation_more, none_more, nothing, something, found_at, none_at, none_after, none_of_nothing}
 use Rattle.life_code.proofs.period.kind_by.Goals as goal
+use Rattle.life_code.proofs.period.kind_by.Goals.{then-period-mark+in_ok-here+else-population-eq0-2+in_ok-kept-2+in_ok-plane-2, else-period-mark}
 
 pub returns-then-population-eq0-clause-meaning : goal.returns-then-population-eq0-clause-meaning
 returns-then-population-eq0-clause-meaning g c = nothing c.args.pattern.now _ c.population.ensures c.if-population-eq0.true
@@ -28,16 +29,57 @@ returns-in-Some-clause-meaning g c =
 pub returns-in-Some-clause-value : goal.returns-in-Some-clause-value
 returns-in-Some-clause-value g c = sym (kind_one _ _ _ _ (returns-in-Some-clause-meaning g c))
 
+pub returns-then-is_some-clause-meaning : goal.returns-then-is_some-clause-meaning
+returns-then-is_some-clause-meaning g c =
+    let rule = c.args.rule.now in
+    let cells = c.args.pattern.now in
+    let period = c.loop-period.period in
+    let some = something cells _ c.population.ensures c.if-population-eq0.false in
+    let now : g.P.Plane.cells c.step.new.self ≡ generation_of rule cells c.loop-period.period =
+    generation_more rule cells (g.P.Plane.cells c.loop-period.plane) (g.P.Plane.cells c.step.new.self) c.loop-period.period c.loop-period.auto.period c.loop-period.invariant.now c.in_ok-step.ensures.ok in
+    let none = none_more rule cells c.loop-period.period c.loop-period.invariant.none (none_at rule cells _ _ c.loop-period.period some c.in_ok-start.ensures now c.in_default.ensures) in
+    none_after rule cells _ _ c.args.limit c.loop-period.mark period _ some c.loop-period.invariant.mark c.loop-period.invariant.kept now c.shift_to-in-loop-period.ensures (sym c.is_some.ensures ∙ c.if-is_some.true) none
+
+pub returns-then-is_some-clause-value : goal.returns-then-is_some-clause-value
+returns-then-is_some-clause-value g c = sym (kind_one _ _ _ _ (returns-then-is_some-clause-meaning g c))
+
+pub returns-then-population-eq0-2-clause-meaning : goal.returns-then-population-eq0-2-clause-meaning
+returns-then-population-eq0-2-clause-meaning g c =
+    let rule = c.args.rule.now in
+    let cells = c.args.pattern.now in
+    let period = c.loop-period.period in
+    let some = something cells _ c.population.ensures c.if-population-eq0.false in
+    let now : g.P.Plane.cells c.step.new.self ≡ generation_of rule cells c.loop-period.period =
+    generation_more rule cells (g.P.Plane.cells c.loop-period.plane) (g.P.Plane.cells c.step.new.self) c.loop-period.period c.loop-period.auto.period c.loop-period.invariant.now c.in_ok-step.ensures.ok in
+    let none = none_more rule cells c.loop-period.period c.loop-period.invariant.none (none_at rule cells _ _ c.loop-period.period some c.in_ok-start.ensures now c.in_default.ensures) in
+    none_of_nothing rule cells _ c.args.limit period some c.loop-period.auto.period (c.in_ok-here.ensures ∙ now) (nothing _ _ c.population-then-period-mark.ensures c.if-population-eq0-2.true) none
+
+pub returns-then-population-eq0-2-clause-value : goal.returns-then-population-eq0-2-clause-value
+returns-then-population-eq0-2-clause-value g c = sym (kind_one _ _ _ _ (returns-then-population-eq0-2-clause-meaning g c))
+
 pub loop-period-preserved : goal.loop-period-preserved
 loop-period-preserved g c =
     let rule = c.args.rule.now in
     let cells = c.args.pattern.now in
+    let period = c.loop-period.period in
     let some = something cells _ c.population.ensures c.if-population-eq0.false in
     let now : g.P.Plane.cells c.step.new.self ≡ generation_of rule cells c.loop-period.period =
     generation_more rule cells (g.P.Plane.cells c.loop-period.plane) (g.P.Plane.cells c.step.new.self) c.loop-period.period c.loop-period.auto.period c.loop-period.invariant.now c.in_ok-step.ensures.ok in
+    let none = none_more rule cells c.loop-period.period c.loop-period.invariant.none (none_at rule cells _ _ c.loop-period.period some c.in_ok-start.ensures now c.in_default.ensures) in
     record {
-      now = now ∙ ap (generation_of rule cells) (let e : c.loop-period.period ≡ c.loop-period.period + 1 - 1 = omega arith in e);
-      none = none_more rule cells c.loop-period.period c.loop-period.invariant.none (none_at rule cells _ _ c.loop-period.period some c.in_ok-start.ensures now c.in_default.ensures);
+      now = (elim c.if-period-mark.branch [
+        | then-period-mark+in_ok-here+else-population-eq0-2+in_ok-kept-2+in_ok-plane-2 w ↦ ap g.P.Plane.cells w.plane-is ∙ w.in_ok-plane-2.ensures ∙ w.in_ok-here.ensures ∙ now
+        | else-period-mark w ↦ ap g.P.Plane.cells w.plane-is ∙ now
+      ]) ∙ ap (generation_of rule cells) (let e : c.loop-period.period ≡ c.loop-period.period + 1 - 1 = omega arith in e);
+      mark = elim c.if-period-mark.branch [
+        | then-period-mark+in_ok-here+else-population-eq0-2+in_ok-kept-2+in_ok-plane-2 w ↦ omega (arith, w.mark-is)
+        | else-period-mark w ↦ omega (arith, w.mark-is, c.loop-period.invariant.mark)
+      ];
+      kept = elim c.if-period-mark.branch [
+        | then-period-mark+in_ok-here+else-population-eq0-2+in_ok-kept-2+in_ok-plane-2 w ↦ ap g.P.Plane.cells w.kept-is ∙ w.in_ok-kept-2.ensures ∙ w.in_ok-here.ensures ∙ now ∙ ap (generation_of rule cells) (sym w.mark-is)
+        | else-period-mark w ↦ ap g.P.Plane.cells w.kept-is ∙ c.loop-period.invariant.kept ∙ ap (generation_of rule cells) (sym w.mark-is)
+      ];
+      none = none;
     }
 
 pub returns-clause-meaning : goal.returns-clause-meaning

@@ -1,0 +1,15 @@
+use Rattle.std.proofs.Common.{◌+◌, ◌*◌, ap, inl, inr, arith}
+use Rattle.std.proofs.lemmas.Int.{ints}
+use Rattle.std.proofs.lemmas.Bool.{cases_eq}
+use Rattle.life_core.specs.PackedRow.{place}
+use Rattle.life_core.proofs.PackedCells.{live_place}
+use Rattle.life_core.proofs.packed.margins.top_is_free.Goals as goal
+
+pub returns-else-frame-from-clause-free : goal.returns-else-frame-from-clause-free
+returns-else-frame-from-clause-free c free d live =
+    let f = c.args.frame in
+    let p = live_place f c.args.rows.now c.requires.frame.wide c.requires.rows d live in
+    elim (cases_eq p.y 0) [
+      | inl edge ↦ absurd (omega (arith, p.live, c.row_is_dead.ensures free p.x p.narrow, ap (λ y. place c.args.rows.now (y * (64 * f.words) + p.x)) edge))
+      | inr apart ↦ omega (arith, ints, p.row, apart)
+    ]

@@ -1,0 +1,29 @@
+use Rattle.std.proofs.Common.{◌*◌, sym, ap, subst, ◌∙◌, arith}
+use Rattle.std.specs.FinSet as set
+use Rattle.std.proofs.lemmas.Map.Views.{All-from_any}
+use Rattle.life_core.specs.declared.cell.TheConstants.{PLANE}
+use Rattle.life_core.specs.Pattern.{Cells, IsWithin}
+use Rattle.life_core.specs.PackedFrameState.{IsIn}
+use Rattle.life_core.proofs.PatternMembers.{same_cell_laws, contains-list, within_from_list}
+use Rattle.life_core.proofs.PatternOrder.{from_list_of}
+use Rattle.life_core.proofs.packed.rows.PackedRowsPlane.from_pattern.Goals as goal
+
+pub words_of-requires-clause-cells : goal.words_of-requires-clause-cells
+words_of-requires-clause-cells g c =
+    let f = c.of-frame.result in
+    All-from_any same_cell_laws (IsIn f.left f.top (64 * f.words) f.height) c.cells.result.now (λ d h.
+    c.of-frame.ensures.inside d (ap (λ (X : Cells). set.contains X d) (sym (from_list_of _ c.cells.result.now c.cells.ensures.cells)) ∙ contains-list c.cells.result.now d ∙ h))
+
+pub invariant_of-result : goal.invariant_of-result
+invariant_of-result g c = record {
+  frame = c.of-frame.ensures.frame;
+  size = c.in_ok-rows.ensures.len;
+  room = omega (arith, c.in_ok-rows.ensures.len, c.in_ok-spare.ensures.len);
+  empty = record { long = c.in_ok-blank.ensures.len; dead = c.in_ok-blank.ensures.zeros };
+  within = subst (IsWithin PLANE) (sym c.in_ok-rows.ensures.cells) (within_from_list PLANE c.cells.result.now c.cells.ensures.inside);
+  blank_words = c.in_ok-spans.ensures c.in_ok-rows.rows.items;
+  blank_spare = c.in_ok-spare_spans.ensures c.in_ok-spare.spare.items;
+}
+
+pub returns : goal.returns
+returns g c = c.in_ok-rows.ensures.cells ∙ from_list_of _ c.cells.result.now c.cells.ensures.cells

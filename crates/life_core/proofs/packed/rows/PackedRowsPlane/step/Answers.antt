@@ -1,0 +1,66 @@
+use Rattle.std.proofs.Common.{◌≡◌, ℕ, List, length, drop, sym, ap, subst, ◌∙◌, refl, arith}
+use Rattle.std.proofs.lemmas.List.{take_at}
+use Rattle.life_core.specs.Pattern.{IsWithin}
+use Rattle.life_core.specs.Generations.{next}
+use Rattle.life_core.proofs.GenerationsLaws.{next_within}
+use Rattle.life_core.specs.PackedFrameState.{framed}
+use Rattle.life_core.specs.PackedRowsState.{IsPacked}
+use Rattle.life_core.specs.declared.packed.span.Span.{Span}
+use Rattle.life_core.specs.PackedSpanState.{AreSpans}
+use Rattle.life_core.proofs.packed.rows.PackedRowsPlane.step.Goals as goal
+use Rattle.life_core.proofs.packed.rows.PackedRowsPlane.step.Goals.{in-Some+in_ok-rows+in_ok-spare+in_ok-blank+in_ok-spans+in_ok-spare_spans, in_default}
+
+pub advance-requires-clause-spans : goal.advance-requires-clause-spans
+advance-requires-clause-spans g c =
+    let s = c.match-with_room.self-inside in
+    let all : AreSpans s.frame s.rows.items s.spans.items = elim c.match-with_room.branch [
+      | in-Some+in_ok-rows+in_ok-spare+in_ok-blank+in_ok-spans+in_ok-spare_spans w ↦ subst (λ z. AreSpans z.frame z.rows.items z.spans.items) (sym w.self-inside-is) (w.in_ok-spans.ensures _)
+      | in_default w ↦ subst (λ z. AreSpans z.frame z.rows.items z.spans.items) (sym w.self-inside-is) c.self.invariant.blank_words
+    ] in
+    subst (λ (p : List ℕ × List Span). AreSpans s.frame p.0 p.1) (λ i. (sym c.deref-2.ensures.value i, sym c.deref-3.ensures.value i)) all
+
+pub advance-requires-clause-out_spans : goal.advance-requires-clause-out_spans
+advance-requires-clause-out_spans g c =
+    let s = c.match-with_room.self-inside in
+    let all : AreSpans s.frame s.spare.items s.spare_spans.items = elim c.match-with_room.branch [
+      | in-Some+in_ok-rows+in_ok-spare+in_ok-blank+in_ok-spans+in_ok-spare_spans w ↦ subst (λ z. AreSpans z.frame z.spare.items z.spare_spans.items) (sym w.self-inside-is) (w.in_ok-spare_spans.ensures _)
+      | in_default w ↦ subst (λ z. AreSpans z.frame z.spare.items z.spare_spans.items) (sym w.self-inside-is) c.self.invariant.blank_spare
+    ] in
+    subst (λ (p : List ℕ × List Span). AreSpans s.frame p.0 p.1) (λ i. (sym c.deref_mut.ensures.value i, sym c.deref_mut-2.ensures.value i)) all
+
+pub invariant_of-self : goal.invariant_of-self
+invariant_of-self g c =
+    let s = c.match-with_room.self-inside in
+    let V = framed c.self.inside.frame c.self.inside.rows.items in
+    let J : IsPacked s.frame s.rows.items s.spare.items s.blank.items s.spans.items s.spare_spans.items × (framed s.frame s.rows.items ≡ V) = elim c.match-with_room.branch [
+      | in-Some+in_ok-rows+in_ok-spare+in_ok-blank+in_ok-spans+in_ok-spare_spans w ↦
+          let same : framed w.in-Some.wider.frame w.in_ok-rows.rows.items ≡ V = w.in_ok-rows.ensures.cells ∙ ap (framed c.self.inside.frame) w.deref-in-Some.ensures.value in
+          let new : IsPacked w.in-Some.wider.frame w.in_ok-rows.rows.items w.in_ok-spare.spare.items w.in_ok-blank.blank.items w.in_ok-spans.spans.items w.in_ok-spare_spans.spare_spans.items = record {
+            frame = w.in-Some.ensures.frame;
+            size = w.in_ok-rows.ensures.len;
+            room = omega (arith, w.in_ok-spare.ensures.len, w.len.ensures, w.in_ok-rows.rows.ok);
+            empty = record { long = w.in_ok-blank.ensures.len; dead = w.in_ok-blank.ensures.zeros };
+            within = subst (IsWithin 1000000000) (sym same) c.self.invariant.within;
+            blank_words = w.in_ok-spans.ensures _;
+            blank_spare = w.in_ok-spare_spans.ensures _;
+          } in
+          subst (λ z. IsPacked z.frame z.rows.items z.spare.items z.blank.items z.spans.items z.spare_spans.items × (framed z.frame z.rows.items ≡ V)) (sym w.self-inside-is) (new, same)
+      | in_default w ↦ subst (λ z. IsPacked z.frame z.rows.items z.spare.items z.blank.items z.spans.items z.spare_spans.items × (framed z.frame z.rows.items ≡ V)) (sym w.self-inside-is) (c.self.invariant, refl)
+    ] in
+    let r = c.args.rule.now in
+    let long : length c.advance.new.out ≡ length s.spare.items = omega (arith, ap length c.deref_mut.ensures.value) in
+    let x : c.swap.new.x.items ≡ c.advance.new.out = ap (λ v. v.items) c.swap.ensures.x_after ∙ take_at c.advance.new.out (drop (length c.advance.new.out) s.spare.items) s.spare.len (omega (arith, long, s.spare.ok)) in
+    let y : c.swap.new.y.items ≡ s.rows.items = ap (λ v. v.items) c.swap.ensures.y_after in
+    let wide : length c.advance.new.out_spans ≡ length s.spare_spans.items = omega (arith, ap length c.deref_mut-2.ensures.value) in
+    let u : c.swap-2.new.x.items ≡ c.advance.new.out_spans = ap (λ v. v.items) c.swap-2.ensures.x_after ∙ take_at c.advance.new.out_spans (drop (length c.advance.new.out_spans) s.spare_spans.items) s.spare_spans.len (omega (arith, wide, s.spare_spans.ok)) in
+    let v : c.swap-2.new.y.items ≡ s.spans.items = ap (λ v. v.items) c.swap-2.ensures.y_after in
+    let eq : framed s.frame c.swap.new.x.items ≡ next r c.args.self.now = ap (framed s.frame) x ∙ c.advance.ensures.rows ∙ ap (λ (rows : List ℕ). next r (framed s.frame rows)) c.deref-2.ensures.value ∙ ap (next r) (J.1 ∙ c.self.view_is) in
+    record {
+      frame = J.0.frame;
+      size = omega (arith, J.0.size, J.0.room, long, ap length x);
+      room = omega (arith, J.0.room, long, ap length x, ap length y);
+      empty = J.0.empty;
+      within = subst (IsWithin 1000000000) (sym eq) (next_within r 999999999 c.args.self.now c.requires);
+      blank_words = subst (λ (p : List ℕ × List Span). AreSpans s.frame p.0 p.1) (λ i. (sym x i, sym u i)) c.advance.ensures.spans;
+      blank_spare = subst (λ (p : List ℕ × List Span). AreSpans s.frame p.0 p.1) (λ i. (sym y i, sym v i)) J.0.blank_words;
+    }

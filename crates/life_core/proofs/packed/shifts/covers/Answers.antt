@@ -1,0 +1,52 @@
+use Rattle.std.proofs.Common.{◌≡◌, ◌*◌, ◌+◌, ℕ, pos, get_or, refl, sym, ap, ◌∙◌, inl, inr, arith}
+use Rattle.std.specs.FinSet as set
+use Rattle.std.proofs.lemmas.Bool.{false≢true, cases_lt}
+use Rattle.life_core.specs.Cell.{moved_cell}
+use Rattle.life_core.specs.PackedFrameState.{framed, cell_of}
+use Rattle.life_core.proofs.FrameBounds.{places_few}
+use Rattle.life_core.proofs.PackedCells.{cell_of-word}
+use Rattle.life_core.proofs.PackedShifts.{live_bit, bit_lives}
+use Rattle.std.specs.Int.{bit_at}
+use Rattle.std.proofs.lemmas.Nat.Bits.{bit_at-zero}
+use Rattle.life_core.specs.declared.cell.Cell.{Cell}
+use Rattle.life_core.proofs.packed.shifts.covers.Goals as goal
+use Rattle.life_core.proofs.packed.shifts.covers.Goals.{else-rows-k-ne0-via-then-rows-k-ne0+else-not-covers_word, else-rows-k-ne0-via-else-rows-k-ne0}
+
+pub overflow_mul-k : goal.overflow_mul-k
+overflow_mul-k c = record { fits = omega (arith, places_few c.args.frame c.requires.frame) }
+
+pub returns-then-not-covers_word : goal.returns-then-not-covers_word
+returns-then-not-covers_word c =
+    let f = c.args.frame in
+    let k = c.loop-k.k in (
+      λ t. absurd (false≢true t),
+      λ all. sym c.if-not-covers_word.true ∙ c.covers_word.ensures.1 (λ i low bit.
+          ap (λ e. set.contains (framed c.args.to c.args.others.now) (moved_cell c.args.shift.0 c.args.shift.1 e)) (ap (moved_cell (pos i) (pos 0)) c.cell.ensures ∙ sym (cell_of-word f.left f.top f.words k i c.requires.frame.wide low))
+          ∙ all (cell_of f.left f.top (64 * f.words) (64 * k + i)) (bit_lives f c.args.rows.now c.requires.frame.wide c.requires.rows k i c.loop-k-test.true low bit)),
+    )
+
+pub returns : goal.returns
+returns c = (
+  λ t d h.
+      let f = c.args.frame in
+      let b = live_bit f c.args.rows.now c.requires.frame.wide c.requires.rows d h in
+      ap (λ e. set.contains (framed c.args.to c.args.others.now) (moved_cell c.args.shift.0 c.args.shift.1 e)) (b.cell ∙ cell_of-word f.left f.top f.words b.k b.i c.requires.frame.wide b.low)
+      ∙ c.loop-k.invariant b.k (omega (arith, b.inside)) b.i b.low b.bit,
+  λ all. refl,
+)
+
+pub loop-k-preserved : goal.loop-k-preserved
+loop-k-preserved c k lt i low bit = elim (cases_lt k c.loop-k.k) [
+  | inl before ↦ c.loop-k.invariant k before i low bit
+  | inr here ↦
+      let f = c.args.frame in
+      let same : k ≡ c.loop-k.k = omega arith in
+      let there = λ (n : ℕ). set.contains (framed c.args.to c.args.others.now) (moved_cell c.args.shift.0 c.args.shift.1 (moved_cell (pos i) (pos 0) (cell_of f.left f.top (64 * f.words) (64 * n)))) in
+      let same_bit : bit_at (get_or c.args.rows.now c.loop-k.k 0) i ≡ 1 = ap (λ n. bit_at (get_or c.args.rows.now n 0) i) (sym same) ∙ bit in
+      elim c.else-rows-k-ne0.branch [
+        | else-rows-k-ne0-via-then-rows-k-ne0+else-not-covers_word w ↦
+            ap there same ∙ ap (λ (s : Cell). set.contains (framed c.args.to c.args.others.now) (moved_cell c.args.shift.0 c.args.shift.1 (moved_cell (pos i) (pos 0) s))) (sym w.cell.ensures)
+            ∙ w.covers_word.ensures.0 w.if-not-covers_word.false i low same_bit
+        | else-rows-k-ne0-via-else-rows-k-ne0 w ↦ absurd (omega (arith, same_bit, ap (λ w. bit_at w i) w.if-rows-k-ne0.false, bit_at-zero i))
+      ]
+]

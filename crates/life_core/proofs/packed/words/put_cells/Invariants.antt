@@ -1,0 +1,12 @@
+use Rattle.std.proofs.Common.{◌≡◌, ◌||◌, take, length}
+use Rattle.std.specs.FinSet as set
+use Rattle.life_core.specs.declared.cell.Cell.{Cell}
+use Rattle.life_core.proofs.PatternMembers.{has_cell}
+use Rattle.life_core.specs.PackedFrameState.{framed}
+use Rattle.life_core.proofs.packed.words.put_cells.Given as goal
+
+abbrev pub invariant-loop-cell : goal.invariant-loop-cell
+invariant-loop-cell l = record {
+  long : length l.rows ≡ length l.fn.rows;
+  members : (c : Cell) → set.contains (framed l.frame l.rows) c ≡ (has_cell (take l.cell-index l.cells) c || set.contains (framed l.frame l.fn.rows) c);
+}

@@ -1,0 +1,16 @@
+-- Lists of cells as a pattern keeps them.
+use Rattle.std.specs.Prelude.{◌≡◌, ◌≢◌, Option, None, Some, ℕ, ℤ, List, [], map}
+use Rattle.std.specs.List.{All}
+use Rattle.std.specs.List.Sorted.{IsStrictlySortedBy}
+use Rattle.life_core.specs.declared.cell.Cell.{Cell}
+use Rattle.life_core.specs.Cell.{cell_cmp, moved_cell, IsCellWithin}
+
+-- a list of cells: ascending, and within k
+pub record IsCellList (k : ℕ) (cs : List Cell) : Type 0 where
+  pub sorted : IsStrictlySortedBy cell_cmp cs
+  pub inside : All (IsCellWithin k) cs
+
+-- an answer to which move takes the cells of one list, in their order, to those of the other: none where there are none, or no move does
+abbrev pub ShiftsListTo : List Cell → List Cell → Option (ℤ × ℤ) → Type 0
+ShiftsListTo cs ds None = (dx dy : ℤ) → map (moved_cell dx dy) cs ≡ ds → cs ≡ []
+ShiftsListTo cs ds (Some move) = (cs ≢ []) × (map (moved_cell move.0 move.1) cs ≡ ds)

@@ -1,0 +1,16 @@
+//! The values of constants.
+ghost use Rattle.std.specs.Prelude.{◌≡◌, ◌∷◌, []};
+ghost use Rattle.life_core.specs.declared.orientation.TheConstants.Orientation.{ALL};
+ghost use Rattle.life_core.specs.declared.orientation.Orientation.TheVariants.{O0, O1, O2, O3, O4, O5, O6, O7};
+
+use crate::cell::PLANE;
+use crate::generations::{GENERATION_LIMIT, PACKED_LIMIT};
+use crate::orientation::Orientation;
+
+/// What the constants are; what `Rule::LIFE` is, `Rule::is_life` says. A law: calling it does nothing.
+pub fn laws_of_constants()
+    ensures orientations { ALL ≡ O0 ∷ O1 ∷ O2 ∷ O3 ∷ O4 ∷ O5 ∷ O6 ∷ O7 ∷ [] }
+    ensures plane { PLANE ≡ 1_000_000_000 }
+    ensures generations { GENERATION_LIMIT ≡ 1024 }
+    ensures packed { PACKED_LIMIT ≡ 16_384 }
+{}

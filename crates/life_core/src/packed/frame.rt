@@ -1,0 +1,123 @@
+//! Frames: where rows of packed words stand in the plane.
+ghost use Rattle.std.specs.Prelude.{◌≡◌, ◌↔◌, IsTrue, ℤ, pos, ◌+◌, ◌*◌, ◌<◌, ◌≤◌, ◌+ℤ◌, ◌-ℤ◌, ◌≤ℤ◌, neg_ℤ, true};
+ghost use Rattle.std.specs.FinSet as set;
+ghost use Rattle.life_core.specs.declared.cell.Cell.{Cell};
+ghost use Rattle.life_core.specs.PackedFrameState.{cell_in, cell_of, IsFrame, IsIn};
+
+use crate::cell::{Cell, PLANE};
+use crate::pattern::{Bounds, Pattern};
+use std::alloc::Allocator;
+
+/// Where rows of words stand: bit `i` of word `j` of row `y` is the cell in column `left + 64 j + i`
+/// and row `top + y`.
+#[derive(Clone, Copy, Debug, PartialEq, Eq)]
+pub(crate) struct Frame {
+    pub(crate) left: i64,
+    pub(crate) top: i64,
+    /// How many words a row has.
+    pub(crate) words: usize,
+    /// How many rows there are.
+    pub(crate) height: usize,
+}
+
+impl Frame {
+    /// A frame round the pattern's box.
+    pub(crate) fn of<A: Allocator>(pattern: &Pattern<A>) -> Frame
+        ensures frame { IsFrame result }
+        ensures inside { (c : Cell) → set.contains pattern.now c ≡ true → IsIn result.left result.top (64 * result.words) result.height c }
+    {
+        let _cells = pattern.cells();
+        match pattern.bounds() {
+            None => Frame {
+                left: 0,
+                top: 0,
+                words: 1,
+                height: 1,
+            },
+            Some(bounds) => Frame::round(bounds),
+        }
+    }
+
+    /// A frame round a box.
+    fn round(bounds: Bounds) -> Frame
+        requires left { neg_ℤ (pos PLANE) ≤ℤ bounds.left }
+        requires top { neg_ℤ (pos PLANE) ≤ℤ bounds.top }
+        requires right { (bounds.left +ℤ pos bounds.width) ≤ℤ pos (PLANE + 1) }
+        requires bottom { (bounds.top +ℤ pos bounds.height) ≤ℤ pos (PLANE + 1) }
+        requires some { (0 < bounds.width) × (0 < bounds.height) }
+        ensures frame { IsFrame result }
+        ensures left { result.left ≡ bounds.left }
+        ensures top { result.top ≡ bounds.top }
+        ensures width { bounds.width ≤ 64 * result.words }
+        ensures height { result.height ≡ bounds.height }
+    {
+        Frame {
+            left: bounds.left,
+            top: bounds.top,
+            words: ((bounds.width + 63) / 64) as usize,
+            height: bounds.height as usize,
+        }
+    }
+
+    /// Whether the cell lies in the frame.
+    pub(crate) fn has(self, cell: Cell) -> bool
+        requires { IsFrame self }
+        ensures { IsTrue result ↔ IsIn self.left self.top (64 * self.words) self.height cell }
+    {
+        is_between(self.left, 64 * self.words, cell.column)
+            && is_between(self.top, self.height, cell.row)
+    }
+
+    /// The column and the row of a cell, from the left and the top.
+    pub(crate) fn offset(self, cell: Cell) -> (usize, usize)
+        requires frame { IsFrame self }
+        requires cell { IsIn self.left self.top (64 * self.words) self.height cell }
+        ensures cell { cell ≡ cell_in self.left self.top result.0 result.1 }
+        ensures column { result.0 < 64 * self.words }
+        ensures row { result.1 < self.height }
+    {
+        (
+            (cell.column - self.left) as usize,
+            (cell.row - self.top) as usize,
+        )
+    }
+
+    /// The cell at a place.
+    pub(crate) fn cell(self, p: usize) -> Cell
+        requires frame { IsFrame self }
+        requires p { p < 64 * (self.height * self.words) }
+        ensures { result ≡ cell_of self.left self.top (64 * self.words) p }
+    {
+        let width = 64 * self.words;
+        Cell {
+            row: self.top + (p / width) as i64,
+            column: self.left + (p % width) as i64,
+        }
+    }
+
+    /// The frame with more columns of words, and 64 rows more for each of `top` and `bottom`.
+    pub(crate) fn grown(self, left: usize, right: usize, top: usize, bottom: usize) -> Frame
+        requires frame { IsFrame self }
+        requires few { (left ≤ 16) × (right ≤ 16) × (top ≤ 16) × (bottom ≤ 16) }
+        ensures left { result.left ≡ self.left -ℤ pos (64 * left) }
+        ensures top { result.top ≡ self.top -ℤ pos (64 * top) }
+        ensures words { result.words ≡ self.words + left + right }
+        ensures height { result.height ≡ self.height + 64 * top + 64 * bottom }
+    {
+        Frame {
+            left: self.left - (64 * left) as i64,
+            top: self.top - (64 * top) as i64,
+            words: self.words + left + right,
+            height: self.height + 64 * top + 64 * bottom,
+        }
+    }
+}
+
+/// Whether a number is one of so many from `least` on.
+fn is_between(least: i64, count: usize, n: i64) -> bool
+    requires least { neg_ℤ (pos 1_100_000_000) ≤ℤ least }
+    requires most { (least +ℤ pos count) ≤ℤ pos 1_100_000_000 }
+    ensures { IsTrue result ↔ ((least ≤ℤ n) × ((n +ℤ pos 1) ≤ℤ (least +ℤ pos count))) }
+{
+    least <= n && n < least + count as i64
+}

@@ -1,0 +1,119 @@
+//! Moves from one set in packed words to another.
+ghost use Rattle.std.specs.Prelude.{◌≡◌, ◌↔◌, ◌+◌, ◌*◌, ◌<◌, nat_eq, ◌≤◌, ◌≤ℤ◌, neg_ℤ, pos, false, IfSome, IsNone, IsTrue, length};
+ghost use Rattle.std.specs.FinSet as set;
+ghost use Rattle.life_core.specs.declared.cell.Cell.{Cell};
+ghost use Rattle.life_core.specs.Cell.{IsCellWithin};
+ghost use Rattle.life_core.specs.Pattern.{IsWithin, ShiftsTo};
+ghost use Rattle.life_core.specs.PackedRow.{place};
+ghost use Rattle.life_core.specs.PackedFrameState.{framed, IsFrame};
+ghost use Rattle.life_core.specs.PackedShiftsState.{IsFirst, Covers, CoversWord};
+
+use crate::cell::{Cell, PLANE};
+use crate::packed::frame::Frame;
+use crate::packed::words::to_the_right;
+use crate::pattern::shift_of;
+
+/// The one move, columns and rows, that takes the set of the words to that of the others; none where
+/// it is empty, or where no move does.
+pub(crate) fn shift_of_words(
+    frame: Frame,
+    rows: &[u64],
+    to: Frame,
+    others: &[u64],
+) -> Option<(i64, i64)>
+    requires frame { IsFrame frame }
+    requires rows { frame.height * frame.words ≡ length rows.now }
+    requires within { IsWithin PLANE (framed frame rows.now) }
+    requires to { IsFrame to }
+    requires others { to.height * to.words ≡ length others.now }
+    requires others_within { IsWithin PLANE (framed to others.now) }
+    ensures { ShiftsTo (framed frame rows.now) (framed to others.now) result }
+{
+    let first = first_cell(frame, rows)?;
+    let other = first_cell(to, others)?;
+    let there = shift_of(first, other);
+    let back = shift_of(other, first);
+    if !covers(frame, rows, to, others, there) {
+        return None;
+    }
+    if !covers(to, others, frame, rows, back) {
+        return None;
+    }
+    Some(there)
+}
+
+/// The first live cell, by row and then by column.
+fn first_cell(frame: Frame, rows: &[u64]) -> Option<Cell>
+    requires frame { IsFrame frame }
+    requires rows { frame.height * frame.words ≡ length rows.now }
+    ensures none { IsNone result → (c : Cell) → set.contains (framed frame rows.now) c ≡ false }
+    ensures first { IfSome result (IsFirst (framed frame rows.now)) }
+{
+    for k in 0..rows.len() {
+        if rows[k] != 0 {
+            return Some(to_the_right(frame.cell(64 * k), rows[k].trailing_zeros()));
+        }
+    }
+    None
+}
+
+/// Whether the move takes each live cell of the words to one of the others.
+fn covers(frame: Frame, rows: &[u64], to: Frame, others: &[u64], shift: (i64, i64)) -> bool
+    requires frame { IsFrame frame }
+    requires rows { frame.height * frame.words ≡ length rows.now }
+    requires to { IsFrame to }
+    requires others { to.height * to.words ≡ length others.now }
+    requires columns { (neg_ℤ (pos (2 * PLANE)) ≤ℤ shift.0) × (shift.0 ≤ℤ pos (2 * PLANE)) }
+    requires rows_moved { (neg_ℤ (pos (2 * PLANE)) ≤ℤ shift.1) × (shift.1 ≤ℤ pos (2 * PLANE)) }
+    ensures { IsTrue result ↔ Covers (framed frame rows.now) (framed to others.now) shift }
+{
+    for k in 0..rows.len() {
+        if rows[k] != 0 && !covers_word(frame.cell(64 * k), rows[k], to, others, shift) {
+            return false;
+        }
+    }
+    true
+}
+
+/// Whether the move takes each live cell of a word, whose lowest place is the cell `start`, to one
+/// of the others.
+fn covers_word(start: Cell, word: u64, to: Frame, others: &[u64], shift: (i64, i64)) -> bool
+    requires start { IsCellWithin (2 * PLANE) start }
+    requires to { IsFrame to }
+    requires others { to.height * to.words ≡ length others.now }
+    requires columns { (neg_ℤ (pos (2 * PLANE)) ≤ℤ shift.0) × (shift.0 ≤ℤ pos (2 * PLANE)) }
+    requires rows_moved { (neg_ℤ (pos (2 * PLANE)) ≤ℤ shift.1) × (shift.1 ≤ℤ pos (2 * PLANE)) }
+    ensures { IsTrue result ↔ CoversWord start word (framed to others.now) shift }
+{
+    for i in 0..64_u32 {
+        if word >> i & 1 == 1
+            && !is_live(to, others, to_the_right(start, i).moved(shift.0, shift.1))
+        {
+            return false;
+        }
+    }
+    true
+}
+
+/// Whether the cell is live.
+fn is_live(frame: Frame, rows: &[u64], cell: Cell) -> bool
+    requires frame { IsFrame frame }
+    requires rows { frame.height * frame.words ≡ length rows.now }
+    ensures { result ≡ set.contains (framed frame rows.now) cell }
+{
+    if frame.has(cell) {
+        let (x, y) = frame.offset(cell);
+        is_set(rows, frame.words, x, y)
+    } else {
+        false
+    }
+}
+
+/// Whether the bit in column `x` and row `y` is set.
+fn is_set(rows: &[u64], words: usize, x: usize, y: usize) -> bool
+    requires x { x < 64 * words }
+    requires y { y * words + words ≤ length rows.now }
+    ensures { result ≡ nat_eq (place rows.now (y * (64 * words) + x)) 1 }
+{
+    rows[y * words + x / 64] >> (x % 64) & 1 == 1
+}

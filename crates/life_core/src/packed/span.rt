@@ -1,0 +1,120 @@
+//! Spans of words outside of which rows are blank, so that blank stretches cost nothing.
+ghost use Rattle.std.specs.Prelude.{◌≡◌, ℕ, ◌+◌, ◌-◌, ◌*◌, ◌<◌, ◌≤◌, min, max, IfOk, List, length};
+ghost use Rattle.life_core.specs.PackedRow.{place, next_place};
+ghost use Rattle.life_core.specs.Rule.{RuleSets};
+ghost use Rattle.life_core.specs.PackedWordRuleState.{AreMasks};
+ghost use Rattle.life_core.specs.PackedSpanState.{IsBlankOutside, AreSpans, span_at};
+
+use crate::packed::frame::Frame;
+use crate::packed::row::words_step;
+use crate::packed::word_rule::RuleMasks;
+use std::alloc::{AllocError, Allocator};
+
+/// The words of a row from `from` up to `to`; none where `to` is not above `from`.
+#[derive(Clone, Copy, Debug)]
+pub(crate) struct Span {
+    pub(crate) from: usize,
+    pub(crate) to: usize,
+}
+
+impl Span {
+    /// The least span that has the words of both.
+    pub(crate) fn joined(self, other: Span) -> Span
+        ensures from { result.from ≡ min self.from other.from }
+        ensures to { result.to ≡ max self.to other.to }
+    {
+        Span {
+            from: self.from.min(other.from),
+            to: self.to.max(other.to),
+        }
+    }
+
+    /// The span with a word more on each side, in a row of so many words.
+    fn widened(self, words: usize) -> Span
+        requires { self.to ≤ words }
+        ensures from { result.from ≡ self.from - 1 }
+        ensures to { result.to ≡ min (self.to + 1) words }
+    {
+        Span {
+            from: self.from.saturating_sub(1),
+            to: if self.to < words { self.to + 1 } else { words },
+        }
+    }
+}
+
+/// A span for each row: all the words of a row.
+pub(crate) fn whole_spans<A: Allocator>(alloc: A, frame: Frame) -> Result<Vec<Span, A>, AllocError>
+    ensures { IfOk result (λ v. (rows : List ℕ) → AreSpans frame rows v.items) }
+{
+    vec![in alloc; Span {
+        from: 0,
+        to: frame.words
+    }; frame.height]
+}
+
+/// The span of row `y` joined with those of the rows above and below.
+pub(crate) fn span_round(spans: &[Span], y: usize) -> Span
+    requires { y < length spans.now }
+    ensures from { result.from ≡ min (min (span_at spans.now y).from (span_at spans.now (y - 1)).from) (span_at spans.now (min (y + 1) (length spans.now - 1))).from }
+    ensures to { result.to ≡ max (max (span_at spans.now y).to (span_at spans.now (y - 1)).to) (span_at spans.now (min (y + 1) (length spans.now - 1))).to }
+{
+    let above = spans[y.saturating_sub(1)];
+    let below = spans[(y + 1).min(spans.len() - 1)];
+    spans[y].joined(above).joined(below)
+}
+
+/// One generation of a row where the rows are blank outside a span, and `out` is outside another. It
+/// gives a span of the new row, and touches no word that is known to be blank before and after.
+pub(crate) fn span_step(
+    above: &[u64],
+    here: &[u64],
+    below: &[u64],
+    masks: &RuleMasks,
+    span: Span,
+    out: &mut [u64],
+    out_span: Span,
+) -> Span
+    requires above { length above.now ≡ length out.old }
+    requires here { length here.now ≡ length out.old }
+    requires below { length below.now ≡ length out.old }
+    requires blank { (IsBlankOutside span above.now) × (IsBlankOutside span here.now) × (IsBlankOutside span below.now) }
+    requires out { IsBlankOutside out_span out.old }
+    requires ends { (span.to ≤ length out.old) × (out_span.to ≤ length out.old) }
+    requires rule { (r : RuleSets) × AreMasks r masks.now }
+    ensures long { length out.new ≡ length out.old }
+    ensures places { (r : RuleSets) (p : ℕ) → AreMasks r masks.now → p < 64 * length out.new → place out.new p ≡ next_place r above.now here.now below.now p }
+    ensures span { IsBlankOutside result out.new }
+    ensures end { result.to ≤ length out.new }
+{
+    let reach = span.widened(out.len()).joined(out_span);
+    if reach.from >= reach.to {
+        return reach;
+    }
+    words_step(above, here, below, masks, reach.from, reach.to, out);
+    trimmed(out, reach)
+}
+
+/// The span without the blank words at its ends.
+fn trimmed(row: &[u64], span: Span) -> Span
+    requires blank { IsBlankOutside span row.now }
+    requires end { span.to ≤ length row.now }
+    ensures span { IsBlankOutside result row.now }
+    ensures end { result.to ≤ length row.now }
+{
+    let mut from = span.from;
+    'left: while from < span.to && row[from] == 0 {
+        from += 1;
+    }
+    let mut to = span.to;
+    'right: while from < to && row[to - 1] == 0 {
+        to -= 1;
+    }
+    if from < to {
+        Span { from, to }
+    } else {
+        Span {
+            from: row.len(),
+            to: 0,
+        }
+    }
+}

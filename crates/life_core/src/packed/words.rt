@@ -1,0 +1,155 @@
+//! Sets of cells put into packed words, and listed from them.
+ghost use Rattle.std.specs.Prelude.{◌≡◌, ℕ, ◌+◌, ◌*◌, ◌<◌, ◌≤◌, ◌||◌, IfOk, FitsSigned, take, drop, ◌++◌, pos, ◌+ℤ◌, length, map, nat_eq, slice_index_or, if◌then◌else◌};
+ghost use Rattle.std.specs.Int.{w64};
+ghost use Rattle.std.specs.List.{All};
+ghost use Rattle.std.specs.FinSet as set;
+ghost use Rattle.life_core.specs.declared.cell.Cell.{Cell};
+ghost use Rattle.life_core.specs.Cell.{cell_cmp, moved_cell};
+ghost use Rattle.life_core.specs.PackedRow.{place};
+ghost use Rattle.life_core.specs.PackedFrameState.{cell_of, set_places, framed, IsFrame, IsIn};
+ghost use Rattle.life_core.specs.PackedMarginsState.{IsWider};
+
+use crate::cell::Cell;
+use crate::packed::frame::Frame;
+use crate::packed::margins::Wider;
+use std::alloc::{AllocError, Allocator};
+
+/// Sets the bit in column `x` and row `y`.
+pub(crate) fn set_bit(words: usize, rows: &mut [u64], x: usize, y: usize)
+    requires x { x < 64 * words }
+    requires y { y * words + words ≤ length rows.old }
+    ensures len { length rows.new ≡ length rows.old }
+    ensures bit { (p : ℕ) → place rows.new p ≡ (if nat_eq p (y * (64 * words) + x) then 1 else place rows.old p) }
+{
+    rows[y * words + x / 64] |= 1 << (x % 64);
+}
+
+/// Makes the cell live.
+pub(crate) fn put_cell(frame: Frame, cell: Cell, rows: &mut [u64])
+    requires frame { IsFrame frame }
+    requires rows { frame.height * frame.words ≡ length rows.old }
+    requires cell { IsIn frame.left frame.top (64 * frame.words) frame.height cell }
+    ensures { (c : Cell) → set.contains (framed frame rows.new) c ≡ set.contains (set.insert (framed frame rows.old) cell) c }
+{
+    let (x, y) = frame.offset(cell);
+    set_bit(frame.words, rows, x, y);
+}
+
+/// Makes the cells live.
+pub(crate) fn put_cells(frame: Frame, cells: &[Cell], rows: &mut [u64])
+    requires frame { IsFrame frame }
+    requires rows { frame.height * frame.words ≡ length rows.old }
+    requires cells { All (IsIn frame.left frame.top (64 * frame.words) frame.height) cells.now }
+    ensures len { length rows.new ≡ length rows.old }
+    ensures cells { (c : Cell) → set.contains (framed frame rows.new) c ≡ (set.contains (set.from_list {R = cell_cmp} cells.now) c || set.contains (framed frame rows.old) c) }
+{
+    for cell in cells {
+        put_cell(frame, *cell, rows);
+    }
+}
+
+/// So many words without a bit.
+pub(crate) fn zeros<A: Allocator>(alloc: A, n: usize) -> Result<Vec<u64, A>, AllocError>
+    ensures len { IfOk result (λ v. length v.items ≡ n) }
+    ensures zeros { IfOk result (λ v. (j : ℕ) → slice_index_or v.items j 0 ≡ 0) }
+{
+    vec![in alloc; 0; n]
+}
+
+/// The words of the cells.
+pub(crate) fn words_of<A: Allocator>(
+    alloc: A,
+    frame: Frame,
+    cells: &[Cell],
+) -> Result<Vec<u64, A>, AllocError>
+    requires frame { IsFrame frame }
+    requires cells { All (IsIn frame.left frame.top (64 * frame.words) frame.height) cells.now }
+    ensures len { IfOk result (λ v. frame.height * frame.words ≡ length v.items) }
+    ensures cells { IfOk result (λ v. framed frame v.items ≡ set.from_list cells.now) }
+{
+    let mut rows = zeros(alloc, frame.height * frame.words)?;
+    put_cells(frame, cells, &mut rows);
+    Ok(rows)
+}
+
+/// The cells that are live, by row and then by column.
+pub(crate) fn list_cells<A: Allocator>(
+    alloc: A,
+    frame: Frame,
+    rows: &[u64],
+) -> Result<Vec<Cell, A>, AllocError>
+    requires frame { IsFrame frame }
+    requires rows { frame.height * frame.words ≡ length rows.now }
+    ensures { IfOk result (λ v. v.items ≡ map (cell_of frame.left frame.top (64 * frame.words)) (set_places rows.now)) }
+{
+    let mut cells = Vec::new(alloc);
+    for k in 0..rows.len() {
+        if rows[k] != 0 {
+            let start = frame.cell(64 * k);
+            for i in 0..64_u32 {
+                if rows[k] >> i & 1 == 1 {
+                    cells.push(to_the_right(start, i))?;
+                }
+            }
+        }
+    }
+    Ok(cells)
+}
+
+/// The cell `i` columns to the right.
+pub(crate) fn to_the_right(cell: Cell, i: u32) -> Cell
+    requires { FitsSigned w64 (cell.column +ℤ pos i) }
+    ensures { result ≡ moved_cell (pos i) (pos 0) cell }
+{
+    Cell {
+        row: cell.row,
+        column: cell.column + i64::from(i),
+    }
+}
+
+/// The words of the same set in a wider frame.
+pub(crate) fn moved_rows<A: Allocator>(
+    alloc: A,
+    from: Frame,
+    rows: &[u64],
+    to: Wider,
+) -> Result<Vec<u64, A>, AllocError>
+    requires from { IsFrame from }
+    requires to { IsFrame to.frame }
+    requires wider { IsWider from to }
+    requires rows { from.height * from.words ≡ length rows.now }
+    ensures len { IfOk result (λ v. to.frame.height * to.frame.words ≡ length v.items) }
+    ensures cells { IfOk result (λ v. framed to.frame v.items ≡ framed from rows.now) }
+{
+    let mut wider = zeros(alloc, to.frame.height * to.frame.words)?;
+    copy_rows(from, rows, to, &mut wider);
+    Ok(wider)
+}
+
+/// Copies all rows into the rows of a wider frame, which are blank.
+fn copy_rows(from: Frame, rows: &[u64], to: Wider, out: &mut [u64])
+    requires from { IsFrame from }
+    requires to { IsFrame to.frame }
+    requires wider { IsWider from to }
+    requires rows { from.height * from.words ≡ length rows.now }
+    requires out { to.frame.height * to.frame.words ≡ length out.old }
+    requires blank { (j : ℕ) → slice_index_or out.old j 0 ≡ 0 }
+    ensures { framed to.frame out.new ≡ framed from rows.now }
+{
+    for y in 0..from.height {
+        let start = (to.top + y) * to.frame.words + to.left;
+        copy_at(
+            out,
+            start,
+            &rows[y * from.words..y * from.words + from.words],
+        );
+    }
+}
+
+/// Copies the words to those from `start` on.
+fn copy_at(out: &mut [u64], start: usize, words: &[u64])
+    requires { start + length words.now ≤ length out.old }
+    ensures { out.new ≡ take start out.old ++ (words.now ++ drop (start + length words.now) out.old) }
+{
+    out[start..start + words.len()].copy_from_slice(words);
+}

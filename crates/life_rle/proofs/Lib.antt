@@ -17,4 +17,6 @@ pub mod RoundBody
 pub mod RoundLines
 pub mod RoundHeader
 pub mod RoundText
+pub mod LawsCuts
 pub mod Vectors
+pub mod PieceLemmas

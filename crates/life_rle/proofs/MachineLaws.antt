@@ -10,7 +10,8 @@ use Rattle.life_rle.specs.Fault.{Fails}
 use Rattle.life_rle.specs.Record.{Contents}
 use Rattle.life_rle.specs.File.{kept, file}
 use Rattle.life_rle.specs.Stream.{Loses, IsEnded}
-use Rattle.life_rle.specs.Machine.{awaited, IsSound, Followed, IsFollowed, ReadsTold}
+use Rattle.life_rle.specs.Machine.{ReadsTold}
+use Rattle.life_rle.specs.MachineState.{awaited, IsSound, Followed, IsFollowed}
 use Rattle.life_rle.proofs.RecordLaws.{kept_is_record}
 
 pub follow_end : {A : Type 0} (told now : Option (List ℕ)) (machine : Machine A) (taken : ℕ) → taken ≤ 1048577 → Followed told now machine taken → IsEnded now → IsFollowed told machine taken

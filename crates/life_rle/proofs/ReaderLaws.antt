@@ -13,14 +13,15 @@ use Rattle.life_rle.specs.declared.reader.Reader.{Reader}
 use Rattle.life_rle.specs.declared.reader.Stage.TheVariants as stages
 use Rattle.life_rle.specs.declared.body.BodyReader.{BodyReader}
 use Rattle.life_rle.specs.Fault.{Fails, ◌>>=◌}
-use Rattle.life_rle.specs.Lines.{line_kind, header, kind_of}
+use Rattle.life_rle.specs.Lines.{line_kind, header}
+use Rattle.life_rle.specs.LinesState.{kind_of}
 use Rattle.life_rle.specs.Notes.{Notes, notes_of, with_line, is_header, is_header_kind, is_past_limit, notes}
 use Rattle.life_rle.specs.Header.{header_rule}
 use Rattle.life_rle.specs.Body.{body_cells, IsPairInside}
 use Rattle.life_rle.specs.BodyState.{outcome, start, body_from}
 use Rattle.life_rle.specs.Record.{Contents, IsRecord, IsInside}
 use Rattle.life_rle.specs.File.{cell_of, contents, chosen_rule, body_part, after_front, read_lines}
-use Rattle.life_rle.specs.Reader.{front_rule, resumed, resumed_at}
+use Rattle.life_rle.specs.ReaderState.{front_rule, resumed, resumed_at}
 use Rattle.life_rle.proofs.BodyLaws.{body_from_start}
 use Rattle.life_rle.proofs.RecordCells.{normal_inside}
 

@@ -20,7 +20,8 @@ use Rattle.life_core.proofs.PatternMembers.{same_cell_laws, within_from_list}
 use Rattle.life_core.proofs.PatternOrder.{has_cell-in_order, in_order-sorted, from_list-in_order}
 use Rattle.life_rle.specs.Record.{IsInside}
 use Rattle.life_rle.specs.File.{cell_of}
-use Rattle.life_rle.specs.Writer.{InOrder, IsQuarterCell, coordinates, pairs_of}
+use Rattle.life_rle.specs.Writer.{coordinates, pairs_of}
+use Rattle.life_rle.specs.WriterState.{InOrder, IsQuarterCell}
 use Rattle.life_rle.proofs.RecordCells.{IsFromZero, normal_from_zero}
 
 -- the pairs lie in the columns and rows 0 to 1023

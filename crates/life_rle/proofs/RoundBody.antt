@@ -5,7 +5,8 @@ use Rattle.std.proofs.lemmas.List.Concat.{flat_map-append}
 use Rattle.std.proofs.lemmas.Bool.{cases_eq, ne_eqb, eq-eqb}
 use Rattle.life_rle.specs.Body.{run, body_cells}
 use Rattle.life_rle.specs.BodyState.{start, step, body_from}
-use Rattle.life_rle.specs.Writer.{counted, texts_from, InOrder, item_texts}
+use Rattle.life_rle.specs.Writer.{item_texts}
+use Rattle.life_rle.specs.WriterState.{counted, texts_from, InOrder}
 use Rattle.life_rle.proofs.RecordPairs.{AllInside}
 use Rattle.life_rle.proofs.BodyPositions.{run_more}
 use Rattle.life_rle.proofs.WriterRuns.{texts_none, texts_same, texts_gap}

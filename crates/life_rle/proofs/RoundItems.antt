@@ -11,7 +11,8 @@ use Rattle.std.proofs.lemmas.Bool.{cases_eq, cases_lt, ne_eqb, eq-eqb, le-leb, a
 use Rattle.life_rle.specs.declared.fault.RleFault.TheVariants.{BadCount, TooWide}
 use Rattle.life_rle.specs.Body.{run, is_bad_number}
 use Rattle.life_rle.specs.BodyState.{Place, goes, ends, fails, live, item_step, going, body_from, is_bad_count}
-use Rattle.life_rle.specs.Writer.{item_text, counted}
+use Rattle.life_rle.specs.Writer.{item_text}
+use Rattle.life_rle.specs.WriterState.{counted}
 use Rattle.life_rle.proofs.BodyCounts.{so_far, so_far_push}
 use Rattle.life_rle.proofs.BodyLaws.{step_digit, step_good, body_next}
 

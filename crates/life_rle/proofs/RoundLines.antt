@@ -14,7 +14,8 @@ use Rattle.life_core.specs.RuleText.{is_blank, without_blanks}
 use Rattle.life_rle.specs.Lines.{lines_after, trim_start, is_mark_line}
 use Rattle.life_rle.specs.Body.{body_cells}
 use Rattle.life_rle.specs.File.{body_part}
-use Rattle.life_rle.specs.Writer.{laid, counted, item_text, texts_from, InOrder, item_texts}
+use Rattle.life_rle.specs.Writer.{laid, item_text, item_texts}
+use Rattle.life_rle.specs.WriterState.{counted, texts_from, InOrder}
 use Rattle.life_rle.proofs.RecordPairs.{AllInside}
 use Rattle.life_rle.proofs.RoundItems.{joined}
 use Rattle.life_rle.proofs.WriterRuns.{texts_none, texts_same, texts_gap}

@@ -16,7 +16,7 @@ use Rattle.life_rle.specs.Header.{header_rule}
 use Rattle.life_rle.specs.Body.{body_cells}
 use Rattle.life_rle.specs.Record.{Contents, HasNoLineEnd, IsText, IsName, IsRecord}
 use Rattle.life_rle.specs.File.{contents, chosen_rule, body_part, read_lines, kept, file}
-use Rattle.life_rle.specs.Reader.{front_rule}
+use Rattle.life_rle.specs.ReaderState.{front_rule}
 use Rattle.life_rle.specs.Writer.{text_line, optional_line, comment_line, header_line, width_of, height_of, laid, item_texts, pairs_of, text}
 use Rattle.life_rle.specs.Laws.{IsReadAgain, IsFileAgain}
 use Rattle.life_rle.proofs.ReaderLaws.{read_lines_front, read_lines_header}

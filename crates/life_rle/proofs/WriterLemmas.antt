@@ -1,10 +1,11 @@
 -- One more item laid into lines, and one more cell written.
 use Rattle.std.proofs.Common.{◌≡◌, ℕ, ◌<◌, ◌≤◌, ◌+◌, ◌-◌, cond, eqb, List, [], ◌∷◌, ◌++◌, length, refl, ap, ◌∙◌, sym, arith}
-use Rattle.std.proofs.lemmas.List.{append_assoc}
+use Rattle.std.proofs.lemmas.List.{append_assoc, length-append}
 use Rattle.std.proofs.lemmas.Bool.{eq-eqb, le-leb, lt-leb}
 use Rattle.life_rle.specs.declared.writer.ItemLines.{ItemLines}
-use Rattle.life_rle.specs.Writer.{counted, laid, texts_from}
-use Rattle.life_rle.specs.WriterState.{written}
+use Rattle.life_rle.specs.Writer.{laid}
+use Rattle.life_rle.specs.WriterState.{counted, texts_from}
+use Rattle.life_rle.specs.ItemLinesState.{written}
 use Rattle.life_rle.proofs.WriterRuns.{texts_same, texts_gap}
 
 -- ---- items
@@ -21,6 +22,21 @@ laid_next out next new item used items past e f =
     ap (λ s. s ++ laid (length item) items) (f ∙ ap (λ s. s ++ item) e ∙ append_assoc out (10 ∷ []) item)
     ∙ append_assoc out (10 ∷ item) (laid (length item) items)
     ∙ ap (λ t. out ++ cond t (item ++ laid (used + length item) items) (10 ∷ item ++ laid (length item) items)) (sym (lt-leb (used + length item) 70 past))
+
+-- the same for an item of digits and a tag
+pub item_fits : (out half new digits : List ℕ) (tag used : ℕ) (items : List (List ℕ)) → used + length digits < 70 → half ≡ out ++ digits → new ≡ half ++ tag ∷ []
+    → new ++ laid (used + (length digits + 1)) items ≡ out ++ laid used ((digits ++ tag ∷ []) ∷ items)
+item_fits out half new digits tag used items fits e f =
+    let long : length (digits ++ tag ∷ []) ≡ length digits + 1 = length-append digits (tag ∷ []) in
+    ap (λ k. new ++ laid (used + k) items) (sym long)
+    ∙ laid_fits out new (digits ++ tag ∷ []) used items (omega (arith, long)) (f ∙ ap (λ s. s ++ tag ∷ []) e ∙ append_assoc out digits (tag ∷ []))
+
+pub item_next : (out next half new digits : List ℕ) (tag used : ℕ) (items : List (List ℕ)) → 70 ≤ used + length digits → next ≡ out ++ 10 ∷ [] → half ≡ next ++ digits → new ≡ half ++ tag ∷ []
+    → new ++ laid (length digits + 1) items ≡ out ++ laid used ((digits ++ tag ∷ []) ∷ items)
+item_next out next half new digits tag used items past d e f =
+    let long : length (digits ++ tag ∷ []) ≡ length digits + 1 = length-append digits (tag ∷ []) in
+    ap (λ k. new ++ laid k items) (sym long)
+    ∙ laid_next out next new (digits ++ tag ∷ []) used items (omega (arith, long)) d (f ∙ ap (λ s. s ++ tag ∷ []) e ∙ append_assoc next digits (tag ∷ []))
 
 -- ---- cells
 

@@ -2,7 +2,8 @@
 use Rattle.std.proofs.Common.{◌≡◌, ◌≢◌, ℕ, zero, suc, ◌<◌, ◌+◌, ◌-◌, Bool, true, false, cond, eqb, List, [], ◌∷◌, ◌++◌, map, replicate, refl, ap, ◌∙◌, sym, arith, add-one}
 use Rattle.std.proofs.lemmas.List.{append_assoc, append-nil, replicate_more}
 use Rattle.std.proofs.lemmas.Bool.{ne_eqb, eq-eqb}
-use Rattle.life_rle.specs.Writer.{tags_from, onto_run, runs_of, item_text, counted, texts_from}
+use Rattle.life_rle.specs.Writer.{tags_from, onto_run, runs_of, item_text}
+use Rattle.life_rle.specs.WriterState.{counted, texts_from}
 
 -- the list is empty or begins with another tag
 abbrev pub Other : ℕ → List ℕ → Type 0

@@ -1,7 +1,5 @@
 -- The form of the header line: `x = W, y = H`, and `, rule = R` where a rule is given (LifeWiki, "Run Length Encoded").
 use Rattle.std.specs.Prelude.{ℕ, codes, Bool, not, ◌||◌, List, [], ◌∷◌, length, ◌==◌, if◌then◌else◌, slice_index, Option, Some, None, Result, Ok, Err}
-use Rattle.std.specs.Option.{option_map, option_copied}
-use Rattle.std.specs.Borrow.{Bor}
 use Rattle.std.specs.Char.{is_ascii_digit, to_ascii_lowercase}
 use Rattle.life_rle.specs.declared.fault.RleFault.{RleFault}
 use Rattle.life_rle.specs.declared.fault.RleFault.TheVariants.{NoHeader, BadHeader}
@@ -58,7 +56,3 @@ formed None = Err BadHeader
 -- the rule text of a header line without its blanks
 unfoldable pub header_rule : List ℕ → Result (Option (List ℕ)) RleFault
 header_rule text = if not (begins_with_x text) then Err NoHeader else formed (header_form text)
-
--- what the reference to a rule text points to
-abbrev pub rule_copied : Option (Option (Bor (List ℕ))) → Option (Option (List ℕ))
-rule_copied rule = option_map option_copied rule

@@ -2,8 +2,6 @@
 use Rattle.std.specs.Prelude.{ℕ, codes, not, ◌||◌, List, [], ◌∷◌, ◌++◌, reverse, length, drop, ◌==◌, if◌then◌else◌, slice_index, nat_eq, Bool}
 use Rattle.std.specs.List.{starts_with}
 use Rattle.life_core.specs.RuleText.{is_blank}
-use Rattle.life_rle.specs.declared.lines.LineKind.{LineKind}
-use Rattle.life_rle.specs.declared.lines.LineKind.TheVariants as kinds
 
 -- the lines of these bytes, with what has come of the first before them; after a last line feed stands an empty line, which says nothing
 unfoldable pub lines_after : List ℕ → List ℕ → List (List ℕ)
@@ -57,12 +55,3 @@ line_kind line =
     else (if not (slice_index front 0 == 35) then header
     else (if starts_with nat_eq front (codes "#CXRLE") then passed
     else marked (slice_index front 1) (trim (drop 2 front))))
-
--- what a line is, with its text as a list
-abbrev pub kind_of : LineKind → Line
-kind_of kinds.Passed = passed
-kind_of (kinds.Name text) = named text.now
-kind_of (kinds.Author text) = authored text.now
-kind_of (kinds.Comment text) = comment text.now
-kind_of (kinds.Rule text) = ruled text.now
-kind_of kinds.Header = header

@@ -1,44 +1,17 @@
--- A file that is being read byte by byte, also from a stream: what it is read as, if these bytes are what is left.
-use Rattle.std.specs.Prelude.{◌≡◌, ℕ, ◌<◌, ◌≤◌, List, ◌++◌, length, take, drop, Option, None, Some, Result, Ok, Err}
-use Rattle.life_rle.specs.declared.fault.RleFault.{RleFault}
-use Rattle.life_rle.specs.declared.fault.RleFault.TheVariants.{Memory}
-use Rattle.life_rle.specs.declared.machine.Machine.{Machine}
+-- What a function answers that reads a file from a stream.
+use Rattle.std.specs.Prelude.{◌≡◌, ℕ, List, Option, None, Some, Result, Ok, Err}
 use Rattle.life_rle.specs.declared.machine.ReadFault.{ReadFault}
 use Rattle.life_rle.specs.declared.machine.ReadFault.TheVariants.{Rle, Unreadable}
 use Rattle.life_rle.specs.Fault.{Fails}
-use Rattle.life_rle.specs.Stream.{FailedBetween}
-use Rattle.life_rle.specs.Lines.{lines_after}
-use Rattle.life_rle.specs.Record.{Contents, IsRecord}
-use Rattle.life_rle.specs.File.{kept, file}
-use Rattle.life_rle.specs.Reader.{resumed}
+use Rattle.life_rle.specs.Stream.{raised}
+use Rattle.life_rle.specs.Record.{Contents}
+use Rattle.life_rle.specs.File.{file}
 
--- what the file is read as, if these bytes are what is left
-abbrev pub awaited : {A : Type 0} → Machine A → List ℕ → Result Contents RleFault
-awaited m bytes = resumed m.reader (lines_after m.line.items bytes)
-
--- whatever the file may be read as is a record
-abbrev pub IsSound : {A : Type 0} → Machine A → Type 0
-IsSound m = (bytes : List ℕ) (r : Contents) → awaited m bytes ≡ Ok r → IsRecord r
-
--- ---- reading from a stream
-
--- the machine has read so many of the told bytes, and those after them are still to come
-abbrev pub Followed : {A : Type 0} → Option (List ℕ) → Option (List ℕ) → Machine A → ℕ → Type 0
-Followed None now machine taken = Unit {0}
-Followed (Some bytes) now machine taken =
-    (now ≡ Some (drop taken bytes)) × (taken ≤ length bytes) × ((more : List ℕ) → awaited machine more ≡ kept (take taken bytes ++ more))
-
--- the machine has read all the told bytes, or one more than a file may have
-abbrev pub IsFollowed : {A : Type 0} → Option (List ℕ) → Machine A → ℕ → Type 0
-IsFollowed None machine taken = Unit {0}
-IsFollowed (Some bytes) machine taken =
-    (taken ≤ length bytes) × (taken ≤ 1048577) × (taken < 1048577 → taken ≡ length bytes) × ((more : List ℕ) → awaited machine more ≡ kept (take taken bytes ++ more))
-
--- what following the told bytes answers, with the counts of failures before and after it
-abbrev pub FollowGives : {A : Type 0} → Option (List ℕ) → ℕ → ℕ → Machine A → Result ℕ ReadFault → Type 0
-FollowGives told old new machine (Ok taken) = IsFollowed told machine taken
-FollowGives told old new machine (Err (Rle fault)) = fault ≡ Memory
-FollowGives told old new machine (Err Unreadable) = FailedBetween old new
+-- where no take failed, the count of failures is as it was; Unreadable is answered where one failed, and then alone
+abbrev pub Hears : {X : Type 0} → ℕ → ℕ → Result X ReadFault → Type 0
+Hears old new (Ok x) = new ≡ old
+Hears old new (Err (Rle fault)) = new ≡ old
+Hears old new (Err Unreadable) = new ≡ raised old
 
 -- the answer is what the bytes are read as, unless memory ran out or a take failed
 abbrev pub ReadsBytes : List ℕ → Result Contents ReadFault → Type 0

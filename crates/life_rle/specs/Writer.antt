@@ -1,10 +1,9 @@
 -- The one text of a record: its texts, its header, and the longest runs of its cells in lines of at most 70 bytes (LifeWiki, "Run Length
 -- Encoded": "lines should be no more than 70 characters").
-use Rattle.std.specs.Prelude.{◌≡◌, ◌≤◌, ℕ, ◌+◌, ◌-◌, ◌==◌, max, nat_le, if◌then◌else◌, nat_abs, pos, ◌≤ℤ◌, List, [], ◌∷◌, ◌++◌, length, replicate, map, Option, Some, None}
+use Rattle.std.specs.Prelude.{ℕ, ◌+◌, ◌-◌, ◌==◌, max, nat_le, if◌then◌else◌, nat_abs, List, [], ◌∷◌, ◌++◌, length, replicate, map, Option, Some, None}
 use Rattle.std.specs.List.{flat_map, fold}
 use Rattle.std.specs.Fmt.{decimal}
 use Rattle.life_core.specs.declared.cell.Cell.{Cell}
-use Rattle.life_core.specs.declared.cell.TheConstants.{PLANE}
 use Rattle.life_core.specs.Pattern.{Cells, in_order}
 use Rattle.life_core.specs.RuleText.{rule_text}
 use Rattle.life_rle.specs.Record.{Contents}
@@ -14,11 +13,6 @@ unfoldable pub tags_from : ℕ → ℕ → List (ℕ × ℕ) → List ℕ
 tags_from row column [] = []
 tags_from row column (cell ∷ cells) =
     replicate (cell.1 - row) 36 ++ replicate (cell.0 - (if cell.1 == row then column else 0)) 98 ++ 111 ∷ tags_from cell.1 (cell.0 + 1) cells
-
--- the cells stand in the order of rows and columns, from this row and column on, each once
-abbrev pub InOrder : ℕ → ℕ → List (ℕ × ℕ) → Type 0
-InOrder row column [] = Unit {0}
-InOrder row column (cell ∷ cells) = (row ≤ cell.1) × (row ≡ cell.1 → column ≤ cell.0) × InOrder cell.1 (cell.0 + 1) cells
 
 -- one more tag in front of runs: a run is a count and a tag
 abbrev pub onto_run : ℕ → List (ℕ × ℕ) → List (ℕ × ℕ)
@@ -34,17 +28,9 @@ runs_of (tag ∷ tags) = onto_run tag (runs_of tags)
 abbrev pub item_text : ℕ × ℕ → List ℕ
 item_text run = (if run.0 == 1 then [] else decimal run.0) ++ run.1 ∷ []
 
--- the items' texts at a place behind this many live cells
-abbrev pub texts_from : ℕ → ℕ → ℕ → List (ℕ × ℕ) → List (List ℕ)
-texts_from live row column cells = map item_text (runs_of (replicate live 111 ++ tags_from row column cells))
-
 -- the items' texts, the last of them `!`
 abbrev pub item_texts : List (ℕ × ℕ) → List (List ℕ)
 item_texts cells = map item_text (runs_of (tags_from 0 0 cells)) ++ (33 ∷ []) ∷ []
-
--- the text of an item of this count, or nothing where it is 0
-abbrev pub counted : ℕ → ℕ → List (List ℕ)
-counted count tag = if count == 0 then [] else item_text (count, tag) ∷ []
 
 -- the items laid into lines, after a line that has this many bytes: a line takes the next item if it then has at most 70
 unfoldable pub laid : ℕ → List (List ℕ) → List ℕ
@@ -79,13 +65,6 @@ abbrev pub header_line : ℕ → ℕ → List ℕ → List ℕ
 header_line width height rule =
     120 ∷ 32 ∷ 61 ∷ 32 ∷ decimal width ++ 44 ∷ 32 ∷ 121 ∷ 32 ∷ 61 ∷ 32 ∷ decimal height
     ++ 44 ∷ 32 ∷ 114 ∷ 117 ∷ 108 ∷ 101 ∷ 32 ∷ 61 ∷ 32 ∷ rule ++ 10 ∷ []
-
--- a cell of a normal set: both coordinates lie between 0 and the greatest of the plane
-pub record IsQuarterCell (c : Cell) : Type 0 where
-  pub row_low : pos 0 ≤ℤ c.row
-  pub row_high : c.row ≤ℤ pos PLANE
-  pub column_low : pos 0 ≤ℤ c.column
-  pub column_high : c.column ≤ℤ pos PLANE
 
 -- a cell of a normal set as a pair (column, row)
 abbrev pub coordinates : Cell → ℕ × ℕ

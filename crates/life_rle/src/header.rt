@@ -1,7 +1,8 @@
 //! The header line.
 ghost use Rattle.std.specs.Prelude.{◌≡◌, MatchResult, Ok, Err, drop, codes};
 ghost use Rattle.std.specs.Option.{option_copied};
-ghost use Rattle.life_rle.specs.Header.{after_words, past_digits, after_number, rule_part, rule_copied, header_form, header_rule};
+ghost use Rattle.life_rle.specs.Header.{after_words, past_digits, after_number, rule_part, header_form, header_rule};
+ghost use Rattle.life_rle.specs.HeaderState.{rule_copied};
 
 use crate::fault::RleFault;
 

@@ -9,6 +9,8 @@ mod lines;
 mod machine;
 mod memory;
 mod notes;
+mod pieces;
+mod putting;
 mod reader;
 mod record;
 mod stream;
@@ -16,13 +18,12 @@ mod text;
 mod writer;
 
 pub use fault::RleFault;
-pub use laws::laws_of_files;
+pub use laws::{laws_of_files, laws_of_lines_and_runs};
 pub use machine::{ReadFault, read, read_from, read_kept};
 pub use memory::{MemoryOutlet, SliceInlet};
+pub use pieces::{PieceInlet, PieceOutlet};
+pub use putting::{WriteFault, write_to};
 pub use record::{Record, plain};
 pub use stream::{Failed, FromRead, FromWrite, Inlet, Outlet, put_all};
 pub use text::{Text, Texts};
 pub use writer::write;
-
-#[cfg(test)]
-mod tests;

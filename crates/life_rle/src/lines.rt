@@ -1,7 +1,8 @@
 //! What a line is.
 ghost use Rattle.std.specs.Prelude.{◌≡◌};
 ghost use Rattle.life_core.specs.RuleText.{is_blank};
-ghost use Rattle.life_rle.specs.Lines.{trim_start, trim_end, is_mark_line, line_kind, kind_of};
+ghost use Rattle.life_rle.specs.Lines.{trim_start, trim_end, is_mark_line, line_kind};
+ghost use Rattle.life_rle.specs.LinesState.{kind_of};
 
 /// A space, a tab or a CR.
 pub(crate) fn is_blank(byte: u8) -> bool

@@ -3,7 +3,8 @@ ghost use Rattle.std.specs.Prelude.{◌≡◌, ℕ, ◌++◌, ◌∷◌, [], Lis
 ghost use Rattle.life_rle.specs.declared.fault.RleFault.TheVariants.{Memory};
 ghost use Rattle.life_rle.specs.Fault.{Gives};
 ghost use Rattle.life_rle.specs.File.{kept, file};
-ghost use Rattle.life_rle.specs.Machine.{IsSound, Followed, FollowGives, ReadsTold};
+ghost use Rattle.life_rle.specs.Machine.{ReadsTold, Hears};
+ghost use Rattle.life_rle.specs.MachineState.{IsSound, Followed, FollowGives};
 ghost use Rattle.life_rle.specs.Record.{IsInside};
 ghost use Rattle.life_rle.specs.Stream.{LosesUpTo, FailedBetween};
 
@@ -27,7 +28,7 @@ pub(crate) struct Machine<A: Allocator> {
 }
 
 impl<A: Allocator + Copy> Machine<A> {
-    ghost use Rattle.life_rle.specs.Machine.{awaited};
+    ghost use Rattle.life_rle.specs.MachineState.{awaited};
 
     #[tactic(auto, unfolding(crate::specs::File::kept))]
     fn new(alloc: A) -> Machine<A>
@@ -117,6 +118,7 @@ fn follow<A: Allocator + Copy, I: Inlet>(
     requires sound { IsSound machine.old }
     ensures follows { FollowGives (I.to_come inlet.old) (I.failures inlet.old) (I.failures inlet.new) machine.new result }
     ensures sound { OnOk result (IsSound machine.new) }
+    ensures heard { Hears (I.failures inlet.old) (I.failures inlet.new) result }
     ensures few { LosesUpTo MOST_TAKEN (I.to_come inlet.old) (I.to_come inlet.new) }
 {
     let mut buffer = [0u8; 4096];
@@ -149,6 +151,8 @@ pub fn read_from<A: Allocator + Copy, I: Inlet>(
     ensures exact { ReadsTold (I.to_come inlet.old) result }
     // Unreadable comes only where a take failed.
     ensures unreadable { result ≡ Err ReadFault.Unreadable → FailedBetween (I.failures inlet.old) (I.failures inlet.new) }
+    // A take that failed is answered Unreadable at once, and nothing else is.
+    ensures heard { Hears (I.failures inlet.old) (I.failures inlet.new) result }
     // At most 1,048,577 bytes are taken.
     ensures few { LosesUpTo MOST_TAKEN (I.to_come inlet.old) (I.to_come inlet.new) }
     ensures inside { IfOk result (λ r. IsInside 1024 r.cells) }

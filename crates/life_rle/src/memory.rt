@@ -43,7 +43,8 @@ pub struct MemoryOutlet<A: Allocator = Global> {
 impl<A: Allocator> MemoryOutlet<A> {
     /// An outlet to which nothing was put.
     pub fn new(alloc: A) -> MemoryOutlet<A>
-        ensures { ⟦<MemoryOutlet<A> as Outlet>⟧.already result ≡ Some [] }
+        ensures bytes { ⟦<MemoryOutlet<A> as Outlet>⟧.already result ≡ Some [] }
+        ensures none_failed { ⟦<MemoryOutlet<A> as Outlet>⟧.failures result ≡ 0 }
     {
         MemoryOutlet {
             bytes: Vec::new(alloc),

@@ -24,7 +24,7 @@ pub(crate) struct Notes<A: Allocator> {
 }
 
 impl<A: Allocator> Notes<A> {
-    ghost use Rattle.life_rle.specs.Lines.{kind_of};
+    ghost use Rattle.life_rle.specs.LinesState.{kind_of};
     ghost use Rattle.life_rle.specs.Notes.{no_notes, with_comment, with_line, is_past_limit, notes};
 
     pub(crate) fn new(alloc: A) -> Notes<A>

@@ -54,7 +54,7 @@ impl<A: Allocator + Copy> Reader<A> {
     ghost use Rattle.life_rle.specs.Notes.{no_notes, notes};
     ghost use Rattle.life_rle.specs.Record.{Contents, IsRecord, IsInside};
     ghost use Rattle.life_rle.specs.File.{read_lines, chosen_rule};
-    ghost use Rattle.life_rle.specs.Reader.{front_rule, resumed};
+    ghost use Rattle.life_rle.specs.ReaderState.{front_rule, resumed};
     ghost use Rattle.life_rle.specs.declared.reader.Stage.TheVariants.{Front, Body};
 
     pub(crate) fn new(alloc: A) -> Reader<A>
@@ -82,7 +82,7 @@ impl<A: Allocator + Copy> Reader<A> {
     }
 
     /// Judges a header line without its blanks.
-    #[tactic(auto, unfolding(crate::specs::Reader::front_rule))]
+    #[tactic(auto, unfolding(crate::specs::ReaderState::front_rule))]
     fn judge(&self, text: &[u8]) -> Result<Rule, RleFault>
         ensures { Gives result (front_rule (notes self.now.notes) text.now) }
     {

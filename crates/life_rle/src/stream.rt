@@ -47,7 +47,8 @@ pub struct FromRead<R> {
 impl<R: Read> FromRead<R> {
     /// The inlet over the reader.
     pub fn new(reader: R) -> FromRead<R>
-        ensures { ⟦<FromRead<R> as Inlet>⟧.to_come result ≡ R.remaining reader }
+        ensures bytes { ⟦<FromRead<R> as Inlet>⟧.to_come result ≡ R.remaining reader }
+        ensures none_failed { ⟦<FromRead<R> as Inlet>⟧.failures result ≡ 0 }
     {
         FromRead {
             reader,
@@ -82,7 +83,8 @@ pub struct FromWrite<W> {
 impl<W: Write> FromWrite<W> {
     /// The outlet over the writer.
     pub fn new(writer: W) -> FromWrite<W>
-        ensures { ⟦<FromWrite<W> as Outlet>⟧.already result ≡ W.contents writer }
+        ensures bytes { ⟦<FromWrite<W> as Outlet>⟧.already result ≡ W.contents writer }
+        ensures none_failed { ⟦<FromWrite<W> as Outlet>⟧.failures result ≡ 0 }
     {
         FromWrite {
             writer,

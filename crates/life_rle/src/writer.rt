@@ -1,12 +1,14 @@
 //! The text of a record.
-ghost use Rattle.std.specs.Prelude.{◌≡◌, ◌≤◌, ◌<◌, ◌+◌, ◌-◌, ◌^◌, ◌==◌, if◌then◌else◌, ℕ, List, ◌∷◌, ◌++◌, length, map, Ok, IfOk, OnOk};
+ghost use Rattle.std.specs.Prelude.{◌≡◌, ◌≤◌, ◌<◌, ◌+◌, ◌-◌, ◌^◌, ◌==◌, if◌then◌else◌, ℕ, List, [], ◌∷◌, ◌++◌, length, map, Ok, IfOk, OnOk};
 ghost use Rattle.std.specs.List.{All, flat_map};
 ghost use Rattle.life_rle.specs.File.{kept};
 ghost use Rattle.life_rle.specs.Record.{IsInside};
-ghost use Rattle.life_rle.specs.Writer.{InOrder, counted, item_texts, laid, text_line, optional_line, comment_line, width_of, height_of, header_line, IsQuarterCell, coordinates, text};
+ghost use Rattle.life_rle.specs.Writer.{item_texts, laid, text_line, optional_line, comment_line, width_of, height_of, header_line, coordinates, text};
+ghost use Rattle.life_rle.specs.WriterState.{InOrder, counted, IsQuarterCell};
 
 use crate::record::Record;
 use crate::text::Text;
+use itoa::Buffer;
 use life_core::{Cell, Fault};
 use std::alloc::{AllocError, Allocator};
 
@@ -22,7 +24,7 @@ struct ItemLines<A: Allocator> {
 }
 
 impl<A: Allocator + Copy> ItemLines<A> {
-    ghost use Rattle.life_rle.specs.WriterState.{written};
+    ghost use Rattle.life_rle.specs.ItemLinesState.{written};
 
     fn new(out: Vec<u8, A>) -> ItemLines<A>
         ensures out { result.out ≡ out }
@@ -31,34 +33,32 @@ impl<A: Allocator + Copy> ItemLines<A> {
         ItemLines { out, used: 0 }
     }
 
-    /// Lays one item.
-    fn put(&mut self, item: &[u8]) -> Result<(), AllocError>
-        requires { length item.now ≤ 70 }
-        ensures { OnOk result ((items : List (List ℕ)) → written self.new items ≡ written self.old (item.now ∷ items)) }
+    /// Lays one item: the digits of its count, if it is given, and its tag.
+    fn put(&mut self, digits: &[u8], tag: u8) -> Result<(), AllocError>
+        requires { length digits.now < 70 }
+        ensures { OnOk result ((items : List (List ℕ)) → written self.new items ≡ written self.old ((digits.now ++ tag ∷ []) ∷ items)) }
     {
-        if self.used + item.len() <= WIDTH {
-            self.out.extend_from_slice(item)?;
-            self.used += item.len();
+        if self.used + digits.len() < WIDTH {
+            self.out.extend_from_slice(digits)?;
+            self.out.push(tag)?;
+            self.used += digits.len() + 1;
         } else {
             self.out.push(b'\n')?;
-            self.out.extend_from_slice(item)?;
-            self.used = item.len();
+            self.out.extend_from_slice(digits)?;
+            self.out.push(tag)?;
+            self.used = digits.len() + 1;
         }
         Ok(())
     }
 
     /// Lays the item of this count, where the count is not 0.
-    fn item(&mut self, alloc: A, count: u64, tag: u8) -> Result<(), AllocError>
+    fn item(&mut self, count: u64, tag: u8) -> Result<(), AllocError>
         ensures { OnOk result ((items : List (List ℕ)) → written self.new items ≡ written self.old (counted count tag ++ items)) }
     {
         match count {
             0 => Ok(()),
-            1 => self.put(&[tag]),
-            _ => {
-                let mut item = count.to_string(alloc)?.into_bytes();
-                item.push(tag)?;
-                self.put(&item)
-            }
+            1 => self.put(b"", tag),
+            _ => self.put(Buffer::new().format(count).as_bytes(), tag),
         }
     }
 }
@@ -73,10 +73,10 @@ struct BodyWriter<A: Allocator> {
 }
 
 impl<A: Allocator + Copy> BodyWriter<A> {
-    ghost use Rattle.life_rle.specs.WriterState.{written, body_written};
+    ghost use Rattle.life_rle.specs.ItemLinesState.{written, body_written};
 
     /// Takes the next cell.
-    fn cell(&mut self, alloc: A, cell: (u32, u32)) -> Result<(), AllocError>
+    fn cell(&mut self, cell: (u32, u32)) -> Result<(), AllocError>
         requires row { self.old.row ≤ cell.1 }
         requires column { self.old.row ≡ cell.1 → self.old.column ≤ cell.0 }
         requires live { self.old.live < 2 ^ 63 }
@@ -92,23 +92,23 @@ impl<A: Allocator + Copy> BodyWriter<A> {
             self.column = here + 1;
             return Ok(());
         }
-        self.gap(alloc, x, y)?;
+        self.gap(x, y)?;
         self.row = y;
         self.column = here + 1;
         Ok(())
     }
 
     /// Lays the live cells so far, and what lies between them and the cell at x and y.
-    fn gap(&mut self, alloc: A, x: u32, y: u32) -> Result<(), AllocError>
+    fn gap(&mut self, x: u32, y: u32) -> Result<(), AllocError>
         requires row { self.old.row ≤ y }
         requires column { self.old.row ≡ y → self.old.column ≤ x }
         ensures text { OnOk result ((items : List (List ℕ)) → written self.new.lines items ≡ written self.old.lines (counted self.old.live 111 ++ (counted (y - self.old.row) 36 ++ (counted (x - (if y == self.old.row then self.old.column else 0)) 98 ++ items)))) }
         ensures live_after { OnOk result (self.new.live ≡ 1) }
     {
         let from = if y == self.row { self.column } else { 0 };
-        self.lines.item(alloc, self.live, b'o')?;
-        self.lines.item(alloc, u64::from(y - self.row), b'$')?;
-        self.lines.item(alloc, u64::from(x) - from, b'b')?;
+        self.lines.item(self.live, b'o')?;
+        self.lines.item(u64::from(y - self.row), b'$')?;
+        self.lines.item(u64::from(x) - from, b'b')?;
         self.live = 1;
         Ok(())
     }
@@ -116,7 +116,6 @@ impl<A: Allocator + Copy> BodyWriter<A> {
 
 /// Writes the body for cells in the order of rows and columns.
 fn write_body<A: Allocator + Copy>(
-    alloc: A,
     out: Vec<u8, A>,
     cells: &[(u32, u32)],
 ) -> Result<Vec<u8, A>, AllocError>
@@ -130,10 +129,10 @@ fn write_body<A: Allocator + Copy>(
         live: 0,
     };
     for cell in cells {
-        body.cell(alloc, *cell)?;
+        body.cell(*cell)?;
     }
-    body.lines.item(alloc, body.live, b'o')?;
-    body.lines.put(b"!")?;
+    body.lines.item(body.live, b'o')?;
+    body.lines.put(b"", b'!')?;
     body.lines.out.push(b'\n')?;
     Ok(body.lines.out)
 }
@@ -186,8 +185,7 @@ fn comment_lines<A: Allocator>(out: &mut Vec<u8, A>, texts: &[Text<A>]) -> Resul
 }
 
 /// Writes the header line.
-fn header_line<A: Allocator + Copy>(
-    alloc: A,
+fn header_line<A: Allocator>(
     out: &mut Vec<u8, A>,
     width: u64,
     height: u64,
@@ -196,9 +194,9 @@ fn header_line<A: Allocator + Copy>(
     ensures { OnOk result (out.new.items ≡ out.old.items ++ header_line width height rule.now) }
 {
     out.extend_from_slice(b"x = ")?;
-    out.extend_from_slice(width.to_string(alloc)?.as_bytes())?;
+    out.extend_from_slice(Buffer::new().format(width).as_bytes())?;
     out.extend_from_slice(b", y = ")?;
-    out.extend_from_slice(height.to_string(alloc)?.as_bytes())?;
+    out.extend_from_slice(Buffer::new().format(height).as_bytes())?;
     out.extend_from_slice(b", rule = ")?;
     out.extend_from_slice(rule)?;
     out.push(b'\n')?;
@@ -258,11 +256,10 @@ pub fn write<A: Allocator + Copy>(alloc: A, record: &Record<A>) -> Result<Vec<u8
     optional_line(&mut out, b'O', &record.author)?;
     comment_lines(&mut out, record.comments.as_slice())?;
     header_line(
-        alloc,
         &mut out,
         width_of(&cells),
         height_of(&cells),
         rule.as_bytes(),
     )?;
-    Ok(write_body(alloc, out, &cells)?)
+    Ok(write_body(out, &cells)?)
 }

@@ -1,6 +1,6 @@
 use Rattle.std.proofs.Common.{◌≡◌, ◌≤◌, ◌-◌, ℕ}
 use Rattle.life_rle.specs.Stream.{LosesUpTo}
-use Rattle.life_rle.specs.Machine.{IsSound, Followed}
+use Rattle.life_rle.specs.MachineState.{IsSound, Followed}
 use Rattle.life_rle.proofs.machine.follow.Given as goal
 
 -- so many bytes were taken and read, and no take failed

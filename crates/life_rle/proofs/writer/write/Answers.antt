@@ -2,7 +2,8 @@ use Rattle.std.proofs.Common.{◌≡◌, ◌∙◌, sym, ap, map, subst, rules}
 use Rattle.life_core.specs.Rule.{IsRule}
 use Rattle.life_rle.specs.Record.{Contents, IsRecord}
 use Rattle.life_rle.specs.File.{kept}
-use Rattle.life_rle.specs.Writer.{InOrder, coordinates, text}
+use Rattle.life_rle.specs.Writer.{coordinates, text}
+use Rattle.life_rle.specs.WriterState.{InOrder}
 use Rattle.life_rle.proofs.RecordPairs.{quarter_cells, pairs_in_order}
 use Rattle.life_rle.proofs.RoundText.{read_again}
 use Rattle.life_rle.proofs.writer.write.Goals as goal

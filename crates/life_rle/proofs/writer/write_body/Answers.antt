@@ -1,7 +1,8 @@
 use Rattle.std.proofs.Common.{◌≡◌, ◌++◌, ◌∷◌, [], ap, sym, ◌∙◌, drop, arith}
 use Rattle.std.proofs.lemmas.List.{drop_all}
-use Rattle.life_rle.specs.Writer.{laid, texts_from}
-use Rattle.life_rle.specs.WriterState.{written}
+use Rattle.life_rle.specs.Writer.{laid}
+use Rattle.life_rle.specs.WriterState.{texts_from}
+use Rattle.life_rle.specs.ItemLinesState.{written}
 use Rattle.life_rle.proofs.WriterRuns.{texts_none}
 use Rattle.life_rle.proofs.writer.write_body.Goals as goal
 

@@ -1,6 +1,7 @@
 use Rattle.std.proofs.Common.{◌≡◌, ℕ, ◌≤◌, ◌++◌, List, drop}
-use Rattle.life_rle.specs.Writer.{InOrder, texts_from, laid}
-use Rattle.life_rle.specs.WriterState.{body_written}
+use Rattle.life_rle.specs.Writer.{laid}
+use Rattle.life_rle.specs.WriterState.{InOrder, texts_from}
+use Rattle.life_rle.specs.ItemLinesState.{body_written}
 use Rattle.life_rle.proofs.writer.write_body.Given as goal
 
 pub record Writes (out : List ℕ) (all rest : List (ℕ × ℕ)) (text : List (List ℕ) → List ℕ) (row column live index : ℕ) : Type 0 where

@@ -1,5 +1,5 @@
 use Rattle.std.proofs.Common.{◌≡◌, ◌++◌, ℕ, List, drop}
-use Rattle.life_rle.specs.Machine.{awaited}
+use Rattle.life_rle.specs.MachineState.{awaited}
 use Rattle.life_rle.proofs.machine.Machine.take_all.Given as goal
 
 abbrev pub invariant-loop-byte : goal.invariant-loop-byte

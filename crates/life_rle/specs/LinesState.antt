@@ -1,0 +1,13 @@
+-- The kind of a line as the code has it.
+use Rattle.life_rle.specs.declared.lines.LineKind.{LineKind}
+use Rattle.life_rle.specs.declared.lines.LineKind.TheVariants as kinds
+use Rattle.life_rle.specs.Lines.{Line, passed, named, authored, comment, ruled, header}
+
+-- what a line is, with its text as a list
+abbrev pub kind_of : LineKind → Line
+kind_of kinds.Passed = passed
+kind_of (kinds.Name text) = named text.now
+kind_of (kinds.Author text) = authored text.now
+kind_of (kinds.Comment text) = comment text.now
+kind_of (kinds.Rule text) = ruled text.now
+kind_of kinds.Header = header

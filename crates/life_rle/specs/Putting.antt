@@ -1,0 +1,11 @@
+-- What a function answers that puts a text into a stream.
+use Rattle.std.specs.Prelude.{ℕ, List, Option, Result, Ok, Err}
+use Rattle.life_rle.specs.declared.putting.WriteFault.{WriteFault}
+use Rattle.life_rle.specs.declared.putting.WriteFault.TheVariants.{Unwritable, Memory}
+use Rattle.life_rle.specs.Stream.{Gains, GainsSome}
+
+-- the text was put, or a beginning of it before a put that failed; want of memory is told of by a clause of its own
+abbrev pub PutsText : Option (List ℕ) → Option (List ℕ) → List ℕ → Result (Unit {0}) WriteFault → Type 0
+PutsText old new bytes (Ok done) = Gains old new bytes
+PutsText old new bytes (Err Unwritable) = GainsSome old new bytes
+PutsText old new bytes (Err Memory) = Unit {0}

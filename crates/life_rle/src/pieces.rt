@@ -1,0 +1,121 @@
+//! Streams over memory that come and go in pieces, with one call that fails: for tests.
+ghost use Rattle.std.specs.Prelude.{◌≡◌, ◌<◌, ◌≤◌, [], Some, length};
+
+use crate::stream::{Failed, Inlet, Outlet};
+use std::alloc::Global;
+
+/// Bytes that come in pieces.
+#[derive(Drop)]
+pub struct PieceInlet {
+    bytes: Vec<u8>,
+    at: usize,
+    piece: usize,
+    fail_at: Option<u64>,
+    calls: u64,
+    failures: u64,
+    ghost at_within: { at ≤ length bytes.items },
+    ghost some_piece: { 0 < piece },
+}
+
+impl PieceInlet {
+    /// These bytes, at most so many a take. The call of the number, counted from 1, fails and moves
+    /// nothing.
+    pub fn new(bytes: Vec<u8>, piece: usize, fail_at: Option<u64>) -> PieceInlet
+        requires { 0 < piece }
+        ensures { ⟦<PieceInlet as Inlet>⟧.to_come result ≡ Some bytes.items }
+    {
+        PieceInlet {
+            bytes,
+            at: 0,
+            piece,
+            fail_at,
+            calls: 0,
+            failures: 0,
+        }
+    }
+
+    /// How many calls there were.
+    pub fn calls(&self) -> u64 {
+        self.calls
+    }
+}
+
+impl Inlet for PieceInlet {
+    ghost use Rattle.std.specs.Prelude.{Some, drop};
+
+    ghost to_come = { λ s. Some (drop s.at s.bytes.items) };
+
+    ghost failures = { λ s. s.failures };
+
+    fn take(&mut self, place: &mut [u8]) -> Result<usize, Failed> {
+        self.calls = self.calls.saturating_add(1);
+        if self.fail_at == Some(self.calls) {
+            self.failures = self.failures.saturating_add(1);
+            return Err(Failed);
+        }
+        let rest = &self.bytes[self.at..];
+        let k = rest.len().min(place.len()).min(self.piece);
+        place[..k].copy_from_slice(&rest[..k]);
+        self.at += k;
+        Ok(k)
+    }
+}
+
+/// A growing list of bytes that takes them in pieces.
+#[derive(Drop)]
+pub struct PieceOutlet {
+    bytes: Vec<u8>,
+    piece: usize,
+    fail_at: Option<u64>,
+    calls: u64,
+    failures: u64,
+    ghost some_piece: { 0 < piece },
+}
+
+impl PieceOutlet {
+    /// An outlet of at most so many bytes a put. The call of the number, counted from 1, fails and
+    /// moves nothing.
+    pub fn new(alloc: Global, piece: usize, fail_at: Option<u64>) -> PieceOutlet
+        requires { 0 < piece }
+        ensures { ⟦<PieceOutlet as Outlet>⟧.already result ≡ Some [] }
+    {
+        PieceOutlet {
+            bytes: Vec::new(alloc),
+            piece,
+            fail_at,
+            calls: 0,
+            failures: 0,
+        }
+    }
+
+    /// What was put.
+    pub fn bytes(&self) -> &[u8]
+        ensures { ⟦<PieceOutlet as Outlet>⟧.already self.now ≡ Some result.now }
+    {
+        self.bytes.as_slice()
+    }
+}
+
+impl Outlet for PieceOutlet {
+    ghost use Rattle.std.specs.Prelude.{Some};
+
+    ghost already = { λ s. Some s.bytes.items };
+
+    ghost failures = { λ s. s.failures };
+
+    fn put(&mut self, bytes: &[u8]) -> Result<usize, Failed> {
+        self.calls = self.calls.saturating_add(1);
+        if self.fail_at == Some(self.calls) {
+            self.failures = self.failures.saturating_add(1);
+            return Err(Failed);
+        }
+        let k = bytes.len().min(self.piece);
+        match self.bytes.extend_from_slice(&bytes[..k]) {
+            Ok(()) => Ok(k),
+            Err(_) => {
+                self.failures = self.failures.saturating_add(1);
+                Err(Failed)
+            }
+        }
+    }
+}

@@ -1,0 +1,42 @@
+//! A record's text, put into a stream.
+ghost use Rattle.std.specs.Prelude.{◌≡◌, OnOk, Err};
+ghost use Rattle.life_rle.specs.Putting.{PutsText};
+ghost use Rattle.life_rle.specs.Stream.{FailedBetween};
+ghost use Rattle.life_rle.specs.Writer.{text};
+
+use crate::record::Record;
+use crate::stream::{Outlet, put_all};
+use crate::writer::write;
+use std::alloc::Allocator;
+
+/// Why the text of a record was not put whole.
+#[derive(Clone, Copy, Debug, PartialEq, Eq)]
+pub enum WriteFault {
+    /// A put failed. A beginning of the text was put before it.
+    Unwritable,
+    /// A growth was refused. Nothing was put.
+    Memory,
+}
+
+/// Puts the text of a record, in as many puts as it takes.
+pub fn write_to<A: Allocator + Copy, O: Outlet>(
+    alloc: A,
+    record: &Record<A>,
+    output: &mut O,
+) -> Result<(), WriteFault>
+    // Ok has put the text, and no put failed.
+    ensures puts { PutsText (O.already output.old) (O.already output.new) (text «record».now) result }
+    ensures count { OnOk result (O.failures output.new ≡ O.failures output.old) }
+    // Unwritable comes only where a put failed; after want of memory nothing was put.
+    ensures unwritable { result ≡ Err WriteFault.Unwritable → FailedBetween (O.failures output.old) (O.failures output.new) }
+    ensures silent { result ≡ Err WriteFault.Memory → output.new ≡ output.old }
+{
+    let text = match write(alloc, record) {
+        Ok(text) => text,
+        Err(_) => return Err(WriteFault::Memory),
+    };
+    match put_all(output, &text) {
+        Ok(()) => Ok(()),
+        Err(_) => Err(WriteFault::Unwritable),
+    }
+}

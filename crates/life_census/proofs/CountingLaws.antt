@@ -14,7 +14,8 @@ use Rattle.std.proofs.lemmas.List.Folds.{list_any-append}
 use Rattle.std.proofs.lemmas.Cmp.{tied_itself}
 use Rattle.std.specs.FinMap as table
 use Rattle.std.specs.FinMap.{nat_cmp-IsAntisymmetric, slice_cmp-IsAntisymmetric}
-use Rattle.life_census.specs.Counting.{row_cmp, how_often, counts_of, one_more}
+use Rattle.life_census.specs.Counting.{row_cmp, how_often, counts_of}
+use Rattle.life_census.specs.CountingState.{one_more}
 
 abbrev pub Texts : Type 0
 Texts = List (List ℕ)

@@ -6,7 +6,8 @@ use Rattle.std.proofs.lemmas.List.{take_more}
 use Rattle.std.proofs.lemmas.List.Elements.{filter_map-append}
 use Rattle.std.proofs.lemmas.List.Sums.{count_by_more_yes, count_by_more_no}
 use Rattle.life_core.specs.Pattern.{Cells}
-use Rattle.life_census.specs.Counting.{counts_of, one_more}
+use Rattle.life_census.specs.Counting.{counts_of}
+use Rattle.life_census.specs.CountingState.{one_more}
 use Rattle.life_census.proofs.CountingLaws.{counts_push}
 
 module _ (code : Cells → Option (List ℕ)) (Ps : List Cells) (i : ℕ) (d : Cells) (low : i < length Ps) where

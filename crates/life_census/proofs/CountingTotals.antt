@@ -8,7 +8,8 @@ use Rattle.std.specs.List.{filter_map, cons_option}
 use Rattle.std.proofs.lemmas.List.{take_more, take_all}
 use Rattle.std.proofs.lemmas.List.Sums.{sum_by-cons}
 use Rattle.life_core.specs.Pattern.{Cells}
-use Rattle.life_census.specs.Counting.{row_cmp, counts_of, one_more}
+use Rattle.life_census.specs.Counting.{row_cmp, counts_of}
+use Rattle.life_census.specs.CountingState.{one_more}
 use Rattle.life_census.specs.Laws.{TalliesAddUp}
 use Rattle.life_census.proofs.CountingLaws.{counts_push, counts_none}
 

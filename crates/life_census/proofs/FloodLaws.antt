@@ -13,7 +13,7 @@ use Rattle.life_core.specs.Cell.{cell_cmp, IsCellWithin}
 use Rattle.life_core.specs.Pattern.{Cells, IsWithin}
 use Rattle.life_core.proofs.PatternMembers.{same_cell, has_cell, same_cell-true, same_cell-self, same_cell_laws, cell_cmp_total}
 use Rattle.life_census.specs.Parts.{near, AreJoined}
-use Rattle.life_census.specs.Flood.{IsClear, IsFlood, HasGrown}
+use Rattle.life_census.specs.FloodState.{IsClear, IsFlood, HasGrown}
 use Rattle.life_census.proofs.PartsLaws.{joined_self, joined_then}
 
 pub has_cell-append : (cs ds : List Cell) (c : Cell) → has_cell (cs ++ ds) c ≡ (has_cell cs c || has_cell ds c)

@@ -7,7 +7,7 @@ use Rattle.life_core.specs.Rule.{RuleSets}
 use Rattle.life_code.specs.Codes.{code_of}
 use Rattle.life_code.proofs.CodesNormal.{code_normal}
 use Rattle.life_census.specs.declared.counting.Known.{Known}
-use Rattle.life_census.specs.Counting.{IsKnown, HasShapeAt, HasCodeAt}
+use Rattle.life_census.specs.CountingState.{IsKnown, HasShapeAt, HasCodeAt}
 
 -- where the shape of a cluster is known, its code is
 pub code_at : {A : Type 0} (r : RuleSets) (limit : ℕ) (known searched : List (Known A)) (X S : Cells) (i : ℕ) → All (IsKnown r limit) known → searched ≡ known → S ≡ normal X → HasShapeAt searched S i → HasCodeAt known (code_of r X limit) i

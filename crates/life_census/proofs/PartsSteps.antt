@@ -15,7 +15,7 @@ use Rattle.life_core.specs.Cell.{cell_cmp}
 use Rattle.life_core.specs.Pattern.{Cells}
 use Rattle.life_core.proofs.PatternMembers.{has_cell, same_cell-true, contains-list}
 use Rattle.life_census.specs.Parts.{near, IsChain, AreJoined, IsPart, IsBefore, AreInOrder, ArePartsOf}
-use Rattle.life_census.specs.Flood.{IsClear, IsFlood}
+use Rattle.life_census.specs.FloodState.{IsClear, IsFlood}
 use Rattle.life_census.proofs.NearLaws.{near_symmetric}
 use Rattle.life_census.proofs.PartsLaws.{joined_trans, joined_back, near_stays, one_part, IsIn, contains_from_in, all_in}
 

@@ -7,7 +7,8 @@ use Rattle.std.specs.List.{insert}
 use Rattle.std.proofs.lemmas.List.{get_or_default}
 use Rattle.life_census.specs.declared.rows.Row.{Row}
 use Rattle.life_census.specs.Rows.{row_seen}
-use Rattle.life_census.specs.Counting.{row_cmp, one_more, AreBelow}
+use Rattle.life_census.specs.Counting.{row_cmp}
+use Rattle.life_census.specs.CountingState.{one_more, AreBelow}
 
 below_rest : {A : Type 0} (r : Row A) (rs : List (Row A)) (i : ℕ) (t : List ℕ) → AreBelow (r ∷ rs) t (suc i) → AreBelow rs t i
 below_rest r rs i t below k d h = below (suc k) d (omega arith)

@@ -12,7 +12,8 @@ use Rattle.std.proofs.lemmas.List.Folds.{flat_map-map}
 use Rattle.life_census.specs.declared.rows.Row.{Row}
 use Rattle.life_census.specs.Rows.{row_seen}
 use Rattle.csv.specs.declared.writer.Writer.{Writer}
-use Rattle.life_census.specs.Table.{Holds, line}
+use Rattle.life_census.specs.Table.{line}
+use Rattle.life_census.specs.TableState.{Holds}
 use Rattle.life_census.specs.CodeText.{is_code_byte}
 use Rattle.life_census.proofs.CodeTextLaws.{decimal_plain}
 

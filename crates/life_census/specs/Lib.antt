@@ -1,7 +1,9 @@
 pub mod Parts
-pub mod Flood
+pub mod FloodState
 pub mod CodeText
 pub mod Rows
 pub mod Counting
+pub mod CountingState
 pub mod Table
+pub mod TableState
 pub mod Laws

@@ -1,9 +1,7 @@
 -- The text of a tally, as comma-separated values (RFC 4180, with a header line; lines end in a line feed alone).
-use Rattle.std.specs.Prelude.{◌≡◌, ℕ, List, [], ◌∷◌, ◌++◌, codes, Some, false, Vec}
+use Rattle.std.specs.Prelude.{ℕ, List, [], ◌∷◌, ◌++◌, codes}
 use Rattle.std.specs.Fmt.{decimal}
 use Rattle.std.specs.List.{flat_map}
-use Rattle.csv.specs.Writing.{default_writer, text_written, fields_written, has_written, writer_setup}
-use Rattle.csv.specs.declared.writer.Writer.{Writer}
 use Rattle.life_census.specs.Rows.{Counts}
 
 -- a line: a text, a comma, a number in decimal digits, and a line feed
@@ -17,10 +15,3 @@ lines rows unresolved = codes "code,count" ++ 10 ∷ flat_map (λ row. line row.
 -- the text of a tally
 abbrev pub csv_text : Counts → List ℕ
 csv_text t = lines t.rows t.unresolved
-
--- a writer between two lines, with this text
-pub record Holds {A : Type 0} (w : Writer (Vec ℕ A)) (text : List ℕ) : Type 0 where
-  pub text_is : text_written (λ v. Some v.items) w ≡ Some text
-  pub fields : fields_written w ≡ 0
-  pub wrote : has_written w ≡ false
-  pub setup : writer_setup w ≡ default_writer

@@ -6,7 +6,7 @@ ghost use Rattle.life_census.specs.CodeText.{is_code_byte};
 use std::alloc::{AllocError, Allocator, Global};
 use std::marker::Model;
 
-/// The text of a code: lower-case letters, digits and `_`. Only `tally` makes one.
+/// The text of a code: lower-case letters, digits and `_`.
 #[derive(Debug, Drop)]
 pub struct CodeText<A: Allocator = Global> {
     bytes: Vec<u8, A>,
@@ -26,7 +26,7 @@ impl<A: Allocator> Model for CodeText<A> {
 
 impl<A: Allocator> CodeText<A> {
     /// The text of these bytes.
-    pub(crate) fn from_slice(alloc: A, bytes: &[u8]) -> Result<CodeText<A>, AllocError>
+    pub fn from_slice(alloc: A, bytes: &[u8]) -> Result<CodeText<A>, AllocError>
         requires { list_all is_code_byte bytes.now ≡ true }
         ensures { IfOk result (λ t. t ≡ bytes.now) }
     {
@@ -42,4 +42,18 @@ impl<A: Allocator> CodeText<A> {
     {
         self.bytes.as_slice()
     }
+}
+
+/// Whether the bytes may stand in the text of a code.
+pub fn is_code_text(bytes: &[u8]) -> bool
+    ensures { result ≡ list_all is_code_byte bytes.now }
+{
+    bytes.iter().all(|byte| is_code_byte(*byte))
+}
+
+/// Whether it is a lower-case letter, a digit or `_`.
+fn is_code_byte(byte: u8) -> bool
+    ensures { result ≡ is_code_byte byte }
+{
+    matches!(byte, b'a'..=b'z' | b'0'..=b'9' | b'_')
 }

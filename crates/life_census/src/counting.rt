@@ -5,7 +5,8 @@ ghost use Rattle.life_core.specs.Pattern.{IsWithin};
 ghost use Rattle.life_code.specs.Codes.{code_of};
 ghost use Rattle.life_census.specs.Parts.{parts};
 ghost use Rattle.life_census.specs.Rows.{row_seen};
-ghost use Rattle.life_census.specs.Counting.{IsTally, IsKnown, HasShapeAt, HasCodeAt, one_more, AreBelow, IsRowOf, IsPlaceFor};
+ghost use Rattle.life_census.specs.Counting.{IsTally};
+ghost use Rattle.life_census.specs.CountingState.{IsKnown, HasShapeAt, HasCodeAt, one_more, AreBelow, IsRowOf, IsPlaceFor};
 
 use crate::code_text::CodeText;
 use crate::parts::clusters;

@@ -7,7 +7,7 @@ ghost use Rattle.life_core.specs.Pattern.{IsWithin};
 ghost use Rattle.life_core.specs.declared.cell.Cell.{Cell};
 ghost use Rattle.life_core.specs.declared.cell.TheConstants.{PLANE};
 ghost use Rattle.life_census.specs.Parts.{within_two, near};
-ghost use Rattle.life_census.specs.Flood.{IsClear, IsFlood, HasGrown};
+ghost use Rattle.life_census.specs.FloodState.{IsClear, IsFlood, HasGrown};
 
 use crate::left::Left;
 use life_core::Cell;

@@ -10,12 +10,9 @@ mod parts;
 mod rows;
 mod table;
 
-pub use code_text::CodeText;
+pub use code_text::{CodeText, is_code_text};
 pub use counting::tally;
 pub use laws::{laws_of_clusters, laws_of_tallies};
 pub use parts::clusters;
 pub use rows::{Row, Rows, Tally};
 pub use table::csv;
-
-#[cfg(test)]
-mod tests;

@@ -13,7 +13,7 @@ pub struct Row<A: Allocator = Global> {
     pub count: u64,
 }
 
-/// Rows in the order of their codes, byte by byte. Only `tally` makes them.
+/// Rows. Those of a tally stand in the order of their codes, byte by byte.
 #[derive(Debug, Drop)]
 pub struct Rows<A: Allocator = Global> {
     rows: Vec<Row<A>, A>,
@@ -30,7 +30,7 @@ impl<A: Allocator> Model for Rows<A> {
 
 impl<A: Allocator> Rows<A> {
     /// These rows.
-    pub(crate) fn of(rows: Vec<Row<A>, A>) -> Rows<A>
+    pub fn of(rows: Vec<Row<A>, A>) -> Rows<A>
         ensures { result ≡ map row_seen rows.items }
     {
         Rows { rows }

@@ -4,7 +4,8 @@ ghost use Rattle.std.specs.List.{list_all};
 ghost use Rattle.csv.specs.Writing.{row_text, default_writer};
 ghost use Rattle.life_census.specs.CodeText.{is_code_byte};
 ghost use Rattle.life_census.specs.Rows.{row_seen};
-ghost use Rattle.life_census.specs.Table.{line, lines, csv_text, Holds};
+ghost use Rattle.life_census.specs.Table.{line, lines, csv_text};
+ghost use Rattle.life_census.specs.TableState.{Holds};
 
 use crate::rows::{Row, Tally};
 use csv::{Writer, WriterBuilder};

@@ -1,4 +1,4 @@
-use Rattle.life_census.specs.Counting.{AreBelow}
+use Rattle.life_census.specs.CountingState.{AreBelow}
 use Rattle.life_census.proofs.counting.place_of.Given as goal
 
 abbrev pub invariant-loop-i : goal.invariant-loop-i

@@ -6,7 +6,8 @@ use Rattle.life_core.specs.Pattern.{Cells}
 use Rattle.life_code.specs.Codes.{code_of}
 use Rattle.life_census.specs.declared.rows.Row.{Row}
 use Rattle.life_census.specs.Rows.{row_seen}
-use Rattle.life_census.specs.Counting.{counts_of, one_more}
+use Rattle.life_census.specs.Counting.{counts_of}
+use Rattle.life_census.specs.CountingState.{one_more}
 use Rattle.life_census.proofs.CountingLaws.{counts_none}
 use Rattle.life_census.proofs.CountingSteps.{with_code, without_code, resolved, unresolved}
 use Rattle.life_census.proofs.counting.tally_of.Goals as goal

@@ -2,7 +2,8 @@ use Rattle.std.proofs.Common.{◌≡◌, ◌≤◌, map, take, count_by, is_none
 use Rattle.std.specs.List.{All, filter_map}
 use Rattle.life_code.specs.Codes.{code_of}
 use Rattle.life_census.specs.Rows.{row_seen}
-use Rattle.life_census.specs.Counting.{counts_of, IsKnown}
+use Rattle.life_census.specs.Counting.{counts_of}
+use Rattle.life_census.specs.CountingState.{IsKnown}
 use Rattle.life_census.proofs.counting.tally_of.Given as goal
 
 abbrev pub invariant-loop-cluster : goal.invariant-loop-cluster

@@ -1,7 +1,7 @@
 use Rattle.std.proofs.Common.{◌<◌, ◌≤◌, length, sym, arith}
 use Rattle.std.proofs.lemmas.List.{take_all}
 use Rattle.std.proofs.lemmas.List.Elements.{All-same}
-use Rattle.life_census.specs.Flood.{IsClear}
+use Rattle.life_census.specs.FloodState.{IsClear}
 use Rattle.life_census.proofs.FloodLaws.{flood_begins, clear_next, as_long, has_item}
 use Rattle.life_census.proofs.flood.flooded.Goals as goal
 

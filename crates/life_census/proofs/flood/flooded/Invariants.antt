@@ -1,7 +1,7 @@
 use Rattle.std.proofs.Common.{◌+◌, ◌-◌, ◌≤◌, length, take}
 use Rattle.std.specs.List.{All}
 use Rattle.std.specs.FinSet as set
-use Rattle.life_census.specs.Flood.{IsClear, IsFlood}
+use Rattle.life_census.specs.FloodState.{IsClear, IsFlood}
 use Rattle.life_census.proofs.flood.flooded.Given as goal
 
 abbrev pub invariant-loop-i : goal.invariant-loop-i

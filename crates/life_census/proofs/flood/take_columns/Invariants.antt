@@ -2,7 +2,7 @@ use Rattle.std.proofs.Common.{◌≡◌, ◌-ℤ◌, ◌≤ℤ◌, ◌<ℤ◌, p
 use Rattle.std.specs.FinSet as set
 use Rattle.life_core.specs.declared.cell.Cell.{Cell}
 use Rattle.life_census.specs.Parts.{near}
-use Rattle.life_census.specs.Flood.{HasGrown}
+use Rattle.life_census.specs.FloodState.{HasGrown}
 use Rattle.life_census.proofs.flood.take_columns.Given as goal
 
 abbrev pub invariant-loop-column : goal.invariant-loop-column

@@ -1,6 +1,7 @@
 use Rattle.std.proofs.Common.{take, codes, ◌++◌, ◌∷◌, []}
 use Rattle.std.specs.List.{flat_map}
-use Rattle.life_census.specs.Table.{Holds, line}
+use Rattle.life_census.specs.Table.{line}
+use Rattle.life_census.specs.TableState.{Holds}
 use Rattle.life_census.proofs.table.text_of.Given as goal
 
 abbrev pub invariant-loop-row : goal.invariant-loop-row

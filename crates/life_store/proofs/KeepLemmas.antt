@@ -1,0 +1,213 @@
+-- What each statement leaves, whatever its text is.
+use Rattle.std.proofs.Common.{arith, ap₂, ℤ, pos, [], ◌∷◌, ◌≡◌, inl, inr, List, Bool, true, false, Ok, Err, Result, Option, None, Some, refl, sym, subst, ◌∙◌}
+use Rattle.std.specs.Prelude.{IsTrue, ℕ, Vec, IfOk, IfErr, OnErr, ◌≤◌, ◌&&◌}
+use Rattle.std.specs.declared.alloc.Global.{Global}
+use Rattle.sqlite_value.specs.declared.value.Value.{Value}
+use Rattle.sqlite_value.specs.declared.value.Value.TheVariants.{Int}
+use Rattle.sqlite_trees.specs.View.{doubt}
+use Rattle.std.proofs.lemmas.Bool.{cases_Bool}
+use Rattle.sqlite_value.specs.Order.{Row}
+use Rattle.sqlite_schema.specs.declared.command.Returning.{Returning}
+use Rattle.sqlite_schema.specs.declared.command.Command.{Command}
+use Rattle.sqlite_schema.specs.declared.command.Command.TheVariants.{Select, Insert, InsertOr, Update, Delete, CreateTable, CreateIndex, CreateView, DropTable, DropIndex, DropView, Rows, Begin, Commit, Rollback, Savepoint, Release, RollbackTo, Nothing}
+use Rattle.sqlite_resolve.specs.declared.compiled.Compiled.{Compiled}
+use Rattle.sqlite.specs.declared.error.Error.{Error}
+use Rattle.sqlite.specs.Clock.{timed}
+use Rattle.sqlite.specs.Effect.{Database}
+use Rattle.sqlite.specs.Listing.{understood}
+use Rattle.sqlite.specs.State.{State, HasCleanDisk, IsUnchanged, IsNotRun, RunsCommand, Runs, ReleasesAt, text_of, Executes, ExecutesIn, shows_rows, FailsToQuery, FailsToShow, Shown, ShowsRows}
+use Rattle.sqlite.proofs.Callers.{IsPlain}
+use Rattle.life_store.specs.Layout.{archive_schema}
+use Rattle.life_store.specs.Asking.{IsUndone, IsSeenAgain}
+use Rattle.life_store.specs.Kept.{Kept}
+use Rattle.life_store.specs.Tables.{tables_in, tables_of, Holds, StaysLost, Keeps, Tells}
+
+not_run : (old new : State) (sql : List ℕ) (params : Row) (e : Error) → IsNotRun old new sql params e → IsUndone old new
+unfolding IsNotRun
+not_run old new sql params e (inl same) = inl same.1
+not_run old new sql params e (inr failed) = inr failed.3
+
+command_refused : (old new : State) (sql : List ℕ) (c : Compiled) (params : Row) (e : Error) → RunsCommand old new sql c params (Err e) → IsUndone old new
+command_refused old new sql c params e (inl refused) = inl refused.1
+command_refused old new sql c params e (inr failed) = inr failed.3
+
+pub refused : (sql : List ℕ) (params : Row) (old new : State) (e : Error) → Executes sql params old new (Err e) → IsUndone old new
+unfolding ExecutesIn
+refused sql params old new e (inl h) = not_run old new sql params e h
+refused sql params old new e (inr h) = elim (cases_Bool (shows_rows false h.0)) [
+  | inl shows ↦ inl (rw shows at h.2).1
+  | inr runs ↦ command_refused old new sql h.0 (timed params h.0.formats h.1.now) e (rw runs at h.2)
+]
+
+not_shown : (old new : State) (sql : List ℕ) (c : Compiled) (params : Row) (e : Error) (r : Option Returning) → FailsToShow old new sql c params e r → IsUndone old new
+not_shown old new sql c params e None h = inl h.3
+not_shown old new sql c params e (Some what) h = command_refused old new sql c params e h
+
+pub not_answered : (sql : List ℕ) (params : Row) (old new : State) (e : Error) → FailsToQuery sql params old new e → IsUndone old new
+unfolding FailsToQuery
+not_answered sql params old new e (inl h) = not_run old new sql params e h
+not_answered sql params old new e (inr h) = not_shown old new sql h.0 (timed params h.0.formats h.1.now) e h.0.returning h.2
+
+was_open : (old new : State) (sql : List ℕ) (c : Compiled) (params : Row) (rows : List Row) (r : Option Returning) → ShowsRows old new sql c params rows r → IsTrue old.is_open
+was_open old new sql c params rows None h = h.3.0.was_open
+was_open old new sql c params rows (Some what) h = h.1.shown.was_open
+
+pub open_if_shown : (sql : List ℕ) (params : Row) (old new : State) (rows : List Row) → Shown sql params old new rows → IsTrue old.is_open
+unfolding Shown
+open_if_shown sql params old new rows h = was_open old new sql h.0 (timed params h.0.formats h.1.now) rows h.0.returning h.2
+
+pub shown_unchanged : (sql : List ℕ) (params : Row) (old new : State) (rows : List Row) → IsPlain (understood old.now.schema sql) → Shown sql params old new rows → IsUnchanged old new
+unfolding Shown
+shown_unchanged sql params old new rows plain h =
+    let bare = subst IsPlain h.1.is plain in
+    let it = rw bare.0 at h.2 in
+    it.3
+
+run_open : (old new : State) (command : Command) (text : List ℕ) (params : Row) (returning : Option Returning) (count : ℕ) → IsTrue new.is_open → Runs old new returning command text params count
+    → IsTrue old.is_open
+run_open old new (Select q names) text params returning count up h = absurd h
+run_open old new (Insert at from) text params returning count up h = h.shown.was_open
+run_open old new (InsertOr at how from clauses) text params returning count up h = h.shown.was_open
+run_open old new (Update at q) text params returning count up h = h.shown.was_open
+run_open old new (Delete at q) text params returning count up h = h.shown.was_open
+run_open old new CreateTable text params returning count up h = h.shown.was_open
+run_open old new (CreateIndex at) text params returning count up h = h.shown.was_open
+run_open old new CreateView text params returning count up h = h.shown.was_open
+run_open old new (DropTable at) text params returning count up h = h.shown.was_open
+run_open old new (DropIndex at) text params returning count up h = h.shown.was_open
+run_open old new (DropView at) text params returning count up h = h.shown.was_open
+run_open old new (Rows values width names) text params returning count up h = h.0.0.was_open
+run_open old new Begin text params returning count up h = h.1.was_open
+run_open old new Commit text params returning count up h = h.1.was_open
+run_open old new Rollback text params returning count up h = h.1.was_open up
+run_open old new (Savepoint name) text params returning count up h = h.0.0.was_open
+run_open old new (Release name) text params returning count up h = released h.2
+  where
+    released : ReleasesAt old new h.0 → IsTrue old.is_open
+    released (inl ends) = ends.1.0.was_open
+    released (inr drops) = drops.1.0.was_open
+run_open old new (RollbackTo name) text params returning count up h = h.2.2.was_open
+run_open old new Nothing text params returning count up h = h.0.0.was_open
+
+-- a connection that is open was open before
+pub open_before : (sql : List ℕ) (params : Row) (old new : State) (count : ℕ) → IsTrue new.is_open → Executes sql params old new (Ok count) → IsTrue old.is_open
+unfolding ExecutesIn
+open_before sql params old new count up h = elim (cases_Bool (shows_rows false h.0)) [
+  | inl shows ↦ absurd (let e = (rw shows at h.2).0 in cc)
+  | inr runs ↦ run_open old new h.0.command (text_of sql h.0) (timed params h.0.formats h.1.now) h.0.returning count up (rw runs at h.2)
+]
+
+-- ---- what is undone outside a transaction is seen again
+
+pub seen_undone : (old new : State) → (IsTrue old.is_open → old.now ≡ old.committed) → IsUndone old new → IsSeenAgain old new
+seen_undone old new settled (inl same) = record { was_open = λ up. same.0.was_open; now_is = λ up. same.0.now_is }
+seen_undone old new settled (inr back) = record { was_open = back.was_open; now_is = λ up. (back.undone up).0 ∙ sym (settled (back.was_open up)) }
+
+abbrev pub Answered : Type 0
+Answered = Result (Vec (List Value) Global) Error
+
+pub seen_unasked : (sql : List ℕ) (params : Row) (old new : State) (r : Answered) → (IsTrue old.is_open → old.now ≡ old.committed) → IfErr r (FailsToQuery sql params old new) → OnErr r (IsSeenAgain old new)
+seen_unasked sql params old new (Ok rows) settled h = tt
+seen_unasked sql params old new (Err e) settled h = seen_undone old new settled (not_answered sql params old new e h)
+
+pub seen_unwritten : (sql : List ℕ) (params : Row) (old new : State) (r : Result ℕ Error) → (IsTrue old.is_open → old.now ≡ old.committed) → Executes sql params old new r → OnErr r (IsSeenAgain old new)
+seen_unwritten sql params old new (Ok count) settled h = tt
+seen_unwritten sql params old new (Err e) settled h = seen_undone old new settled (refused sql params old new e h)
+
+pub ran : (sql : List ℕ) (params : Row) (old new : State) (r : Result ℕ Error) → Executes sql params old new r → IfOk r (λ count. Executes sql params old new (Ok count))
+ran sql params old new (Ok count) h = h
+ran sql params old new (Err e) h = tt
+
+-- ---- what tables hold, through a call
+
+both : (a b : Bool) → IsTrue (a && b) → (a ≡ true) × (b ≡ true)
+both true true h = (refl, refl)
+both true false h = absurd cc
+both false b h = absurd cc
+
+clean_is : (b : Bool) → b ≡ true → doubt b ≡ 0
+unfolding doubt
+clean_is true e = refl
+clean_is false e = absurd cc
+
+is_clean : (b : Bool) → doubt b ≡ 0 → b ≡ true
+unfolding doubt
+is_clean true e = refl
+is_clean false e = absurd (omega (arith, e))
+
+pub sure_is : (s : State) → IsTrue (tables_of s).is_sure → HasCleanDisk s × IsTrue s.is_open
+sure_is s h = let it = both s.is_clean s.is_open h in (clean_is s.is_clean it.0, it.1)
+
+pub sure_from : (s : State) → HasCleanDisk s → IsTrue s.is_open → IsTrue (tables_of s).is_sure
+sure_from s clean up = ap₂ ◌&&◌ (is_clean s.is_clean clean) up
+
+-- whether the database is sure plays no part in what its tables hold
+pub held_as : (b c : Bool) (db : Database) (k : Kept) → Holds (tables_in b db) k → Holds (tables_in c db) k
+held_as b c db k h = record {
+  schema = h.schema;
+  layout = h.layout;
+  deposits = h.deposits;
+  censuses = h.censuses;
+  census_rows = h.census_rows;
+  filed = h.filed;
+  ordered = h.ordered;
+  few_deposits = h.few_deposits;
+  few_censuses = h.few_censuses;
+}
+
+pub held_again : (old new : State) (k : Kept) → new.now ≡ old.now → Holds (tables_of old) k → Holds (tables_of new) k
+held_again old new k same h = subst (λ (d : Database). Holds (tables_in (tables_of new).is_sure d) k) (sym same) (held_as (tables_of old).is_sure (tables_of new).is_sure old.now k h)
+
+module _ (old new : State) (clean : doubt old.is_clean ≤ doubt new.is_clean) where
+  pub stays_lost : (HasCleanDisk new → IsTrue new.is_open → IsTrue old.is_open) → StaysLost (tables_of old) (tables_of new)
+  stays_lost was sure =
+      let now = sure_is new sure in
+      let still : HasCleanDisk old = omega (arith, clean, now.0) in
+      sure_from old still (was now.0 now.1)
+
+  pub keeps_seen : (HasCleanDisk new → IsSeenAgain old new) → Keeps (tables_of old) (tables_of new)
+  keeps_seen seen k sure holds = let now = sure_is new sure in held_again old new k ((seen now.0).now_is now.1) holds
+
+  -- what a query of the archive does, and what it tells of what the tables hold
+  pub record HasAsked (r : Answered) (Q : Kept → List Row → Type 0) : Type 0 where
+    pub lost : StaysLost (tables_of old) (tables_of new)
+    pub keeps : Keeps (tables_of old) (tables_of new)
+    pub tells : Tells (tables_of old) (tables_of new) (λ k. IfOk r (λ rows. Q k rows.items))
+
+  module _ (sql : List ℕ) (params : Row) (plain : IsPlain (understood archive_schema sql)) where
+    was_up : (r : Answered) → IfOk r (λ rows. Shown sql params old new rows.items) → OnErr r (IsSeenAgain old new) → IsTrue new.is_open → IsTrue old.is_open
+    was_up (Ok rows) shown seen up = open_if_shown sql params old new rows.items shown
+    was_up (Err e) shown seen up = seen.was_open up
+
+    same_now : (r : Answered) (k : Kept) → Holds (tables_of old) k → IfOk r (λ rows. Shown sql params old new rows.items) → OnErr r (IsSeenAgain old new) → IsTrue new.is_open → new.now ≡ old.now
+    same_now (Ok rows) k holds shown seen up = (shown_unchanged sql params old new rows.items (subst (λ s. IsPlain (understood s sql)) (sym holds.schema) plain) shown).0.now_is
+    same_now (Err e) k holds shown seen up = seen.now_is up
+
+    answers : (Q : Kept → List Row → Type 0) → ((k : Kept) (rows : List Row) → Holds (tables_of old) k → Shown sql params old new rows → Q k rows) → (r : Answered) (k : Kept) → Holds (tables_of old) k
+        → IfOk r (λ rows. Shown sql params old new rows.items) → IfOk r (λ rows. Q k rows.items)
+    answers Q tells (Ok rows) k holds shown = tells k rows.items holds shown
+    answers Q tells (Err e) k holds shown = tt
+
+    pub asked : (Q : Kept → List Row → Type 0) → ((k : Kept) (rows : List Row) → Holds (tables_of old) k → Shown sql params old new rows → Q k rows) → (r : Answered)
+        → (HasCleanDisk new → IfOk r (λ rows. Shown sql params old new rows.items)) → (HasCleanDisk new → OnErr r (IsSeenAgain old new)) → HasAsked r Q
+    asked Q tells r shown seen = record {
+      lost = stays_lost (λ now up. was_up r (shown now) (seen now) up);
+      keeps = λ k sure holds. let now = sure_is new sure in held_again old new k (same_now r k holds (shown now.0) (seen now.0) now.1) holds;
+      tells = λ k sure holds. answers Q tells r k holds (shown (sure_is new sure).0);
+    }
+
+  -- the same of a query with one number
+  pub asked_of : (sql : List ℕ) (id : ℤ) (n : ℕ) → id ≡ pos n → IsPlain (understood archive_schema sql) → (Q : Kept → List Row → Type 0)
+      → ((k : Kept) (rows : List Row) → Holds (tables_of old) k → Shown sql (Int (pos n) ∷ []) old new rows → Q k rows) → (r : Answered)
+      → (HasCleanDisk new → IfOk r (λ rows. Shown sql (Int id ∷ []) old new rows.items)) → (HasCleanDisk new → OnErr r (IsSeenAgain old new)) → HasAsked r Q
+  asked_of sql id n is plain Q tells r shown seen =
+      asked sql (Int (pos n) ∷ []) plain Q tells r (λ now. subst (λ z. IfOk r (λ rows. Shown sql (Int z ∷ []) old new rows.items)) is (shown now)) seen
+
+pub was_clean : (old new : State) → doubt old.is_clean ≤ doubt new.is_clean → IsTrue (tables_of new).is_sure → HasCleanDisk old
+was_clean old new clean sure = let now = (sure_is new sure).0 in omega (arith, clean, now)
+
+-- what a query tells that was asked over sure tables
+pub told : (s : State) (sql : List ℕ) (params : Row) (old : State) (Q : List Row → Type 0) (r : Answered) → ((rows : List Row) → Shown sql params old s rows → Q rows)
+    → (HasCleanDisk s → IfOk r (λ rows. Shown sql params old s rows.items)) → IsTrue (tables_of s).is_sure → IfOk r (λ rows. Q rows.items)
+told s sql params old Q (Ok rows) tells shown sure = tells rows.items (shown (sure_is s sure).0)
+told s sql params old Q (Err e) tells shown sure = tt

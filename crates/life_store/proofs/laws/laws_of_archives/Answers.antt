@@ -1,0 +1,9 @@
+use Rattle.life_store.proofs.BlankLemmas.{blank_lists_nothing}
+use Rattle.life_store.proofs.MeaningLemmas.{one_meaning}
+use Rattle.life_store.proofs.laws.laws_of_archives.Goals as goal
+
+pub returns-clause-blank : goal.returns-clause-blank
+returns-clause-blank c = blank_lists_nothing
+
+pub returns-clause-one : goal.returns-clause-one
+returns-clause-one c = one_meaning

@@ -1,0 +1,20 @@
+use Rattle.sqlite_wal.specs.Files.{image_at}
+use Rattle.sqlite.specs.Files.{file_state}
+use Rattle.life_store.proofs.SchemaLemmas.{finds_held, finds_versions, finds_none}
+use Rattle.life_store.proofs.opening.Archive+FileStore+FileFrom+T.open_path.Goals as goal
+
+pub returns-in-Ok-archive_over-clause-found : goal.returns-in-Ok-archive_over-clause-found
+returns-in-Ok-archive_over-clause-found g c k sure files =
+    let clean = c.in-Ok-archive_over.ensures.clean sure in
+    c.in-Ok-archive_over.ensures.found k sure (finds_held (file_state c.in-Ok.conn) (image_at g.T.Start) k (c.in-Ok.ensures.opened clean) (c.in-Ok.ensures.found clean).holds files)
+
+pub returns-in-Ok-archive_over-clause-fresh : goal.returns-in-Ok-archive_over-clause-fresh
+returns-in-Ok-archive_over-clause-fresh g c sure none =
+    let clean = c.in-Ok-archive_over.ensures.clean sure in
+    let conn = file_state c.in-Ok.conn in
+    c.in-Ok-archive_over.ensures.fresh sure (record { is = finds_none conn (c.in-Ok.ensures.opened clean) (none conn.committed.trees (c.in-Ok.ensures.found clean).reads); none = tt })
+
+pub returns-in-Ok-archive_over-clause-known : goal.returns-in-Ok-archive_over-clause-known
+returns-in-Ok-archive_over-clause-known g c versions sure files =
+    let clean = c.in-Ok-archive_over.ensures.clean sure in
+    c.in-Ok-archive_over.ensures.known versions sure (finds_versions (file_state c.in-Ok.conn) (image_at g.T.Start) versions (c.in-Ok.ensures.opened clean) (c.in-Ok.ensures.found clean).holds files)

@@ -1,0 +1,42 @@
+-- Words of the code alone: what the rows of an answer show.
+use Rattle.std.specs.Prelude.{◌≡◌, ◌⊎◌, ℕ, zero, suc, pos, List, [], ◌∷◌, Option, None, Some}
+use Rattle.sqlite_value.specs.declared.value.Value.TheVariants.{Null, Int, Text, Blob}
+use Rattle.sqlite_value.specs.Order.{Row}
+use Rattle.life_rle.specs.Writer.{text}
+use Rattle.life_store.specs.declared.kept.FoundDeposit.{FoundDeposit}
+use Rattle.life_store.specs.declared.kept.Listed.{Listed}
+use Rattle.life_store.specs.Kept.{Tallied}
+use Rattle.life_store.specs.Stored.{IsFiled}
+
+-- the greatest of so many numbers: one row, or none where there are none
+abbrev pub newest_rows : ℕ → List Row
+newest_rows zero = []
+newest_rows (suc n) = (Int (pos (suc n)) ∷ []) ∷ []
+
+abbrev pub deposit_shown : FoundDeposit → Row
+deposit_shown f = Int (pos f.id) ∷ Text f.deposit.member ∷ Text f.deposit.token ∷ Blob (text f.deposit.content) ∷ []
+
+-- the first row shows the deposit, or there is no row
+abbrev pub ShowsDeposit : Option FoundDeposit → List Row → Type 0
+ShowsDeposit None rows = rows ≡ []
+ShowsDeposit (Some f) rows = IsFiled f.deposit × (more : List Row) × (rows ≡ deposit_shown f ∷ more)
+
+abbrev pub line_shown : Listed → Row
+line_shown l = Int (pos l.id) ∷ Text l.member ∷ Int (pos l.population) ∷ Text l.rule ∷ []
+
+abbrev pub census_shown : ℕ × Tallied → Row
+census_shown p =
+    Int (pos p.0) ∷ Text p.1.census.member ∷ Text p.1.census.token ∷ Int (pos p.1.census.deposit) ∷ Int (pos p.1.census.generation) ∷ Int (pos p.1.census.limit)
+    ∷ Int (pos p.1.tally.total) ∷ Int (pos p.1.tally.unresolved) ∷ []
+
+-- the first row shows the census, or there is no row
+abbrev pub ShowsCensus : Option (ℕ × Tallied) → List Row → Type 0
+ShowsCensus None rows = rows ≡ []
+ShowsCensus (Some p) rows = (more : List Row) × (rows ≡ census_shown p ∷ more)
+
+abbrev pub row_shown : List ℕ × ℕ → Row
+row_shown row = Text row.0 ∷ Int (pos row.1) ∷ []
+
+-- one row shows the total, or NULL where it is a sum of nothing
+abbrev pub ShowsTotal : ℕ → List Row → Type 0
+ShowsTotal n rows = (rows ≡ (Int (pos n) ∷ []) ∷ []) ⊎ ((rows ≡ (Null ∷ []) ∷ []) × (n ≡ 0))

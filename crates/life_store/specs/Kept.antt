@@ -1,0 +1,92 @@
+-- What is kept: deposits, and censuses each with a tally. A number is a place in its list, from 1.
+use Rattle.std.specs.Prelude.{◌&&◌, ◌+◌, ℕ, zero, suc, Bool, List, [], ◌∷◌, Option, None, Some, option_map, map, filter, take, sum_by, slice_get, nat_lt, bytes_eq, false, if◌then◌else◌}
+use Rattle.std.specs.FinSet as set
+use Rattle.life_core.specs.Rule.{RuleSets}
+use Rattle.life_core.specs.RuleEquality.{same_rule}
+use Rattle.life_core.specs.RuleText.{rule_text}
+use Rattle.life_census.specs.Rows.{Counts}
+use Rattle.life_store.specs.declared.kept.Deposit.{Deposit}
+use Rattle.life_store.specs.declared.kept.Census.{Census}
+use Rattle.life_store.specs.declared.kept.FoundDeposit.{FoundDeposit}
+use Rattle.life_store.specs.declared.kept.FoundCensus.{FoundCensus}
+use Rattle.life_store.specs.declared.kept.KeptCensus.{KeptCensus}
+use Rattle.life_store.specs.declared.kept.Listed.{Listed}
+
+-- a census with a tally
+pub record Tallied : Type 0 where
+  pub census : Census
+  pub tally : Counts
+
+-- what an archive keeps, in the order in which it came
+pub record Kept : Type 0 where
+  pub deposits : List Deposit
+  pub censuses : List Tallied
+
+-- the elements with their numbers, the first with this one
+abbrev pub numbered_from : {X : Type 0} → ℕ → List X → List (ℕ × X)
+numbered_from id [] = []
+numbered_from id (x ∷ xs) = (id, x) ∷ numbered_from (id + 1) xs
+
+-- the element with the number, from 1
+abbrev pub numbered : {X : Type 0} → List X → ℕ → Option X
+numbered xs zero = None
+numbered xs (suc i) = slice_get xs i
+
+-- whether it is under the member and the token
+abbrev pub is_of : List ℕ → List ℕ → Deposit → Bool
+is_of member token d = bytes_eq d.member member && bytes_eq d.token token
+
+-- the first deposit of the member and the token, with its number, where the first of the list has the number `id`
+unfoldable pub deposit_from : ℕ → List ℕ → List ℕ → List Deposit → Option FoundDeposit
+deposit_from id member token [] = None
+deposit_from id member token (d ∷ ds) = if is_of member token d then Some (record { id = id; deposit = d }) else deposit_from (id + 1) member token ds
+
+-- the first deposit of the member and the token, with its number
+abbrev pub deposit_by : List ℕ → List ℕ → List Deposit → Option FoundDeposit
+deposit_by member token ds = deposit_from 1 member token ds
+
+-- whether it is under the member and the token
+abbrev pub is_census_of : List ℕ → List ℕ → Census → Bool
+is_census_of member token c = bytes_eq c.member member && bytes_eq c.token token
+
+-- the same of censuses
+unfoldable pub tallied_from : ℕ → List ℕ → List ℕ → List Tallied → Option (ℕ × Tallied)
+tallied_from id member token [] = None
+tallied_from id member token (t ∷ ts) = if is_census_of member token t.census then Some (id, t) else tallied_from (id + 1) member token ts
+
+-- a census as it is found, with its number
+abbrev pub found_census : ℕ × Tallied → FoundCensus
+found_census p = record { id = p.0; census = p.1.census }
+
+-- the first census of the member and the token, with its number
+abbrev pub census_by : List ℕ → List ℕ → List Tallied → Option FoundCensus
+census_by member token ts = option_map found_census (tallied_from 1 member token ts)
+
+-- the line of a deposit: number, member, population, canonical rule text
+abbrev pub line_of : ℕ × Deposit → Listed
+line_of p = record { id = p.0; member = p.1.member; population = set.len p.1.content.cells; rule = rule_text p.1.content.rule }
+
+-- the lines of the first 100 deposits with a greater number
+unfoldable pub lines_after : ℕ → List Deposit → List Listed
+lines_after id ds = map line_of (take 100 (filter (λ p. nat_lt id p.0) (numbered_from 1 ds)))
+
+-- a census with the numbers of its tally
+abbrev pub kept_census : Tallied → KeptCensus
+kept_census t = record { census = t.census; unresolved = t.tally.unresolved; total = t.tally.total }
+
+-- whether the deposit of the number has the rule
+abbrev pub has_rule : RuleSets → Option Deposit → Bool
+has_rule rule None = false
+has_rule rule (Some d) = same_rule d.content.rule rule
+
+-- how many clusters of a tally have the code
+abbrev pub count_of_code : List ℕ → List (List ℕ × ℕ) → ℕ
+count_of_code code rows = sum_by (λ row. if bytes_eq row.0 code then row.1 else 0) rows
+
+-- how many clusters with the code one census has, where its deposit has the rule
+abbrev pub share : List Deposit → RuleSets → List ℕ → Tallied → ℕ
+share ds rule code t = if has_rule rule (numbered ds t.census.deposit) then count_of_code code t.tally.rows else 0
+
+-- and all of them together
+abbrev pub total_of : Kept → RuleSets → List ℕ → ℕ
+total_of k rule code = sum_by (share k.deposits rule code) k.censuses

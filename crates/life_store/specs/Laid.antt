@@ -1,0 +1,33 @@
+-- Words of the code alone: the tables as they are made, one after another.
+use Rattle.std.specs.Prelude.{◌≡◌, ℕ, pos, List, [], ◌∷◌, codes}
+use Rattle.std.specs.List.{AllByRecursion}
+use Rattle.sqlite_value.specs.declared.value.Value.TheVariants.{Int}
+use Rattle.sqlite_schema.specs.declared.schema.Schema.{Schema}
+use Rattle.sqlite.specs.Effect.{Database}
+use Rattle.life_store.specs.Layout.{layout_table, deposits_table, censuses_table, key_index, archive_schema}
+
+abbrev pub schema_1 : Schema
+schema_1 = record { tables = layout_table ∷ []; indexes = []; views = [] }
+
+abbrev pub schema_2 : Schema
+schema_2 = record { tables = layout_table ∷ record deposits_table { tree = 1 } ∷ []; indexes = key_index (codes "sqlite_autoindex_deposits_1") 2 1 (2 ∷ 3 ∷ []) ∷ []; views = [] }
+
+abbrev pub schema_3 : Schema
+schema_3 = record {
+  tables = layout_table ∷ record deposits_table { tree = 1 } ∷ record censuses_table { tree = 3 } ∷ [];
+  indexes = key_index (codes "sqlite_autoindex_deposits_1") 2 1 (2 ∷ 3 ∷ []) ∷ key_index (codes "sqlite_autoindex_censuses_1") 4 3 (2 ∷ 3 ∷ []) ∷ [];
+  views = [];
+}
+
+-- this schema, with these tables empty
+pub record IsLaid (schema : Schema) (empty : List ℕ) (db : Database) : Type 0 where
+  pub is : db.schema ≡ schema
+  pub none : AllByRecursion (λ t. db.trees t ≡ []) empty
+
+abbrev pub version_text : List ℕ
+version_text = codes "INSERT INTO layout (version) VALUES (1)"
+
+-- the four tables, empty, and the row that names the layout
+pub record IsNewArchive (db : Database) : Type 0 where
+  pub laid : IsLaid archive_schema (1 ∷ 3 ∷ 5 ∷ []) db
+  pub version : db.trees 0 ≡ (Int (pos 1) ∷ Int (pos 1) ∷ []) ∷ []

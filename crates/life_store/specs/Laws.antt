@@ -1,0 +1,15 @@
+-- What makes the definitions of archives believable.
+use Rattle.std.specs.Prelude.{◌≡◌}
+use Rattle.sqlite_wal.specs.Recovery.{Image}
+use Rattle.sqlite.specs.Files.{IsNothing}
+use Rattle.life_store.specs.Kept.{Kept}
+use Rattle.life_store.specs.Opening.{ListNothing}
+use Rattle.life_store.specs.Tables.{Tables, Holds}
+
+-- Files in which nothing was written yet list no table.
+abbrev pub BlankFilesListNothing : Type 0
+BlankFilesListNothing = (image : Image) → IsNothing image → ListNothing image
+
+-- Rows stand for one list of deposits and one list of censuses at most.
+abbrev pub OneMeaning : Type 0
+OneMeaning = (t : Tables) (a b : Kept) → Holds t a → Holds t b → a ≡ b

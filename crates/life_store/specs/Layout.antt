@@ -1,0 +1,124 @@
+-- The four tables of docs/FORMATS.md, layout 1: the texts that make them, and the schema that these make (SQLite's "CREATE TABLE").
+-- That the texts make it, in this order, in a database without tables, is proved where they are run.
+use Rattle.std.specs.Prelude.{true, false, [], ◌∷◌, Some, None, codes, List, ℕ, pos}
+use Rattle.sqlite_value.specs.declared.keys.Collation.TheVariants.{Binary}
+use Rattle.sqlite_value.specs.declared.value.Value.TheVariants.{Null, Int}
+use Rattle.sqlite_value.specs.Keys.{plain}
+use Rattle.sqlite_schema.specs.declared.schema.Table.{Table}
+use Rattle.sqlite_schema.specs.declared.schema.Schema.{Schema}
+use Rattle.sqlite_schema.specs.declared.schema.Kind.{Kind}
+use Rattle.sqlite_schema.specs.declared.schema.Kind.TheVariants.{Integer, Text, Blob}
+use Rattle.sqlite_schema.specs.declared.schema.Column.{Column}
+use Rattle.sqlite_schema.specs.declared.schema.Index.{Index}
+use Rattle.sqlite_schema.specs.declared.schema.Reference.{Reference}
+use Rattle.sqlite_schema.specs.declared.schema.Action.TheVariants.{NoAction}
+use Rattle.sqlite_schema.specs.declared.schema.Stamps.{Stamps}
+use Rattle.sqlite_sql.specs.declared.ops.BinaryOp.TheVariants.{Compare}
+use Rattle.sqlite_sql.specs.declared.ops.CompareOp.TheVariants.{Ge, Gt}
+use Rattle.sqlite_sql.specs.Term.{lit, col, op2}
+
+abbrev pub layout_text : List ℕ
+layout_text = codes "CREATE TABLE layout (version INTEGER NOT NULL) STRICT"
+
+abbrev pub deposits_text : List ℕ
+deposits_text = codes "CREATE TABLE deposits (id INTEGER PRIMARY KEY, member TEXT NOT NULL, token TEXT NOT NULL, rule TEXT NOT NULL, population INTEGER NOT NULL CHECK (population >= 0), rle BLOB NOT NULL, UNIQUE (member, token)) STRICT"
+
+abbrev pub censuses_text : List ℕ
+censuses_text = codes "CREATE TABLE censuses (id INTEGER PRIMARY KEY, member TEXT NOT NULL, token TEXT NOT NULL, deposit INTEGER NOT NULL REFERENCES deposits (id), gens INTEGER NOT NULL, lim INTEGER NOT NULL, clusters INTEGER NOT NULL, unresolved INTEGER NOT NULL, UNIQUE (member, token)) STRICT"
+
+abbrev pub census_rows_text : List ℕ
+census_rows_text = codes "CREATE TABLE census_rows (census INTEGER NOT NULL REFERENCES censuses (id), code TEXT NOT NULL, n INTEGER NOT NULL CHECK (n > 0), PRIMARY KEY (census, code)) STRICT"
+
+-- id INTEGER PRIMARY KEY
+abbrev pub column_key : Column
+column_key = record { name = codes "id"; kind = Integer; is_strict = true; not_null = false; default = Null; collation = Binary }
+
+-- a column of a STRICT table that is NOT NULL
+abbrev pub needed : List ℕ → Kind → Column
+needed name kind = record { name = name; kind = kind; is_strict = true; not_null = true; default = Null; collation = Binary }
+
+abbrev pub no_stamps : Stamps
+no_stamps = record { places = []; terms = []; formats = [] }
+
+abbrev pub reference : ℕ → List ℕ → List ℕ → Reference
+reference column parent key = record { columns = column ∷ []; parent = parent; parent_columns = key ∷ []; on_delete = NoAction; on_update = NoAction; is_deferred = false }
+
+abbrev pub layout_table : Table
+layout_table = record {
+  name = codes "layout";
+  tree = 0;
+  columns = needed (codes "version") Integer ∷ [];
+  key = None;
+  primary = [];
+  uniques = [];
+  orders = [];
+  checks = [];
+  references = [];
+  computed = [];
+  stamps = no_stamps;
+  is_counted = false;
+}
+
+abbrev pub deposits_table : Table
+deposits_table = record {
+  name = codes "deposits";
+  tree = 0;
+  columns = column_key ∷ needed (codes "member") Text ∷ needed (codes "token") Text ∷ needed (codes "rule") Text ∷ needed (codes "population") Integer ∷ needed (codes "rle") Blob ∷ [];
+  key = Some 0;
+  primary = 0 ∷ [];
+  uniques = (2 ∷ 3 ∷ []) ∷ [];
+  orders = plain ∷ [];
+  checks = op2 (Compare Ge Binary) (col 1 5) (lit (Int (pos 0))) ∷ [];
+  references = [];
+  computed = [];
+  stamps = no_stamps;
+  is_counted = false;
+}
+
+abbrev pub censuses_table : Table
+censuses_table = record {
+  name = codes "censuses";
+  tree = 0;
+  columns = column_key ∷ needed (codes "member") Text ∷ needed (codes "token") Text ∷ needed (codes "deposit") Integer ∷ needed (codes "gens") Integer
+      ∷ needed (codes "lim") Integer ∷ needed (codes "clusters") Integer ∷ needed (codes "unresolved") Integer ∷ [];
+  key = Some 0;
+  primary = 0 ∷ [];
+  uniques = (2 ∷ 3 ∷ []) ∷ [];
+  orders = plain ∷ [];
+  checks = [];
+  references = reference 4 (codes "deposits") (codes "id") ∷ [];
+  computed = [];
+  stamps = no_stamps;
+  is_counted = false;
+}
+
+abbrev pub census_rows_table : Table
+census_rows_table = record {
+  name = codes "census_rows";
+  tree = 0;
+  columns = needed (codes "census") Integer ∷ needed (codes "code") Text ∷ needed (codes "n") Integer ∷ [];
+  key = None;
+  primary = 1 ∷ 2 ∷ [];
+  uniques = (1 ∷ 2 ∷ []) ∷ [];
+  orders = plain ∷ [];
+  checks = op2 (Compare Gt Binary) (col 1 3) (lit (Int (pos 0))) ∷ [];
+  references = reference 1 (codes "censuses") (codes "id") ∷ [];
+  computed = [];
+  stamps = no_stamps;
+  is_counted = false;
+}
+
+abbrev pub key_index : List ℕ → ℕ → ℕ → List ℕ → Index
+key_index name tree table columns = record { name = name; tree = tree; table = table; columns = columns; order = plain; is_unique = true }
+
+-- after the four tables were made in turn
+abbrev pub archive_schema : Schema
+archive_schema = record {
+  tables = layout_table ∷ record deposits_table { tree = 1 } ∷ record censuses_table { tree = 3 } ∷ record census_rows_table { tree = 5 } ∷ [];
+  indexes = key_index (codes "sqlite_autoindex_deposits_1") 2 1 (2 ∷ 3 ∷ []) ∷ key_index (codes "sqlite_autoindex_censuses_1") 4 3 (2 ∷ 3 ∷ [])
+      ∷ key_index (codes "sqlite_autoindex_census_rows_1") 6 5 (1 ∷ 2 ∷ []) ∷ [];
+  views = [];
+}
+
+abbrev pub no_schema : Schema
+no_schema = record { tables = []; indexes = []; views = [] }

@@ -1,0 +1,15 @@
+pub mod Layout
+pub mod Laid
+pub mod Statements
+pub mod Picking
+pub mod Kept
+pub mod Fault
+pub mod Stored
+pub mod DepositsState
+pub mod Tables
+pub mod Asking
+pub mod Answers
+pub mod Opening
+pub mod OpeningState
+pub mod Laws
+pub mod Standing

@@ -1,0 +1,53 @@
+-- What files hold before they are opened, and after they are closed. What a database is in files: SQLite's "Database File Format".
+use Rattle.std.specs.Prelude.{◌≡◌, ◌&&◌, ℕ, Bool, true, nat_le, pos, List, [], ◌∷◌, map}
+use Rattle.sqlite_value.specs.declared.value.Value.{Value}
+use Rattle.sqlite_value.specs.declared.value.Value.TheVariants.{Int}
+use Rattle.sqlite_value.specs.Order.{Row, column}
+use Rattle.sqlite_wal.specs.Recovery.{Image}
+use Rattle.sqlite_trees.specs.Tree.{Trees}
+use Rattle.sqlite_catalog.specs.Listing.{IsSound}
+use Rattle.sqlite.specs.Files.{HoldsDatabase, AreFoundIn}
+use Rattle.life_store.specs.Kept.{Kept}
+use Rattle.life_store.specs.Layout.{archive_schema, no_schema}
+use Rattle.life_store.specs.Tables.{Tables, tables_in, Holds}
+
+-- from 1 to 1,000,000
+abbrev pub is_capacity : ℕ → Bool
+is_capacity n = nat_le 1 n && nat_le n 1000000
+
+-- no deposit and no census
+abbrev pub nothing_kept : Kept
+nothing_kept = record { deposits = []; censuses = [] }
+
+-- The files hold a database that obeys the archive's tables, with rows that stand for these.
+pub record FilesHold (image : Image) (k : Kept) : Type 0 where
+  pub trees : Trees
+  pub held : ∥ HoldsDatabase image trees ∥₁
+  pub sound : IsSound archive_schema trees
+  pub holds : Holds (tables_in true (record { schema = archive_schema; trees = trees })) k
+
+-- Whatever the files are found to hold lists no table. So it is of two files with no byte: a law says it.
+abbrev pub ListNothing : Image → Type 0
+ListNothing image = (db : Trees) → AreFoundIn image db → IsSound no_schema db
+
+-- ---- the version of the layout
+
+-- the column `version` of the rows of the table `layout`, each of which begins with its id
+abbrev pub versions_in : List Row → List Value
+versions_in rows = map (λ row. column row 1) rows
+
+-- version 1, and no other
+abbrev pub known_versions : List Value
+known_versions = Int (pos 1) ∷ []
+
+-- The tables are the archive's, and these are the versions in the table `layout`.
+pub record HaveVersions (t : Tables) (versions : List Value) : Type 0 where
+  pub schema : t.schema ≡ archive_schema
+  pub are : versions_in t.layout ≡ versions
+
+-- The files hold a database that obeys the archive's tables, and these are the versions in its table `layout`.
+pub record FilesHaveVersions (image : Image) (versions : List Value) : Type 0 where
+  pub trees : Trees
+  pub held : ∥ HoldsDatabase image trees ∥₁
+  pub sound : IsSound archive_schema trees
+  pub are : versions_in (trees 0) ≡ versions

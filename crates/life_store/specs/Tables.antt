@@ -1,0 +1,106 @@
+-- What contracts see of an archive: its tables as they are, and what their rows stand for (the tables of docs/FORMATS.md).
+-- What a table is, its rows with their ids and its schema: the kit's `sqlite`, after SQLite's "Database File Format" and "CREATE TABLE".
+use Rattle.std.specs.Prelude.{◌≡◌, ◌<◌, ◌^◌, ◌&&◌, ◌++◌, ℕ, pos, Bool, List, [], ◌∷◌, length, map, IsTrue, refl}
+use Rattle.std.specs.Coded.{Coded, code_by, coded×, coded_ℕ, coded_bool, coded_list}
+use Rattle.std.specs.List.{AllByRecursion}
+use Rattle.std.specs.List.Sorted.{IsStrictlySortedBy}
+use Rattle.sqlite_value.specs.contracts.value.Value as value
+use Rattle.sqlite_value.specs.declared.value.Value.TheVariants.{Int}
+use Rattle.sqlite_value.specs.Order.{Row}
+use Rattle.sqlite_schema.specs.declared.schema.Schema.{Schema}
+use Rattle.sqlite_schema.specs.contracts.schema.Schema.{the_row}
+use Rattle.sqlite.specs.Effect.{Database}
+use Rattle.sqlite.specs.State.{State}
+use Rattle.life_census.specs.Counting.{row_cmp}
+use Rattle.life_census.specs.Rows.{Counts}
+use Rattle.life_store.specs.declared.kept.Deposit.{Deposit}
+use Rattle.life_store.specs.Kept.{Kept, Tallied}
+use Rattle.life_store.specs.Layout.{archive_schema}
+use Rattle.life_store.specs.Stored.{IsFiled, rows_by, deposit_cells, census_cells, count_cells, counts_from}
+
+-- the tables of a database
+pub record Tables : Type 0 where
+  -- The database is open, and its disk has returned what was written. Where it is false, the rest says nothing.
+  pub is_sure : Bool
+  pub schema : Schema
+  pub layout : List Row
+  pub deposits : List Row
+  pub censuses : List Row
+  pub census_rows : List Row
+
+-- an archive: its tables, and how many deposits, and how many censuses, it takes
+pub record Shelf : Type 0 where
+  pub tables : Tables
+  pub capacity : ℕ
+
+abbrev pub coded_rows : Coded (List Row)
+coded_rows = coded_list (coded_list value.the_row.coded)
+
+-- a shelf is stored as the pairs of its parts
+abbrev pub coded_shelf : Coded Shelf
+coded_shelf =
+    code_by (Bool × (Schema × (List Row × (List Row × (List Row × (List Row × ℕ))))))
+    (coded× coded_bool (coded× the_row.coded (coded× coded_rows (coded× coded_rows (coded× coded_rows (coded× coded_rows coded_ℕ))))))
+    (λ s. (s.tables.is_sure, (s.tables.schema, (s.tables.layout, (s.tables.deposits, (s.tables.censuses, (s.tables.census_rows, s.capacity)))))))
+    (λ p. record { tables = record { is_sure = p.0; schema = p.1.0; layout = p.1.1.0; deposits = p.1.1.1.0; censuses = p.1.1.1.1.0; census_rows = p.1.1.1.1.1.0 }; capacity = p.1.1.1.1.1.1 })
+    (λ _. refl)
+
+-- The tables have these numbers. A UNIQUE or PRIMARY KEY of two columns has an index, which takes the number after its table's.
+abbrev pub tables_in : Bool → Database → Tables
+tables_in is_sure db = record { is_sure = is_sure; schema = db.schema; layout = db.trees 0; deposits = db.trees 1; censuses = db.trees 3; census_rows = db.trees 5 }
+
+-- the tables that a connection sees
+abbrev pub tables_of : State → Tables
+tables_of s = tables_in (s.is_clean && s.is_open) s.now
+
+-- the one row of `layout`, whose id is 1 too: version 1
+abbrev pub version_1 : List Row
+version_1 = (Int (pos 1) ∷ Int (pos 1) ∷ []) ∷ []
+
+-- the codes of a tally ascend, byte by byte
+abbrev pub HasOrder : Counts → Type 0
+HasOrder t = IsStrictlySortedBy row_cmp (map (λ (row : List ℕ × ℕ). row.0) t.rows)
+
+-- The tables stand for these deposits and these censuses, each with its tally, and for no others:
+-- the schema is the archive's, `layout` names version 1,
+-- and the rows of `deposits`, `censuses` and `census_rows` are theirs, in this order, under the ids 1, 2, 3 and so on.
+pub record Holds (t : Tables) (k : Kept) : Type 0 where
+  pub schema : t.schema ≡ archive_schema
+  pub layout : t.layout ≡ version_1
+  pub deposits : t.deposits ≡ rows_by deposit_cells 1 k.deposits
+  pub censuses : t.censuses ≡ rows_by census_cells 1 k.censuses
+  pub census_rows : t.census_rows ≡ rows_by count_cells 1 (counts_from 1 k.censuses)
+  -- each file is read as its record again
+  pub filed : AllByRecursion IsFiled k.deposits
+  -- the rows of each tally stand in the order in which they are asked for
+  pub ordered : AllByRecursion (λ t. HasOrder t.tally) k.censuses
+  -- each number is an integer of SQL
+  pub few_deposits : length k.deposits < 2 ^ 63
+  pub few_censuses : length k.censuses < 2 ^ 63
+
+-- ---- what a call does
+
+-- a database that is sure was sure
+abbrev pub StaysLost : Tables → Tables → Type 0
+StaysLost old new = IsTrue new.is_sure → IsTrue old.is_sure
+
+-- the tables stand for what they stood for
+abbrev pub Keeps : Tables → Tables → Type 0
+Keeps old new = (k : Kept) → IsTrue new.is_sure → Holds old k → Holds new k
+
+-- a fact of all that the tables stood for before the call, told where the database is sure after it
+abbrev pub Tells : Tables → Tables → (Kept → Type 0) → Type 0
+Tells old new P = (k : Kept) → IsTrue new.is_sure → Holds old k → P k
+
+-- the tables stand for one deposit more, the last
+abbrev pub AddsDeposit : Tables → Tables → Deposit → Type 0
+AddsDeposit old new d = (k : Kept) → IsTrue new.is_sure → Holds old k → Holds new (record k { deposits = k.deposits ++ d ∷ [] })
+
+-- the tables stand for one census more, the last
+abbrev pub AddsCensus : Tables → Tables → Tallied → Type 0
+AddsCensus old new t = (k : Kept) → IsTrue new.is_sure → Holds old k → Holds new (record k { censuses = k.censuses ++ t ∷ [] })
+
+-- what each call keeps: a database that is sure after it was sure before it, and the capacity is the one chosen at opening
+pub record Goes (old new : Shelf) : Type 0 where
+  pub was_sure : StaysLost old.tables new.tables
+  pub capacity : new.capacity ≡ old.capacity

@@ -1,0 +1,248 @@
+//! The archive, over any store.
+
+ghost use Rattle.std.specs.Prelude.{◌≡◌, ◌+◌, length, option_map, IfOk, IfSome, OnOk, OnErr};
+ghost use Rattle.sqlite.specs.Held.{state};
+ghost use Rattle.life_rle.specs.Record.{IsInside};
+ghost use Rattle.life_store.specs.Kept.{numbered, deposit_by, lines_after, kept_census, census_by, total_of};
+ghost use Rattle.life_store.specs.Tables.{tables_of, Goes, Keeps, Tells, HasOrder, AddsDeposit, AddsCensus};
+
+use crate::fault::Unavailable;
+use crate::kept::{Census, Deposit, FoundCensus, FoundDeposit, KeptCensus, Listing};
+use crate::reading::{all_lines, all_rows, count_in, first_census, first_deposit, total_in};
+use crate::{censuses, deposits};
+use life_census::{Rows, Tally};
+use life_core::Rule;
+use life_rle::write;
+use sqlite::{Alter, Connection};
+use std::alloc::Global;
+use std::marker::Model;
+
+/// Deposits and censuses in the tables of a database (docs/FORMATS.md), over any store of `sqlite`: memory, or files.
+///
+/// Contracts see the tables, whatever is in them, and the capacity. What a call does is said for all deposits and
+/// censuses that the tables stand for before it, where the database is sure after it: it is open, and its disk has
+/// returned what was written. Each call either does its one act, or is Unavailable and what was kept is kept. A number is a
+/// place in its list, from 1.
+pub struct Archive<S: Alter> {
+    pub(crate) conn: Connection<S>,
+    pub(crate) capacity: u64,
+}
+
+// It is written out, so that a caller does not prove again how each part is dropped.
+impl<S: Alter + Drop> Drop for Archive<S> {
+    fn drop(self) {
+        let Archive {
+            conn: _,
+            capacity: _,
+        } = self;
+    }
+}
+
+impl<S: Alter> Model for Archive<S> {
+    ghost use Rattle.life_store.specs.Tables.{Shelf, coded_shelf};
+
+    ghost Value = { Shelf };
+
+    ghost coded = { coded_shelf };
+
+    ghost use Rattle.sqlite.specs.Held.{state};
+    ghost use Rattle.life_store.specs.Tables.{tables_of};
+
+    ghost view = { λ a. record { tables = tables_of (state S.Store a.conn); capacity = a.capacity } };
+}
+
+impl<S: Alter> Archive<S> {
+    /// The connection to the tables.
+    pub(crate) fn into_connection(self) -> Connection<S>
+        ensures { tables_of (state S.Store result) ≡ self.tables }
+    {
+        let Archive { conn, capacity: _ } = self;
+        conn
+    }
+
+    /// How many deposits, and how many censuses, are to be taken at most. No call here counts against it: that is for
+    /// the caller to do. Asks no store.
+    pub fn capacity(&self) -> u64
+        ensures { result ≡ self.now.capacity }
+    {
+        self.capacity
+    }
+
+    /// How many deposits there are: the greatest number. No table is walked.
+    pub fn count_deposits(&mut self) -> Result<u64, Unavailable>
+        ensures goes { Goes self.old self.new }
+        ensures same { Keeps self.old.tables self.new.tables }
+        ensures value { Tells self.old.tables self.new.tables (λ k. IfOk result (λ n. n ≡ length k.deposits)) }
+    {
+        let rows = deposits::newest(&mut self.conn)?;
+        count_in(rows.as_slice())
+    }
+
+    /// The deposit of the number, or none.
+    pub fn deposit_of(&mut self, alloc: Global, id: u64) -> Result<Option<Deposit>, Unavailable>
+        ensures goes { Goes self.old self.new }
+        ensures same { Keeps self.old.tables self.new.tables }
+        ensures value { Tells self.old.tables self.new.tables (λ k. IfOk result (λ d. d ≡ numbered k.deposits id)) }
+        ensures inside { IfOk result (λ o. IfSome o (λ d. IsInside 1024 d.content.cells)) }
+    {
+        let Ok(place) = i64::try_from(id) else {
+            return Ok(None);
+        };
+        let rows = deposits::show(&mut self.conn, place)?;
+        match first_deposit(alloc, rows.as_slice())? {
+            Some(found) => Ok(Some(found.deposit)),
+            None => Ok(None),
+        }
+    }
+
+    /// The deposit of the member and the token, with its number, or none.
+    pub fn find_deposit(
+        &mut self,
+        alloc: Global,
+        member: &[u8],
+        token: &[u8],
+    ) -> Result<Option<FoundDeposit>, Unavailable>
+        ensures goes { Goes self.old self.new }
+        ensures same { Keeps self.old.tables self.new.tables }
+        ensures value { Tells self.old.tables self.new.tables (λ k. IfOk result (λ d. d ≡ deposit_by member.now token.now k.deposits)) }
+        ensures inside { IfOk result (λ o. IfSome o (λ d. IsInside 1024 d.deposit.content.cells)) }
+    {
+        let rows = deposits::find(&mut self.conn, member, token)?;
+        first_deposit(alloc, rows.as_slice())
+    }
+
+    /// The first hundred deposits with a greater number, a line each. Any number is good.
+    pub fn deposits_after(&mut self, alloc: Global, id: u64) -> Result<Listing, Unavailable>
+        ensures goes { Goes self.old self.new }
+        ensures same { Keeps self.old.tables self.new.tables }
+        ensures value { Tells self.old.tables self.new.tables (λ k. IfOk result (λ lines. lines ≡ lines_after id k.deposits)) }
+    {
+        let Ok(place) = i64::try_from(id) else {
+            return Ok(Listing::of(Vec::new(alloc)));
+        };
+        let rows = deposits::list_after(&mut self.conn, place)?;
+        all_lines(alloc, rows.as_slice())
+    }
+
+    /// Adds a deposit, and answers its number. Whether its member and token are kept already is for the
+    /// caller to ask first.
+    pub fn add_deposit(&mut self, alloc: Global, deposit: &Deposit) -> Result<u64, Unavailable>
+        requires { IsInside 1024 deposit.now.content.cells }
+        ensures goes { Goes self.old self.new }
+        ensures value { Tells self.old.tables self.new.tables (λ k. IfOk result (λ n. n ≡ length k.deposits + 1)) }
+        ensures ok { OnOk result (AddsDeposit self.old.tables self.new.tables deposit.now) }
+        ensures err { OnErr result (Keeps self.old.tables self.new.tables) }
+    {
+        let count = self.count_deposits()?;
+        let Some(id) = count.checked_add(1) else {
+            return Err(Unavailable);
+        };
+        let (Ok(place), Ok(population)) = (
+            i64::try_from(id),
+            i64::try_from(deposit.content.cells.population()),
+        ) else {
+            return Err(Unavailable);
+        };
+        let rule = deposit.content.rule.text(alloc)?;
+        let file = write(alloc, &deposit.content)?;
+        deposits::insert(
+            &mut self.conn,
+            place,
+            deposit,
+            rule.as_bytes(),
+            population,
+            file.as_slice(),
+        )?;
+        Ok(id)
+    }
+
+    /// How many censuses there are: the greatest number.
+    pub fn count_censuses(&mut self) -> Result<u64, Unavailable>
+        ensures goes { Goes self.old self.new }
+        ensures same { Keeps self.old.tables self.new.tables }
+        ensures value { Tells self.old.tables self.new.tables (λ k. IfOk result (λ n. n ≡ length k.censuses)) }
+    {
+        let rows = censuses::newest(&mut self.conn)?;
+        count_in(rows.as_slice())
+    }
+
+    /// The census of the number, or none.
+    pub fn census_of(&mut self, alloc: Global, id: u64) -> Result<Option<KeptCensus>, Unavailable>
+        ensures goes { Goes self.old self.new }
+        ensures same { Keeps self.old.tables self.new.tables }
+        ensures value { Tells self.old.tables self.new.tables (λ k. IfOk result (λ c. c ≡ option_map kept_census (numbered k.censuses id))) }
+    {
+        let Ok(place) = i64::try_from(id) else {
+            return Ok(None);
+        };
+        let rows = censuses::show(&mut self.conn, place)?;
+        match first_census(alloc, rows.as_slice())? {
+            Some((_, kept)) => Ok(Some(kept)),
+            None => Ok(None),
+        }
+    }
+
+    /// The census of the member and the token, with its number, or none.
+    pub fn find_census(
+        &mut self,
+        alloc: Global,
+        member: &[u8],
+        token: &[u8],
+    ) -> Result<Option<FoundCensus>, Unavailable>
+        ensures goes { Goes self.old self.new }
+        ensures same { Keeps self.old.tables self.new.tables }
+        ensures value { Tells self.old.tables self.new.tables (λ k. IfOk result (λ c. c ≡ census_by member.now token.now k.censuses)) }
+    {
+        let rows = censuses::find(&mut self.conn, member, token)?;
+        match first_census(alloc, rows.as_slice())? {
+            Some((id, kept)) => Ok(Some(FoundCensus {
+                id,
+                census: kept.census,
+            })),
+            None => Ok(None),
+        }
+    }
+
+    /// Adds a census with the rows of its tally in one transaction, and answers its number. Whether its member and token
+    /// are kept already, and whether the tally is that of its deposit, is for the caller to see to.
+    pub fn add_census(&mut self, census: &Census, tally: &Tally) -> Result<u64, Unavailable>
+        // The codes of a tally that `tally` made ascend.
+        requires { HasOrder tally.now }
+        ensures goes { Goes self.old self.new }
+        ensures value { Tells self.old.tables self.new.tables (λ k. IfOk result (λ n. n ≡ length k.censuses + 1)) }
+        ensures ok { OnOk result (AddsCensus self.old.tables self.new.tables (record { census = census.now; tally = tally.now })) }
+        ensures err { OnErr result (Keeps self.old.tables self.new.tables) }
+    {
+        let count = self.count_censuses()?;
+        let Some(id) = count.checked_add(1) else {
+            return Err(Unavailable);
+        };
+        censuses::insert(&mut self.conn, id, census, tally)?;
+        Ok(id)
+    }
+
+    /// The rows of the tally of the census of the number, in byte order of their codes. Nothing is said of a number that
+    /// is not kept.
+    pub fn rows_of(&mut self, alloc: Global, id: u64) -> Result<Rows, Unavailable>
+        ensures goes { Goes self.old self.new }
+        ensures same { Keeps self.old.tables self.new.tables }
+        ensures value { Tells self.old.tables self.new.tables (λ k. IfOk result (λ rows. IfSome (numbered k.censuses id) (λ t. rows ≡ t.tally.rows))) }
+    {
+        let Ok(place) = i64::try_from(id) else {
+            return Err(Unavailable);
+        };
+        let rows = censuses::rows_of(&mut self.conn, place)?;
+        all_rows(alloc, rows.as_slice())
+    }
+
+    /// How many clusters with the code there are in all censuses of deposits of the rule.
+    pub fn counts_of(&mut self, alloc: Global, rule: &Rule, code: &[u8]) -> Result<u64, Unavailable>
+        ensures goes { Goes self.old self.new }
+        ensures same { Keeps self.old.tables self.new.tables }
+        ensures value { Tells self.old.tables self.new.tables (λ k. IfOk result (λ n. n ≡ total_of k rule.now code.now)) }
+    {
+        let text = rule.text(alloc)?;
+        let rows = censuses::total(&mut self.conn, text.as_bytes(), code)?;
+        total_in(rows.as_slice())
+    }
+}

@@ -1,0 +1,66 @@
+//! Statements that are run outside a transaction, and the values that are bound to them.
+
+ghost use Rattle.std.specs.Prelude.{◌≡◌, ◌≤◌, Ok, IfOk, OnErr};
+ghost use Rattle.sqlite_value.specs.declared.value.Value.TheVariants.{Int, Text, Blob};
+ghost use Rattle.sqlite_value.specs.Value.{owned};
+ghost use Rattle.sqlite_trees.specs.View.{doubt};
+ghost use Rattle.sqlite.specs.State.{HasCleanDisk, Shown, Executes};
+ghost use Rattle.sqlite.specs.Held.{state};
+ghost use Rattle.sqlite.specs.Values.{bound};
+ghost use Rattle.life_store.specs.Asking.{IsSeenAgain};
+
+use sqlite::types::ValueRef;
+use sqlite::{Alter, Connection, Error, ErrorCode, Row};
+
+/// An INTEGER of SQL.
+pub(crate) fn whole<'a>(n: i64) -> ValueRef<'a>
+    ensures { owned result ≡ Int n }
+{
+    ValueRef::Int(n)
+}
+
+/// A TEXT of SQL.
+pub(crate) fn text<'a>(bytes: &'a [u8]) -> ValueRef<'a>
+    ensures { owned result ≡ Text bytes.now }
+{
+    ValueRef::Text(bytes)
+}
+
+/// A BLOB of SQL.
+pub(crate) fn blob<'a>(bytes: &'a [u8]) -> ValueRef<'a>
+    ensures { owned result ≡ Blob bytes.now }
+{
+    ValueRef::Blob(bytes)
+}
+
+/// All rows of the answer to a query. Where a transaction is open, the query is refused.
+pub(crate) fn ask<S: Alter>(
+    conn: &mut Connection<S>,
+    sql: &str,
+    params: &[ValueRef<'_>],
+) -> Result<Vec<Row>, Error>
+    ensures shown { HasCleanDisk (state S.Store conn.new) → IfOk result (λ rows. Shown sql.now (bound params.now) (state S.Store conn.old) (state S.Store conn.new) rows.items) }
+    ensures refused { HasCleanDisk (state S.Store conn.new) → OnErr result (IsSeenAgain (state S.Store conn.old) (state S.Store conn.new)) }
+    ensures clean { doubt (state S.Store conn.old).is_clean ≤ doubt (state S.Store conn.new).is_clean }
+{
+    if !conn.is_autocommit() {
+        return Err(Error::SqliteFailure(ErrorCode::TransactionState));
+    }
+    conn.query_all(sql, params)
+}
+
+/// Runs a statement that changes rows. Where a transaction is open, it is refused.
+pub(crate) fn write<S: Alter>(
+    conn: &mut Connection<S>,
+    sql: &str,
+    params: &[ValueRef<'_>],
+) -> Result<usize, Error>
+    ensures ran { HasCleanDisk (state S.Store conn.new) → IfOk result (λ count. Executes sql.now (bound params.now) (state S.Store conn.old) (state S.Store conn.new) (Ok count)) }
+    ensures refused { HasCleanDisk (state S.Store conn.new) → OnErr result (IsSeenAgain (state S.Store conn.old) (state S.Store conn.new)) }
+    ensures clean { doubt (state S.Store conn.old).is_clean ≤ doubt (state S.Store conn.new).is_clean }
+{
+    if !conn.is_autocommit() {
+        return Err(Error::SqliteFailure(ErrorCode::TransactionState));
+    }
+    conn.execute(sql, params)
+}

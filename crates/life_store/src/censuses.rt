@@ -1,0 +1,254 @@
+//! The statements on the tables of censuses, one function for each.
+
+ghost use Rattle.std.specs.Prelude.{◌≡◌, ◌<◌, ◌≤◌, ◌+◌, ◌^◌, ◌++◌, ℕ, pos, false, List, [], ◌∷◌, length, map, option_map, IsTrue, IfOk, IfSome, OnOk, OnErr};
+ghost use Rattle.sqlite_trees.specs.View.{doubt};
+ghost use Rattle.sqlite.specs.State.{HasCleanDisk, KeepsCommit};
+ghost use Rattle.sqlite.specs.Held.{state};
+ghost use Rattle.life_core.specs.Rule.{RuleSets, IsRule};
+ghost use Rattle.life_core.specs.RuleText.{rule_text};
+ghost use Rattle.life_census.specs.Rows.{row_seen};
+ghost use Rattle.life_store.specs.declared.kept.Deposit.{Deposit as Given};
+ghost use Rattle.life_store.specs.Answers.{newest_rows, ShowsCensus, ShowsTotal, row_shown};
+ghost use Rattle.life_store.specs.Kept.{Kept, Tallied, numbered, tallied_from, total_of};
+ghost use Rattle.life_store.specs.Standing.{Stands, Means};
+ghost use Rattle.life_store.specs.Stored.{tagged};
+ghost use Rattle.life_store.specs.Tables.{tables_of, HasOrder, Holds, StaysLost, Keeps, Tells};
+
+use crate::asking::{ask, text, whole};
+use crate::fault::Unavailable;
+use crate::kept::Census;
+use life_census::{Row as Counted, Tally};
+use sqlite::{Alter, Connection, Error, Row, Transaction};
+
+/// The greatest number.
+pub(crate) fn newest<S: Alter>(conn: &mut Connection<S>) -> Result<Vec<Row>, Error>
+    ensures lost { StaysLost (tables_of (state S.Store conn.old)) (tables_of (state S.Store conn.new)) }
+    ensures keeps { Keeps (tables_of (state S.Store conn.old)) (tables_of (state S.Store conn.new)) }
+    ensures tells { Tells (tables_of (state S.Store conn.old)) (tables_of (state S.Store conn.new)) (λ k. IfOk result (λ rows. rows.items ≡ newest_rows (length k.censuses))) }
+{
+    ask(
+        conn,
+        "SELECT id FROM censuses ORDER BY id DESC LIMIT 1",
+        &[],
+    )
+}
+
+/// The census of the number.
+pub(crate) fn show<S: Alter>(conn: &mut Connection<S>, id: i64) -> Result<Vec<Row>, Error>
+    ensures lost { StaysLost (tables_of (state S.Store conn.old)) (tables_of (state S.Store conn.new)) }
+    ensures keeps { Keeps (tables_of (state S.Store conn.old)) (tables_of (state S.Store conn.new)) }
+    ensures tells { (n : ℕ) → id ≡ pos n → Tells (tables_of (state S.Store conn.old)) (tables_of (state S.Store conn.new)) (λ k. IfOk result (λ rows. ShowsCensus (option_map (λ t. (n, t)) (numbered k.censuses n)) rows.items)) }
+{
+    ask(
+        conn,
+        "SELECT id, member, token, deposit, gens, lim, clusters, unresolved FROM censuses WHERE id = ?1 ORDER BY id",
+        &[whole(id)],
+    )
+}
+
+/// The census of the member and the token.
+pub(crate) fn find<'a, S: Alter>(
+    conn: &mut Connection<S>,
+    member: &'a [u8],
+    token: &'a [u8],
+) -> Result<Vec<Row>, Error>
+    ensures lost { StaysLost (tables_of (state S.Store conn.old)) (tables_of (state S.Store conn.new)) }
+    ensures keeps { Keeps (tables_of (state S.Store conn.old)) (tables_of (state S.Store conn.new)) }
+    ensures tells { Tells (tables_of (state S.Store conn.old)) (tables_of (state S.Store conn.new)) (λ k. IfOk result (λ rows. ShowsCensus (tallied_from 1 member.now token.now k.censuses) rows.items)) }
+{
+    ask(
+        conn,
+        "SELECT id, member, token, deposit, gens, lim, clusters, unresolved FROM censuses WHERE member = ?1 AND token = ?2 ORDER BY id",
+        &[text(member), text(token)],
+    )
+}
+
+/// The rows of the tally of the census of the number.
+pub(crate) fn rows_of<S: Alter>(conn: &mut Connection<S>, id: i64) -> Result<Vec<Row>, Error>
+    ensures lost { StaysLost (tables_of (state S.Store conn.old)) (tables_of (state S.Store conn.new)) }
+    ensures keeps { Keeps (tables_of (state S.Store conn.old)) (tables_of (state S.Store conn.new)) }
+    ensures tells { (n : ℕ) → id ≡ pos n → Tells (tables_of (state S.Store conn.old)) (tables_of (state S.Store conn.new)) (λ k. IfOk result (λ rows. IfSome (numbered k.censuses n) (λ t. rows.items ≡ map row_shown t.tally.rows))) }
+{
+    ask(
+        conn,
+        "SELECT code, n FROM census_rows WHERE census = ?1 ORDER BY code",
+        &[whole(id)],
+    )
+}
+
+/// The row of the census, with the numbers of its tally.
+fn insert_census<S: Alter>(
+    tx: &mut Transaction<'_, S>,
+    id: u64,
+    census: &Census,
+    tally: &Tally,
+) -> Result<(), Unavailable>
+    ensures same_reference { tx.new.conn.ghost_name ≡ tx.old.conn.ghost_name }
+    ensures added { HasCleanDisk (state S.Store tx.new.conn.now) → IsTrue tx.old.conn.now.in_transaction
+        → (ds : List Given) (ts : List Tallied) (rs : List _) → Stands (state S.Store tx.old.conn.now).now ds ts rs → id ≡ length ts + 1 → OnOk result (IsTrue tx.new.conn.now.in_transaction × Stands (state S.Store tx.new.conn.now).now ds (ts ++ record { census = census.now; tally = tally.now } ∷ []) rs) }
+    ensures inside { HasCleanDisk (state S.Store tx.new.conn.now) → IsTrue tx.old.conn.now.in_transaction → OnOk result (IsTrue tx.new.conn.now.in_transaction) }
+    ensures kept { HasCleanDisk (state S.Store tx.new.conn.now) → IsTrue tx.old.conn.now.in_transaction → KeepsCommit (state S.Store tx.old.conn.now) (state S.Store tx.new.conn.now) }
+    ensures clean { doubt (state S.Store tx.old.conn.now).is_clean ≤ doubt (state S.Store tx.new.conn.now).is_clean }
+    ensures few { OnOk result (id < 2 ^ 63) }
+{
+    let (Ok(id), Ok(deposit), Ok(total), Ok(unresolved)) = (
+        i64::try_from(id),
+        i64::try_from(census.deposit),
+        i64::try_from(tally.total),
+        i64::try_from(tally.unresolved),
+    ) else {
+        return Err(Unavailable);
+    };
+    tx.execute(
+        "INSERT INTO censuses (id, member, token, deposit, gens, lim, clusters, unresolved) VALUES (?1, ?2, ?3, ?4, ?5, ?6, ?7, ?8)",
+        &[
+            whole(id),
+            text(census.member.as_bytes()),
+            text(census.token.as_bytes()),
+            whole(deposit),
+            whole(i64::from(census.generation)),
+            whole(i64::from(census.limit)),
+            whole(total),
+            whole(unresolved),
+        ],
+    )?;
+    Ok(())
+}
+
+/// A row of the tally of the census of the number.
+fn insert_row<S: Alter>(
+    tx: &mut Transaction<'_, S>,
+    id: u64,
+    row: &Counted,
+) -> Result<(), Unavailable>
+    ensures same_reference { tx.new.conn.ghost_name ≡ tx.old.conn.ghost_name }
+    ensures added { HasCleanDisk (state S.Store tx.new.conn.now) → IsTrue tx.old.conn.now.in_transaction
+        → (ds : List Given) (ts : List Tallied) (rs : List _) → Stands (state S.Store tx.old.conn.now).now ds ts rs → OnOk result (IsTrue tx.new.conn.now.in_transaction × Stands (state S.Store tx.new.conn.now).now ds ts (rs ++ (id, row_seen row.now) ∷ [])) }
+    ensures inside { HasCleanDisk (state S.Store tx.new.conn.now) → IsTrue tx.old.conn.now.in_transaction → OnOk result (IsTrue tx.new.conn.now.in_transaction) }
+    ensures kept { HasCleanDisk (state S.Store tx.new.conn.now) → IsTrue tx.old.conn.now.in_transaction → KeepsCommit (state S.Store tx.old.conn.now) (state S.Store tx.new.conn.now) }
+    ensures clean { doubt (state S.Store tx.old.conn.now).is_clean ≤ doubt (state S.Store tx.new.conn.now).is_clean }
+{
+    let (Ok(id), Ok(count)) = (i64::try_from(id), i64::try_from(row.count)) else {
+        return Err(Unavailable);
+    };
+    tx.execute(
+        "INSERT INTO census_rows (census, code, n) VALUES (?1, ?2, ?3)",
+        &[whole(id), text(row.code.as_bytes()), whole(count)],
+    )?;
+    Ok(())
+}
+
+/// These rows of it.
+fn insert_rows<S: Alter>(
+    tx: &mut Transaction<'_, S>,
+    id: u64,
+    rows: &[Counted],
+) -> Result<(), Unavailable>
+    ensures same_reference { tx.new.conn.ghost_name ≡ tx.old.conn.ghost_name }
+    ensures added { HasCleanDisk (state S.Store tx.new.conn.now) → IsTrue tx.old.conn.now.in_transaction
+        → (ds : List Given) (ts : List Tallied) (rs : List _) → Stands (state S.Store tx.old.conn.now).now ds ts rs → OnOk result (IsTrue tx.new.conn.now.in_transaction × Stands (state S.Store tx.new.conn.now).now ds ts (rs ++ tagged id (map row_seen rows.now))) }
+    ensures inside { HasCleanDisk (state S.Store tx.new.conn.now) → IsTrue tx.old.conn.now.in_transaction → OnOk result (IsTrue tx.new.conn.now.in_transaction) }
+    ensures kept { HasCleanDisk (state S.Store tx.new.conn.now) → IsTrue tx.old.conn.now.in_transaction → KeepsCommit (state S.Store tx.old.conn.now) (state S.Store tx.new.conn.now) }
+    ensures clean { doubt (state S.Store tx.old.conn.now).is_clean ≤ doubt (state S.Store tx.new.conn.now).is_clean }
+{
+    for row in rows {
+        insert_row(tx, id, row)?;
+    }
+    Ok(())
+}
+
+/// All its rows.
+fn insert_tally<S: Alter>(
+    tx: &mut Transaction<'_, S>,
+    id: u64,
+    tally: &Tally,
+) -> Result<(), Unavailable>
+    ensures same_reference { tx.new.conn.ghost_name ≡ tx.old.conn.ghost_name }
+    ensures added { HasCleanDisk (state S.Store tx.new.conn.now) → IsTrue tx.old.conn.now.in_transaction
+        → (ds : List Given) (ts : List Tallied) (rs : List _) → Stands (state S.Store tx.old.conn.now).now ds ts rs → OnOk result (IsTrue tx.new.conn.now.in_transaction × Stands (state S.Store tx.new.conn.now).now ds ts (rs ++ tagged id tally.now.rows)) }
+    ensures inside { HasCleanDisk (state S.Store tx.new.conn.now) → IsTrue tx.old.conn.now.in_transaction → OnOk result (IsTrue tx.new.conn.now.in_transaction) }
+    ensures kept { HasCleanDisk (state S.Store tx.new.conn.now) → IsTrue tx.old.conn.now.in_transaction → KeepsCommit (state S.Store tx.old.conn.now) (state S.Store tx.new.conn.now) }
+    ensures clean { doubt (state S.Store tx.old.conn.now).is_clean ≤ doubt (state S.Store tx.new.conn.now).is_clean }
+{
+    insert_rows(tx, id, tally.rows.as_slice())
+}
+
+/// The census under the number, and the rows of its tally.
+fn insert_with_rows<S: Alter>(
+    tx: &mut Transaction<'_, S>,
+    id: u64,
+    census: &Census,
+    tally: &Tally,
+) -> Result<(), Unavailable>
+    ensures same_reference { tx.new.conn.ghost_name ≡ tx.old.conn.ghost_name }
+    ensures added { HasCleanDisk (state S.Store tx.new.conn.now) → IsTrue tx.old.conn.now.in_transaction
+        → (ds : List Given) (ts : List Tallied) (rs : List _) → Stands (state S.Store tx.old.conn.now).now ds ts rs → id ≡ length ts + 1
+        → OnOk result (IsTrue tx.new.conn.now.in_transaction × Stands (state S.Store tx.new.conn.now).now ds (ts ++ record { census = census.now; tally = tally.now } ∷ []) (rs ++ tagged id tally.now.rows)) }
+    ensures inside { HasCleanDisk (state S.Store tx.new.conn.now) → IsTrue tx.old.conn.now.in_transaction → OnOk result (IsTrue tx.new.conn.now.in_transaction) }
+    ensures kept { HasCleanDisk (state S.Store tx.new.conn.now) → IsTrue tx.old.conn.now.in_transaction → KeepsCommit (state S.Store tx.old.conn.now) (state S.Store tx.new.conn.now) }
+    ensures clean { doubt (state S.Store tx.old.conn.now).is_clean ≤ doubt (state S.Store tx.new.conn.now).is_clean }
+    ensures few { OnOk result (id < 2 ^ 63) }
+{
+    insert_census(tx, id, census, tally)?;
+    insert_tally(tx, id, tally)
+}
+
+/// The same in one transaction, which is rolled back where it fails.
+fn insert_all<S: Alter>(
+    conn: &mut Connection<S>,
+    id: u64,
+    census: &Census,
+    tally: &Tally,
+) -> Result<(), Unavailable>
+    requires { conn.old.in_transaction ≡ false }
+    ensures added { HasCleanDisk (state S.Store conn.new) → (ds : List Given) (ts : List Tallied) (rs : List _) → Means (state S.Store conn.old) ds ts rs → id ≡ length ts + 1
+        → OnOk result (Means (state S.Store conn.new) ds (ts ++ record { census = census.now; tally = tally.now } ∷ []) (rs ++ tagged id tally.now.rows)) }
+    ensures undone { HasCleanDisk (state S.Store conn.new) → (ds : List Given) (ts : List Tallied) (rs : List _) → Means (state S.Store conn.old) ds ts rs → OnErr result (Means (state S.Store conn.new) ds ts rs) }
+    ensures few { OnOk result (id < 2 ^ 63) }
+    ensures was_open { HasCleanDisk (state S.Store conn.new) → IsTrue (state S.Store conn.new).is_open → IsTrue (state S.Store conn.old).is_open }
+    ensures clean { doubt (state S.Store conn.old).is_clean ≤ doubt (state S.Store conn.new).is_clean }
+{
+    let mut tx = conn.transaction();
+    match insert_with_rows(&mut tx, id, census, tally) {
+        Ok(()) => match tx.commit() {
+            Ok(()) => Ok(()),
+            Err(_) => Err(Unavailable),
+        },
+        Err(fault) => Err(fault),
+    }
+}
+
+/// Adds the census under the number, and the rows of its tally; or nothing of them.
+pub(crate) fn insert<S: Alter>(
+    conn: &mut Connection<S>,
+    id: u64,
+    census: &Census,
+    tally: &Tally,
+) -> Result<(), Unavailable>
+    requires { HasOrder tally.now }
+    ensures lost { StaysLost (tables_of (state S.Store conn.old)) (tables_of (state S.Store conn.new)) }
+    ensures ok { OnOk result ((k : Kept) → IsTrue (tables_of (state S.Store conn.new)).is_sure → Holds (tables_of (state S.Store conn.old)) k → id ≡ length k.censuses + 1 → Holds (tables_of (state S.Store conn.new)) (record k { censuses = k.censuses ++ record { census = census.now; tally = tally.now } ∷ [] })) }
+    ensures err { OnErr result (Keeps (tables_of (state S.Store conn.old)) (tables_of (state S.Store conn.new))) }
+{
+    if !conn.is_autocommit() {
+        return Err(Unavailable);
+    }
+    insert_all(conn, id, census, tally)
+}
+
+/// How many clusters with the code the censuses have whose deposits have the rule.
+pub(crate) fn total<'a, S: Alter>(
+    conn: &mut Connection<S>,
+    rule: &'a [u8],
+    code: &'a [u8],
+) -> Result<Vec<Row>, Error>
+    ensures lost { StaysLost (tables_of (state S.Store conn.old)) (tables_of (state S.Store conn.new)) }
+    ensures keeps { Keeps (tables_of (state S.Store conn.old)) (tables_of (state S.Store conn.new)) }
+    ensures tells { (r : RuleSets) → IsRule r → rule.now ≡ rule_text r → Tells (tables_of (state S.Store conn.old)) (tables_of (state S.Store conn.new)) (λ k. IfOk result (λ rows. ShowsTotal (total_of k r code.now) rows.items)) }
+{
+    ask(
+        conn,
+        "SELECT sum(n) FROM census_rows JOIN censuses ON census_rows.census = censuses.id JOIN deposits ON censuses.deposit = deposits.id WHERE rule = ?1 AND code = ?2",
+        &[text(rule), text(code)],
+    )
+}

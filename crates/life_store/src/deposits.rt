@@ -1,0 +1,96 @@
+//! The statements on the table of deposits, one function for each.
+
+ghost use Rattle.std.specs.Prelude.{◌≡◌, ◌+◌, ◌++◌, ℕ, pos, [], ◌∷◌, length, map, option_map, IsTrue, IfOk, OnErr, OnOk};
+ghost use Rattle.sqlite.specs.Held.{state};
+ghost use Rattle.life_store.specs.Answers.{newest_rows, ShowsDeposit, line_shown};
+ghost use Rattle.life_store.specs.Kept.{Kept, numbered, deposit_by, lines_after};
+ghost use Rattle.life_store.specs.DepositsState.{AreValuesOf};
+ghost use Rattle.life_store.specs.Tables.{tables_of, Holds, StaysLost, Keeps, Tells};
+
+use crate::asking::{ask, blob, text, whole, write};
+use crate::kept::Deposit;
+use sqlite::{Alter, Connection, Error, Row};
+
+/// The greatest number.
+pub(crate) fn newest<S: Alter>(conn: &mut Connection<S>) -> Result<Vec<Row>, Error>
+    ensures lost { StaysLost (tables_of (state S.Store conn.old)) (tables_of (state S.Store conn.new)) }
+    ensures keeps { Keeps (tables_of (state S.Store conn.old)) (tables_of (state S.Store conn.new)) }
+    ensures tells { Tells (tables_of (state S.Store conn.old)) (tables_of (state S.Store conn.new)) (λ k. IfOk result (λ rows. rows.items ≡ newest_rows (length k.deposits))) }
+{
+    ask(
+        conn,
+        "SELECT id FROM deposits ORDER BY id DESC LIMIT 1",
+        &[],
+    )
+}
+
+/// The deposit of the number.
+pub(crate) fn show<S: Alter>(conn: &mut Connection<S>, id: i64) -> Result<Vec<Row>, Error>
+    ensures lost { StaysLost (tables_of (state S.Store conn.old)) (tables_of (state S.Store conn.new)) }
+    ensures keeps { Keeps (tables_of (state S.Store conn.old)) (tables_of (state S.Store conn.new)) }
+    ensures tells { (n : ℕ) → id ≡ pos n → Tells (tables_of (state S.Store conn.old)) (tables_of (state S.Store conn.new)) (λ k. IfOk result (λ rows. ShowsDeposit (option_map (λ d. record { id = n; deposit = d }) (numbered k.deposits n)) rows.items)) }
+{
+    ask(
+        conn,
+        "SELECT id, member, token, rle FROM deposits WHERE id = ?1 ORDER BY id",
+        &[whole(id)],
+    )
+}
+
+/// The deposit of the member and the token.
+pub(crate) fn find<'a, S: Alter>(
+    conn: &mut Connection<S>,
+    member: &'a [u8],
+    token: &'a [u8],
+) -> Result<Vec<Row>, Error>
+    ensures lost { StaysLost (tables_of (state S.Store conn.old)) (tables_of (state S.Store conn.new)) }
+    ensures keeps { Keeps (tables_of (state S.Store conn.old)) (tables_of (state S.Store conn.new)) }
+    ensures tells { Tells (tables_of (state S.Store conn.old)) (tables_of (state S.Store conn.new)) (λ k. IfOk result (λ rows. ShowsDeposit (deposit_by member.now token.now k.deposits) rows.items)) }
+{
+    ask(
+        conn,
+        "SELECT id, member, token, rle FROM deposits WHERE member = ?1 AND token = ?2 ORDER BY id",
+        &[text(member), text(token)],
+    )
+}
+
+/// The first hundred deposits with a greater number.
+pub(crate) fn list_after<S: Alter>(conn: &mut Connection<S>, id: i64) -> Result<Vec<Row>, Error>
+    ensures lost { StaysLost (tables_of (state S.Store conn.old)) (tables_of (state S.Store conn.new)) }
+    ensures keeps { Keeps (tables_of (state S.Store conn.old)) (tables_of (state S.Store conn.new)) }
+    ensures tells { (n : ℕ) → id ≡ pos n → Tells (tables_of (state S.Store conn.old)) (tables_of (state S.Store conn.new)) (λ k. IfOk result (λ rows. rows.items ≡ map line_shown (lines_after n k.deposits))) }
+{
+    ask(
+        conn,
+        "SELECT id, member, population, rule FROM deposits WHERE id > ?1 ORDER BY id LIMIT 100",
+        &[whole(id)],
+    )
+}
+
+/// Adds the deposit under the number.
+pub(crate) fn insert<S: Alter>(
+    conn: &mut Connection<S>,
+    id: i64,
+    deposit: &Deposit,
+    rule: &[u8],
+    population: i64,
+    file: &[u8],
+) -> Result<usize, Error>
+    requires { AreValuesOf deposit.now rule.now population file.now }
+    ensures lost { StaysLost (tables_of (state S.Store conn.old)) (tables_of (state S.Store conn.new)) }
+    ensures ok { OnOk result ((k : Kept) → IsTrue (tables_of (state S.Store conn.new)).is_sure → Holds (tables_of (state S.Store conn.old)) k → id ≡ pos (length k.deposits + 1) → Holds (tables_of (state S.Store conn.new)) (record k { deposits = k.deposits ++ deposit.now ∷ [] })) }
+    ensures err { OnErr result (Keeps (tables_of (state S.Store conn.old)) (tables_of (state S.Store conn.new))) }
+{
+    write(
+        conn,
+        "INSERT INTO deposits (id, member, token, rule, population, rle) VALUES (?1, ?2, ?3, ?4, ?5, ?6)",
+        &[
+            whole(id),
+            text(deposit.member.as_bytes()),
+            text(deposit.token.as_bytes()),
+            text(rule),
+            whole(population),
+            blob(file),
+        ],
+    )
+}

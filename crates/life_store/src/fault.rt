@@ -1,0 +1,58 @@
+//! Why a call gives up.
+
+ghost use Rattle.std.specs.Prelude.{◌≡◌};
+
+use life_core::Fault;
+use life_rle::RleFault;
+use sqlite::Error;
+use std::alloc::AllocError;
+
+/// The store refused, or a growth did, or a row was met that no archive writes. What was kept is kept.
+#[derive(Clone, Copy, Debug, PartialEq, Eq)]
+pub struct Unavailable;
+
+impl From<AllocError> for Unavailable {
+    fn from(_: AllocError) -> Unavailable {
+        Unavailable
+    }
+}
+
+impl From<Fault> for Unavailable {
+    fn from(_: Fault) -> Unavailable {
+        Unavailable
+    }
+}
+
+impl From<RleFault> for Unavailable {
+    fn from(_: RleFault) -> Unavailable {
+        Unavailable
+    }
+}
+
+impl From<Error> for Unavailable {
+    fn from(_: Error) -> Unavailable {
+        Unavailable
+    }
+}
+
+/// Why an archive is not opened.
+#[derive(Clone, Copy, Debug, PartialEq, Eq)]
+pub enum OpenFault {
+    /// The capacity is not from 1 to 1,000,000. It is judged first.
+    BadCapacity = 1,
+    /// Some of an archive's tables stand, and `layout` is none of them or has not exactly one row, of version 1.
+    NotOurs = 2,
+    /// The store refused, or a growth did, or the files hold no database.
+    Unavailable = 3,
+}
+
+impl OpenFault {
+    ghost use Rattle.life_store.specs.Fault.{fault_number};
+
+    /// The fault's number, from 1 on.
+    pub fn number(self) -> u8
+        ensures { result ≡ fault_number self }
+    {
+        self as u8
+    }
+}

@@ -1,0 +1,106 @@
+//! Deposits and censuses, as they go in and come out.
+
+ghost use Rattle.std.specs.Prelude.{◌≡◌};
+
+use life_rle::{Record, Text};
+use std::marker::Model;
+
+/// A pattern file, under the member and the token that it came with.
+#[derive(Debug, Drop)]
+pub struct Deposit {
+    /// Whose it is.
+    pub member: Text,
+    /// What the member calls it. No two deposits that came in by look-up and add share member and token.
+    pub token: Text,
+    /// The record of the file.
+    pub content: Record,
+}
+
+/// A census: which generation of which deposit was counted, under the member and the token that it came with. Its
+/// tally is kept beside it.
+#[derive(Debug, Drop)]
+pub struct Census {
+    /// Whose it is.
+    pub member: Text,
+    /// What the member calls it. Tokens of censuses and of deposits have nothing to do with one another.
+    pub token: Text,
+    /// The number of the deposit.
+    pub deposit: u64,
+    /// The generation that was counted.
+    pub generation: u32,
+    /// The limit under which codes were looked for.
+    pub limit: u32,
+}
+
+/// A deposit and its number.
+#[derive(Debug, Drop)]
+pub struct FoundDeposit {
+    /// Its number, from 1.
+    pub id: u64,
+    /// The deposit.
+    pub deposit: Deposit,
+}
+
+/// A census and its number.
+#[derive(Debug, Drop)]
+pub struct FoundCensus {
+    /// Its number, from 1.
+    pub id: u64,
+    /// The census.
+    pub census: Census,
+}
+
+/// A census, and the numbers of its tally. The tally's rows are asked for by `rows_of`.
+#[derive(Debug, Drop)]
+pub struct KeptCensus {
+    /// The census.
+    pub census: Census,
+    /// How many clusters have no code.
+    pub unresolved: u64,
+    /// How many clusters there are.
+    pub total: u64,
+}
+
+/// A line of a list of deposits.
+#[derive(Debug, Drop)]
+pub struct Listed {
+    /// The deposit's number, from 1.
+    pub id: u64,
+    /// Whose it is.
+    pub member: Text,
+    /// How many live cells it has.
+    pub population: u64,
+    /// The canonical text of its rule.
+    pub rule: Text,
+}
+
+/// Lines of a list of deposits, by number.
+#[derive(Debug, Drop)]
+pub struct Listing {
+    lines: Vec<Listed>,
+}
+
+impl Model for Listing {
+    ghost use Rattle.std.specs.Prelude.{List};
+    ghost use Rattle.life_store.specs.declared.kept.Listed.{Listed};
+
+    ghost Value = { List Listed };
+
+    ghost view = { λ t. t.lines.items };
+}
+
+impl Listing {
+    /// These lines.
+    pub(crate) fn of(lines: Vec<Listed>) -> Listing
+        ensures { result ≡ lines.items }
+    {
+        Listing { lines }
+    }
+
+    /// The lines.
+    pub fn as_slice(&self) -> &[Listed]
+        ensures { result.now ≡ self.now }
+    {
+        self.lines.as_slice()
+    }
+}

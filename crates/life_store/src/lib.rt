@@ -1,0 +1,21 @@
+//! The archive: deposits and censuses, kept in the tables of a database.
+//!
+//! Nothing above this crate speaks of rows or of SQL. Each call is one act on a list of deposits and a list of censuses,
+//! which the rows of the tables stand for (`specs/Tables.antt`).
+#![tactic(auto)]
+
+mod archive;
+mod asking;
+mod censuses;
+mod deposits;
+mod fault;
+mod kept;
+mod laws;
+mod laying;
+mod opening;
+mod reading;
+
+pub use archive::Archive;
+pub use fault::{OpenFault, Unavailable};
+pub use kept::{Census, Deposit, FoundCensus, FoundDeposit, KeptCensus, Listed, Listing};
+pub use laws::laws_of_archives;

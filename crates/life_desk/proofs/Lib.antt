@@ -1,0 +1,10 @@
+pub mod ContentSame
+pub mod Meaning
+pub mod Runs
+pub mod Later
+pub mod Once
+pub mod OnceCensus
+pub mod Steps
+pub mod Totals
+pub mod OneReply
+pub mod Telling

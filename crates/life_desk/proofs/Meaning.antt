@@ -1,0 +1,151 @@
+-- What stays of a meaning as an archive grows, and what its tables tell.
+use Rattle.std.proofs.Common.{◌≡◌, nat_lt, ℕ, zero, suc, List, [], ◌∷◌, ◌++◌, ◌+◌, length, Option, None, Some, option_map, Result, Ok, Err, OnOk, OnErr, map, sum_by, IsTrue, IsSome, IfSome, Bool, false, if◌then◌else◌, refl, sym, ◌∙◌, ap, subst, true}
+use Rattle.std.specs.List.{slice_get}
+use Rattle.std.proofs.lemmas.Option.{slice_get-map}
+use Rattle.std.proofs.lemmas.List.Sums.{sum_by-cons}
+use Rattle.life_core.specs.Rule.{RuleSets}
+use Rattle.life_store.specs.declared.kept.Deposit.{Deposit}
+use Rattle.life_store.specs.declared.kept.Census.{Census}
+use Rattle.life_store.specs.Kept.{numbered, share, total_of}
+use Rattle.life_store.specs.Tables.{Shelf, Holds, Goes, Keeps, AddsDeposit, AddsCensus}
+use Rattle.life_desk.specs.Archive.{Archive, census_from, tally_at, tally_for, clusters_in, clusters_with}
+use Rattle.life_census.specs.Rows.{Counts}
+use Rattle.life_store.specs.declared.kept.KeptCensus.{KeptCensus}
+use Rattle.life_store.specs.declared.kept.FoundCensus.{FoundCensus}
+use Rattle.life_store.specs.Kept.{Tallied, tallied_from, found_census, is_census_of, kept_census}
+use Rattle.life_desk.specs.Means.{Means, EachHasDeposit, tallied, kept_of}
+use Rattle.life_desk.specs.LookingState.{TellsOf, MeansStill}
+
+slice_get_longer : {X : Type 0} → (xs ys : List X) (i : ℕ) → IsSome (slice_get xs i) → slice_get (xs ++ ys) i ≡ slice_get xs i
+slice_get_longer [] ys i some = cc
+slice_get_longer (x ∷ xs) ys zero some = refl
+slice_get_longer (x ∷ xs) ys (suc i) some = slice_get_longer xs ys i some
+
+numbered_longer : {X : Type 0} → (xs ys : List X) (id : ℕ) → IsSome (numbered xs id) → numbered (xs ++ ys) id ≡ numbered xs id
+numbered_longer xs ys zero some = refl
+numbered_longer xs ys (suc i) some = slice_get_longer xs ys i some
+
+pub each_longer : (ds : List Deposit) (d : Deposit) (cs : List Census) → EachHasDeposit ds cs → EachHasDeposit (ds ++ d ∷ []) cs
+each_longer ds d [] each = tt
+each_longer ds d (c ∷ cs) each =
+    (subst (λ o. IsSome o) (sym (numbered_longer ds (d ∷ []) c.deposit each.0)) each.0, each_longer ds d cs each.1)
+
+tallied_longer : (ds : List Deposit) (d : Deposit) (cs : List Census) → EachHasDeposit ds cs → map (tallied ds) cs ≡ map (tallied (ds ++ d ∷ [])) cs
+tallied_longer ds d [] each = refl
+tallied_longer ds d (c ∷ cs) each =
+    let head : tallied ds c ≡ tallied (ds ++ d ∷ []) c = ap (λ o. record { census = c; tally = tally_for c o }) (sym (numbered_longer ds (d ∷ []) c.deposit each.0)) in
+    let rest : map (tallied ds) cs ≡ map (tallied (ds ++ d ∷ [])) cs = tallied_longer ds d cs each.1 in
+    cc
+
+-- what the tables hold, and how many they may
+pub holds_of : (t : Shelf) (A : Archive) → Means t A → Holds t.tables (kept_of A)
+unfolding Means
+holds_of t A m = m.holds
+
+pub capacity_of : (t : Shelf) (A : Archive) → Means t A → t.capacity ≡ A.capacity
+unfolding Means
+capacity_of t A m = m.capacity
+
+pub each_of : (t : Shelf) (A : Archive) → Means t A → EachHasDeposit A.deposits A.censuses
+unfolding Means
+each_of t A m = m.each
+
+-- nothing changed
+pub means_same : (old new : Shelf) (A : Archive) → Goes old new → Keeps old.tables new.tables → IsTrue new.tables.is_sure → Means old A → Means new A
+unfolding Means
+means_same old new A goes keeps sure m = record { capacity = goes.capacity ∙ m.capacity; each = m.each; holds = keeps (kept_of A) sure m.holds }
+
+-- one deposit more
+pub means_deposit : (old new : Shelf) (A : Archive) (d : Deposit) → Goes old new → AddsDeposit old.tables new.tables d → IsTrue new.tables.is_sure → Means old A
+    → Means new (record A { deposits = A.deposits ++ d ∷ [] })
+unfolding Means
+means_deposit old new A d goes adds sure m = record {
+  capacity = goes.capacity ∙ m.capacity;
+  each = each_longer A.deposits d A.censuses m.each;
+  holds = subst (λ cs. Holds new.tables (record { deposits = A.deposits ++ d ∷ []; censuses = cs })) (tallied_longer A.deposits d A.censuses m.each) (adds (kept_of A) sure m.holds);
+}
+
+pub each_push : (ds : List Deposit) (cs : List Census) (c : Census) → EachHasDeposit ds cs → IsSome (numbered ds c.deposit) → EachHasDeposit ds (cs ++ c ∷ [])
+each_push ds [] c each some = (some, tt)
+each_push ds (x ∷ cs) c each some = (each.0, each_push ds cs c each.1 some)
+
+tallied_push : (ds : List Deposit) (cs : List Census) (c : Census) → map (tallied ds) cs ++ tallied ds c ∷ [] ≡ map (tallied ds) (cs ++ c ∷ [])
+tallied_push ds [] c = refl
+tallied_push ds (x ∷ cs) c = ap (λ ts. tallied ds x ∷ ts) (tallied_push ds cs c)
+
+-- one census more, with the tally of its own deposit
+pub means_census : (old new : Shelf) (A : Archive) (c : Census) → Goes old new → AddsCensus old.tables new.tables (tallied A.deposits c) → IsSome (numbered A.deposits c.deposit)
+    → IsTrue new.tables.is_sure → Means old A → Means new (record A { censuses = A.censuses ++ c ∷ [] })
+unfolding Means
+means_census old new A c goes adds some sure m = record {
+  capacity = goes.capacity ∙ m.capacity;
+  each = each_push A.deposits A.censuses c m.each some;
+  holds = subst (λ cs. Holds new.tables (record { deposits = A.deposits; censuses = cs })) (tallied_push A.deposits A.censuses c) (adds (kept_of A) sure m.holds);
+}
+
+found_if : (b : Bool) (p : ℕ × Tallied) (o : Option (ℕ × Tallied)) (x : FoundCensus) (q : Option FoundCensus) → found_census p ≡ x → option_map found_census o ≡ q
+    → option_map found_census (if b then Some p else o) ≡ (if b then Some x else q)
+found_if true p o x q head rest = ap Some head
+found_if false p o x q head rest = rest
+
+-- what is found among the censuses with their tallies is what is found among the censuses
+pub found_from : (ds : List Deposit) (id : ℕ) (member token : List ℕ) (cs : List Census)
+    → option_map found_census (tallied_from id member token (map (tallied ds) cs)) ≡ census_from id member token cs
+unfolding tallied_from census_from
+found_from ds id member token [] = refl
+found_from ds id member token (c ∷ cs) = found_if (is_census_of member token c) (id, tallied ds c) _ (record { id = id; census = c }) _ refl (found_from ds (id + 1) member token cs)
+
+-- one census with its tally
+pub numbered_tallied : (ds : List Deposit) (cs : List Census) (id : ℕ) → numbered (map (tallied ds) cs) id ≡ option_map (tallied ds) (numbered cs id)
+numbered_tallied ds cs zero = refl
+numbered_tallied ds cs (suc i) = slice_get-map (tallied ds) cs i
+
+-- the sum over the tallies that are kept is that over the tallies computed anew
+shares_of : (ds : List Deposit) (rule : RuleSets) (code : List ℕ) (cs : List Census) → sum_by (share ds rule code) (map (tallied ds) cs) ≡ sum_by (clusters_in ds rule code) cs
+shares_of ds rule code [] = refl
+shares_of ds rule code (c ∷ cs) = sum_by-cons (share ds rule code) (tallied ds c) (map (tallied ds) cs) ∙ ap (λ n. clusters_in ds rule code c + n) (shares_of ds rule code cs) ∙ sym (sum_by-cons (clusters_in ds rule code) c cs)
+
+pub total_of-kept_of : (A : Archive) (rule : RuleSets) (code : List ℕ) → total_of (kept_of A) rule code ≡ clusters_with A rule code
+total_of-kept_of A rule code = shares_of A.deposits rule code A.censuses
+
+-- a census read as its numbers and its rows is that census with its tally
+pub whole : (A : Archive) (kept : KeptCensus) (rows : List (List ℕ × ℕ)) (o : Option Census) → Some kept ≡ option_map kept_census (option_map (tallied A.deposits) o)
+    → IfSome (option_map (tallied A.deposits) o) (λ t. rows ≡ t.tally.rows)
+    → ◌≡◌ {A = Option (Census × Counts)} (Some (kept.census, record { rows = rows; unresolved = kept.unresolved; total = kept.total }))
+    (option_map (λ c. (c, tally_at A.deposits c)) o)
+whole A kept rows None is are = cc
+whole A kept rows (Some c) is are = let k : kept ≡ kept_census (tallied A.deposits c) = cc in rw (k, are) refl
+
+-- one census more, with the tally of the deposit that is there
+pub means_counted : (old new : Shelf) (A : Archive) (c : Census) (t : Counts) (d : Deposit) → Goes old new → AddsCensus old.tables new.tables (record { census = c; tally = t })
+    → numbered A.deposits c.deposit ≡ Some d → t ≡ tally_for c (Some d)
+    → IsTrue new.tables.is_sure → Means old A → Means new (record A { censuses = A.censuses ++ c ∷ [] })
+means_counted old new A c t d goes adds there is sure m =
+    let same : t ≡ tally_at A.deposits c = is ∙ ap (λ o. tally_for c o) (sym there) in
+    means_census old new A c goes (subst (λ x. AddsCensus old.tables new.tables (record { census = c; tally = x })) same adds) (subst (λ o. IsSome o) (sym there) refl) sure m
+
+-- whether there is room, of the numbers that are told
+pub room_is : (n c m k : ℕ) (b : Bool) → n ≡ m → c ≡ k → b ≡ nat_lt n c → b ≡ nat_lt m k
+room_is n c m k b e f is = is ∙ ap (λ x. nat_lt x c) e ∙ ap (λ x. nat_lt m x) f
+
+-- the number of the censuses with their tallies
+pub length_tallied : (ds : List Deposit) (cs : List Census) → length (map (tallied ds) cs) ≡ length cs
+length_tallied ds [] = refl
+length_tallied ds (c ∷ cs) = ap suc (length_tallied ds cs)
+
+-- what an added deposit leaves
+pub deposit_ok : {E : Type 0} (old new : Shelf) (d : Deposit) (r : Result ℕ E) → Goes old new → OnOk r (AddsDeposit old.tables new.tables d)
+    → OnOk r (TellsOf old new (λ A. Means new (record A { deposits = A.deposits ++ d ∷ [] })))
+deposit_ok old new d (Ok n) goes adds = λ A sure m. means_deposit old new A d goes adds sure m
+deposit_ok old new d (Err e) goes adds = tt
+
+-- what an added census leaves
+pub census_ok : {E : Type 0} (old new : Shelf) (c : Census) (t : Counts) (r : Result ℕ E) → Goes old new → OnOk r (AddsCensus old.tables new.tables (record { census = c; tally = t }))
+    → OnOk r (TellsOf old new (λ A. (d : Deposit) → numbered A.deposits c.deposit ≡ Some d → t ≡ tally_for c (Some d) → Means new (record A { censuses = A.censuses ++ c ∷ [] })))
+census_ok old new c t (Ok n) goes adds = λ A sure m d there is. means_counted old new A c t d goes adds there is sure m
+census_ok old new c t (Err e) goes adds = tt
+
+-- what a call that gave up leaves
+pub err_still : {E : Type 0} (old new : Shelf) (r : Result ℕ E) → Goes old new → OnErr r (Keeps old.tables new.tables) → OnErr r (MeansStill old new)
+err_still old new (Ok n) goes keeps = tt
+err_still old new (Err e) goes keeps = λ A sure m. means_same old new A goes keeps sure m

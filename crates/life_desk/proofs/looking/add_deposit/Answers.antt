@@ -1,0 +1,12 @@
+use Rattle.life_desk.proofs.Meaning.{holds_of, deposit_ok, err_still}
+use Rattle.life_desk.specs.Means.{kept_of}
+use Rattle.life_desk.proofs.looking.add_deposit.Goals as goal
+
+pub returns-clause-value : goal.returns-clause-value
+returns-clause-value g c = λ A sure m. c.add_deposit.ensures.value (kept_of A) sure (holds_of _ A m)
+
+pub returns-clause-ok : goal.returns-clause-ok
+returns-clause-ok g c = deposit_ok _ _ c.args.deposit.now _ c.add_deposit.ensures.goes c.add_deposit.ensures.ok
+
+pub returns-clause-err : goal.returns-clause-err
+returns-clause-err g c = err_still _ _ _ c.add_deposit.ensures.goes c.add_deposit.ensures.err

@@ -1,0 +1,68 @@
+-- The archive in its own words: what the replies of a run say of sets of live cells.
+use Rattle.std.specs.Prelude.{◌≡◌, ◌↔◌, ◌+◌, ◌≤◌, ℕ, true, List, Some, Ok, IsTrue, length, sum_by, count_by, is_none}
+use Rattle.std.specs.List.{Contains, filter_map}
+use Rattle.std.specs.FinSet as set
+use Rattle.life_core.specs.declared.cell.Cell.{Cell}
+use Rattle.life_core.specs.Rule.{RuleSets}
+use Rattle.life_core.specs.Pattern.{Cells}
+use Rattle.life_core.specs.Generations.{generation_of}
+use Rattle.life_rle.specs.Record.{Contents, plain}
+use Rattle.life_rle.specs.File as files
+use Rattle.life_rle.specs.Writer as writer
+use Rattle.life_code.specs.declared.kinds.Kind.{Kind}
+use Rattle.life_code.specs.Codes.{code_of, Same}
+use Rattle.life_census.specs.Parts.{ArePartsOf, parts}
+use Rattle.life_census.specs.Counting.{how_often}
+use Rattle.life_census.specs.Rows.{Counts}
+use Rattle.life_store.specs.declared.kept.Deposit.{Deposit}
+use Rattle.life_store.specs.declared.kept.Census.{Census}
+use Rattle.life_store.specs.Kept.{numbered}
+use Rattle.life_store.specs.Tables.{Shelf}
+use Rattle.life_desk.specs.declared.request.Request.{Request}
+use Rattle.life_desk.specs.declared.request.Request.TheVariants as ask
+use Rattle.life_desk.specs.declared.request.Reply.{Reply}
+use Rattle.life_desk.specs.declared.request.Reply.TheVariants as says
+use Rattle.life_desk.specs.declared.request.Shown.{Shown}
+use Rattle.life_desk.specs.Archive.{Archive}
+use Rattle.life_desk.specs.Means.{EachHasDeposit, Means}
+use Rattle.life_desk.specs.Run.{Run, IsAnswered, IsLater}
+
+-- The tally counts every cluster of X once, under its code or as unresolved. The clusters are the parts of X, and each live cell is in
+-- exactly one; a row says how many have its code; the rows and what is unresolved add up to how many there are.
+pub record CountsEachOnce (rule : RuleSets) (X : Cells) (limit : ℕ) (tally : Counts) : Type 0 where
+  pub clusters : ArePartsOf X (parts X)
+  pub one_each : (c : Cell) → set.contains X c ≡ true
+      → (P : Cells) × Contains (parts X) P × (set.contains P c ≡ true) × ((Q : Cells) → Contains (parts X) Q → set.contains Q c ≡ true → Q ≡ P)
+  pub rows : (code : List ℕ) (n : ℕ) → Contains tally.rows (code, n) ↔ ((n ≡ how_often code (filter_map (λ P. code_of rule P limit) (parts X))) × (1 ≤ n))
+  pub unresolved : tally.unresolved ≡ count_by (λ P. is_none (code_of rule P limit)) (parts X)
+  pub total : tally.total ≡ length (parts X)
+  pub adds_up : sum_by (λ (row : List ℕ × ℕ). row.1) tally.rows + tally.unresolved ≡ tally.total
+
+-- What the replies of a run from A to B say. Deposits and censuses are named by their numbers in B.
+pub record Headline (A : Archive) (qs : List Request) (rs : List Reply) (B : Archive) : Type 0 where
+  -- nothing that A has is lost or changed
+  pub later : IsLater A B
+  -- the number of a deposit names what was handed in
+  pub deposited : (member token file : List ℕ) (n : ℕ) → IsAnswered qs rs (ask.Deposit member token file) (says.Deposited n)
+      → (content : Contents) × (files.file file ≡ Ok content) × (numbered B.deposits n ≡ Some (record { member = member; token = token; content = content }))
+  -- generation n is the rule applied n times
+  pub generations : (id n : ℕ) (bytes : List ℕ) → IsAnswered qs rs (ask.At id n) (says.File bytes)
+      → (d : Deposit) × (numbered B.deposits id ≡ Some d) × (bytes ≡ writer.text (plain d.content.rule (generation_of d.content.rule d.content.cells n)))
+  -- two coded patterns of one rule share a code exactly when a move, turn or reflection takes one to a phase of the other
+  pub codes : (i j limit other : ℕ) (k l : Kind) (s t : List ℕ) (d e : Deposit)
+      → IsAnswered qs rs (ask.KindOf i limit) (says.Kinded k (Some s)) → IsAnswered qs rs (ask.KindOf j other) (says.Kinded l (Some t))
+      → numbered B.deposits i ≡ Some d → numbered B.deposits j ≡ Some e → d.content.rule ≡ e.content.rule
+      → (s ≡ t) ↔ Same d.content.rule d.content.cells e.content.cells
+  -- a census counts every cluster once, under its code or as unresolved
+  pub censuses : (id : ℕ) (shown : Shown) → IsAnswered qs rs (ask.ShowCensus id) (says.Shown shown)
+      → (c : Census) × (d : Deposit) × (numbered B.censuses id ≡ Some c) × (numbered B.deposits c.deposit ≡ Some d)
+      × CountsEachOnce d.content.rule (generation_of d.content.rule d.content.cells c.generation) c.limit shown.tally
+
+-- It holds of every run from an archive in which each census is of a deposit.
+abbrev pub HeadlineHolds : Type 0
+HeadlineHolds = (A B : Archive) (qs : List Request) (rs : List Reply) → EachHasDeposit A.deposits A.censuses → Run A qs rs B → Headline A qs rs B
+
+-- Where the database is sure at the end: each archive that the tables meant was taken by a run to one that they mean, and these
+-- replies say so of it.
+abbrev pub IsTheArchive : Shelf → Shelf → List Request → List Reply → Type 0
+IsTheArchive old new qs rs = (A : Archive) → IsTrue new.tables.is_sure → Means old A → (B : Archive) × Run A qs rs B × Means new B × Headline A qs rs B

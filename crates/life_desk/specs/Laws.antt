@@ -1,0 +1,59 @@
+-- What makes the definitions of the archive believable: one reply to each request, numbers that stay, repeats that act once.
+use Rattle.std.specs.Prelude.{◌≡◌, ◌≢◌, ◌↔◌, true, ℕ, List, Ok, Some}
+use Rattle.std.specs.List.{AllByRecursion}
+use Rattle.life_rle.specs.Record.{Contents}
+use Rattle.life_rle.specs.File as files
+use Rattle.life_store.specs.Kept.{numbered}
+use Rattle.life_desk.specs.declared.refusal.Refusal.TheVariants as no
+use Rattle.life_desk.specs.declared.request.Request.{Request}
+use Rattle.life_desk.specs.declared.request.Request.TheVariants as ask
+use Rattle.life_desk.specs.declared.request.Reply.{Reply}
+use Rattle.life_desk.specs.declared.request.Reply.TheVariants as says
+use Rattle.life_desk.specs.Content.{same_contents}
+use Rattle.life_desk.specs.Archive.{Archive}
+use Rattle.life_desk.specs.Replies.{IsReply, after}
+use Rattle.life_desk.specs.Run.{Run, IsLater}
+
+-- Records are one content exactly where they are equal.
+abbrev pub SameIsEqual : Type 0
+SameIsEqual = (a b : Contents) → (same_contents a b ≡ true) ↔ (a ≡ b)
+
+-- Each request has one reply: something is its reply, and nothing else is.
+abbrev pub OneReply : Type 0
+OneReply = (A : Archive) (q : Request) → (r : Reply) × IsReply A q r × ((other : Reply) → IsReply A q other → other ≡ r)
+
+-- In a run no deposit and no census is lost or changed: what has a number keeps it.
+abbrev pub NothingIsLost : Type 0
+NothingIsLost = (A B : Archive) (qs : List Request) (rs : List Reply) → Run A qs rs B → IsLater A B
+
+-- The number that answers a deposit names it, then and in every later archive: the member, the token, and the record of the file.
+abbrev pub DepositsStay : Type 0
+DepositsStay = (A B : Archive) (member token file : List ℕ) (n : ℕ) → IsReply A (ask.Deposit member token file) (says.Deposited n) → IsLater (after A (ask.Deposit member token file)) B
+    → (content : Contents) × (files.file file ≡ Ok content) × (numbered B.deposits n ≡ Some (record { member = member; token = token; content = content }))
+
+-- The same of a census.
+abbrev pub CensusesStay : Type 0
+CensusesStay = (A B : Archive) (member token : List ℕ) (deposit generation limit n : ℕ) → IsReply A (ask.Census member token deposit generation limit) (says.Counted n)
+    → IsLater (after A (ask.Census member token deposit generation limit)) B
+    → numbered B.censuses n ≡ Some (record { member = member; token = token; deposit = deposit; generation = generation; limit = limit })
+
+-- A deposit that was answered by a number, and comes again, then or later, with a file of the same content, is answered by that
+-- number and changes nothing.
+abbrev pub DepositsActOnce : Type 0
+DepositsActOnce = (A B : Archive) (member token file again : List ℕ) (n : ℕ) → IsReply A (ask.Deposit member token file) (says.Deposited n)
+    → IsLater (after A (ask.Deposit member token file)) B → files.file again ≡ files.file file
+    → IsReply B (ask.Deposit member token again) (says.Deposited n) × (after B (ask.Deposit member token again) ≡ B)
+
+-- The same of a census.
+abbrev pub CensusesActOnce : Type 0
+CensusesActOnce = (A B : Archive) (member token : List ℕ) (deposit generation limit n : ℕ) → IsReply A (ask.Census member token deposit generation limit) (says.Counted n)
+    → IsLater (after A (ask.Census member token deposit generation limit)) B
+    → IsReply B (ask.Census member token deposit generation limit) (says.Counted n) × (after B (ask.Census member token deposit generation limit) ≡ B)
+
+-- nothing was answered unavailable
+abbrev pub AllAnswered : List Reply → Type 0
+AllAnswered rs = AllByRecursion (λ r. r ≢ says.Refused no.Unavailable) rs
+
+-- Two runs of the same requests from the same archive, in which nothing was answered unavailable, are one.
+abbrev pub SameReplies : Type 0
+SameReplies = (A B C : Archive) (qs : List Request) (rs ss : List Reply) → Run A qs rs B → Run A qs ss C → AllAnswered rs → AllAnswered ss → (rs ≡ ss) × (B ≡ C)

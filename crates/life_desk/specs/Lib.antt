@@ -1,0 +1,12 @@
+pub mod Refusals
+pub mod Content
+pub mod Archive
+pub mod Judging
+pub mod Replies
+pub mod Means
+pub mod JudgingState
+pub mod LookingState
+pub mod DeskState
+pub mod Run
+pub mod Laws
+pub mod Headline

@@ -1,0 +1,412 @@
+//! The desk: a request is judged by its own words, the archive is asked, and a reply is made.
+ghost use Rattle.std.specs.Prelude.{◌≡◌, ◌≤◌, ◌∷◌, [], IfErr, IfOk, IsTrue, OnErr, length, option_map, Some, true};
+ghost use Rattle.life_rle.specs.Record.{IsInside};
+ghost use Rattle.life_store.specs.Kept.{numbered, deposit_by, lines_after};
+ghost use Rattle.life_store.specs.Tables.{Goes, Keeps, HasOrder};
+ghost use Rattle.life_desk.specs.declared.request.Reply.TheVariants as says;
+ghost use Rattle.life_desk.specs.declared.refusal.Refusal.TheVariants as refusals;
+ghost use Rattle.life_desk.specs.Replies.{deposit_by_token, deposit_verdict, deposit_reply, with_deposit, is_same_content, census_by_token, census_verdict, census_reply, with_census, file_reply, at_reply, kind_reply, shown_reply, csv_reply, IsTotal, IsReplyTo, after_all_of, is_shown};
+ghost use Rattle.life_core.specs.Pattern.{IsWithin};
+ghost use Rattle.life_code.specs.Codes as codes;
+ghost use Rattle.life_desk.specs.Judging.{judged};
+ghost use Rattle.life_desk.specs.JudgingState.{IsGood};
+ghost use Rattle.life_desk.specs.DeskState.{Acts, ActsWhere};
+ghost use Rattle.life_desk.specs.Headline.{IsTheArchive};
+ghost use Rattle.life_desk.specs.Run.{Answered};
+ghost use Rattle.life_desk.specs.Archive.{census_by, tally_for, tally_at};
+
+use crate::bytes::Bytes;
+use crate::content::same_contents;
+use crate::headline::law_of_the_archive;
+use crate::judging::judge;
+use crate::looking::{
+    add_census, add_deposit, counts_of, deposit_of, deposits_after, find_census, find_deposit,
+    has_census_room, has_room, kept_tally,
+};
+use crate::refusal::Refusal;
+use crate::request::{Judged, Reply, Request, Shown};
+use life_census::{Tally, csv, laws_of_tallies, tally};
+use life_code::{CodeFault, code, kind, open_code};
+use life_core::{Fault, Pattern, Rule, generation};
+use life_rle::{RleFault, Text, plain, read, write};
+use life_store::{Archive, Census, Deposit, FoundCensus, Unavailable};
+use sqlite::Alter;
+use std::alloc::Global;
+
+/// Answers a deposit whose file is read.
+fn keep_deposit<S: Alter>(
+    archive: &mut Archive<S>,
+    alloc: Global,
+    deposit: Deposit,
+) -> Result<Reply, Unavailable>
+    requires { IsInside 1024 deposit.content.cells }
+    ensures goes { Goes archive.old archive.new }
+    ensures acts { Acts archive.old archive.new result
+        (λ A r. r ≡ deposit_reply A (deposit_by_token A deposit (deposit_by deposit.member deposit.token A.deposits)))
+        (λ A. with_deposit A (deposit_by_token A deposit (deposit_by deposit.member deposit.token A.deposits))) }
+{
+    match find_deposit(
+        archive,
+        alloc,
+        deposit.member.as_bytes(),
+        deposit.token.as_bytes(),
+    )? {
+        Some(found) => Ok(if same_contents(&found.deposit.content, &deposit.content) {
+            Reply::Deposited(found.id)
+        } else {
+            Reply::Refused(Refusal::TokenReused)
+        }),
+        None => {
+            if has_room(archive)? {
+                Ok(Reply::Deposited(add_deposit(archive, alloc, &deposit)?))
+            } else {
+                Ok(Reply::Refused(Refusal::Full))
+            }
+        }
+    }
+}
+
+/// Answers a deposit.
+fn deposit<S: Alter>(
+    archive: &mut Archive<S>,
+    alloc: Global,
+    member: Text,
+    token: Text,
+    file: Bytes,
+) -> Result<Reply, Unavailable>
+    ensures goes { Goes archive.old archive.new }
+    ensures acts { Acts archive.old archive.new result
+        (λ A r. r ≡ deposit_reply A (deposit_verdict A member token file))
+        (λ A. with_deposit A (deposit_verdict A member token file)) }
+{
+    match read(alloc, file.as_slice()) {
+        Ok(content) => keep_deposit(
+            archive,
+            alloc,
+            Deposit {
+                member,
+                token,
+                content,
+            },
+        ),
+        Err(RleFault::Memory) => Err(Unavailable),
+        Err(fault) => Ok(Reply::Refused(Refusal::BadPattern(fault))),
+    }
+}
+
+/// Answers with the file of a deposit.
+fn show<S: Alter>(archive: &mut Archive<S>, alloc: Global, id: u64) -> Result<Reply, Unavailable>
+    ensures goes { Goes archive.old archive.new }
+    ensures acts { Acts archive.old archive.new result (λ A r. r ≡ file_reply (numbered A.deposits id)) (λ A. A) }
+{
+    match deposit_of(archive, alloc, id)? {
+        None => Ok(Reply::Refused(Refusal::NoSuchDeposit)),
+        Some(deposit) => Ok(Reply::File(Bytes::of(write(alloc, &deposit.content)?))),
+    }
+}
+
+/// Answers with the deposits behind a number.
+fn list_after<S: Alter>(
+    archive: &mut Archive<S>,
+    alloc: Global,
+    id: u64,
+) -> Result<Reply, Unavailable>
+    ensures goes { Goes archive.old archive.new }
+    ensures acts { Acts archive.old archive.new result (λ A r. r ≡ says.Deposits (lines_after id A.deposits)) (λ A. A) }
+{
+    Ok(Reply::Deposits(deposits_after(archive, alloc, id)?))
+}
+
+/// The file of a generation of a deposit.
+fn file_at(alloc: Global, deposit: &Deposit, n: u32) -> Result<Bytes, Unavailable>
+    requires small { IsInside 1024 deposit.now.content.cells }
+    requires few { n ≤ 1024 }
+    ensures { IfOk result (λ file. says.File file ≡ at_reply n (Some deposit.now)) }
+{
+    let rule = deposit.content.rule;
+    let later = generation(alloc, &rule, &deposit.content.cells, n)?;
+    let content = plain(alloc, rule, &later)?;
+    Ok(Bytes::of(write(alloc, &content)?))
+}
+
+/// Answers with the file of a generation of a deposit.
+fn show_at<S: Alter>(
+    archive: &mut Archive<S>,
+    alloc: Global,
+    id: u64,
+    n: u32,
+) -> Result<Reply, Unavailable>
+    requires { n ≤ 1024 }
+    ensures goes { Goes archive.old archive.new }
+    ensures acts { Acts archive.old archive.new result (λ A r. r ≡ at_reply n (numbered A.deposits id)) (λ A. A) }
+{
+    match deposit_of(archive, alloc, id)? {
+        None => Ok(Reply::Refused(Refusal::NoSuchDeposit)),
+        Some(deposit) => Ok(Reply::File(file_at(alloc, &deposit, n)?)),
+    }
+}
+
+/// The code of a pattern, if it has one.
+fn code_of(
+    alloc: Global,
+    rule: &Rule,
+    cells: &Pattern,
+    limit: u32,
+) -> Result<Option<Bytes>, Unavailable>
+    requires some { 1 ≤ limit }
+    requires few { limit ≤ 1024 }
+    requires room { IsWithin 400_000_000 cells.now }
+    ensures { IfOk result (λ c. c ≡ codes.code_of rule.now cells.now limit) }
+{
+    match code(alloc, rule, cells, limit)? {
+        None => Ok(None),
+        Some(coded) => Ok(Some(Bytes::from_slice(alloc, coded.text())?)),
+    }
+}
+
+/// The kind of a deposit, with its code.
+fn kind_of(alloc: Global, deposit: &Deposit, limit: u32) -> Result<Reply, Unavailable>
+    requires small { IsInside 1024 deposit.now.content.cells }
+    requires some { 1 ≤ limit }
+    requires few { limit ≤ 1024 }
+    ensures { IfOk result (λ r. r ≡ kind_reply limit (Some deposit.now)) }
+{
+    let rule = deposit.content.rule;
+    let kind = kind(alloc, &rule, &deposit.content.cells, limit)?;
+    let code = code_of(alloc, &rule, &deposit.content.cells, limit)?;
+    Ok(Reply::Kinded(kind, code))
+}
+
+/// Answers with the kind of a deposit.
+fn name_kind<S: Alter>(
+    archive: &mut Archive<S>,
+    alloc: Global,
+    id: u64,
+    limit: u32,
+) -> Result<Reply, Unavailable>
+    requires some { 1 ≤ limit }
+    requires few { limit ≤ 1024 }
+    ensures goes { Goes archive.old archive.new }
+    ensures acts { Acts archive.old archive.new result (λ A r. r ≡ kind_reply limit (numbered A.deposits id)) (λ A. A) }
+{
+    match deposit_of(archive, alloc, id)? {
+        None => Ok(Reply::Refused(Refusal::NoSuchDeposit)),
+        Some(deposit) => kind_of(alloc, &deposit, limit),
+    }
+}
+
+/// The census of a deposit, counted.
+fn counted(alloc: Global, deposit: &Deposit, census: &Census) -> Result<Tally, Unavailable>
+    requires small { IsInside 1024 deposit.now.content.cells }
+    requires few { census.now.generation ≤ 1024 }
+    requires some { 1 ≤ census.now.limit }
+    requires short { census.now.limit ≤ 1024 }
+    ensures is { IfOk result (λ t. t ≡ tally_for census.now (Some deposit.now)) }
+    ensures ordered { IfOk result HasOrder }
+{
+    let rule = deposit.content.rule;
+    let later = generation(alloc, &rule, &deposit.content.cells, census.generation)?;
+    laws_of_tallies();
+    Ok(tally(alloc, &rule, &later, census.limit)?)
+}
+
+/// Answers a census of a deposit that is there.
+fn keep_census<S: Alter>(
+    archive: &mut Archive<S>,
+    alloc: Global,
+    deposit: &Deposit,
+    census: Census,
+) -> Result<Reply, Unavailable>
+    requires small { IsInside 1024 deposit.now.content.cells }
+    requires few { census.generation ≤ 1024 }
+    requires some { 1 ≤ census.limit }
+    requires short { census.limit ≤ 1024 }
+    ensures goes { Goes archive.old archive.new }
+    ensures acts { ActsWhere archive.old archive.new result
+        (λ A. numbered A.deposits census.deposit ≡ Some deposit.now)
+        (λ A r. r ≡ census_reply A (census_by_token A census (census_by census.member census.token A.censuses)))
+        (λ A. with_census A (census_by_token A census (census_by census.member census.token A.censuses))) }
+{
+    match find_census(
+        archive,
+        alloc,
+        census.member.as_bytes(),
+        census.token.as_bytes(),
+    )? {
+        Some(found) => Ok(if is_same_content(&found.census, &census) {
+            Reply::Counted(found.id)
+        } else {
+            Reply::Refused(Refusal::TokenReused)
+        }),
+        None => {
+            if has_census_room(archive)? {
+                let tally = counted(alloc, deposit, &census)?;
+                Ok(Reply::Counted(add_census(archive, &census, &tally)?))
+            } else {
+                Ok(Reply::Refused(Refusal::Full))
+            }
+        }
+    }
+}
+
+/// Whether two censuses have one content.
+fn is_same_content(a: &Census, b: &Census) -> bool
+    ensures { result ≡ is_same_content a.now b.now }
+{
+    a.deposit == b.deposit && a.generation == b.generation && a.limit == b.limit
+}
+
+/// Answers a census.
+fn take_census<S: Alter>(
+    archive: &mut Archive<S>,
+    alloc: Global,
+    census: Census,
+) -> Result<Reply, Unavailable>
+    requires few { census.generation ≤ 1024 }
+    requires some { 1 ≤ census.limit }
+    requires short { census.limit ≤ 1024 }
+    ensures goes { Goes archive.old archive.new }
+    ensures acts { Acts archive.old archive.new result
+        (λ A r. r ≡ census_reply A (census_verdict A census))
+        (λ A. with_census A (census_verdict A census)) }
+{
+    match deposit_of(archive, alloc, census.deposit)? {
+        None => Ok(Reply::Refused(Refusal::NoSuchDeposit)),
+        Some(deposit) => keep_census(archive, alloc, &deposit, census),
+    }
+}
+
+/// Answers with a census and its tally.
+fn show_census<S: Alter>(
+    archive: &mut Archive<S>,
+    alloc: Global,
+    id: u64,
+) -> Result<Reply, Unavailable>
+    ensures goes { Goes archive.old archive.new }
+    ensures acts { Acts archive.old archive.new result (λ A r. r ≡ shown_reply A.deposits id (numbered A.censuses id)) (λ A. A) }
+{
+    match kept_tally(archive, alloc, id)? {
+        None => Ok(Reply::Refused(Refusal::NoSuchCensus)),
+        Some((census, tally)) => Ok(Reply::Shown(Shown {
+            census: id,
+            deposit: census.deposit,
+            generation: census.generation,
+            limit: census.limit,
+            tally,
+        })),
+    }
+}
+
+/// Answers with the tally of a census as CSV.
+fn census_csv<S: Alter>(
+    archive: &mut Archive<S>,
+    alloc: Global,
+    id: u64,
+) -> Result<Reply, Unavailable>
+    ensures goes { Goes archive.old archive.new }
+    ensures acts { Acts archive.old archive.new result (λ A r. r ≡ csv_reply A.deposits (numbered A.censuses id)) (λ A. A) }
+{
+    match kept_tally(archive, alloc, id)? {
+        None => Ok(Reply::Refused(Refusal::NoSuchCensus)),
+        Some((_, tally)) => Ok(Reply::Csv(Bytes::of(csv(alloc, &tally)?))),
+    }
+}
+
+/// Answers with the sum over all censuses.
+fn total<S: Alter>(
+    archive: &mut Archive<S>,
+    alloc: Global,
+    rule: Rule,
+    text: Bytes,
+    limit: u32,
+) -> Result<Reply, Unavailable>
+    requires some { 1 ≤ limit }
+    requires few { limit ≤ 1024 }
+    ensures goes { Goes archive.old archive.new }
+    ensures acts { Acts archive.old archive.new result (λ A r. IsTotal A rule text limit r) (λ A. A) }
+{
+    match open_code(alloc, &rule, text.as_slice(), limit) {
+        Ok(_) => Ok(Reply::Total(counts_of(archive, alloc, &rule, text.as_slice())?)),
+        Err(CodeFault::Memory) => Err(Unavailable),
+        Err(_) => Ok(Reply::Refused(Refusal::BadCode)),
+    }
+}
+
+/// Answers a request whose words are good.
+fn act<S: Alter>(
+    archive: &mut Archive<S>,
+    alloc: Global,
+    judged: Judged,
+) -> Result<Reply, Unavailable>
+    requires { IsGood judged }
+    ensures goes { Goes archive.old archive.new }
+    ensures acts { Acts archive.old archive.new result (λ A r. IsReplyTo A judged r) (λ A. after_all_of A judged) }
+{
+    match judged {
+        Judged::Deposit(member, token, file) => deposit(archive, alloc, member, token, file),
+        Judged::Show(id) => show(archive, alloc, id),
+        Judged::ListAfter(id) => list_after(archive, alloc, id),
+        Judged::At(id, n) => show_at(archive, alloc, id, n),
+        Judged::KindOf(id, limit) => name_kind(archive, alloc, id, limit),
+        Judged::Census(census) => take_census(archive, alloc, census),
+        Judged::ShowCensus(id) => show_census(archive, alloc, id),
+        Judged::CensusCsv(id) => census_csv(archive, alloc, id),
+        Judged::Total(rule, text, limit) => total(archive, alloc, rule, text, limit),
+    }
+}
+
+/// Answers one request. The reply is the request's one reply, and the archive the one after it; or, where memory or the
+/// store refused, the reply is [`Refusal::Unavailable`] and nothing has changed. What a request is refused for by its own
+/// words alone ([`Refusal::BadMember`], `BadToken`, `OutOfLimit` and `BadRule`) is answered with no growth and no look into
+/// the store, so unavailable never comes in its place.
+pub fn answer<S: Alter>(archive: &mut Archive<S>, alloc: Global, request: Request) -> Reply
+    ensures answered { Answered archive.old archive.new (request ∷ []) (result ∷ []) }
+    // Where the reply shows what is kept, nothing has changed, and it might have been withheld.
+    ensures withheld { is_shown result ≡ true → Answered archive.old archive.new (request ∷ []) (says.Refused refusals.Unavailable ∷ []) }
+    // What a request's own words are refused for comes whatever the store does.
+    ensures firm { IfErr (judged request) (λ refusal. (result ≡ says.Refused refusal) × (archive.new ≡ archive.old)) }
+{
+    match judge(request) {
+        Err(refusal) => Reply::Refused(refusal),
+        Ok(judged) => match act(archive, alloc, judged) {
+            Ok(reply) => reply,
+            Err(_) => Reply::Refused(Refusal::Unavailable),
+        },
+    }
+}
+
+/// Answers requests one after the other.
+fn answer_each<S: Alter>(
+    archive: &mut Archive<S>,
+    alloc: Global,
+    requests: Vec<Request>,
+) -> Result<Vec<Reply>, Fault>
+    ensures ok { IfOk result (λ replies. Answered archive.old archive.new requests.items replies.items) }
+    ensures err { OnErr result (archive.new ≡ archive.old) }
+{
+    let mut replies = match Vec::with_capacity(alloc, requests.len()) {
+        Ok(replies) => replies,
+        Err(_) => return Err(Fault::Memory),
+    };
+    for request in requests {
+        replies.push_reserved(answer(archive, alloc, request));
+    }
+    Ok(replies)
+}
+
+/// Answers requests one after the other, by a reply each. [`Fault::Memory`] says that the room for the replies was refused,
+/// and comes before any request was answered.
+pub fn answer_all<S: Alter>(
+    archive: &mut Archive<S>,
+    alloc: Global,
+    requests: Vec<Request>,
+) -> Result<Vec<Reply>, Fault>
+    // The replies and the archive are those of a run ..
+    ensures ok { IfOk result (λ replies. Answered archive.old archive.new requests.items replies.items) }
+    // .. which says of sets of live cells what it should.
+    ensures headline { IfOk result (λ replies. IsTheArchive archive.old archive.new requests.items replies.items) }
+    ensures err { OnErr result (archive.new ≡ archive.old) }
+{
+    law_of_the_archive();
+    answer_each(archive, alloc, requests)
+}

@@ -1,0 +1,19 @@
+//! Requests to the archive, and their answers.
+#![tactic(auto)]
+
+mod bytes;
+mod content;
+mod desk;
+mod headline;
+mod judging;
+mod laws;
+mod looking;
+mod refusal;
+mod request;
+
+pub use bytes::Bytes;
+pub use desk::{answer, answer_all};
+pub use headline::law_of_the_archive;
+pub use laws::laws_of_runs;
+pub use refusal::Refusal;
+pub use request::{Reply, Request, Shown};

@@ -1,0 +1,201 @@
+//! What an archive tells, as the desk asks it.
+ghost use Rattle.std.specs.Prelude.{◌≡◌, ◌+◌, ◌++◌, ◌∷◌, [], Some, nat_lt, length, option_map, IfOk, IfSome, OnOk, OnErr};
+ghost use Rattle.life_rle.specs.Record.{IsInside};
+ghost use Rattle.life_store.specs.Kept.{numbered, deposit_by, lines_after, kept_census};
+ghost use Rattle.life_store.specs.Tables.{Goes, HasOrder};
+ghost use Rattle.life_store.specs.declared.kept.Deposit.{Deposit as Kept};
+ghost use Rattle.life_desk.specs.Archive.{census_by, clusters_with, tally_at, tally_for};
+ghost use Rattle.life_desk.specs.Means.{Means, tallied};
+ghost use Rattle.life_desk.specs.LookingState.{TellsOf, MeansStill};
+
+use life_census::{Rows, Tally};
+use life_core::Rule;
+use life_store::{
+    Archive, Census, Deposit, FoundCensus, FoundDeposit, KeptCensus, Listing, Unavailable,
+};
+use sqlite::Alter;
+use std::alloc::Global;
+
+/// The deposit of the number.
+pub(crate) fn deposit_of<S: Alter>(
+    archive: &mut Archive<S>,
+    alloc: Global,
+    id: u64,
+) -> Result<Option<Deposit>, Unavailable>
+    ensures goes { Goes archive.old archive.new }
+    ensures same { MeansStill archive.old archive.new }
+    ensures value { TellsOf archive.old archive.new (λ A. IfOk result (λ d. d ≡ numbered A.deposits id)) }
+    ensures inside { IfOk result (λ o. IfSome o (λ d. IsInside 1024 d.content.cells)) }
+{
+    archive.deposit_of(alloc, id)
+}
+
+/// The deposit under the member and the token.
+pub(crate) fn find_deposit<S: Alter>(
+    archive: &mut Archive<S>,
+    alloc: Global,
+    member: &[u8],
+    token: &[u8],
+) -> Result<Option<FoundDeposit>, Unavailable>
+    ensures goes { Goes archive.old archive.new }
+    ensures same { MeansStill archive.old archive.new }
+    ensures value { TellsOf archive.old archive.new (λ A. IfOk result (λ o. o ≡ deposit_by member.now token.now A.deposits)) }
+{
+    archive.find_deposit(alloc, member, token)
+}
+
+/// The deposits behind a number.
+pub(crate) fn deposits_after<S: Alter>(
+    archive: &mut Archive<S>,
+    alloc: Global,
+    id: u64,
+) -> Result<Listing, Unavailable>
+    ensures goes { Goes archive.old archive.new }
+    ensures same { MeansStill archive.old archive.new }
+    ensures value { TellsOf archive.old archive.new (λ A. IfOk result (λ lines. lines ≡ lines_after id A.deposits)) }
+{
+    archive.deposits_after(alloc, id)
+}
+
+/// The census under the member and the token.
+pub(crate) fn find_census<S: Alter>(
+    archive: &mut Archive<S>,
+    alloc: Global,
+    member: &[u8],
+    token: &[u8],
+) -> Result<Option<FoundCensus>, Unavailable>
+    ensures goes { Goes archive.old archive.new }
+    ensures same { MeansStill archive.old archive.new }
+    ensures value { TellsOf archive.old archive.new (λ A. IfOk result (λ o. o ≡ census_by member.now token.now A.censuses)) }
+{
+    archive.find_census(alloc, member, token)
+}
+
+/// How many clusters with the code there are in the censuses of deposits of the rule.
+pub(crate) fn counts_of<S: Alter>(
+    archive: &mut Archive<S>,
+    alloc: Global,
+    rule: &Rule,
+    code: &[u8],
+) -> Result<u64, Unavailable>
+    ensures goes { Goes archive.old archive.new }
+    ensures same { MeansStill archive.old archive.new }
+    ensures value { TellsOf archive.old archive.new (λ A. IfOk result (λ n. n ≡ clusters_with A rule.now code.now)) }
+{
+    archive.counts_of(alloc, rule, code)
+}
+
+/// The census of the number, with the numbers of its tally.
+fn census_of<S: Alter>(
+    archive: &mut Archive<S>,
+    alloc: Global,
+    id: u64,
+) -> Result<Option<KeptCensus>, Unavailable>
+    ensures goes { Goes archive.old archive.new }
+    ensures same { MeansStill archive.old archive.new }
+    ensures value { TellsOf archive.old archive.new (λ A. IfOk result (λ c. c ≡ option_map kept_census (option_map (tallied A.deposits) (numbered A.censuses id)))) }
+{
+    archive.census_of(alloc, id)
+}
+
+/// The rows of the tally of the census of the number.
+fn rows_of<S: Alter>(archive: &mut Archive<S>, alloc: Global, id: u64) -> Result<Rows, Unavailable>
+    ensures goes { Goes archive.old archive.new }
+    ensures same { MeansStill archive.old archive.new }
+    ensures value { TellsOf archive.old archive.new (λ A. IfOk result (λ rows. IfSome (option_map (tallied A.deposits) (numbered A.censuses id)) (λ t. rows ≡ t.tally.rows))) }
+{
+    archive.rows_of(alloc, id)
+}
+
+/// A census that is kept, with its tally.
+pub(crate) fn kept_tally<S: Alter>(
+    archive: &mut Archive<S>,
+    alloc: Global,
+    id: u64,
+) -> Result<Option<(Census, Tally)>, Unavailable>
+    ensures goes { Goes archive.old archive.new }
+    ensures same { MeansStill archive.old archive.new }
+    ensures value { TellsOf archive.old archive.new (λ A.
+        IfOk result (λ o. o ≡ option_map (λ c. record { 0 = c; 1 = tally_at A.deposits c }) (numbered A.censuses id))) }
+{
+    match census_of(archive, alloc, id)? {
+        None => Ok(None),
+        Some(kept) => {
+            let rows = rows_of(archive, alloc, id)?;
+            Ok(Some((
+                kept.census,
+                Tally {
+                    rows,
+                    unresolved: kept.unresolved,
+                    total: kept.total,
+                },
+            )))
+        }
+    }
+}
+
+/// How many deposits there are.
+fn count_deposits<S: Alter>(archive: &mut Archive<S>) -> Result<u64, Unavailable>
+    ensures goes { Goes archive.old archive.new }
+    ensures same { MeansStill archive.old archive.new }
+    ensures value { TellsOf archive.old archive.new (λ A. IfOk result (λ n. n ≡ length A.deposits)) }
+{
+    archive.count_deposits()
+}
+
+/// How many censuses there are.
+fn count_censuses<S: Alter>(archive: &mut Archive<S>) -> Result<u64, Unavailable>
+    ensures goes { Goes archive.old archive.new }
+    ensures same { MeansStill archive.old archive.new }
+    ensures value { TellsOf archive.old archive.new (λ A. IfOk result (λ n. n ≡ length A.censuses)) }
+{
+    archive.count_censuses()
+}
+
+/// Whether there is room for one more deposit.
+pub(crate) fn has_room<S: Alter>(archive: &mut Archive<S>) -> Result<bool, Unavailable>
+    ensures goes { Goes archive.old archive.new }
+    ensures same { MeansStill archive.old archive.new }
+    ensures value { TellsOf archive.old archive.new (λ A. IfOk result (λ room. room ≡ nat_lt (length A.deposits) A.capacity)) }
+{
+    Ok(count_deposits(archive)? < archive.capacity())
+}
+
+/// Whether there is room for one more census.
+pub(crate) fn has_census_room<S: Alter>(archive: &mut Archive<S>) -> Result<bool, Unavailable>
+    ensures goes { Goes archive.old archive.new }
+    ensures same { MeansStill archive.old archive.new }
+    ensures value { TellsOf archive.old archive.new (λ A. IfOk result (λ room. room ≡ nat_lt (length A.censuses) A.capacity)) }
+{
+    Ok(count_censuses(archive)? < archive.capacity())
+}
+
+/// Adds a deposit.
+pub(crate) fn add_deposit<S: Alter>(
+    archive: &mut Archive<S>,
+    alloc: Global,
+    deposit: &Deposit,
+) -> Result<u64, Unavailable>
+    requires { IsInside 1024 deposit.now.content.cells }
+    ensures goes { Goes archive.old archive.new }
+    ensures value { TellsOf archive.old archive.new (λ A. IfOk result (λ n. n ≡ length A.deposits + 1)) }
+    ensures ok { OnOk result (TellsOf archive.old archive.new (λ A. Means archive.new (record A { deposits = A.deposits ++ deposit.now ∷ [] }))) }
+    ensures err { OnErr result (MeansStill archive.old archive.new) }
+{
+    archive.add_deposit(alloc, deposit)
+}
+
+/// Adds a census of a deposit that is there, with its tally.
+pub(crate) fn add_census<S: Alter>(
+    archive: &mut Archive<S>,
+    census: &Census,
+    tally: &Tally,
+) -> Result<u64, Unavailable>
+    requires { HasOrder tally.now }
+    ensures goes { Goes archive.old archive.new }
+    ensures value { TellsOf archive.old archive.new (λ A. IfOk result (λ n. n ≡ length A.censuses + 1)) }
+    ensures ok { OnOk result (TellsOf archive.old archive.new (λ A. (d : Kept) → numbered A.deposits census.now.deposit ≡ Some d → tally.now ≡ tally_for census.now (Some d) → Means archive.new (record A { censuses = A.censuses ++ census.now ∷ [] }))) }
+    ensures err { OnErr result (MeansStill archive.old archive.new) }
+{
+    archive.add_census(census, tally)
+}

@@ -1,0 +1,87 @@
+//! Refusals.
+
+use life_rle::RleFault;
+
+/// Why a request is refused. Where several reasons apply, the first of this order is given: member, token, limits,
+/// pattern, or rule and then code, the row that is referred to, the token that is kept, full.
+#[derive(Clone, Copy, Debug, PartialEq, Eq)]
+pub enum Refusal {
+    /// No deposit has the number.
+    NoSuchDeposit,
+    /// No census has the number.
+    NoSuchCensus,
+    /// The member is not 1 to 32 bytes of `a-z`, `0-9` and `-`.
+    BadMember,
+    /// The token is not 1 to 64 bytes of `A-Z`, `a-z`, `0-9` and `-`.
+    BadToken,
+    /// The member and token are kept with another content.
+    TokenReused,
+    /// The generation is over 1024, or the limit of the period is 0 or over 1024.
+    OutOfLimit,
+    /// The file is no pattern file, for this reason.
+    BadPattern(RleFault),
+    /// The text is no rule.
+    BadRule,
+    /// The text is no pattern's code under the rule and the limit.
+    BadCode,
+    /// The member and token are not kept, and there are as many rows as the archive takes.
+    Full,
+    /// Memory or the store refused.
+    Unavailable,
+}
+
+impl Refusal {
+    ghost use Rattle.std.specs.Prelude.{◌≡◌};
+    ghost use Rattle.life_desk.specs.Refusals.{number_of, name_of, status_of};
+
+    /// Its number.
+    pub fn number(&self) -> u8
+        ensures { result ≡ number_of self.now }
+    {
+        match self {
+            Refusal::NoSuchDeposit => 1,
+            Refusal::NoSuchCensus => 2,
+            Refusal::BadMember => 3,
+            Refusal::BadToken => 4,
+            Refusal::TokenReused => 5,
+            Refusal::OutOfLimit => 6,
+            Refusal::BadPattern(_) => 7,
+            Refusal::BadRule => 8,
+            Refusal::BadCode => 9,
+            Refusal::Full => 10,
+            Refusal::Unavailable => 11,
+        }
+    }
+
+    /// Its name.
+    pub fn name(&self) -> &'static str
+        ensures { result.now ≡ name_of self.now }
+    {
+        match self {
+            Refusal::NoSuchDeposit => "no-such-deposit",
+            Refusal::NoSuchCensus => "no-such-census",
+            Refusal::BadMember => "bad-member",
+            Refusal::BadToken => "bad-token",
+            Refusal::TokenReused => "token-reused",
+            Refusal::OutOfLimit => "out-of-limit",
+            Refusal::BadPattern(_) => "bad-pattern",
+            Refusal::BadRule => "bad-rule",
+            Refusal::BadCode => "bad-code",
+            Refusal::Full => "full",
+            Refusal::Unavailable => "unavailable",
+        }
+    }
+
+    /// The HTTP status that it is answered with.
+    pub fn status(&self) -> u16
+        ensures { result ≡ status_of self.now }
+    {
+        match self {
+            Refusal::NoSuchDeposit | Refusal::NoSuchCensus => 404,
+            Refusal::BadMember | Refusal::BadToken | Refusal::OutOfLimit => 400,
+            Refusal::TokenReused | Refusal::Full => 409,
+            Refusal::BadPattern(_) | Refusal::BadRule | Refusal::BadCode => 422,
+            Refusal::Unavailable => 503,
+        }
+    }
+}

@@ -1,0 +1,88 @@
+//! Requests and replies.
+
+use crate::bytes::Bytes;
+use crate::refusal::Refusal;
+use life_census::Tally;
+use life_code::Kind;
+use life_core::Rule;
+use life_rle::Text;
+use life_store::{Census, Listing};
+
+/// What is asked of the archive. Numbers are any of their type and texts any bytes: what they may be is
+/// judged by [`answer`](crate::answer). Deposits and censuses are named by their numbers, which count from 1.
+#[derive(Drop)]
+pub enum Request {
+    /// Keep a pattern file: member, token, and the bytes of the file. The token makes the request safe to
+    /// repeat: the same member and token with an equal record is the same deposit.
+    Deposit(Text, Text, Bytes),
+    /// The file of the deposit of this number.
+    Show(u64),
+    /// A list of the deposits with a number above this one.
+    ListAfter(u64),
+    /// The file of a generation of a deposit: the deposit's number, and the generation, 0 to 1024.
+    At(u64, u64),
+    /// What becomes of a deposit: its number, and the limit of the period, 1 to 1024.
+    KindOf(u64, u64),
+    /// Keep a census of a generation of a deposit: member, token, the deposit's number, the generation, 0 to
+    /// 1024, and the limit of the period, 1 to 1024. Tokens of censuses are apart from those of deposits.
+    Census(Text, Text, u64, u64, u64),
+    /// The census of this number.
+    ShowCensus(u64),
+    /// The tally of the census of this number, as CSV.
+    CensusCsv(u64),
+    /// How many clusters have a code, over all censuses of deposits of a rule: the rule, in any of its
+    /// spellings, the code, and the limit of the period, 1 to 1024, within which the code must be one.
+    Total(Bytes, Bytes, u64),
+}
+
+/// A census, as it is shown.
+#[derive(Drop)]
+pub struct Shown {
+    /// Its number.
+    pub census: u64,
+    /// The number of its deposit.
+    pub deposit: u64,
+    /// Which generation of the deposit was counted.
+    pub generation: u32,
+    /// The limit of the period under which the clusters have their codes.
+    pub limit: u32,
+    /// How many clusters have each code, how many have none, and how many there are.
+    pub tally: Tally,
+}
+
+/// What is answered.
+#[derive(Drop)]
+pub enum Reply {
+    /// The number of the deposit.
+    Deposited(u64),
+    /// A pattern file, in its canonical text.
+    File(Bytes),
+    /// At most 100 deposits, each by its number, member, population and rule.
+    Deposits(Listing),
+    /// The kind of a deposit, with its code where it has one.
+    Kinded(Kind, Option<Bytes>),
+    /// The number of the census.
+    Counted(u64),
+    /// A census with its tally.
+    Shown(Shown),
+    /// A tally as CSV.
+    Csv(Bytes),
+    /// A sum over all censuses.
+    Total(u64),
+    /// Why there is none of these.
+    Refused(Refusal),
+}
+
+/// A request whose words are good: its numbers are within the limits, and its rule is read.
+#[derive(Drop)]
+pub(crate) enum Judged {
+    Deposit(Text, Text, Bytes),
+    Show(u64),
+    ListAfter(u64),
+    At(u64, u32),
+    KindOf(u64, u32),
+    Census(Census),
+    ShowCensus(u64),
+    CensusCsv(u64),
+    Total(Rule, Bytes, u32),
+}

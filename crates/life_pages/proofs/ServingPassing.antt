@@ -1,0 +1,147 @@
+-- CR and LF bytes, passed over.
+use Rattle.std.proofs.Common.{◌≡◌, ◌≢◌, ℕ, ◌+◌, ◌<◌, ◌≤◌, ◌&&◌, Bool, true, false, List, [], ◌∷◌, ◌++◌, length, take, Option, None, Some, Ok, IfSome, refl, sym, ◌∙◌, ap, append_assoc, append-nil, length-append, length-take-le, arith}
+use Rattle.std.proofs.lemmas.List.Folds.{list_all-append}
+use Rattle.life_rle.specs.Stream.{Loses, IsEnded}
+use Rattle.life_rle.specs.declared.stream.Failed.{Failed}
+use Rattle.life_rle.specs.Stream.{Gains, GainsSome}
+use Rattle.life_rle.proofs.StreamLemmas.{gains_more, gains_none}
+use Rattle.life_pages.specs.Head.{Head}
+use Rattle.life_pages.specs.Reply.{bad_bytes}
+use Rattle.life_pages.specs.Message.{Message, bad, Starts, is_blank}
+use Rattle.life_pages.specs.MessageState.{NeverHas}
+use Rattle.life_pages.specs.Serving.{Fronts, Served, Broke, Cut, Paused, LosesAtLeast}
+use Rattle.life_pages.specs.ServingState.{Feeds, PassesBlank, IsBlankRest}
+use Rattle.life_pages.proofs.ServingRunning.{front_messages, front_starts, run_then, then_cut}
+use Rattle.life_pages.proofs.ServingReading.{Reading, reading_more, reading_broke, bad_end, paused}
+
+pub loses_then : (a b c : Option (List ℕ)) (x y : List ℕ) → Loses a b x → Loses b c y → Loses a c (x ++ y)
+loses_then None b c x y p q = tt
+loses_then (Some a) None c x y p q = absurd p
+loses_then (Some a) (Some b) None x y p q = absurd q
+loses_then (Some a) (Some b) (Some c) x y p q = p ∙ ap (λ (l : List ℕ). x ++ l) q ∙ sym (append_assoc x y c)
+
+pub blank_both : (x y : List ℕ) → is_blank x ≡ true → is_blank y ≡ true → is_blank (x ++ y) ≡ true
+blank_both x y p q = list_all-append _ x y ∙ rw (p, q) refl
+
+some_length : (k : ℕ) (place : List ℕ) → k ≢ 0 → k ≤ length place → 0 < length (take k place)
+some_length k place some within = rw (length-take-le k place within) (omega (arith, some))
+
+pub passes_more : (old mid new : Option (List ℕ)) (n k : ℕ) (place : List ℕ) → PassesBlank n old mid → Loses mid new (take k place) → k ≢ 0 → k ≤ length place
+    → is_blank (take k place) ≡ true → PassesBlank (n + 1) old new
+passes_more old mid new n k place (bytes, many, blank, lost) more some within white =
+    let l = length-append bytes (take k place) in
+    let s = some_length k place some within in
+    (bytes ++ take k place, omega (arith, l, s, many), blank_both bytes (take k place) blank white, loses_then old mid new bytes (take k place) lost more)
+
+pub passed_end : (old mid : Option (List ℕ)) (n : ℕ) → PassesBlank n old mid → IsEnded mid → IsBlankRest old true
+passed_end None mid n p e = tt
+passed_end (Some old) None n (bytes, many, blank, lost) e = absurd lost
+passed_end (Some old) (Some mid) n (bytes, many, blank, lost) e = rw lost (blank_both bytes mid blank (rw e refl))
+
+other_later : (x y z : List ℕ) → is_blank y ≡ false → is_blank (x ++ (y ++ z)) ≡ false
+other_later x y z e = list_all-append _ x (y ++ z) ∙ ap (λ (b : Bool). is_blank x && b) (list_all-append _ y z) ∙ rw e (and_false (is_blank x))
+  where
+    and_false : (b : Bool) → (b && false) ≡ false
+    and_false true = refl
+    and_false false = refl
+
+pub passed_other : (old mid new : Option (List ℕ)) (n : ℕ) (y : List ℕ) → PassesBlank n old mid → Loses mid new y → is_blank y ≡ false → IsBlankRest old false
+passed_other None mid new n y p l e = tt
+passed_other (Some old) None new n y (bytes, many, blank, lost) l e = absurd lost
+passed_other (Some old) (Some mid) None n y p l e = absurd l
+passed_other (Some old) (Some mid) (Some new) n y (bytes, many, blank, lost) l e = rw (lost, l) (other_later bytes y new e)
+
+-- ---- how much was taken
+
+pub many_passed : (a b c : Option (List ℕ)) (n k all : ℕ) → LosesAtLeast n a b → PassesBlank k b c → all ≤ n + k → LosesAtLeast all a c
+many_passed a b c n k all (x, first, p) (y, second, blank, q) fits =
+    let l = length-append x y in
+    (x ++ y, omega (arith, l, first, second, fits), loses_then a b c x y p q)
+
+pub many_fed : (a b c : Option (List ℕ)) (n k : ℕ) (held all : List ℕ) → LosesAtLeast n a b → Feeds {E = Failed} b c held all (Ok k) → k ≢ 0 → LosesAtLeast (n + 1) a c
+many_fed a b c n k held all (x, first, p) f some =
+    let l = length-append x f.0 in
+    let m = f.4 in
+    (x ++ f.0, omega (arith, l, first, m, some), loses_then a b c x f.0 p f.1)
+
+-- ---- what became of a stream behind long blank bytes
+
+fronts_starts_rest : (stream left : Option (List ℕ)) (ms ns : List Message) (held : List ℕ) → Fronts stream ms held left
+    → IfSome left (λ l. Starts (held ++ l) ns) → IfSome stream (λ s. Starts s (ms ++ ns))
+fronts_starts_rest None left ms ns held f m = tt
+fronts_starts_rest (Some stream) None ms ns held f m = absurd f
+fronts_starts_rest (Some stream) (Some left) ms ns held f m = front_starts stream ms ns (held ++ left) f m
+
+blank_not : (x y : List ℕ) → is_blank y ≡ false → is_blank (x ++ y) ≡ false
+blank_not x y e = rw (← append-nil y) (other_later x y [] e)
+
+begins_bad : (left : Option (List ℕ)) (held : List ℕ) → IsBlankRest left false → NeverHas held → IfSome left (λ l. Starts (held ++ l) (bad ∷ []))
+begins_bad None held rest never = tt
+begins_bad (Some l) held rest never = (blank_not held l rest, never l, refl)
+
+module _ {D : Type 0} (answers : D → Head → List ℕ → List ℕ → D → Type 0) where
+  reading_rest : (stream left : Option (List ℕ)) (held : List ℕ) (old mid new : D) (x y z : Option (List ℕ)) → Reading answers stream left held old mid x y
+      → IfSome left (λ l. Served answers (held ++ l) mid new y z) → IfSome stream (λ s. Served answers s old new x z)
+  reading_rest None left held old mid new x y z r e = tt
+  reading_rest (Some stream) None held old mid new x y z r e = absurd r.front
+  reading_rest (Some stream) (Some left) held old mid new x y z r e = record {
+    done = r.done ++ e.done;
+    bytes = r.bytes ++ e.bytes;
+    messages = front_messages stream r.done e.done (held ++ left) r.front e.messages;
+    run = run_then answers old mid new r.done e.done r.bytes e.bytes r.run e.run;
+    put = gains_more x y z r.bytes e.bytes r.put e.put;
+  }
+
+  rest_blank : (left : Option (List ℕ)) (held : List ℕ) (desk : D) (y : Option (List ℕ)) → is_blank held ≡ true → IsBlankRest left true
+      → IfSome left (λ l. Served answers (held ++ l) desk desk y y)
+  rest_blank None held desk y blank rest = tt
+  rest_blank (Some l) held desk y blank rest =
+      record { done = []; bytes = []; messages = blank_both held l blank rest; run = (refl, refl); put = gains_none y }
+
+  rest_other : (left : Option (List ℕ)) (held : List ℕ) (desk : D) (y z : Option (List ℕ)) → NeverHas held → IsBlankRest left false → Gains y z bad_bytes
+      → IfSome left (λ l. Served answers (held ++ l) desk desk y z)
+  rest_other None held desk y z never rest p = tt
+  rest_other (Some l) held desk y z never rest p = bad_end answers (held ++ l) desk y z (blank_not held l rest) (never l) p
+
+  pub blank_end : (stream left : Option (List ℕ)) (held : List ℕ) (old new : D) (x y : Option (List ℕ)) → Reading answers stream left held old new x y
+      → is_blank held ≡ true → IsBlankRest left true → IfSome stream (λ s. Served answers s old new x y)
+  blank_end stream left held old new x y r blank rest = reading_rest stream left held old new new x y y r (rest_blank left held new y blank rest)
+
+  pub other_end : (stream left : Option (List ℕ)) (held : List ℕ) (old new : D) (x y z : Option (List ℕ)) → Reading answers stream left held old new x y
+      → NeverHas held → IsBlankRest left false → Gains y z bad_bytes → IfSome stream (λ s. Served answers s old new x z)
+  other_end stream left held old new x y z r never rest p = reading_rest stream left held old new new x y z r (rest_other left held new y z never rest p)
+
+  -- the reply to a bad message, or a beginning of it
+  pub bad_broke : (stream left : Option (List ℕ)) (held : List ℕ) (old new : D) (x y z : Option (List ℕ)) → Reading answers stream left held old new x y
+      → GainsSome y z bad_bytes → Broke answers old new x z
+  bad_broke stream left held old new x y z r p =
+      reading_broke answers stream left held old new new x y z r
+      (record { done = bad ∷ []; bytes = bad_bytes; run = ([], sym (append-nil bad_bytes), (refl, refl)); put = p })
+
+  pub bad_put : (stream left : Option (List ℕ)) (held : List ℕ) (old new : D) (x y z : Option (List ℕ)) → Reading answers stream left held old new x y
+      → Gains y z bad_bytes → Broke answers old new x z
+  bad_put stream left held old new x y z r p = bad_broke stream left held old new x y z r (bad_bytes, [], sym (append-nil bad_bytes), p)
+
+  pub other_cut : (stream left : Option (List ℕ)) (held : List ℕ) (old new : D) (x y z : Option (List ℕ)) → Reading answers stream left held old new x y
+      → NeverHas held → IsBlankRest left false → GainsSome y z bad_bytes → Cut answers (λ ms. IfSome stream (λ s. Starts s ms)) old new x z
+  other_cut stream left held old new x y z r never rest p =
+      then_cut answers (λ ms. IfSome left (λ l. Starts (held ++ l) ms)) (λ ms. IfSome stream (λ s. Starts s ms)) r.done r.bytes old new new x y z r.run r.put
+      (λ ms h. fronts_starts_rest stream left r.done ms held r.front h)
+      (record {
+        done = [];
+        last = bad;
+        bytes = [];
+        reply = bad_bytes;
+        mid = new;
+        whole = y;
+        begun = begins_bad left held rest never;
+        run = (refl, refl);
+        step = ([], sym (append-nil bad_bytes), (refl, refl));
+        put = gains_none y;
+        some = p;
+      })
+
+  pub passed_paused : (stream left next : Option (List ℕ)) (held : List ℕ) (n : ℕ) (old new : D) (x y : Option (List ℕ)) → Reading answers stream left held old new x y
+      → NeverHas held → PassesBlank n left next → Paused answers stream next old new x y
+  passed_paused stream left next held n old new x y r never (bytes, many, blank, lost) =
+      paused answers stream next (held ++ bytes) old new x y (reading_more answers stream left next held bytes (held ++ bytes) old new x y r lost refl) (never bytes)

@@ -1,0 +1,97 @@
+-- What the head of a request says of its message (RFC 9112, sections 3, 5 and 6; the grammar itself is `httparse`'s).
+use Rattle.std.specs.Prelude.{ℕ, ◌-◌, ◌^◌, ◌==◌, ◌&&◌, ◌||◌, nat_lt, nat_le, min, Bool, true, false, if◌then◌else◌, List, [], ◌∷◌, length, map, filter, Option, None, Some, option_map, unwrap_or, codes}
+use Rattle.std.specs.List.{list_any, list_all}
+use Rattle.std.specs.Char.{is_ascii_digit}
+use Rattle.std.specs.Str.{str_eq_ignore_ascii_case}
+use Rattle.std.specs.Str.Parse.{digits_value}
+use Rattle.httparse.specs.Ascii.{comma}
+use Rattle.httparse.specs.Grammar.{RequestHead, trim_ows}
+use Rattle.httparse.specs.Spans.{name_and_value}
+
+-- a header line: its name, and its value without blanks at the ends
+abbrev pub Line : Type 0
+Line = List ℕ × List ℕ
+
+-- the values of the lines with this name, in any case
+abbrev pub values_of : List ℕ → List Line → List (List ℕ)
+values_of name lines = map (λ l. l.1) (filter (λ l. str_eq_ignore_ascii_case l.0 name) lines)
+
+-- the first of them
+abbrev pub first_of : List (List ℕ) → Option (List ℕ)
+first_of [] = None
+first_of (v ∷ vs) = Some v
+
+-- the greatest number that is told from others
+abbrev pub most : ℕ
+most = 2 ^ 64 - 1
+
+-- one or more digits, and the number that they write; a greater one than the greatest is read as that
+abbrev pub number_of : List ℕ → Option ℕ
+number_of text =
+    if nat_lt 0 (length text) && list_all is_ascii_digit text then Some (min (digits_value 10 text) most) else None
+
+-- the most bytes that a body has
+abbrev pub body_limit : ℕ
+body_limit = 1048576
+
+abbrev pub within_limit : Option ℕ → Option ℕ
+within_limit None = None
+within_limit (Some n) = if nat_le n body_limit then Some n else None
+
+-- the bytes of the body, from the content-length lines: none is 0, and two are bad
+abbrev pub body_length : List (List ℕ) → Option ℕ
+body_length [] = Some 0
+body_length (v ∷ []) = within_limit (number_of v)
+body_length (v ∷ w ∷ vs) = None
+
+-- the parts between commas
+abbrev pub onto_first : ℕ → List (List ℕ) → List (List ℕ)
+onto_first b [] = (b ∷ []) ∷ []
+onto_first b (p ∷ ps) = (b ∷ p) ∷ ps
+
+abbrev pub parts_of : List ℕ → List (List ℕ)
+parts_of [] = [] ∷ []
+parts_of (b ∷ rest) = if b == comma then [] ∷ parts_of rest else onto_first b (parts_of rest)
+
+-- one of the parts is the word close
+abbrev pub says_close : List ℕ → Bool
+says_close value = list_any (λ part. str_eq_ignore_ascii_case (trim_ows part) (codes "close")) (parts_of value)
+
+-- what the head of a good message says
+pub record Head : Type 0 where
+  pub method : List ℕ
+  pub target : List ℕ
+  pub member : List ℕ
+  pub token : List ℕ
+  pub body : ℕ
+  pub closes : Bool
+
+abbrev pub has_some : List (List ℕ) → Bool
+has_some [] = false
+has_some (v ∷ vs) = true
+
+-- what a head with these parts says, for a body of n bytes
+abbrev pub head_with : List ℕ → List ℕ → ℕ → List Line → ℕ → Head
+head_with method target minor lines n = record {
+  method = method;
+  target = target;
+  member = unwrap_or (first_of (values_of (codes "x-member") lines)) [];
+  token = unwrap_or (first_of (values_of (codes "x-token") lines)) [];
+  body = n;
+  closes = minor == 0 || list_any says_close (values_of (codes "connection") lines);
+}
+
+-- what a head with these parts says, where it is not bad
+abbrev pub said_by : List ℕ → List ℕ → ℕ → List Line → Option Head
+said_by method target minor lines =
+    if has_some (values_of (codes "transfer-encoding") lines) then None
+    else option_map (head_with method target minor lines) (body_length (values_of (codes "content-length") lines))
+
+-- the most header lines of a head
+abbrev pub line_limit : ℕ
+line_limit = 32
+
+-- what the head says, where it is not bad
+abbrev pub head_of : RequestHead → Option Head
+head_of h =
+    if nat_lt line_limit (length h.fields) then None else said_by h.method h.target h.minor (map name_and_value h.fields)

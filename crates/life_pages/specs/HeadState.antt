@@ -1,0 +1,44 @@
+-- What the private calls that read a head answer.
+use Rattle.std.specs.Prelude.{◌≡◌, ℕ, ◌≤◌, List, ◌++◌, length, Option, None, Some, drop}
+use Rattle.httparse.specs.Grammar.{RequestHead, ReadsRequest, HasNoRequest}
+use Rattle.life_pages.specs.declared.head.GoodHead.{GoodHead}
+use Rattle.life_pages.specs.declared.head.HeadRead.{HeadRead}
+use Rattle.life_pages.specs.declared.head.HeadRead.TheVariants.{More, Bad, Whole}
+use Rattle.life_pages.specs.Head.{Head, head_of}
+
+-- bytes begin with the head h, which says this, and the rest follows
+pub record BeginsWith (bytes : List ℕ) (said : Head) (rest : List ℕ) : Type 0 where
+  pub head : RequestHead
+  pub reads : ReadsRequest bytes head rest
+  pub says : head_of head ≡ Some said
+
+-- the bytes are no beginning of a good head, whatever follows
+abbrev pub NeverBegins : List ℕ → Type 0
+NeverBegins bytes = (more : List ℕ) (said : Head) (rest : List ℕ) → ¬ (BeginsWith (bytes ++ more) said rest)
+
+-- no whole good head stands at the front
+abbrev pub NotYetBegins : List ℕ → Type 0
+NotYetBegins bytes = (said : Head) (rest : List ℕ) → ¬ (BeginsWith bytes said rest)
+
+-- what the parts of a good head are
+abbrev pub said : GoodHead → Head
+said g = record {
+  method = g.method.now;
+  target = g.target.now;
+  member = g.member.now;
+  token = g.token.now;
+  body = g.body;
+  closes = g.closes;
+}
+
+-- a reading of the lines of a head that is len bytes long
+abbrev pub Judges : ℕ → Option Head → HeadRead → Type 0
+Judges len says More = ⊥
+Judges len says Bad = says ≡ None
+Judges len says (Whole g) = (g.len ≡ len) × (says ≡ Some (said g))
+
+-- a reading of bytes: more are wanted, they are no beginning of a good head, or a good head stands at the front
+abbrev pub ReadsHead : List ℕ → HeadRead → Type 0
+ReadsHead bytes More = HasNoRequest bytes
+ReadsHead bytes Bad = NeverBegins bytes
+ReadsHead bytes (Whole g) = (g.len ≤ length bytes) × BeginsWith bytes (said g) (drop g.len bytes)

@@ -1,0 +1,15 @@
+pub mod Head
+pub mod Path
+pub mod Route
+pub mod Asked
+pub mod Json
+pub mod Reply
+pub mod Message
+pub mod Serving
+pub mod Archive
+pub mod HeadState
+pub mod AskedState
+pub mod ReplyState
+pub mod MessageState
+pub mod AnswerState
+pub mod ServingState

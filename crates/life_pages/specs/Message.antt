@@ -1,0 +1,78 @@
+-- The messages of a stream, and a run over them (RFC 9112).
+use Rattle.std.specs.Prelude.{◌≡◌, ◌⊎◌, ℕ, ◌≤◌, ◌==◌, ◌||◌, Bool, true, false, List, [], ◌∷◌, ◌++◌, length, Result, Ok, Err, Some}
+use Rattle.std.specs.List.{list_all}
+use Rattle.httparse.specs.Grammar.{RequestHead, IsRequestHead, print_request}
+use Rattle.life_desk.specs.declared.request.Request.{Request}
+use Rattle.life_desk.specs.declared.request.Reply.{Reply}
+use Rattle.life_pages.specs.declared.asked.PageRefusal.{PageRefusal}
+use Rattle.life_pages.specs.Head.{Head, head_of}
+use Rattle.life_pages.specs.Asked.{asked}
+use Rattle.life_pages.specs.Reply.{bytes_of, page_bytes, bad_bytes, unavailable_bytes}
+
+-- a message of a stream: a good one with its body, or a bad one
+pub data Message : Type 0 where
+  good : Head → List ℕ → Message
+  bad : Message
+
+-- the most bytes of a head
+abbrev pub head_limit : ℕ
+head_limit = 8192
+
+-- only CR and LF bytes are left
+abbrev pub is_blank : List ℕ → Bool
+is_blank bytes = list_all (λ b. b == 13 || b == 10) bytes
+
+-- a good message stands at the front, and the rest follows it
+pub record Stands (bytes : List ℕ) (said : Head) (body rest : List ℕ) : Type 0 where
+  pub head : RequestHead
+  pub is_head : IsRequestHead head
+  pub short : length (print_request head) ≤ head_limit
+  pub says : head_of head ≡ Some said
+  pub bytes_are : bytes ≡ print_request head ++ (body ++ rest)
+  pub whole : length body ≡ said.body
+
+-- no good message stands at the front
+abbrev pub HasNone : List ℕ → Type 0
+HasNone bytes = (said : Head) (body rest : List ℕ) → ¬ (Stands bytes said body rest)
+
+-- the messages of a list of bytes: nothing follows a closing or a bad one
+abbrev pub Messages : List ℕ → List Message → Type 0
+Messages bytes [] = is_blank bytes ≡ true
+Messages bytes (bad ∷ ms) = (is_blank bytes ≡ false) × HasNone bytes × (ms ≡ [])
+Messages bytes (good said body ∷ ms) =
+    (rest : List ℕ) × Stands bytes said body rest
+    × (said.closes ≡ true → ms ≡ []) × (said.closes ≡ false → Messages rest ms)
+
+-- these messages stand at the front, none of them closes, and the rest follows
+abbrev pub Front : List ℕ → List Message → List ℕ → Type 0
+Front bytes [] rest = bytes ≡ rest
+Front bytes (bad ∷ ms) rest = ⊥
+Front bytes (good said body ∷ ms) rest =
+    (mid : List ℕ) × Stands bytes said body mid × (said.closes ≡ false) × Front mid ms rest
+
+-- these messages stand at the front, of which the last may close or be bad
+abbrev pub Starts : List ℕ → List Message → Type 0
+Starts bytes [] = Unit {0}
+Starts bytes (bad ∷ ms) = (is_blank bytes ≡ false) × HasNone bytes × (ms ≡ [])
+Starts bytes (good said body ∷ ms) =
+    (rest : List ℕ) × Stands bytes said body rest
+    × (said.closes ≡ true → ms ≡ []) × (said.closes ≡ false → Starts rest ms)
+
+-- a run from old over messages puts these bytes and ends at new
+module _ {D : Type 0} (answers : D → Head → List ℕ → List ℕ → D → Type 0) where
+  abbrev pub Run : D → List Message → List ℕ → D → Type 0
+  Run old [] bytes new = (bytes ≡ []) × (new ≡ old)
+  Run old (bad ∷ ms) bytes new = (later : List ℕ) × (bytes ≡ bad_bytes ++ later) × Run old ms later new
+  Run old (good said body ∷ ms) bytes new =
+      (reply : List ℕ) × (later : List ℕ) × (mid : D) × answers old said body reply mid × (bytes ≡ reply ++ later) × Run mid ms later new
+
+-- how a good message is answered, where requests are answered by these replies
+module _ {D : Type 0} (answers : D → Request → Reply → D → Type 0) where
+  -- a request by the bytes of a reply to it, or by that it is unavailable, and nothing changes; a page refusal by its bytes
+  abbrev pub AnswersAsked : D → Result Request PageRefusal → List ℕ → D → Type 0
+  AnswersAsked old (Ok request) bytes new =
+      ((reply : Reply) × answers old request reply new × (bytes ≡ bytes_of reply)) ⊎ ((bytes ≡ unavailable_bytes) × (new ≡ old))
+  AnswersAsked old (Err refusal) bytes new = (bytes ≡ page_bytes refusal) × (new ≡ old)
+
+  abbrev pub AnswersMessage : D → Head → List ℕ → List ℕ → D → Type 0
+  AnswersMessage old said body bytes new = AnswersAsked old (asked said body) bytes new

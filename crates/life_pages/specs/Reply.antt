@@ -1,0 +1,87 @@
+-- The bytes of replies (RFC 9112, sections 4 and 5).
+use Rattle.std.specs.Prelude.{ℕ, List, [], ◌++◌, length, codes, decimal, unwrap_or}
+use Rattle.http.specs.StatusCode.{code_digits, reason_phrase}
+use Rattle.serde_json.specs.Written.{compact_text}
+use Rattle.life_rle.specs.Fault.{fault_number}
+use Rattle.life_desk.specs.declared.refusal.Refusal.{Refusal}
+use Rattle.life_desk.specs.declared.refusal.Refusal.TheVariants.{BadPattern}
+use Rattle.life_desk.specs.declared.request.Reply.{Reply}
+use Rattle.life_desk.specs.declared.request.Reply.TheVariants as says
+use Rattle.life_desk.specs.Refusals as refusals
+use Rattle.life_pages.specs.declared.asked.PageRefusal.{PageRefusal}
+use Rattle.life_pages.specs.declared.asked.PageRefusal.TheVariants.{NoSuchPage, BadMethod, BadMessage}
+use Rattle.life_pages.specs.Asked.{refusal_number, refusal_name}
+use Rattle.life_pages.specs.Json.{kind_data, shown_data, list_data}
+
+-- the words behind a status
+unfoldable pub phrase : ℕ → List ℕ
+phrase status = unwrap_or (reason_phrase status) []
+
+-- a reply with this status, this type and this body
+unfoldable pub reply_bytes : ℕ → List ℕ → List ℕ → List ℕ
+reply_bytes status kind body =
+    codes "HTTP/1.1 " ++ code_digits status ++ codes " " ++ phrase status ++ codes "\r\ncontent-type: " ++ kind
+    ++ codes "\r\ncontent-length: " ++ decimal (length body) ++ codes "\r\n\r\n" ++ body
+
+abbrev pub json : List ℕ
+json = codes "application/json"
+
+-- ---- bodies
+
+-- a body of one number
+unfoldable pub number_body : List ℕ → ℕ → List ℕ
+number_body name n = codes "{\"" ++ name ++ codes "\":" ++ decimal n ++ codes "}"
+
+-- a refusal's name and number, and what else there is to say of it
+unfoldable pub refusal_body : List ℕ → ℕ → List ℕ → List ℕ
+refusal_body name n more = codes "{\"error\":\"" ++ name ++ codes "\",\"refusal\":" ++ decimal n ++ more ++ codes "}"
+
+-- a refused file has its fault too
+abbrev pub fault_part : Refusal → List ℕ
+fault_part (BadPattern fault) = codes ",\"rle\":" ++ decimal (fault_number fault)
+fault_part _ = []
+
+-- ---- the replies of the archive
+
+abbrev pub status_of : Reply → ℕ
+status_of (says.Deposited id) = 201
+status_of (says.Counted id) = 201
+status_of (says.Refused refusal) = refusals.status_of refusal
+status_of _ = 200
+
+abbrev pub type_of : Reply → List ℕ
+type_of (says.File bytes) = codes "text/plain"
+type_of (says.Csv bytes) = codes "text/csv"
+type_of _ = json
+
+abbrev pub body_of : Reply → List ℕ
+body_of (says.Deposited id) = number_body (codes "deposit") id
+body_of (says.Counted id) = number_body (codes "census") id
+body_of (says.Total n) = number_body (codes "total") n
+body_of (says.Refused refusal) = refusal_body (refusals.name_of refusal) (refusals.number_of refusal) (fault_part refusal)
+body_of (says.File bytes) = bytes
+body_of (says.Csv bytes) = bytes
+body_of (says.Deposits lines) = compact_text (list_data lines)
+body_of (says.Kinded kind code) = compact_text (kind_data kind code)
+body_of (says.Shown shown) = compact_text (shown_data shown)
+
+abbrev pub bytes_of : Reply → List ℕ
+bytes_of reply = reply_bytes (status_of reply) (type_of reply) (body_of reply)
+
+-- ---- the replies that the archive is not asked for
+
+abbrev pub page_status : PageRefusal → ℕ
+page_status NoSuchPage = 404
+page_status BadMethod = 405
+page_status BadMessage = 400
+
+unfoldable pub page_bytes : PageRefusal → List ℕ
+page_bytes refusal = reply_bytes (page_status refusal) json (refusal_body (refusal_name refusal) (refusal_number refusal) [])
+
+-- the reply to a bad message
+abbrev pub bad_bytes : List ℕ
+bad_bytes = page_bytes BadMessage
+
+-- the reply where memory or the store refused
+abbrev pub unavailable_bytes : List ℕ
+unavailable_bytes = reply_bytes 503 json (refusal_body (codes "unavailable") 11 [])

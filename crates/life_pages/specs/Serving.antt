@@ -1,0 +1,56 @@
+-- What serving a stream does.
+use Rattle.std.specs.Prelude.{ℕ, ◌≤◌, List, [], ◌∷◌, ◌++◌, length, Option, None, Some}
+use Rattle.life_pages.specs.Head.{Head}
+use Rattle.life_rle.specs.Stream.{Loses, Gains, GainsSome}
+use Rattle.life_pages.specs.Message.{Message, Messages, Front, Run, HasNone}
+
+module _ {D : Type 0} (answers : D → Head → List ℕ → List ℕ → D → Type 0) where
+  -- messages were answered: the replies to all but the last were put whole, and of the last a beginning
+  pub record Cut (begins : List Message → Type 0) (old new : D) (before after : Option (List ℕ)) : Type 0 where
+    pub done : List Message
+    pub last : Message
+    pub bytes : List ℕ
+    pub reply : List ℕ
+    pub mid : D
+    pub whole : Option (List ℕ)
+    pub begun : begins (done ++ last ∷ [])
+    pub run : Run answers old done bytes mid
+    pub step : Run answers mid (last ∷ []) reply new
+    pub put : Gains before whole bytes
+    pub some : GainsSome whole after reply
+
+  -- messages were answered, and a beginning of their replies was put
+  pub record Broke (old new : D) (before after : Option (List ℕ)) : Type 0 where
+    pub done : List Message
+    pub bytes : List ℕ
+    pub run : Run answers old done bytes new
+    pub put : GainsSome before after bytes
+
+  -- what a told stream's messages are, and what was put for them
+  pub record Served (stream : List ℕ) (old new : D) (before after : Option (List ℕ)) : Type 0 where
+    pub done : List Message
+    pub bytes : List ℕ
+    pub messages : Messages stream done
+    pub run : Run answers old done bytes new
+    pub put : Gains before after bytes
+
+-- the messages stand at the front of a told stream, before what is held and what is left
+abbrev pub Fronts : Option (List ℕ) → List Message → List ℕ → Option (List ℕ) → Type 0
+Fronts None done held left = Unit {0}
+Fronts (Some stream) done held None = ⊥
+Fronts (Some stream) done held (Some left) = Front stream done (held ++ left)
+
+module _ {D : Type 0} (answers : D → Head → List ℕ → List ℕ → D → Type 0) where
+  -- all the messages that were taken whole were answered, their replies were put, and no good message is held
+  pub record Paused (stream left : Option (List ℕ)) (old new : D) (before after : Option (List ℕ)) : Type 0 where
+    pub done : List Message
+    pub bytes : List ℕ
+    pub held : List ℕ
+    pub front : Fronts stream done held left
+    pub none : HasNone held
+    pub run : Run answers old done bytes new
+    pub put : Gains before after bytes
+
+-- told bytes lost at least so many
+abbrev pub LosesAtLeast : ℕ → Option (List ℕ) → Option (List ℕ) → Type 0
+LosesAtLeast least old new = (bytes : List ℕ) × (least ≤ length bytes) × Loses old new bytes

@@ -1,0 +1,70 @@
+-- What the private calls that serve a stream do, one after the other.
+use Rattle.std.specs.Prelude.{◌≡◌, ℕ, ◌<◌, ◌≤◌, Bool, true, false, List, [], ◌++◌, length, Option, None, Some, Result, Ok, Err}
+use Rattle.life_rle.specs.Stream.{Loses, Gains, IsEnded}
+use Rattle.life_pages.specs.declared.serving.Step.{Step}
+use Rattle.life_pages.specs.declared.serving.Step.TheVariants.{Wants, Goes, Ends}
+use Rattle.life_pages.specs.declared.serving.Passed.{Passed}
+use Rattle.life_pages.specs.declared.serving.Passed.TheVariants as passed
+use Rattle.life_pages.specs.Head.{Head}
+use Rattle.life_pages.specs.Message.{Message, Messages, Front, Starts, Run, is_blank}
+use Rattle.life_pages.specs.MessageState.{IsWanting}
+use Rattle.life_pages.specs.Serving.{Cut, Served}
+
+-- a take of more bytes behind those that are held
+abbrev pub Feeds : {E : Type 0} → Option (List ℕ) → Option (List ℕ) → List ℕ → List ℕ → Result ℕ E → Type 0
+Feeds old new held all (Ok k) =
+    (some : List ℕ) × Loses old new some × (all ≡ held ++ some) × (k ≡ 0 → (some ≡ []) × IsEnded old) × (length some ≡ k)
+Feeds old new held all (Err e) = Loses old new [] × (all ≡ held)
+
+module _ {D : Type 0} (answers : D → Head → List ℕ → List ℕ → D → Type 0) where
+  -- messages were answered, and the rest of the held bytes is left
+  pub record Went (held rest : List ℕ) (old new : D) (before after : Option (List ℕ)) : Type 0 where
+    pub done : List Message
+    pub bytes : List ℕ
+    pub front : Front held done rest
+    pub run : Run answers old done bytes new
+    pub put : Gains before after bytes
+
+  -- messages were answered, the last of which ends the stream, whatever follows
+  pub record Ended (held : List ℕ) (old new : D) (before after : Option (List ℕ)) : Type 0 where
+    pub done : List Message
+    pub bytes : List ℕ
+    pub messages : (more : List ℕ) → Messages (held ++ more) done
+    pub run : Run answers old done bytes new
+    pub put : Gains before after bytes
+
+  -- one message
+  abbrev pub IsStep : {E : Type 0} → Result Step E → List ℕ → List ℕ → D → D → Option (List ℕ) → Option (List ℕ) → Type 0
+  IsStep (Ok Wants) held rest old new before after =
+      Went held rest old new before after × IsWanting rest
+  IsStep (Ok Goes) held rest old new before after = Went held rest old new before after × (length rest < length held)
+  IsStep (Ok Ends) held rest old new before after = Ended held old new before after
+  IsStep (Err e) held rest old new before after = Cut answers (λ ms. (more : List ℕ) → Starts (held ++ more) ms) old new before after
+
+  -- all the messages that are held
+  abbrev pub IsServed : {E : Type 0} → Result Bool E → List ℕ → List ℕ → D → D → Option (List ℕ) → Option (List ℕ) → Type 0
+  IsServed (Ok false) held rest old new before after =
+      Went held rest old new before after × IsWanting rest
+  IsServed (Ok true) held rest old new before after = Ended held old new before after
+  IsServed (Err e) held rest old new before after = Cut answers (λ ms. (more : List ℕ) → Starts (held ++ more) ms) old new before after
+
+  -- at the end of the input
+  abbrev pub AtEnd : {E : Type 0} → Result (Unit {0}) E → List ℕ → D → Option (List ℕ) → Option (List ℕ) → Type 0
+  AtEnd (Ok u) held desk before after = Served answers held desk desk before after
+  AtEnd (Err e) held desk before after = Cut answers (λ ms. Starts held ms) desk desk before after
+
+-- at least so many bytes were taken, all of them CR and LF
+abbrev pub PassesBlank : ℕ → Option (List ℕ) → Option (List ℕ) → Type 0
+PassesBlank least old new = (bytes : List ℕ) × (least ≤ length bytes) × (is_blank bytes ≡ true) × Loses old new bytes
+
+-- whether what is left of told bytes is CR and LF alone
+abbrev pub IsBlankRest : Option (List ℕ) → Bool → Type 0
+IsBlankRest None blank = Unit {0}
+IsBlankRest (Some left) blank = is_blank left ≡ blank
+
+-- what became of bytes that were taken as long as they were CR and LF, in at most so many takes
+abbrev pub IsPassed : Passed → ℕ → Option (List ℕ) → Option (List ℕ) → Type 0
+IsPassed passed.Ended takes old new = IsBlankRest old true
+IsPassed passed.Other takes old new = IsBlankRest old false
+IsPassed passed.Failed takes old new = PassesBlank 0 old new
+IsPassed passed.TooMany takes old new = PassesBlank takes old new

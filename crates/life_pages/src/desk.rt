@@ -1,0 +1,22 @@
+//! What answers requests.
+ghost use Rattle.std.specs.Prelude.{◌≡◌, true};
+ghost use Rattle.life_desk.specs.declared.request.Request.{Request};
+ghost use Rattle.life_desk.specs.declared.request.Reply.{Reply};
+ghost use Rattle.life_desk.specs.declared.request.Reply.TheVariants as says;
+ghost use Rattle.life_desk.specs.declared.refusal.Refusal.TheVariants as refusals;
+ghost use Rattle.life_desk.specs.Replies.{is_shown};
+
+use life_desk::{Reply, Request};
+use std::alloc::Global;
+
+/// What answers requests. In the product it is an archive; serving knows no more of it than this.
+pub(crate) trait Desk {
+    // The replies that may be given to a request, and the state after each.
+    ghost answers: { Self → Request → Reply → Self → Type 0 };
+
+    /// Answers a request.
+    fn answer(&mut self, alloc: Global, request: Request) -> Reply
+        ensures answered { answers self.old request result self.new }
+        // What is shown may be withheld: nothing has changed, and that it is unavailable is a reply too.
+        ensures withheld { is_shown result ≡ true → answers self.old request (says.Refused refusals.Unavailable) self.new };
+}

@@ -1,0 +1,18 @@
+//! Messages of HTTP over any stream of bytes: requests to the archive, and its replies.
+#![tactic(auto)]
+
+mod answer;
+mod archive;
+mod asked;
+mod desk;
+mod head;
+mod json;
+mod message;
+mod path;
+mod reply;
+mod route;
+mod serving;
+
+pub use archive::serve;
+pub use asked::PageRefusal;
+pub use serving::IoFault;

@@ -1,0 +1,374 @@
+//! Serving the messages of a stream.
+ghost use Rattle.std.specs.Prelude.{◌⊎◌, ◌≡◌, ℕ, ◌+◌, ◌-◌, ◌<◌, ◌≤◌, List, [], ◌∷◌, ◌++◌, length, drop, true, vec_len, vec_capacity, Err, OnOk, OnErr, IfOk, IfSome};
+ghost use Rattle.life_rle.specs.Stream.{counted, FailedBetween, Gains, GainsSome};
+ghost use Rattle.life_pages.specs.Head.{Head};
+ghost use Rattle.life_pages.specs.HeadState.{said};
+ghost use Rattle.life_pages.specs.Route.{page_rows};
+ghost use Rattle.life_pages.specs.Reply.{bad_bytes};
+ghost use Rattle.life_pages.specs.Message.{is_blank, Stands, HasNone, Starts, AnswersMessage};
+ghost use Rattle.life_pages.specs.MessageState.{held_limit, WantsUntil};
+ghost use Rattle.life_pages.specs.AnswerState.{HasRoom};
+ghost use Rattle.life_pages.specs.Serving.{Paused, Cut, Served, Broke, LosesAtLeast};
+ghost use Rattle.life_pages.specs.ServingState.{AtEnd, IsStep, IsServed, Feeds, IsPassed};
+
+use crate::answer::{Draft, answer_message};
+use crate::asked::PageRefusal;
+use crate::desk::Desk;
+use crate::message::{HEAD_LIMIT, Next, are_blank, next_message};
+use crate::reply::{BODY_ROOM, REPLY_ROOM, add, page_reply};
+use crate::route::{Page, page_routes};
+use life_rle::{Failed, Inlet, Outlet, put_all};
+use matchit::Router;
+use std::alloc::{AllocError, Global};
+
+/// The most bytes that are held: a head and a body.
+const HELD_LIMIT: usize = 1_056_768;
+
+/// The most takes of one call.
+pub(crate) const TAKES: u64 = 1_048_576;
+
+/// The most bytes of one take.
+const MOST_TAKEN: usize = 4096;
+
+/// Why serving a stream stopped before its end.
+#[derive(Clone, Copy, Debug, PartialEq, Eq)]
+pub enum IoFault {
+    /// A take failed.
+    Read = 1,
+    /// A put failed.
+    Write = 2,
+    /// A take past the limit would be needed.
+    TooManyReads = 3,
+    /// A growth was refused before the first take.
+    Memory = 4,
+}
+
+/// What became of the first message that is held.
+#[derive(Clone, Copy)]
+pub(crate) enum Step {
+    /// It has not come whole.
+    Wants,
+    /// It was answered, and the stream goes on.
+    Goes,
+    /// It was answered, and ends the stream.
+    Ends,
+}
+
+/// Drops the bytes in front of a place.
+fn forget(held: &mut Vec<u8>, n: usize)
+    requires { n ≤ vec_len held.old }
+    ensures items { held.new.items ≡ drop n held.old.items }
+    ensures room { vec_capacity held.old ≤ vec_capacity held.new }
+{
+    held.rotate_left(n);
+    let rest = held.len() - n;
+    held.truncate(rest);
+}
+
+/// Puts the reply to a bad message.
+fn put_bad<O: Outlet>(output: &mut O) -> Result<(), Failed>
+    ensures all { OnOk result (Gains (O.already output.old) (O.already output.new) bad_bytes) }
+    ensures some { OnErr result (GainsSome (O.already output.old) (O.already output.new) bad_bytes) }
+    ensures count { OnOk result (O.failures output.new ≡ O.failures output.old) }
+    ensures failed { OnErr result (FailedBetween (O.failures output.old) (O.failures output.new)) }
+{
+    put_all(output, page_reply(PageRefusal::BadMessage))
+}
+
+/// Answers the first message, if it has come whole. Where fewer bytes are held than are wanted, it has not.
+#[tactic(auto, using(crate::proofs::MessageStanding::wants_none))]
+fn serve_one<O: Outlet, D: Desk>(
+    alloc: Global,
+    routes: &Router<Page>,
+    desk: &mut D,
+    output: &mut O,
+    held: &mut Vec<u8>,
+    wanted: &mut usize,
+    draft: &mut Draft,
+) -> Result<Step, Failed>
+    requires routes { routes.now ≡ page_rows }
+    requires draft { HasRoom draft.old }
+    requires below { WantsUntil wanted.old held.old.items }
+    ensures count { OnOk result (O.failures output.new ≡ O.failures output.old) }
+    ensures failed { OnErr result (FailedBetween (O.failures output.old) (O.failures output.new)) }
+    ensures step { IsStep (AnswersMessage D.answers) result held.old.items held.new.items desk.old desk.new (O.already output.old) (O.already output.new) }
+    ensures room { vec_capacity held.old ≤ vec_capacity held.new }
+    ensures draft { HasRoom draft.new }
+    ensures below { WantsUntil wanted.new held.new.items }
+{
+    if held.len() < *wanted {
+        return Ok(Step::Wants);
+    }
+    *wanted = 0;
+    let (end, closes) = match next_message(held) {
+        Next::More(at_least) => {
+            *wanted = at_least;
+            return Ok(Step::Wants);
+        }
+        Next::Bad => {
+            return match put_bad(output) {
+                Ok(()) => Ok(Step::Ends),
+                Err(e) => Err(e),
+            };
+        }
+        Next::Whole(head) => {
+            let end = head.len + head.body as usize;
+            answer_message(alloc, routes, desk, &head, &held[head.len..end], draft);
+            (end, head.closes)
+        }
+    };
+    if let Err(e) = put_all(output, &draft.reply) {
+        return Err(e);
+    }
+    if closes {
+        return Ok(Step::Ends);
+    }
+    forget(held, end);
+    Ok(Step::Goes)
+}
+
+/// Answers all messages that are held whole. Whether the stream has ended.
+fn serve_held<O: Outlet, D: Desk>(
+    alloc: Global,
+    routes: &Router<Page>,
+    desk: &mut D,
+    output: &mut O,
+    held: &mut Vec<u8>,
+    wanted: &mut usize,
+    draft: &mut Draft,
+) -> Result<bool, Failed>
+    requires routes { routes.now ≡ page_rows }
+    requires draft { HasRoom draft.old }
+    requires below { WantsUntil wanted.old held.old.items }
+    ensures count { OnOk result (O.failures output.new ≡ O.failures output.old) }
+    ensures failed { OnErr result (FailedBetween (O.failures output.old) (O.failures output.new)) }
+    ensures served { IsServed (AnswersMessage D.answers) result held.old.items held.new.items desk.old desk.new (O.already output.old) (O.already output.new) }
+    ensures room { vec_capacity held.old ≤ vec_capacity held.new }
+    ensures draft { HasRoom draft.new }
+    ensures below { WantsUntil wanted.new held.new.items }
+{
+    'held: loop {
+        match serve_one(alloc, routes, desk, output, held, wanted, draft) {
+            Ok(Step::Goes) => {}
+            Ok(Step::Wants) => return Ok(false),
+            Ok(Step::Ends) => return Ok(true),
+            Err(e) => return Err(e),
+        }
+    }
+}
+
+/// Takes more bytes behind those that are held, which hold no whole message.
+fn take_more<I: Inlet>(input: &mut I, held: &mut Vec<u8>) -> Result<usize, Failed>
+    requires none { HasNone held.old.items }
+    requires space { vec_len held.old < HELD_LIMIT }
+    requires room { HELD_LIMIT ≤ vec_capacity held.old }
+    ensures taken { Feeds (I.to_come input.old) (I.to_come input.new) held.old.items held.new.items result }
+    ensures room { vec_capacity held.old ≤ vec_capacity held.new }
+    ensures count { I.failures input.new ≡ counted (I.failures input.old) result }
+{
+    let mut place = [0u8; MOST_TAKEN];
+    let room = (HELD_LIMIT - held.len()).min(MOST_TAKEN);
+    match input.take(&mut place[..room]) {
+        Ok(k) => {
+            add(held, &place[..k]);
+            Ok(k)
+        }
+        Err(e) => Err(e),
+    }
+}
+
+/// What became of bytes that were taken as long as they were CR and LF.
+#[derive(Clone, Copy)]
+pub(crate) enum Passed {
+    /// All were, to the end.
+    Ended,
+    /// Another byte came.
+    Other,
+    /// A take failed.
+    Failed,
+    /// A take past the limit would be needed.
+    TooMany,
+}
+
+/// Takes bytes as long as they are CR and LF, and keeps none.
+fn pass_blank<I: Inlet>(input: &mut I, takes: u64) -> Passed
+    ensures passed { IsPassed result takes (I.to_come input.old) (I.to_come input.new) }
+    ensures failed { result ≡ Passed.Failed → FailedBetween (I.failures input.old) (I.failures input.new) }
+{
+    let mut place = [0u8; MOST_TAKEN];
+    'passed: for _i in 0..takes {
+        match input.take(&mut place) {
+            Ok(0) => return Passed::Ended,
+            Ok(k) => {
+                if !are_blank(&place[..k]) {
+                    return Passed::Other;
+                }
+            }
+            Err(_) => return Passed::Failed,
+        }
+    }
+    Passed::TooMany
+}
+
+/// The end of the input: what is held is CR and LF alone, or a message that is cut short.
+fn finish<O: Outlet, D: Desk>(desk: &D, output: &mut O, held: &[u8]) -> Result<(), Failed>
+    requires { HasNone held.now }
+    ensures end { AtEnd (AnswersMessage D.answers) result held.now desk.now (O.already output.old) (O.already output.new) }
+    ensures failed { OnErr result (FailedBetween (O.failures output.old) (O.failures output.new)) }
+{
+    if are_blank(held) {
+        return Ok(());
+    }
+    match put_bad(output) {
+        Ok(()) => Ok(()),
+        Err(e) => Err(e),
+    }
+}
+
+/// What serving needs room for.
+#[derive(Drop)]
+struct Ready {
+    routes: Router<Page>,
+    held: Vec<u8>,
+    /// No message is whole before so many bytes are held.
+    wanted: usize,
+    draft: Draft,
+}
+
+/// The routes, the buffer and the reserve for a reply.
+#[tactic(auto, using(crate::proofs::MessageStanding::wants_none))]
+fn prepared(alloc: Global) -> Result<Ready, AllocError>
+    ensures routes { IfOk result (λ p. p.routes ≡ page_rows) }
+    ensures held { IfOk result (λ p. (p.held.items ≡ []) × (HELD_LIMIT ≤ vec_capacity p.held)) }
+    ensures below { IfOk result (λ p. WantsUntil p.wanted p.held.items) }
+    ensures draft { IfOk result (λ p. HasRoom p.draft) }
+{
+    let routes = match page_routes(alloc) {
+        Ok(routes) => routes,
+        Err(_) => return Err(AllocError),
+    };
+    Ok(Ready {
+        routes,
+        held: Vec::with_capacity(alloc, HELD_LIMIT)?,
+        wanted: 0,
+        draft: Draft {
+            reply: Vec::with_capacity(alloc, REPLY_ROOM)?,
+            body: Vec::with_capacity(alloc, BODY_ROOM)?,
+        },
+    })
+}
+
+/// Answers the messages of a stream, with room made ready.
+fn serve_stream<I: Inlet, O: Outlet, D: Desk>(
+    alloc: Global,
+    ready: &mut Ready,
+    desk: &mut D,
+    input: &mut I,
+    output: &mut O,
+) -> Result<(), IoFault>
+    requires routes { ready.old.routes ≡ page_rows }
+    requires empty { ready.old.held.items ≡ [] }
+    requires held { HELD_LIMIT ≤ vec_capacity ready.old.held }
+    requires draft { HasRoom ready.old.draft }
+    requires below { WantsUntil ready.old.wanted ready.old.held.items }
+    // Told: what was put is the replies to the messages of the stream.
+    ensures told { OnOk result (IfSome (I.to_come input.old) (λ stream.
+        Served (AnswersMessage D.answers) stream desk.old desk.new (O.already output.old) (O.already output.new))) }
+    // Told or not: some messages were answered, and no more than their replies was put.
+    ensures some { Broke (AnswersMessage D.answers) desk.old desk.new (O.already output.old) (O.already output.new) }
+    // A failed take: what was taken whole was answered, and the replies were put whole.
+    ensures paused { result ≡ Err IoFault.Read → Paused (AnswersMessage D.answers) (I.to_come input.old) (I.to_come input.new)
+        desk.old desk.new (O.already output.old) (O.already output.new) }
+    ensures full { result ≡ Err IoFault.TooManyReads → Paused (AnswersMessage D.answers) (I.to_come input.old) (I.to_come input.new)
+        desk.old desk.new (O.already output.old) (O.already output.new) }
+    ensures many { result ≡ Err IoFault.TooManyReads → LosesAtLeast TAKES (I.to_come input.old) (I.to_come input.new) }
+    // A failed put: the replies to all answered messages but the last were put whole, and of the last a beginning.
+    ensures cut { result ≡ Err IoFault.Write → Cut (AnswersMessage D.answers) (λ ms. IfSome (I.to_come input.old) (λ stream. Starts stream ms))
+        desk.old desk.new (O.already output.old) (O.already output.new) }
+    ensures memory { result ≡ Err IoFault.Memory → ⊥ }
+    ensures read { result ≡ Err IoFault.Read → FailedBetween (I.failures input.old) (I.failures input.new) }
+    ensures write { result ≡ Err IoFault.Write → FailedBetween (O.failures output.old) (O.failures output.new) }
+{
+    'takes: for taken in 0..TAKES {
+        match serve_held(
+            alloc,
+            &ready.routes,
+            desk,
+            output,
+            &mut ready.held,
+            &mut ready.wanted,
+            &mut ready.draft,
+        ) {
+            Ok(true) => return Ok(()),
+            Ok(false) => {}
+            Err(_) => return Err(IoFault::Write),
+        }
+        if ready.held.len() >= HEAD_LIMIT && are_blank(&ready.held) {
+            match pass_blank(input, TAKES - taken) {
+                Passed::Ended => return Ok(()),
+                Passed::Other => {
+                    return match put_bad(output) {
+                        Ok(()) => Ok(()),
+                        Err(_) => Err(IoFault::Write),
+                    };
+                }
+                Passed::Failed => return Err(IoFault::Read),
+                Passed::TooMany => return Err(IoFault::TooManyReads),
+            }
+        }
+        match take_more(input, &mut ready.held) {
+            Ok(0) => {
+                return match finish(desk, output, &ready.held) {
+                    Ok(()) => Ok(()),
+                    Err(_) => Err(IoFault::Write),
+                };
+            }
+            Ok(_) => {}
+            Err(_) => return Err(IoFault::Read),
+        }
+    }
+    match serve_held(
+        alloc,
+        &ready.routes,
+        desk,
+        output,
+        &mut ready.held,
+        &mut ready.wanted,
+        &mut ready.draft,
+    ) {
+        Ok(true) => Ok(()),
+        Ok(false) => Err(IoFault::TooManyReads),
+        Err(_) => Err(IoFault::Write),
+    }
+}
+
+/// Answers the messages of a stream by any desk.
+pub(crate) fn serve_desk<I: Inlet, O: Outlet, D: Desk>(
+    alloc: Global,
+    desk: &mut D,
+    input: &mut I,
+    output: &mut O,
+) -> Result<(), IoFault>
+    // Told: what was put is the replies to the messages of the stream.
+    ensures told { OnOk result (IfSome (I.to_come input.old) (λ stream.
+        Served (AnswersMessage D.answers) stream desk.old desk.new (O.already output.old) (O.already output.new))) }
+    // Told or not: some messages were answered, and no more than their replies was put.
+    ensures some { Broke (AnswersMessage D.answers) desk.old desk.new (O.already output.old) (O.already output.new) }
+    // A failed take: what was taken whole was answered, and the replies were put whole.
+    ensures paused { result ≡ Err IoFault.Read → Paused (AnswersMessage D.answers) (I.to_come input.old) (I.to_come input.new)
+        desk.old desk.new (O.already output.old) (O.already output.new) }
+    ensures full { result ≡ Err IoFault.TooManyReads → Paused (AnswersMessage D.answers) (I.to_come input.old) (I.to_come input.new)
+        desk.old desk.new (O.already output.old) (O.already output.new) }
+    ensures many { result ≡ Err IoFault.TooManyReads → LosesAtLeast TAKES (I.to_come input.old) (I.to_come input.new) }
+    // A failed put: the replies to all answered messages but the last were put whole, and of the last a beginning.
+    ensures cut { result ≡ Err IoFault.Write → Cut (AnswersMessage D.answers) (λ ms. IfSome (I.to_come input.old) (λ stream. Starts stream ms))
+        desk.old desk.new (O.already output.old) (O.already output.new) }
+    ensures memory { result ≡ Err IoFault.Memory → (desk.new ≡ desk.old) × (input.new ≡ input.old) × (output.new ≡ output.old) }
+    ensures read { result ≡ Err IoFault.Read → FailedBetween (I.failures input.old) (I.failures input.new) }
+    ensures write { result ≡ Err IoFault.Write → FailedBetween (O.failures output.old) (O.failures output.new) }
+{
+    match prepared(alloc) {
+        Ok(mut ready) => serve_stream(alloc, &mut ready, desk, input, output),
+        Err(_) => Err(IoFault::Memory),
+    }
+}

@@ -1,19 +1,20 @@
 //! The program `life`: an archive of Game of Life patterns.
 #![tactic(auto)]
 
+mod archives;
 mod jobs;
+mod net;
 mod stop;
-#[cfg(test)]
-mod tests;
 mod words;
 
-use clap::Error;
+use archives::run_deposit;
 use jobs::{run_census, run_generation, run_kind, run_object};
 use life_rle::{FromRead, FromWrite};
+use net::{open_archive, serve_port};
+use std::io;
 use std::process::ExitCode;
-use std::{env, io};
 use stop::Stop;
-use words::{Job, WordFault, read_words};
+use words::{Job, WordFault, read_words, words_of};
 
 /// The status for words that name no job.
 const BAD_WORDS: u8 = 2;
@@ -26,32 +27,52 @@ fn print_stop(rt: &impl Eprint, stop: Stop) -> io::Result<ExitCode> {
     Ok(ExitCode::FAILURE)
 }
 
-/// Prints what `clap` says of the words.
-fn print_words(rt: &impl Eprint, error: Option<Error>) -> io::Result<ExitCode> {
-    if let Some(error) = error {
-        eprint!(rt; "{error}")?;
+/// Prints why the words name no job: what `clap` says of them, or that memory was refused.
+fn print_fault(rt: &impl Eprint, fault: WordFault) -> io::Result<ExitCode> {
+    match fault {
+        WordFault::BadWords(Some(error)) => eprint!(rt; "{error}")?,
+        WordFault::BadWords(None) => {}
+        WordFault::Memory => return print_stop(rt, Stop::Unavailable),
     }
     Ok(ExitCode::from(BAD_WORDS))
 }
 
+/// Does a job, over standard input and output.
+fn done(rt: &HostRuntime, job: Job<'_>) -> Result<(), Stop> {
+    let alloc = rt.alloc();
+    let mut input = FromRead::new(rt.reader());
+    let mut output = FromWrite::new(io::writer(rt));
+    match job {
+        Job::Generation(n) => run_generation(alloc, n, &mut input, &mut output),
+        Job::Kind(limit) => run_kind(alloc, limit, &mut input, &mut output),
+        Job::Object { rule, code, limit } => run_object(alloc, rule, code, limit, &mut output),
+        Job::Census { n, limit } => run_census(alloc, n, limit, &mut input, &mut output),
+        Job::Deposit {
+            file,
+            member,
+            token,
+        } => {
+            let mut archive = open_archive(rt, file)?;
+            run_deposit(alloc, &mut archive, member, token, &mut input, &mut output)
+        }
+        Job::Serve {
+            file,
+            port,
+            connections,
+        } => serve_port(rt, &mut open_archive(rt, file)?, port, connections),
+    }
+}
+
 fn main(rt: HostRuntime) -> io::Result<ExitCode> {
-    let words: Vec<String> = env::args(&rt)?.collect(rt.alloc())?;
+    let words = match words_of(&rt) {
+        Ok(words) => words,
+        Err(fault) => return print_fault(&rt, fault),
+    };
     let job = match read_words(rt.alloc(), words.as_slice()) {
         Ok(job) => job,
-        Err(WordFault::BadWords(error)) => return print_words(&rt, error),
-        Err(WordFault::Memory) => return print_stop(&rt, Stop::Unavailable),
+        Err(fault) => return print_fault(&rt, fault),
     };
-    let mut input = FromRead::new(rt.reader());
-    let mut output = FromWrite::new(io::writer(&rt));
-    let done = match job {
-        Job::Generation(n) => run_generation(rt.alloc(), n, &mut input, &mut output),
-        Job::Kind(limit) => run_kind(rt.alloc(), limit, &mut input, &mut output),
-        Job::Object { rule, code, limit } => {
-            run_object(rt.alloc(), rule, code, limit, &mut output)
-        }
-        Job::Census { n, limit } => { run_census(rt.alloc(), n, limit, &mut input, &mut output) }
-    };
-    match done {
+    match done(&rt, job) {
         Ok(()) => Ok(ExitCode::SUCCESS),
         Err(stop) => print_stop(&rt, stop),
     }

@@ -2,12 +2,15 @@
 ghost use Rattle.std.specs.Prelude.{◌≡◌, codes, map, option_map, IfOk, false};
 ghost use Rattle.clap.specs.Words.{app_of, rule_of, rows_of, found_of, subcommand_rows_of, with_subcommand};
 ghost use Rattle.clap.specs.declared.builder.command.Command.TheViews.{out-Command as fields_of};
-ghost use Rattle.life_cli.specs.Words.{number_rule, text_rule, generation, kind, object, census, life, asked_by, number_at, text_at, object_of, census_of, job_of, number_of, ComesFrom, Answers};
+ghost use Rattle.life_cli.specs.Words.{number_rule, number_rule_in, text_rule, file_rule, generation, kind, object, census, deposit, serve, life, asked_by};
+ghost use Rattle.life_cli.specs.Words.{number_at, text_at, object_of, census_of, deposit_of, serve_of, job_of, number_of, ComesFrom, Answers};
 
+use clap::builder::ValueParser;
 use clap::error::ErrorKind;
 use clap::{Arg, ArgMatches, Command, Error};
 use std::alloc::{AllocError, Global};
 use std::convert::AsStr;
+use std::{env, io};
 
 /// What the program is to do.
 #[derive(Clone, Copy, Debug, PartialEq, Eq)]
@@ -27,6 +30,18 @@ pub enum Job<'a> {
     Census {
         n: u64,
         limit: u64,
+    },
+    /// Deposit the pattern on standard input in the archive of this file.
+    Deposit {
+        file: &'a str,
+        member: &'a str,
+        token: &'a str,
+    },
+    /// Serve the archive of this file at this port, for so many connections.
+    Serve {
+        file: &'a str,
+        port: u64,
+        connections: u64,
     },
 }
 
@@ -145,6 +160,76 @@ fn census_command<'a>(alloc: Global) -> Result<Command<'a>, AllocError>
         .arg(limit_arg(alloc))
 }
 
+// The option `--db`, whose word is the file of an archive.
+fn file_arg<'a>(alloc: Global) -> Arg<'a>
+    ensures rule { rule_of result ≡ file_rule }
+    ensures local { result.global ≡ false }
+{
+    text_arg(alloc, "F")
+        .long("db")
+        .help("The file of the archive")
+}
+
+// The member of a deposit.
+fn member_arg<'a>(alloc: Global) -> Arg<'a>
+    ensures rule { rule_of result ≡ text_rule (codes "MEMBER") }
+    ensures local { result.global ≡ false }
+{
+    text_arg(alloc, "MEMBER").help("The member, as ann")
+}
+
+// The token of a deposit.
+fn token_arg<'a>(alloc: Global) -> Arg<'a>
+    ensures rule { rule_of result ≡ text_rule (codes "TOKEN") }
+    ensures local { result.global ≡ false }
+{
+    text_arg(alloc, "TOKEN").help("The member's token of the deposit, as t1")
+}
+
+fn deposit_command<'a>(alloc: Global) -> Result<Command<'a>, AllocError>
+    ensures app { IfOk result (λ command. app_of command ≡ deposit) }
+    ensures local { IfOk result (λ command. (fields_of command).has_globals ≡ false) }
+{
+    Command::new(alloc, "deposit")
+        .about("Keeps the pattern on standard input in an archive")
+        .arg(file_arg(alloc))?
+        .arg(member_arg(alloc))?
+        .arg(token_arg(alloc))
+}
+
+// The option `--port`.
+fn port_arg<'a>(alloc: Global) -> Arg<'a>
+    ensures rule { rule_of result ≡ number_rule_in (codes "P") (codes "port") 65535 }
+    ensures local { result.global ≡ false }
+{
+    text_arg(alloc, "P")
+        .value_parser(ValueParser::unsigned(1, 65_535))
+        .long("port")
+        .help("The port on 127.0.0.1, from 1 to 65535")
+}
+
+// The option `--connections`.
+fn connections_arg<'a>(alloc: Global) -> Arg<'a>
+    ensures rule { rule_of result ≡ number_rule_in (codes "N") (codes "connections") 1000000 }
+    ensures local { result.global ≡ false }
+{
+    text_arg(alloc, "N")
+        .value_parser(ValueParser::unsigned(1, 1_000_000))
+        .long("connections")
+        .help("How many connections are served, from 1 to 1000000")
+}
+
+fn serve_command<'a>(alloc: Global) -> Result<Command<'a>, AllocError>
+    ensures app { IfOk result (λ command. app_of command ≡ serve) }
+    ensures local { IfOk result (λ command. (fields_of command).has_globals ≡ false) }
+{
+    Command::new(alloc, "serve")
+        .about("Serves the messages of an archive on 127.0.0.1")
+        .arg(file_arg(alloc))?
+        .arg(port_arg(alloc))?
+        .arg(connections_arg(alloc))
+}
+
 // The command with one more subcommand, which has no global argument.
 fn with_command<'a>(above: Command<'a>, below: Command<'a>) -> Result<Command<'a>, AllocError>
     requires { (fields_of below).has_globals ≡ false }
@@ -161,6 +246,14 @@ fn with_code_commands<'a>(alloc: Global, above: Command<'a>) -> Result<Command<'
     with_command(command, census_command(alloc)?)
 }
 
+// The command with the subcommands of archives.
+fn with_archive_commands<'a>(alloc: Global, above: Command<'a>) -> Result<Command<'a>, AllocError>
+    ensures { IfOk result (λ command. app_of command ≡ with_subcommand (with_subcommand (app_of above.entry) deposit.top) serve.top) }
+{
+    let command = with_command(above, deposit_command(alloc)?)?;
+    with_command(command, serve_command(alloc)?)
+}
+
 fn life_command<'a>(alloc: Global) -> Result<Command<'a>, AllocError>
     ensures { IfOk result (λ command. app_of command ≡ life) }
 {
@@ -169,7 +262,28 @@ fn life_command<'a>(alloc: Global) -> Result<Command<'a>, AllocError>
         .subcommand_required(true);
     let command = with_command(command, generation_command(alloc)?)?;
     let command = with_command(command, kind_command(alloc)?)?;
-    with_code_commands(alloc, command)
+    let command = with_code_commands(alloc, command)?;
+    with_archive_commands(alloc, command)
+}
+
+/// The words of the process, the program's name first. Where one of them is not UTF-8, they are bad
+/// words.
+pub fn words_of(rt: &HostRuntime) -> Result<Vec<String>, WordFault> {
+    let words = match env::args(rt) {
+        Ok(words) => words,
+        Err(error) if error.kind() == io::ErrorKind::InvalidData => return Err(not_text(
+            rt.alloc(),
+        )?),
+        Err(_) => return Err(WordFault::Memory),
+    };
+    Ok(words.collect(rt.alloc())?)
+}
+
+// The fault of words of which one is not UTF-8, in clap's form.
+fn not_text(alloc: Global) -> Result<WordFault, AllocError> {
+    let message = "invalid UTF-8 was found in one or more arguments";
+    let error = life_command(alloc)?.error(ErrorKind::ValueValidation, message)?;
+    Ok(WordFault::BadWords(Some(error)))
 }
 
 // The number of the word with this id.
@@ -205,6 +319,26 @@ fn census_in<'a>(found: &ArgMatches<'a>) -> Option<Job<'a>>
     })
 }
 
+fn deposit_in<'a>(found: &ArgMatches<'a>) -> Option<Job<'a>>
+    ensures { option_map asked_by result ≡ deposit_of (text_at (codes "F") (rows_of (found_of found.now))) (text_at (codes "MEMBER") (rows_of (found_of found.now))) (text_at (codes "TOKEN") (rows_of (found_of found.now))) }
+{
+    Some(Job::Deposit {
+        file: text_in(found, "F")?,
+        member: text_in(found, "MEMBER")?,
+        token: text_in(found, "TOKEN")?,
+    })
+}
+
+fn serve_in<'a>(found: &ArgMatches<'a>) -> Option<Job<'a>>
+    ensures { option_map asked_by result ≡ serve_of (text_at (codes "F") (rows_of (found_of found.now))) (number_at (codes "P") (rows_of (found_of found.now))) (number_at (codes "N") (rows_of (found_of found.now))) }
+{
+    Some(Job::Serve {
+        file: text_in(found, "F")?,
+        port: number_in(found, "P")?,
+        connections: number_in(found, "N")?,
+    })
+}
+
 fn job_in<'a>(matches: &ArgMatches<'a>) -> Option<Job<'a>>
     ensures { option_map asked_by result ≡ job_of (subcommand_rows_of matches.now) }
 {
@@ -213,6 +347,8 @@ fn job_in<'a>(matches: &ArgMatches<'a>) -> Option<Job<'a>>
         Some(("kind", found)) => Some(Job::Kind(number_in(found, "LIMIT")?)),
         Some(("object", found)) => object_in(found),
         Some(("census", found)) => census_in(found),
+        Some(("deposit", found)) => deposit_in(found),
+        Some(("serve", found)) => serve_in(found),
         _ => None,
     }
 }

@@ -1,0 +1,162 @@
+//! A stop at each call of the log, and then at each call of the database file: what the files hold is
+//! sound, whatever call was the last.
+use crate::archives::{BLOCKS, census, counted, deposit, is_of_two_blocks};
+use life_store::{Archive, OpenFault, Unavailable};
+use sqlite::{Alter, FileStore, Files};
+use sqlite_disk::{Disk, Fuse, Memory};
+use std::alloc::Global;
+use std::test::Fail;
+
+/// A file that stops after some calls.
+type Stopping = Fuse<Memory>;
+
+/// Two empty files that stop after so many calls.
+fn blank(alloc: Global, log_calls: u64, db_calls: u64) -> Files<Stopping> {
+    Files {
+        log: Fuse::new(Memory::new(alloc), log_calls),
+        db: Fuse::new(Memory::new(alloc), db_calls),
+    }
+}
+
+/// What a file holds, in a file that never stops.
+fn copied(alloc: Global, file: &Stopping) -> Result<Stopping, Unavailable> {
+    let mut copy = Memory::new(alloc);
+    if copy.write_at(0, file.inner().bytes()).is_err() || copy.sync().is_err() {
+        return Err(Unavailable);
+    }
+    Ok(Fuse::new(copy, u64::MAX))
+}
+
+fn again(alloc: Global, files: &Files<Stopping>) -> Result<Files<Stopping>, Unavailable> {
+    Ok(Files {
+        log: copied(alloc, &files.log)?,
+        db: copied(alloc, &files.db)?,
+    })
+}
+
+fn open(
+    alloc: Global,
+    files: Files<Stopping>,
+) -> Result<Archive<FileStore<Stopping>>, (OpenFault, Files<Stopping>)> {
+    if !files.may_be_used() {
+        return Err((OpenFault::Unavailable, files));
+    }
+    Archive::open_files(alloc, files, 2)
+}
+
+fn close(archive: Archive<FileStore<Stopping>>) -> Files<Stopping> {
+    match archive.close_files() {
+        Ok(files) => files,
+        Err((_, files)) => files,
+    }
+}
+
+/// What a run was told: whether the deposit was taken, and whether the census was.
+#[derive(Clone, Copy)]
+struct Told {
+    deposited: bool,
+    counted: bool,
+}
+
+/// Adds the deposit, and then the census, up to the first call that is unavailable.
+fn act<S: Alter>(alloc: Global, archive: &mut Archive<S>) -> Result<Told, Unavailable> {
+    let given = deposit(alloc, b"t1", BLOCKS)?;
+    let taken = census(alloc, b"c1")?;
+    let tally = counted(alloc, BLOCKS)?;
+    let deposited = archive.add_deposit(alloc, &given) == Ok(1);
+    let counted = deposited && archive.add_census(&taken, &tally) == Ok(1);
+    Ok(Told { deposited, counted })
+}
+
+/// The number of the deposit, which is added where it is not kept.
+fn deposit_again<S: Alter>(alloc: Global, archive: &mut Archive<S>) -> Result<u64, Unavailable> {
+    match archive.find_deposit(alloc, b"ann", b"t1")? {
+        Some(found) => Ok(found.id),
+        None => archive.add_deposit(alloc, &deposit(alloc, b"t1", BLOCKS)?),
+    }
+}
+
+/// The number of the census, which is added where it is not kept.
+fn census_again<S: Alter>(alloc: Global, archive: &mut Archive<S>) -> Result<u64, Unavailable> {
+    match archive.find_census(alloc, b"ann", b"c1")? {
+        Some(found) => Ok(found.id),
+        None => archive.add_census(&census(alloc, b"c1")?, &counted(alloc, BLOCKS)?),
+    }
+}
+
+/// Whether the archive has what was answered, a census only with its rows, and nothing else.
+fn has_told<S: Alter>(
+    alloc: Global,
+    archive: &mut Archive<S>,
+    told: Told,
+) -> Result<bool, Unavailable> {
+    let deposits = archive.count_deposits()?;
+    let censuses = archive.count_censuses()?;
+    let some = (!told.deposited || deposits == 1) && (!told.counted || censuses == 1);
+    let whole = censuses == 0 || is_of_two_blocks(alloc, archive, 1)?;
+    Ok(some && whole && deposits <= 1 && censuses <= deposits)
+}
+
+/// Whether both requests made again are answered 1, and each table then has one row.
+fn goes_on<S: Alter>(alloc: Global, archive: &mut Archive<S>) -> Result<bool, Unavailable> {
+    let same = deposit_again(alloc, archive)? == 1 && census_again(alloc, archive)? == 1;
+    let once = archive.count_deposits()? == 1 && archive.count_censuses()? == 1;
+    Ok(same && once && is_of_two_blocks(alloc, archive, 1)?)
+}
+
+/// Whether the files, opened again with no stop, are an archive that has what was answered. An archive in
+/// which some of the tables stand and others not would be refused here.
+fn is_sound(alloc: Global, files: &Files<Stopping>, told: Told) -> Result<bool, Unavailable> {
+    let Ok(mut archive) = open(alloc, again(alloc, files)?) else {
+        return Ok(false);
+    };
+    Ok(has_told(alloc, &mut archive, told)? && goes_on(alloc, &mut archive)?)
+}
+
+/// Whether all was answered before the stop, and whether what is found afterwards is sound.
+fn stop_at(alloc: Global, log_calls: u64, db_calls: u64) -> Result<(bool, bool), Unavailable> {
+    let (told, files) = match open(alloc, blank(alloc, log_calls, db_calls)) {
+        Ok(mut archive) => (act(alloc, &mut archive)?, close(archive)),
+        Err((_, files)) => (
+            Told {
+                deposited: false,
+                counted: false,
+            },
+            files,
+        ),
+    };
+    Ok((told.counted, is_sound(alloc, &files, told)?))
+}
+
+/// After how many calls on the one file a run ends with no stop; none where a stop left what is not sound.
+fn calls_of(alloc: Global, is_log: bool) -> Option<u64> {
+    for calls in 0..1000u64 {
+        let (log_calls, db_calls) = if is_log {
+            (calls, u64::MAX)
+        } else {
+            (u64::MAX, calls)
+        };
+        match stop_at(alloc, log_calls, db_calls) {
+            Ok((true, true)) => return Some(calls),
+            Ok((false, true)) => {}
+            _ => return None,
+        }
+    }
+    None
+}
+
+#[test]
+fn a_stop_of_the_log_loses_nothing(rt: HostRuntime) -> Result<(), Fail> {
+    let calls = calls_of(rt.alloc(), true).ok_or("a stop left what is not sound")?;
+    println!(&rt; "stops at each of {calls} calls on the log")?;
+    assert!(rt; calls > 0);
+    Ok(())
+}
+
+#[test]
+fn a_stop_of_the_database_loses_nothing(rt: HostRuntime) -> Result<(), Fail> {
+    let calls = calls_of(rt.alloc(), false).ok_or("a stop left what is not sound")?;
+    println!(&rt; "stops at each of {calls} calls on the database file")?;
+    assert!(rt; calls > 0);
+    Ok(())
+}

@@ -1,0 +1,183 @@
+//! Pattern files as they are read and written, and each public call once.
+use life_core::{Pattern, Rule};
+use life_rle::{
+    FromRead, FromWrite, MemoryOutlet, ReadFault, RleFault, SliceInlet, Text, Texts, laws_of_files,
+    laws_of_lines_and_runs, plain, put_all, read, read_from, read_kept, write,
+};
+use std::alloc::{AllocError, Global};
+use std::io;
+use std::test::Fail;
+
+/// Files, and what is written of them or the name of their fault.
+const FILES: [(&str, &str); 8] = [
+    (
+        "x = 36, y = 9, rule = B3/S23\n24bo11b$22bobo11b$12b2o6b2o12b2o$11bo3bo4b2o12b2o$2o8bo5bo3b2o14b$2o8bo3bob2o4bobo11b$10bo5bo7bo11b$11bo3bo20b$12b2o!\n",
+        "x = 36, y = 9, rule = B3/S23\n24bo$22bobo$12b2o6b2o12b2o$11bo3bo4b2o12b2o$2o8bo5bo3b2o$2o8bo3bob2o4b\nobo$10bo5bo7bo$11bo3bo$12b2o!\n",
+    ),
+    (
+        "#N Glider\n#O A. Member\n#C first\n#c second\n#N Other\n#CXRLE Pos=-1,-1 Gen=0\nx = 3, y = 3, rule = B3/S23\nbo$2bo$3o!\n",
+        "#N Glider\n#O A. Member\n#C first\n#C second\n#C Other\nx = 3, y = 3, rule = B3/S23\nbo$2bo$3o!\n",
+    ),
+    (
+        "# x\n#N\n#N  Twin \n#O\n#C\n#r B36/S23\nx=2,Y=1,RULE=s23b3\n#C late\n2\n#note\n o ! rest\n",
+        "#N Twin\n#C\nx = 2, y = 1, rule = B3/S23\n2o!\n",
+    ),
+    (
+        "#r 23/36\nx = 1, y = 1\no!\n",
+        "x = 1, y = 1, rule = B36/S23\no!\n",
+    ),
+    (
+        "x = 1111111111111111111111111111111111111111, y = 1\no!\n",
+        "x = 1, y = 1, rule = B3/S23\no!\n",
+    ),
+    ("x = 1, y = 1, rule = \no!\n", "bad-rule"),
+    ("x = 1, y = 1, rule = B03/S23\no!\n", "birth-zero"),
+    ("x = 1, y = 1\n99999999999999999999o!\n", "bad-count"),
+];
+
+/// The text that is written of what is read, or the name of the fault.
+fn rewritten(alloc: Global, file: &[u8]) -> Result<Vec<u8>, Fail> {
+    match read(alloc, file) {
+        Ok(record) => Ok(write(alloc, &record)?),
+        Err(fault) => Ok(fault.name().as_bytes().to_vec(alloc)?),
+    }
+}
+
+/// The file with CR LF at the end of each line.
+fn with_carriage_returns(alloc: Global, file: &[u8]) -> Result<Vec<u8>, AllocError> {
+    let mut out = Vec::new(alloc);
+    for byte in file {
+        if *byte == b'\n' {
+            out.push(b'\r')?;
+        }
+        out.push(*byte)?;
+    }
+    Ok(out)
+}
+
+/// Whether this is written of the file, with LF and with CR LF.
+fn gives(alloc: Global, file: &str, text: &str) -> Result<bool, Fail> {
+    let returned = with_carriage_returns(alloc, file.as_bytes())?;
+    let same = rewritten(alloc, file.as_bytes())?.as_slice() == text.as_bytes();
+    Ok(same && rewritten(alloc, &returned)?.as_slice() == text.as_bytes())
+}
+
+/// The first text, the second so many times, and the third.
+fn repeated(
+    alloc: Global,
+    front: &str,
+    part: &str,
+    times: usize,
+    rest: &str,
+) -> Result<String, AllocError> {
+    let mut out = String::from_str(alloc, front)?;
+    for _ in 0..times {
+        out.push_str(part)?;
+    }
+    out.push_str(rest)?;
+    Ok(out)
+}
+
+#[test]
+fn files_are_written_back(rt: HostRuntime) -> Result<(), Fail> {
+    for (file, text) in FILES {
+        assert!(rt; gives(rt.alloc(), file, text)?, "{file}");
+    }
+    Ok(())
+}
+
+/// A line of cells in every other column and of what follows them, and how it is laid: 35 cells and the
+/// end fill one line, with 36 the last stands on the next line, and no item is cut.
+const LINES: [(usize, &str, &str, &str); 3] = [
+    (34, "o!\n", "x = 69, y = 1, rule = B3/S23\n", "o!\n"),
+    (35, "o!\n", "x = 71, y = 1, rule = B3/S23\n", "\no!\n"),
+    (
+        34,
+        "o10bo!\n",
+        "x = 80, y = 1, rule = B3/S23\n",
+        "o\n10bo!\n",
+    ),
+];
+
+#[test]
+fn lines_have_seventy_bytes(rt: HostRuntime) -> Result<(), Fail> {
+    for (cells, rest, header, laid) in LINES {
+        let file = repeated(rt.alloc(), "x = 1, y = 1\n", "ob", cells, rest)?;
+        let text = repeated(rt.alloc(), header, "ob", cells, laid)?;
+        assert!(rt; gives(rt.alloc(), file.as_str(), text.as_str())?);
+    }
+    Ok(())
+}
+
+const ONE_CELL: &str = "x = 1, y = 1\no!\n";
+
+const ONE_CELL_WRITTEN: &str = "x = 1, y = 1, rule = B3/S23\no!\n";
+
+#[test]
+fn texts_have_limits(rt: HostRuntime) -> Result<(), Fail> {
+    let most = repeated(rt.alloc(), "", "#C\n", 64, ONE_CELL)?;
+    let text = repeated(rt.alloc(), "", "#C\n", 64, ONE_CELL_WRITTEN)?;
+    assert!(rt; gives(rt.alloc(), most.as_str(), text.as_str())?);
+    let more = repeated(rt.alloc(), "", "#C\n", 65, ONE_CELL)?;
+    assert!(rt; gives(rt.alloc(), more.as_str(), "text-limit")?);
+    let front = repeated(rt.alloc(), "#N ", "a", 200, "\n")?;
+    let most = repeated(rt.alloc(), front.as_str(), "", 0, ONE_CELL)?;
+    let text = repeated(rt.alloc(), front.as_str(), "", 0, ONE_CELL_WRITTEN)?;
+    assert!(rt; gives(rt.alloc(), most.as_str(), text.as_str())?);
+    // A line behind the header is no text.
+    let late = repeated(rt.alloc(), "x = 1, y = 1\n#C ", "b", 300, "\no!\n")?;
+    assert!(rt; gives(rt.alloc(), late.as_str(), ONE_CELL_WRITTEN)?);
+    Ok(())
+}
+
+#[test]
+fn files_have_a_limit(rt: HostRuntime) -> Result<(), Fail> {
+    let most = repeated(rt.alloc(), "x = 1, y = 1\no!", " ", 1_048_561, "")?;
+    let text = rewritten(rt.alloc(), most.as_bytes())?;
+    assert!(rt; text.as_slice() == ONE_CELL_WRITTEN.as_bytes());
+    let more = repeated(rt.alloc(), "x = 1, y = 1\no!", " ", 1_048_562, "")?;
+    let fault = rewritten(rt.alloc(), more.as_bytes())?;
+    assert!(rt; fault.as_slice() == b"too-long".as_slice());
+    assert!(rt; read_kept(rt.alloc(), more.as_bytes()).is_ok());
+    let taken = read_from(rt.alloc(), &mut SliceInlet::new(more.as_bytes()));
+    assert_eq!(rt; taken.err(), Some(ReadFault::Rle(RleFault::TooLong)));
+    Ok(())
+}
+
+#[test]
+fn streams_of_each_kind(rt: HostRuntime) -> Result<(), Fail> {
+    let file = b"x = 2, y = 1\n2o!\n";
+    let taken = read_from(rt.alloc(), &mut SliceInlet::new(file))
+        .ok()
+        .ok_or("it is read")?;
+    let mut reader = FromRead::new(io::Cursor::new(file.as_slice()));
+    let read = read_from(rt.alloc(), &mut reader).ok().ok_or("it is read")?;
+    assert!(rt; read.cells.same(&taken.cells));
+    assert_eq!(rt; read.cells.population(), 2);
+    let text = b"2o!\n";
+    let mut memory = MemoryOutlet::new(rt.alloc());
+    put_all(&mut memory, text).ok().ok_or("it is put")?;
+    assert_eq!(rt; memory.bytes(), text.as_slice());
+    let mut writer = FromWrite::new(Vec::new(rt.alloc()));
+    put_all(&mut writer, text).ok().ok_or("it is put")?;
+    Ok(())
+}
+
+#[test]
+fn records_are_made(rt: HostRuntime) -> Result<(), Fail> {
+    laws_of_files();
+    laws_of_lines_and_runs();
+    // Repeated cells count once, and the cells are moved to the corner.
+    let pattern = Pattern::from_cells(rt.alloc(), &[(7, -2), (5, -2), (7, -2)])?;
+    assert!(rt; pattern.within(500_000_000));
+    let record = plain(rt.alloc(), Rule::LIFE, &pattern)?;
+    let text = write(rt.alloc(), &record)?;
+    assert!(rt; text.as_slice() == b"x = 3, y = 1, rule = B3/S23\nobo!\n".as_slice());
+    let mut texts = Texts::new(rt.alloc());
+    texts.push(Text::from_slice(rt.alloc(), b"first")?)?;
+    for text in texts.as_slice() {
+        assert_eq!(rt; text.as_bytes(), b"first".as_slice());
+    }
+    assert_eq!(rt; RleFault::Memory.number(), 11);
+    Ok(())
+}

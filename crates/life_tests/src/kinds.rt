@@ -1,0 +1,143 @@
+//! Kinds and codes of small patterns, and each public call on them once.
+ghost use Rattle.std.specs.Prelude.{◌≤◌};
+ghost use Rattle.life_core.specs.Pattern.{IsWithin};
+
+use life_code::{
+    CodeFault, Coded, Kind, PERIOD_LIMIT, code, kind, kind_by, laws_of_codes, open_code,
+    same_object,
+};
+use life_core::{CellList, Orientation, PLANE, PackedRows, Pattern, Rule, generation};
+use life_rle::read;
+use std::alloc::Global;
+use std::test::Fail;
+
+const GLIDER: [(i64, i64); 5] = [(1, 0), (2, 1), (0, 2), (1, 2), (2, 2)];
+
+const BLOCK: [(i64, i64); 4] = [(0, 0), (1, 0), (0, 1), (1, 1)];
+
+/// The pattern with its code, which it must have.
+fn coded(alloc: Global, rule: &Rule, pattern: &Pattern, limit: u32) -> Result<Coded, Fail>
+    requires from_one { 1 ≤ limit }
+    requires few { limit ≤ PERIOD_LIMIT }
+    requires room { IsWithin 400_000_000 pattern.now }
+{
+    Ok(code(alloc, rule, pattern, limit)?.ok_or("no code")?)
+}
+
+/// Bodies of files, limits, and the kinds that the patterns have under them.
+const KINDS: [(&str, u32, Kind); 9] = [
+    ("!", 1, Kind::Empty),
+    ("2o$2o!", 1024, Kind::Still),
+    ("3o!", 2, Kind::Oscillator(2)),
+    ("bo$2bo$3o!", 4, Kind::Ship(4, 1, 1)),
+    ("bo$2bo$3o!", 3, Kind::Unresolved),
+    ("bo2bo$o$o3bo$4o!", 4, Kind::Ship(4, -2, 0)),
+    ("o!", 1024, Kind::Unresolved),
+    // It ends as a block.
+    ("2o$o!", 1024, Kind::Unresolved),
+    // It ends as four blinkers.
+    ("3o$bo!", 1024, Kind::Unresolved),
+];
+
+#[test]
+fn kinds_of_small_patterns(rt: HostRuntime) -> Result<(), Fail> {
+    for (body, limit, expected) in KINDS {
+        let file = format!(in rt.alloc(); "x = 0, y = 0\n{body}\n")?;
+        let pattern = read(rt.alloc(), file.as_bytes())?.cells;
+        assert!(rt; 1 <= limit && limit <= PERIOD_LIMIT && pattern.within(400_000_000));
+        let listed = kind_by::<_, CellList<_>>(rt.alloc(), &Rule::LIFE, &pattern, limit)?;
+        assert_eq!(rt; listed, expected);
+        let packed = kind_by::<_, PackedRows<_>>(rt.alloc(), &Rule::LIFE, &pattern, limit)?;
+        assert_eq!(rt; packed, expected);
+    }
+    laws_of_codes();
+    Ok(())
+}
+
+#[test]
+fn a_code_needs_a_box_of_40(rt: HostRuntime) -> Result<(), Fail> {
+    let fits = [
+        (0, 0),
+        (1, 0),
+        (38, 0),
+        (39, 0),
+        (0, 1),
+        (1, 1),
+        (38, 1),
+        (39, 1),
+    ];
+    let fits = Pattern::from_cells(rt.alloc(), &fits)?;
+    assert!(rt; fits.within(400_000_000));
+    let fits = coded(rt.alloc(), &Rule::LIFE, &fits, 1)?;
+    assert_eq!(rt; fits.text(), b"xs8_33yw33".as_slice());
+    let wider = [
+        (0, 0),
+        (1, 0),
+        (39, 0),
+        (40, 0),
+        (0, 1),
+        (1, 1),
+        (39, 1),
+        (40, 1),
+    ];
+    let wider = Pattern::from_cells(rt.alloc(), &wider)?;
+    assert!(rt; wider.within(400_000_000));
+    assert_eq!(rt; kind(rt.alloc(), &Rule::LIFE, &wider, 1)?, Kind::Still);
+    assert!(rt; code(rt.alloc(), &Rule::LIFE, &wider, 1)?.is_none());
+    Ok(())
+}
+
+#[test]
+fn other_texts_are_not_opened(rt: HostRuntime) {
+    for (text, limit, fault) in [
+        ("xs4_330", 1, CodeFault::BadText),
+        ("xs4_033", 1, CodeFault::BadText),
+        ("xs4_33z", 1, CodeFault::BadText),
+        ("xs04_33", 1, CodeFault::BadText),
+        ("xs4_", 1, CodeFault::BadText),
+        ("", 1, CodeFault::BadText),
+        ("xp2_111", 2, CodeFault::NotCanonical),
+        ("xp2_111", 1, CodeFault::NotWithinLimit),
+        ("xp2_33", 2, CodeFault::NotCanonical),
+        ("xs5_33", 1, CodeFault::NotCanonical),
+        ("xq4_153", 3, CodeFault::NotWithinLimit),
+    ] {
+        assert!(rt; 1 <= limit && limit <= PERIOD_LIMIT);
+        let opened = open_code(rt.alloc(), &Rule::LIFE, text.as_bytes(), limit);
+        assert_eq!(rt; opened.err(), Some(fault), "of {text}");
+    }
+    for (fault, number, name) in [
+        (CodeFault::BadText, 1, "bad-text"),
+        (CodeFault::NotCanonical, 2, "not-canonical"),
+        (CodeFault::NotWithinLimit, 3, "not-within-limit"),
+        (CodeFault::Memory, 4, "memory"),
+    ] {
+        assert_eq!(rt; fault.number(), number);
+        assert_eq!(rt; fault.name(), name);
+    }
+}
+
+#[test]
+fn one_object_at_another_phase_and_limit(rt: HostRuntime) -> Result<(), Fail> {
+    let glider = Pattern::from_cells(rt.alloc(), &GLIDER)?;
+    assert!(rt; glider.within(PLANE - 3));
+    let later = generation(rt.alloc(), &Rule::LIFE, &glider, 3)?;
+    let turned = later.turned(rt.alloc(), Orientation::O4)?;
+    assert!(rt; glider.within(400_000_000) && turned.within(400_000_000));
+    let glider = coded(rt.alloc(), &Rule::LIFE, &glider, 4)?;
+    let turned = coded(rt.alloc(), &Rule::LIFE, &turned, 100)?;
+    assert!(rt; same_object(&glider, &turned));
+    Ok(())
+}
+
+#[test]
+fn other_rules_make_other_objects(rt: HostRuntime) -> Result<(), Fail> {
+    let block = Pattern::from_cells(rt.alloc(), &BLOCK)?;
+    assert!(rt; block.within(400_000_000));
+    let under_life = coded(rt.alloc(), &Rule::LIFE, &block, 1)?;
+    let other = coded(rt.alloc(), &Rule::read(b"B36/S23")?, &block, 1)?;
+    assert_eq!(rt; under_life.text(), b"xs4_33".as_slice());
+    assert_eq!(rt; other.text(), b"xs4_33".as_slice());
+    assert!(rt; !same_object(&under_life, &other));
+    Ok(())
+}

@@ -5,6 +5,7 @@ The cells are drawn one in three in the rows of a square, until there are CELLS 
 file on every machine: the numbers come from a generator of our own (Marsaglia's xorshift, 64 bits).
 
 soup.py --long BYTES writes a file of exactly that many bytes with as many items as fit.
+soup.py --sparse SIDE PERCENT SEED writes a square of that side in which so many cells of 100 are live.
 soup.py --field OBJECTS SEED writes a field of scattered blocks, blinkers and gliders, each in a square of 6 by 6 of its own.
 """
 import sys
@@ -37,6 +38,12 @@ def rows_of(cells, seed):
             row.append("o" if live else "b")
         rows.append("".join(row))
     return rows
+
+
+def sparse(side, percent, seed):
+    """Rows of a square in which each cell is live with that chance."""
+    source = numbers(seed)
+    return ["".join("o" if next(source) % 100 < percent else "b" for _ in range(side)) for _ in range(side)]
 
 
 OBJECTS = [["oo", "oo"], ["ooo"], ["bo", "bbo", "ooo"]]
@@ -94,6 +101,8 @@ def main():
         return
     if sys.argv[1] == "--field":
         rows = field_of(int(sys.argv[2]), int(sys.argv[3]))
+    elif sys.argv[1] == "--sparse":
+        rows = sparse(int(sys.argv[2]), int(sys.argv[3]), int(sys.argv[4]))
     else:
         rows = rows_of(int(sys.argv[1]), int(sys.argv[2]))
     sys.stdout.write("x = %d, y = %d\n" % (max(len(row) for row in rows), len(rows)) + body_of(rows))

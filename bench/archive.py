@@ -1,0 +1,132 @@
+#!/usr/bin/env python3
+"""Times the archive's calls beside python's sqlite3 module doing the same statements on the same tables, and prints a table.
+
+    bench/archive.py
+
+The program is bench/archive.rattle. It is no crate of the repository, so that the gate does not prove it each time: it is
+built here in a folder of its own, over the crates as they stand (which are proved on the way, where they are not yet), and
+runs there beside python's. Both files lie in that folder; both write a log and wait for the disk at each commit.
+"""
+import os
+import shutil
+import sqlite3
+import subprocess
+import sys
+import tempfile
+import time
+
+HERE = os.path.dirname(os.path.abspath(__file__))
+TOP = os.path.dirname(HERE)
+SIZES = [100, 10_000, 100_000]
+CALLS = [("add", "deposits"), ("number", "look-ups by number"), ("token", "look-ups by token"), ("count", "counts"), ("page", "pages of 100")]
+RLE = b"x = 3, y = 3, rule = B3/S23\nbo$2bo$3o!\n"
+
+TABLES = [
+    "CREATE TABLE layout (version INTEGER NOT NULL) STRICT",
+    "CREATE TABLE deposits (id INTEGER PRIMARY KEY, member TEXT NOT NULL, token TEXT NOT NULL, rule TEXT NOT NULL, population INTEGER NOT NULL CHECK (population >= 0), rle BLOB NOT NULL, UNIQUE (member, token)) STRICT",
+]
+NEWEST = "SELECT id FROM deposits ORDER BY id DESC LIMIT 1"
+SHOW = "SELECT id, member, token, rle FROM deposits WHERE id = ?1 ORDER BY id"
+FIND = "SELECT id, member, token, rle FROM deposits WHERE member = ?1 AND token = ?2 ORDER BY id"
+PAGE = "SELECT id, member, population, rule FROM deposits WHERE id > ?1 ORDER BY id LIMIT 100"
+ADD = "INSERT INTO deposits (id, member, token, rule, population, rle) VALUES (?1, ?2, ?3, ?4, ?5, ?6)"
+
+
+def python_calls(conn):
+    """Each call as a function of a number."""
+
+    def add(number):
+        rows = conn.execute(NEWEST).fetchall()
+        conn.execute(ADD, ((rows[0][0] if rows else 0) + 1, "ann", f"t{number}", "B3/S23", 5, RLE))
+
+    return {
+        "add": add,
+        "number": lambda number: conn.execute(SHOW, (number,)).fetchall(),
+        "token": lambda number: conn.execute(FIND, ("ann", f"t{number}")).fetchall(),
+        "count": lambda number: conn.execute(NEWEST).fetchall(),
+        "page": lambda number: conn.execute(PAGE, (number,)).fetchall(),
+    }
+
+
+def python_times(store, path, times):
+    conn = sqlite3.connect(path, isolation_level=None)
+    for text in ["PRAGMA journal_mode=WAL", "PRAGMA synchronous=FULL", "PRAGMA foreign_keys=ON", *TABLES]:
+        conn.execute(text)
+    calls = python_calls(conn)
+    kept = 0
+    for size in SIZES:
+        for number in range(kept, size):
+            calls["add"](number)
+        for name, numbers in [("add", range(size, size + 200)), ("number", range(1, 101)), ("token", range(1, 101)), ("count", range(1000)), ("page", range(100))]:
+            start = time.perf_counter()
+            for number in numbers:
+                calls[name](number)
+            times[store, size, name] = (time.perf_counter() - start) / len(numbers) * 1e9
+        kept = size + 200
+    conn.close()
+
+
+def built(folder):
+    """The program, built over the repository's crates."""
+    os.makedirs(f"{folder}/crates/archive_bench/src")
+    shutil.copy(f"{HERE}/archive.rattle", f"{folder}/crates/archive_bench/src/main.rt")
+    with open(f"{TOP}/crates.txt") as file:
+        lines = file.read()
+    with open(f"{folder}/crates.txt", "w") as file:
+        file.write(lines + "archive_bench: life_core life_rle life_store sqlite\n")
+    for name in os.listdir(f"{TOP}/crates"):
+        os.symlink(f"{TOP}/crates/{name}", f"{folder}/crates/{name}")
+    done = subprocess.run(["rt", "run"], cwd=f"{folder}/crates/archive_bench", capture_output=True, text=True)
+    program = f"{folder}/crates/archive_bench/out/archive_bench"
+    if not os.path.exists(program):
+        sys.exit(done.stdout[-2000:] + done.stderr[-2000:])
+    return program
+
+
+def life_times(program, folder, times):
+    done = subprocess.run([program], cwd=folder, capture_output=True, text=True, check=True)
+    for line in done.stdout.splitlines():
+        store, size, name, each, ok = line.split()
+        if ok != "true":
+            sys.exit(line)
+        times[store, int(size), name] = float(each)
+
+
+def opened(path):
+    """What SQLite says of the file that life wrote."""
+    conn = sqlite3.connect(path)
+    (answer,) = conn.execute("PRAGMA integrity_check").fetchone()
+    rows = conn.execute("SELECT count(*), min(id), max(id), min(rule), max(rule), sum(population) FROM deposits").fetchone()
+    tables = [name for (name,) in conn.execute("SELECT name FROM sqlite_schema WHERE type = 'table' ORDER BY name")]
+    conn.close()
+    return f"SQLite on the file that life wrote: integrity_check {answer}; tables {', '.join(tables)}; deposits {rows}"
+
+
+def main():
+    ours, theirs = {}, {}
+    with tempfile.TemporaryDirectory() as folder:
+        program = built(folder)
+        os.makedirs(f"{folder}/life")
+        life_times(program, f"{folder}/life", ours)
+        found = opened(f"{folder}/life/archive.db")
+        python_times("memory", ":memory:", theirs)
+        python_times("file", f"{folder}/python.db", theirs)
+    print(found)
+    print(f"python {sys.version.split()[0]}, SQLite {sqlite3.sqlite_version}, load {os.getloadavg()[0]:.1f}")
+    print()
+    print("| calls | kept | life, memory, a second | python | life / python, time | life, file, a second | python | life / python, time |")
+    print("| --- | --- | --- | --- | --- | --- | --- | --- |")
+    for name, words in CALLS:
+        for size in SIZES:
+            cells = []
+            for store in ("memory", "file"):
+                life, other = ours[store, size, name], theirs[store, size, name]
+                cells += [f"{1e9 / life:,.0f}", f"{1e9 / other:,.0f}", f"{life / other:.2f}"]
+            print(f"| {words} | {size:,} | " + " | ".join(cells) + " |")
+    print()
+    for store in ("memory", "file"):
+        grown = ", ".join(f"{words} {ours[store, SIZES[-1], name] / ours[store, SIZES[0], name]:.1f}" for name, words in CALLS)
+        print(f"At 100,000 kept a call takes, beside one at 100, in {'memory' if store == 'memory' else 'a file'}: {grown} times as long.")
+
+
+main()

@@ -18,6 +18,7 @@ import time
 HERE = os.path.dirname(os.path.abspath(__file__))
 TOP = os.path.dirname(HERE)
 SIZES = [100, 10_000, 100_000]
+BELOW = ["life_core", "life_rle", "life_code", "life_census", "life_store"]
 CALLS = [("add", "deposits"), ("number", "look-ups by number"), ("token", "look-ups by token"), ("count", "counts"), ("page", "pages of 100")]
 RLE = b"x = 3, y = 3, rule = B3/S23\nbo$2bo$3o!\n"
 
@@ -71,11 +72,11 @@ def built(folder):
     os.makedirs(f"{folder}/crates/archive_bench/src")
     shutil.copy(f"{HERE}/archive.rattle", f"{folder}/crates/archive_bench/src/main.rt")
     with open(f"{TOP}/crates.txt") as file:
-        lines = file.read()
+        lines = [line for line in file.read().split("\n") if line.split(":")[0] in BELOW]
     with open(f"{folder}/crates.txt", "w") as file:
-        file.write(lines + "archive_bench: life_core life_rle life_store sqlite\n")
-    for name in os.listdir(f"{TOP}/crates"):
-        os.symlink(f"{TOP}/crates/{name}", f"{folder}/crates/{name}")
+        file.write("\n".join(lines) + "\narchive_bench: life_core life_rle life_store sqlite\n")
+    for name in BELOW:
+        subprocess.run(["cp", "-a", f"{TOP}/crates/{name}", f"{folder}/crates/{name}"], check=True)
     done = subprocess.run(["rt", "run"], cwd=f"{folder}/crates/archive_bench", capture_output=True, text=True)
     program = f"{folder}/crates/archive_bench/out/archive_bench"
     if not os.path.exists(program):

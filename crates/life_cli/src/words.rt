@@ -12,6 +12,48 @@ use std::alloc::{AllocError, Global};
 use std::convert::AsStr;
 use std::{env, io};
 
+// What the help of each command says after its words: what is read, printed and refused, and an example.
+const GENERATION_HELP: &str = "\
+Reads:   a pattern file (RLE) on standard input
+Prints:  generation N as canonical RLE, without its texts, moved to column 0 and row 0
+Refuses: out-of-limit (N over 1024), bad-pattern NAME, unreadable, unavailable
+Example: life generation 1 < glider.rle";
+
+const KIND_HELP: &str = "\
+Reads:   a pattern file (RLE) on standard input
+Prints:  'empty', 'unresolved', 'still CODE', 'oscillator PERIOD CODE' or 'ship PERIOD DX DY CODE';
+         CODE is '-' where no phase fits in a box of 40 by 40
+Refuses: out-of-limit (LIMIT 0 or over 1024), bad-pattern NAME, unreadable, unavailable
+Example: life kind 4 < glider.rle";
+
+const OBJECT_HELP: &str = "\
+Reads:   nothing
+Prints:  the pattern that CODE spells as canonical RLE
+Refuses: out-of-limit (LIMIT 0 or over 1024), bad-rule, bad-code NAME, unavailable
+Example: life object B3/S23 xs6_696 1";
+
+const CENSUS_HELP: &str = "\
+Reads:   a pattern file (RLE) on standard input
+Prints:  a line 'CODE,COUNT' for each code in byte order, after 'code,count', and 'unresolved,COUNT'
+Refuses: out-of-limit (N over 1024, LIMIT 0 or over 1024), bad-pattern NAME, unreadable, unavailable
+Example: life census 0 2 < traffic-light.rle";
+
+const DEPOSIT_HELP: &str = "\
+Reads:   a pattern file (RLE) on standard input, and the archive F, which is made where it is not there
+Prints:  'deposit NUMBER'; the same words with the same pattern have the first number again
+Refuses: bad-member, bad-token, bad-pattern NAME, token-reused, full, not-ours, unreadable, unavailable
+Example: life deposit --db club.db ann t1 < glider.rle";
+
+const SERVE_HELP: &str = "\
+Reads:   HTTP requests of N connections, one after the other, and the archive F, which is made where it is not there
+Prints:  'listening on 127.0.0.1:P', and a line for each connection that ended early on standard error
+Refuses: not-ours, no-port, unavailable
+Example: life serve --db club.db --port 8080 --connections 100";
+
+const LIFE_HELP: &str = "\
+A refusal is one line 'refused: NAME' on standard error, with status 1. Bad words, and a request for help, end with status 2.
+Example: life generation 1 < glider.rle";
+
 /// What the program is to do.
 #[derive(Clone, Copy, Debug, PartialEq, Eq)]
 pub enum Job<'a> {
@@ -117,6 +159,7 @@ fn generation_command<'a>(alloc: Global) -> Result<Command<'a>, AllocError>
 {
     Command::new(alloc, "generation")
         .about("Prints generation N of the pattern on standard input")
+        .after_help(GENERATION_HELP)
         .arg(generation_arg(alloc))
 }
 
@@ -134,6 +177,7 @@ fn kind_command<'a>(alloc: Global) -> Result<Command<'a>, AllocError>
 {
     Command::new(alloc, "kind")
         .about("Prints the kind and the code of the pattern on standard input")
+        .after_help(KIND_HELP)
         .arg(limit_arg(alloc))
 }
 
@@ -143,6 +187,7 @@ fn object_command<'a>(alloc: Global) -> Result<Command<'a>, AllocError>
 {
     Command::new(alloc, "object")
         .about("Prints the pattern of a code")
+        .after_help(OBJECT_HELP)
         .arg(text_arg(alloc, "RULE").help("The rule, as B3/S23"))?
         .arg(text_arg(alloc, "CODE").help("The code, as xs4_33"))?
         .arg(limit_arg(alloc))
@@ -153,9 +198,8 @@ fn census_command<'a>(alloc: Global) -> Result<Command<'a>, AllocError>
     ensures local { IfOk result (λ command. (fields_of command).has_globals ≡ false) }
 {
     Command::new(alloc, "census")
-        .about(
-            "Prints how many clusters generation N of the pattern on standard input has of each code",
-        )
+        .about("Prints how many clusters of generation N of the pattern have each code")
+        .after_help(CENSUS_HELP)
         .arg(generation_arg(alloc))?
         .arg(limit_arg(alloc))
 }
@@ -192,6 +236,7 @@ fn deposit_command<'a>(alloc: Global) -> Result<Command<'a>, AllocError>
 {
     Command::new(alloc, "deposit")
         .about("Keeps the pattern on standard input in an archive")
+        .after_help(DEPOSIT_HELP)
         .arg(file_arg(alloc))?
         .arg(member_arg(alloc))?
         .arg(token_arg(alloc))
@@ -225,6 +270,7 @@ fn serve_command<'a>(alloc: Global) -> Result<Command<'a>, AllocError>
 {
     Command::new(alloc, "serve")
         .about("Serves the messages of an archive on 127.0.0.1")
+        .after_help(SERVE_HELP)
         .arg(file_arg(alloc))?
         .arg(port_arg(alloc))?
         .arg(connections_arg(alloc))
@@ -259,6 +305,7 @@ fn life_command<'a>(alloc: Global) -> Result<Command<'a>, AllocError>
 {
     let command = Command::new(alloc, "life")
         .about("An archive of Game of Life patterns")
+        .after_help(LIFE_HELP)
         .subcommand_required(true);
     let command = with_command(command, generation_command(alloc)?)?;
     let command = with_command(command, kind_command(alloc)?)?;

@@ -1,8 +1,8 @@
 //! Pattern files as they are read and written, and each public call once.
 use life_core::{Pattern, Rule};
 use life_rle::{
-    FromRead, FromWrite, MemoryOutlet, ReadFault, RleFault, SliceInlet, Text, Texts, laws_of_files,
-    laws_of_lines_and_runs, plain, put_all, read, read_from, read_kept, write,
+    FromRead, FromWrite, MemoryOutlet, PieceInlet, ReadFault, RleFault, SliceInlet, Text, Texts,
+    laws_of_files, laws_of_lines_and_runs, plain, put_all, read, read_from, read_kept, write,
 };
 use std::alloc::{AllocError, Global};
 use std::io;
@@ -62,6 +62,22 @@ fn gives(alloc: Global, file: &str, text: &str) -> Result<bool, Fail> {
     Ok(same && rewritten(alloc, &returned)?.as_slice() == text.as_bytes())
 }
 
+/// Whether this is written of a stream with these bytes, which come in pieces of each size.
+fn gives_in_pieces(alloc: Global, file: &[u8], text: &str) -> Result<bool, Fail> {
+    for piece in [1, 2, 7, 4_096] {
+        let mut input = PieceInlet::new(file.to_vec(alloc)?, piece, None);
+        let written = match read_from(alloc, &mut input) {
+            Ok(record) => write(alloc, &record)?,
+            Err(ReadFault::Rle(fault)) => fault.name().as_bytes().to_vec(alloc)?,
+            Err(ReadFault::Unreadable) => return Ok(false),
+        };
+        if written.as_slice() != text.as_bytes() {
+            return Ok(false);
+        }
+    }
+    Ok(true)
+}
+
 /// The first text, the second so many times, and the third.
 fn repeated(
     alloc: Global,
@@ -82,6 +98,16 @@ fn repeated(
 fn files_are_written_back(rt: HostRuntime) -> Result<(), Fail> {
     for (file, text) in FILES {
         assert!(rt; gives(rt.alloc(), file, text)?, "{file}");
+    }
+    Ok(())
+}
+
+#[test]
+fn streams_may_come_in_pieces(rt: HostRuntime) -> Result<(), Fail> {
+    for (file, text) in FILES {
+        let returned = with_carriage_returns(rt.alloc(), file.as_bytes())?;
+        assert!(rt; gives_in_pieces(rt.alloc(), file.as_bytes(), text)?, "{file}");
+        assert!(rt; gives_in_pieces(rt.alloc(), &returned, text)?, "{file}");
     }
     Ok(())
 }
@@ -141,6 +167,10 @@ fn files_have_a_limit(rt: HostRuntime) -> Result<(), Fail> {
     assert!(rt; read_kept(rt.alloc(), more.as_bytes()).is_ok());
     let taken = read_from(rt.alloc(), &mut SliceInlet::new(more.as_bytes()));
     assert_eq!(rt; taken.err(), Some(ReadFault::Rle(RleFault::TooLong)));
+    // The length is judged before the header.
+    let headless = repeated(rt.alloc(), "x = 1\n", " ", 1_048_571, "")?;
+    let fault = rewritten(rt.alloc(), headless.as_bytes())?;
+    assert!(rt; fault.as_slice() == b"too-long".as_slice());
     Ok(())
 }
 

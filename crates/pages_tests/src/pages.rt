@@ -396,28 +396,41 @@ fn no_take_before_the_reply(rt: HostRuntime) -> Result<(), Fail> {
     Ok(())
 }
 
-/// A deposit whose body has so many bytes: one live cell, and blanks behind the end of the pattern.
+/// The most takes that are made of a stream.
+const TAKES: usize = 1_048_576;
+
+/// A deposit of so many bytes, head and body: one live cell, and line ends behind the end of the pattern.
 fn long_deposit(alloc: Global, bytes: usize) -> Result<Vec<u8>, Fail> {
+    let front = "POST /deposits HTTP/1.1\r\nx-member: ann\r\nx-token: t1\r\ncontent-length: 1048000\r\n\r\n";
+    let body = bytes.saturating_sub(front.len());
     let head = format!(in alloc;
-        "POST /deposits HTTP/1.1\r\nx-member: ann\r\nx-token: t1\r\ncontent-length: {bytes}\r\n\r\n"
+        "POST /deposits HTTP/1.1\r\nx-member: ann\r\nx-token: t1\r\ncontent-length: {body}\r\n\r\n"
     )?;
     let mut stream = head.as_bytes().to_vec(alloc)?;
-    let cell = b"x = 1, y = 1\no!";
-    stream.extend_from_slice(cell)?;
-    for _ in cell.len()..bytes {
+    stream.extend_from_slice(b"x = 1, y = 1\no!")?;
+    for _ in stream.len()..bytes {
         stream.push(b'\n')?;
     }
     Ok(stream)
 }
 
+/// Streams that come byte by byte, and how `serve` ends: the last take finds the end, or is one too many.
+const BYTE_BY_BYTE: [(usize, Result<(), IoFault>); 2] =
+    [(TAKES - 1, Ok(())), (TAKES, Err(IoFault::TooManyReads))];
+
 #[test]
 fn a_long_body_comes_byte_by_byte(rt: HostRuntime) -> Result<(), Fail> {
-    let mut archive = archive(rt.alloc(), 2)?;
-    let mut input = PieceInlet::new(long_deposit(rt.alloc(), 300_000)?, 1, None);
-    let mut output = MemoryOutlet::new(rt.alloc());
-    let done = serve(rt.alloc(), &mut archive, &mut input, &mut output);
-    assert!(rt; done == Ok(()));
-    assert_eq!(rt; output.bytes(), DEPOSITED.as_bytes());
+    for (bytes, wanted) in BYTE_BY_BYTE {
+        let mut archive = archive(rt.alloc(), 2)?;
+        let stream = long_deposit(rt.alloc(), bytes)?;
+        assert_eq!(rt; stream.len(), bytes);
+        let mut input = PieceInlet::new(stream, 1, None);
+        let mut output = MemoryOutlet::new(rt.alloc());
+        let done = serve(rt.alloc(), &mut archive, &mut input, &mut output);
+        assert!(rt; done == wanted);
+        assert_eq!(rt; output.bytes(), DEPOSITED.as_bytes());
+        assert_eq!(rt; rows(&mut archive), 1);
+    }
     Ok(())
 }
 

@@ -1,17 +1,16 @@
-//! The archive's requests and replies: worked rows, one by one and as one list, and a stop at each call of a file.
+//! Worked requests and their replies, one by one and as one list.
 use life_census::Row;
 use life_code::Kind;
 use life_desk::{
     Bytes, Refusal, Reply, Request, Shown, answer, answer_all, law_of_the_archive, laws_of_runs,
 };
 use life_rle::Text;
-use life_store::{Archive, Listed, OpenFault};
-use sqlite::{Alter, FileStore, Files, MemStore};
-use sqlite_disk::{Disk, Fuse, Memory};
+use life_store::{Archive, Listed};
+use sqlite::{Alter, MemStore};
 use std::alloc::Global;
 use std::test::Fail;
 
-const GLIDER: &str = "x = 3, y = 3\nbo$2bo$3o!\n";
+pub const GLIDER: &str = "x = 3, y = 3\nbo$2bo$3o!\n";
 
 /// The same glider, spelled otherwise.
 const GLIDER_AGAIN: &str = "x = 3, y = 3\nbo$2bo$ooo!\n";
@@ -20,17 +19,17 @@ const GLIDER_SHOWN: &str = "x = 3, y = 3, rule = B3/S23\nbo$2bo$3o!\n";
 
 const BLOCK: &str = "x = 2, y = 2\n2o$2o!\n";
 
-const BLOCK_SHOWN: &str = "x = 2, y = 2, rule = B3/S23\n2o$2o!\n";
+pub const BLOCK_SHOWN: &str = "x = 2, y = 2, rule = B3/S23\n2o$2o!\n";
 
 /// The glider without its end.
 const NO_END: &str = "x = 3, y = 3\nbo$2bo$3o\n";
 
 /// Two blocks, which are two clusters.
-const FIELD: &str = "x = 6, y = 2\n2o2b2o$2o2b2o!\n";
+pub const FIELD: &str = "x = 6, y = 2\n2o2b2o$2o2b2o!\n";
 
 /// A request, as a row of a table.
 #[derive(Clone, Copy)]
-enum Asked {
+pub enum Asked {
     Deposit(&'static str, &'static str, &'static str),
     Show(u64),
     ListAfter(u64),
@@ -43,7 +42,7 @@ enum Asked {
 }
 
 /// Deposits in an archive of capacity 2.
-const DEPOSITS: [(Asked, &str); 20] = [
+pub const DEPOSITS: [(Asked, &str); 20] = [
     (Asked::Deposit("ann", "t1", GLIDER), "deposited 1"),
     (Asked::Deposit("ann", "t1", GLIDER_AGAIN), "deposited 1"),
     (Asked::Deposit("ann", "t1", BLOCK), "refused 5"),
@@ -193,7 +192,7 @@ fn told(alloc: Global, reply: &Reply) -> Result<String, Fail> {
 }
 
 /// What an archive answers to a row.
-fn told_by<S: Alter>(
+pub fn told_by<S: Alter>(
     alloc: Global,
     archive: &mut Archive<S>,
     asked: Asked,
@@ -262,229 +261,61 @@ fn censuses_are_answered(rt: HostRuntime) -> Result<(), Fail> {
     Ok(())
 }
 
-/// How many lines are listed behind a number, and the number of the last of them.
-fn listed(
-    alloc: Global,
-    archive: &mut Archive<MemStore>,
-    id: u64,
-) -> Result<(usize, Option<u64>), Fail> {
-    match answer(archive, alloc, Request::ListAfter(id)) {
+/// A hundred and one deposits, and two lists of them.
+fn many(alloc: Global) -> Result<Vec<Request>, Fail> {
+    let mut requests = Vec::new(alloc);
+    for n in 1..102u64 {
+        let token = format!(in alloc; "t{n}")?;
+        requests.push(Request::Deposit(
+            text(alloc, "ann")?,
+            text(alloc, token.as_str())?,
+            bytes(alloc, GLIDER)?,
+        ))?;
+    }
+    requests.push(Request::ListAfter(0))?;
+    requests.push(Request::ListAfter(100))?;
+    Ok(requests)
+}
+
+/// How many deposits a list has, and the number of the last of them.
+fn listed(reply: &Reply) -> Option<(usize, u64)> {
+    match reply {
         Reply::Deposits(lines) => {
             let lines = lines.as_slice();
-            Ok((lines.len(), lines.last().map(|line| line.id)))
+            Some((lines.len(), lines.last()?.id))
         }
-        _ => Err("no list".into()),
+        _ => None,
     }
+}
+
+/// Whether these are the replies to `many`.
+fn are_of_many(replies: &[Reply]) -> bool {
+    for (at, reply) in replies.iter().enumerate() {
+        let right = match at {
+            0..=100 => matches!(reply, Reply::Deposited(id) if *id == at as u64 + 1),
+            101 => listed(reply) == Some((100, 100)),
+            _ => listed(reply) == Some((1, 101)),
+        };
+        if !right {
+            return false;
+        }
+    }
+    replies.len() == 103
 }
 
 #[test]
 fn a_list_has_at_most_a_hundred_lines(rt: HostRuntime) -> Result<(), Fail> {
     let alloc = rt.alloc();
-    let mut archive = archive(alloc, 200)?;
-    for n in 1..102u64 {
-        let token = format!(in alloc; "t{n}")?;
-        let deposit = Request::Deposit(
-            text(alloc, "ann")?,
-            text(alloc, token.as_str())?,
-            bytes(alloc, GLIDER)?,
-        );
-        assert!(rt;
-            matches!(answer(&mut archive, alloc, deposit), Reply::Deposited(id) if id == n)
-        );
+    let mut first = archive(alloc, 200)?;
+    let mut replies = Vec::new(alloc);
+    for asked in many(alloc)? {
+        replies.push(answer(&mut first, alloc, asked))?;
     }
-    assert_eq!(rt; listed(alloc, &mut archive, 0)?, (100, Some(100)));
-    assert_eq!(rt; listed(alloc, &mut archive, 100)?, (1, Some(101)));
-    Ok(())
-}
-
-// ---- files
-
-type Stopping = Fuse<Memory>;
-
-/// Two empty files that stop after so many calls.
-fn blank(alloc: Global, log_calls: u64, db_calls: u64) -> Files<Stopping> {
-    Files {
-        log: Fuse::new(Memory::new(alloc), log_calls),
-        db: Fuse::new(Memory::new(alloc), db_calls),
-    }
-}
-
-/// What a file holds, in a file that never stops.
-fn copied(alloc: Global, file: &Stopping) -> Result<Stopping, Fail> {
-    let mut copy = Memory::new(alloc);
-    if copy.write_at(0, file.inner().bytes()).is_err() || copy.sync().is_err() {
-        return Err("the file was not copied".into());
-    }
-    Ok(Fuse::new(copy, u64::MAX))
-}
-
-fn again(alloc: Global, files: &Files<Stopping>) -> Result<Files<Stopping>, Fail> {
-    Ok(Files {
-        log: copied(alloc, &files.log)?,
-        db: copied(alloc, &files.db)?,
-    })
-}
-
-fn open(
-    alloc: Global,
-    files: Files<Stopping>,
-    capacity: u64,
-) -> Result<Archive<FileStore<Stopping>>, (OpenFault, Files<Stopping>)> {
-    if !files.may_be_used() {
-        return Err((OpenFault::Unavailable, files));
-    }
-    Archive::open_files(alloc, files, capacity)
-}
-
-fn close(archive: Archive<FileStore<Stopping>>) -> Files<Stopping> {
-    match archive.close_files() {
-        Ok(files) => files,
-        Err((_, files)) => files,
-    }
-}
-
-#[test]
-fn a_smaller_capacity_keeps_what_there_is(rt: HostRuntime) -> Result<(), Fail> {
-    let alloc = rt.alloc();
-    let Ok(mut first) = open(alloc, blank(alloc, u64::MAX, u64::MAX), 2) else {
-        return Err("the archive was not opened".into());
+    assert!(rt; are_of_many(&replies));
+    let mut second = archive(alloc, 200)?;
+    let Ok(replies) = answer_all(&mut second, alloc, many(alloc)?) else {
+        return Err("no room for the replies".into());
     };
-    for (asked, expected) in &DEPOSITS[..7] {
-        let text = told_by(alloc, &mut first, *asked)?;
-        assert_eq!(rt; text.as_str(), *expected);
-    }
-    let Ok(mut second) = open(alloc, close(first), 1) else {
-        return Err("the archive was not opened again".into());
-    };
-    for (asked, expected) in [
-        (Asked::Deposit("ann", "t1", GLIDER), "deposited 1"),
-        (Asked::Deposit("ann", "t4", GLIDER), "refused 10"),
-        (Asked::Show(2), BLOCK_SHOWN),
-    ] {
-        let text = told_by(alloc, &mut second, asked)?;
-        assert_eq!(rt; text.as_str(), expected);
-    }
-    Ok(())
-}
-
-const DEPOSIT: Asked = Asked::Deposit("ann", "t1", FIELD);
-
-const CENSUS: Asked = Asked::Census("c1", 1, 0, 1);
-
-/// Whether an archive answers this to a row.
-fn tells(
-    alloc: Global,
-    archive: &mut Archive<FileStore<Stopping>>,
-    asked: Asked,
-    expected: &str,
-) -> Result<bool, Fail> {
-    Ok(told_by(alloc, archive, asked)?.as_str() == expected)
-}
-
-/// How many deposits and censuses are kept.
-fn kept(archive: &mut Archive<FileStore<Stopping>>) -> Option<(u64, u64)> {
-    let deposits = archive.count_deposits().ok()?;
-    let censuses = archive.count_censuses().ok()?;
-    Some((deposits, censuses))
-}
-
-/// Whether the deposit was answered by its number, and whether the census was. The run ends at the
-/// first that was not.
-fn act(alloc: Global, archive: &mut Archive<FileStore<Stopping>>) -> Result<(bool, bool), Fail> {
-    if !tells(alloc, archive, DEPOSIT, "deposited 1")? {
-        return Ok((false, false));
-    }
-    Ok((true, tells(alloc, archive, CENSUS, "counted 1")?))
-}
-
-/// Whether what is kept is what was answered, or one more.
-fn fits(kept: (u64, u64), done: (bool, bool)) -> bool {
-    let least = (u64::from(done.0), u64::from(done.1));
-    least.0 <= kept.0 && kept.0 <= 1 && least.1 <= kept.1 && kept.1 <= kept.0
-}
-
-/// Whether a census that is kept is whole.
-fn is_whole(
-    alloc: Global,
-    archive: &mut Archive<FileStore<Stopping>>,
-    censuses: u64,
-) -> Result<bool, Fail> {
-    if censuses == 0 {
-        return Ok(true);
-    }
-    tells(
-        alloc,
-        archive,
-        Asked::ShowCensus(1),
-        "census 1 of 1 at 0 within 1\nxs4_33 2\nunresolved 0 of 2",
-    )
-}
-
-/// Whether both requests made again are answered by their numbers, and each is kept once.
-fn comes_again(alloc: Global, archive: &mut Archive<FileStore<Stopping>>) -> Result<bool, Fail> {
-    if act(alloc, archive)? != (true, true) {
-        return Ok(false);
-    }
-    Ok(kept(archive) == Some((1, 1)))
-}
-
-/// Whether the files, opened again, hold what was answered, and take both requests again.
-fn is_sound(alloc: Global, files: &Files<Stopping>, done: (bool, bool)) -> Result<bool, Fail> {
-    let Ok(mut archive) = open(alloc, again(alloc, files)?, 2) else {
-        return Ok(false);
-    };
-    let Some(found) = kept(&mut archive) else {
-        return Ok(false);
-    };
-    if !fits(found, done) {
-        return Ok(false);
-    }
-    if !is_whole(alloc, &mut archive, found.1)? {
-        return Ok(false);
-    }
-    comes_again(alloc, &mut archive)
-}
-
-/// Whether both requests were answered, and whether what is found afterwards is sound.
-fn stop_at(alloc: Global, log_calls: u64, db_calls: u64) -> Result<(bool, bool), Fail> {
-    let (done, files) = match open(alloc, blank(alloc, log_calls, db_calls), 2) {
-        Ok(mut archive) => {
-            let done = act(alloc, &mut archive)?;
-            (done, close(archive))
-        }
-        Err((_, files)) => ((false, false), files),
-    };
-    Ok((done.0 && done.1, is_sound(alloc, &files, done)?))
-}
-
-/// After how many calls on the log, or else on the database file, a run ends with no stop; none where a
-/// stop left what is not sound.
-fn calls_of(alloc: Global, is_log: bool) -> Result<Option<u64>, Fail> {
-    for calls in 0..1000u64 {
-        let (log_calls, db_calls) = if is_log {
-            (calls, u64::MAX)
-        } else {
-            (u64::MAX, calls)
-        };
-        let (done, sound) = stop_at(alloc, log_calls, db_calls)?;
-        if !sound {
-            return Ok(None);
-        }
-        if done {
-            return Ok(Some(calls));
-        }
-    }
-    Ok(None)
-}
-
-#[test]
-fn a_stop_at_each_call_on_the_log_loses_nothing(rt: HostRuntime) -> Result<(), Fail> {
-    assert!(rt; calls_of(rt.alloc(), true)?.is_some());
-    Ok(())
-}
-
-#[test]
-fn a_stop_at_each_call_on_the_database_loses_nothing(rt: HostRuntime) -> Result<(), Fail> {
-    assert!(rt; calls_of(rt.alloc(), false)?.is_some());
+    assert!(rt; are_of_many(&replies));
     Ok(())
 }

@@ -1,0 +1,5 @@
+//! Tests over the archive's pages.
+#![tactic(auto)]
+
+#[cfg(test)]
+mod pages;

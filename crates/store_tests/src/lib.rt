@@ -1,0 +1,7 @@
+//! Tests over the archive's tables.
+#![tactic(auto)]
+
+#[cfg(test)]
+mod archives;
+#[cfg(test)]
+mod stops;

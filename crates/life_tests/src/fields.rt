@@ -1,6 +1,11 @@
 //! The clusters of a field in their order, and its tally.
+ghost use Rattle.std.specs.Prelude.{◌≤◌};
+ghost use Rattle.life_core.specs.Pattern.{IsWithin};
+
 use life_census::{clusters, csv, laws_of_clusters, laws_of_tallies, tally};
+use life_code::PERIOD_LIMIT;
 use life_core::{Cell, Pattern, Rule};
+use std::alloc::Global;
 use std::test::Fail;
 
 /// The least cell of each cluster of the field below, by row and then by column.
@@ -27,25 +32,54 @@ fn clusters_stand_by_their_least_cells(rt: HostRuntime) -> Result<(), Fail> {
     Ok(())
 }
 
+/// A block and a blinker that is far from it.
+const TWO_OBJECTS: [(i64, i64); 7] = [
+    (0, 0),
+    (1, 0),
+    (10, 0),
+    (11, 0),
+    (12, 0),
+    (0, 1),
+    (1, 1),
+];
+
+/// The tables of the two objects under limits of the period.
+const TABLES: [(u32, &str); 2] = [
+    (1, "code,count\nxs4_33,1\nunresolved,1\n"),
+    (2, "code,count\nxp2_7,1\nxs4_33,1\nunresolved,0\n"),
+];
+
+/// The table of a field.
+fn table(alloc: Global, field: &Pattern, limit: u32) -> Result<Vec<u8>, Fail>
+    requires from_one { 1 ≤ limit }
+    requires few { limit ≤ PERIOD_LIMIT }
+    requires room { IsWithin 400_000_000 field.now }
+{
+    let tally = tally(alloc, &Rule::LIFE, field, limit)?;
+    Ok(csv(alloc, &tally)?)
+}
+
 #[test]
 fn a_block_and_a_blinker_are_two_rows(rt: HostRuntime) -> Result<(), Fail> {
-    let field = Pattern::from_cells(
-        rt.alloc(),
-        &[(0, 0), (1, 0), (10, 0), (11, 0), (12, 0), (0, 1), (1, 1)],
-    )?;
+    laws_of_tallies();
+    let field = Pattern::from_cells(rt.alloc(), &TWO_OBJECTS)?;
     assert!(rt; field.within(400_000_000));
-    let counts = tally(rt.alloc(), &Rule::LIFE, &field, 2)?;
-    let rows = counts.rows.as_slice();
-    assert_eq!(rt; rows.len(), 2);
-    assert_eq!(rt; rows[0].code.as_bytes(), b"xp2_7".as_slice());
-    assert_eq!(rt; rows[1].count, 1);
+    for (limit, expected) in TABLES {
+        assert!(rt; 1 <= limit && limit <= PERIOD_LIMIT);
+        let text = table(rt.alloc(), &field, limit)?;
+        assert_eq!(rt; text.as_slice(), expected.as_bytes());
+    }
+    Ok(())
+}
+
+#[test]
+fn a_tally_has_rows_and_a_total(rt: HostRuntime) -> Result<(), Fail> {
+    let field = Pattern::from_cells(rt.alloc(), &TWO_OBJECTS)?;
+    assert!(rt; field.within(400_000_000));
     let counts = tally(rt.alloc(), &Rule::LIFE, &field, 1)?;
     assert_eq!(rt; (counts.unresolved, counts.total), (1, 2));
-    let text = csv(rt.alloc(), &counts)?;
-    assert_eq!(rt;
-        text.as_slice(),
-        b"code,count\nxs4_33,1\nunresolved,1\n".as_slice()
-    );
-    laws_of_tallies();
+    for row in counts.rows.as_slice() {
+        assert_eq!(rt; (row.code.as_bytes(), row.count), (b"xs4_33".as_slice(), 1));
+    }
     Ok(())
 }

@@ -117,25 +117,40 @@ fn other_texts_are_not_opened(rt: HostRuntime) {
     }
 }
 
+/// A glider three generations on, turned.
+fn another_glider(alloc: Global) -> Result<Pattern, Fail> {
+    let glider = Pattern::from_cells(alloc, &GLIDER)?;
+    if !glider.within(PLANE - 3) {
+        return Err("the glider is far out".into());
+    }
+    let later = generation(alloc, &Rule::LIFE, &glider, 3)?;
+    Ok(later.turned(alloc, Orientation::O4)?)
+}
+
 #[test]
 fn one_object_at_another_phase_and_limit(rt: HostRuntime) -> Result<(), Fail> {
     let glider = Pattern::from_cells(rt.alloc(), &GLIDER)?;
-    assert!(rt; glider.within(PLANE - 3));
-    let later = generation(rt.alloc(), &Rule::LIFE, &glider, 3)?;
-    let turned = later.turned(rt.alloc(), Orientation::O4)?;
-    assert!(rt; glider.within(400_000_000) && turned.within(400_000_000));
+    let other = another_glider(rt.alloc())?;
+    assert!(rt; glider.within(400_000_000) && other.within(400_000_000));
     let glider = coded(rt.alloc(), &Rule::LIFE, &glider, 4)?;
-    let turned = coded(rt.alloc(), &Rule::LIFE, &turned, 100)?;
-    assert!(rt; same_object(&glider, &turned));
+    let other = coded(rt.alloc(), &Rule::LIFE, &other, 100)?;
+    assert!(rt; same_object(&glider, &other));
     Ok(())
+}
+
+/// The code of a block under a rule.
+fn block_under(alloc: Global, rule: &Rule) -> Result<Coded, Fail> {
+    let block = Pattern::from_cells(alloc, &BLOCK)?;
+    if !block.within(400_000_000) {
+        return Err("the block is far out".into());
+    }
+    coded(alloc, rule, &block, 1)
 }
 
 #[test]
 fn other_rules_make_other_objects(rt: HostRuntime) -> Result<(), Fail> {
-    let block = Pattern::from_cells(rt.alloc(), &BLOCK)?;
-    assert!(rt; block.within(400_000_000));
-    let under_life = coded(rt.alloc(), &Rule::LIFE, &block, 1)?;
-    let other = coded(rt.alloc(), &Rule::read(b"B36/S23")?, &block, 1)?;
+    let under_life = block_under(rt.alloc(), &Rule::LIFE)?;
+    let other = block_under(rt.alloc(), &Rule::read(b"B36/S23")?)?;
     assert_eq!(rt; under_life.text(), b"xs4_33".as_slice());
     assert_eq!(rt; other.text(), b"xs4_33".as_slice());
     assert!(rt; !same_object(&under_life, &other));

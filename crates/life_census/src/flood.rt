@@ -24,9 +24,9 @@ pub fn flooded<A: Allocator + Copy>(
     ensures flood { IfOk result (λ v. IsFlood left.old start v.items left.new) }
     ensures clear { IfOk result (λ v. All (IsClear left.new) v.items) }
 {
-    left.take(start);
     let mut cluster = Vec::new(alloc);
     cluster.push(start)?;
+    left.take(start);
     let mut i = 0;
     while i < cluster.len() {
         let cell = cluster[i];
@@ -90,7 +90,7 @@ fn take_columns<A: Allocator + Copy>(
     Ok(())
 }
 
-/// Takes out one cell, if it is left.
+/// Takes out one cell, if it is left. There is room for it before it is taken.
 fn take_cell<A: Allocator + Copy>(
     left: &mut Left<A>,
     cluster: &mut Vec<Cell, A>,
@@ -99,6 +99,7 @@ fn take_cell<A: Allocator + Copy>(
     ensures grown { OnOk result ((c : Cell) → near c cell ≡ true → HasGrown c left.old cluster.old.items left.new cluster.new.items) }
     ensures gone { OnOk result (set.contains left.new cell ≡ false) }
 {
+    cluster.reserve(1)?;
     if left.take(cell) {
         cluster.push(cell)?;
     }

@@ -135,61 +135,112 @@ fn lines_have_seventy_bytes(rt: HostRuntime) -> Result<(), Fail> {
     Ok(())
 }
 
-const ONE_CELL: &str = "x = 1, y = 1\no!\n";
-
 const ONE_CELL_WRITTEN: &str = "x = 1, y = 1, rule = B3/S23\no!\n";
+
+/// A text, another so many times, and a third.
+type Parts = (&'static str, &'static str, usize, &'static str);
+
+/// Files, and what is written of them or the name of their fault.
+const LONG_TEXTS: [(Parts, Parts); 4] = [
+    (
+        ("", "#C\n", 64, "x = 1, y = 1\no!\n"),
+        ("", "#C\n", 64, ONE_CELL_WRITTEN),
+    ),
+    (
+        ("", "#C\n", 65, "x = 1, y = 1\no!\n"),
+        ("text-limit", "", 0, ""),
+    ),
+    (
+        ("#N ", "a", 200, "\nx = 1, y = 1\no!\n"),
+        ("#N ", "a", 200, "\nx = 1, y = 1, rule = B3/S23\no!\n"),
+    ),
+    // A line behind the header is no text.
+    (
+        ("x = 1, y = 1\n#C ", "b", 300, "\no!\n"),
+        (ONE_CELL_WRITTEN, "", 0, ""),
+    ),
+];
+
+/// The parts as one text.
+fn joined(alloc: Global, parts: Parts) -> Result<String, AllocError> {
+    let (front, part, times, rest) = parts;
+    repeated(alloc, front, part, times, rest)
+}
 
 #[test]
 fn texts_have_limits(rt: HostRuntime) -> Result<(), Fail> {
-    let most = repeated(rt.alloc(), "", "#C\n", 64, ONE_CELL)?;
-    let text = repeated(rt.alloc(), "", "#C\n", 64, ONE_CELL_WRITTEN)?;
-    assert!(rt; gives(rt.alloc(), most.as_str(), text.as_str())?);
-    let more = repeated(rt.alloc(), "", "#C\n", 65, ONE_CELL)?;
-    assert!(rt; gives(rt.alloc(), more.as_str(), "text-limit")?);
-    let front = repeated(rt.alloc(), "#N ", "a", 200, "\n")?;
-    let most = repeated(rt.alloc(), front.as_str(), "", 0, ONE_CELL)?;
-    let text = repeated(rt.alloc(), front.as_str(), "", 0, ONE_CELL_WRITTEN)?;
-    assert!(rt; gives(rt.alloc(), most.as_str(), text.as_str())?);
-    // A line behind the header is no text.
-    let late = repeated(rt.alloc(), "x = 1, y = 1\n#C ", "b", 300, "\no!\n")?;
-    assert!(rt; gives(rt.alloc(), late.as_str(), ONE_CELL_WRITTEN)?);
+    for (file, text) in LONG_TEXTS {
+        let file = joined(rt.alloc(), file)?;
+        let text = joined(rt.alloc(), text)?;
+        assert!(rt; gives(rt.alloc(), file.as_str(), text.as_str())?);
+    }
     Ok(())
 }
+
+/// Files that end in so many blanks, and what is written of them or the name of their fault: the length is judged
+/// before the header.
+const LONG_FILES: [(&str, usize, &str); 3] = [
+    ("x = 1, y = 1\no!", 1_048_561, ONE_CELL_WRITTEN),
+    ("x = 1, y = 1\no!", 1_048_562, "too-long"),
+    ("x = 1\n", 1_048_571, "too-long"),
+];
 
 #[test]
 fn files_have_a_limit(rt: HostRuntime) -> Result<(), Fail> {
-    let most = repeated(rt.alloc(), "x = 1, y = 1\no!", " ", 1_048_561, "")?;
-    let text = rewritten(rt.alloc(), most.as_bytes())?;
-    assert!(rt; text.as_slice() == ONE_CELL_WRITTEN.as_bytes());
-    let more = repeated(rt.alloc(), "x = 1, y = 1\no!", " ", 1_048_562, "")?;
-    let fault = rewritten(rt.alloc(), more.as_bytes())?;
-    assert!(rt; fault.as_slice() == b"too-long".as_slice());
-    assert!(rt; read_kept(rt.alloc(), more.as_bytes()).is_ok());
-    let taken = read_from(rt.alloc(), &mut SliceInlet::new(more.as_bytes()));
-    assert_eq!(rt; taken.err(), Some(ReadFault::Rle(RleFault::TooLong)));
-    // The length is judged before the header.
-    let headless = repeated(rt.alloc(), "x = 1\n", " ", 1_048_571, "")?;
-    let fault = rewritten(rt.alloc(), headless.as_bytes())?;
-    assert!(rt; fault.as_slice() == b"too-long".as_slice());
+    for (front, blanks, expected) in LONG_FILES {
+        let file = repeated(rt.alloc(), front, " ", blanks, "")?;
+        let text = rewritten(rt.alloc(), file.as_bytes())?;
+        assert_eq!(rt; text.as_slice(), expected.as_bytes());
+    }
     Ok(())
 }
 
 #[test]
-fn streams_of_each_kind(rt: HostRuntime) -> Result<(), Fail> {
-    let file = b"x = 2, y = 1\n2o!\n";
-    let taken = read_from(rt.alloc(), &mut SliceInlet::new(file))
-        .ok()
-        .ok_or("it is read")?;
-    let mut reader = FromRead::new(io::Cursor::new(file.as_slice()));
-    let read = read_from(rt.alloc(), &mut reader).ok().ok_or("it is read")?;
-    assert!(rt; read.cells.same(&taken.cells));
-    assert_eq!(rt; read.cells.population(), 2);
-    let text = b"2o!\n";
+fn streams_have_a_limit(rt: HostRuntime) -> Result<(), Fail> {
+    let file = repeated(rt.alloc(), "x = 1, y = 1\no!", " ", 1_048_562, "")?;
+    let taken = read_from(rt.alloc(), &mut SliceInlet::new(file.as_bytes()));
+    assert_eq!(rt; taken.err(), Some(ReadFault::Rle(RleFault::TooLong)));
+    Ok(())
+}
+
+#[test]
+fn a_kept_text_has_no_limit(rt: HostRuntime) -> Result<(), Fail> {
+    let file = repeated(rt.alloc(), "x = 1, y = 1\no!", " ", 1_048_562, "")?;
+    assert!(rt; read_kept(rt.alloc(), file.as_bytes()).is_ok());
+    Ok(())
+}
+
+const TWO_CELLS: &[u8] = b"x = 2, y = 1\n2o!\n";
+
+const TEXT: &[u8] = b"2o!\n";
+
+#[test]
+fn a_slice_is_read(rt: HostRuntime) -> Result<(), Fail> {
+    let read = read_from(rt.alloc(), &mut SliceInlet::new(TWO_CELLS));
+    assert_eq!(rt; read.map(|record| record.cells.population()).ok(), Some(2));
+    Ok(())
+}
+
+#[test]
+fn a_reader_is_read(rt: HostRuntime) -> Result<(), Fail> {
+    let mut reader = FromRead::new(io::Cursor::new(TWO_CELLS));
+    let read = read_from(rt.alloc(), &mut reader);
+    assert_eq!(rt; read.map(|record| record.cells.population()).ok(), Some(2));
+    Ok(())
+}
+
+#[test]
+fn memory_takes_what_is_put(rt: HostRuntime) -> Result<(), Fail> {
     let mut memory = MemoryOutlet::new(rt.alloc());
-    put_all(&mut memory, text).ok().ok_or("it is put")?;
-    assert_eq!(rt; memory.bytes(), text.as_slice());
+    assert!(rt; put_all(&mut memory, TEXT).is_ok());
+    assert_eq!(rt; memory.bytes(), TEXT);
+    Ok(())
+}
+
+#[test]
+fn a_writer_takes_what_is_put(rt: HostRuntime) -> Result<(), Fail> {
     let mut writer = FromWrite::new(Vec::new(rt.alloc()));
-    put_all(&mut writer, text).ok().ok_or("it is put")?;
+    assert!(rt; put_all(&mut writer, TEXT).is_ok());
     Ok(())
 }
 
@@ -202,12 +253,18 @@ fn records_are_made(rt: HostRuntime) -> Result<(), Fail> {
     assert!(rt; pattern.within(500_000_000));
     let record = plain(rt.alloc(), Rule::LIFE, &pattern)?;
     let text = write(rt.alloc(), &record)?;
-    assert!(rt; text.as_slice() == b"x = 3, y = 1, rule = B3/S23\nobo!\n".as_slice());
+    assert_eq!(rt; text.as_slice(), b"x = 3, y = 1, rule = B3/S23\nobo!\n".as_slice());
+    Ok(())
+}
+
+#[test]
+fn texts_are_kept_in_their_order(rt: HostRuntime) -> Result<(), Fail> {
     let mut texts = Texts::new(rt.alloc());
     texts.push(Text::from_slice(rt.alloc(), b"first")?)?;
     for text in texts.as_slice() {
         assert_eq!(rt; text.as_bytes(), b"first".as_slice());
     }
+    assert_eq!(rt; texts.as_slice().len(), 1);
     assert_eq!(rt; RleFault::Memory.number(), 11);
     Ok(())
 }

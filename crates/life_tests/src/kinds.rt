@@ -3,8 +3,7 @@ ghost use Rattle.std.specs.Prelude.{◌≤◌};
 ghost use Rattle.life_core.specs.Pattern.{IsWithin};
 
 use life_code::{
-    CodeFault, Coded, Kind, PERIOD_LIMIT, code, kind, kind_by, laws_of_codes, open_code,
-    same_object,
+    CodeFault, Coded, Kind, PERIOD_LIMIT, code, kind_by, laws_of_codes, open_code, same_object,
 };
 use life_core::{CellList, Orientation, PLANE, PackedRows, Pattern, Rule, generation};
 use life_rle::read;
@@ -54,36 +53,54 @@ fn kinds_of_small_patterns(rt: HostRuntime) -> Result<(), Fail> {
     Ok(())
 }
 
+/// The code of a pattern that stays, or `-`.
+fn code_or_dash(alloc: Global, cells: &[(i64, i64)]) -> Result<Vec<u8>, Fail> {
+    let pattern = Pattern::from_cells(alloc, cells)?;
+    if !pattern.within(400_000_000) {
+        return Err("the pattern is far out".into());
+    }
+    match code(alloc, &Rule::LIFE, &pattern, 1)? {
+        Some(coded) => Ok(coded.text().to_vec(alloc)?),
+        None => Ok(b"-".to_vec(alloc)?),
+    }
+}
+
+/// Two blocks in a box of 40 columns, which have a code, and in one of 41, which have none.
+const BOXES: [([(i64, i64); 8], &str); 2] = [
+    (
+        [
+            (0, 0),
+            (1, 0),
+            (38, 0),
+            (39, 0),
+            (0, 1),
+            (1, 1),
+            (38, 1),
+            (39, 1),
+        ],
+        "xs8_33yw33",
+    ),
+    (
+        [
+            (0, 0),
+            (1, 0),
+            (39, 0),
+            (40, 0),
+            (0, 1),
+            (1, 1),
+            (39, 1),
+            (40, 1),
+        ],
+        "-",
+    ),
+];
+
 #[test]
 fn a_code_needs_a_box_of_40(rt: HostRuntime) -> Result<(), Fail> {
-    let fits = [
-        (0, 0),
-        (1, 0),
-        (38, 0),
-        (39, 0),
-        (0, 1),
-        (1, 1),
-        (38, 1),
-        (39, 1),
-    ];
-    let fits = Pattern::from_cells(rt.alloc(), &fits)?;
-    assert!(rt; fits.within(400_000_000));
-    let fits = coded(rt.alloc(), &Rule::LIFE, &fits, 1)?;
-    assert_eq!(rt; fits.text(), b"xs8_33yw33".as_slice());
-    let wider = [
-        (0, 0),
-        (1, 0),
-        (39, 0),
-        (40, 0),
-        (0, 1),
-        (1, 1),
-        (39, 1),
-        (40, 1),
-    ];
-    let wider = Pattern::from_cells(rt.alloc(), &wider)?;
-    assert!(rt; wider.within(400_000_000));
-    assert_eq!(rt; kind(rt.alloc(), &Rule::LIFE, &wider, 1)?, Kind::Still);
-    assert!(rt; code(rt.alloc(), &Rule::LIFE, &wider, 1)?.is_none());
+    for (cells, expected) in BOXES {
+        let text = code_or_dash(rt.alloc(), &cells)?;
+        assert_eq!(rt; text.as_slice(), expected.as_bytes());
+    }
     Ok(())
 }
 

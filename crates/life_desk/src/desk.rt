@@ -37,13 +37,13 @@ use std::alloc::Global;
 fn keep_deposit<S: Alter>(
     archive: &mut Archive<S>,
     alloc: Global,
-    deposit: Deposit,
+    deposit: &Deposit,
 ) -> Result<Reply, Unavailable>
-    requires { IsInside 1024 deposit.content.cells }
+    requires { IsInside 1024 deposit.now.content.cells }
     ensures goes { Goes archive.old archive.new }
     ensures acts { Acts archive.old archive.new result
-        (λ A r. r ≡ deposit_reply A (deposit_by_token A deposit (deposit_by deposit.member deposit.token A.deposits)))
-        (λ A. with_deposit A (deposit_by_token A deposit (deposit_by deposit.member deposit.token A.deposits))) }
+        (λ A r. r ≡ deposit_reply A (deposit_by_token A deposit.now (deposit_by deposit.now.member deposit.now.token A.deposits)))
+        (λ A. with_deposit A (deposit_by_token A deposit.now (deposit_by deposit.now.member deposit.now.token A.deposits))) }
 {
     match find_deposit(
         archive,
@@ -58,7 +58,7 @@ fn keep_deposit<S: Alter>(
         }),
         None => {
             if has_room(archive)? {
-                Ok(Reply::Deposited(add_deposit(archive, alloc, &deposit)?))
+                Ok(Reply::Deposited(add_deposit(archive, alloc, deposit)?))
             } else {
                 Ok(Reply::Refused(Refusal::Full))
             }
@@ -83,7 +83,7 @@ fn deposit<S: Alter>(
         Ok(content) => keep_deposit(
             archive,
             alloc,
-            Deposit {
+            &Deposit {
                 member,
                 token,
                 content,
@@ -215,17 +215,17 @@ fn keep_census<S: Alter>(
     archive: &mut Archive<S>,
     alloc: Global,
     deposit: &Deposit,
-    census: Census,
+    census: &Census,
 ) -> Result<Reply, Unavailable>
     requires small { IsInside 1024 deposit.now.content.cells }
-    requires few { census.generation ≤ 1024 }
-    requires some { 1 ≤ census.limit }
-    requires short { census.limit ≤ 1024 }
+    requires few { census.now.generation ≤ 1024 }
+    requires some { 1 ≤ census.now.limit }
+    requires short { census.now.limit ≤ 1024 }
     ensures goes { Goes archive.old archive.new }
     ensures acts { ActsWhere archive.old archive.new result
-        (λ A. numbered A.deposits census.deposit ≡ Some deposit.now)
-        (λ A r. r ≡ census_reply A (census_by_token A census (census_by census.member census.token A.censuses)))
-        (λ A. with_census A (census_by_token A census (census_by census.member census.token A.censuses))) }
+        (λ A. numbered A.deposits census.now.deposit ≡ Some deposit.now)
+        (λ A r. r ≡ census_reply A (census_by_token A census.now (census_by census.now.member census.now.token A.censuses)))
+        (λ A. with_census A (census_by_token A census.now (census_by census.now.member census.now.token A.censuses))) }
 {
     match find_census(
         archive,
@@ -233,15 +233,15 @@ fn keep_census<S: Alter>(
         census.member.as_bytes(),
         census.token.as_bytes(),
     )? {
-        Some(found) => Ok(if is_same_content(&found.census, &census) {
+        Some(found) => Ok(if is_same_content(&found.census, census) {
             Reply::Counted(found.id)
         } else {
             Reply::Refused(Refusal::TokenReused)
         }),
         None => {
             if has_census_room(archive)? {
-                let tally = counted(alloc, deposit, &census)?;
-                Ok(Reply::Counted(add_census(archive, &census, &tally)?))
+                let tally = counted(alloc, deposit, census)?;
+                Ok(Reply::Counted(add_census(archive, census, &tally)?))
             } else {
                 Ok(Reply::Refused(Refusal::Full))
             }
@@ -272,7 +272,7 @@ fn take_census<S: Alter>(
 {
     match deposit_of(archive, alloc, census.deposit)? {
         None => Ok(Reply::Refused(Refusal::NoSuchDeposit)),
-        Some(deposit) => keep_census(archive, alloc, &deposit, census),
+        Some(deposit) => keep_census(archive, alloc, &deposit, &census),
     }
 }
 

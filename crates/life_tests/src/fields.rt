@@ -33,15 +33,7 @@ fn clusters_stand_by_their_least_cells(rt: HostRuntime) -> Result<(), Fail> {
 }
 
 /// A block and a blinker that is far from it.
-const TWO_OBJECTS: [(i64, i64); 7] = [
-    (0, 0),
-    (1, 0),
-    (10, 0),
-    (11, 0),
-    (12, 0),
-    (0, 1),
-    (1, 1),
-];
+const TWO_OBJECTS: [(i64, i64); 7] = [(0, 0), (1, 0), (10, 0), (11, 0), (12, 0), (0, 1), (1, 1)];
 
 /// The tables of the two objects under limits of the period.
 const TABLES: [(u32, &str); 2] = [

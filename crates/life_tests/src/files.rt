@@ -106,7 +106,10 @@ fn files_are_written_back(rt: HostRuntime) -> Result<(), Fail> {
 fn streams_may_come_in_pieces(rt: HostRuntime) -> Result<(), Fail> {
     for (file, text) in FILES {
         let returned = with_carriage_returns(rt.alloc(), file.as_bytes())?;
-        assert!(rt; gives_in_pieces(rt.alloc(), file.as_bytes(), text)?, "{file}");
+        assert!(rt;
+            gives_in_pieces(rt.alloc(), file.as_bytes(), text)?,
+            "{file}"
+        );
         assert!(rt; gives_in_pieces(rt.alloc(), &returned, text)?, "{file}");
     }
     Ok(())
@@ -253,7 +256,10 @@ fn records_are_made(rt: HostRuntime) -> Result<(), Fail> {
     assert!(rt; pattern.within(500_000_000));
     let record = plain(rt.alloc(), Rule::LIFE, &pattern)?;
     let text = write(rt.alloc(), &record)?;
-    assert_eq!(rt; text.as_slice(), b"x = 3, y = 1, rule = B3/S23\nobo!\n".as_slice());
+    assert_eq!(rt;
+        text.as_slice(),
+        b"x = 3, y = 1, rule = B3/S23\nobo!\n".as_slice()
+    );
     Ok(())
 }
 

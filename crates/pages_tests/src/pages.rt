@@ -117,7 +117,10 @@ const DEPOSITS: [(&str, &str); 4] = [
 #[test]
 fn a_deposit_comes_again(rt: HostRuntime) -> Result<(), Fail> {
     let mut archive = archive(rt.alloc(), 2)?;
-    assert_eq!(rt; other_answer(rt.alloc(), &mut archive, DEPOSITS.as_slice())?, None);
+    assert_eq!(rt;
+        other_answer(rt.alloc(), &mut archive, DEPOSITS.as_slice())?,
+        None
+    );
     assert_eq!(rt; rows(&mut archive), 1);
     Ok(())
 }
@@ -136,7 +139,10 @@ const BAD_MESSAGES: [(&str, &str); 2] = [
 #[test]
 fn bad_messages(rt: HostRuntime) -> Result<(), Fail> {
     let mut archive = archive(rt.alloc(), 2)?;
-    assert_eq!(rt; other_answer(rt.alloc(), &mut archive, BAD_MESSAGES.as_slice())?, None);
+    assert_eq!(rt;
+        other_answer(rt.alloc(), &mut archive, BAD_MESSAGES.as_slice())?,
+        None
+    );
     assert_eq!(rt; rows(&mut archive), 0);
     Ok(())
 }
@@ -177,7 +183,10 @@ const TWO_IN_ONE: [(&str, &str); 2] = [
 #[test]
 fn two_replies_and_the_end(rt: HostRuntime) -> Result<(), Fail> {
     let mut archive = archive(rt.alloc(), 2)?;
-    assert_eq!(rt; other_answer(rt.alloc(), &mut archive, TWO_IN_ONE.as_slice())?, None);
+    assert_eq!(rt;
+        other_answer(rt.alloc(), &mut archive, TWO_IN_ONE.as_slice())?,
+        None
+    );
     Ok(())
 }
 
@@ -227,8 +236,14 @@ const CENSUS_PAGES: [Page; 5] = [
 #[test]
 fn censuses(rt: HostRuntime) -> Result<(), Fail> {
     let mut archive = archive(rt.alloc(), 2)?;
-    assert_eq!(rt; other_answer(rt.alloc(), &mut archive, CENSUSES.as_slice())?, None);
-    assert_eq!(rt; other_page(rt.alloc(), &mut archive, CENSUS_PAGES.as_slice())?, None);
+    assert_eq!(rt;
+        other_answer(rt.alloc(), &mut archive, CENSUSES.as_slice())?,
+        None
+    );
+    assert_eq!(rt;
+        other_page(rt.alloc(), &mut archive, CENSUS_PAGES.as_slice())?,
+        None
+    );
     Ok(())
 }
 
@@ -277,8 +292,14 @@ const PAGES: [Page; 7] = [
 #[test]
 fn pages_and_methods(rt: HostRuntime) -> Result<(), Fail> {
     let mut archive = archive(rt.alloc(), 2)?;
-    assert_eq!(rt; other_answer(rt.alloc(), &mut archive, GOOD_AND_BAD.as_slice())?, None);
-    assert_eq!(rt; other_page(rt.alloc(), &mut archive, PAGES.as_slice())?, None);
+    assert_eq!(rt;
+        other_answer(rt.alloc(), &mut archive, GOOD_AND_BAD.as_slice())?,
+        None
+    );
+    assert_eq!(rt;
+        other_page(rt.alloc(), &mut archive, PAGES.as_slice())?,
+        None
+    );
     Ok(())
 }
 
@@ -383,7 +404,8 @@ const TAKES: usize = 1_048_576;
 
 /// A deposit of so many bytes, head and body: one live cell, and line ends behind the end of the pattern.
 fn long_deposit(alloc: Global, bytes: usize) -> Result<Vec<u8>, Fail> {
-    let front = "POST /deposits HTTP/1.1\r\nx-member: ann\r\nx-token: t1\r\ncontent-length: 1048000\r\n\r\n";
+    let front =
+        "POST /deposits HTTP/1.1\r\nx-member: ann\r\nx-token: t1\r\ncontent-length: 1048000\r\n\r\n";
     let body = bytes.saturating_sub(front.len());
     let head = format!(in alloc;
         "POST /deposits HTTP/1.1\r\nx-member: ann\r\nx-token: t1\r\ncontent-length: {body}\r\n\r\n"
@@ -397,8 +419,10 @@ fn long_deposit(alloc: Global, bytes: usize) -> Result<Vec<u8>, Fail> {
 }
 
 /// Streams that come byte by byte, and how `serve` ends: the last take finds the end, or is one too many.
-const BYTE_BY_BYTE: [(usize, Result<(), IoFault>); 2] =
-    [(TAKES - 1, Ok(())), (TAKES, Err(IoFault::TooManyReads))];
+const BYTE_BY_BYTE: [(usize, Result<(), IoFault>); 2] = [
+    (TAKES - 1, Ok(())),
+    (TAKES, Err(IoFault::TooManyReads)),
+];
 
 #[test]
 fn a_long_body_comes_byte_by_byte(rt: HostRuntime) -> Result<(), Fail> {

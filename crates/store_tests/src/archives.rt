@@ -110,44 +110,77 @@ fn is_line(line: &Listed, id: u64, population: u64) -> bool {
         && line.rule.as_bytes() == b"B3/S23".as_slice()
 }
 
+/// Numbers that no archive of two deposits has given.
+const NOT_KEPT: [u64; 4] = [0, 3, 1 << 63, u64::MAX];
+
+/// Whether the two deposits are found by their tokens, and nothing by others.
+fn has_tokens<S: Alter>(alloc: Global, archive: &mut Archive<S>) -> Result<bool, Unavailable> {
+    for (token, number) in [(b"t1", Some(1)), (b"t2", Some(2)), (b"t3", None)] {
+        if number_of(alloc, archive, token)? != number {
+            return Ok(false);
+        }
+    }
+    Ok(archive.find_deposit(alloc, b"bob", b"t1")?.is_none())
+}
+
+/// Whether the two deposits have their contents.
+fn has_contents<S: Alter>(alloc: Global, archive: &mut Archive<S>) -> Result<bool, Unavailable> {
+    Ok(
+        has_content(alloc, archive, 1, GLIDER_AGAIN)?
+            && has_content(alloc, archive, 2, BLOCK_TEXT)?
+            && !has_content(alloc, archive, 2, GLIDER)?,
+    )
+}
+
+/// Whether no deposit is found under the other numbers.
+fn has_no_others<S: Alter>(alloc: Global, archive: &mut Archive<S>) -> Result<bool, Unavailable> {
+    for id in NOT_KEPT {
+        if archive.deposit_of(alloc, id)?.is_some() {
+            return Ok(false);
+        }
+    }
+    Ok(true)
+}
+
 #[test]
 fn deposits_are_kept_and_found(rt: HostRuntime) -> Result<(), Fail> {
-    let alloc = rt.alloc();
-    let mut archive = new_archive(alloc, 2).map_err(|_| "no archive")?;
-    assert_eq!(rt; archive.capacity(), 2);
+    let mut archive = new_archive(rt.alloc(), 2).map_err(|_| "no archive")?;
     assert_eq!(rt; archive.count_deposits(), Ok(0));
-    assert_eq!(rt; number_of(alloc, &mut archive, b"t1"), Ok(None));
-    assert_eq!(rt; keep_two(alloc, &mut archive), Ok((1, 2)));
+    assert_eq!(rt; number_of(rt.alloc(), &mut archive, b"t1"), Ok(None));
+    assert_eq!(rt; keep_two(rt.alloc(), &mut archive), Ok((1, 2)));
     assert_eq!(rt; archive.count_deposits(), Ok(2));
-    assert_eq!(rt; number_of(alloc, &mut archive, b"t1"), Ok(Some(1)));
-    assert_eq!(rt; number_of(alloc, &mut archive, b"t2"), Ok(Some(2)));
-    assert_eq!(rt; number_of(alloc, &mut archive, b"t3"), Ok(None));
-    assert_eq!(rt; has_content(alloc, &mut archive, 1, GLIDER_AGAIN), Ok(true));
-    assert_eq!(rt; has_content(alloc, &mut archive, 2, BLOCK_TEXT), Ok(true));
-    assert_eq!(rt; has_content(alloc, &mut archive, 2, GLIDER), Ok(false));
-    for id in [0, 3, 1 << 63, u64::MAX] {
-        assert!(rt;
-            matches!(archive.deposit_of(alloc, id), Ok(None)),
-            "at {id}"
-        );
-    }
-    assert!(rt; matches!(archive.find_deposit(alloc, b"bob", b"t1"), Ok(None)));
+    assert_eq!(rt; has_tokens(rt.alloc(), &mut archive), Ok(true));
+    assert_eq!(rt; has_contents(rt.alloc(), &mut archive), Ok(true));
+    assert_eq!(rt; has_no_others(rt.alloc(), &mut archive), Ok(true));
     Ok(())
+}
+
+/// Whether the list of all has the two deposits, and the list behind the first the second alone.
+fn lists_two<S: Alter>(alloc: Global, archive: &mut Archive<S>) -> Result<bool, Unavailable> {
+    let all = archive.deposits_after(alloc, 0)?;
+    let later = archive.deposits_after(alloc, 1)?;
+    Ok(
+        matches!(all.as_slice(), [one, two] if is_line(one, 1, 5) && is_line(two, 2, 4))
+            && matches!(later.as_slice(), [two] if is_line(two, 2, 4)),
+    )
+}
+
+/// Whether nothing is listed behind the last number.
+fn lists_no_more<S: Alter>(alloc: Global, archive: &mut Archive<S>) -> Result<bool, Unavailable> {
+    for id in [2, 99, 1 << 63, u64::MAX] {
+        if !archive.deposits_after(alloc, id)?.as_slice().is_empty() {
+            return Ok(false);
+        }
+    }
+    Ok(true)
 }
 
 #[test]
 fn deposits_are_listed(rt: HostRuntime) -> Result<(), Fail> {
-    let alloc = rt.alloc();
-    let mut archive = new_archive(alloc, 2).map_err(|_| "no archive")?;
-    keep_two(alloc, &mut archive).map_err(|_| "not kept")?;
-    let all = archive.deposits_after(alloc, 0).map_err(|_| "not listed")?;
-    assert!(rt; matches!(all.as_slice(), [one, two] if is_line(one, 1, 5) && is_line(two, 2, 4)));
-    let later = archive.deposits_after(alloc, 1).map_err(|_| "not listed")?;
-    assert!(rt; matches!(later.as_slice(), [two] if is_line(two, 2, 4)));
-    for id in [2, 99, 1 << 63, u64::MAX] {
-        let none = archive.deposits_after(alloc, id).map_err(|_| "not listed")?;
-        assert!(rt; none.as_slice().is_empty(), "after {id}");
-    }
+    let mut archive = new_archive(rt.alloc(), 2).map_err(|_| "no archive")?;
+    assert_eq!(rt; keep_two(rt.alloc(), &mut archive), Ok((1, 2)));
+    assert_eq!(rt; lists_two(rt.alloc(), &mut archive), Ok(true));
+    assert_eq!(rt; lists_no_more(rt.alloc(), &mut archive), Ok(true));
     Ok(())
 }
 
@@ -162,17 +195,24 @@ fn fill<S: Alter>(alloc: Global, archive: &mut Archive<S>, many: u64) -> Result<
     Ok(())
 }
 
+/// Whether the list behind a number has the numbers from this one up to before that one.
+fn lists<S: Alter>(
+    alloc: Global,
+    archive: &mut Archive<S>,
+    id: u64,
+    from: u64,
+    end: u64,
+) -> Result<bool, Unavailable> {
+    let list = archive.deposits_after(alloc, id)?;
+    Ok(list.as_slice().iter().map(|line| line.id).eq(from..end))
+}
+
 #[test]
 fn a_list_has_at_most_a_hundred_lines(rt: HostRuntime) -> Result<(), Fail> {
-    let alloc = rt.alloc();
-    let mut archive = new_archive(alloc, 200).map_err(|_| "no archive")?;
-    fill(alloc, &mut archive, 101).map_err(|_| "not kept")?;
-    let first = archive.deposits_after(alloc, 0).map_err(|_| "not listed")?;
-    assert!(rt; first.as_slice().iter().map(|line| line.id).eq(1..101));
-    let rest = archive
-        .deposits_after(alloc, 100)
-        .map_err(|_| "not listed")?;
-    assert!(rt; rest.as_slice().iter().map(|line| line.id).eq(101..102));
+    let mut archive = new_archive(rt.alloc(), 200).map_err(|_| "no archive")?;
+    assert_eq!(rt; fill(rt.alloc(), &mut archive, 101), Ok(()));
+    assert_eq!(rt; lists(rt.alloc(), &mut archive, 0, 1, 101), Ok(true));
+    assert_eq!(rt; lists(rt.alloc(), &mut archive, 100, 101, 102), Ok(true));
     Ok(())
 }
 
@@ -203,26 +243,42 @@ fn take_two<S: Alter>(alloc: Global, archive: &mut Archive<S>) -> Result<(u64, u
     Ok((first, second))
 }
 
+/// Whether both censuses are found, by number and by token, and no others.
+fn has_censuses<S: Alter>(alloc: Global, archive: &mut Archive<S>) -> Result<bool, Unavailable> {
+    for id in NOT_KEPT {
+        if archive.census_of(alloc, id)?.is_some() {
+            return Ok(false);
+        }
+    }
+    let second = archive.find_census(alloc, b"ann", b"c2")?;
+    Ok(
+        second.map(|found| found.id) == Some(2)
+            && archive.find_census(alloc, b"ann", b"c3")?.is_none()
+            && is_of_two_blocks(alloc, archive, 1)?
+            && is_of_two_blocks(alloc, archive, 2)?,
+    )
+}
+
+/// Whether the counts of a code are added up over both censuses, and those of other codes and rules are 0.
+fn adds_up<S: Alter>(alloc: Global, archive: &mut Archive<S>) -> Result<bool, Unavailable> {
+    let Ok(other) = Rule::read(b"B36/S23") else {
+        return Ok(false);
+    };
+    Ok(
+        archive.counts_of(alloc, &Rule::LIFE, b"xs4_33")? == 4
+            && archive.counts_of(alloc, &Rule::LIFE, b"xp2_7")? == 0
+            && archive.counts_of(alloc, &other, b"xs4_33")? == 0,
+    )
+}
+
 #[test]
 fn censuses_are_kept_and_found(rt: HostRuntime) -> Result<(), Fail> {
-    let alloc = rt.alloc();
-    let mut archive = new_archive(alloc, 2).map_err(|_| "no archive")?;
+    let mut archive = new_archive(rt.alloc(), 2).map_err(|_| "no archive")?;
     assert_eq!(rt; archive.count_censuses(), Ok(0));
-    assert_eq!(rt; take_two(alloc, &mut archive), Ok((1, 2)));
+    assert_eq!(rt; take_two(rt.alloc(), &mut archive), Ok((1, 2)));
     assert_eq!(rt; archive.count_censuses(), Ok(2));
-    assert_eq!(rt; is_of_two_blocks(alloc, &mut archive, 1), Ok(true));
-    assert_eq!(rt; is_of_two_blocks(alloc, &mut archive, 2), Ok(true));
-    assert!(rt;
-        matches!(archive.find_census(alloc, b"ann", b"c2"), Ok(Some(found)) if found.id == 2)
-    );
-    assert!(rt; matches!(archive.find_census(alloc, b"ann", b"c3"), Ok(None)));
-    for id in [0, 3, 1 << 63, u64::MAX] {
-        assert!(rt; matches!(archive.census_of(alloc, id), Ok(None)), "at {id}");
-    }
-    let other = Rule::read(b"B36/S23").map_err(|_| "no rule")?;
-    assert_eq!(rt; archive.counts_of(alloc, &Rule::LIFE, b"xs4_33"), Ok(4));
-    assert_eq!(rt; archive.counts_of(alloc, &Rule::LIFE, b"xp2_7"), Ok(0));
-    assert_eq!(rt; archive.counts_of(alloc, &other, b"xs4_33"), Ok(0));
+    assert_eq!(rt; has_censuses(rt.alloc(), &mut archive), Ok(true));
+    assert_eq!(rt; adds_up(rt.alloc(), &mut archive), Ok(true));
     Ok(())
 }
 
@@ -279,28 +335,37 @@ fn two_kept(alloc: Global) -> Result<Pair, Unavailable> {
     }
 }
 
+/// The files behind an opening that is refused for its capacity.
+fn refused_at(alloc: Global, files: Pair, capacity: u64) -> Option<Pair> {
+    match open(alloc, files, capacity) {
+        Err((OpenFault::BadCapacity, files)) => Some(files),
+        _ => None,
+    }
+}
+
+#[test]
+fn a_refused_opening_gives_the_files_back(rt: HostRuntime) -> Result<(), Fail> {
+    let mut files = two_kept(rt.alloc()).map_err(|_| "not kept")?;
+    for capacity in [0, 1_000_001] {
+        files = refused_at(rt.alloc(), files, capacity).ok_or("a bad capacity was taken")?;
+    }
+    let mut archive = open(rt.alloc(), files, 2).map_err(|_| "not opened")?;
+    assert_eq!(rt; has_contents(rt.alloc(), &mut archive), Ok(true));
+    Ok(())
+}
+
 #[test]
 fn a_closed_archive_is_opened_under_another_capacity(rt: HostRuntime) -> Result<(), Fail> {
-    let alloc = rt.alloc();
-    let mut files = two_kept(alloc).map_err(|_| "not kept")?;
-    for capacity in [0, 1_000_001] {
-        files = match open(alloc, files, capacity) {
-            Err((fault, files)) => {
-                assert_eq!(rt; fault, OpenFault::BadCapacity, "at {capacity}");
-                files
-            }
-            Ok(_) => return Err("a bad capacity was taken".into()),
-        };
-    }
-    let mut archive = open(alloc, files, 1).map_err(|_| "not opened")?;
+    let files = two_kept(rt.alloc()).map_err(|_| "not kept")?;
+    let mut archive = open(rt.alloc(), files, 1).map_err(|_| "not opened")?;
     assert_eq!(rt; archive.capacity(), 1);
     assert_eq!(rt; archive.count_deposits(), Ok(2));
-    assert_eq!(rt; number_of(alloc, &mut archive, b"t1"), Ok(Some(1)));
-    assert_eq!(rt; has_content(alloc, &mut archive, 2, BLOCK_TEXT), Ok(true));
-    let mut again = archive.reopen(alloc, 3).map_err(|_| "not opened again")?;
+    assert_eq!(rt; has_contents(rt.alloc(), &mut archive), Ok(true));
+    let mut again = archive
+        .reopen(rt.alloc(), 3)
+        .map_err(|_| "not opened again")?;
     assert_eq!(rt; again.capacity(), 3);
-    assert_eq!(rt; has_content(alloc, &mut again, 1, GLIDER), Ok(true));
-    assert_eq!(rt; again.count_deposits(), Ok(2));
+    assert_eq!(rt; has_contents(rt.alloc(), &mut again), Ok(true));
     Ok(())
 }
 
@@ -429,24 +494,29 @@ fn a_file_of_random_bytes_is_no_archive(rt: HostRuntime) -> Result<(), Fail> {
     Ok(())
 }
 
-/// Whether rows that no archive writes are met as Unavailable.
+/// Changes that no archive makes.
+const CHANGES: [&str; 4] = [
+    "UPDATE deposits SET rle = x'00' WHERE id = 1",
+    "UPDATE deposits SET population = 1, rule = 'B9' WHERE id = 2",
+    "INSERT INTO censuses VALUES (1, 'ann', 'c1', 1, -1, 1, 0, 0)",
+    "INSERT INTO census_rows VALUES (1, 'no code', 1)",
+];
+
+/// Whether each changed row is unavailable where it is met. The columns for lists alone are not met by number.
+fn is_unavailable<S: Alter>(alloc: Global, archive: &mut Archive<S>) -> bool {
+    archive.deposit_of(alloc, 1).is_err()
+        && archive.find_deposit(alloc, b"ann", b"t1").is_err()
+        && has_content(alloc, archive, 2, BLOCK_TEXT) == Ok(true)
+        && archive.census_of(alloc, 1).is_err()
+        && archive.rows_of(alloc, 1).is_err()
+}
+
 #[test]
 fn rows_of_others_are_unavailable(rt: HostRuntime) -> Result<(), Fail> {
-    let alloc = rt.alloc();
-    let files = two_kept(alloc).map_err(|_| "not kept")?;
-    let changes = [
-        "UPDATE deposits SET rle = x'00' WHERE id = 1",
-        "UPDATE deposits SET population = 1, rule = 'B9' WHERE id = 2",
-        "INSERT INTO censuses VALUES (1, 'ann', 'c1', 1, -1, 1, 0, 0)",
-        "INSERT INTO census_rows VALUES (1, 'no code', 1)",
-    ];
-    let files = made_by(alloc, files, &changes).ok_or("not changed")?;
-    let mut archive = open(alloc, files, 2).map_err(|_| "not opened")?;
-    assert!(rt; matches!(archive.deposit_of(alloc, 1), Err(Unavailable)));
-    assert!(rt; matches!(archive.find_deposit(alloc, b"ann", b"t1"), Err(Unavailable)));
-    assert_eq!(rt; has_content(alloc, &mut archive, 2, BLOCK_TEXT), Ok(true));
-    assert!(rt; matches!(archive.census_of(alloc, 1), Err(Unavailable)));
-    assert!(rt; matches!(archive.rows_of(alloc, 1), Err(Unavailable)));
+    let files = two_kept(rt.alloc()).map_err(|_| "not kept")?;
+    let files = made_by(rt.alloc(), files, &CHANGES).ok_or("not changed")?;
+    let mut archive = open(rt.alloc(), files, 2).map_err(|_| "not opened")?;
+    assert!(rt; is_unavailable(rt.alloc(), &mut archive));
     Ok(())
 }
 
@@ -460,23 +530,16 @@ fn sweep(rt: &HostRuntime) {
 
 #[test]
 fn an_archive_is_opened_at_a_path(rt: HostRuntime) -> Result<(), Fail> {
-    let alloc = rt.alloc();
     sweep(&rt);
-    let opened = Archive::open_path(&rt, PATH, 2, Unknown);
-    let mut archive = opened.map_err(|_| "not opened")?;
-    assert_eq!(rt; keep_two(alloc, &mut archive), Ok((1, 2)));
+    let mut archive = Archive::open_path(&rt, PATH, 2, Unknown).map_err(|_| "not opened")?;
+    assert_eq!(rt; keep_two(rt.alloc(), &mut archive), Ok((1, 2)));
     drop(archive);
-    let opened = Archive::open_path(&rt, PATH, 3, Unknown);
-    let mut again = opened.map_err(|_| "not opened again")?;
+    let mut again = Archive::open_path(&rt, PATH, 3, Unknown).map_err(|_| "not opened again")?;
     assert_eq!(rt; again.count_deposits(), Ok(2));
-    assert_eq!(rt; has_content(alloc, &mut again, 1, GLIDER), Ok(true));
+    assert_eq!(rt; has_contents(rt.alloc(), &mut again), Ok(true));
     drop(again);
-    assert!(rt;
-        matches!(
-            Archive::open_path(&rt, PATH, 0, Unknown),
-            Err(OpenFault::BadCapacity)
-        )
-    );
+    let refused = Archive::open_path(&rt, PATH, 0, Unknown).err();
+    assert_eq!(rt; refused, Some(OpenFault::BadCapacity));
     sweep(&rt);
     Ok(())
 }

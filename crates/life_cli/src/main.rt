@@ -9,7 +9,7 @@ mod words;
 
 use archives::run_deposit;
 use jobs::{run_census, run_generation, run_kind, run_object};
-use life_rle::{FromRead, FromWrite};
+use life_rle::{FromRead, FromWrite, Inlet, Outlet};
 use net::{open_archive, serve_port};
 use std::io;
 use std::process::ExitCode;
@@ -37,6 +37,24 @@ fn print_fault(rt: &impl Eprint, fault: WordFault) -> io::Result<ExitCode> {
     Ok(ExitCode::from(BAD_WORDS))
 }
 
+/// Keeps what comes in as a deposit in the archive of a file.
+fn deposit_in<I: Inlet, O: Outlet>(
+    rt: &HostRuntime,
+    file: &str,
+    member: &str,
+    token: &str,
+    input: &mut I,
+    output: &mut O,
+) -> Result<(), Stop> {
+    let mut archive = open_archive(rt, file)?;
+    run_deposit(rt.alloc(), &mut archive, member, token, input, output)
+}
+
+/// Serves the archive of a file.
+fn serve_file(rt: &HostRuntime, file: &str, port: u64, connections: u64) -> Result<(), Stop> {
+    serve_port(rt, &mut open_archive(rt, file)?, port, connections)
+}
+
 /// Does a job, over standard input and output.
 fn done(rt: &HostRuntime, job: Job<'_>) -> Result<(), Stop> {
     let alloc = rt.alloc();
@@ -51,15 +69,12 @@ fn done(rt: &HostRuntime, job: Job<'_>) -> Result<(), Stop> {
             file,
             member,
             token,
-        } => {
-            let mut archive = open_archive(rt, file)?;
-            run_deposit(alloc, &mut archive, member, token, &mut input, &mut output)
-        }
+        } => deposit_in(rt, file, member, token, &mut input, &mut output),
         Job::Serve {
             file,
             port,
             connections,
-        } => serve_port(rt, &mut open_archive(rt, file)?, port, connections),
+        } => serve_file(rt, file, port, connections),
     }
 }
 

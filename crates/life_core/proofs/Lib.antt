@@ -27,3 +27,4 @@ pub mod PackedShifts
 pub mod PackedGrowth
 pub mod PackedOrder
 pub mod Spans
+pub mod SettledRows

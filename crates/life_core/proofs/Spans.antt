@@ -1,6 +1,6 @@
 -- Rows that are blank outside a span.
-use Rattle.std.specs.Prelude.{◌⊎◌}
-use Rattle.std.proofs.Common.{◌≡◌, ℕ, zero, suc, ◌+◌, ◌-◌, ◌*◌, ◌/◌, ◌%◌, ◌<◌, ◌≤◌, min, max, false, cond, nat_eq, List, length, take, drop, get_or, set, ◌≢◌, get_or-set_same, get_or-set_other, refl, sym, ap, ◌∙◌, inl, inr, rules, arith}
+use Rattle.std.specs.Prelude.{◌⊎◌, IsTrue}
+use Rattle.std.proofs.Common.{◌≡◌, ℕ, zero, suc, ◌+◌, ◌-◌, ◌*◌, ◌/◌, ◌%◌, ◌<◌, ◌≤◌, min, max, false, cond, nat_eq, List, length, take, drop, get_or, set, ◌≢◌, get_or-set_same, get_or-set_other, refl, sym, ap, subst, ◌∙◌, inl, inr, rules, arith}
 use Rattle.std.specs.Int.{bit_at}
 use Rattle.std.specs.FinSet as fset
 use Rattle.std.proofs.lemmas.Bool.{cases_lt, cases_eq, lt-ltb}
@@ -103,12 +103,12 @@ module _ (f : Frame) (out ys : List ℕ) (spans : List Span) (s : Span) (y k : �
   span_other : (z : ℕ) → z ≢ y → span_at (set spans y s) z ≡ span_at spans z
   span_other z other = get_or-set_other spans y z s _ other
 
-  word_own : (j : ℕ) → j < f.words → get_or (put_mid (y * f.words) k out ys) (y * f.words + j) 0 ≡ get_or ys j 0
+  pub word_own : (j : ℕ) → j < f.words → get_or (put_mid (y * f.words) k out ys) (y * f.words + j) 0 ≡ get_or ys j 0
   word_own j inside =
       let fits = row_fits f.words f.height y low in
       search (rules, places)
 
-  word_other : (z j : ℕ) → z ≢ y → z < f.height → j < f.words → get_or (put_mid (y * f.words) k out ys) (z * f.words + j) 0 ≡ get_or out (z * f.words + j) 0
+  pub word_other : (z j : ℕ) → z ≢ y → z < f.height → j < f.words → get_or (put_mid (y * f.words) k out ys) (z * f.words + j) 0 ≡ get_or out (z * f.words + j) 0
   word_other z j other lt inside = elim (cases_lt z y) [
     | inl before ↦
         let fits = row_fits f.words f.height y low in
@@ -137,3 +137,62 @@ module _ (f : Frame) (out ys : List ℕ) (spans : List Span) (s : Span) (y k : �
       | inr other ↦ word_other z j other lt inside ∙ all.after z j lt inside (omega (arith, h, ap (λ (t : Span). t.to) (span_other z other)))
     ];
   }
+
+  -- what is known of rows that are the same as in old, and of those that are still to come
+  pub same_join : (F : Type 0) (old : List ℕ) → ((z : ℕ) → z < y → IsTrue (span_at spans z).same → F × ((j : ℕ) → j < f.words → get_or out (z * f.words + j) 0 ≡ get_or old (z * f.words + j) 0))
+      → ((z j : ℕ) → y ≤ z → z < f.height → j < f.words → get_or out (z * f.words + j) 0 ≡ get_or old (z * f.words + j) 0)
+      → (IsTrue s.same → F × ((j : ℕ) → get_or ys j 0 ≡ get_or (take k (drop (y * f.words) out)) j 0))
+      → (z : ℕ) → z < y + 1 → IsTrue (span_at (set spans y s) z).same → F × ((j : ℕ) → j < f.words → get_or (put_mid (y * f.words) k out ys) (z * f.words + j) 0 ≡ get_or old (z * f.words + j) 0)
+  same_join F old done rest own z lt marked = elim (cases_eq z y) [
+    | inl at ↦
+        let one = own (subst IsTrue (ap (λ n. (span_at (set spans y s) n).same) at ∙ ap (λ (t : Span). t.same) span_own) marked) in (
+          one.0,
+          λ j inside. ap (λ n. get_or (put_mid (y * f.words) k out ys) (n * f.words + j) 0) at ∙ word_own j inside ∙ one.1 j ∙ row_words out f.words y j k wide inside ∙ rest y j (omega arith) low inside ∙ ap (λ n. get_or old (n * f.words + j) 0) (sym at),
+        )
+    | inr other ↦
+        let before : z < y = omega (arith, lt, other) in
+        let one = done z before (subst IsTrue (ap (λ (t : Span). t.same) (span_other z other)) marked) in
+        (one.0, λ j inside. word_other z j other (omega (arith, before, low)) inside ∙ one.1 j inside)
+  ]
+
+  pub rest_join : (old : List ℕ) → ((z j : ℕ) → y ≤ z → z < f.height → j < f.words → get_or out (z * f.words + j) 0 ≡ get_or old (z * f.words + j) 0)
+      → (z j : ℕ) → y + 1 ≤ z → z < f.height → j < f.words → get_or (put_mid (y * f.words) k out ys) (z * f.words + j) 0 ≡ get_or old (z * f.words + j) 0
+  rest_join old rest z j le lt inside =
+      let other : z ≢ y = λ e. omega arith in
+      word_other z j other lt inside ∙ rest z j (omega arith) lt inside
+
+-- a row stays, and is marked
+module _ (f : Frame) (out : List ℕ) (spans : List Span) (s : Span) (y : ℕ) (all : AreSpans f out spans) (low : y < f.height) where
+  marked_own : span_at (set spans y s) y ≡ s
+  marked_own = get_or-set_same spans y s _ (omega (arith, all.long))
+
+  marked_other : (z : ℕ) → z ≢ y → span_at (set spans y s) z ≡ span_at spans z
+  marked_other z other = get_or-set_other spans y z s _ other
+
+  pub spans_marked : s.from ≡ (span_at spans y).from → s.to ≡ (span_at spans y).to → AreSpans f out (set spans y s)
+  spans_marked from to = record {
+    long = length-set spans y s ∙ all.long;
+    ends = λ z lt. subst (λ n. n ≤ f.words) (sym (to_at z)) (all.ends z lt);
+    before = λ z j lt inside h. all.before z j lt inside (subst (λ n. j < n) (from_at z) h);
+    after = λ z j lt inside h. all.after z j lt inside (subst (λ n. n ≤ j) (to_at z) h);
+  }
+    where
+      from_at : (z : ℕ) → (span_at (set spans y s) z).from ≡ (span_at spans z).from
+      from_at z = elim (cases_eq z y) [
+        | inl at ↦ ap (λ n. (span_at (set spans y s) n).from) at ∙ ap (λ (t : Span). t.from) marked_own ∙ from ∙ ap (λ n. (span_at spans n).from) (sym at)
+        | inr other ↦ ap (λ (t : Span). t.from) (marked_other z other)
+      ]
+
+      to_at : (z : ℕ) → (span_at (set spans y s) z).to ≡ (span_at spans z).to
+      to_at z = elim (cases_eq z y) [
+        | inl at ↦ ap (λ n. (span_at (set spans y s) n).to) at ∙ ap (λ (t : Span). t.to) marked_own ∙ to ∙ ap (λ n. (span_at spans n).to) (sym at)
+        | inr other ↦ ap (λ (t : Span). t.to) (marked_other z other)
+      ]
+
+  pub same_marked : (F : Type 0) (old : List ℕ) → F → ((z : ℕ) → z < y → IsTrue (span_at spans z).same → F × ((j : ℕ) → j < f.words → get_or out (z * f.words + j) 0 ≡ get_or old (z * f.words + j) 0))
+      → ((z j : ℕ) → y ≤ z → z < f.height → j < f.words → get_or out (z * f.words + j) 0 ≡ get_or old (z * f.words + j) 0)
+      → (z : ℕ) → z < y + 1 → IsTrue (span_at (set spans y s) z).same → F × ((j : ℕ) → j < f.words → get_or out (z * f.words + j) 0 ≡ get_or old (z * f.words + j) 0)
+  same_marked F old holds done rest z lt marked = elim (cases_eq z y) [
+    | inl at ↦ (holds, λ j inside. rest z j (omega (arith, at)) (omega (arith, at, low)) inside)
+    | inr other ↦ done z (omega (arith, lt, other)) (subst IsTrue (ap (λ (t : Span). t.same) (marked_other z other)) marked)
+  ]

@@ -1,5 +1,5 @@
 -- Words of rows outside of which they are blank.
-use Rattle.std.specs.Prelude.{◌≡◌, ℕ, ◌+◌, ◌*◌, ◌<◌, ◌≤◌, List, length, slice_index_or}
+use Rattle.std.specs.Prelude.{◌≡◌, ℕ, ◌+◌, ◌-◌, ◌*◌, ◌<◌, ◌≤◌, min, IsTrue, false, List, length, slice_index_or}
 use Rattle.life_core.specs.declared.packed.span.Span.{Span}
 use Rattle.life_core.specs.declared.packed.frame.Frame.{Frame}
 
@@ -10,7 +10,7 @@ pub record IsBlankOutside (s : Span) (row : List ℕ) : Type 0 where
 
 -- the span of row y
 abbrev pub span_at : List Span → ℕ → Span
-span_at spans y = slice_index_or spans y (record { from = 0; to = 0 })
+span_at spans y = slice_index_or spans y (record { from = 0; to = 0; same = false })
 
 -- a span for each row, outside of which the row has no bit
 pub record AreSpans (f : Frame) (rows : List ℕ) (spans : List Span) : Type 0 where
@@ -18,3 +18,7 @@ pub record AreSpans (f : Frame) (rows : List ℕ) (spans : List Span) : Type 0 w
   pub ends : (y : ℕ) → y < f.height → (span_at spans y).to ≤ f.words
   pub before : (y j : ℕ) → y < f.height → j < f.words → j < (span_at spans y).from → slice_index_or rows (y * f.words + j) 0 ≡ 0
   pub after : (y j : ℕ) → y < f.height → j < f.words → (span_at spans y).to ≤ j → slice_index_or rows (y * f.words + j) 0 ≡ 0
+
+-- row y and those above and below are known to be what they were two generations ago
+abbrev pub IsSettled : List Span → ℕ → Type 0
+IsSettled spans y = IsTrue (span_at spans y).same × (IsTrue (span_at spans (y - 1)).same × IsTrue (span_at spans (min (y + 1) (length spans - 1))).same)

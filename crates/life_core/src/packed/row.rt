@@ -1,5 +1,5 @@
 //! One generation of a row of packed words, of which bit `i` of word `j` is the place `64 j + i`.
-ghost use Rattle.std.specs.Prelude.{◌≡◌, ℕ, ◌+◌, ◌-◌, ◌*◌, ◌<◌, ◌≤◌, length, nat_lt, slice_index_or, if◌then◌else◌};
+ghost use Rattle.std.specs.Prelude.{◌≡◌, ℕ, ◌+◌, ◌-◌, ◌*◌, ◌<◌, ◌≤◌, IsTrue, length, nat_lt, slice_index_or, if◌then◌else◌};
 ghost use Rattle.std.specs.Int.{bit_at};
 ghost use Rattle.life_core.specs.PackedAddersState.{count_at};
 ghost use Rattle.life_core.specs.PackedRow.{place, place_before, round_count, next_place};
@@ -20,11 +20,11 @@ pub fn row_step(above: &[u64], here: &[u64], below: &[u64], rule: &Rule, out: &m
     ensures { (p : ℕ) → p < 64 * length out.new → place out.new p ≡ next_place rule.now above.now here.now below.now p }
 {
     let len = out.len();
-    words_step(above, here, below, &RuleMasks::of(rule), 0, len, out);
+    let _same = words_step(above, here, below, &RuleMasks::of(rule), 0, len, out);
 }
 
 /// `row_step` for the words from `from` up to `to`, under the rule of the masks. The other words of
-/// `out` stay.
+/// `out` stay. It tells whether these do too.
 pub(crate) fn words_step(
     above: &[u64],
     here: &[u64],
@@ -33,18 +33,35 @@ pub(crate) fn words_step(
     from: usize,
     to: usize,
     out: &mut [u64],
-)
+) -> bool
     requires above { length above.now ≡ length out.old }
     requires here { length here.now ≡ length out.old }
     requires below { length below.now ≡ length out.old }
     requires ends { (from ≤ to) × (to ≤ length out.old) }
-    ensures { (r : RuleSets) → AreMasks r masks.now → AreStepped (next_place r above.now here.now below.now) from to out.old out.new }
+    ensures words { (r : RuleSets) → AreMasks r masks.now → AreStepped (next_place r above.now here.now below.now) from to out.old out.new }
+    ensures same { IsTrue result → (j : ℕ) → slice_index_or out.new j 0 ≡ slice_index_or out.old j 0 }
 {
     let first = from.max(1).min(to);
     let last = to.min(out.len().saturating_sub(1)).max(first);
-    edge_words(above, here, below, masks, from, first, out);
-    inner_words(above, here, below, masks, first, last, out);
-    edge_words(above, here, below, masks, last, to, out);
+    let left = edge_words(above, here, below, masks, from, first, out);
+    let inner = inner_words(above, here, below, masks, first, last, out);
+    let right = edge_words(above, here, below, masks, last, to, out);
+    all_of(left, inner, right)
+}
+
+/// Whether all three hold.
+fn all_of(a: bool, b: bool, c: bool) -> bool
+    ensures { IsTrue result → IsTrue a × IsTrue b × IsTrue c }
+{
+    a & b & c
+}
+
+/// Whether so far all is the same, and a word too.
+#[inline(always)]
+fn still(same: bool, before: u64, word: u64) -> bool
+    ensures { IsTrue result → IsTrue same × (before ≡ word) }
+{
+    same & (before == word)
 }
 
 /// `words_step` for words among which the first and the last of the row may be.
@@ -57,16 +74,21 @@ fn edge_words(
     from: usize,
     to: usize,
     out: &mut [u64],
-)
+) -> bool
     requires above { length above.now ≡ length out.old }
     requires here { length here.now ≡ length out.old }
     requires below { length below.now ≡ length out.old }
     requires ends { (from ≤ to) × (to ≤ length out.old) }
-    ensures { (r : RuleSets) → AreMasks r masks.now → AreStepped (next_place r above.now here.now below.now) from to out.old out.new }
+    ensures words { (r : RuleSets) → AreMasks r masks.now → AreStepped (next_place r above.now here.now below.now) from to out.old out.new }
+    ensures same { IsTrue result → (j : ℕ) → slice_index_or out.new j 0 ≡ slice_index_or out.old j 0 }
 {
+    let mut same = true;
     for j in from..to {
-        out[j] = masks.next(here[j], count_word(above, here, below, j));
+        let word = masks.next(here[j], count_word(above, here, below, j));
+        same = still(same, out[j], word);
+        out[j] = word;
     }
+    same
 }
 
 /// `words_step` for words that are neither the first nor the last of the row.
@@ -78,33 +100,46 @@ fn inner_words(
     from: usize,
     to: usize,
     out: &mut [u64],
-)
+) -> bool
     requires above { length above.now ≡ length out.old }
     requires here { length here.now ≡ length out.old }
     requires below { length below.now ≡ length out.old }
     requires ends { (from ≤ to) × (to ≤ length out.old) }
     requires inner { from < to → (0 < from) × (to < length out.old) }
-    ensures { (r : RuleSets) → AreMasks r masks.now → AreStepped (next_place r above.now here.now below.now) from to out.old out.new }
+    ensures words { (r : RuleSets) → AreMasks r masks.now → AreStepped (next_place r above.now here.now below.now) from to out.old out.new }
+    ensures same { IsTrue result → (j : ℕ) → slice_index_or out.new j 0 ≡ slice_index_or out.old j 0 }
 {
     if masks.is_life {
-        life_words(above, here, below, from, to, out);
+        life_words(above, here, below, from, to, out)
     } else {
-        masked_words(above, here, below, masks, from, to, out);
+        masked_words(above, here, below, masks, from, to, out)
     }
 }
 
 /// `inner_words` under Conway's Life.
-fn life_words(above: &[u64], here: &[u64], below: &[u64], from: usize, to: usize, out: &mut [u64])
+fn life_words(
+    above: &[u64],
+    here: &[u64],
+    below: &[u64],
+    from: usize,
+    to: usize,
+    out: &mut [u64],
+) -> bool
     requires above { length above.now ≡ length out.old }
     requires here { length here.now ≡ length out.old }
     requires below { length below.now ≡ length out.old }
     requires ends { (from ≤ to) × (to ≤ length out.old) }
     requires inner { from < to → (0 < from) × (to < length out.old) }
-    ensures { AreStepped (next_place life above.now here.now below.now) from to out.old out.new }
+    ensures words { AreStepped (next_place life above.now here.now below.now) from to out.old out.new }
+    ensures same { IsTrue result → (j : ℕ) → slice_index_or out.new j 0 ≡ slice_index_or out.old j 0 }
 {
+    let mut same = true;
     for j in from..to {
-        out[j] = life_word(here[j], count_inner(above, here, below, j));
+        let word = life_word(here[j], count_inner(above, here, below, j));
+        same = still(same, out[j], word);
+        out[j] = word;
     }
+    same
 }
 
 /// `inner_words` under any rule.
@@ -116,17 +151,22 @@ fn masked_words(
     from: usize,
     to: usize,
     out: &mut [u64],
-)
+) -> bool
     requires above { length above.now ≡ length out.old }
     requires here { length here.now ≡ length out.old }
     requires below { length below.now ≡ length out.old }
     requires ends { (from ≤ to) × (to ≤ length out.old) }
     requires inner { from < to → (0 < from) × (to < length out.old) }
-    ensures { (r : RuleSets) → AreMasks r masks.now → AreStepped (next_place r above.now here.now below.now) from to out.old out.new }
+    ensures words { (r : RuleSets) → AreMasks r masks.now → AreStepped (next_place r above.now here.now below.now) from to out.old out.new }
+    ensures same { IsTrue result → (j : ℕ) → slice_index_or out.new j 0 ≡ slice_index_or out.old j 0 }
 {
+    let mut same = true;
     for j in from..to {
-        out[j] = next_word(masks, here[j], count_inner(above, here, below, j));
+        let word = next_word(masks, here[j], count_inner(above, here, below, j));
+        same = still(same, out[j], word);
+        out[j] = word;
     }
+    same
 }
 
 /// How many of the eight places round a place are set, for each place of the word `j`.

@@ -1,14 +1,15 @@
 //! A plane of rows of packed words.
-ghost use Rattle.std.specs.Prelude.{◌≡◌, ℕ, ℤ, pos, negsuc, ◌+◌, ◌-◌, ◌*◌, ◌<◌, ◌≤◌, ◌+ℤ◌, length, slice_index_or};
+ghost use Rattle.std.specs.Prelude.{◌≡◌, ℕ, ℤ, pos, negsuc, ◌+◌, ◌-◌, ◌*◌, ◌<◌, ◌≤◌, ◌+ℤ◌, IsTrue, length, slice_index_or};
 ghost use Rattle.life_core.specs.Generations.{next};
 ghost use Rattle.life_core.specs.PackedFrameState.{framed, IsFrame, IsRow, IsBlank, HasRoom};
 ghost use Rattle.life_core.specs.PackedSpanState.{AreSpans};
+ghost use Rattle.life_core.specs.PackedRowsState.{AreSettled};
 
 use crate::fault::Fault;
 use crate::packed::frame::Frame;
 use crate::packed::margins::with_room;
 use crate::packed::shifts::shift_of_words;
-use crate::packed::span::{Span, span_round, span_step, whole_spans};
+use crate::packed::span::{Span, both, is_settled, span_round, span_step, whole_spans};
 use crate::packed::word_rule::RuleMasks;
 use crate::packed::words::{list_cells, moved_rows, words_of, zeros};
 use crate::pattern::Pattern;
@@ -32,6 +33,10 @@ pub struct PackedRows<A: Allocator = Global> {
     spans: Vec<Span, A>,
     /// The same of `spare`.
     spare_spans: Vec<Span, A>,
+    /// The rule of the last step.
+    rule: Rule,
+    /// Whether `rows` is the generation after `spare`, by that rule.
+    follows: bool,
 }
 
 impl<A: Allocator> Model for PackedRows<A> {
@@ -45,7 +50,7 @@ impl<A: Allocator> Model for PackedRows<A> {
 
     ghost view = { λ a. framed a.frame a.rows.items };
 
-    ghost invariant = { λ a. IsPacked a.frame a.rows.items a.spare.items a.blank.items a.spans.items a.spare_spans.items };
+    ghost invariant = { λ a. IsPacked a.frame a.rows.items a.spare.items a.blank.items a.spans.items a.spare_spans.items a.rule a.follows };
 }
 
 impl<A: Allocator + Copy> Plane<A> for PackedRows<A> {
@@ -65,6 +70,8 @@ impl<A: Allocator + Copy> Plane<A> for PackedRows<A> {
             blank,
             spans,
             spare_spans,
+            rule: Rule::LIFE,
+            follows: false,
         })
     }
 
@@ -87,10 +94,13 @@ impl<A: Allocator + Copy> Plane<A> for PackedRows<A> {
             self.blank = blank;
             self.spans = spans;
             self.spare_spans = spare_spans;
+            self.follows = false;
         }
+        let follows = both(self.follows, self.rule == *rule);
         advance(
             rule,
             self.frame,
+            follows,
             &self.rows,
             &self.spans,
             &self.blank,
@@ -99,6 +109,8 @@ impl<A: Allocator + Copy> Plane<A> for PackedRows<A> {
         );
         mem::swap(&mut self.rows, &mut self.spare);
         mem::swap(&mut self.spans, &mut self.spare_spans);
+        self.rule = *rule;
+        self.follows = true;
         Ok(())
     }
 
@@ -109,10 +121,12 @@ impl<A: Allocator + Copy> Plane<A> for PackedRows<A> {
     fn trim(&mut self) {}
 }
 
-/// Puts the rows one generation later into `out`, and their spans into `out_spans`.
+/// Puts the rows one generation later into `out`, and their spans into `out_spans`. Where three rows
+/// are what they were two generations ago, `out` has the middle one's next already.
 fn advance(
     rule: &Rule,
     frame: Frame,
+    follows: bool,
     rows: &[u64],
     spans: &[Span],
     blank: &[u64],
@@ -126,12 +140,19 @@ fn advance(
     requires room { HasRoom frame.left frame.top (64 * frame.words) frame.height (framed frame rows.now) }
     requires out { length out.old ≡ length rows.now }
     requires out_spans { AreSpans frame out.old out_spans.old }
+    requires settled { IsTrue follows → AreSettled frame rule.now rows.now out.old spans.now }
+    requires follows { IsTrue follows → framed frame rows.now ≡ next rule.now (framed frame out.old) }
     ensures rows { framed frame out.new ≡ next rule.now (framed frame rows.now) }
     ensures spans { AreSpans frame out.new out_spans.new }
+    ensures settled { AreSettled frame rule.now out.new rows.now out_spans.new }
 {
     let masks = RuleMasks::of(rule);
     let words = frame.words;
     for y in 0..frame.height {
+        if is_settled(follows, spans, y) {
+            out_spans[y].same = true;
+            continue;
+        }
         out_spans[y] = span_step(
             row_above(rows, blank, words, y),
             row(rows, words, y),
@@ -140,6 +161,7 @@ fn advance(
             span_round(spans, y),
             &mut out[y * words..y * words + words],
             out_spans[y],
+            follows,
         );
     }
 }

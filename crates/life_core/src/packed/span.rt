@@ -1,9 +1,9 @@
 //! Spans of words outside of which rows are blank, so that blank stretches cost nothing.
-ghost use Rattle.std.specs.Prelude.{◌≡◌, ℕ, ◌+◌, ◌-◌, ◌*◌, ◌<◌, ◌≤◌, min, max, IfOk, List, length};
+ghost use Rattle.std.specs.Prelude.{◌≡◌, ℕ, ◌+◌, ◌-◌, ◌*◌, ◌<◌, ◌≤◌, min, max, IfOk, IsTrue, List, length, slice_index_or};
 ghost use Rattle.life_core.specs.PackedRow.{place, next_place};
 ghost use Rattle.life_core.specs.Rule.{RuleSets};
 ghost use Rattle.life_core.specs.PackedWordRuleState.{AreMasks};
-ghost use Rattle.life_core.specs.PackedSpanState.{IsBlankOutside, AreSpans, span_at};
+ghost use Rattle.life_core.specs.PackedSpanState.{IsBlankOutside, AreSpans, IsSettled, span_at};
 
 use crate::packed::frame::Frame;
 use crate::packed::row::words_step;
@@ -15,6 +15,8 @@ use std::alloc::{AllocError, Allocator};
 pub(crate) struct Span {
     pub(crate) from: usize,
     pub(crate) to: usize,
+    /// Whether the row is known to be what it was two generations ago.
+    pub(crate) same: bool,
 }
 
 impl Span {
@@ -26,6 +28,20 @@ impl Span {
         Span {
             from: self.from.min(other.from),
             to: self.to.max(other.to),
+            same: false,
+        }
+    }
+
+    /// The span, with this said of the row.
+    fn marked(self, same: bool) -> Span
+        ensures from { result.from ≡ self.from }
+        ensures to { result.to ≡ self.to }
+        ensures same { result.same ≡ same }
+    {
+        Span {
+            from: self.from,
+            to: self.to,
+            same,
         }
     }
 
@@ -38,6 +54,7 @@ impl Span {
         Span {
             from: self.from.saturating_sub(1),
             to: if self.to < words { self.to + 1 } else { words },
+            same: false,
         }
     }
 }
@@ -48,7 +65,8 @@ pub(crate) fn whole_spans<A: Allocator>(alloc: A, frame: Frame) -> Result<Vec<Sp
 {
     vec![in alloc; Span {
         from: 0,
-        to: frame.words
+        to: frame.words,
+        same: false
     }; frame.height]
 }
 
@@ -63,8 +81,28 @@ pub(crate) fn span_round(spans: &[Span], y: usize) -> Span
     spans[y].joined(above).joined(below)
 }
 
+/// Whether spans can be relied on, and row `y` and those above and below are what they were two
+/// generations ago.
+pub(crate) fn is_settled(follows: bool, spans: &[Span], y: usize) -> bool
+    requires { y < length spans.now }
+    ensures follows { IsTrue result → IsTrue follows }
+    ensures settled { IsTrue result → IsSettled spans.now y }
+{
+    if !follows {
+        return false;
+    }
+    if !spans[y].same {
+        return false;
+    }
+    if !spans[y.saturating_sub(1)].same {
+        return false;
+    }
+    spans[(y + 1).min(spans.len() - 1)].same
+}
+
 /// One generation of a row where the rows are blank outside a span, and `out` is outside another. It
-/// gives a span of the new row, and touches no word that is known to be blank before and after.
+/// gives a span of the new row, and touches no word that is known to be blank before and after. Where
+/// `out` follows two generations later, the span tells whether it is the same.
 pub(crate) fn span_step(
     above: &[u64],
     here: &[u64],
@@ -73,6 +111,7 @@ pub(crate) fn span_step(
     span: Span,
     out: &mut [u64],
     out_span: Span,
+    follows: bool,
 ) -> Span
     requires above { length above.now ≡ length out.old }
     requires here { length here.now ≡ length out.old }
@@ -85,13 +124,21 @@ pub(crate) fn span_step(
     ensures places { (r : RuleSets) (p : ℕ) → AreMasks r masks.now → p < 64 * length out.new → place out.new p ≡ next_place r above.now here.now below.now p }
     ensures span { IsBlankOutside result out.new }
     ensures end { result.to ≤ length out.new }
+    ensures same { IsTrue result.same → IsTrue follows × ((j : ℕ) → slice_index_or out.new j 0 ≡ slice_index_or out.old j 0) }
 {
     let reach = span.widened(out.len()).joined(out_span);
     if reach.from >= reach.to {
-        return reach;
+        return reach.marked(follows);
     }
-    words_step(above, here, below, masks, reach.from, reach.to, out);
-    trimmed(out, reach)
+    let same = words_step(above, here, below, masks, reach.from, reach.to, out);
+    trimmed(out, reach).marked(both(follows, same))
+}
+
+/// Whether both hold.
+pub(crate) fn both(a: bool, b: bool) -> bool
+    ensures { IsTrue result → IsTrue a × IsTrue b }
+{
+    a & b
 }
 
 /// The span without the blank words at its ends.
@@ -110,11 +157,16 @@ fn trimmed(row: &[u64], span: Span) -> Span
         to -= 1;
     }
     if from < to {
-        Span { from, to }
+        Span {
+            from,
+            to,
+            same: false,
+        }
     } else {
         Span {
             from: row.len(),
             to: 0,
+            same: false,
         }
     }
 }

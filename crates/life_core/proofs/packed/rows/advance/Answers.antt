@@ -1,4 +1,5 @@
-use Rattle.std.proofs.Common.{◌≡◌, ◌*◌, ◌+◌, ◌-◌, ◌<◌, ◌≤◌, length, min, inl, inr, ap, ◌∙◌, arith}
+use Rattle.std.specs.Prelude.{IsTrue}
+use Rattle.std.proofs.Common.{◌≡◌, ℕ, ◌*◌, ◌+◌, ◌-◌, ◌<◌, ◌≤◌, length, min, inl, inr, refl, ap, subst, ◌∙◌, arith}
 use Rattle.std.specs.FinSet as set
 use Rattle.std.proofs.lemmas.Nat.{mul-le}
 use Rattle.life_core.specs.Generations.{next}
@@ -9,7 +10,8 @@ use Rattle.life_core.proofs.PackedSteps.{next_place_is, next_in, rows_are}
 use Rattle.life_core.proofs.PackedJoins.{row_joins}
 use Rattle.std.proofs.lemmas.Bool.{cases_eq}
 use Rattle.life_core.specs.PackedSpanState.{IsBlankOutside, span_at}
-use Rattle.life_core.proofs.Spans.{row_blank, none_blank, spans_join, slice_blank, length-row}
+use Rattle.life_core.proofs.Spans.{row_blank, none_blank, spans_join, same_join, rest_join, spans_marked, same_marked, slice_blank, length-row}
+use Rattle.life_core.proofs.SettledRows.{IsSameRow, settled_next, settled_joins}
 use Rattle.life_core.proofs.FrameBounds.{row_fits}
 use Rattle.life_core.proofs.packed.rows.advance.Goals as goal
 
@@ -54,6 +56,21 @@ span_step-requires-clause-ends c =
     let below = all.ends (min (y + 1) (length c.args.spans.now - 1)) (omega (arith, low, all.long)) in
     (omega (arith, long, c.span_round.ensures.to, own, above, below), omega (arith, long, c.loop-y.invariant.spans.ends y low))
 
+pub loop-y-preserved-then-is_settled : goal.loop-y-preserved-then-is_settled
+loop-y-preserved-then-is_settled c =
+    let f = c.args.frame in
+    let y = c.loop-y.y in
+    let low : y < f.height = c.loop-y-test.true in
+    let all = c.loop-y.invariant.spans in
+    let follows = c.is_settled.ensures.follows c.if-is_settled.true in
+    let N : ℕ → ℕ → ℕ = λ x z. one_if (set.contains (next c.args.rule.now (framed f c.args.rows.now)) (cell_in f.left f.top x z)) in record {
+      long = c.loop-y.invariant.long;
+      spans = spans_marked f c.loop-y.out c.loop-y.out_spans _ y all low refl refl;
+      same = same_marked f c.loop-y.out c.loop-y.out_spans _ y all low (IsTrue c.args.follows) c.args.out.now follows c.loop-y.invariant.same c.loop-y.invariant.rest;
+      rest = λ z j le. c.loop-y.invariant.rest z j (omega arith);
+      below = settled_joins f.words y c.loop-y.out c.args.out.now N c.loop-y.invariant.below (λ j inside. c.loop-y.invariant.rest y j (omega arith) low inside) (λ x narrow. (c.requires.settled follows).places x y narrow low (c.is_settled.ensures.settled c.if-is_settled.true));
+    }
+
 pub loop-y-preserved : goal.loop-y-preserved
 loop-y-preserved c =
     let f = c.args.frame in
@@ -67,6 +84,8 @@ loop-y-preserved c =
     let long : length c.span_step.new.out ≡ f.words = omega arith in record {
       long = omega arith;
       spans = spans_join f c.loop-y.out c.span_step.new.out c.loop-y.out_spans c.span_step.result y _ c.loop-y.invariant.spans (omega (arith, c.loop-y.invariant.long)) c.loop-y-test.true size long c.span_step.ensures.span (omega (arith, long, c.span_step.ensures.end));
+      same = same_join f c.loop-y.out c.span_step.new.out c.loop-y.out_spans c.span_step.result y _ c.loop-y.invariant.spans (omega (arith, c.loop-y.invariant.long)) c.loop-y-test.true size long (IsTrue c.args.follows) c.args.out.now c.loop-y.invariant.same c.loop-y.invariant.rest c.span_step.ensures.same;
+      rest = rest_join f c.loop-y.out c.span_step.new.out c.loop-y.out_spans c.span_step.result y _ c.loop-y.invariant.spans (omega (arith, c.loop-y.invariant.long)) c.loop-y-test.true size long c.args.out.now c.loop-y.invariant.rest;
       below = row_joins f.words y _ c.loop-y.out c.span_step.new.out (λ x z. one_if (set.contains (next c.args.rule.now (framed f rows)) (cell_in f.left f.top x z))) size long room c.loop-y.invariant.below
           (λ x narrow. c.span_step.ensures.places c.args.rule.now x c.of-masks.ensures (omega arith)
           ∙ next_place_is c.args.rule.now f.left f.top (64 * f.words) rows c.row_above.result.now c.row.result.now c.row_below.result.now x y wide c.of-masks.ensures.quiet
@@ -81,3 +100,19 @@ returns-clause-rows c =
     rows_are f.left f.top (64 * f.words) f.height c.loop-y.out (next c.args.rule.now (framed f c.args.rows.now)) wide size
     (next_in c.args.rule.now f.left f.top (64 * f.words) f.height (framed f c.args.rows.now) c.requires.room)
     (λ x y narrow low. c.loop-y.invariant.below x y narrow (omega arith))
+
+pub returns-clause-settled : goal.returns-clause-settled
+returns-clause-settled c = record {
+  places = λ x y narrow low settled.
+      let f = c.args.frame in
+      let spans = c.loop-y.out_spans in
+      let long = c.loop-y.invariant.spans.long in
+      let same : (z : ℕ) → z < f.height → IsTrue (span_at spans z).same → IsTrue c.args.follows × IsSameRow f.words c.args.out.now c.loop-y.out z = λ z lt marked. c.loop-y.invariant.same z (omega arith) marked in
+      let own = same y low settled.0 in
+      settled_next c.args.rule.now f c.args.rows.now c.args.out.now c.loop-y.out c.of-masks.ensures.quiet (omega arith) (omega arith) (omega arith) (omega arith) (c.requires.follows own.0) x y narrow low
+      (λ later. (same (y - 1) (omega (arith, low)) settled.1.0).1)
+      own.1
+      (λ inner.
+      let next : min (y + 1) (length spans - 1) ≡ y + 1 = omega (arith, inner, long) in
+      (same (y + 1) inner (subst (λ n. IsTrue (span_at spans n).same) next settled.1.1)).1);
+}

@@ -21,7 +21,7 @@ returns-then-reach-clause-places c r p are lt =
 pub trimmed-requires-clause-blank : goal.trimmed-requires-clause-blank
 trimmed-requires-clause-blank c =
     let t = c.joined-reach.result in
-    let done = c.words_step.ensures c.requires.rule.0 c.requires.rule.1 in
+    let done = c.words_step-same.ensures.words c.requires.rule.0 c.requires.rule.1 in
     let old = blank_more c.args.out_span t c.args.out.now (omega (arith, c.joined-reach.ensures.from)) (omega (arith, c.joined-reach.ensures.to)) c.requires.out in
     record {
       before = λ j low. done.before j low ∙ old.before j low;
@@ -37,7 +37,7 @@ returns-clause-places c r p are lt =
     let out = c.args.out.now in
     let from : t.from ≡ min (s.from - 1) o.from = omega (arith, c.joined-reach.ensures.from, c.widened.ensures.from) in
     let to : t.to ≡ max (min (s.to + 1) (length out)) o.to = omega (arith, c.joined-reach.ensures.to, c.widened.ensures.to) in
-    let done = c.words_step.ensures r are in
+    let done = c.words_step-same.ensures.words r are in
     let at = untouched r s o t _ _ _ _ _ are.quiet b.0 b.1 b.2 c.requires.out from to p (omega (arith, lt, done.long)) in
     elim (cases_lt (p / 64) t.from) [
       | inl low ↦ ap (λ x. bit_at x (p % 64)) (done.before (p / 64) low) ∙ at (inl low)

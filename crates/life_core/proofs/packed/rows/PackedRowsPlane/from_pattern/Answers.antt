@@ -1,5 +1,6 @@
 use Rattle.std.proofs.Common.{◌*◌, sym, ap, subst, ◌∙◌, arith}
 use Rattle.std.specs.FinSet as set
+use Rattle.std.proofs.lemmas.Bool.{false≢true}
 use Rattle.std.proofs.lemmas.Map.Views.{All-from_any}
 use Rattle.life_core.specs.declared.cell.TheConstants.{PLANE}
 use Rattle.life_core.specs.Pattern.{Cells, IsWithin}
@@ -14,8 +15,8 @@ words_of-requires-clause-cells g c =
     All-from_any same_cell_laws (IsIn f.left f.top (64 * f.words) f.height) c.cells.result.now (λ d h.
     c.of-frame.ensures.inside d (ap (λ (X : Cells). set.contains X d) (sym (from_list_of _ c.cells.result.now c.cells.ensures.cells)) ∙ contains-list c.cells.result.now d ∙ h))
 
-pub invariant_of-result : goal.invariant_of-result
-invariant_of-result g c = record {
+pub invariant_of-result-2 : goal.invariant_of-result-2
+invariant_of-result-2 g c = record {
   frame = c.of-frame.ensures.frame;
   size = c.in_ok-rows.ensures.len;
   room = omega (arith, c.in_ok-rows.ensures.len, c.in_ok-spare.ensures.len);
@@ -23,6 +24,8 @@ invariant_of-result g c = record {
   within = subst (IsWithin PLANE) (sym c.in_ok-rows.ensures.cells) (within_from_list PLANE c.cells.result.now c.cells.ensures.inside);
   blank_words = c.in_ok-spans.ensures c.in_ok-rows.rows.items;
   blank_spare = c.in_ok-spare_spans.ensures c.in_ok-spare.spare.items;
+  settled = λ never. absurd (false≢true never);
+  after = λ never. absurd (false≢true never);
 }
 
 pub returns : goal.returns

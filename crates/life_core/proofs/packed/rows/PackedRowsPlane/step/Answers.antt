@@ -1,10 +1,13 @@
-use Rattle.std.proofs.Common.{◌≡◌, ℕ, List, length, drop, sym, ap, subst, ◌∙◌, refl, arith}
+use Rattle.std.specs.Prelude.{IsTrue}
+use Rattle.std.proofs.Common.{◌≡◌, ℕ, false, List, length, drop, sym, ap, subst, ◌∙◌, refl, arith}
+use Rattle.std.proofs.lemmas.Bool.{false≢true}
 use Rattle.std.proofs.lemmas.List.{take_at}
+use Rattle.life_core.specs.Rule.{RuleSets}
 use Rattle.life_core.specs.Pattern.{IsWithin}
 use Rattle.life_core.specs.Generations.{next}
 use Rattle.life_core.proofs.GenerationsLaws.{next_within}
 use Rattle.life_core.specs.PackedFrameState.{framed}
-use Rattle.life_core.specs.PackedRowsState.{IsPacked}
+use Rattle.life_core.specs.PackedRowsState.{IsPacked, AreSettled}
 use Rattle.life_core.specs.declared.packed.span.Span.{Span}
 use Rattle.life_core.specs.PackedSpanState.{AreSpans}
 use Rattle.life_core.proofs.packed.rows.PackedRowsPlane.step.Goals as goal
@@ -28,14 +31,34 @@ advance-requires-clause-out_spans g c =
     ] in
     subst (λ (p : List ℕ × List Span). AreSpans s.frame p.0 p.1) (λ i. (sym c.deref_mut.ensures.value i, sym c.deref_mut-2.ensures.value i)) all
 
+pub advance-requires-clause-settled : goal.advance-requires-clause-settled
+advance-requires-clause-settled g c t =
+    let s = c.match-with_room.self-inside in
+    let rule : s.rule ≡ c.args.rule.now = c.eq.ensures.same.0 (c.both-follows.ensures t).1 in
+    let all : IsTrue s.follows → AreSettled s.frame s.rule s.rows.items s.spare.items s.spans.items = elim c.match-with_room.branch [
+      | in-Some+in_ok-rows+in_ok-spare+in_ok-blank+in_ok-spans+in_ok-spare_spans w ↦ subst (λ z. IsTrue z.follows → AreSettled z.frame z.rule z.rows.items z.spare.items z.spans.items) (sym w.self-inside-is) (λ never. absurd (false≢true never))
+      | in_default w ↦ subst (λ z. IsTrue z.follows → AreSettled z.frame z.rule z.rows.items z.spare.items z.spans.items) (sym w.self-inside-is) c.self.invariant.settled
+    ] in
+    subst (λ (p : RuleSets × ((List ℕ × List ℕ) × List Span)). AreSettled s.frame p.0 p.1.0.0 p.1.0.1 p.1.1) (λ i. (rule i, ((sym c.deref-2.ensures.value i, sym c.deref_mut.ensures.value i), sym c.deref-3.ensures.value i))) (all (c.both-follows.ensures t).0)
+
+pub advance-requires-clause-follows : goal.advance-requires-clause-follows
+advance-requires-clause-follows g c t =
+    let s = c.match-with_room.self-inside in
+    let rule : s.rule ≡ c.args.rule.now = c.eq.ensures.same.0 (c.both-follows.ensures t).1 in
+    let all : IsTrue s.follows → framed s.frame s.rows.items ≡ next s.rule (framed s.frame s.spare.items) = elim c.match-with_room.branch [
+      | in-Some+in_ok-rows+in_ok-spare+in_ok-blank+in_ok-spans+in_ok-spare_spans w ↦ subst (λ z. IsTrue z.follows → framed z.frame z.rows.items ≡ next z.rule (framed z.frame z.spare.items)) (sym w.self-inside-is) (λ never. absurd (false≢true never))
+      | in_default w ↦ subst (λ z. IsTrue z.follows → framed z.frame z.rows.items ≡ next z.rule (framed z.frame z.spare.items)) (sym w.self-inside-is) c.self.invariant.after
+    ] in
+    subst (λ (p : RuleSets × (List ℕ × List ℕ)). framed s.frame p.1.0 ≡ next p.0 (framed s.frame p.1.1)) (λ i. (rule i, (sym c.deref-2.ensures.value i, sym c.deref_mut.ensures.value i))) (all (c.both-follows.ensures t).0)
+
 pub invariant_of-self : goal.invariant_of-self
 invariant_of-self g c =
     let s = c.match-with_room.self-inside in
     let V = framed c.self.inside.frame c.self.inside.rows.items in
-    let J : IsPacked s.frame s.rows.items s.spare.items s.blank.items s.spans.items s.spare_spans.items × (framed s.frame s.rows.items ≡ V) = elim c.match-with_room.branch [
+    let J : IsPacked s.frame s.rows.items s.spare.items s.blank.items s.spans.items s.spare_spans.items s.rule s.follows × (framed s.frame s.rows.items ≡ V) = elim c.match-with_room.branch [
       | in-Some+in_ok-rows+in_ok-spare+in_ok-blank+in_ok-spans+in_ok-spare_spans w ↦
           let same : framed w.in-Some.wider.frame w.in_ok-rows.rows.items ≡ V = w.in_ok-rows.ensures.cells ∙ ap (framed c.self.inside.frame) w.deref-in-Some.ensures.value in
-          let new : IsPacked w.in-Some.wider.frame w.in_ok-rows.rows.items w.in_ok-spare.spare.items w.in_ok-blank.blank.items w.in_ok-spans.spans.items w.in_ok-spare_spans.spare_spans.items = record {
+          let new : IsPacked w.in-Some.wider.frame w.in_ok-rows.rows.items w.in_ok-spare.spare.items w.in_ok-blank.blank.items w.in_ok-spans.spans.items w.in_ok-spare_spans.spare_spans.items c.self.inside.rule false = record {
             frame = w.in-Some.ensures.frame;
             size = w.in_ok-rows.ensures.len;
             room = omega (arith, w.in_ok-spare.ensures.len, w.len.ensures, w.in_ok-rows.rows.ok);
@@ -43,9 +66,11 @@ invariant_of-self g c =
             within = subst (IsWithin 1000000000) (sym same) c.self.invariant.within;
             blank_words = w.in_ok-spans.ensures _;
             blank_spare = w.in_ok-spare_spans.ensures _;
+            settled = λ never. absurd (false≢true never);
+            after = λ never. absurd (false≢true never);
           } in
-          subst (λ z. IsPacked z.frame z.rows.items z.spare.items z.blank.items z.spans.items z.spare_spans.items × (framed z.frame z.rows.items ≡ V)) (sym w.self-inside-is) (new, same)
-      | in_default w ↦ subst (λ z. IsPacked z.frame z.rows.items z.spare.items z.blank.items z.spans.items z.spare_spans.items × (framed z.frame z.rows.items ≡ V)) (sym w.self-inside-is) (c.self.invariant, refl)
+          subst (λ z. IsPacked z.frame z.rows.items z.spare.items z.blank.items z.spans.items z.spare_spans.items z.rule z.follows × (framed z.frame z.rows.items ≡ V)) (sym w.self-inside-is) (new, same)
+      | in_default w ↦ subst (λ z. IsPacked z.frame z.rows.items z.spare.items z.blank.items z.spans.items z.spare_spans.items z.rule z.follows × (framed z.frame z.rows.items ≡ V)) (sym w.self-inside-is) (c.self.invariant, refl)
     ] in
     let r = c.args.rule.now in
     let long : length c.advance.new.out ≡ length s.spare.items = omega (arith, ap length c.deref_mut.ensures.value) in
@@ -63,4 +88,6 @@ invariant_of-self g c =
       within = subst (IsWithin 1000000000) (sym eq) (next_within r 999999999 c.args.self.now c.requires);
       blank_words = subst (λ (p : List ℕ × List Span). AreSpans s.frame p.0 p.1) (λ i. (sym x i, sym u i)) c.advance.ensures.spans;
       blank_spare = subst (λ (p : List ℕ × List Span). AreSpans s.frame p.0 p.1) (λ i. (sym y i, sym v i)) J.0.blank_words;
+      settled = λ t. subst (λ (p : (List ℕ × List ℕ) × List Span). AreSettled s.frame r p.0.0 p.0.1 p.1) (λ i. ((sym x i, (c.deref-2.ensures.value ∙ sym y) i), sym u i)) c.advance.ensures.settled;
+      after = λ t. ap (framed s.frame) x ∙ c.advance.ensures.rows ∙ ap (λ (rows : List ℕ). next r (framed s.frame rows)) (c.deref-2.ensures.value ∙ sym y);
     }

@@ -25,10 +25,10 @@ use Rattle.sqlite.specs.declared.error.Error.{Error}
 use Rattle.life_core.specs.RuleText.{rule_text}
 use Rattle.life_rle.specs.Writer.{text}
 use Rattle.life_store.specs.declared.kept.Deposit.{Deposit}
-use Rattle.life_store.specs.Asking.{IsSeenAgain}
+use Rattle.life_store.specs.AskingState.{IsSeenAgain}
 use Rattle.life_store.specs.Kept.{Kept}
 use Rattle.life_store.specs.Layout.{archive_schema, deposits_table}
-use Rattle.life_store.specs.Statements.{add_deposit_text, deposit_terms}
+use Rattle.life_store.specs.StatementsState.{add_deposit_text, deposit_terms}
 use Rattle.life_store.specs.Stored.{IsFiled, rows_by, deposit_cells}
 use Rattle.life_store.specs.DepositsState.{AreValuesOf}
 use Rattle.life_store.specs.Tables.{tables_of, Holds, StaysLost, Keeps}

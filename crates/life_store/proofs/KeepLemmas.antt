@@ -18,7 +18,7 @@ use Rattle.sqlite.specs.Listing.{understood}
 use Rattle.sqlite.specs.State.{State, HasCleanDisk, IsUnchanged, IsNotRun, RunsCommand, Runs, ReleasesAt, text_of, Executes, ExecutesIn, shows_rows, FailsToQuery, FailsToShow, Shown, ShowsRows}
 use Rattle.sqlite.proofs.Callers.{IsPlain}
 use Rattle.life_store.specs.Layout.{archive_schema}
-use Rattle.life_store.specs.Asking.{IsUndone, IsSeenAgain}
+use Rattle.life_store.specs.AskingState.{IsUndone, IsSeenAgain}
 use Rattle.life_store.specs.Kept.{Kept}
 use Rattle.life_store.specs.Tables.{tables_in, tables_of, Holds, StaysLost, Keeps, Tells}
 

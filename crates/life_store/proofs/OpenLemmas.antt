@@ -18,12 +18,12 @@ use Rattle.sqlite.specs.State.{State, Shown}
 use Rattle.sqlite.proofs.Callers.{reads_as}
 use Rattle.sqlite_tied.specs.Compute.{everything}
 use Rattle.life_store.specs.Kept.{Kept}
-use Rattle.life_store.specs.Laid.{IsNewArchive}
+use Rattle.life_store.specs.LayingState.{IsNewArchive}
 use Rattle.life_store.specs.Layout.{archive_schema, no_schema}
-use Rattle.life_store.specs.Opening.{nothing_kept, versions_in, known_versions, HaveVersions}
-use Rattle.life_store.specs.OpeningState.{has_table, has_some, version_shown}
-use Rattle.life_store.specs.Picking.{picked}
-use Rattle.life_store.specs.Statements as st
+use Rattle.life_store.specs.Opening.{nothing_kept, versions_in, known_versions}
+use Rattle.life_store.specs.OpeningState.{HaveVersions, has_table, has_some, version_shown}
+use Rattle.life_store.specs.PickingState.{picked}
+use Rattle.life_store.specs.StatementsState as st
 use Rattle.life_store.specs.Tables.{Tables, tables_of, Holds}
 use Rattle.life_store.proofs.Texts.{version_is}
 use Rattle.life_store.proofs.QueryLemmas.{ordered_answer, one_answer}

@@ -21,10 +21,11 @@ use Rattle.std.specs.Prelude.{◌↔◌, Result, Ok, Err, IfOk, IfErr, ◌≢◌
 use Rattle.sqlite.specs.Files.{HoldsDatabase, AreFoundIn}
 use Rattle.life_store.specs.declared.fault.OpenFault.{OpenFault}
 use Rattle.life_store.specs.declared.fault.OpenFault.TheVariants.{BadCapacity, NotOurs}
-use Rattle.life_store.specs.Laid.{IsLaid}
+use Rattle.life_store.specs.LayingState.{IsLaid}
 use Rattle.life_store.specs.Kept.{Kept}
 use Rattle.life_store.specs.Layout.{archive_schema, no_schema}
-use Rattle.life_store.specs.Opening.{FilesHold, ListNothing, nothing_kept, versions_in, known_versions, HaveVersions, FilesHaveVersions}
+use Rattle.life_store.specs.Opening.{FilesHold, ListNothing, nothing_kept, versions_in, known_versions, FilesHaveVersions}
+use Rattle.life_store.specs.OpeningState.{HaveVersions}
 use Rattle.life_store.specs.Tables.{Tables, Shelf, tables_in, tables_of, Holds}
 use Rattle.life_store.proofs.KeepLemmas.{held_as}
 use Rattle.life_store.proofs.OpenLemmas.{have_known}

@@ -1,5 +1,4 @@
--- The four tables of docs/FORMATS.md, layout 1: the texts that make them, and the schema that these make (SQLite's "CREATE TABLE").
--- That the texts make it, in this order, in a database without tables, is proved where they are run.
+-- The schema of the four tables of docs/FORMATS.md, layout 1 (SQLite's "CREATE TABLE"). That the texts of LayingState.antt make it is proved.
 use Rattle.std.specs.Prelude.{true, false, [], ◌∷◌, Some, None, codes, List, ℕ, pos}
 use Rattle.sqlite_value.specs.declared.keys.Collation.TheVariants.{Binary}
 use Rattle.sqlite_value.specs.declared.value.Value.TheVariants.{Null, Int}
@@ -16,18 +15,6 @@ use Rattle.sqlite_schema.specs.declared.schema.Stamps.{Stamps}
 use Rattle.sqlite_sql.specs.declared.ops.BinaryOp.TheVariants.{Compare}
 use Rattle.sqlite_sql.specs.declared.ops.CompareOp.TheVariants.{Ge, Gt}
 use Rattle.sqlite_sql.specs.Term.{lit, col, op2}
-
-abbrev pub layout_text : List ℕ
-layout_text = codes "CREATE TABLE layout (version INTEGER NOT NULL) STRICT"
-
-abbrev pub deposits_text : List ℕ
-deposits_text = codes "CREATE TABLE deposits (id INTEGER PRIMARY KEY, member TEXT NOT NULL, token TEXT NOT NULL, rule TEXT NOT NULL, population INTEGER NOT NULL CHECK (population >= 0), rle BLOB NOT NULL, UNIQUE (member, token)) STRICT"
-
-abbrev pub censuses_text : List ℕ
-censuses_text = codes "CREATE TABLE censuses (id INTEGER PRIMARY KEY, member TEXT NOT NULL, token TEXT NOT NULL, deposit INTEGER NOT NULL REFERENCES deposits (id), gens INTEGER NOT NULL, lim INTEGER NOT NULL, clusters INTEGER NOT NULL, unresolved INTEGER NOT NULL, UNIQUE (member, token)) STRICT"
-
-abbrev pub census_rows_text : List ℕ
-census_rows_text = codes "CREATE TABLE census_rows (census INTEGER NOT NULL REFERENCES censuses (id), code TEXT NOT NULL, n INTEGER NOT NULL CHECK (n > 0), PRIMARY KEY (census, code)) STRICT"
 
 -- id INTEGER PRIMARY KEY
 abbrev pub column_key : Column

@@ -9,7 +9,7 @@ use Rattle.sqlite_catalog.specs.Listing.{IsSound}
 use Rattle.sqlite.specs.Files.{HoldsDatabase, AreFoundIn}
 use Rattle.life_store.specs.Kept.{Kept}
 use Rattle.life_store.specs.Layout.{archive_schema, no_schema}
-use Rattle.life_store.specs.Tables.{Tables, tables_in, Holds}
+use Rattle.life_store.specs.Tables.{tables_in, Holds}
 
 -- from 1 to 1,000,000
 abbrev pub is_capacity : ℕ → Bool
@@ -39,11 +39,6 @@ versions_in rows = map (λ row. column row 1) rows
 -- version 1, and no other
 abbrev pub known_versions : List Value
 known_versions = Int (pos 1) ∷ []
-
--- The tables are the archive's, and these are the versions in the table `layout`.
-pub record HaveVersions (t : Tables) (versions : List Value) : Type 0 where
-  pub schema : t.schema ≡ archive_schema
-  pub are : versions_in t.layout ≡ versions
 
 -- The files hold a database that obeys the archive's tables, and these are the versions in its table `layout`.
 pub record FilesHaveVersions (image : Image) (versions : List Value) : Type 0 where

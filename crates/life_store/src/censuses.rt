@@ -8,9 +8,9 @@ ghost use Rattle.life_core.specs.Rule.{RuleSets, IsRule};
 ghost use Rattle.life_core.specs.RuleText.{rule_text};
 ghost use Rattle.life_census.specs.Rows.{row_seen};
 ghost use Rattle.life_store.specs.declared.kept.Deposit.{Deposit as Given};
-ghost use Rattle.life_store.specs.Answers.{newest_rows, ShowsCensus, ShowsTotal, row_shown};
+ghost use Rattle.life_store.specs.ReadingState.{newest_rows, ShowsCensus, ShowsTotal, row_shown};
 ghost use Rattle.life_store.specs.Kept.{Kept, Tallied, numbered, tallied_from, total_of};
-ghost use Rattle.life_store.specs.Standing.{Stands, Means};
+ghost use Rattle.life_store.specs.CensusesState.{Stands, Means};
 ghost use Rattle.life_store.specs.Stored.{tagged};
 ghost use Rattle.life_store.specs.Tables.{tables_of, HasOrder, Holds, StaysLost, Keeps, Tells};
 

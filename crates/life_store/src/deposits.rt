@@ -2,7 +2,7 @@
 
 ghost use Rattle.std.specs.Prelude.{◌≡◌, ◌+◌, ◌++◌, ℕ, pos, [], ◌∷◌, length, map, option_map, IsTrue, IfOk, OnErr, OnOk};
 ghost use Rattle.sqlite.specs.Held.{state};
-ghost use Rattle.life_store.specs.Answers.{newest_rows, ShowsDeposit, line_shown};
+ghost use Rattle.life_store.specs.ReadingState.{newest_rows, ShowsDeposit, line_shown};
 ghost use Rattle.life_store.specs.Kept.{Kept, numbered, deposit_by, lines_after};
 ghost use Rattle.life_store.specs.DepositsState.{AreValuesOf};
 ghost use Rattle.life_store.specs.Tables.{tables_of, Holds, StaysLost, Keeps, Tells};

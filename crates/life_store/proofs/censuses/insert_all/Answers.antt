@@ -3,7 +3,7 @@ use Rattle.std.specs.Prelude.{IsTrue}
 use Rattle.sqlite.specs.State.{HasCleanDisk}
 use Rattle.sqlite.specs.Held.{state}
 use Rattle.life_store.specs.Kept.{Tallied}
-use Rattle.life_store.specs.Standing.{Stands}
+use Rattle.life_store.specs.CensusesState.{Stands}
 use Rattle.life_store.specs.Stored.{tagged}
 use Rattle.life_store.proofs.CensusLemmas.{committed}
 use Rattle.life_store.proofs.censuses.insert_all.Goals as goal

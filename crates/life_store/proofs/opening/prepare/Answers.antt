@@ -1,6 +1,6 @@
 use Rattle.std.proofs.Common.{rules, ◌≡◌, ◌∙◌, sym, false}
 use Rattle.life_store.specs.OpeningState.{has_table}
-use Rattle.life_store.specs.Statements.{layout_name}
+use Rattle.life_store.specs.StatementsState.{layout_name}
 use Rattle.life_store.proofs.OpenLemmas.{stands_not, layout_not}
 use Rattle.life_store.proofs.opening.prepare.Goals as goal
 

@@ -3,7 +3,7 @@ use Rattle.std.specs.Prelude.{◌↔◌, ⊤}
 use Rattle.sqlite.specs.Held.{state}
 use Rattle.life_store.specs.Opening.{known_versions}
 use Rattle.life_store.specs.OpeningState.{version_shown}
-use Rattle.life_store.specs.Statements.{version_text}
+use Rattle.life_store.specs.StatementsState.{version_text}
 use Rattle.life_store.proofs.Texts.{version_is}
 use Rattle.life_store.proofs.KeepLemmas.{asked, told}
 use Rattle.life_store.proofs.OpenLemmas.{finds_version}

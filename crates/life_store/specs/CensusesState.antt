@@ -1,4 +1,4 @@
--- Words of the code alone: what the rows of the tables stand for, part by part, as a transaction writes them.
+-- Words of the code alone: what the rows of the tables stand for (Tables.antt), part by part, as a transaction writes them.
 use Rattle.std.specs.Prelude.{◌≡◌, ℕ, pos, false, List, [], ◌∷◌, IsTrue}
 use Rattle.sqlite_value.specs.declared.value.Value.TheVariants.{Int, Text}
 use Rattle.sqlite_value.specs.Order.{Row}

@@ -1,4 +1,4 @@
--- Words of the code alone: what a statement that was refused leaves.
+-- Words of the code alone: what a statement that was refused leaves (the kit's `sqlite`).
 use Rattle.std.specs.Prelude.{◌≡◌, ◌⊎◌, IsTrue}
 use Rattle.sqlite.specs.State.{State, IsUnchanged, IsRolledBack}
 

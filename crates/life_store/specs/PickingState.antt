@@ -1,4 +1,4 @@
--- Words of the code alone: the rows of one table that a query picks.
+-- Words of the code alone: the rows of one table that the terms of a query pick, and what it shows of each (SQLite's "SELECT").
 use Rattle.std.specs.Prelude.{Bool, List, [], ◌∷◌, filter}
 use Rattle.std.specs.List.{list_all}
 use Rattle.sqlite_value.specs.Order.{Row}

@@ -1,4 +1,4 @@
--- Words of the code alone: what the rows of an answer show.
+-- Words of the code alone: what the rows of an answer show, column by column as the queries of StatementsState.antt list them.
 use Rattle.std.specs.Prelude.{◌≡◌, ◌⊎◌, ℕ, zero, suc, pos, List, [], ◌∷◌, Option, None, Some}
 use Rattle.sqlite_value.specs.declared.value.Value.TheVariants.{Null, Int, Text, Blob}
 use Rattle.sqlite_value.specs.Order.{Row}

@@ -1,5 +1,5 @@
 -- Rows that are what they were two generations ago: their next is what the generation before had there.
-use Rattle.std.proofs.Common.{◌≡◌, ℕ, zero, suc, ℤ, pos, negsuc, ◌+ℤ◌, ◌+◌, ◌-◌, ◌*◌, ◌/◌, ◌%◌, ◌<◌, ◌≤◌, Bool, false, ◌&&◌, nat_eq, nat_lt, List, [], length, take, drop, get_or, refl, sym, ap, subst, ◌∙◌, inl, inr, rules, arith}
+use Rattle.std.proofs.Common.{◌≡◌, ℕ, zero, suc, ℤ, pos, negsuc, ◌+ℤ◌, ◌+◌, ◌-◌, ◌*◌, ◌/◌, ◌%◌, ◌<◌, ◌≤◌, false, ◌&&◌, nat_eq, nat_lt, List, [], length, take, drop, get_or, refl, sym, ap, subst, ◌∙◌, inl, inr, rules, arith}
 use Rattle.std.specs.Int.{bit_at}
 use Rattle.std.specs.FinSet as set
 use Rattle.std.proofs.lemmas.Bool.{cases_lt, lt-ltb, le-ltb}
@@ -11,7 +11,7 @@ use Rattle.life_core.specs.declared.packed.frame.Frame.{Frame}
 use Rattle.life_core.specs.Rule.{RuleSets}
 use Rattle.life_core.specs.Generations.{next}
 use Rattle.life_core.specs.PackedRow.{one_if, place}
-use Rattle.life_core.specs.PackedFrameState.{bit_in, cell_in, framed, IsRow}
+use Rattle.life_core.specs.PackedFrameState.{cell_in, framed, IsRow}
 use Rattle.life_core.proofs.PackedCells.{place_is_live}
 use Rattle.life_core.proofs.PackedJoins.{place_in_row}
 use Rattle.life_core.proofs.PackedSteps.{next_place_is}

@@ -20,16 +20,17 @@ pub fn row_step(above: &[u64], here: &[u64], below: &[u64], rule: &Rule, out: &m
     ensures { (p : ℕ) → p < 64 * length out.new → place out.new p ≡ next_place rule.now above.now here.now below.now p }
 {
     let len = out.len();
-    let _same = words_step(above, here, below, &RuleMasks::of(rule), 0, len, out);
+    let _same = words_step(above, here, below, &RuleMasks::of(rule), false, 0, len, out);
 }
 
 /// `row_step` for the words from `from` up to `to`, under the rule of the masks. The other words of
-/// `out` stay. It tells whether these do too.
+/// `out` stay. If asked, it tells where these do too.
 pub(crate) fn words_step(
     above: &[u64],
     here: &[u64],
     below: &[u64],
     masks: &RuleMasks,
+    compares: bool,
     from: usize,
     to: usize,
     out: &mut [u64],
@@ -44,7 +45,7 @@ pub(crate) fn words_step(
     let first = from.max(1).min(to);
     let last = to.min(out.len().saturating_sub(1)).max(first);
     let left = edge_words(above, here, below, masks, from, first, out);
-    let inner = inner_words(above, here, below, masks, first, last, out);
+    let inner = inner_words(above, here, below, masks, compares, first, last, out);
     let right = edge_words(above, here, below, masks, last, to, out);
     all_of(left, inner, right)
 }
@@ -97,6 +98,7 @@ fn inner_words(
     here: &[u64],
     below: &[u64],
     masks: &RuleMasks,
+    compares: bool,
     from: usize,
     to: usize,
     out: &mut [u64],
@@ -109,15 +111,19 @@ fn inner_words(
     ensures words { (r : RuleSets) → AreMasks r masks.now → AreStepped (next_place r above.now here.now below.now) from to out.old out.new }
     ensures same { IsTrue result → (j : ℕ) → slice_index_or out.new j 0 ≡ slice_index_or out.old j 0 }
 {
+    if !compares {
+        plain_words(above, here, below, masks, from, to, out);
+        return false;
+    }
     if masks.is_life {
-        life_words(above, here, below, from, to, out)
+        life_words_compared(above, here, below, from, to, out)
     } else {
-        masked_words(above, here, below, masks, from, to, out)
+        masked_words_compared(above, here, below, masks, from, to, out)
     }
 }
 
-/// `inner_words` under Conway's Life.
-fn life_words(
+/// `inner_words` under Conway's Life, which compares.
+fn life_words_compared(
     above: &[u64],
     here: &[u64],
     below: &[u64],
@@ -142,8 +148,8 @@ fn life_words(
     same
 }
 
-/// `inner_words` under any rule.
-fn masked_words(
+/// `inner_words` under any rule, which compares.
+fn masked_words_compared(
     above: &[u64],
     here: &[u64],
     below: &[u64],
@@ -167,6 +173,66 @@ fn masked_words(
         out[j] = word;
     }
     same
+}
+
+/// `inner_words` where nobody asks whether the words stay.
+fn plain_words(
+    above: &[u64],
+    here: &[u64],
+    below: &[u64],
+    masks: &RuleMasks,
+    from: usize,
+    to: usize,
+    out: &mut [u64],
+)
+    requires above { length above.now ≡ length out.old }
+    requires here { length here.now ≡ length out.old }
+    requires below { length below.now ≡ length out.old }
+    requires ends { (from ≤ to) × (to ≤ length out.old) }
+    requires inner { from < to → (0 < from) × (to < length out.old) }
+    ensures { (r : RuleSets) → AreMasks r masks.now → AreStepped (next_place r above.now here.now below.now) from to out.old out.new }
+{
+    if masks.is_life {
+        life_words(above, here, below, from, to, out);
+    } else {
+        masked_words(above, here, below, masks, from, to, out);
+    }
+}
+
+/// `plain_words` under Conway's Life.
+fn life_words(above: &[u64], here: &[u64], below: &[u64], from: usize, to: usize, out: &mut [u64])
+    requires above { length above.now ≡ length out.old }
+    requires here { length here.now ≡ length out.old }
+    requires below { length below.now ≡ length out.old }
+    requires ends { (from ≤ to) × (to ≤ length out.old) }
+    requires inner { from < to → (0 < from) × (to < length out.old) }
+    ensures { AreStepped (next_place life above.now here.now below.now) from to out.old out.new }
+{
+    for j in from..to {
+        out[j] = life_word(here[j], count_inner(above, here, below, j));
+    }
+}
+
+/// `plain_words` under any rule.
+fn masked_words(
+    above: &[u64],
+    here: &[u64],
+    below: &[u64],
+    masks: &RuleMasks,
+    from: usize,
+    to: usize,
+    out: &mut [u64],
+)
+    requires above { length above.now ≡ length out.old }
+    requires here { length here.now ≡ length out.old }
+    requires below { length below.now ≡ length out.old }
+    requires ends { (from ≤ to) × (to ≤ length out.old) }
+    requires inner { from < to → (0 < from) × (to < length out.old) }
+    ensures { (r : RuleSets) → AreMasks r masks.now → AreStepped (next_place r above.now here.now below.now) from to out.old out.new }
+{
+    for j in from..to {
+        out[j] = next_word(masks, here[j], count_inner(above, here, below, j));
+    }
 }
 
 /// How many of the eight places round a place are set, for each place of the word `j`.

@@ -19,6 +19,10 @@ use std::alloc::{Allocator, Global};
 use std::marker::Model;
 use std::mem;
 
+/// How many steps there are to one that asks which rows are what they were. Comparing costs about a
+/// tenth of a step, and the rows beside one that changes are asked anew each time.
+const COMPARING: u32 = 4;
+
 /// Rows of words with a bit for each cell of a box round the live cells. It suits sets that fill
 /// much of their box; a generation takes a time that is linear in the box.
 #[derive(Debug, Drop)]
@@ -37,6 +41,8 @@ pub struct PackedRows<A: Allocator = Global> {
     rule: Rule,
     /// Whether `rows` is the generation after `spare`, by that rule.
     follows: bool,
+    /// How many steps were made, as far as a word counts.
+    steps: u32,
 }
 
 impl<A: Allocator> Model for PackedRows<A> {
@@ -72,6 +78,7 @@ impl<A: Allocator + Copy> Plane<A> for PackedRows<A> {
             spare_spans,
             rule: Rule::LIFE,
             follows: false,
+            steps: 0,
         })
     }
 
@@ -101,6 +108,7 @@ impl<A: Allocator + Copy> Plane<A> for PackedRows<A> {
             rule,
             self.frame,
             follows,
+            self.steps % COMPARING == 0,
             &self.rows,
             &self.spans,
             &self.blank,
@@ -111,6 +119,7 @@ impl<A: Allocator + Copy> Plane<A> for PackedRows<A> {
         mem::swap(&mut self.spans, &mut self.spare_spans);
         self.rule = *rule;
         self.follows = true;
+        self.steps = self.steps.wrapping_add(1);
         Ok(())
     }
 
@@ -122,11 +131,12 @@ impl<A: Allocator + Copy> Plane<A> for PackedRows<A> {
 }
 
 /// Puts the rows one generation later into `out`, and their spans into `out_spans`. Where three rows
-/// are what they were two generations ago, `out` has the middle one's next already.
+/// are known to be what they were two generations ago, `out` has the middle one's next already.
 fn advance(
     rule: &Rule,
     frame: Frame,
     follows: bool,
+    compares: bool,
     rows: &[u64],
     spans: &[Span],
     blank: &[u64],
@@ -162,6 +172,7 @@ fn advance(
             &mut out[y * words..y * words + words],
             out_spans[y],
             follows,
+            compares,
         );
     }
 }

@@ -102,7 +102,7 @@ pub(crate) fn is_settled(follows: bool, spans: &[Span], y: usize) -> bool
 
 /// One generation of a row where the rows are blank outside a span, and `out` is outside another. It
 /// gives a span of the new row, and touches no word that is known to be blank before and after. Where
-/// `out` follows two generations later, the span tells whether it is the same.
+/// `out` follows two generations later, the span tells, if asked, where it is the same.
 pub(crate) fn span_step(
     above: &[u64],
     here: &[u64],
@@ -112,6 +112,7 @@ pub(crate) fn span_step(
     out: &mut [u64],
     out_span: Span,
     follows: bool,
+    compares: bool,
 ) -> Span
     requires above { length above.now ≡ length out.old }
     requires here { length here.now ≡ length out.old }
@@ -130,7 +131,9 @@ pub(crate) fn span_step(
     if reach.from >= reach.to {
         return reach.marked(follows);
     }
-    let same = words_step(above, here, below, masks, reach.from, reach.to, out);
+    let same = words_step(
+        above, here, below, masks, compares, reach.from, reach.to, out,
+    );
     trimmed(out, reach).marked(both(follows, same))
 }
 

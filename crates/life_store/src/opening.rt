@@ -11,9 +11,9 @@ ghost use Rattle.sqlite_wal.specs.Reads.{AreClean};
 ghost use Rattle.life_store.specs.Kept.{Kept};
 ghost use Rattle.life_store.specs.LayingState.{IsLaid};
 ghost use Rattle.life_store.specs.Layout.{no_schema};
-ghost use Rattle.life_store.specs.Opening.{is_capacity, nothing_kept, versions_in, known_versions, FilesHaveVersions, FilesHold, ListNothing};
+ghost use Rattle.life_store.specs.Opening.{is_capacity, nothing_kept, known_versions, FilesHaveVersions, FilesHold, ListNothing};
 ghost use Rattle.life_store.specs.OpeningState.{HaveVersions, has_table, has_view, has_name, has_some, version_shown};
-ghost use Rattle.life_store.specs.Tables.{tables_of, Holds, StaysLost, Keeps};
+ghost use Rattle.life_store.specs.Tables.{tables_of, Holds, Keeps};
 
 use crate::archive::Archive;
 use crate::asking::ask;

@@ -1,5 +1,5 @@
 -- What an archive finds as it is opened.
-use Rattle.std.proofs.Common.{◌≡◌, pos, List, [], ◌∷◌, map, true, false, refl, sym, ap, subst, ◌∙◌, arith}
+use Rattle.std.proofs.Common.{◌≡◌, pos, List, [], ◌∷◌, true, false, refl, sym, ap, subst, ◌∙◌, arith}
 use Rattle.std.specs.Prelude.{◌↔◌}
 use Rattle.std.specs.List.Sorted.{IsPermutation}
 use Rattle.std.proofs.lemmas.List.Sorted.{IsPermutation-refl}

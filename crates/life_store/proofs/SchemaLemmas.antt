@@ -152,6 +152,10 @@ module _ {A F : Type 0} (s : State) (image : Image) (opened : HasCleanDisk s →
   opens_ours (Ok a) h = tt
   opens_ours (Err e) h = λ k clean files is. let it = h clean is in it.1 (have_known (tables_of s) k (finds_held s image k (opened it.0) (found it.0) files))
 
+  pub opens_clean : (P : Type 0) (r : Result A (OpenFault × F)) → (HasCleanDisk s → P) → IsNotOurs r → IfErr r (λ e. C e.1 → e.0 ≡ NotOurs → P)
+  opens_clean P (Ok a) then h = tt
+  opens_clean P (Err e) then h = λ clean is. then (h clean is).0
+
   pub opens_versions : (r : Result A (OpenFault × F)) → IsNotOurs r → IfErr r (λ e. C e.1 → FilesHaveVersions image known_versions → e.0 ≢ NotOurs)
   opens_versions (Ok a) h = tt
   opens_versions (Err e) h = λ clean files is. let it = h clean is in it.1 (finds_versions s image known_versions (opened it.0) (found it.0) files)
@@ -178,3 +182,10 @@ pub found_again : {E : Type 0} (r : Result Shelf E) (t : Tables) (image : Image)
     → ((k : Kept) → Clean → Holds t k → FilesHold image k) → IfOk r (λ a. (k : Kept) → IsSureOf a → Holds t k → Holds a.tables k)
 found_again (Ok a) t image Clean found honest held = λ k sure holds. found k sure (held k (honest sure) holds)
 found_again (Err e) t image Clean found honest held = tt
+
+-- what was closed is not refused as another's
+pub ours_again : {A F : Type 0} (r : Result A (OpenFault × F)) (t : Tables) (image : Image) (Clean : Type 0) (C : F → Type 0)
+    → IfErr r (λ e. (k : Kept) → C e.1 → FilesHold image k → e.0 ≢ NotOurs) → IfErr r (λ e. C e.1 → e.0 ≡ NotOurs → Clean) → ((k : Kept) → Clean → Holds t k → FilesHold image k)
+    → IfErr r (λ e. (k : Kept) → C e.1 → Holds t k → e.0 ≢ NotOurs)
+ours_again (Ok a) t image Clean C ours was held = tt
+ours_again (Err e) t image Clean C ours was held = λ k clean holds is. ours k clean (held k (was clean is) holds) is

@@ -11,9 +11,9 @@ ghost use Rattle.sqlite_wal.specs.Reads.{AreClean};
 ghost use Rattle.life_store.specs.Kept.{Kept};
 ghost use Rattle.life_store.specs.LayingState.{IsLaid};
 ghost use Rattle.life_store.specs.Layout.{no_schema};
-ghost use Rattle.life_store.specs.Opening.{is_capacity, nothing_kept, versions_in, known_versions, FilesHaveVersions, FilesHold, ListNothing};
+ghost use Rattle.life_store.specs.Opening.{is_capacity, nothing_kept, known_versions, FilesHaveVersions, FilesHold, ListNothing};
 ghost use Rattle.life_store.specs.OpeningState.{HaveVersions, has_table, has_view, has_name, has_some, version_shown};
-ghost use Rattle.life_store.specs.Tables.{tables_of, Holds, StaysLost, Keeps};
+ghost use Rattle.life_store.specs.Tables.{tables_of, Holds, Keeps};
 
 use crate::archive::Archive;
 use crate::asking::ask;
@@ -198,6 +198,7 @@ impl<D: Disk + Drop> Archive<FileStore<D>> {
         ensures ours { IfErr result (λ e. (k : Kept) → AreClean D.Disk e.1.log e.1.db → FilesHold (image_of D.Disk files) k → e.0 ≢ OpenFault.NotOurs) }
         ensures versions { IfErr result (λ e. AreClean D.Disk e.1.log e.1.db → FilesHaveVersions (image_of D.Disk files) known_versions → e.0 ≢ OpenFault.NotOurs) }
         ensures none { IfErr result (λ e. AreClean D.Disk e.1.log e.1.db → ListNothing (image_of D.Disk files) → e.0 ≢ OpenFault.NotOurs) }
+        ensures clean { IfErr result (λ e. AreClean D.Disk e.1.log e.1.db → e.0 ≡ OpenFault.NotOurs → AreClean D.Disk files.log files.db) }
     {
         if !is_capacity(capacity) {
             return Err((OpenFault::BadCapacity, files));
@@ -229,7 +230,7 @@ impl<D: Disk + Drop> Archive<FileStore<D>> {
 
 impl<D: Disk + Drop> Archive<FileStore<D>> {
     /// Closes the archive and opens its files again, with another capacity: what it held is found again. Where the close or
-    /// the opening is refused, the files are given back.
+    /// the opening is refused, the files are given back; those of an archive are not refused as another's.
     pub fn reopen(
         self,
         alloc: Global,
@@ -238,6 +239,7 @@ impl<D: Disk + Drop> Archive<FileStore<D>> {
         ensures capacity { IfOk result (λ a. (a.capacity ≡ capacity) × IsTrue (is_capacity capacity)) }
         ensures found { IfOk result (λ a. (k : Kept) → IsTrue a.tables.is_sure → Holds self.tables k → Holds a.tables k) }
         ensures bad { IfErr result (λ e. e.0 ≡ OpenFault.BadCapacity → is_capacity capacity ≡ false) }
+        ensures ours { IfErr result (λ e. (k : Kept) → AreClean D.Disk e.1.log e.1.db → Holds self.tables k → e.0 ≢ OpenFault.NotOurs) }
     {
         match self.close_files() {
             Ok(files) => Archive::open_files(alloc, files, capacity),

@@ -2,7 +2,7 @@ use Rattle.std.proofs.Common.{◌≡◌, rules, true}
 use Rattle.sqlite_wal.specs.Reads.{AreClean}
 use Rattle.sqlite.specs.Files.{file_state, image_of}
 use Rattle.life_store.specs.Opening.{is_capacity}
-use Rattle.life_store.proofs.SchemaLemmas.{opens_held, opens_fresh, opens_known, opens_ours, opens_versions, opens_none, sure_then, errs_not, errs_never}
+use Rattle.life_store.proofs.SchemaLemmas.{opens_held, opens_fresh, opens_known, opens_ours, opens_clean, opens_versions, opens_none, sure_then, errs_not, errs_never}
 use Rattle.life_store.proofs.opening.Archive+FileStore+D.open_files.Goals as goal
 
 pub returns-in-Ok-clause-found : goal.returns-in-Ok-clause-found
@@ -37,3 +37,7 @@ returns-in-Ok-clause-versions g c =
 pub returns-in-Ok-clause-none : goal.returns-in-Ok-clause-none
 returns-in-Ok-clause-none g c =
     opens_none (file_state c.in-Ok.conn) (image_of g.D.Disk c.args.files) c.in-Ok.ensures.opened (λ clean. (c.in-Ok.ensures.found clean).holds) (λ files. AreClean g.D.Disk files.log files.db) c.archive_over.result c.archive_over.ensures.ours (λ clean. (c.in-Ok.ensures.found clean).reads) c.archive_over.ensures.none
+
+pub returns-in-Ok-clause-clean : goal.returns-in-Ok-clause-clean
+returns-in-Ok-clause-clean g c =
+    opens_clean (file_state c.in-Ok.conn) (image_of g.D.Disk c.args.files) c.in-Ok.ensures.opened (λ clean. (c.in-Ok.ensures.found clean).holds) (λ files. AreClean g.D.Disk files.log files.db) (AreClean g.D.Disk c.args.files.log c.args.files.db) c.archive_over.result (λ clean. (c.in-Ok.ensures.found clean).honest) c.archive_over.ensures.ours

@@ -2,7 +2,7 @@
 ghost use Rattle.std.specs.Prelude.{◌≡◌, codes, map, option_map, IfOk, false};
 ghost use Rattle.clap.specs.Words.{app_of, rule_of, rows_of, found_of, subcommand_rows_of, with_subcommand};
 ghost use Rattle.clap.specs.declared.builder.command.Command.TheViews.{out-Command as fields_of};
-ghost use Rattle.life_cli.specs.Words.{number_rule, number_rule_in, text_rule, file_rule, generation, kind, object, census, deposit, serve, life, asked_by};
+ghost use Rattle.life_cli.specs.Words.{number_rule, number_rule_in, text_rule, file_rule, generation, kind, object, census, deposit, serve, life_alone, life, asked_by};
 ghost use Rattle.life_cli.specs.Words.{number_at, text_at, object_of, census_of, deposit_of, serve_of, job_of, number_of, ComesFrom, Answers};
 
 use clap::builder::ValueParser;
@@ -300,14 +300,20 @@ fn with_archive_commands<'a>(alloc: Global, above: Command<'a>) -> Result<Comman
     with_command(command, serve_command(alloc)?)
 }
 
+// The command without its subcommands.
+fn command_alone<'a>(alloc: Global) -> Command<'a>
+    ensures { app_of result ≡ life_alone }
+{
+    Command::new(alloc, "life")
+        .about("An archive of Game of Life patterns")
+        .after_help(LIFE_HELP)
+        .subcommand_required(true)
+}
+
 fn life_command<'a>(alloc: Global) -> Result<Command<'a>, AllocError>
     ensures { IfOk result (λ command. app_of command ≡ life) }
 {
-    let command = Command::new(alloc, "life")
-        .about("An archive of Game of Life patterns")
-        .after_help(LIFE_HELP)
-        .subcommand_required(true);
-    let command = with_command(command, generation_command(alloc)?)?;
+    let command = with_command(command_alone(alloc), generation_command(alloc)?)?;
     let command = with_command(command, kind_command(alloc)?)?;
     let command = with_code_commands(alloc, command)?;
     with_archive_commands(alloc, command)

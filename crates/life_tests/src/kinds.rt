@@ -54,8 +54,9 @@ fn kinds_of_small_patterns(rt: HostRuntime) -> Result<(), Fail> {
 }
 
 /// The code of a pattern that stays, or `-`.
-fn code_or_dash(alloc: Global, cells: &[(i64, i64)]) -> Result<Vec<u8>, Fail> {
-    let pattern = Pattern::from_cells(alloc, cells)?;
+fn code_or_dash(alloc: Global, body: &str) -> Result<Vec<u8>, Fail> {
+    let file = format!(in alloc; "x = 0, y = 0\n{body}\n")?;
+    let pattern = read(alloc, file.as_bytes())?.cells;
     if !pattern.within(400_000_000) {
         return Err("the pattern is far out".into());
     }
@@ -66,39 +67,15 @@ fn code_or_dash(alloc: Global, cells: &[(i64, i64)]) -> Result<Vec<u8>, Fail> {
 }
 
 /// Two blocks in a box of 40 columns, which have a code, and in one of 41, which have none.
-const BOXES: [([(i64, i64); 8], &str); 2] = [
-    (
-        [
-            (0, 0),
-            (1, 0),
-            (38, 0),
-            (39, 0),
-            (0, 1),
-            (1, 1),
-            (38, 1),
-            (39, 1),
-        ],
-        "xs8_33yw33",
-    ),
-    (
-        [
-            (0, 0),
-            (1, 0),
-            (39, 0),
-            (40, 0),
-            (0, 1),
-            (1, 1),
-            (39, 1),
-            (40, 1),
-        ],
-        "-",
-    ),
+const BOXES: [(&str, &str); 2] = [
+    ("2o36b2o$2o36b2o!", "xs8_33yw33"),
+    ("2o37b2o$2o37b2o!", "-"),
 ];
 
 #[test]
 fn a_code_needs_a_box_of_40(rt: HostRuntime) -> Result<(), Fail> {
-    for (cells, expected) in BOXES {
-        let text = code_or_dash(rt.alloc(), &cells)?;
+    for (body, expected) in BOXES {
+        let text = code_or_dash(rt.alloc(), body)?;
         assert_eq!(rt; text.as_slice(), expected.as_bytes());
     }
     Ok(())

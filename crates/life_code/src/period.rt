@@ -40,14 +40,14 @@ pub fn kind_by<A: Allocator + Copy, P: Plane<A>>(
             return Ok(Kind::Unresolved);
         }
         // Generations 1, 2, 4, 8 and so on are kept, so that one of them soon lies in the cycle. The
-        // plane is made anew with them: it gives up room that the cells have left.
+        // plane gives up the room that the cells have left.
         if period >= 2 * mark {
             let here = plane.to_pattern(alloc)?;
             if here.population() == 0 {
                 return Ok(Kind::Unresolved);
             }
             kept = P::from_pattern(alloc, &here)?;
-            plane = P::from_pattern(alloc, &here)?;
+            plane.trim();
             mark = period;
         }
     }

@@ -25,6 +25,7 @@ pub mod PackedCells
 pub mod PackedJoins
 pub mod PackedShifts
 pub mod PackedGrowth
+pub mod PackedTrimming
 pub mod PackedOrder
 pub mod Spans
 pub mod SettledRows

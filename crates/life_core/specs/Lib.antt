@@ -20,3 +20,4 @@ pub mod PackedMarginsState
 pub mod PackedSpanState
 pub mod PackedRowsState
 pub mod PackedShiftsState
+pub mod PackedTrimmingState

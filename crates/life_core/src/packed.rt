@@ -6,5 +6,6 @@ pub mod row;
 pub mod rows;
 mod shifts;
 mod span;
+mod trimming;
 mod word_rule;
 mod words;

@@ -28,6 +28,43 @@ fn a_glider_goes_on(rt: HostRuntime) -> Result<(), Fail> {
     Ok(())
 }
 
+/// Steps the plane under Life so many times, as far as its set lies in the plane; whether it did.
+fn steps<P: Plane<Global>>(alloc: Global, plane: &mut P, n: u32) -> Result<bool, Fault> {
+    for _ in 0..n {
+        if !plane.to_pattern(alloc)?.within(PLANE - 1) {
+            return Ok(false);
+        }
+        plane.step(&Rule::LIFE)?;
+    }
+    Ok(true)
+}
+
+/// Whether a plane goes on alike with and without its room given up after `n` generations.
+fn trims<P: Plane<Global>>(alloc: Global, before: &Pattern, n: u32) -> Result<bool, Fault> {
+    let mut whole = P::from_pattern(alloc, before)?;
+    let mut trimmed = P::from_pattern(alloc, before)?;
+    if !steps(alloc, &mut whole, n)? || !steps(alloc, &mut trimmed, n)? {
+        return Ok(false);
+    }
+    trimmed.trim();
+    let same = whole.to_pattern(alloc)?.same(&trimmed.to_pattern(alloc)?);
+    if !steps(alloc, &mut whole, n)? || !steps(alloc, &mut trimmed, n)? {
+        return Ok(false);
+    }
+    Ok(same && whole.to_pattern(alloc)?.same(&trimmed.to_pattern(alloc)?))
+}
+
+#[test]
+fn a_trimmed_plane_goes_on(rt: HostRuntime) -> Result<(), Fail> {
+    let glider = Pattern::from_cells(rt.alloc(), &[(1, 0), (2, 1), (0, 2), (1, 2), (2, 2)])?;
+    let empty = Pattern::from_cells(rt.alloc(), &[])?;
+    for (before, n) in [(&glider, 1), (&glider, 70), (&glider, 300), (&empty, 2)] {
+        assert!(rt; trims::<CellList>(rt.alloc(), before, n)?, "after {n}");
+        assert!(rt; trims::<PackedRows>(rt.alloc(), before, n)?, "after {n}");
+    }
+    Ok(())
+}
+
 #[test]
 fn blinkers_lie_across_words(rt: HostRuntime) -> Result<(), Fail> {
     let left = Pattern::from_cells(rt.alloc(), &[(-65, -1), (-64, -1), (-63, -1)])?;

@@ -1,5 +1,5 @@
 //! Room for one more cell on each side of a set in a frame.
-ghost use Rattle.std.specs.Prelude.{◌≡◌, ℕ, ℤ, pos, ◌+◌, ◌*◌, ◌<◌, ◌≤◌, ◌+ℤ◌, ◌-ℤ◌, ◌≤ℤ◌, neg_ℤ, true, IsTrue, IsFalse, IsNone, IfSome, length};
+ghost use Rattle.std.specs.Prelude.{◌≡◌, ℕ, ℤ, pos, ◌+◌, ◌*◌, ◌<◌, ◌≤◌, ◌+ℤ◌, ◌-ℤ◌, ◌≤ℤ◌, neg_ℤ, true, IsTrue, IsFalse, IsNone, IfSome, length, slice_index_or};
 ghost use Rattle.std.specs.FinSet as set;
 ghost use Rattle.life_core.specs.declared.cell.Cell.{Cell};
 ghost use Rattle.life_core.specs.Pattern.{IsWithin};
@@ -179,10 +179,11 @@ fn column_is_dead(frame: Frame, rows: &[u64], j: usize, i: u32) -> bool
 }
 
 /// Whether all places of row `y` are dead.
-fn row_is_dead(frame: Frame, rows: &[u64], y: usize) -> bool
+pub(crate) fn row_is_dead(frame: Frame, rows: &[u64], y: usize) -> bool
     requires y { y < frame.height }
     requires rows { frame.height * frame.words ≡ length rows.now }
-    ensures { IsTrue result → (x : ℕ) → x < 64 * frame.words → place rows.now (y * (64 * frame.words) + x) ≡ 0 }
+    ensures words { IsTrue result → (j : ℕ) → j < frame.words → slice_index_or rows.now (y * frame.words + j) 0 ≡ 0 }
+    ensures places { IsTrue result → (x : ℕ) → x < 64 * frame.words → place rows.now (y * (64 * frame.words) + x) ≡ 0 }
 {
     for j in 0..frame.words {
         if rows[y * frame.words + j] != 0 {

@@ -9,7 +9,8 @@ use crate::fault::Fault;
 use crate::packed::frame::Frame;
 use crate::packed::margins::with_room;
 use crate::packed::shifts::shift_of_words;
-use crate::packed::span::{Span, both, is_settled, span_round, span_step, whole_spans};
+use crate::packed::span::{Span, both, is_settled, set_whole, span_round, span_step, whole_spans};
+use crate::packed::trimming::{copy_part, narrowed};
 use crate::packed::word_rule::RuleMasks;
 use crate::packed::words::{list_cells, moved_rows, words_of, zeros};
 use crate::pattern::Pattern;
@@ -127,7 +128,23 @@ impl<A: Allocator + Copy> Plane<A> for PackedRows<A> {
         shift_of_words(self.frame, &self.rows, other.frame, &other.rows)
     }
 
-    fn trim(&mut self) {}
+    fn trim(&mut self) {
+        if let Some(narrower) = narrowed(self.frame, &self.rows) {
+            let frame = narrower.frame;
+            let len = frame.height * frame.words;
+            self.spare.truncate(len);
+            copy_part(self.frame, &self.rows, narrower, &mut self.spare);
+            mem::swap(&mut self.rows, &mut self.spare);
+            self.spare.truncate(len);
+            self.blank.truncate(frame.words);
+            self.spans.truncate(frame.height);
+            self.spare_spans.truncate(frame.height);
+            set_whole(&mut self.spans, frame);
+            set_whole(&mut self.spare_spans, frame);
+            self.frame = frame;
+            self.follows = false;
+        }
+    }
 }
 
 /// Puts the rows one generation later into `out`, and their spans into `out_spans`. Where three rows

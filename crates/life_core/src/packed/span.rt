@@ -70,6 +70,18 @@ pub(crate) fn whole_spans<A: Allocator>(alloc: A, frame: Frame) -> Result<Vec<Sp
     }; frame.height]
 }
 
+/// Makes each span one of all the words of a row.
+pub(crate) fn set_whole(spans: &mut [Span], frame: Frame)
+    requires { length spans.old ≡ frame.height }
+    ensures { (rows : List ℕ) → AreSpans frame rows spans.new }
+{
+    spans.fill(Span {
+        from: 0,
+        to: frame.words,
+        same: false,
+    });
+}
+
 /// The span of row `y` joined with those of the rows above and below.
 pub(crate) fn span_round(spans: &[Span], y: usize) -> Span
     requires { y < length spans.now }

@@ -147,7 +147,7 @@ fn copy_rows(from: Frame, rows: &[u64], to: Wider, out: &mut [u64])
 }
 
 /// Copies the words to those from `start` on.
-fn copy_at(out: &mut [u64], start: usize, words: &[u64])
+pub(crate) fn copy_at(out: &mut [u64], start: usize, words: &[u64])
     requires { start + length words.now ≤ length out.old }
     ensures { out.new ≡ take start out.old ++ (words.now ++ drop (start + length words.now) out.old) }
 {

@@ -3,7 +3,7 @@ use Rattle.life_core.specs.Generations.{generation_of}
 use Rattle.life_code.proofs.PeriodKinds.{kind_one}
 use Rattle.life_code.proofs.PeriodSteps.{room_at, generation_more, none_more, nothing, something, found_at, none_at, none_after, none_of_nothing}
 use Rattle.life_code.proofs.period.kind_by.Goals as goal
-use Rattle.life_code.proofs.period.kind_by.Goals.{then-period-mark+in_ok-here+else-population-eq0-2+in_ok-kept-2+in_ok-plane-2, else-period-mark}
+use Rattle.life_code.proofs.period.kind_by.Goals.{then-period-mark+in_ok-here+else-population-eq0-2+in_ok-kept-2, else-period-mark}
 
 pub returns-then-population-eq0-clause-meaning : goal.returns-then-population-eq0-clause-meaning
 returns-then-population-eq0-clause-meaning g c = nothing c.args.pattern.now _ c.population.ensures c.if-population-eq0.true
@@ -68,15 +68,15 @@ loop-period-preserved g c =
     let none = none_more rule cells c.loop-period.period c.loop-period.invariant.none (none_at rule cells _ _ c.loop-period.period some c.in_ok-start.ensures now c.in_default.ensures) in
     record {
       now = (elim c.if-period-mark.branch [
-        | then-period-mark+in_ok-here+else-population-eq0-2+in_ok-kept-2+in_ok-plane-2 w ↦ ap g.P.Plane.cells w.plane-is ∙ w.in_ok-plane-2.ensures ∙ w.in_ok-here.ensures ∙ now
+        | then-period-mark+in_ok-here+else-population-eq0-2+in_ok-kept-2 w ↦ ap g.P.Plane.cells w.plane-is ∙ w.trim.ensures ∙ now
         | else-period-mark w ↦ ap g.P.Plane.cells w.plane-is ∙ now
       ]) ∙ ap (generation_of rule cells) (let e : c.loop-period.period ≡ c.loop-period.period + 1 - 1 = omega arith in e);
       mark = elim c.if-period-mark.branch [
-        | then-period-mark+in_ok-here+else-population-eq0-2+in_ok-kept-2+in_ok-plane-2 w ↦ omega (arith, w.mark-is)
+        | then-period-mark+in_ok-here+else-population-eq0-2+in_ok-kept-2 w ↦ omega (arith, w.mark-is)
         | else-period-mark w ↦ omega (arith, w.mark-is, c.loop-period.invariant.mark)
       ];
       kept = elim c.if-period-mark.branch [
-        | then-period-mark+in_ok-here+else-population-eq0-2+in_ok-kept-2+in_ok-plane-2 w ↦ ap g.P.Plane.cells w.kept-is ∙ w.in_ok-kept-2.ensures ∙ w.in_ok-here.ensures ∙ now ∙ ap (generation_of rule cells) (sym w.mark-is)
+        | then-period-mark+in_ok-here+else-population-eq0-2+in_ok-kept-2 w ↦ ap g.P.Plane.cells w.kept-is ∙ w.in_ok-kept-2.ensures ∙ w.in_ok-here.ensures ∙ now ∙ ap (generation_of rule cells) (sym w.mark-is)
         | else-period-mark w ↦ ap g.P.Plane.cells w.kept-is ∙ c.loop-period.invariant.kept ∙ ap (generation_of rule cells) (sym w.mark-is)
       ];
       none = none;

@@ -10,6 +10,6 @@ returns-else-frame-from-clause-free c free d live =
     let f = c.args.frame in
     let p = live_place f c.args.rows.now c.requires.frame.wide c.requires.rows d live in
     elim (cases_eq p.y 0) [
-      | inl edge ↦ absurd (omega (arith, p.live, c.row_is_dead.ensures free p.x p.narrow, ap (λ y. place c.args.rows.now (y * (64 * f.words) + p.x)) edge))
+      | inl edge ↦ absurd (omega (arith, p.live, c.row_is_dead.ensures.places free p.x p.narrow, ap (λ y. place c.args.rows.now (y * (64 * f.words) + p.x)) edge))
       | inr apart ↦ omega (arith, ints, p.row, apart)
     ]

@@ -15,7 +15,7 @@ use std::{env, io};
 // What the help of each command says after its words: what is read, printed and refused, and an example.
 const GENERATION_HELP: &str = "\
 Reads:   a pattern file (RLE) on standard input
-Prints:  generation N as canonical RLE, without its texts, moved to column 0 and row 0
+Prints:  generation N as canonical RLE, without its texts, its first column and its first row at 0
 Refuses: out-of-limit (N over 1024), bad-pattern NAME, unreadable, unavailable
 Example: life generation 1 < glider.rle";
 
@@ -39,19 +39,22 @@ Refuses: out-of-limit (N over 1024, LIMIT 0 or over 1024), bad-pattern NAME, unr
 Example: life census 0 2 < traffic-light.rle";
 
 const DEPOSIT_HELP: &str = "\
-Reads:   a pattern file (RLE) on standard input, and the archive F, which is made where it is not there
+Reads:   a pattern file (RLE) on standard input, and the archive F,
+         which is made where it is not there
 Prints:  'deposit NUMBER'; the same words with the same pattern have the first number again
 Refuses: bad-member, bad-token, bad-pattern NAME, token-reused, full, not-ours, unreadable, unavailable
 Example: life deposit --db club.db ann t1 < glider.rle";
 
 const SERVE_HELP: &str = "\
-Reads:   HTTP requests of N connections, one after the other, and the archive F, which is made where it is not there
+Reads:   HTTP requests of N connections, one after the other, and the archive F,
+         which is made where it is not there
 Prints:  'listening on 127.0.0.1:P', and a line for each connection that ended early on standard error
 Refuses: not-ours, no-port, unavailable
 Example: life serve --db club.db --port 8080 --connections 100";
 
 const LIFE_HELP: &str = "\
-A refusal is one line 'refused: NAME' on standard error, with status 1. Bad words, and a request for help, end with status 2.
+A refusal is one line 'refused: NAME' on standard error, with status 1.
+Bad words, and a request for help, end with status 2.
 Example: life generation 1 < glider.rle";
 
 /// What the program is to do.

@@ -22,7 +22,9 @@ impl PieceInlet {
     /// nothing.
     pub fn new(bytes: Vec<u8>, piece: usize, fail_at: Option<u64>) -> PieceInlet
         requires { 0 < piece }
-        ensures { ⟦<PieceInlet as Inlet>⟧.to_come result ≡ Some bytes.items }
+        ensures to_come { ⟦<PieceInlet as Inlet>⟧.to_come result ≡ Some bytes.items }
+        ensures none_failed { ⟦<PieceInlet as Inlet>⟧.failures result ≡ 0 }
+        ensures not_called { result.calls ≡ 0 }
     {
         PieceInlet {
             bytes,
@@ -35,7 +37,9 @@ impl PieceInlet {
     }
 
     /// How many calls there were.
-    pub fn calls(&self) -> u64 {
+    pub fn calls(&self) -> u64
+        ensures { result ≡ self.now.calls }
+    {
         self.calls
     }
 }
@@ -77,7 +81,8 @@ impl PieceOutlet {
     /// moves nothing.
     pub fn new(alloc: Global, piece: usize, fail_at: Option<u64>) -> PieceOutlet
         requires { 0 < piece }
-        ensures { ⟦<PieceOutlet as Outlet>⟧.already result ≡ Some [] }
+        ensures already { ⟦<PieceOutlet as Outlet>⟧.already result ≡ Some [] }
+        ensures none_failed { ⟦<PieceOutlet as Outlet>⟧.failures result ≡ 0 }
     {
         PieceOutlet {
             bytes: Vec::new(alloc),

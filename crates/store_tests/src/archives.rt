@@ -16,9 +16,6 @@ use std::test::Fail;
 
 pub const GLIDER: &[u8] = b"x = 3, y = 3, rule = B3/S23\nbo$2bo$3o!\n";
 
-/// The same record, written in another way.
-const GLIDER_AGAIN: &[u8] = b"x = 3, y = 3, rule = B3/S23\nbo$2bo$ooo!\n";
-
 const BLOCK: &[u8] = b"x = 2, y = 2\n2o$2o!\n";
 
 const BLOCK_TEXT: &[u8] = b"x = 2, y = 2, rule = B3/S23\n2o$2o!\n";
@@ -27,7 +24,7 @@ const BLOCK_TEXT: &[u8] = b"x = 2, y = 2, rule = B3/S23\n2o$2o!\n";
 pub const BLOCKS: &[u8] = b"x = 6, y = 2, rule = B3/S23\n2o2b2o$2o2b2o!\n";
 
 /// A deposit of `ann`.
-pub fn deposit(alloc: Global, token: &[u8], file: &[u8]) -> Result<Deposit, Unavailable>
+fn deposit(alloc: Global, token: &[u8], file: &[u8]) -> Result<Deposit, Unavailable>
     ensures { IfOk result (λ d. IsInside 1024 d.content.cells) }
 {
     Ok(Deposit {
@@ -38,7 +35,7 @@ pub fn deposit(alloc: Global, token: &[u8], file: &[u8]) -> Result<Deposit, Unav
 }
 
 /// A census of `ann` of generation 0 of deposit 1, under the limit 1.
-pub fn census(alloc: Global, token: &[u8]) -> Result<Census, Unavailable> {
+fn census(alloc: Global, token: &[u8]) -> Result<Census, Unavailable> {
     Ok(Census {
         member: Text::from_slice(alloc, b"ann")?,
         token: Text::from_slice(alloc, token)?,
@@ -78,27 +75,37 @@ fn number_of<S: Alter>(
     Ok(found.map(|found| found.id))
 }
 
-/// Whether the content of the deposit with the number is that of the file.
+/// Whether the deposit with the number is of `ann`, and its content has this canonical text.
 fn has_content<S: Alter>(
     alloc: Global,
     archive: &mut Archive<S>,
     id: u64,
-    file: &[u8],
+    text: &[u8],
 ) -> Result<bool, Unavailable> {
-    let given = read(alloc, file)?;
-    let Some(kept) = archive.deposit_of(alloc, id)? else {
-        return Ok(false);
-    };
-    Ok(
-        write(alloc, &kept.content)?.as_slice() == write(alloc, &given)?.as_slice()
-            && kept.member.as_bytes() == b"ann".as_slice(),
-    )
+    match archive.deposit_of(alloc, id)? {
+        Some(kept) => {
+            let written = write(alloc, &kept.content)?;
+            Ok(written.as_slice() == text && kept.member.as_bytes() == b"ann".as_slice())
+        }
+        None => Ok(false),
+    }
+}
+
+/// Adds a deposit of `ann`, and answers its number.
+pub fn keep<S: Alter>(
+    alloc: Global,
+    archive: &mut Archive<S>,
+    token: &[u8],
+    file: &[u8],
+) -> Result<u64, Unavailable> {
+    let given = deposit(alloc, token, file)?;
+    archive.add_deposit(alloc, &given)
 }
 
 /// Adds the glider under the token `t1` and the block under `t2`, and answers their numbers.
 fn keep_two<S: Alter>(alloc: Global, archive: &mut Archive<S>) -> Result<(u64, u64), Unavailable> {
-    let first = archive.add_deposit(alloc, &deposit(alloc, b"t1", GLIDER)?)?;
-    let second = archive.add_deposit(alloc, &deposit(alloc, b"t2", BLOCK)?)?;
+    let first = keep(alloc, archive, b"t1", GLIDER)?;
+    let second = keep(alloc, archive, b"t2", BLOCK)?;
     Ok((first, second))
 }
 
@@ -126,7 +133,7 @@ fn has_tokens<S: Alter>(alloc: Global, archive: &mut Archive<S>) -> Result<bool,
 /// Whether the two deposits have their contents.
 fn has_contents<S: Alter>(alloc: Global, archive: &mut Archive<S>) -> Result<bool, Unavailable> {
     Ok(
-        has_content(alloc, archive, 1, GLIDER_AGAIN)?
+        has_content(alloc, archive, 1, GLIDER)?
             && has_content(alloc, archive, 2, BLOCK_TEXT)?
             && !has_content(alloc, archive, 2, GLIDER)?,
     )
@@ -190,7 +197,7 @@ fn fill<S: Alter>(alloc: Global, archive: &mut Archive<S>, many: u64) -> Result<
         let Ok(token) = format!(in alloc; "t{number}") else {
             return Err(Unavailable);
         };
-        archive.add_deposit(alloc, &deposit(alloc, token.as_bytes(), BLOCK)?)?;
+        keep(alloc, archive, token.as_bytes(), BLOCK)?;
     }
     Ok(())
 }
@@ -234,12 +241,25 @@ pub fn is_of_two_blocks<S: Alter>(
     Ok(one_row && kept.total == 2 && kept.unresolved == 0 && kept.census.deposit == 1)
 }
 
+/// Adds a census of `ann` of deposit 1 with this tally, and answers its number.
+pub fn take<S: Alter>(
+    alloc: Global,
+    archive: &mut Archive<S>,
+    token: &[u8],
+    tally: &Tally,
+) -> Result<u64, Unavailable>
+    requires { HasOrder tally.now }
+{
+    let given = census(alloc, token)?;
+    archive.add_census(&given, tally)
+}
+
 /// Adds two blocks at distance 3, and takes two censuses of them.
 fn take_two<S: Alter>(alloc: Global, archive: &mut Archive<S>) -> Result<(u64, u64), Unavailable> {
-    archive.add_deposit(alloc, &deposit(alloc, b"t1", BLOCKS)?)?;
+    keep(alloc, archive, b"t1", BLOCKS)?;
     let tally = counted(alloc, BLOCKS)?;
-    let first = archive.add_census(&census(alloc, b"t1")?, &tally)?;
-    let second = archive.add_census(&census(alloc, b"c2")?, &tally)?;
+    let first = take(alloc, archive, b"t1", &tally)?;
+    let second = take(alloc, archive, b"c2", &tally)?;
     Ok((first, second))
 }
 
@@ -354,18 +374,28 @@ fn a_refused_opening_gives_the_files_back(rt: HostRuntime) -> Result<(), Fail> {
     Ok(())
 }
 
+/// Whether the archive has this capacity and the two deposits.
+fn is_kept_under<S: Alter>(
+    alloc: Global,
+    archive: &mut Archive<S>,
+    capacity: u64,
+) -> Result<bool, Unavailable> {
+    Ok(
+        archive.capacity() == capacity
+            && archive.count_deposits()? == 2
+            && has_contents(alloc, archive)?,
+    )
+}
+
 #[test]
 fn a_closed_archive_is_opened_under_another_capacity(rt: HostRuntime) -> Result<(), Fail> {
     let files = two_kept(rt.alloc()).map_err(|_| "not kept")?;
     let mut archive = open(rt.alloc(), files, 1).map_err(|_| "not opened")?;
-    assert_eq!(rt; archive.capacity(), 1);
-    assert_eq!(rt; archive.count_deposits(), Ok(2));
-    assert_eq!(rt; has_contents(rt.alloc(), &mut archive), Ok(true));
+    assert_eq!(rt; is_kept_under(rt.alloc(), &mut archive, 1), Ok(true));
     let mut again = archive
         .reopen(rt.alloc(), 3)
         .map_err(|_| "not opened again")?;
-    assert_eq!(rt; again.capacity(), 3);
-    assert_eq!(rt; has_contents(rt.alloc(), &mut again), Ok(true));
+    assert_eq!(rt; is_kept_under(rt.alloc(), &mut again, 3), Ok(true));
     Ok(())
 }
 

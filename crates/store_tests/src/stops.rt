@@ -1,6 +1,6 @@
 //! A stop at each call of the log, and then at each call of the database file: what the files hold is
 //! sound, whatever call was the last.
-use crate::archives::{BLOCKS, census, counted, deposit, is_of_two_blocks};
+use crate::archives::{BLOCKS, counted, is_of_two_blocks, keep, take};
 use life_store::{Archive, OpenFault, Unavailable};
 use sqlite::{Alter, FileStore, Files};
 use sqlite_disk::{Disk, Fuse, Memory};
@@ -60,11 +60,9 @@ struct Told {
 
 /// Adds the deposit, and then the census, up to the first call that is unavailable.
 fn act<S: Alter>(alloc: Global, archive: &mut Archive<S>) -> Result<Told, Unavailable> {
-    let given = deposit(alloc, b"t1", BLOCKS)?;
-    let taken = census(alloc, b"c1")?;
     let tally = counted(alloc, BLOCKS)?;
-    let deposited = archive.add_deposit(alloc, &given) == Ok(1);
-    let counted = deposited && archive.add_census(&taken, &tally) == Ok(1);
+    let deposited = keep(alloc, archive, b"t1", BLOCKS) == Ok(1);
+    let counted = deposited && take(alloc, archive, b"c1", &tally) == Ok(1);
     Ok(Told { deposited, counted })
 }
 
@@ -72,7 +70,7 @@ fn act<S: Alter>(alloc: Global, archive: &mut Archive<S>) -> Result<Told, Unavai
 fn deposit_again<S: Alter>(alloc: Global, archive: &mut Archive<S>) -> Result<u64, Unavailable> {
     match archive.find_deposit(alloc, b"ann", b"t1")? {
         Some(found) => Ok(found.id),
-        None => archive.add_deposit(alloc, &deposit(alloc, b"t1", BLOCKS)?),
+        None => keep(alloc, archive, b"t1", BLOCKS),
     }
 }
 
@@ -80,7 +78,10 @@ fn deposit_again<S: Alter>(alloc: Global, archive: &mut Archive<S>) -> Result<u6
 fn census_again<S: Alter>(alloc: Global, archive: &mut Archive<S>) -> Result<u64, Unavailable> {
     match archive.find_census(alloc, b"ann", b"c1")? {
         Some(found) => Ok(found.id),
-        None => archive.add_census(&census(alloc, b"c1")?, &counted(alloc, BLOCKS)?),
+        None => {
+            let tally = counted(alloc, BLOCKS)?;
+            take(alloc, archive, b"c1", &tally)
+        }
     }
 }
 

@@ -12,3 +12,9 @@ pub mod CountingTotals
 pub mod TableLines
 pub mod CodeTextLaws
 pub mod KnownLaws
+pub mod SteadyPhases
+pub mod SteadyVisits
+pub mod SteadySweep
+pub mod SteadyLemmas
+pub mod SteadyBlocks
+pub mod SteadyEvolution

@@ -42,6 +42,9 @@ near_symmetric c d = same_answer _ _ (flip c d) (flip d c)
     flip : (c d : Cell) → near c d ≡ true → near d c ≡ true
     flip c d h = let w = near_within c d h in within_near d c (record { rows_up = w.rows_down; rows_down = w.rows_up; columns_up = w.columns_down; columns_down = w.columns_up })
 
+pub near_self : (c : Cell) → near c c ≡ true
+near_self c = within_near c c (record { rows_up = omega (arith, ints); rows_down = omega (arith, ints); columns_up = omega (arith, ints); columns_down = omega (arith, ints) })
+
 two_apart : (a b : ℤ) → within_two a b ≡ true → (a ≤ℤ (b +ℤ pos 2)) × (b ≤ℤ (a +ℤ pos 2))
 two_apart a b h = let both = and_parts _ _ h in (record { le = subst T (sym both.0) tt }, record { le = subst T (sym both.1) tt })
 

@@ -1,11 +1,14 @@
--- What makes the definitions of parts and tallies believable.
-use Rattle.std.specs.Prelude.{◌≡◌, ◌↔◌, ◌≤◌, ℕ, ◌+◌, true, List, Option, map, sum_by}
+-- What makes the definitions of parts, tallies and steady fields believable.
+use Rattle.std.specs.Prelude.{◌≡◌, ◌≢◌, ◌↔◌, ◌≤◌, ℕ, ◌+◌, true, false, List, [], ◌∷◌, Option, map, sum_by}
 use Rattle.std.specs.List.{Contains}
 use Rattle.std.specs.List.Sorted.{IsStrictlySortedBy}
 use Rattle.std.specs.FinSet as set
 use Rattle.life_core.specs.declared.cell.Cell.{Cell}
 use Rattle.life_core.specs.Pattern.{Cells}
+use Rattle.life_core.specs.Rule.{RuleSets}
+use Rattle.life_core.specs.Generations.{generation_of}
 use Rattle.life_census.specs.Parts.{ArePartsOf, parts}
+use Rattle.life_census.specs.Steady.{IsSteady}
 use Rattle.life_census.specs.Rows.{Counts}
 use Rattle.life_census.specs.Counting.{row_cmp, how_often, counts_of, IsTally}
 
@@ -32,3 +35,16 @@ RowsAscend = (codes : List (List ℕ)) → IsStrictlySortedBy row_cmp (map (λ (
 -- The counts of a tally and what is unresolved add up to the total.
 abbrev pub TalliesAddUp : Type 0
 TalliesAddUp = (code : Cells → Option (List ℕ)) (Ps : List Cells) (t : Counts) → IsTally code Ps t → sum_by (λ (row : List ℕ × ℕ). row.1) t.rows + t.unresolved ≡ t.total
+
+-- the union of a list of sets
+abbrev pub union_of : List Cells → Cells
+union_of [] = set.empty
+union_of (P ∷ Ps) = set.union P (union_of Ps)
+
+-- Each generation of a steady field is the union of that generation of its parts, each of them alone ..
+abbrev pub SteadyFieldsEvolveByParts : Type 0
+SteadyFieldsEvolveByParts = (r : RuleSets) (X : Cells) (limit : ℕ) → set.contains r.birth 0 ≡ false → IsSteady r X limit → (k : ℕ) → generation_of r X k ≡ union_of (map (λ P. generation_of r P k) (parts X))
+
+-- .. and no two parts ever share a cell.
+abbrev pub PartsShareNoCell : Type 0
+PartsShareNoCell = (r : RuleSets) (X : Cells) (limit : ℕ) → IsSteady r X limit → (k : ℕ) (P Q : Cells) → Contains (parts X) P → Contains (parts X) Q → P ≢ Q → (c : Cell) → set.contains (generation_of r P k) c ≡ true → set.contains (generation_of r Q k) c ≡ false

@@ -6,4 +6,6 @@ pub mod Counting
 pub mod CountingState
 pub mod Table
 pub mod TableState
+pub mod Steady
+pub mod SteadyState
 pub mod Laws

@@ -1,5 +1,5 @@
-//! What makes the definitions of parts and tallies believable.
-ghost use Rattle.life_census.specs.Laws.{PartsAreParts, OneListOfParts, OnePartEach, RowsAreCounts, RowsAscend, TalliesAddUp};
+//! What makes the definitions of parts, tallies and steady fields believable.
+ghost use Rattle.life_census.specs.Laws.{PartsAreParts, OneListOfParts, OnePartEach, RowsAreCounts, RowsAscend, TalliesAddUp, SteadyFieldsEvolveByParts, PartsShareNoCell};
 
 /// What the definition of the parts means: `parts` lists them, no other list does, and each cell of a
 /// set is in exactly one of its parts. A law: calling it does nothing.
@@ -16,4 +16,12 @@ pub fn laws_of_tallies()
     ensures rows { RowsAreCounts }
     ensures ascend { RowsAscend }
     ensures total { TalliesAddUp }
+{}
+
+/// What the definition of a steady field means: under a rule without births from nothing each of its
+/// generations is the union of that generation of its parts, each of them alone; and no two parts
+/// ever share a cell. A law: calling it does nothing.
+pub fn laws_of_steady_fields()
+    ensures evolve { SteadyFieldsEvolveByParts }
+    ensures share { PartsShareNoCell }
 {}

@@ -1,4 +1,4 @@
-//! The clusters of a pattern, and how many of them have each code.
+//! The clusters of a pattern, how many of them have each code, and whether they ever meet.
 #![tactic(auto)]
 
 mod code_text;
@@ -6,13 +6,15 @@ mod counting;
 mod flood;
 mod laws;
 mod left;
+mod meeting;
 mod parts;
 mod rows;
 mod table;
 
 pub use code_text::{CodeText, is_code_text};
 pub use counting::tally;
-pub use laws::{laws_of_clusters, laws_of_tallies};
+pub use laws::{laws_of_clusters, laws_of_steady_fields, laws_of_tallies};
+pub use meeting::steady;
 pub use parts::clusters;
 pub use rows::{Row, Rows, Tally};
 pub use table::csv;

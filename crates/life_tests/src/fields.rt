@@ -1,10 +1,13 @@
-//! The clusters of a field in their order, and its tally.
+//! The clusters of a field in their order, its tally, and whether it is steady.
 ghost use Rattle.std.specs.Prelude.{◌≤◌};
 ghost use Rattle.life_core.specs.Pattern.{IsWithin};
 
-use life_census::{clusters, csv, laws_of_clusters, laws_of_tallies, tally};
+use life_census::{
+    clusters, csv, laws_of_clusters, laws_of_steady_fields, laws_of_tallies, steady, tally,
+};
 use life_code::PERIOD_LIMIT;
 use life_core::{Cell, Pattern, Rule};
+use life_rle::read;
 use std::alloc::Global;
 use std::test::Fail;
 
@@ -72,6 +75,38 @@ fn a_tally_has_rows_and_a_total(rt: HostRuntime) -> Result<(), Fail> {
     assert_eq!(rt; (counts.unresolved, counts.total), (1, 2));
     for row in counts.rows.as_slice() {
         assert_eq!(rt; (row.code.as_bytes(), row.count), (b"xs4_33".as_slice(), 1));
+    }
+    Ok(())
+}
+
+/// Bodies of files, limits, and whether the fields are steady under them.
+const STEADY: [(&str, u32, bool); 10] = [
+    ("!", 1, true),
+    // Two blocks.
+    ("2o4b2o$2o4b2o!", 1, true),
+    ("2o4b2o$2o4b2o!", 2, true),
+    // A block and a blinker.
+    ("2o8b3o$2o!", 1, false),
+    ("2o8b3o$2o!", 2, true),
+    // Two blinkers: a generation later they are 1, 2 and 3 columns apart.
+    ("o2bo$o2bo$o2bo!", 2, false),
+    ("o3bo$o3bo$o3bo!", 2, false),
+    ("o4bo$o4bo$o4bo!", 2, true),
+    // Two blinkers that are never near each other at one time, but come near where the other has been.
+    ("3o3$bo$bo$bo!", 2, false),
+    // A glider.
+    ("bo$2bo$3o!", 4, false),
+];
+
+#[test]
+fn fields_that_are_steady(rt: HostRuntime) -> Result<(), Fail> {
+    laws_of_steady_fields();
+    for (body, limit, expected) in STEADY {
+        let file = format!(in rt.alloc(); "x = 0, y = 0\n{body}\n")?;
+        let field = read(rt.alloc(), file.as_bytes())?.cells;
+        assert!(rt; 1 <= limit && limit <= PERIOD_LIMIT && field.within(400_000_000));
+        let answer = steady(rt.alloc(), &Rule::LIFE, &field, limit)?;
+        assert!(rt; answer == expected, "{body} under {limit}");
     }
     Ok(())
 }

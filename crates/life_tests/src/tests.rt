@@ -1,7 +1,7 @@
 //! Each growth of a call refused in turn: the call answers want of memory, or goes on in less room, and
 //! gives its answer when it is made again with memory.
 use crate::refusing::Refusing;
-use life_census::{clusters, csv, tally};
+use life_census::{clusters, csv, steady, tally};
 use life_code::{CodeFault, Kind, code, kind, open_code};
 use life_core::{Fault, PLANE, Pattern, Rule, generation};
 use life_rle::{Record, RleFault, read, write};
@@ -110,6 +110,8 @@ enum Calls {
     Clusters(Field),
     /// `tally` and `csv`.
     Tallies(Field),
+    /// `steady`.
+    SteadyFields(Field),
 }
 
 impl Calls {
@@ -123,6 +125,7 @@ impl Calls {
             Calls::OpenedCodes => opened_code_is_right(alloc),
             Calls::Clusters(field) => clusters_are_right(alloc, field),
             Calls::Tallies(field) => tally_is_right(alloc, field),
+            Calls::SteadyFields(field) => steady_is_right(alloc, field),
         }
     }
 }
@@ -181,6 +184,15 @@ fn tally_is_right(alloc: &Refusing, field: Field) -> Result<bool, Fault> {
     Ok(csv(alloc, &counts)?.as_slice() == field.table())
 }
 
+/// Each of the fields is steady under limit 2.
+fn steady_is_right(alloc: &Refusing, field: Field) -> Result<bool, Fault> {
+    let pattern = field.pattern(alloc)?;
+    if !pattern.within(400_000_000) {
+        return Ok(false);
+    }
+    steady(alloc, &Rule::LIFE, &pattern, 2)
+}
+
 /// Refuses the first growth of the calls, then the second, and so on until none is left to refuse.
 fn refuse_each_growth(rt: &impl Abort, refusing: &Refusing, calls: Calls) -> Result<(), Fail> {
     for growth in 1..MANY {
@@ -223,6 +235,7 @@ fn calls_with_each_growth_refused(rt: HostRuntime) -> Result<(), Fail> {
     ] {
         refuse_each_growth(&rt, &refusing, Calls::Clusters(field))?;
         refuse_each_growth(&rt, &refusing, Calls::Tallies(field))?;
+        refuse_each_growth(&rt, &refusing, Calls::SteadyFields(field))?;
     }
     Ok(())
 }

@@ -1,0 +1,103 @@
+-- How steady fields evolve.
+use Rattle.std.specs.Prelude.{◌≡◌, ℕ, zero, suc, true, false, ◌||◌, List, [], ◌∷◌, map}
+use Rattle.std.proofs.Common.{sym, ap, subst, ◌∙◌, inl, inr, refl}
+use Rattle.std.proofs.lemmas.Bool.{false≢true, cases_Bool, or_left, or_right, false_from_ne_true}
+use Rattle.std.proofs.lemmas.List.Elements.{All-contains, All-from_recursion}
+use Rattle.std.specs.List.{AllByRecursion, Contains}
+use Rattle.std.specs.FinSet as set
+use Rattle.life_core.specs.declared.cell.Cell.{Cell}
+use Rattle.life_core.specs.Cell.{cell_cmp}
+use Rattle.life_core.specs.Pattern.{Cells}
+use Rattle.life_core.specs.Rule.{RuleSets}
+use Rattle.life_core.specs.Generations.{next, generation_of}
+use Rattle.life_core.proofs.PatternMembers.{cell_cmp_total, same_answer, cells_by_members}
+use Rattle.life_census.specs.Parts.{IsPart, IsBefore, AreInOrder, ArePartsOf, parts}
+use Rattle.life_census.specs.Steady.{AreApart, IsSteady}
+use Rattle.life_census.specs.Laws.{union_of, SteadyFieldsEvolveByParts, PartsShareNoCell}
+use Rattle.life_census.proofs.NearLaws.{near_self}
+use Rattle.life_census.proofs.PartsLaws.{IsIn, in_from_contains, before_itself}
+use Rattle.life_census.proofs.PartsListing.{parts_are}
+use Rattle.life_census.proofs.SteadyBlocks.{next-union, next-empty}
+
+-- ---- lists of sets that are apart
+
+abbrev pub AreAllApart : List Cells → Type 0
+AreAllApart [] = Unit {0}
+AreAllApart (P ∷ Ps) = AllByRecursion (AreApart P) Ps × AreAllApart Ps
+
+apart_from_union : (P : Cells) (Ps : List Cells) → AllByRecursion (AreApart P) Ps → AreApart P (union_of Ps)
+apart_from_union P [] all c d h k = absurd (false≢true (sym (set.contains-empty cell_cmp d) ∙ k))
+apart_from_union P (Q ∷ Qs) all c d h k = elim (cases_Bool (set.contains Q d)) [
+  | inl held ↦ all.0 c d h held
+  | inr free ↦ apart_from_union P Qs all.1 c d h (ap (λ b. b || set.contains (union_of Qs) d) (sym free) ∙ sym (set.contains-union cell_cmp_total Q (union_of Qs) d) ∙ k)
+]
+
+pub next-union_of : (r : RuleSets) (Ps : List Cells) → set.contains r.birth 0 ≡ false → AreAllApart Ps → next r (union_of Ps) ≡ union_of (map (next r) Ps)
+next-union_of r [] none apart = next-empty r none
+next-union_of r (P ∷ Ps) none apart = next-union r P (union_of Ps) none (apart_from_union P Ps apart.0) ∙ ap (set.union (next r P)) (next-union_of r Ps none apart.1)
+
+map_next : (r : RuleSets) (k : ℕ) (Ps : List Cells) → map (next r) (map (λ P. generation_of r P k) Ps) ≡ map (λ P. generation_of r P (suc k)) Ps
+map_next r k [] = refl
+map_next r k (P ∷ Ps) = ap (λ (Qs : List Cells). next r (generation_of r P k) ∷ Qs) (map_next r k Ps)
+
+map_none : (r : RuleSets) (Ps : List Cells) → map (λ P. generation_of r P 0) Ps ≡ Ps
+map_none r [] = refl
+map_none r (P ∷ Ps) = ap (λ (Qs : List Cells). P ∷ Qs) (map_none r Ps)
+
+-- sets whose generations stay apart evolve each for itself
+pub generation-union_of : (r : RuleSets) (Ps : List Cells) → set.contains r.birth 0 ≡ false → ((k : ℕ) → AreAllApart (map (λ P. generation_of r P k) Ps))
+    → (k : ℕ) → generation_of r (union_of Ps) k ≡ union_of (map (λ P. generation_of r P k) Ps)
+generation-union_of r Ps none apart zero = ap union_of (sym (map_none r Ps))
+generation-union_of r Ps none apart (suc k) =
+    ap (next r) (generation-union_of r Ps none apart k) ∙ next-union_of r (map (λ P. generation_of r P k) Ps) none (apart k) ∙ ap union_of (map_next r k Ps)
+
+-- ---- steady fields
+
+-- X is the union of its parts
+pub union_of_parts : (X : Cells) (Ps : List Cells) → ArePartsOf X Ps → X ≡ union_of Ps
+union_of_parts X Ps parts = cells_by_members X (union_of Ps) (λ c. same_answer _ _
+    (λ h. let found = parts.covers c h in gathered Ps found.0 c (in_from_contains Ps found.0 found.1) found.2)
+    (λ h. inside Ps c parts.each h))
+  where
+    gathered : (Ps : List Cells) (P : Cells) (c : Cell) → IsIn Ps P → set.contains P c ≡ true → set.contains (union_of Ps) c ≡ true
+    gathered [] P c h live = absurd h
+    gathered (Q ∷ Qs) P c h live = set.contains-union cell_cmp_total Q (union_of Qs) c ∙ elim h [
+      | inl same ↦ or_left _ _ (ap (λ (R : Cells). set.contains R c) same ∙ live)
+      | inr rest ↦ or_right _ _ (gathered Qs P c rest live)
+    ]
+
+    inside : (Ps : List Cells) (c : Cell) → AllByRecursion (IsPart X) Ps → set.contains (union_of Ps) c ≡ true → set.contains X c ≡ true
+    inside [] c all h = absurd (false≢true (sym (set.contains-empty cell_cmp c) ∙ h))
+    inside (Q ∷ Qs) c all h = elim (cases_Bool (set.contains Q c)) [
+      | inl held ↦ all.0.inside c held
+      | inr free ↦ inside Qs c all.1 (ap (λ b. b || set.contains (union_of Qs) c) (sym free) ∙ sym (set.contains-union cell_cmp_total Q (union_of Qs) c) ∙ h)
+    ]
+
+module _ (r : RuleSets) (X : Cells) (limit : ℕ) (steady : IsSteady r X limit) where
+  all_apart : (Ps : List Cells) → AllByRecursion (IsPart X) Ps → AreInOrder Ps → (k : ℕ) → AreAllApart (map (λ P. generation_of r P k) Ps)
+  all_apart [] each order k = tt
+  all_apart (P ∷ Ps) each order k = (from P each.0 Ps each.1 order.0, all_apart Ps each.1 order.1 k)
+    where
+      from : (P : Cells) → IsPart X P → (Qs : List Cells) → AllByRecursion (IsPart X) Qs → AllByRecursion (IsBefore P) Qs → AllByRecursion (AreApart (generation_of r P k)) (map (λ Q. generation_of r Q k) Qs)
+      from P p [] each before = tt
+      from P p (Q ∷ Qs) each before = (
+        steady.apart P Q p each.0 (λ same. before_itself Q (subst (λ (R : Cells). IsBefore R Q) same before.0)) k k,
+        from P p Qs each.1 before.1,
+      )
+
+  steady_evolves : (Ps : List Cells) → set.contains r.birth 0 ≡ false → ArePartsOf X Ps → (k : ℕ) → generation_of r X k ≡ union_of (map (λ P. generation_of r P k) Ps)
+  steady_evolves Ps none parts k =
+      ap (λ (Y : Cells). generation_of r Y k) (union_of_parts X Ps parts)
+      ∙ generation-union_of r Ps none (all_apart Ps parts.each parts.ascend) k
+
+-- a steady field evolves as its parts do, each by itself
+pub evolve_by_parts : SteadyFieldsEvolveByParts
+evolve_by_parts r X limit none steady k = steady_evolves r X limit steady (parts X) none (parts_are X) k
+
+-- a cell is near itself, so that sets that are apart share no cell
+pub share_no_cell : PartsShareNoCell
+share_no_cell r X limit steady k P Q here there differ c h = false_from_ne_true (set.contains (generation_of r Q k) c) (λ live. false≢true (
+    sym (steady.apart P Q (part P here) (part Q there) differ k k c c h live) ∙ near_self c))
+  where
+    part : (P : Cells) → Contains (parts X) P → IsPart X P
+    part P in_parts = All-contains (IsPart X) (parts X) P (All-from_recursion (IsPart X) (parts X) (parts_are X).each) in_parts

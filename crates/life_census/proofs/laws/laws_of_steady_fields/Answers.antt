@@ -1,0 +1,8 @@
+use Rattle.life_census.proofs.SteadyEvolution.{evolve_by_parts, share_no_cell}
+use Rattle.life_census.proofs.laws.laws_of_steady_fields.Goals as goal
+
+pub returns-clause-evolve : goal.returns-clause-evolve
+returns-clause-evolve c = evolve_by_parts
+
+pub returns-clause-share : goal.returns-clause-share
+returns-clause-share c = share_no_cell

@@ -1,11 +1,9 @@
 //! Whether the clusters of a field ever meet.
-ghost use Rattle.std.specs.Prelude.{◌≡◌, ◌↔◌, ℕ, ◌≤◌, ◌++◌, map, IsTrue, IfOk, OnOk, length, IfSome, MatchOption};
+ghost use Rattle.std.specs.Prelude.{◌≡◌, ◌↔◌, ◌≤◌, ◌++◌, map, IsTrue, IfOk, OnOk, length, IfSome, MatchOption};
 ghost use Rattle.std.specs.Bool.{MatchBool};
 ghost use Rattle.std.specs.List.{All, Contains};
 ghost use Rattle.std.specs.List.Sorted.{IsSorted};
-ghost use Rattle.life_core.specs.Cell.{IsCellWithin};
 ghost use Rattle.life_core.specs.Pattern.{Cells, IsWithin};
-ghost use Rattle.life_core.specs.declared.cell.TheConstants.{PLANE};
 ghost use Rattle.life_census.specs.declared.meeting.Visit.{Visit as VisitValue};
 ghost use Rattle.life_census.specs.Parts.{near, ArePartsOf};
 ghost use Rattle.life_census.specs.Steady.{Stays, IsSteady};

@@ -10,7 +10,10 @@ mod words;
 use archives::run_deposit;
 use jobs::{run_census, run_generation, run_kind, run_object};
 use life_rle::{FromRead, FromWrite, Inlet, Outlet};
+use life_store::Archive;
 use net::{open_archive, serve_port};
+use sqlite::Alter;
+use std::alloc::Global;
 use std::io;
 use std::process::ExitCode;
 use stop::Stop;
@@ -37,22 +40,16 @@ fn print_fault(rt: &impl Eprint, fault: WordFault) -> io::Result<ExitCode> {
     Ok(ExitCode::from(BAD_WORDS))
 }
 
-/// Keeps what comes in as a deposit in the archive of a file.
-fn deposit_in<I: Inlet, O: Outlet>(
-    rt: &HostRuntime,
-    file: &str,
+/// Keeps what comes in as a deposit in an archive, as `run_deposit` does, in a store of any kind.
+fn deposit_in<S: Alter, I: Inlet, O: Outlet>(
+    alloc: Global,
+    archive: &mut Archive<S>,
     member: &str,
     token: &str,
     input: &mut I,
     output: &mut O,
 ) -> Result<(), Stop> {
-    let mut archive = open_archive(rt, file)?;
-    run_deposit(rt.alloc(), &mut archive, member, token, input, output)
-}
-
-/// Serves the archive of a file.
-fn serve_file(rt: &HostRuntime, file: &str, port: u64, connections: u64) -> Result<(), Stop> {
-    serve_port(rt, &mut open_archive(rt, file)?, port, connections)
+    run_deposit(alloc, archive, member, token, input, output)
 }
 
 /// Does a job, over standard input and output.
@@ -69,12 +66,18 @@ fn done(rt: &HostRuntime, job: Job<'_>) -> Result<(), Stop> {
             file,
             member,
             token,
-        } => deposit_in(rt, file, member, token, &mut input, &mut output),
+        } => {
+            let mut archive = open_archive(rt, file)?;
+            deposit_in(alloc, &mut archive, member, token, &mut input, &mut output)
+        }
         Job::Serve {
             file,
             port,
             connections,
-        } => serve_file(rt, file, port, connections),
+        } => {
+            let mut archive = open_archive(rt, file)?;
+            serve_port(rt, &mut archive, port, connections)
+        }
     }
 }
 

@@ -14,6 +14,7 @@ pub mod CodeTextLaws
 pub mod KnownLaws
 pub mod SteadyPhases
 pub mod SteadyVisits
+pub mod SteadyShapes
 pub mod SteadySweep
 pub mod SteadyLemmas
 pub mod SteadyBlocks

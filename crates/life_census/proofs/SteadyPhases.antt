@@ -1,11 +1,13 @@
 -- Parts that stay: what their kinds say, and that their phases come again.
-use Rattle.std.specs.Prelude.{◌≡◌, ℕ, ◌+◌, ◌*◌, ◌%◌, ◌/◌, ◌≤◌, zero, suc, ℤ, pos, ◌+ℤ◌, Bool, true, false}
+use Rattle.std.specs.Prelude.{◌≡◌, ◌≢◌, ℕ, ◌+◌, ◌*◌, ◌%◌, ◌/◌, ◌≤◌, zero, suc, ℤ, pos, ◌+ℤ◌, Bool, true, false}
 use Rattle.std.proofs.Common.{sym, ap, ◌∙◌, inl, inr, arith}
 use Rattle.std.proofs.lemmas.Bool.{false≢true}
 use Rattle.std.proofs.lemmas.Int.{ints}
 use Rattle.std.specs.FinSet as set
 use Rattle.life_core.specs.declared.cell.Cell.{Cell}
-use Rattle.life_core.specs.Cell.{moved_cell}
+use Rattle.life_core.specs.Cell.{cell_cmp, moved_cell}
+use Rattle.life_core.specs.declared.orientation.Orientation.TheVariants.{O0}
+use Rattle.life_core.proofs.Placements.{origin, moved, len-placed}
 use Rattle.life_core.specs.Pattern.{Cells, image}
 use Rattle.life_core.specs.Rule.{RuleSets}
 use Rattle.life_core.specs.Generations.{generation_of}
@@ -14,8 +16,8 @@ use Rattle.life_core.proofs.PatternMembers.{cells_by_members, contains-image}
 use Rattle.life_code.specs.declared.kinds.Kind.{Kind}
 use Rattle.life_code.specs.declared.kinds.Kind.TheVariants.{Empty, Still, Oscillator, Ship, Unresolved}
 use Rattle.life_code.specs.Period.{HasKind, kind_of}
-use Rattle.life_code.proofs.PeriodKinds.{kind_one}
-use Rattle.life_code.proofs.PeriodLemmas.{generation-add}
+use Rattle.life_code.proofs.PeriodKinds.{kind_one, some_len}
+use Rattle.life_code.proofs.PeriodLemmas.{generation-add, period_of_placed}
 use Rattle.life_census.specs.Steady.{Stays}
 use Rattle.life_census.specs.SteadyState.{StaysFor}
 
@@ -84,3 +86,20 @@ phase r P p k from_one back =
   where
     parted : k ≡ p * (k / p) + k % p
     parted = omega arith
+
+-- ---- sets that are moved
+
+pub stays_some : (r : RuleSets) (limit : ℕ) (P : Cells) → Stays r limit P → P ≢ set.empty
+unfolding Stays
+stays_some r limit P stays = elim stays [ inl still ↦ still.0 | inr swings ↦ swings.1.0 ]
+
+full_moved : (X : Cells) (v : Cell) → X ≢ set.empty → moved v X ≢ set.empty
+full_moved X v full e = some_len X full (sym (len-placed O0 v X) ∙ ap set.len e ∙ set.len-empty cell_cmp)
+
+-- what stays stays wherever it is
+pub stays_moved : (r : RuleSets) (limit p : ℕ) (X : Cells) (v : Cell) → StaysFor r limit X p → Stays r limit (moved v X)
+unfolding Stays
+stays_moved r limit p X v stays = elim stays.stays [
+  | inl still ↦ inl (full_moved X v still.0, still.1, period_of_placed r X 1 origin O0 v still.2)
+  | inr swings ↦ inr (swings.0, (full_moved X v swings.1.0, swings.1.1, swings.1.2, period_of_placed r X swings.0 origin O0 v swings.1.3))
+]

@@ -1,23 +1,27 @@
 -- Sorted visits: those that are near each other are met.
-use Rattle.std.specs.Prelude.{◌≡◌, ℕ, ◌+◌, ◌-◌, ◌≤◌, ◌<◌, ℤ, pos, ◌+ℤ◌, ◌-ℤ◌, ◌≤ℤ◌, ◌<ℤ◌, true, false, ◌&&◌, nat_le, int_le, List, length}
-use Rattle.std.proofs.Common.{sym, ap, subst, ◌∙◌, inl, inr, ◌⊎◌, get_or, take, drop, T, arith}
-use Rattle.std.specs.declared.cmp.Ordering.TheVariants.{Less}
-use Rattle.std.specs.Ordering.{is_lt, int_cmp, nat_cmp, ordering_then}
-use Rattle.std.specs.Cmp.{IsTotalOrder, int_cmp_is}
+use Rattle.std.specs.Prelude.{◌≡◌, ◌↔◌, ℕ, ◌+◌, ◌-◌, ◌≤◌, ◌<◌, ℤ, pos, negsuc, ◌+ℤ◌, ◌-ℤ◌, ◌≤ℤ◌, ◌<ℤ◌, Bool, true, false, IsTrue, ◌&&◌, nat_le, int_le, List, length, refl}
+use Rattle.std.proofs.Common.{sym, ap, subst, ◌∙◌, inl, inr, get_or, take, drop, T, arith}
+use Rattle.std.specs.declared.cmp.Ordering.{Ordering}
+use Rattle.std.specs.declared.cmp.Ordering.TheVariants.{Less, Equal, Greater}
+use Rattle.std.specs.Bool.{MatchBool}
+use Rattle.std.specs.Ordering.{MatchOrdering, is_lt, int_cmp, nat_cmp, ordering_then}
+use Rattle.std.specs.Cmp.{IsTotalOrder, IsStrictWeakOrder, int_cmp_is, int_ranks}
 use Rattle.std.specs.Int.RustNames.{unsigned_abs}
-use Rattle.std.specs.List.{All}
+use Rattle.std.specs.List.{All, Contains}
 use Rattle.std.specs.List.Sorted.{IsSorted}
 use Rattle.std.proofs.lemmas.Bool.{and_from, and_parts, cases_lt, false_from_ne_true, leb-true, le-leb, true_from_ne_false, false≢true}
 use Rattle.std.proofs.lemmas.Cmp.{then_total, on_total, nat_cmp_total}
 use Rattle.std.proofs.lemmas.Int.{ints, by_lt_z}
-use Rattle.std.proofs.lemmas.List.{get_or-drop, get_or-take, get_or_default, length-drop, length-take-le}
-use Rattle.std.proofs.lemmas.List.Elements.{at_from_Contains}
+use Rattle.std.proofs.lemmas.List.{get_or-drop, get_or-take, get_or_default, length-drop, length-take-le, take_all}
+use Rattle.std.proofs.lemmas.List.Elements.{at_from_Contains, Contains-from_at, Contains-get_or}
 use Rattle.std.proofs.lemmas.List.Sorted.{ranks_by, sorted_far}
 use Rattle.life_core.specs.declared.cell.Cell.{Cell}
+use Rattle.life_core.specs.Cell.{cell_cmp, moved_cell}
+use Rattle.life_core.proofs.CellListStep.{cell_cmp-moved}
 use Rattle.life_core.proofs.PatternMembers.{cell_cmp_total, same_answer}
 use Rattle.life_census.specs.declared.meeting.Visit.{Visit}
 use Rattle.life_census.specs.Parts.{within_two, near}
-use Rattle.life_census.specs.SteadyState.{visit_cmp, KeepApart, AreAllApart}
+use Rattle.life_census.specs.SteadyState.{visit_cmp, ComesBefore, KeepApart, KeepApartUpTo, AreAllApart, AreRowsApart}
 use Rattle.life_census.proofs.NearLaws.{near_within, near_symmetric}
 
 -- ---- the test of two cells
@@ -67,14 +71,22 @@ near_else a b m rows many =
 visit_cmp_total : IsTotalOrder visit_cmp
 visit_cmp_total = then_total (on_total (λ (v : Visit). v.cell) cell_cmp_total) (on_total (λ (v : Visit). v.cluster) nat_cmp_total)
 
--- later visits lie in no row above
-pub rows_ascend : (visits : List Visit) → IsSorted visit_cmp visits → (i j : ℕ) (d : Visit) → i ≤ j → j < length visits → (get_or visits i d).cell.row ≤ℤ (get_or visits j d).cell.row
-rows_ascend visits sorted i j d order low = by_lt_z (get_or visits j d).cell.row (get_or visits i d).cell.row
-    (λ above. absurd (ne (get_or visits j d) (get_or visits i d) above (sorted_far (λ v w. is_lt (visit_cmp v w)) (ranks_by visit_cmp_total (λ (v : Visit). v)) visits sorted i j d order low)))
-    (λ below. below)
+cells_rank : IsStrictWeakOrder (λ c d. is_lt (cell_cmp c d))
+cells_rank = ranks_by cell_cmp_total (λ (c : Cell). c)
+
+-- the cells of later visits do not come before
+cells_ascend : (visits : List Visit) → IsSorted visit_cmp visits → (i j : ℕ) (d : Visit) → i ≤ j → j < length visits → is_lt (cell_cmp (get_or visits j d).cell (get_or visits i d).cell) ≡ false
+cells_ascend visits sorted i j d order low = by_cells (cell_cmp (get_or visits j d).cell (get_or visits i d).cell) (nat_cmp (get_or visits j d).cluster (get_or visits i d).cluster)
+    (sorted_far (λ v w. is_lt (visit_cmp v w)) (ranks_by visit_cmp_total (λ (v : Visit). v)) visits sorted i j d order low)
   where
-    ne : (v w : Visit) → v.cell.row <ℤ w.cell.row → is_lt (visit_cmp v w) ≡ false → ⊥
-    ne v w less not = false≢true (sym not ∙ ap (λ o. is_lt (ordering_then (ordering_then o (int_cmp v.cell.column w.cell.column)) (nat_cmp v.cluster w.cluster))) (sym (int_cmp_is v.cell.row w.cell.row Less less)))
+    by_cells : (o p : Ordering) → is_lt (ordering_then o p) ≡ false → is_lt o ≡ false
+    by_cells Less p h = h
+    by_cells Equal p h = refl
+    by_cells Greater p h = refl
+
+-- what comes before a cell comes before those that do not come before that
+still_before : (c d e : Cell) → ComesBefore c d → is_lt (cell_cmp e d) ≡ false → ComesBefore c e
+still_before c d e first not = true_from_ne_false (is_lt (cell_cmp c e)) (λ no_more. false≢true (sym (cells_rank.chain c e d no_more not) ∙ first))
 
 pub sorted_drop : (visits : List Visit) (n : ℕ) → n ≤ length visits → IsSorted visit_cmp visits → IsSorted visit_cmp (drop n visits)
 sorted_drop visits n low sorted k d from below =
@@ -84,55 +96,158 @@ sorted_drop visits n low sorted k d from below =
     ∙ ap (λ m. is_lt (visit_cmp (get_or visits m d) (get_or visits (n + k) d))) moved
     ∙ sorted (n + k) d (omega arith) (omega arith)
 
+-- what a slice holds from a place on
+abbrev pub rest : List Visit → ℕ → List Visit
+rest visits from = take (length visits - from) (drop from visits)
+
+pub sorted_rest : (visits : List Visit) (from : ℕ) → from ≤ length visits → IsSorted visit_cmp visits → IsSorted visit_cmp (rest visits from)
+sorted_rest visits from room sorted =
+    let long : length (drop from visits) ≡ length visits - from = length-drop from visits in
+    subst (IsSorted visit_cmp) (sym (take_all (length visits - from) (drop from visits) (omega arith))) (sorted_drop visits from room sorted)
+
+at_rest : (visits : List Visit) (from k : ℕ) (d : Visit) → k < length visits - from → get_or (rest visits from) k d ≡ get_or visits (from + k) d
+at_rest visits from k d low = get_or-take (length visits - from) (drop from visits) k d low ∙ get_or-drop from visits k d
+
+length_rest : (visits : List Visit) (from : ℕ) → from ≤ length visits → length (rest visits from) ≡ length visits - from
+length_rest visits from room =
+    let long : length (drop from visits) ≡ length visits - from = length-drop from visits in
+    length-take-le (length visits - from) (drop from visits) (omega arith)
+
+-- ---- the columns in which a cell of a row can be near
+
+-- of two cells of one row the first is in the lesser column
+in_columns : (a b : Cell) → a.row ≡ b.row → ComesBefore a b → a.column <ℤ b.column
+in_columns a b row before = by (int_cmp a.column b.column) (int_ranks a.column b.column) (ap (λ o. is_lt (ordering_then o (int_cmp a.column b.column))) (int_cmp_is a.row b.row Equal row) ∙ before)
+  where
+    by : (o : Ordering) → MatchOrdering o (a.column <ℤ b.column) (a.column ≡ b.column) (b.column <ℤ a.column) → is_lt o ≡ true → a.column <ℤ b.column
+    by Less low e = low
+    by Equal same e = absurd (false≢true e)
+    by Greater high e = absurd (false≢true e)
+
+-- the first and the last cell that can be near, so many rows below
+abbrev pub first_near : ℤ → Visit → Cell
+first_near rows v = moved_cell (negsuc 1) rows v.cell
+
+abbrev pub last_near : ℤ → Visit → Cell
+last_near rows v = moved_cell (pos 2) rows v.cell
+
+far_before : (rows : ℤ) (v w : Visit) → w.cell.row ≡ v.cell.row +ℤ rows → ComesBefore w.cell (first_near rows v) → near v.cell w.cell ≡ false
+far_before rows v w row before = false_from_ne_true (near v.cell w.cell) (λ close.
+    let n = near_within v.cell w.cell close in
+    let left = in_columns w.cell (first_near rows v) row before in
+    absurd (omega (arith, ints, n.columns_up, left)))
+
+far_after : (rows : ℤ) (v w : Visit) → w.cell.row ≡ v.cell.row +ℤ rows → ComesBefore (last_near rows v) w.cell → near v.cell w.cell ≡ false
+far_after rows v w row after = false_from_ne_true (near v.cell w.cell) (λ close.
+    let n = near_within v.cell w.cell close in
+    let right = in_columns (last_near rows v) w.cell (sym row) after in
+    absurd (omega (arith, ints, n.columns_down, right)))
+
 -- ---- what a visit meets
 
--- those that are more than 2 rows below are not near
-far_below : (v w : Visit) → (v.cell.row +ℤ pos 2) <ℤ w.cell.row → near v.cell w.cell ≡ false
-far_below v w below = false_from_ne_true (near v.cell w.cell) (λ close. let n = near_within v.cell w.cell close in absurd (omega (arith, ints, n.rows_down)))
-
--- a visit that is that far below has no near one after it
-pub none_below : (v : Visit) (later : List Visit) (i : ℕ) (e : Visit) → IsSorted visit_cmp later → i < length later → (v.cell.row +ℤ pos 2) <ℤ (get_or later i e).cell.row
-    → All (KeepApart v) (take i later) → All (KeepApart v) later
-none_below v later i e sorted low below before k d high = elim (cases_lt k i) [
+-- a visit that comes after the last cell has none up to it behind it
+pub none_after : (v : Visit) (last : Cell) (others : List Visit) (i : ℕ) (e : Visit) → IsSorted visit_cmp others → i < length others → ComesBefore last (get_or others i e).cell
+    → All (KeepApart v) (take i others) → All (KeepApartUpTo last v) others
+none_after v last others i e sorted low after before k d high up_to = elim (cases_lt k i) [
   | inl sooner ↦
-      let long : length (take i later) ≡ i = length-take-le i later (omega arith) in
-      subst (KeepApart v) (get_or-take i later k d sooner) (before k d (omega arith))
-  | inr after ↦ λ differ. far_below v (get_or later k d)
-      (let up : (get_or later i d).cell.row ≤ℤ (get_or later k d).cell.row = rows_ascend later sorted i k d after high in
-      let same : (get_or later i d).cell.row ≡ (get_or later i e).cell.row = ap (λ (x : Visit). x.cell.row) (get_or_default later i d e low) in
-      omega (arith, ints, up, same, below))
+      let long : length (take i others) ≡ i = length-take-le i others (omega arith) in
+      subst (KeepApart v) (get_or-take i others k d sooner) (before k d (omega arith))
+  | inr later ↦
+      let behind = (λ j. is_lt (cell_cmp (get_or others k d).cell (get_or_default others i e d low j).cell)) ∙ cells_ascend others sorted i k d later high in
+      absurd (false≢true (sym up_to ∙ still_before last (get_or others i e).cell (get_or others k d).cell after behind))
 ]
+
+pub apart_up_to : (v : Visit) (last : Cell) (others : List Visit) → All (KeepApart v) others → All (KeepApartUpTo last v) others
+apart_up_to v last others apart k d low up_to = apart k d low
+
+-- ---- what all visits meet so many rows below
+
+-- those before a place come before the first that can be near to the visit at place i or to a later one
+abbrev pub AreBehind : ℤ → List Visit → ℕ → ℕ → Type 0
+AreBehind rows visits from i = (a b : ℕ) (d : Visit) → a < from → i ≤ b → b < length visits → ComesBefore (get_or visits a d).cell (first_near rows (get_or visits b d))
+
+-- the visits before place i keep apart from all that lie so many rows below them
+abbrev pub AreRowsApartBefore : ℤ → List Visit → ℕ → Type 0
+AreRowsApartBefore rows visits i = (a b : ℕ) (d : Visit) → a < i → b < length visits → (get_or visits b d).cell.row ≡ (get_or visits a d).cell.row +ℤ rows → KeepApart (get_or visits a d) (get_or visits b d)
+
+behind_more : (rows : ℤ) (visits : List Visit) (from to i : ℕ) (e : Visit) → IsSorted visit_cmp visits → i < length visits → AreBehind rows visits from i
+    → ((k : ℕ) (d : Visit) → from ≤ k → k < to → ComesBefore (get_or visits k d).cell (first_near rows (get_or visits i e))) → AreBehind rows visits to i
+behind_more rows visits from to i e sorted low behind passed a b d first order high = elim (cases_lt a from) [
+  | inl sooner ↦ behind a b d sooner order high
+  | inr later ↦
+      let not_before = cell_cmp-moved (negsuc 1) rows (get_or visits b d).cell (get_or visits i e).cell in
+      let ascends = (λ j. is_lt (cell_cmp (get_or visits b d).cell (get_or_default visits i e d low j).cell)) ∙ cells_ascend visits sorted i b d order high in
+      still_before (get_or visits a d).cell (first_near rows (get_or visits i e)) (first_near rows (get_or visits b d)) (passed a d later first) (ap is_lt not_before ∙ ascends)
+]
+
+-- a visit that keeps apart from all up to the last that can be near keeps apart from all of that row
+apart_in_row : (rows : ℤ) (v w : Visit) → w.cell.row ≡ v.cell.row +ℤ rows → KeepApartUpTo (last_near rows v) v w → KeepApart v w
+apart_in_row rows v w row apart differ = false_from_ne_true (near v.cell w.cell) (λ close.
+    let up_to = false_from_ne_true (is_lt (cell_cmp (last_near rows v) w.cell)) (λ after. false≢true (sym (far_after rows v w row after) ∙ close)) in
+    false≢true (sym (apart up_to differ) ∙ close))
+
+rows_more : (rows : ℤ) (visits : List Visit) (from i : ℕ) (e : Visit) → i < length visits → from ≤ length visits → AreBehind rows visits from i
+    → All (KeepApartUpTo (last_near rows (get_or visits i e)) (get_or visits i e)) (rest visits from) → AreRowsApartBefore rows visits i → AreRowsApartBefore rows visits (i + 1)
+rows_more rows visits from i e low room behind here before a b d first high row = elim (cases_lt a i) [
+  | inl sooner ↦ before a b d sooner high row
+  | inr later ↦
+      let same : i ≡ a = omega arith in
+      let is : get_or visits i e ≡ get_or visits a d = get_or_default visits i e d low ∙ ap (λ k. get_or visits k d) same in
+      elim (cases_lt b from) [
+        | inl passed ↦ λ differ. far_before rows (get_or visits a d) (get_or visits b d) row (behind b a d passed (omega arith) (omega arith))
+        | inr ahead ↦
+            let place : ℕ = b - from in
+            let long : length (rest visits from) ≡ length visits - from = length_rest visits from room in
+            let at : get_or (rest visits from) place d ≡ get_or visits b d = at_rest visits from place d (omega arith) ∙ ap (λ k. get_or visits k d) (let e : from + place ≡ b = omega arith in e) in
+            apart_in_row rows (get_or visits a d) (get_or visits b d) row
+            (subst (λ w. KeepApartUpTo (last_near rows w) w (get_or visits b d)) is (subst (KeepApartUpTo (last_near rows (get_or visits i e)) (get_or visits i e)) at (here place d (omega arith))))
+      ]
+]
+
+pub rows_step : (rows : ℤ) (visits : List Visit) (from to i : ℕ) (e : Visit) (first last : Cell) → IsSorted visit_cmp visits → i < length visits → to ≤ length visits
+    → first ≡ first_near rows (get_or visits i e) → last ≡ last_near rows (get_or visits i e) → AreBehind rows visits from i → AreRowsApartBefore rows visits i
+    → ((k : ℕ) (d : Visit) → from ≤ k → k < to → ComesBefore (get_or visits k d).cell first) → All (KeepApartUpTo last (get_or visits i e)) (rest visits to)
+    → AreBehind rows visits to (i + 1) × AreRowsApartBefore rows visits (i + 1)
+rows_step rows visits from to i e first last sorted low room is_first is_last behind before passed here =
+    let moved = behind_more rows visits from to i e sorted low behind (λ k d a b. subst (ComesBefore (get_or visits k d).cell) is_first (passed k d a b)) in
+    (λ a b d x y z. moved a b d x (omega arith) z, rows_more rows visits to i e low room moved (subst (λ l. All (KeepApartUpTo l (get_or visits i e)) (rest visits to)) is_last here) before)
+
+-- a visit that meets one of the rest shows that not all keep apart
+pub met : (visits : List Visit) (from i : ℕ) (e w : Visit) → i < length visits → from ≤ length visits → Contains (rest visits from) w → (KeepApart (get_or visits i e) w → ⊥) → AreAllApart visits → ⊥
+met visits from i e w low room h not all =
+    let k = at_from_Contains (rest visits from) w h in
+    let long : length (rest visits from) ≡ length visits - from = length_rest visits from room in
+    let here : Contains visits w = Contains-from_at visits w (from + k.0, omega (arith, k.1), λ d. sym (at_rest visits from k.0 d (omega (arith, k.1))) ∙ k.2 d) in
+    not (all (get_or visits i e) w (Contains-get_or visits i e low) here)
+
+pub rows_apart : (rows : ℤ) (visits : List Visit) (i : ℕ) → length visits ≤ i → AreRowsApartBefore rows visits i → AreRowsApart rows visits
+rows_apart rows visits i end apart v w h k row =
+    let a = at_from_Contains visits v h in
+    let b = at_from_Contains visits w k in
+    let here : (get_or visits b.0 v).cell.row ≡ (get_or visits a.0 v).cell.row +ℤ rows = (λ j. (b.2 v j).cell.row) ∙ row ∙ (λ j. (sym (a.2 v) j).cell.row +ℤ rows) in
+    subst (λ x. KeepApart x w) (a.2 v) (subst (KeepApart (get_or visits a.0 v)) (b.2 v) (apart a.0 b.0 v (omega arith) b.1 here))
 
 -- ---- what all visits meet
-
--- the visits before place i keep apart from all later ones
-abbrev pub AreApartBefore : List Visit → ℕ → Type 0
-AreApartBefore visits i = (a b : ℕ) (d : Visit) → a < i → a < b → b < length visits → KeepApart (get_or visits a d) (get_or visits b d)
-
-pub apart_more : (visits : List Visit) (i : ℕ) (e : Visit) → i < length visits → All (KeepApart (get_or visits i e)) (take (length visits - (i + 1)) (drop (i + 1) visits)) → AreApartBefore visits i → AreApartBefore visits (i + 1)
-apart_more visits i e low here before a b d first order high = elim (cases_lt a i) [
-  | inl sooner ↦ before a b d sooner order high
-  | inr later ↦
-      let same : a ≡ i = omega arith in
-      let place : ℕ = b - (i + 1) in
-      let long : length (drop (i + 1) visits) ≡ length visits - (i + 1) = length-drop (i + 1) visits in
-      let longer : length (take (length visits - (i + 1)) (drop (i + 1) visits)) ≡ length visits - (i + 1) = length-take-le (length visits - (i + 1)) (drop (i + 1) visits) (omega arith) in
-      let at : get_or (take (length visits - (i + 1)) (drop (i + 1) visits)) place d ≡ get_or visits b d =
-      get_or-take (length visits - (i + 1)) (drop (i + 1) visits) place d (omega arith) ∙ get_or-drop (i + 1) visits place d ∙ ap (λ k. get_or visits k d) (let e : i + 1 + place ≡ b = omega arith in e) in
-      let is : get_or visits i e ≡ get_or visits a d = get_or_default visits i e d low ∙ ap (λ k. get_or visits k d) (sym same) in
-      subst (λ w. KeepApart w (get_or visits b d)) is (subst (KeepApart (get_or visits i e)) at (here place d (omega arith)))
-]
 
 apart_back : (v w : Visit) → KeepApart v w → KeepApart w v
 apart_back v w apart differ = near_symmetric w.cell v.cell ∙ apart (λ e. differ (sym e))
 
-pub all_apart : (visits : List Visit) (i : ℕ) → length visits ≤ i → AreApartBefore visits i → AreAllApart visits
-all_apart visits i end apart v w h k =
-    let a = at_from_Contains visits v h in
-    let b = at_from_Contains visits w k in
-    subst (λ x. KeepApart x w) (a.2 v) (subst (KeepApart (get_or visits a.0 v)) (b.2 v) (by a.0 b.0 a.1 b.1 (cases_lt a.0 b.0) (cases_lt b.0 a.0)))
+-- cells that are near lie in one row, or one or two rows apart
+pub all_apart : (visits : List Visit) → AreRowsApart (pos 0) visits → AreRowsApart (pos 1) visits → AreRowsApart (pos 2) visits → AreAllApart visits
+all_apart visits none one two v w h k = by_lt_z w.cell.row v.cell.row
+    (λ above. apart_back w v (downward w v k h (let order : w.cell.row ≤ℤ v.cell.row = omega (arith, ints, above) in order)))
+    (λ below. downward v w h k below)
   where
-    by : (a b : ℕ) → a < length visits → b < length visits → (a < b) ⊎ (b ≤ a) → (b < a) ⊎ (a ≤ b) → KeepApart (get_or visits a v) (get_or visits b v)
-    by a b low high (inl less) other = apart a b v (omega arith) less high
-    by a b low high (inr more) (inl less) = apart_back (get_or visits b v) (get_or visits a v) (apart b a v (omega arith) less low)
-    by a b low high (inr more) (inr same) = λ differ. absurd (differ (ap (λ k. (get_or visits k v).cluster) (let e : a ≡ b = omega arith in e)))
+    downward : (v w : Visit) → Contains visits v → Contains visits w → v.cell.row ≤ℤ w.cell.row → KeepApart v w
+    downward v w h k order differ = false_from_ne_true (near v.cell w.cell) (λ close.
+        let n = near_within v.cell w.cell close in
+        by_lt_z w.cell.row (v.cell.row +ℤ pos 1)
+        (λ first. false≢true (sym (none v w h k (let row : w.cell.row ≡ v.cell.row +ℤ pos 0 = omega (arith, ints, order, first) in row) differ) ∙ close))
+        (λ more. by_lt_z w.cell.row (v.cell.row +ℤ pos 2)
+        (λ second. false≢true (sym (one v w h k (let row : w.cell.row ≡ v.cell.row +ℤ pos 1 = omega (arith, ints, more, second) in row) differ) ∙ close))
+        (λ most. false≢true (sym (two v w h k (let row : w.cell.row ≡ v.cell.row +ℤ pos 2 = omega (arith, ints, most, n.rows_down) in row) differ) ∙ close))))
+
+-- a test whose two answers mean this
+pub told_apart : {A C : Type 0} (b : Bool) → MatchBool b A (C → ⊥) → (A → C) → IsTrue b ↔ C
+told_apart true a then = (λ t. then a, λ h. refl)
+told_apart false not then = (λ t. absurd (false≢true t), λ h. absurd (not h))

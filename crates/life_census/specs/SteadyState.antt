@@ -1,16 +1,17 @@
 -- The cells that clusters come to in their phases.
-use Rattle.std.specs.Prelude.{◌≡◌, ◌≢◌, ℕ, zero, suc, ◌≤◌, ◌<◌, true, false, List, [], ◌++◌, map, slice_index_or}
+use Rattle.std.specs.Prelude.{◌≡◌, ◌≢◌, ℕ, zero, suc, ◌≤◌, ◌<◌, ℤ, ◌+ℤ◌, true, false, List, [], ◌++◌, slice_index_or, length}
 use Rattle.std.specs.declared.cmp.Ordering.{Ordering}
-use Rattle.std.specs.Ordering.{nat_cmp, ordering_then}
+use Rattle.std.specs.Ordering.{is_lt, nat_cmp, ordering_then}
 use Rattle.std.specs.List.{Contains}
 use Rattle.std.specs.FinSet as set
 use Rattle.life_core.specs.declared.cell.Cell.{Cell}
 use Rattle.life_core.specs.declared.cell.TheConstants.{PLANE}
 use Rattle.life_core.specs.Cell.{cell_cmp, IsCellWithin}
-use Rattle.life_core.specs.Pattern.{Cells, in_order}
+use Rattle.life_core.specs.Pattern.{Cells, in_order, normal, corner}
 use Rattle.life_core.specs.Rule.{RuleSets}
 use Rattle.life_core.specs.Generations.{generation_of}
 use Rattle.life_census.specs.declared.meeting.Visit.{Visit}
+use Rattle.life_census.specs.declared.shapes.Shape.{Shape}
 use Rattle.life_census.specs.Parts.{near}
 use Rattle.life_census.specs.Steady.{Stays}
 
@@ -22,10 +23,10 @@ visit_cmp v w = ordering_then (cell_cmp v.cell w.cell) (nat_cmp v.cluster w.clus
 abbrev pub visit_of : ℕ → Cell → Visit
 visit_of number c = record { cell = c; cluster = number }
 
--- the visits of the first n phases of a cluster
-unfoldable pub visits_of : RuleSets → Cells → ℕ → ℕ → List Visit
-visits_of r P number zero = []
-visits_of r P number (suc i) = visits_of r P number i ++ map (visit_of number) (in_order (generation_of r P i))
+-- the cells of the first n phases of P
+unfoldable pub phases_of : RuleSets → Cells → ℕ → List Cell
+phases_of r P zero = []
+phases_of r P (suc i) = phases_of r P i ++ in_order (generation_of r P i)
 
 -- P stays, and p is a number of generations after which it is back
 pub record StaysFor (r : RuleSets) (limit : ℕ) (P : Cells) (p : ℕ) : Type 0 where
@@ -33,6 +34,28 @@ pub record StaysFor (r : RuleSets) (limit : ℕ) (P : Cells) (p : ℕ) : Type 0 
   pub from_one : 1 ≤ p
   pub few : p ≤ limit
   pub back : generation_of r P p ≡ P
+
+-- the shape is that of a set X that stays
+pub record IsShape {A : Type 0} (r : RuleSets) (limit : ℕ) (s : Shape A) : Type 0 where
+  pub X : Cells
+  pub p : ℕ
+  pub normal_is : s.normal ≡ normal X
+  pub corner_is : s.corner ≡ corner X
+  pub inside : IsCellWithin 400000000 s.corner
+  pub stays : StaysFor r limit X p
+  pub phases_are : s.phases.items ≡ phases_of r X p
+
+-- the shape is that of Y, and of a set that stays
+abbrev pub IsShapeOf : {A : Type 0} → RuleSets → ℕ → Cells → Shape A → Type 0
+IsShapeOf {A} r limit Y s = IsShape r limit s × (s.normal ≡ normal Y)
+
+-- the shape at place i has this normal set
+abbrev pub HasNormalAt : {A : Type 0} → List (Shape A) → Cells → ℕ → Type 0
+HasNormalAt {A} shapes N i = (i < length shapes) × ((d : Shape A) → (slice_index_or shapes i d).normal ≡ N)
+
+-- the shape at place i is that of Y
+abbrev pub HasShapeFor : {A : Type 0} → List (Shape A) → Cells → ℕ → Type 0
+HasShapeFor {A} shapes Y i = HasNormalAt shapes (normal Y) i
 
 -- the cell of a visit lies in the plane
 abbrev pub IsInside : Visit → Type 0
@@ -46,6 +69,18 @@ pub record AreVisits (r : RuleSets) (Ps : List Cells) (n : ℕ) (visits : List V
 -- visits of two clusters are to cells that are not near
 abbrev pub KeepApart : Visit → Visit → Type 0
 KeepApart v w = v.cluster ≢ w.cluster → near v.cell w.cell ≡ false
+
+-- the first cell comes before the second
+abbrev pub ComesBefore : Cell → Cell → Type 0
+ComesBefore c d = is_lt (cell_cmp c d) ≡ true
+
+-- visits of two clusters are to cells that are not near, if no cell of the second comes after the last
+abbrev pub KeepApartUpTo : Cell → Visit → Visit → Type 0
+KeepApartUpTo last v w = is_lt (cell_cmp last w.cell) ≡ false → KeepApart v w
+
+-- visits of two clusters to cells that lie so many rows apart are to cells that are not near
+abbrev pub AreRowsApart : ℤ → List Visit → Type 0
+AreRowsApart rows visits = (v w : Visit) → Contains visits v → Contains visits w → w.cell.row ≡ v.cell.row +ℤ rows → KeepApart v w
 
 -- all visits of two clusters are to cells that are not near
 abbrev pub AreAllApart : List Visit → Type 0

@@ -9,6 +9,7 @@ mod left;
 mod meeting;
 mod parts;
 mod rows;
+mod shapes;
 mod table;
 
 pub use code_text::{CodeText, is_code_text};

@@ -1,17 +1,21 @@
 //! Whether the clusters of a field ever meet.
-ghost use Rattle.std.specs.Prelude.{◌≡◌, ◌↔◌, ◌≤◌, ◌++◌, map, IsTrue, IfOk, OnOk, length, IfSome, MatchOption};
+ghost use Rattle.std.specs.Prelude.{◌≡◌, ◌↔◌, ℕ, pos, ◌+◌, ◌≤◌, ◌<◌, ◌≤ℤ◌, ◌++◌, List, map, slice_index_or, IsTrue, IfOk, OnOk, length, IfSome, MatchOption};
 ghost use Rattle.std.specs.Bool.{MatchBool};
 ghost use Rattle.std.specs.List.{All, Contains};
 ghost use Rattle.std.specs.List.Sorted.{IsSorted};
+ghost use Rattle.life_core.specs.Cell.{moved_cell, IsCellWithin};
 ghost use Rattle.life_core.specs.Pattern.{Cells, IsWithin};
+ghost use Rattle.life_core.specs.Rule.{RuleSets};
+ghost use Rattle.life_core.specs.declared.cell.TheConstants.{PLANE};
 ghost use Rattle.life_census.specs.declared.meeting.Visit.{Visit as VisitValue};
 ghost use Rattle.life_census.specs.Parts.{near, ArePartsOf};
 ghost use Rattle.life_census.specs.Steady.{Stays, IsSteady};
-ghost use Rattle.life_census.specs.SteadyState.{visit_cmp, visit_of, visits_of, StaysFor, IsInside, AreVisits, KeepApart, AreAllApart};
+ghost use Rattle.life_census.specs.SteadyState.{visit_cmp, visit_of, IsShapeOf, IsInside, AreVisits, ComesBefore, KeepApart, KeepApartUpTo, AreAllApart, AreRowsApart};
 
 use crate::parts::clusters;
-use life_code::{Kind, PERIOD_LIMIT, kind};
-use life_core::{Cell, Fault, Pattern, Rule, generation};
+use crate::shapes::{Shape, corner_of, shape_place, way};
+use life_code::PERIOD_LIMIT;
+use life_core::{Cell, Fault, Pattern, Rule};
 use std::alloc::{AllocError, Allocator};
 
 /// A cell that a cluster comes to in one of its phases, and the number of the cluster.
@@ -72,70 +76,51 @@ fn all_visits<A: Allocator + Copy>(
     ensures visits { IfOk result (λ o. IfSome o (λ v. AreVisits rule.now clusters.now (length clusters.now) v.items)) }
     ensures inside { IfOk result (λ o. IfSome o (λ v. All IsInside v.items)) }
 {
+    let mut shapes = Vec::new(alloc);
     let mut visits = Vec::new(alloc);
     for (number, cluster) in clusters.iter().enumerate() {
-        let Some(period) = staying_period(alloc, rule, cluster, limit)? else {
+        let Some(i) = shape_place(alloc, rule, cluster, limit, &mut shapes)? else {
             return Ok(None);
         };
-        visit_phases(alloc, rule, cluster, period, number, &mut visits)?;
+        visit_cluster(cluster, &shapes[i], number, &mut visits)?;
     }
     Ok(Some(visits))
 }
 
-/// The period of a cluster, if it stays.
-fn staying_period<A: Allocator + Copy>(
-    alloc: A,
-    rule: &Rule,
+/// Adds the cells of all phases of a cluster of this shape, moved from where the shape was found.
+fn visit_cluster<A: Allocator + Copy>(
     cluster: &Pattern<A>,
-    limit: u32,
-) -> Result<Option<u32>, Fault>
-    requires from_one { 1 ≤ limit }
-    requires few { limit ≤ PERIOD_LIMIT }
-    requires room { IsWithin 400_000_000 cluster.now }
-    ensures { IfOk result (λ o. MatchOption o (Stays rule.now limit cluster.now → ⊥) (StaysFor rule.now limit cluster.now)) }
-{
-    match kind(alloc, rule, cluster, limit)? {
-        Kind::Still => Ok(Some(1)),
-        Kind::Oscillator(period) => Ok(Some(period)),
-        Kind::Empty | Kind::Ship(..) | Kind::Unresolved => Ok(None),
-    }
-}
-
-/// Adds the cells of as many phases of a cluster as its period says.
-fn visit_phases<A: Allocator + Copy>(
-    alloc: A,
-    rule: &Rule,
-    cluster: &Pattern<A>,
-    period: u32,
-    number: usize,
-    visits: &mut Vec<Visit, A>,
-) -> Result<(), Fault>
-    requires from_one { 1 ≤ period }
-    requires few { period ≤ PERIOD_LIMIT }
-    requires room { IsWithin 400_000_000 cluster.now }
-    ensures visits { OnOk result (visits.new.items ≡ visits.old.items ++ visits_of rule.now cluster.now number period) }
-    ensures inside { OnOk result (All IsInside visits.old.items → All IsInside visits.new.items) }
-{
-    visit_cells(cluster.cells(), number, visits)?;
-    let mut phase = cluster.copy(alloc)?;
-    for _i in 1..period {
-        phase = generation(alloc, rule, &phase, 1)?;
-        visit_cells(phase.cells(), number, visits)?;
-    }
-    Ok(())
-}
-
-/// Adds the cells of one phase of a cluster.
-fn visit_cells<A: Allocator>(
-    cells: &[Cell],
+    shape: &Shape<A>,
     number: usize,
     visits: &mut Vec<Visit, A>,
 ) -> Result<(), AllocError>
-    ensures visits { OnOk result (visits.new.items ≡ visits.old.items ++ map (visit_of number) cells.now) }
+    requires room { IsWithin 400_000_000 cluster.now }
+    requires shape { (r : RuleSets) × (limit : ℕ) × (limit ≤ PERIOD_LIMIT) × IsShapeOf r limit cluster.now shape.now }
+    ensures stays { OnOk result ((r : RuleSets) (limit : ℕ) → IsShapeOf r limit cluster.now shape.now → Stays r limit cluster.now) }
+    ensures visits { OnOk result ((r : RuleSets) (limit : ℕ) → IsShapeOf r limit cluster.now shape.now → (Ps : List Cells) → ((d : Cells) → slice_index_or Ps number d ≡ cluster.now) → AreVisits r Ps number visits.old.items → AreVisits r Ps (number + 1) visits.new.items) }
+    ensures inside { OnOk result (All IsInside visits.old.items → All IsInside visits.new.items) }
+{
+    let Some(corner) = corner_of(cluster) else {
+        return Ok(());
+    };
+    let move_by = way(shape.corner, corner);
+    visit_cells(&shape.phases, move_by, number, visits)?;
+    Ok(())
+}
+
+/// Adds the cells of the phases of one cluster, each of them moved.
+fn visit_cells<A: Allocator>(
+    cells: &[Cell],
+    move_by: Cell,
+    number: usize,
+    visits: &mut Vec<Visit, A>,
+) -> Result<(), AllocError>
+    requires { All (λ c. IsCellWithin PLANE (moved_cell move_by.column move_by.row c)) cells.now }
+    ensures { OnOk result (visits.new.items ≡ visits.old.items ++ map (λ c. visit_of number (moved_cell move_by.column move_by.row c)) cells.now) }
 {
     for cell in cells {
         visits.push(Visit {
-            cell: *cell,
+            cell: cell.moved(move_by.column, move_by.row),
             cluster: number,
         })?;
     }
@@ -148,23 +133,54 @@ fn are_apart(visits: &[Visit]) -> bool
     requires inside { All IsInside visits.now }
     ensures { IsTrue result ↔ AreAllApart visits.now }
 {
-    for (i, visit) in visits.iter().enumerate() {
-        if meets(*visit, &visits[i + 1..]) {
+    if !are_rows_apart(visits, 0) {
+        return false;
+    }
+    if !are_rows_apart(visits, 1) {
+        return false;
+    }
+    are_rows_apart(visits, 2)
+}
+
+/// Whether no cell is near one of another cluster that lies so many rows below it. From one cell to
+/// the next, the place of the first that can be near only moves on.
+fn are_rows_apart(visits: &[Visit], rows: i64) -> bool
+    requires sorted { IsSorted visit_cmp visits.now }
+    requires inside { All IsInside visits.now }
+    requires below { pos 0 ≤ℤ rows }
+    requires close { rows ≤ℤ pos 2 }
+    ensures { MatchBool result (AreRowsApart rows visits.now) (AreAllApart visits.now → ⊥) }
+{
+    let mut from = 0;
+    for visit in visits {
+        from = first_from(visits, from, visit.cell.moved(-2, rows));
+        if meets(*visit, &visits[from..], visit.cell.moved(2, rows)) {
             return false;
         }
     }
     true
 }
 
-/// Whether a cell is near a later one of another cluster. None is from the first on that lies more
-/// than 2 rows below it.
-fn meets(visit: Visit, later: &[Visit]) -> bool
-    requires sorted { IsSorted visit_cmp later.now }
-    requires inside { IsInside visit }
-    ensures { MatchBool result ((w : VisitValue) × Contains later.now w × (KeepApart visit w → ⊥)) (All (KeepApart visit) later.now) }
+/// The first place, from the start on, of a visit whose cell does not come before a cell.
+fn first_from(visits: &[Visit], start: usize, cell: Cell) -> usize
+    requires { start ≤ length visits.now }
+    ensures bound { result ≤ length visits.now }
+    ensures before { (k : ℕ) (d : VisitValue) → start ≤ k → k < result → ComesBefore (slice_index_or visits.now k d).cell cell }
 {
-    for other in later {
-        if other.cell.row > visit.cell.row + 2 {
+    let mut place = start;
+    while place < visits.len() && visits[place].cell < cell {
+        place += 1;
+    }
+    place
+}
+
+/// Whether a cell is near one of another cluster, among those up to the last that can be near.
+fn meets(visit: Visit, others: &[Visit], last: Cell) -> bool
+    requires { IsSorted visit_cmp others.now }
+    ensures { MatchBool result ((w : VisitValue) × Contains others.now w × (KeepApart visit w → ⊥)) (All (KeepApartUpTo last visit) others.now) }
+{
+    for other in others {
+        if last < other.cell {
             return false;
         }
         if other.cluster != visit.cluster && is_near(visit.cell, other.cell) {

@@ -6,7 +6,7 @@ ghost use Rattle.std.specs.Prelude.{◌≤◌};
 ghost use Rattle.life_core.specs.Pattern.{IsWithin};
 
 use life_code::{Coded, PERIOD_LIMIT, code, open_code, same_object};
-use life_core::{Orientation, PLANE, Pattern, Rule, generation};
+use life_core::{GENERATION_LIMIT, Orientation, PLANE, Pattern, Rule, generation};
 use std::alloc::Global;
 use std::test::Fail;
 
@@ -86,26 +86,68 @@ fn coded(alloc: Global, pattern: &Pattern, limit: u32) -> Result<Coded, Fail>
     Ok(code(alloc, &Rule::LIFE, pattern, limit)?.ok_or("no code")?)
 }
 
+/// A later phase of the object, reflected.
+fn reflected(alloc: Global, pattern: &Pattern, limit: u32, index: usize) -> Result<Pattern, Fail> {
+    let phase = if limit <= 2 { 1 } else { limit - 1 };
+    if phase > GENERATION_LIMIT || !pattern.within(PLANE - GENERATION_LIMIT) {
+        return Err("too far away".into());
+    }
+    let later = generation(alloc, &Rule::LIFE, pattern, phase)?;
+    Ok(later.turned(alloc, Orientation::ALL[4 + index % 4])?)
+}
+
+/// Whether the pattern has the text as its code, and is one object with the first.
+fn has_code(
+    alloc: Global,
+    pattern: &Pattern,
+    limit: u32,
+    first: &Coded,
+    text: &[u8],
+) -> Result<bool, Fail>
+    requires from_one { 1 ≤ limit }
+    requires few { limit ≤ PERIOD_LIMIT }
+{
+    if !pattern.within(400_000_000) {
+        return Ok(false);
+    }
+    let other = coded(alloc, pattern, limit)?;
+    Ok(other.text() == text && same_object(first, &other))
+}
+
+/// Whether the object has the text as its code, as it stands, turned, and reflected at another phase.
+fn forms_have_code(
+    alloc: Global,
+    pattern: &Pattern,
+    limit: u32,
+    index: usize,
+    text: &[u8],
+) -> Result<bool, Fail>
+    requires from_one { 1 ≤ limit }
+    requires few { limit ≤ PERIOD_LIMIT }
+{
+    if !pattern.within(400_000_000) {
+        return Ok(false);
+    }
+    let first = coded(alloc, pattern, limit)?;
+    let turned = pattern.turned(alloc, Orientation::ALL[1 + index % 3])?;
+    let reflected = reflected(alloc, pattern, limit, index)?;
+    Ok(
+        first.text() == text
+            && has_code(alloc, &turned, limit, &first, text)?
+            && has_code(alloc, &reflected, limit, &first, text)?,
+    )
+}
+
 #[test]
 fn objects_have_their_codes(rt: HostRuntime) -> Result<(), Fail> {
     for (index, (name, text)) in OBJECTS.iter().enumerate() {
         let limit = limit_of(text)?;
         assert!(rt; 1 <= limit && limit <= PERIOD_LIMIT, "of {name}");
         let pattern = open_code(rt.alloc(), &Rule::LIFE, text.as_bytes(), limit)?;
-        let turned = pattern.turned(rt.alloc(), Orientation::ALL[1 + index % 3])?;
-        let phase = if limit == 1 { 1 } else { limit - 1 };
-        assert!(rt; pattern.within(PLANE - phase), "of {name}");
-        let later = generation(rt.alloc(), &Rule::LIFE, &pattern, phase)?;
-        let mirrored = later.turned(rt.alloc(), Orientation::ALL[4 + index % 4])?;
-        assert!(rt; pattern.within(400_000_000), "of {name}");
-        let first = coded(rt.alloc(), &pattern, limit)?;
-        assert_eq!(rt; first.text(), text.as_bytes(), "of {name}");
-        for other in [&turned, &mirrored] {
-            assert!(rt; other.within(400_000_000), "of {name}");
-            let other = coded(rt.alloc(), other, limit)?;
-            assert_eq!(rt; other.text(), text.as_bytes(), "of {name}");
-            assert!(rt; same_object(&first, &other), "of {name}");
-        }
+        assert!(rt;
+            forms_have_code(rt.alloc(), &pattern, limit, index, text.as_bytes())?,
+            "of {name}"
+        );
     }
     Ok(())
 }

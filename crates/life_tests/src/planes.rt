@@ -76,17 +76,37 @@ fn blinkers_lie_across_words(rt: HostRuntime) -> Result<(), Fail> {
     Ok(())
 }
 
+/// The cells of a file with this body.
+fn cells_of(alloc: Global, body: &str) -> Result<Pattern, Fail> {
+    let file = format!(in alloc; "x = 0, y = 0\n{body}\n")?;
+    Ok(read(alloc, file.as_bytes())?.cells)
+}
+
+/// Whether the next generation of the first pattern, moved to the origin, is the second.
+fn is_next(alloc: Global, before: &Pattern, after: &Pattern) -> Result<bool, Fault> {
+    if !before.within(PLANE - 1) {
+        return Ok(false);
+    }
+    let next = generation(alloc, &Rule::LIFE, before, 1)?;
+    if !next.within(500_000_000) {
+        return Ok(false);
+    }
+    Ok(next.normal(alloc)?.same(after))
+}
+
+/// Whether the cells of the first body become those of the second.
+fn becomes(alloc: Global, before: &str, after: &str) -> Result<bool, Fail> {
+    let before = cells_of(alloc, before)?;
+    let after = cells_of(alloc, after)?;
+    Ok(is_next(alloc, &before, &after)?)
+}
+
 #[test]
 fn full_rows_become_three(rt: HostRuntime) -> Result<(), Fail> {
     for wide in 2..299_u64 {
-        let row = format!(in rt.alloc(); "x = 0, y = 0\n{}o!\n", wide + 2)?;
-        let row = read(rt.alloc(), row.as_bytes())?;
-        assert!(rt; row.cells.within(PLANE - 1));
-        let three = format!(in rt.alloc(); "x = 0, y = 0\n{wide}o${wide}o${wide}o!\n")?;
-        let three = read(rt.alloc(), three.as_bytes())?;
-        let after = generation(rt.alloc(), &row.rule, &row.cells, 1)?;
-        assert!(rt; after.within(500_000_000));
-        assert!(rt; after.normal(rt.alloc())?.same(&three.cells), "of {wide}");
+        let row = format!(in rt.alloc(); "{}o!", wide + 2)?;
+        let three = format!(in rt.alloc(); "{wide}o${wide}o${wide}o!")?;
+        assert!(rt; becomes(rt.alloc(), &row, &three)?, "of {wide}");
     }
     Ok(())
 }
@@ -123,29 +143,59 @@ fn a_row_steps_across_words(rt: HostRuntime) -> Result<(), Fail> {
     Ok(())
 }
 
+/// The move from the first pattern to the second, as planes of one kind that were trimmed.
+fn shift_by<P: Plane<Global>>(
+    alloc: Global,
+    from: &Pattern,
+    to: &Pattern,
+) -> Result<Option<(i64, i64)>, Fault> {
+    let mut from = P::from_pattern(alloc, from)?;
+    let to = P::from_pattern(alloc, to)?;
+    from.trim();
+    Ok(from.shift_to(&to))
+}
+
+/// Whether this is the move from the first pattern to the second, on both kinds of plane.
+fn is_move(
+    alloc: Global,
+    from: &Pattern,
+    to: &Pattern,
+    shift: Option<(i64, i64)>,
+) -> Result<bool, Fault> {
+    let listed = shift_by::<CellList>(alloc, from, to)?;
+    let packed = shift_by::<PackedRows>(alloc, from, to)?;
+    Ok(listed == shift && packed == shift)
+}
+
 #[test]
-fn moves_are_found(rt: HostRuntime) -> Result<(), Fail> {
+fn a_move_is_found(rt: HostRuntime) -> Result<(), Fail> {
     let pair = Pattern::from_cells(rt.alloc(), &[(0, 0), (63, 0)])?;
     let later = Pattern::from_cells(rt.alloc(), &[(1, 5), (64, 5)])?;
+    assert!(rt; is_move(rt.alloc(), &pair, &later, Some((1, 5)))?);
+    Ok(())
+}
+
+#[test]
+fn no_move_takes_a_set_to_another_size(rt: HostRuntime) -> Result<(), Fail> {
     let one = Pattern::from_cells(rt.alloc(), &[(0, 0)])?;
     let two = Pattern::from_cells(rt.alloc(), &[(0, 0), (1, 0)])?;
+    assert!(rt; is_move(rt.alloc(), &one, &two, None)?);
+    assert!(rt; is_move(rt.alloc(), &two, &one, None)?);
+    Ok(())
+}
+
+#[test]
+fn no_move_takes_a_set_to_another_shape(rt: HostRuntime) -> Result<(), Fail> {
+    let pair = Pattern::from_cells(rt.alloc(), &[(0, 0), (63, 0)])?;
+    let two = Pattern::from_cells(rt.alloc(), &[(0, 0), (1, 0)])?;
+    assert!(rt; is_move(rt.alloc(), &pair, &two, None)?);
+    Ok(())
+}
+
+#[test]
+fn no_move_takes_the_empty_set_to_itself(rt: HostRuntime) -> Result<(), Fail> {
     let empty = Pattern::from_cells(rt.alloc(), &[])?;
-    for (from, to, shift) in [
-        (&pair, &later, Some((1, 5))),
-        (&one, &two, None),
-        (&two, &one, None),
-        (&pair, &two, None),
-        (&empty, &empty, None),
-    ] {
-        let mut cells: CellList = CellList::from_pattern(rt.alloc(), from)?;
-        let others: CellList = CellList::from_pattern(rt.alloc(), to)?;
-        cells.trim();
-        assert_eq!(rt; cells.shift_to(&others), shift);
-        let mut rows: PackedRows = PackedRows::from_pattern(rt.alloc(), from)?;
-        let others: PackedRows = PackedRows::from_pattern(rt.alloc(), to)?;
-        rows.trim();
-        assert_eq!(rt; rows.shift_to(&others), shift);
-    }
+    assert!(rt; is_move(rt.alloc(), &empty, &empty, None)?);
     Ok(())
 }
 

@@ -4,4 +4,4 @@ use Rattle.life_census.specs.SteadyState.{KeepApart}
 use Rattle.life_census.proofs.meeting.meets.Given as goal
 
 abbrev pub invariant-loop-other : goal.invariant-loop-other
-invariant-loop-other l = All (KeepApart l.visit) (take l.other-index l.later)
+invariant-loop-other l = All (KeepApart l.visit) (take l.other-index l.others)

@@ -1,6 +1,6 @@
 use Rattle.std.proofs.Common.{ap, inl, inr}
 use Rattle.life_census.proofs.SteadyPhases.{still_stays, oscillator_stays, is_staying, others_go}
-use Rattle.life_census.proofs.meeting.staying_period.Goals as goal
+use Rattle.life_census.proofs.shapes.staying_period.Goals as goal
 
 pub returns-in-Still : goal.returns-in-Still
 returns-in-Still g c = still_stays c.args.rule.now c.args.limit c.args.cluster.now _ c.in-Still.is c.in_ok-kind.ensures.meaning

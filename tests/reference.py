@@ -7,7 +7,7 @@ import json
 import re
 
 LONGEST_FILE = 1_048_576
-GREATEST = 1024
+GREATEST = 2048
 BLANKS = b" \t\r"
 RLE_NAMES = {1: "too-long", 2: "text-limit", 3: "no-header", 4: "bad-header", 5: "bad-rule", 6: "birth-zero",
              7: "other-tag", 8: "bad-count", 9: "too-wide", 10: "no-end"}
@@ -326,6 +326,22 @@ def tally(rule, cells, limit):
     return sorted(counts.items()), unresolved, len(parts)
 
 
+def is_steady(rule, cells, limit):
+    """Whether each cluster is a still life or an oscillator within the limit, and no phase of one comes near a phase of another."""
+    reached = []
+    for part in clusters(cells):
+        kind = kind_of(rule, part, limit)
+        if kind[0] not in ("still", "oscillator"):
+            return False
+        reached.append(set().union(*(generation(rule, part, n) for n in range((1, *kind[1:])[-1]))))
+    near = [(dx, dy) for dx in range(-2, 3) for dy in range(-2, 3)]
+    for i, one in enumerate(reached):
+        others = set().union(*reached[:i])
+        if any((x + dx, y + dy) in others for x, y in one for dx, dy in near):
+            return False
+    return True
+
+
 # ---- the archive
 
 NAMES = {1: ("no-such-deposit", 404), 2: ("no-such-census", 404), 3: ("bad-member", 400), 4: ("bad-token", 400),
@@ -428,15 +444,16 @@ class Archive:
             raise Refused(2)
         deposit, n, limit = self.censuses[number - 1][2]
         _, _, _, rule, cells = self.record(deposit)
-        return deposit, n, limit, tally(rule, generation(rule, cells, n), limit)
+        later = generation(rule, cells, n)
+        return deposit, n, limit, tally(rule, later, limit), is_steady(rule, later, limit)
 
     def show_census(self, number):
-        deposit, n, limit, (rows, unresolved, total) = self.counted(number)
+        deposit, n, limit, (rows, unresolved, total), steady = self.counted(number)
         return json_reply(200, {"census": number, "clusters": total, "deposit": deposit, "generation": n, "limit": limit,
-                                "rows": [{"code": code, "count": count} for code, count in rows], "unresolved": unresolved})
+                                "rows": [{"code": code, "count": count} for code, count in rows], "steady": steady, "unresolved": unresolved})
 
     def census_csv(self, number):
-        _, _, _, (rows, unresolved, _) = self.counted(number)
+        _, _, _, (rows, unresolved, _), _ = self.counted(number)
         lines = ["code,count"] + [f"{code},{count}" for code, count in rows] + [f"unresolved,{unresolved}"]
         return reply(200, "text/csv", "".join(line + "\n" for line in lines).encode())
 

@@ -27,6 +27,10 @@ const NO_END: &str = "x = 3, y = 3\nbo$2bo$3o\n";
 /// Two blocks, which are two clusters.
 pub const FIELD: &str = "x = 6, y = 2\n2o2b2o$2o2b2o!\n";
 
+/// The census of that field under limit 1, as it is shown.
+pub const CENSUS_SHOWN: &str =
+    "census 1 of 1 at 0 within 1\nxs4_33 2\nsteady true\nunresolved 0 of 2";
+
 /// A request, as a row of a table.
 #[derive(Clone, Copy)]
 pub enum Asked {
@@ -58,10 +62,10 @@ pub const DEPOSITS: [(Asked, &str); 20] = [
     (Asked::ListAfter(2), ""),
     (Asked::ListAfter(99), ""),
     (Asked::Show(1), GLIDER_SHOWN),
-    (Asked::At(1, 1024), GLIDER_SHOWN),
-    (Asked::At(1, 1025), "refused 6"),
+    (Asked::At(1, 2048), GLIDER_SHOWN),
+    (Asked::At(1, 2049), "refused 6"),
     (Asked::Show(9), "refused 1"),
-    (Asked::At(9, 1025), "refused 6"),
+    (Asked::At(9, 2049), "refused 6"),
     (Asked::KindOf(1, 4), "ship 4 1 1 xq4_153"),
 ];
 
@@ -82,11 +86,8 @@ const CENSUSES: [(Asked, &str); 18] = [
     (Asked::Total("B9/S", "xs4_330", 1), "refused 8"),
     (Asked::Total("B3/S23", "xs4_330", 1), "refused 9"),
     (Asked::ShowCensus(3), "refused 2"),
-    (Asked::At(1, 1025), "refused 6"),
-    (
-        Asked::ShowCensus(1),
-        "census 1 of 1 at 0 within 1\nxs4_33 2\nunresolved 0 of 2",
-    ),
+    (Asked::At(1, 2049), "refused 6"),
+    (Asked::ShowCensus(1), CENSUS_SHOWN),
     (Asked::CensusCsv(1), "code,count\nxs4_33,2\nunresolved,0\n"),
 ];
 
@@ -149,11 +150,12 @@ fn rows_text(alloc: Global, rows: &[Row]) -> Result<String, Fail> {
 fn census_text(alloc: Global, shown: &Shown) -> Result<String, Fail> {
     let rows = rows_text(alloc, shown.tally.rows.as_slice())?;
     Ok(format!(in alloc;
-        "census {} of {} at {} within {}\n{rows}unresolved {} of {}",
+        "census {} of {} at {} within {}\n{rows}steady {}\nunresolved {} of {}",
         shown.census,
         shown.deposit,
         shown.generation,
         shown.limit,
+        shown.steady,
         shown.tally.unresolved,
         shown.tally.total
     )?)

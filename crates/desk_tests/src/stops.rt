@@ -1,5 +1,5 @@
 //! An archive in files: closed and opened again, and a stop at each call of a file.
-use crate::requests::{Asked, BLOCK_SHOWN, DEPOSITS, FIELD, GLIDER, told_by};
+use crate::requests::{Asked, BLOCK_SHOWN, CENSUS_SHOWN, DEPOSITS, FIELD, GLIDER, told_by};
 use life_store::{Archive, OpenFault};
 use sqlite::{Alter, FileStore, Files};
 use sqlite_disk::{Disk, Fuse, Memory};
@@ -131,12 +131,7 @@ fn is_whole<S: Alter>(
     if censuses == 0 {
         return Ok(true);
     }
-    tells(
-        alloc,
-        archive,
-        Asked::ShowCensus(1),
-        "census 1 of 1 at 0 within 1\nxs4_33 2\nunresolved 0 of 2",
-    )
+    tells(alloc, archive, Asked::ShowCensus(1), CENSUS_SHOWN)
 }
 
 /// Whether both requests made again are answered by their numbers, and each is kept once.

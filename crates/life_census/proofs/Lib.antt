@@ -19,3 +19,4 @@ pub mod SteadySweep
 pub mod SteadyLemmas
 pub mod SteadyBlocks
 pub mod SteadyEvolution
+pub mod SteadyDecided

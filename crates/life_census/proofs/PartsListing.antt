@@ -20,10 +20,10 @@ use Rattle.life_census.proofs.PartsSteps.{chain_in_more}
 
 -- ---- what touches
 
-touching : (c : Cell) (P : Cells) → touches c P ≡ true → (d : Cell) × (set.contains P d ≡ true) × (near c d ≡ true)
+pub touching : (c : Cell) (P : Cells) → touches c P ≡ true → (d : Cell) × (set.contains P d ≡ true) × (near c d ≡ true)
 touching c P h = let p = passing_cell (near c) (set.items P) h in (p.cell, contains-items P p.cell ∙ p.member, p.passes)
 
-touches_by : (c d : Cell) (P : Cells) → set.contains P d ≡ true → near c d ≡ true → touches c P ≡ true
+pub touches_by : (c d : Cell) (P : Cells) → set.contains P d ≡ true → near c d ≡ true → touches c P ≡ true
 touches_by c d P h close = passed_by_member (near c) (set.items P) d (sym (contains-items P d) ∙ h) close
 
 contains-cond : (b : Bool) (P J : Cells) (d : Cell) → set.contains (cond b (set.union P J) J) d ≡ ((b && set.contains P d) || set.contains J d)

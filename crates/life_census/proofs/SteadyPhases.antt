@@ -1,5 +1,5 @@
 -- Parts that stay: what their kinds say, and that their phases come again.
-use Rattle.std.specs.Prelude.{◌≡◌, ◌≢◌, ℕ, ◌+◌, ◌*◌, ◌%◌, ◌/◌, ◌≤◌, zero, suc, ℤ, pos, ◌+ℤ◌, Bool, true, false}
+use Rattle.std.specs.Prelude.{◌≡◌, ◌≢◌, ℕ, ◌+◌, ◌*◌, ◌%◌, ◌/◌, ◌≤◌, zero, suc, ℤ, pos, ◌+ℤ◌, false}
 use Rattle.std.proofs.Common.{sym, ap, ◌∙◌, inl, inr, arith}
 use Rattle.std.proofs.lemmas.Bool.{false≢true}
 use Rattle.std.proofs.lemmas.Int.{ints}
@@ -14,11 +14,11 @@ use Rattle.life_core.specs.Generations.{generation_of}
 use Rattle.life_core.proofs.CellLemmas.{same_coordinates}
 use Rattle.life_core.proofs.PatternMembers.{cells_by_members, contains-image}
 use Rattle.life_code.specs.declared.kinds.Kind.{Kind}
-use Rattle.life_code.specs.declared.kinds.Kind.TheVariants.{Empty, Still, Oscillator, Ship, Unresolved}
+use Rattle.life_code.specs.declared.kinds.Kind.TheVariants.{Still, Oscillator}
 use Rattle.life_code.specs.Period.{HasKind, kind_of}
 use Rattle.life_code.proofs.PeriodKinds.{kind_one, some_len}
 use Rattle.life_code.proofs.PeriodLemmas.{generation-add, period_of_placed}
-use Rattle.life_census.specs.Steady.{Stays}
+use Rattle.life_census.specs.Steady.{Stays, is_staying}
 use Rattle.life_census.specs.SteadyState.{StaysFor}
 
 -- ---- a move by nothing
@@ -50,14 +50,6 @@ oscillator_stays r limit p P k is h = by (rw is at h)
   where
     by : HasKind r P limit (Oscillator p) → StaysFor r limit P p
     by swings = record { stays = inr (p, swings); from_one = swings.3.0; few = swings.1; back = swings.3.1 ∙ not_moved P }
-
--- whether a kind is one that stays
-abbrev pub is_staying : Kind → Bool
-is_staying Empty = false
-is_staying Still = true
-is_staying (Oscillator p) = true
-is_staying (Ship p dx dy) = false
-is_staying Unresolved = false
 
 pub others_go : (r : RuleSets) (limit : ℕ) (P : Cells) (k : Kind) → k ≡ kind_of r P limit → is_staying k ≡ false → Stays r limit P → ⊥
 unfolding Stays

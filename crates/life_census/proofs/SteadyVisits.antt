@@ -17,6 +17,7 @@ use Rattle.life_core.proofs.PatternMembers.{same_cell-true, same_cell_laws}
 use Rattle.life_core.specs.Cell.{moved_cell}
 use Rattle.life_core.specs.declared.orientation.Orientation.TheVariants.{O0}
 use Rattle.life_core.proofs.Placements.{moved, undo, undo-place, place-undo, contains-placed}
+use Rattle.life_code.specs.declared.period.TheConstants.{PERIOD_LIMIT}
 use Rattle.life_code.proofs.PeriodLemmas.{generation-moved}
 use Rattle.life_core.proofs.PatternOrder.{has_cell-in_order}
 use Rattle.life_census.specs.declared.meeting.Visit.{Visit}
@@ -113,7 +114,7 @@ pub inside_more : (visits after : List Visit) (cs : List Cell) (number : ℕ) (v
 inside_more visits after cs number v made cells old = All-same IsInside _ _ made (All-append IsInside visits (visits_at number v cs) old (All-map IsInside (λ c. visit_of number (moved_cell v.column v.row c)) cs cells))
 
 -- the phases of a cluster, moved from where they were found
-pub phases_inside : (r : RuleSets) (X P : Cells) (v : Cell) (p : ℕ) (cs : List Cell) → P ≡ moved v X → IsWithin 400000000 P → p ≤ 1024 → cs ≡ phases_of r X p → All (λ c. IsCellWithin PLANE (moved_cell v.column v.row c)) cs
+pub phases_inside : (r : RuleSets) (X P : Cells) (v : Cell) (p : ℕ) (cs : List Cell) → P ≡ moved v X → IsWithin 400000000 P → p ≤ PERIOD_LIMIT → cs ≡ phases_of r X p → All (λ c. IsCellWithin PLANE (moved_cell v.column v.row c)) cs
 phases_inside r X P v p cs is room few same k d low =
     let c = get_or cs k d in
     let found = in_phases r X p c (subst (λ ds. Contains ds c) same (Contains-get_or cs k d low)) in

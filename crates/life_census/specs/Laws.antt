@@ -1,5 +1,5 @@
 -- What makes the definitions of parts, tallies and steady fields believable.
-use Rattle.std.specs.Prelude.{◌≡◌, ◌≢◌, ◌↔◌, ◌≤◌, ℕ, ◌+◌, true, false, List, [], ◌∷◌, Option, map, sum_by}
+use Rattle.std.specs.Prelude.{◌≡◌, ◌≢◌, ◌↔◌, ◌≤◌, ℕ, ◌+◌, true, false, IsTrue, List, [], ◌∷◌, Option, map, sum_by}
 use Rattle.std.specs.List.{Contains}
 use Rattle.std.specs.List.Sorted.{IsStrictlySortedBy}
 use Rattle.std.specs.FinSet as set
@@ -8,7 +8,7 @@ use Rattle.life_core.specs.Pattern.{Cells}
 use Rattle.life_core.specs.Rule.{RuleSets}
 use Rattle.life_core.specs.Generations.{generation_of}
 use Rattle.life_census.specs.Parts.{ArePartsOf, parts}
-use Rattle.life_census.specs.Steady.{IsSteady}
+use Rattle.life_census.specs.Steady.{IsSteady, is_steady}
 use Rattle.life_census.specs.Rows.{Counts}
 use Rattle.life_census.specs.Counting.{row_cmp, how_often, counts_of, IsTally}
 
@@ -35,6 +35,10 @@ RowsAscend = (codes : List (List ℕ)) → IsStrictlySortedBy row_cmp (map (λ (
 -- The counts of a tally and what is unresolved add up to the total.
 abbrev pub TalliesAddUp : Type 0
 TalliesAddUp = (code : Cells → Option (List ℕ)) (Ps : List Cells) (t : Counts) → IsTally code Ps t → sum_by (λ (row : List ℕ × ℕ). row.1) t.rows + t.unresolved ≡ t.total
+
+-- The function `is_steady` says exactly whether a field is steady: also under a limit of 0, under which no part stays.
+abbrev pub SteadyIsDecided : Type 0
+SteadyIsDecided = (r : RuleSets) (X : Cells) (limit : ℕ) → IsTrue (is_steady r X limit) ↔ IsSteady r X limit
 
 -- the union of a list of sets
 abbrev pub union_of : List Cells → Cells

@@ -1,13 +1,17 @@
 -- Fields whose parts never meet: all of them stay where they are, and no two of them ever come near each other.
-use Rattle.std.specs.Prelude.{◌≡◌, ◌≢◌, ℕ, true, false, ◌⊎◌}
+use Rattle.std.specs.Prelude.{◌≡◌, ◌≢◌, ℕ, Bool, true, false, not, ◌&&◌, List, [], ◌∷◌, map, ◌⊎◌}
+use Rattle.std.specs.List.{list_any, list_all, range_with_len}
 use Rattle.std.specs.FinSet as set
 use Rattle.life_core.specs.declared.cell.Cell.{Cell}
 use Rattle.life_core.specs.Pattern.{Cells}
 use Rattle.life_core.specs.Rule.{RuleSets}
 use Rattle.life_core.specs.Generations.{generation_of}
-use Rattle.life_code.specs.declared.kinds.Kind.TheVariants.{Still, Oscillator}
-use Rattle.life_code.specs.Period.{HasKind}
-use Rattle.life_census.specs.Parts.{near, IsPart}
+use Rattle.life_code.specs.declared.kinds.Kind.{Kind}
+use Rattle.life_code.specs.declared.kinds.Kind.TheVariants.{Empty, Still, Oscillator, Ship, Unresolved}
+use Rattle.life_code.specs.Period.{HasKind, kind_of}
+use Rattle.life_census.specs.Parts.{near, IsPart, touches, parts}
+
+-- ---- what a steady field is
 
 -- no cell of Y is near a cell of Z
 abbrev pub AreApart : Cells → Cells → Type 0
@@ -21,3 +25,38 @@ Stays r limit P = HasKind r P limit Still ⊎ ((p : ℕ) × HasKind r P limit (O
 pub record IsSteady (r : RuleSets) (X : Cells) (limit : ℕ) : Type 0 where
   pub stay : (P : Cells) → IsPart X P → Stays r limit P
   pub apart : (P Q : Cells) → IsPart X P → IsPart X Q → P ≢ Q → (i j : ℕ) → AreApart (generation_of r P i) (generation_of r Q j)
+
+-- ---- whether a field is steady, as a function
+
+-- whether the kind is that of a pattern that stays
+abbrev pub is_staying : Kind → Bool
+is_staying Empty = false
+is_staying Still = true
+is_staying (Oscillator p) = true
+is_staying (Ship p dx dy) = false
+is_staying Unresolved = false
+
+-- whether P is a still life, or an oscillator within the limit of the period
+abbrev pub stays : RuleSets → ℕ → Cells → Bool
+stays r limit P = is_staying (kind_of r P limit)
+
+-- whether no cell of Y is near a cell of Z
+abbrev pub are_apart : Cells → Cells → Bool
+are_apart Y Z = not (list_any (λ c. touches c Z) (set.items Y))
+
+-- the first n generations of P, from P on
+abbrev pub first_generations : RuleSets → ℕ → Cells → List Cells
+first_generations r n P = map (generation_of r P) (range_with_len 0 n)
+
+-- whether none of the first n generations of P is near one of the first n generations of Q
+abbrev pub keep_apart : RuleSets → ℕ → Cells → Cells → Bool
+keep_apart r n P Q = list_all (λ Y. list_all (are_apart Y) (first_generations r n Q)) (first_generations r n P)
+
+-- whether each set keeps apart from all later ones
+abbrev pub all_keep_apart : RuleSets → ℕ → List Cells → Bool
+all_keep_apart r n [] = true
+all_keep_apart r n (P ∷ Ps) = list_all (keep_apart r n P) Ps && all_keep_apart r n Ps
+
+-- whether each part of X stays, and no two of them are near each other in their first generations, as many as the limit: all phases of what stays are among these
+unfoldable pub is_steady : RuleSets → Cells → ℕ → Bool
+is_steady r X limit = list_all (stays r limit) (parts X) && all_keep_apart r limit (parts X)

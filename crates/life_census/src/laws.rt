@@ -1,5 +1,5 @@
 //! What makes the definitions of parts, tallies and steady fields believable.
-ghost use Rattle.life_census.specs.Laws.{PartsAreParts, OneListOfParts, OnePartEach, RowsAreCounts, RowsAscend, TalliesAddUp, SteadyFieldsEvolveByParts, PartsShareNoCell};
+ghost use Rattle.life_census.specs.Laws.{PartsAreParts, OneListOfParts, OnePartEach, RowsAreCounts, RowsAscend, TalliesAddUp, SteadyFieldsEvolveByParts, PartsShareNoCell, SteadyIsDecided};
 
 /// What the definition of the parts means: `parts` lists them, no other list does, and each cell of a
 /// set is in exactly one of its parts. A law: calling it does nothing.
@@ -19,9 +19,11 @@ pub fn laws_of_tallies()
 {}
 
 /// What the definition of a steady field means: under a rule without births from nothing each of its
-/// generations is the union of that generation of its parts, each of them alone; and no two parts
-/// ever share a cell. A law: calling it does nothing.
+/// generations is the union of that generation of its parts, each of them alone; no two parts ever
+/// share a cell; and the function `is_steady` answers whether a field is steady. A law: calling it does
+/// nothing.
 pub fn laws_of_steady_fields()
     ensures evolve { SteadyFieldsEvolveByParts }
     ensures share { PartsShareNoCell }
+    ensures decided { SteadyIsDecided }
 {}

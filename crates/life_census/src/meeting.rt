@@ -9,7 +9,7 @@ ghost use Rattle.life_core.specs.Rule.{RuleSets};
 ghost use Rattle.life_core.specs.declared.cell.TheConstants.{PLANE};
 ghost use Rattle.life_census.specs.declared.meeting.Visit.{Visit as VisitValue};
 ghost use Rattle.life_census.specs.Parts.{near, ArePartsOf};
-ghost use Rattle.life_census.specs.Steady.{Stays, IsSteady};
+ghost use Rattle.life_census.specs.Steady.{Stays, IsSteady, is_steady};
 ghost use Rattle.life_census.specs.SteadyState.{visit_cmp, visit_of, IsShapeOf, IsInside, AreVisits, ComesBefore, KeepApart, KeepApartUpTo, AreAllApart, AreRowsApart};
 
 use crate::parts::clusters;
@@ -38,7 +38,8 @@ pub fn steady<A: Allocator + Copy>(
     requires from_one { 1 ≤ limit }
     requires few { limit ≤ PERIOD_LIMIT }
     requires room { IsWithin 400_000_000 pattern.now }
-    ensures { IfOk result (λ b. IsTrue b ↔ IsSteady rule.now pattern.now limit) }
+    ensures steady { IfOk result (λ b. IsTrue b ↔ IsSteady rule.now pattern.now limit) }
+    ensures computed { IfOk result (λ b. b ≡ is_steady rule.now pattern.now limit) }
 {
     never_meet(alloc, rule, &clusters(alloc, pattern)?, limit)
 }

@@ -1,5 +1,6 @@
 -- What the steps of a job answer.
 use Rattle.std.specs.Prelude.{◌≡◌, ◌≤◌, ℕ, List, Option, None, Some, Result, Ok, Err}
+use Rattle.life_core.specs.declared.generations.TheConstants.{GENERATION_LIMIT}
 use Rattle.life_rle.specs.declared.fault.RleFault.{RleFault}
 use Rattle.life_rle.specs.File.{file}
 use Rattle.life_rle.specs.Record.{Contents}
@@ -25,7 +26,7 @@ print_text print = file_text (printed print)
 
 -- its numbers may be asked for
 abbrev pub IsPrint : Print → Type 0
-IsPrint (Generation n) = n ≤ 1024
+IsPrint (Generation n) = n ≤ GENERATION_LIMIT
 IsPrint (Kind limit) = IsPeriodLimit limit
 IsPrint (Census n limit) = AreCensusNumbers n limit
 

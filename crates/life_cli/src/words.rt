@@ -1,5 +1,6 @@
 //! The words of the command line, read by `clap`.
 ghost use Rattle.std.specs.Prelude.{◌≡◌, codes, map, option_map, IfOk, false};
+ghost use Rattle.clap.specs.Simple.{App};
 ghost use Rattle.clap.specs.Words.{app_of, rule_of, rows_of, found_of, subcommand_rows_of, with_subcommand};
 ghost use Rattle.clap.specs.declared.builder.command.Command.TheViews.{out-Command as fields_of};
 ghost use Rattle.life_cli.specs.Words.{number_rule, number_rule_in, text_rule, file_rule, generation, kind, object, census, deposit, serve, life_alone, life, asked_by};
@@ -16,26 +17,26 @@ use std::{env, io};
 const GENERATION_HELP: &str = "\
 Reads:   a pattern file (RLE) on standard input
 Prints:  generation N as canonical RLE, without its texts, its first column and its first row at 0
-Refuses: out-of-limit (N over 1024), bad-pattern NAME, unreadable, unavailable
+Refuses: out-of-limit (N over 2048), bad-pattern NAME, unreadable, unavailable
 Example: life generation 1 < glider.rle";
 
 const KIND_HELP: &str = "\
 Reads:   a pattern file (RLE) on standard input
 Prints:  'empty', 'unresolved', 'still CODE', 'oscillator PERIOD CODE' or 'ship PERIOD DX DY CODE';
          CODE is '-' where no phase fits in a box of 40 by 40
-Refuses: out-of-limit (LIMIT 0 or over 1024), bad-pattern NAME, unreadable, unavailable
+Refuses: out-of-limit (LIMIT 0 or over 2048), bad-pattern NAME, unreadable, unavailable
 Example: life kind 4 < glider.rle";
 
 const OBJECT_HELP: &str = "\
 Reads:   nothing
 Prints:  the pattern that CODE spells as canonical RLE
-Refuses: out-of-limit (LIMIT 0 or over 1024), bad-rule, bad-code NAME, unavailable
+Refuses: out-of-limit (LIMIT 0 or over 2048), bad-rule, bad-code NAME, unavailable
 Example: life object B3/S23 xs6_696 1";
 
 const CENSUS_HELP: &str = "\
 Reads:   a pattern file (RLE) on standard input
 Prints:  a line 'CODE,COUNT' for each code in byte order, after 'code,count', and 'unresolved,COUNT'
-Refuses: out-of-limit (N over 1024, LIMIT 0 or over 1024), bad-pattern NAME, unreadable, unavailable
+Refuses: out-of-limit (N over 2048, LIMIT 0 or over 2048), bad-pattern NAME, unreadable, unavailable
 Example: life census 0 2 < traffic-light.rle";
 
 const DEPOSIT_HELP: &str = "\
@@ -153,7 +154,7 @@ fn generation_arg<'a>(alloc: Global) -> Arg<'a>
     ensures rule { rule_of result ≡ number_rule (codes "N") }
     ensures local { result.global ≡ false }
 {
-    number_arg(alloc, "N").help("The number of the generation, from 0 to 1024")
+    number_arg(alloc, "N").help("The number of the generation, from 0 to 2048")
 }
 
 fn generation_command<'a>(alloc: Global) -> Result<Command<'a>, AllocError>
@@ -171,7 +172,7 @@ fn limit_arg<'a>(alloc: Global) -> Arg<'a>
     ensures rule { rule_of result ≡ number_rule (codes "LIMIT") }
     ensures local { result.global ≡ false }
 {
-    number_arg(alloc, "LIMIT").help("The limit of the period, from 1 to 1024")
+    number_arg(alloc, "LIMIT").help("The limit of the period, from 1 to 2048")
 }
 
 fn kind_command<'a>(alloc: Global) -> Result<Command<'a>, AllocError>
@@ -184,6 +185,22 @@ fn kind_command<'a>(alloc: Global) -> Result<Command<'a>, AllocError>
         .arg(limit_arg(alloc))
 }
 
+// The rule of a code.
+fn rule_arg<'a>(alloc: Global) -> Arg<'a>
+    ensures rule { rule_of result ≡ text_rule (codes "RULE") }
+    ensures local { result.global ≡ false }
+{
+    text_arg(alloc, "RULE").help("The rule, as B3/S23")
+}
+
+// A code.
+fn code_arg<'a>(alloc: Global) -> Arg<'a>
+    ensures rule { rule_of result ≡ text_rule (codes "CODE") }
+    ensures local { result.global ≡ false }
+{
+    text_arg(alloc, "CODE").help("The code, as xs4_33")
+}
+
 fn object_command<'a>(alloc: Global) -> Result<Command<'a>, AllocError>
     ensures app { IfOk result (λ command. app_of command ≡ object) }
     ensures local { IfOk result (λ command. (fields_of command).has_globals ≡ false) }
@@ -191,8 +208,8 @@ fn object_command<'a>(alloc: Global) -> Result<Command<'a>, AllocError>
     Command::new(alloc, "object")
         .about("Prints the pattern of a code")
         .after_help(OBJECT_HELP)
-        .arg(text_arg(alloc, "RULE").help("The rule, as B3/S23"))?
-        .arg(text_arg(alloc, "CODE").help("The code, as xs4_33"))?
+        .arg(rule_arg(alloc))?
+        .arg(code_arg(alloc))?
         .arg(limit_arg(alloc))
 }
 
@@ -279,28 +296,18 @@ fn serve_command<'a>(alloc: Global) -> Result<Command<'a>, AllocError>
         .arg(connections_arg(alloc))
 }
 
-// The command with one more subcommand, which has no global argument.
-fn with_command<'a>(above: Command<'a>, below: Command<'a>) -> Result<Command<'a>, AllocError>
-    requires { (fields_of below).has_globals ≡ false }
-    ensures { IfOk result (λ command. app_of command ≡ with_subcommand (app_of above.entry) (app_of below.entry).top) }
+// The command with one more subcommand, which has no global argument, if that was made.
+fn with_command<'a>(
+    above: Command<'a>,
+    below: Result<Command<'a>, AllocError>,
+) -> Result<Command<'a>, AllocError>
+    requires { IfOk below (λ command. (fields_of command).has_globals ≡ false) }
+    ensures { (added : App) → IfOk below.entry (λ command. app_of command ≡ added) → IfOk result (λ command. app_of command ≡ with_subcommand (app_of above.entry) added.top) }
 {
-    above.subcommand(below)
-}
-
-// The command with the subcommands of codes.
-fn with_code_commands<'a>(alloc: Global, above: Command<'a>) -> Result<Command<'a>, AllocError>
-    ensures { IfOk result (λ command. app_of command ≡ with_subcommand (with_subcommand (app_of above.entry) object.top) census.top) }
-{
-    let command = with_command(above, object_command(alloc)?)?;
-    with_command(command, census_command(alloc)?)
-}
-
-// The command with the subcommands of archives.
-fn with_archive_commands<'a>(alloc: Global, above: Command<'a>) -> Result<Command<'a>, AllocError>
-    ensures { IfOk result (λ command. app_of command ≡ with_subcommand (with_subcommand (app_of above.entry) deposit.top) serve.top) }
-{
-    let command = with_command(above, deposit_command(alloc)?)?;
-    with_command(command, serve_command(alloc)?)
+    match below {
+        Ok(below) => above.subcommand(below),
+        Err(error) => Err(error),
+    }
 }
 
 // The command without its subcommands.
@@ -316,10 +323,12 @@ fn command_alone<'a>(alloc: Global) -> Command<'a>
 fn life_command<'a>(alloc: Global) -> Result<Command<'a>, AllocError>
     ensures { IfOk result (λ command. app_of command ≡ life) }
 {
-    let command = with_command(command_alone(alloc), generation_command(alloc)?)?;
-    let command = with_command(command, kind_command(alloc)?)?;
-    let command = with_code_commands(alloc, command)?;
-    with_archive_commands(alloc, command)
+    let command = with_command(command_alone(alloc), generation_command(alloc))?;
+    let command = with_command(command, kind_command(alloc))?;
+    let command = with_command(command, object_command(alloc))?;
+    let command = with_command(command, census_command(alloc))?;
+    let command = with_command(command, deposit_command(alloc))?;
+    with_command(command, serve_command(alloc))
 }
 
 /// The words of the process, the program's name first. Where one of them is not UTF-8, they are bad

@@ -7,7 +7,7 @@ use crate::period::PERIOD_LIMIT;
 /// A pattern has one kind; a code names exactly one object, which is a class of patterns that moves,
 /// turns and reflections take to phases of one another. A law: calling it does nothing.
 pub fn laws_of_codes()
-    ensures limit { PERIOD_LIMIT ≡ 1024 }
+    ensures limit { PERIOD_LIMIT ≡ 2048 }
     ensures one_size { BoxesHaveOneSize }
     ensures one_kind { OneKind }
     ensures phases_come_again { PhasesComeAgain }

@@ -8,7 +8,7 @@ use life_core::{CellList, Fault, PackedRows, Pattern, Plane, Rule, is_packed};
 use std::alloc::Allocator;
 
 /// The greatest limit of a period that may be asked for.
-pub const PERIOD_LIMIT: u32 = 1024;
+pub const PERIOD_LIMIT: u32 = 2048;
 
 /// The kind of the pattern under a limit of its period, found on planes of the kind `P`.
 pub fn kind_by<A: Allocator + Copy, P: Plane<A>>(

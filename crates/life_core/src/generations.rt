@@ -13,7 +13,7 @@ use crate::rule::Rule;
 use std::alloc::Allocator;
 
 /// The most generations that one call makes.
-pub const GENERATION_LIMIT: u32 = 1024;
+pub const GENERATION_LIMIT: u32 = 2048;
 
 /// The widest and the tallest box, in cells, that is kept in rows of packed words.
 pub const PACKED_LIMIT: u64 = 16_384;

@@ -11,6 +11,6 @@ use crate::orientation::Orientation;
 pub fn laws_of_constants()
     ensures orientations { ALL ≡ O0 ∷ O1 ∷ O2 ∷ O3 ∷ O4 ∷ O5 ∷ O6 ∷ O7 ∷ [] }
     ensures plane { PLANE ≡ 1_000_000_000 }
-    ensures generations { GENERATION_LIMIT ≡ 1024 }
+    ensures generations { GENERATION_LIMIT ≡ 2048 }
     ensures packed { PACKED_LIMIT ≡ 16_384 }
 {}

@@ -8,7 +8,7 @@ use Rattle.life_store.specs.declared.kept.Deposit.{Deposit}
 use Rattle.life_store.specs.declared.kept.Census.{Census}
 use Rattle.life_store.specs.Kept.{numbered, share, total_of}
 use Rattle.life_store.specs.Tables.{Shelf, Holds, Goes, Keeps, AddsDeposit, AddsCensus}
-use Rattle.life_desk.specs.Archive.{Archive, census_from, tally_at, tally_for, clusters_in, clusters_with}
+use Rattle.life_desk.specs.Archive.{Archive, census_from, tally_at, tally_for, steady_at, steady_for, clusters_in, clusters_with}
 use Rattle.life_census.specs.Rows.{Counts}
 use Rattle.life_store.specs.declared.kept.KeptCensus.{KeptCensus}
 use Rattle.life_store.specs.declared.kept.FoundCensus.{FoundCensus}
@@ -33,7 +33,7 @@ each_longer ds d (c ∷ cs) each =
 tallied_longer : (ds : List Deposit) (d : Deposit) (cs : List Census) → EachHasDeposit ds cs → map (tallied ds) cs ≡ map (tallied (ds ++ d ∷ [])) cs
 tallied_longer ds d [] each = refl
 tallied_longer ds d (c ∷ cs) each =
-    let head : tallied ds c ≡ tallied (ds ++ d ∷ []) c = ap (λ o. record { census = c; tally = tally_for c o }) (sym (numbered_longer ds (d ∷ []) c.deposit each.0)) in
+    let head : tallied ds c ≡ tallied (ds ++ d ∷ []) c = ap (λ o. record { census = c; tally = tally_for c o; steady = steady_for c o }) (sym (numbered_longer ds (d ∷ []) c.deposit each.0)) in
     let rest : map (tallied ds) cs ≡ map (tallied (ds ++ d ∷ [])) cs = tallied_longer ds d cs each.1 in
     cc
 
@@ -73,7 +73,7 @@ tallied_push : (ds : List Deposit) (cs : List Census) (c : Census) → map (tall
 tallied_push ds [] c = refl
 tallied_push ds (x ∷ cs) c = ap (λ ts. tallied ds x ∷ ts) (tallied_push ds cs c)
 
--- one census more, with the tally of its own deposit
+-- one census more, with the tally and the flag of its own deposit
 pub means_census : (old new : Shelf) (A : Archive) (c : Census) → Goes old new → AddsCensus old.tables new.tables (tallied A.deposits c) → IsSome (numbered A.deposits c.deposit)
     → IsTrue new.tables.is_sure → Means old A → Means new (record A { censuses = A.censuses ++ c ∷ [] })
 unfolding Means
@@ -116,13 +116,25 @@ pub whole : (A : Archive) (kept : KeptCensus) (rows : List (List ℕ × ℕ)) (o
 whole A kept rows None is are = cc
 whole A kept rows (Some c) is are = let k : kept ≡ kept_census (tallied A.deposits c) = cc in rw (k, are) refl
 
--- one census more, with the tally of the deposit that is there
-pub means_counted : (old new : Shelf) (A : Archive) (c : Census) (t : Counts) (d : Deposit) → Goes old new → AddsCensus old.tables new.tables (record { census = c; tally = t })
-    → numbered A.deposits c.deposit ≡ Some d → t ≡ tally_for c (Some d)
+flag_is : (ds : List Deposit) (o : Option Census) → option_map (λ (t : Tallied). t.steady) (option_map (tallied ds) o) ≡ option_map (steady_at ds) o
+flag_is ds None = refl
+flag_is ds (Some c) = refl
+
+-- the flag of one census
+pub flags_of : (ds : List Deposit) (cs : List Census) (id : ℕ) → option_map (λ (t : Tallied). t.steady) (numbered (map (tallied ds) cs) id) ≡ option_map (steady_at ds) (numbered cs id)
+flags_of ds cs id = ap (λ o. option_map (λ (t : Tallied). t.steady) o) (numbered_tallied ds cs id) ∙ flag_is ds (numbered cs id)
+
+-- one census more, with the tally and the flag of the deposit that is there
+pub means_counted : (old new : Shelf) (A : Archive) (c : Census) (t : Counts) (b : Bool) (d : Deposit) → Goes old new
+    → AddsCensus old.tables new.tables (record { census = c; tally = t; steady = b })
+    → numbered A.deposits c.deposit ≡ Some d → t ≡ tally_for c (Some d) → b ≡ steady_for c (Some d)
     → IsTrue new.tables.is_sure → Means old A → Means new (record A { censuses = A.censuses ++ c ∷ [] })
-means_counted old new A c t d goes adds there is sure m =
+means_counted old new A c t b d goes adds there is flag sure m =
     let same : t ≡ tally_at A.deposits c = is ∙ ap (λ o. tally_for c o) (sym there) in
-    means_census old new A c goes (subst (λ x. AddsCensus old.tables new.tables (record { census = c; tally = x })) same adds) (subst (λ o. IsSome o) (sym there) refl) sure m
+    let also : b ≡ steady_at A.deposits c = flag ∙ ap (λ o. steady_for c o) (sym there) in
+    let counted = subst (λ x. AddsCensus old.tables new.tables (record { census = c; tally = x; steady = b })) same adds in
+    let flagged = subst (λ x. AddsCensus old.tables new.tables (record { census = c; tally = tally_at A.deposits c; steady = x })) also counted in
+    means_census old new A c goes flagged (subst (λ o. IsSome o) (sym there) refl) sure m
 
 -- whether there is room, of the numbers that are told
 pub room_is : (n c m k : ℕ) (b : Bool) → n ≡ m → c ≡ k → b ≡ nat_lt n c → b ≡ nat_lt m k
@@ -140,10 +152,11 @@ deposit_ok old new d (Ok n) goes adds = λ A sure m. means_deposit old new A d g
 deposit_ok old new d (Err e) goes adds = tt
 
 -- what an added census leaves
-pub census_ok : {E : Type 0} (old new : Shelf) (c : Census) (t : Counts) (r : Result ℕ E) → Goes old new → OnOk r (AddsCensus old.tables new.tables (record { census = c; tally = t }))
-    → OnOk r (TellsOf old new (λ A. (d : Deposit) → numbered A.deposits c.deposit ≡ Some d → t ≡ tally_for c (Some d) → Means new (record A { censuses = A.censuses ++ c ∷ [] })))
-census_ok old new c t (Ok n) goes adds = λ A sure m d there is. means_counted old new A c t d goes adds there is sure m
-census_ok old new c t (Err e) goes adds = tt
+pub census_ok : {E : Type 0} (old new : Shelf) (c : Census) (t : Counts) (b : Bool) (r : Result ℕ E) → Goes old new
+    → OnOk r (AddsCensus old.tables new.tables (record { census = c; tally = t; steady = b }))
+    → OnOk r (TellsOf old new (λ A. (d : Deposit) → numbered A.deposits c.deposit ≡ Some d → t ≡ tally_for c (Some d) → b ≡ steady_for c (Some d) → Means new (record A { censuses = A.censuses ++ c ∷ [] })))
+census_ok old new c t b (Ok n) goes adds = λ A sure m d there is flag. means_counted old new A c t b d goes adds there is flag sure m
+census_ok old new c t b (Err e) goes adds = tt
 
 -- what a call that gave up leaves
 pub err_still : {E : Type 0} (old new : Shelf) (r : Result ℕ E) → Goes old new → OnErr r (Keeps old.tables new.tables) → OnErr r (MeansStill old new)

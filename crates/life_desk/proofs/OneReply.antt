@@ -2,6 +2,7 @@
 use Rattle.std.proofs.Common.{◌≡◌, ◌≤◌, ◌&&◌, ℕ, List, [], ◌∷◌, Bool, true, false, Result, Ok, Err, refl, sym, ◌∙◌, subst, arith, if◌then◌else◌}
 use Rattle.std.specs.Prelude.{nat_le}
 use Rattle.std.proofs.lemmas.Bool.{and_parts, leb-true}
+use Rattle.life_code.specs.declared.period.TheConstants.{PERIOD_LIMIT}
 use Rattle.life_core.specs.Rule.{RuleSets}
 use Rattle.life_core.specs.declared.rule_text.RuleFault.{RuleFault}
 use Rattle.life_core.specs.RuleText.{read_rule}
@@ -42,7 +43,7 @@ one_by A (Err refusal) r s is other = other ∙ sym is
 
 -- a limit that is judged good is small
 IsSmall : Judged → Type 0
-IsSmall (good.Total rule code limit) = limit ≤ 1024
+IsSmall (good.Total rule code limit) = limit ≤ PERIOD_LIMIT
 IsSmall j = Unit {0}
 
 there_to : (A : Archive) (j : Judged) → IsSmall j → (r : Reply) × IsReplyTo A j r
@@ -67,14 +68,14 @@ unfolding AreSmall
 there_by A (Ok j) small = there_to A j small
 there_by A (Err refusal) small = (says.Refused refusal, refl)
 
-small_rule : (code : List ℕ) (limit : ℕ) (r : Result RuleSets RuleFault) → limit ≤ 1024 → AreSmall (judged_rule code limit r)
+small_rule : (code : List ℕ) (limit : ℕ) (r : Result RuleSets RuleFault) → limit ≤ PERIOD_LIMIT → AreSmall (judged_rule code limit r)
 unfolding AreSmall IsSmall
 small_rule code limit (Ok rule) small = small
 small_rule code limit (Err fault) small = tt
 
 small_limit : (rule code : List ℕ) (limit : ℕ) (b : Bool) → is_limit limit ≡ b → AreSmall (if b then judged_rule code limit (read_rule rule) else Err no.OutOfLimit)
 unfolding AreSmall
-small_limit rule code limit true is = small_rule code limit (read_rule rule) (leb-true limit 1024 (and_parts (nat_le 1 limit) (nat_le limit 1024) is).1)
+small_limit rule code limit true is = small_rule code limit (read_rule rule) (leb-true limit PERIOD_LIMIT (and_parts (nat_le 1 limit) (nat_le limit PERIOD_LIMIT) is).1)
 small_limit rule code limit false is = tt
 
 two : (q : Request) (a b : Bool) (j : Judged) → IsSmall j → AreSmall (if a then (if b then Ok j else Err no.BadToken) else Err no.BadMember)

@@ -1,5 +1,5 @@
 -- What the replies of a run say of sets of live cells.
-use Rattle.std.proofs.Common.{◌≡◌, ◌≢◌, ◌↔◌, ℕ, List, Bool, true, false, Option, None, Some, IsSome, Result, Ok, Err, IfOk, refl, sym, ◌∙◌, ap, subst, if◌then◌else◌}
+use Rattle.std.proofs.Common.{◌≡◌, ◌≢◌, ◌↔◌, ℕ, List, Bool, true, false, Option, None, Some, IsSome, IsTrue, Result, Ok, Err, IfOk, refl, sym, ◌∙◌, ap, subst, if◌then◌else◌}
 use Rattle.life_core.specs.Rule.{RuleSets}
 use Rattle.life_core.specs.Pattern.{Cells}
 use Rattle.life_core.specs.Generations.{generation_of}
@@ -10,7 +10,8 @@ use Rattle.life_code.specs.Codes.{code_of, Same}
 use Rattle.life_code.specs.Laws.{CodeIsComplete}
 use Rattle.life_census.specs.Parts.{parts}
 use Rattle.life_census.specs.Rows.{Counts}
-use Rattle.life_census.specs.Laws.{PartsAreParts, OnePartEach, RowsAreCounts, TalliesAddUp}
+use Rattle.life_census.specs.Steady.{IsSteady}
+use Rattle.life_census.specs.Laws.{PartsAreParts, OnePartEach, RowsAreCounts, TalliesAddUp, SteadyIsDecided}
 use Rattle.life_store.specs.declared.kept.Deposit.{Deposit}
 use Rattle.life_store.specs.declared.kept.Census.{Census}
 use Rattle.life_store.specs.Kept.{numbered}
@@ -21,12 +22,13 @@ use Rattle.life_desk.specs.declared.request.Judged.TheVariants as good
 use Rattle.life_desk.specs.declared.request.Reply.{Reply}
 use Rattle.life_desk.specs.declared.request.Reply.TheVariants as says
 use Rattle.life_desk.specs.declared.request.Shown.{Shown}
-use Rattle.life_desk.specs.Archive.{Archive, tally_at, tally_for, tally_of_cells}
+use Rattle.life_desk.specs.Archive.{Archive, tally_at, tally_for, tally_of_cells, steady_at, steady_for}
 use Rattle.life_desk.specs.Judging.{is_generation, is_limit}
 use Rattle.life_desk.specs.Replies.{IsReply, IsReplyBy, after, at_reply, kind_reply, shown_reply}
 use Rattle.life_desk.specs.Means.{EachHasDeposit}
 use Rattle.life_store.specs.Tables.{Shelf}
 use Rattle.life_desk.specs.Run.{Run, IsAnswered, IsLater, Answered}
+use Rattle.life_desk.specs.Laws.{FlagTellsSteady}
 use Rattle.life_desk.specs.Headline.{CountsEachOnce, HeadlineHolds, IsTheArchive}
 use Rattle.life_desk.proofs.Meaning.{each_of}
 use Rattle.life_desk.proofs.Later.{later_later, deposit_stays, census_stays}
@@ -95,12 +97,29 @@ counts are one rows add rule X limit = record {
 shown_case : (ds : List Deposit) (id : ℕ) (shown : Shown) (o : Option Census) → says.Shown shown ≡ shown_reply ds id o → (c : Census) × (o ≡ Some c) × (shown.tally ≡ tally_at ds c)
 shown_case ds id shown None is = absurd cc
 shown_case ds id shown (Some c) is =
-    let same : shown ≡ record { census = id; deposit = c.deposit; generation = c.generation; limit = c.limit; tally = tally_at ds c } = cc in
+    let same : shown ≡ record { census = id; deposit = c.deposit; generation = c.generation; limit = c.limit; tally = tally_at ds c; steady = steady_at ds c } = cc in
     (c, refl, ap (λ (x : Shown). x.tally) same)
 
 some_of : {X : Type 0} → (o : Option X) → IsSome o → (x : X) × (o ≡ Some x)
 some_of None is = absurd cc
 some_of (Some x) is = (x, refl)
+
+-- ---- flags
+
+-- what the flag of a census that is shown says of its deposit
+abbrev FlagTells : List Deposit → Deposit → Shown → Type 0
+FlagTells ds d shown = numbered ds shown.deposit ≡ Some d → IsTrue shown.steady ↔ IsSteady d.content.rule (generation_of d.content.rule d.content.cells shown.generation) shown.limit
+
+flag_case : SteadyIsDecided → (ds : List Deposit) (d : Deposit) (id : ℕ) (shown : Shown) (o : Option Census) → says.Shown shown ≡ shown_reply ds id o → FlagTells ds d shown
+flag_case decided ds d id shown None is = absurd cc
+flag_case decided ds d id shown (Some c) is =
+    let same : shown ≡ record { census = id; deposit = c.deposit; generation = c.generation; limit = c.limit; tally = tally_at ds c; steady = steady_at ds c } = cc in
+    subst (λ (x : Shown). FlagTells ds d x) (sym same) (λ there.
+    subst (λ o. IsTrue (steady_for c o) ↔ IsSteady d.content.rule (generation_of d.content.rule d.content.cells c.generation) c.limit) (sym there)
+    (decided d.content.rule (generation_of d.content.rule d.content.cells c.generation) c.limit))
+
+pub flag_tells_steady : SteadyIsDecided → FlagTellsSteady
+flag_tells_steady decided A id shown d is there = flag_case decided A.deposits d id shown (numbered A.censuses id) is there
 
 -- ---- all
 

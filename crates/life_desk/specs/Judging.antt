@@ -2,6 +2,8 @@
 -- the same request with its rule read; what is not is refused, by the first fault.
 use Rattle.std.specs.Prelude.{◌==◌, ◌&&◌, ◌||◌, ℕ, Bool, List, length, Result, Ok, Err, nat_le, if◌then◌else◌}
 use Rattle.std.specs.List.{list_all}
+use Rattle.life_core.specs.declared.generations.TheConstants.{GENERATION_LIMIT}
+use Rattle.life_code.specs.declared.period.TheConstants.{PERIOD_LIMIT}
 use Rattle.life_core.specs.Rule.{RuleSets}
 use Rattle.life_core.specs.declared.rule_text.RuleFault.{RuleFault}
 use Rattle.life_core.specs.RuleText.{read_rule}
@@ -30,10 +32,10 @@ unfoldable pub is_token : List ℕ → Bool
 is_token bytes = is_between 1 64 (length bytes) && list_all is_token_byte bytes
 
 abbrev pub is_generation : ℕ → Bool
-is_generation n = nat_le n 1024
+is_generation n = nat_le n GENERATION_LIMIT
 
 abbrev pub is_limit : ℕ → Bool
-is_limit n = is_between 1 1024 n
+is_limit n = is_between 1 PERIOD_LIMIT n
 
 abbrev pub judged_rule : List ℕ → ℕ → Result RuleSets RuleFault → Result Judged Refusal
 judged_rule code limit (Ok rule) = Ok (good.Total rule code limit)

@@ -1,14 +1,19 @@
--- What makes the definitions of the archive believable: one reply to each request, numbers that stay, repeats that act once.
-use Rattle.std.specs.Prelude.{◌≡◌, ◌≢◌, ◌↔◌, true, ℕ, List, Ok, Some}
+-- What makes the definitions of the archive believable: one reply to each request, numbers that stay, repeats that act once, flags
+-- that tell what is steady.
+use Rattle.std.specs.Prelude.{◌≡◌, ◌≢◌, ◌↔◌, true, ℕ, List, Ok, Some, IsTrue}
 use Rattle.std.specs.List.{AllByRecursion}
+use Rattle.life_core.specs.Generations.{generation_of}
 use Rattle.life_rle.specs.Record.{Contents}
 use Rattle.life_rle.specs.File as files
+use Rattle.life_census.specs.Steady.{IsSteady}
+use Rattle.life_store.specs.declared.kept.Deposit.{Deposit}
 use Rattle.life_store.specs.Kept.{numbered}
 use Rattle.life_desk.specs.declared.refusal.Refusal.TheVariants as no
 use Rattle.life_desk.specs.declared.request.Request.{Request}
 use Rattle.life_desk.specs.declared.request.Request.TheVariants as ask
 use Rattle.life_desk.specs.declared.request.Reply.{Reply}
 use Rattle.life_desk.specs.declared.request.Reply.TheVariants as says
+use Rattle.life_desk.specs.declared.request.Shown.{Shown}
 use Rattle.life_desk.specs.Content.{same_contents}
 use Rattle.life_desk.specs.Archive.{Archive}
 use Rattle.life_desk.specs.Replies.{IsReply, after}
@@ -49,6 +54,11 @@ abbrev pub CensusesActOnce : Type 0
 CensusesActOnce = (A B : Archive) (member token : List ℕ) (deposit generation limit n : ℕ) → IsReply A (ask.Census member token deposit generation limit) (says.Counted n)
     → IsLater (after A (ask.Census member token deposit generation limit)) B
     → IsReply B (ask.Census member token deposit generation limit) (says.Counted n) × (after B (ask.Census member token deposit generation limit) ≡ B)
+
+-- The flag that a census is shown with is true exactly where its generation of its deposit is steady under its limit.
+abbrev pub FlagTellsSteady : Type 0
+FlagTellsSteady = (A : Archive) (id : ℕ) (shown : Shown) (d : Deposit) → IsReply A (ask.ShowCensus id) (says.Shown shown) → numbered A.deposits shown.deposit ≡ Some d
+    → IsTrue shown.steady ↔ IsSteady d.content.rule (generation_of d.content.rule d.content.cells shown.generation) shown.limit
 
 -- nothing was answered unavailable
 abbrev pub AllAnswered : List Reply → Type 0

@@ -1,16 +1,16 @@
 -- When the tables of a store mean an archive: their rows stand for its deposits and its censuses, each census with the tally of its
--- own generation of its own deposit. The archive itself keeps no tallies.
+-- own generation of its own deposit, and with whether that generation is steady. The archive itself keeps no tallies and no flags.
 use Rattle.std.specs.Prelude.{◌≡◌, List, map, IsSome}
 use Rattle.std.specs.List.{AllByRecursion}
 use Rattle.life_store.specs.declared.kept.Deposit.{Deposit}
 use Rattle.life_store.specs.declared.kept.Census.{Census}
 use Rattle.life_store.specs.Kept.{Kept, Tallied, numbered}
 use Rattle.life_store.specs.Tables.{Shelf, Holds}
-use Rattle.life_desk.specs.Archive.{Archive, tally_at}
+use Rattle.life_desk.specs.Archive.{Archive, tally_at, steady_at}
 
--- a census with its tally, computed anew
+-- a census with its tally and its flag, computed anew
 abbrev pub tallied : List Deposit → Census → Tallied
-tallied ds c = record { census = c; tally = tally_at ds c }
+tallied ds c = record { census = c; tally = tally_at ds c; steady = steady_at ds c }
 
 abbrev pub kept_of : Archive → Kept
 kept_of A = record { deposits = A.deposits; censuses = map (tallied A.deposits) A.censuses }

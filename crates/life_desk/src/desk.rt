@@ -13,7 +13,7 @@ ghost use Rattle.life_desk.specs.JudgingState.{IsGood};
 ghost use Rattle.life_desk.specs.DeskState.{Acts, ActsWhere};
 ghost use Rattle.life_desk.specs.Headline.{IsTheArchive};
 ghost use Rattle.life_desk.specs.Run.{Answered};
-ghost use Rattle.life_desk.specs.Archive.{census_by, tally_for, tally_at};
+ghost use Rattle.life_desk.specs.Archive.{census_by, tally_for, tally_at, steady_for};
 
 use crate::bytes::Bytes;
 use crate::content::same_contents;
@@ -21,13 +21,13 @@ use crate::headline::law_of_the_archive;
 use crate::judging::judge;
 use crate::looking::{
     add_census, add_deposit, counts_of, deposit_of, deposits_after, find_census, find_deposit,
-    has_census_room, has_room, kept_tally,
+    flag_of, has_census_room, has_room, kept_tally,
 };
 use crate::refusal::Refusal;
 use crate::request::{Judged, Reply, Request, Shown};
-use life_census::{Tally, csv, laws_of_tallies, tally};
-use life_code::{CodeFault, code, kind, open_code};
-use life_core::{Fault, Pattern, Rule, generation};
+use life_census::{Tally, csv, laws_of_tallies, steady, tally};
+use life_code::{CodeFault, PERIOD_LIMIT, code, kind, open_code};
+use life_core::{Fault, GENERATION_LIMIT, Pattern, Rule, generation};
 use life_rle::{RleFault, Text, plain, read, write};
 use life_store::{Archive, Census, Deposit, FoundCensus, Unavailable};
 use sqlite::Alter;
@@ -120,7 +120,7 @@ fn list_after<S: Alter>(
 /// The file of a generation of a deposit.
 fn file_at(alloc: Global, deposit: &Deposit, n: u32) -> Result<Bytes, Unavailable>
     requires small { IsInside 1024 deposit.now.content.cells }
-    requires few { n ≤ 1024 }
+    requires few { n ≤ GENERATION_LIMIT }
     ensures { IfOk result (λ file. says.File file ≡ at_reply n (Some deposit.now)) }
 {
     let rule = deposit.content.rule;
@@ -136,7 +136,7 @@ fn show_at<S: Alter>(
     id: u64,
     n: u32,
 ) -> Result<Reply, Unavailable>
-    requires { n ≤ 1024 }
+    requires { n ≤ GENERATION_LIMIT }
     ensures goes { Goes archive.old archive.new }
     ensures acts { Acts archive.old archive.new result (λ A r. r ≡ at_reply n (numbered A.deposits id)) (λ A. A) }
 {
@@ -154,7 +154,7 @@ fn code_of(
     limit: u32,
 ) -> Result<Option<Bytes>, Unavailable>
     requires some { 1 ≤ limit }
-    requires few { limit ≤ 1024 }
+    requires few { limit ≤ PERIOD_LIMIT }
     requires room { IsWithin 400_000_000 cells.now }
     ensures { IfOk result (λ c. c ≡ codes.code_of rule.now cells.now limit) }
 {
@@ -168,7 +168,7 @@ fn code_of(
 fn kind_of(alloc: Global, deposit: &Deposit, limit: u32) -> Result<Reply, Unavailable>
     requires small { IsInside 1024 deposit.now.content.cells }
     requires some { 1 ≤ limit }
-    requires few { limit ≤ 1024 }
+    requires few { limit ≤ PERIOD_LIMIT }
     ensures { IfOk result (λ r. r ≡ kind_reply limit (Some deposit.now)) }
 {
     let rule = deposit.content.rule;
@@ -185,7 +185,7 @@ fn name_kind<S: Alter>(
     limit: u32,
 ) -> Result<Reply, Unavailable>
     requires some { 1 ≤ limit }
-    requires few { limit ≤ 1024 }
+    requires few { limit ≤ PERIOD_LIMIT }
     ensures goes { Goes archive.old archive.new }
     ensures acts { Acts archive.old archive.new result (λ A r. r ≡ kind_reply limit (numbered A.deposits id)) (λ A. A) }
 {
@@ -195,19 +195,22 @@ fn name_kind<S: Alter>(
     }
 }
 
-/// The census of a deposit, counted.
-fn counted(alloc: Global, deposit: &Deposit, census: &Census) -> Result<Tally, Unavailable>
+/// The census of a deposit, counted, and whether the generation that it counts is steady.
+fn counted(alloc: Global, deposit: &Deposit, census: &Census) -> Result<(Tally, bool), Unavailable>
     requires small { IsInside 1024 deposit.now.content.cells }
-    requires few { census.now.generation ≤ 1024 }
+    requires few { census.now.generation ≤ GENERATION_LIMIT }
     requires some { 1 ≤ census.now.limit }
-    requires short { census.now.limit ≤ 1024 }
-    ensures is { IfOk result (λ t. t ≡ tally_for census.now (Some deposit.now)) }
-    ensures ordered { IfOk result HasOrder }
+    requires short { census.now.limit ≤ PERIOD_LIMIT }
+    ensures is { IfOk result (λ p. p.0 ≡ tally_for census.now (Some deposit.now)) }
+    ensures flag { IfOk result (λ p. p.1 ≡ steady_for census.now (Some deposit.now)) }
+    ensures ordered { IfOk result (λ p. HasOrder p.0) }
 {
     let rule = deposit.content.rule;
     let later = generation(alloc, &rule, &deposit.content.cells, census.generation)?;
     laws_of_tallies();
-    Ok(tally(alloc, &rule, &later, census.limit)?)
+    let tally = tally(alloc, &rule, &later, census.limit)?;
+    let steady = steady(alloc, &rule, &later, census.limit)?;
+    Ok((tally, steady))
 }
 
 /// Answers a census of a deposit that is there.
@@ -218,9 +221,9 @@ fn keep_census<S: Alter>(
     census: &Census,
 ) -> Result<Reply, Unavailable>
     requires small { IsInside 1024 deposit.now.content.cells }
-    requires few { census.now.generation ≤ 1024 }
+    requires few { census.now.generation ≤ GENERATION_LIMIT }
     requires some { 1 ≤ census.now.limit }
-    requires short { census.now.limit ≤ 1024 }
+    requires short { census.now.limit ≤ PERIOD_LIMIT }
     ensures goes { Goes archive.old archive.new }
     ensures acts { ActsWhere archive.old archive.new result
         (λ A. numbered A.deposits census.now.deposit ≡ Some deposit.now)
@@ -240,8 +243,8 @@ fn keep_census<S: Alter>(
         }),
         None => {
             if has_census_room(archive)? {
-                let tally = counted(alloc, deposit, census)?;
-                Ok(Reply::Counted(add_census(archive, census, &tally)?))
+                let (tally, steady) = counted(alloc, deposit, census)?;
+                Ok(Reply::Counted(add_census(archive, census, &tally, steady)?))
             } else {
                 Ok(Reply::Refused(Refusal::Full))
             }
@@ -262,9 +265,9 @@ fn take_census<S: Alter>(
     alloc: Global,
     census: Census,
 ) -> Result<Reply, Unavailable>
-    requires few { census.generation ≤ 1024 }
+    requires few { census.generation ≤ GENERATION_LIMIT }
     requires some { 1 ≤ census.limit }
-    requires short { census.limit ≤ 1024 }
+    requires short { census.limit ≤ PERIOD_LIMIT }
     ensures goes { Goes archive.old archive.new }
     ensures acts { Acts archive.old archive.new result
         (λ A r. r ≡ census_reply A (census_verdict A census))
@@ -276,7 +279,7 @@ fn take_census<S: Alter>(
     }
 }
 
-/// Answers with a census and its tally.
+/// Answers with a census, its tally and its flag.
 fn show_census<S: Alter>(
     archive: &mut Archive<S>,
     alloc: Global,
@@ -287,13 +290,17 @@ fn show_census<S: Alter>(
 {
     match kept_tally(archive, alloc, id)? {
         None => Ok(Reply::Refused(Refusal::NoSuchCensus)),
-        Some((census, tally)) => Ok(Reply::Shown(Shown {
-            census: id,
-            deposit: census.deposit,
-            generation: census.generation,
-            limit: census.limit,
-            tally,
-        })),
+        Some((census, tally)) => match flag_of(archive, id)? {
+            None => Err(Unavailable),
+            Some(steady) => Ok(Reply::Shown(Shown {
+                census: id,
+                deposit: census.deposit,
+                generation: census.generation,
+                limit: census.limit,
+                tally,
+                steady,
+            })),
+        },
     }
 }
 
@@ -321,7 +328,7 @@ fn total<S: Alter>(
     limit: u32,
 ) -> Result<Reply, Unavailable>
     requires some { 1 ≤ limit }
-    requires few { limit ≤ 1024 }
+    requires few { limit ≤ PERIOD_LIMIT }
     ensures goes { Goes archive.old archive.new }
     ensures acts { Acts archive.old archive.new result (λ A r. IsTotal A rule text limit r) (λ A. A) }
 {

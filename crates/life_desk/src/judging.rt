@@ -1,13 +1,14 @@
 //! What is judged of a request's own words.
-ghost use Rattle.std.specs.Prelude.{◌≡◌, if◌then◌else◌, nat_le, Ok, Err, IfOk};
+ghost use Rattle.std.specs.Prelude.{◌≡◌, if◌then◌else◌, Ok, Err, IfOk};
 ghost use Rattle.std.specs.List.{list_all};
 ghost use Rattle.life_desk.specs.declared.refusal.Refusal.TheVariants.{OutOfLimit};
-ghost use Rattle.life_desk.specs.Judging.{is_member, is_token, is_member_byte, is_token_byte, is_between, is_limit, judged};
+ghost use Rattle.life_desk.specs.Judging.{is_member, is_token, is_member_byte, is_token_byte, is_between, is_generation, is_limit, judged};
 ghost use Rattle.life_desk.specs.JudgingState.{IsGood};
 
 use crate::refusal::Refusal;
 use crate::request::{Judged, Request};
-use life_core::Rule;
+use life_code::PERIOD_LIMIT;
+use life_core::{GENERATION_LIMIT, Rule};
 use life_store::Census;
 
 /// A small letter, a digit or `-`.
@@ -63,9 +64,9 @@ fn is_token(bytes: &[u8]) -> bool
 
 /// A generation within its limit.
 fn generation_in(n: u64) -> Result<u32, Refusal>
-    ensures { result ≡ (if nat_le n 1024 then Ok n else Err OutOfLimit) }
+    ensures { result ≡ (if is_generation n then Ok n else Err OutOfLimit) }
 {
-    if n <= 1024 {
+    if n <= u64::from(GENERATION_LIMIT) {
         Ok(n as u32)
     } else {
         Err(Refusal::OutOfLimit)
@@ -76,7 +77,7 @@ fn generation_in(n: u64) -> Result<u32, Refusal>
 fn limit_in(n: u64) -> Result<u32, Refusal>
     ensures { result ≡ (if is_limit n then Ok n else Err OutOfLimit) }
 {
-    if 1 <= n && n <= 1024 {
+    if 1 <= n && n <= u64::from(PERIOD_LIMIT) {
         Ok(n as u32)
     } else {
         Err(Refusal::OutOfLimit)

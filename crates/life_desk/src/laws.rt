@@ -1,10 +1,13 @@
 //! What makes the definitions of the archive believable.
-ghost use Rattle.life_desk.specs.Laws.{SameIsEqual, OneReply, NothingIsLost, DepositsStay, CensusesStay, DepositsActOnce, CensusesActOnce, SameReplies};
+ghost use Rattle.life_desk.specs.Laws.{SameIsEqual, OneReply, NothingIsLost, DepositsStay, CensusesStay, DepositsActOnce, CensusesActOnce, FlagTellsSteady, SameReplies};
+
+use life_census::laws_of_steady_fields;
 
 /// What the definitions of replies and runs mean. Records are one content exactly where they are
 /// equal. Each request has one reply. In a run nothing is lost or changed: a number once given names the
 /// same deposit or census in every later archive; what comes again is answered by that number, then and
-/// later, and changes nothing. Two runs of the same requests from the same archive, in which nothing was
+/// later, and changes nothing. A census is shown with a flag that is true exactly where the generation that
+/// it counted is steady. Two runs of the same requests from the same archive, in which nothing was
 /// answered unavailable, are one. A law: calling it does nothing.
 pub fn laws_of_runs()
     ensures same { SameIsEqual }
@@ -14,5 +17,8 @@ pub fn laws_of_runs()
     ensures censuses_stay { CensusesStay }
     ensures deposits { DepositsActOnce }
     ensures censuses { CensusesActOnce }
+    ensures flag { FlagTellsSteady }
     ensures same_replies { SameReplies }
-{}
+{
+    laws_of_steady_fields();
+}

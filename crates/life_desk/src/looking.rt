@@ -4,7 +4,7 @@ ghost use Rattle.life_rle.specs.Record.{IsInside};
 ghost use Rattle.life_store.specs.Kept.{numbered, deposit_by, lines_after, kept_census};
 ghost use Rattle.life_store.specs.Tables.{Goes, HasOrder};
 ghost use Rattle.life_store.specs.declared.kept.Deposit.{Deposit as Kept};
-ghost use Rattle.life_desk.specs.Archive.{census_by, clusters_with, tally_at, tally_for};
+ghost use Rattle.life_desk.specs.Archive.{census_by, clusters_with, tally_at, tally_for, steady_at, steady_for};
 ghost use Rattle.life_desk.specs.Means.{Means, tallied};
 ghost use Rattle.life_desk.specs.LookingState.{TellsOf, MeansStill};
 
@@ -134,6 +134,18 @@ pub(crate) fn kept_tally<S: Alter>(
     }
 }
 
+/// Whether the generation that the census of the number counted is steady.
+pub(crate) fn flag_of<S: Alter>(
+    archive: &mut Archive<S>,
+    id: u64,
+) -> Result<Option<bool>, Unavailable>
+    ensures goes { Goes archive.old archive.new }
+    ensures same { MeansStill archive.old archive.new }
+    ensures value { TellsOf archive.old archive.new (λ A. IfOk result (λ b. b ≡ option_map (steady_at A.deposits) (numbered A.censuses id))) }
+{
+    archive.flag_of(id)
+}
+
 /// How many deposits there are.
 fn count_deposits<S: Alter>(archive: &mut Archive<S>) -> Result<u64, Unavailable>
     ensures goes { Goes archive.old archive.new }
@@ -185,17 +197,18 @@ pub(crate) fn add_deposit<S: Alter>(
     archive.add_deposit(alloc, deposit)
 }
 
-/// Adds a census of a deposit that is there, with its tally.
+/// Adds a census of a deposit that is there, with its tally and its flag.
 pub(crate) fn add_census<S: Alter>(
     archive: &mut Archive<S>,
     census: &Census,
     tally: &Tally,
+    steady: bool,
 ) -> Result<u64, Unavailable>
     requires { HasOrder tally.now }
     ensures goes { Goes archive.old archive.new }
     ensures value { TellsOf archive.old archive.new (λ A. IfOk result (λ n. n ≡ length A.censuses + 1)) }
-    ensures ok { OnOk result (TellsOf archive.old archive.new (λ A. (d : Kept) → numbered A.deposits census.now.deposit ≡ Some d → tally.now ≡ tally_for census.now (Some d) → Means archive.new (record A { censuses = A.censuses ++ census.now ∷ [] }))) }
+    ensures ok { OnOk result (TellsOf archive.old archive.new (λ A. (d : Kept) → numbered A.deposits census.now.deposit ≡ Some d → tally.now ≡ tally_for census.now (Some d) → steady ≡ steady_for census.now (Some d) → Means archive.new (record A { censuses = A.censuses ++ census.now ∷ [] }))) }
     ensures err { OnErr result (MeansStill archive.old archive.new) }
 {
-    archive.add_census(census, tally)
+    archive.add_census(census, tally, steady)
 }

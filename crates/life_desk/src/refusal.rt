@@ -16,7 +16,7 @@ pub enum Refusal {
     BadToken,
     /// The member and token are kept with another content.
     TokenReused,
-    /// The generation is over 1024, or the limit of the period is 0 or over 1024.
+    /// The generation is over 2048, or the limit of the period is 0 or over 2048.
     OutOfLimit,
     /// The file is no pattern file, for this reason.
     BadPattern(RleFault),

@@ -19,19 +19,19 @@ pub enum Request {
     Show(u64),
     /// A list of the deposits with a number above this one.
     ListAfter(u64),
-    /// The file of a generation of a deposit: the deposit's number, and the generation, 0 to 1024.
+    /// The file of a generation of a deposit: the deposit's number, and the generation, 0 to 2048.
     At(u64, u64),
-    /// What becomes of a deposit: its number, and the limit of the period, 1 to 1024.
+    /// What becomes of a deposit: its number, and the limit of the period, 1 to 2048.
     KindOf(u64, u64),
     /// Keep a census of a generation of a deposit: member, token, the deposit's number, the generation, 0 to
-    /// 1024, and the limit of the period, 1 to 1024. Tokens of censuses are apart from those of deposits.
+    /// 2048, and the limit of the period, 1 to 2048. Tokens of censuses are apart from those of deposits.
     Census(Text, Text, u64, u64, u64),
     /// The census of this number.
     ShowCensus(u64),
     /// The tally of the census of this number, as CSV.
     CensusCsv(u64),
     /// How many clusters have a code, over all censuses of deposits of a rule: the rule, in any of its
-    /// spellings, the code, and the limit of the period, 1 to 1024, within which the code must be one.
+    /// spellings, the code, and the limit of the period, 1 to 2048, within which the code must be one.
     Total(Bytes, Bytes, u64),
 }
 
@@ -48,6 +48,9 @@ pub struct Shown {
     pub limit: u32,
     /// How many clusters have each code, how many have none, and how many there are.
     pub tally: Tally,
+    /// Whether the generation that was counted is steady: whether each of its clusters is a still life, or an oscillator of
+    /// a period within the limit, and no phase of one comes near a phase of another.
+    pub steady: bool,
 }
 
 /// What is answered.

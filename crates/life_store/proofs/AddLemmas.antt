@@ -78,6 +78,7 @@ adds old new k d id count is few filed holds h =
       deposits = it.step.rows ∙ edit;
       censuses = it.step.tables.1.1.0 (λ e. cc) ∙ holds.censuses;
       census_rows = it.step.tables.1.1.1.0 (λ e. cc) ∙ holds.census_rows;
+      census_flags = it.step.tables.1.1.1.1.0 (λ e. cc) ∙ holds.census_flags;
       filed = all_push IsFiled k.deposits d holds.filed filed;
       ordered = holds.ordered;
       few_deposits = subst (λ n. n < 2 ^ 63) (is ∙ omega (arith, length-append k.deposits (d ∷ []))) few;

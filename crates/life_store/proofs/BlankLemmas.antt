@@ -1,5 +1,5 @@
 -- Files in which nothing stands yet list no table.
-use Rattle.std.proofs.Common.{◌≡◌, ◌∙◌, ◌<◌, ◌≤◌, ℕ, [], ◌∷◌, ◌++◌, List, length, take, slice_index, get_or-take, Option, Some, option_map, ap, sym, inl, inr, arith}
+use Rattle.std.proofs.Common.{◌≡◌, ◌∙◌, ◌<◌, ◌≤◌, ℕ, [], ◌∷◌, ◌++◌, List, length, take, slice_index, get_or-take, Option, Some, ap, sym, inl, inr, arith}
 use Rattle.std.specs.Prelude.{codes, unwrap_or, true, false}
 use Rattle.std.proofs.lemmas.List.{length-take}
 use Rattle.std.proofs.Math.Logic.{∥∥₁_elim}
@@ -12,8 +12,7 @@ use Rattle.sqlite_pool.specs.StoredLaws.{trimmed_some}
 use Rattle.sqlite_pool.specs.Header.{first_page}
 use Rattle.sqlite_pool.specs.File.{header_in, IsSoundFile}
 use Rattle.sqlite_pool.proofs.ProbeLemmas.{first_byte}
-use Rattle.sqlite_trees.specs.Tree.{Trees}
-use Rattle.sqlite.specs.Files.{IsNothing, AreFoundIn}
+use Rattle.sqlite.specs.Files.{IsNothing}
 use Rattle.sqlite.proofs.ListingLemmas.{empty_is_sound}
 use Rattle.life_store.specs.Opening.{ListNothing}
 

@@ -17,6 +17,8 @@ use Rattle.sqlite.specs.Effect.{Database}
 use Rattle.sqlite.specs.Listing.{understood}
 use Rattle.sqlite.specs.State.{State, HasCleanDisk, IsUnchanged, IsNotRun, RunsCommand, Runs, ReleasesAt, text_of, Executes, ExecutesIn, shows_rows, FailsToQuery, FailsToShow, Shown, ShowsRows}
 use Rattle.sqlite.proofs.Callers.{IsPlain}
+use Rattle.sqlite_schema.specs.declared.schema.Schema.{Schema}
+use Rattle.life_store.specs.Carrying.{HoldsFirst}
 use Rattle.life_store.specs.Layout.{archive_schema}
 use Rattle.life_store.specs.AskingState.{IsUndone, IsSeenAgain}
 use Rattle.life_store.specs.Kept.{Kept}
@@ -149,6 +151,7 @@ held_as b c db k h = record {
   deposits = h.deposits;
   censuses = h.censuses;
   census_rows = h.census_rows;
+  census_flags = h.census_flags;
   filed = h.filed;
   ordered = h.ordered;
   few_deposits = h.few_deposits;
@@ -157,6 +160,30 @@ held_as b c db k h = record {
 
 pub held_again : (old new : State) (k : Kept) → new.now ≡ old.now → Holds (tables_of old) k → Holds (tables_of new) k
 held_again old new k same h = subst (λ (d : Database). Holds (tables_in (tables_of new).is_sure d) k) (sym same) (held_as (tables_of old).is_sure (tables_of new).is_sure old.now k h)
+
+-- the same of the tables of layout 1
+pub first_held_as : (b c : Bool) (db : Database) (k : Kept) → HoldsFirst (tables_in b db) k → HoldsFirst (tables_in c db) k
+first_held_as b c db k h = record {
+  schema = h.schema;
+  layout = h.layout;
+  deposits = h.deposits;
+  censuses = h.censuses;
+  census_rows = h.census_rows;
+  filed = h.filed;
+  ordered = h.ordered;
+  few_deposits = h.few_deposits;
+  few_censuses = h.few_censuses;
+}
+
+pub first_held_again : (old new : State) (k : Kept) → new.now ≡ old.now → HoldsFirst (tables_of old) k → HoldsFirst (tables_of new) k
+first_held_again old new k same h = subst (λ (d : Database). HoldsFirst (tables_in (tables_of new).is_sure d) k) (sym same) (first_held_as (tables_of old).is_sure (tables_of new).is_sure old.now k h)
+
+-- a query leaves what it saw
+pub seen_same : (sql : List ℕ) (params : Row) (schema : Schema) (old new : State) → IsPlain (understood schema sql) → (r : Answered) → (HasCleanDisk new → IfOk r (λ rows. Shown sql params old new rows.items)) → (HasCleanDisk new → OnErr r (IsSeenAgain old new))
+    → IsTrue (tables_of new).is_sure → old.now.schema ≡ schema → new.now ≡ old.now
+seen_same sql params schema old new plain (Ok rows) shown seen sure is =
+    (shown_unchanged sql params old new rows.items (subst (λ s. IsPlain (understood s sql)) (sym is) plain) (shown (sure_is new sure).0)).0.now_is
+seen_same sql params schema old new plain (Err e) shown seen sure is = let now = sure_is new sure in (seen now.0).now_is now.1
 
 module _ (old new : State) (clean : doubt old.is_clean ≤ doubt new.is_clean) where
   pub stays_lost : (HasCleanDisk new → IsTrue new.is_open → IsTrue old.is_open) → StaysLost (tables_of old) (tables_of new)

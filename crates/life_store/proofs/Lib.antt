@@ -15,5 +15,7 @@ pub mod TotalLemmas
 pub mod JoinLemmas
 pub mod SumLemmas
 pub mod LayLemmas
+pub mod UpdateLemmas
+pub mod CarryLemmas
 pub mod BlankLemmas
 pub mod MeaningLemmas

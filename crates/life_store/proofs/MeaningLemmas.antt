@@ -1,16 +1,16 @@
 -- Rows stand for one list of deposits and one list of censuses at most.
-use Rattle.std.proofs.Common.{◌≡◌, ◌∙◌, ◌<◌, ◌≤◌, ◌+◌, ℕ, pos, List, [], ◌∷◌, ◌++◌, Ok, refl, sym, ap, ap₂, arith}
-use Rattle.std.specs.Prelude.{⊤}
+use Rattle.std.proofs.Common.{◌≡◌, ◌∙◌, ◌<◌, ◌+◌, ℕ, List, [], ◌∷◌, ◌++◌, map, Ok, refl, sym, ap, ap₂, arith}
+use Rattle.std.specs.Prelude.{⊤, Bool, true, false}
 use Rattle.std.specs.List.{AllByRecursion}
-use Rattle.sqlite_value.specs.declared.value.Value.TheVariants.{Int, Text, Blob}
 use Rattle.sqlite_value.specs.Order.{Row}
 use Rattle.life_rle.specs.File.{kept}
 use Rattle.life_rle.specs.Writer.{text}
 use Rattle.life_census.specs.Rows.{Counts}
 use Rattle.life_store.specs.declared.kept.Deposit.{Deposit}
 use Rattle.life_store.specs.declared.kept.Census.{Census}
+use Rattle.life_store.specs.Carrying.{HoldsFirst, unflagged}
 use Rattle.life_store.specs.Kept.{Kept, Tallied}
-use Rattle.life_store.specs.Stored.{IsFiled, rows_by, deposit_cells, census_cells, count_cells, tagged, counts_from}
+use Rattle.life_store.specs.Stored.{IsFiled, rows_by, deposit_cells, census_cells, count_cells, flag_number, flag_cells, tagged, counts_from}
 use Rattle.life_store.specs.Tables.{Tables, Holds}
 
 abbrev Counted : Type 0
@@ -55,6 +55,12 @@ same_count r s e =
     let count : r.1.1 ≡ s.1.1 = cc in
     ap₂ (λ i cn. (i, cn)) id (ap₂ (λ c n. (c, n)) code count)
 
+same_flag : (a b : Bool) → flag_number a ≡ flag_number b → a ≡ b
+same_flag true true e = refl
+same_flag true false e = absurd cc
+same_flag false true e = absurd cc
+same_flag false false e = refl
+
 all_true : {X : Type 0} (xs : List X) → AllByRecursion (λ x. ⊤) xs
 all_true [] = tt
 all_true (x ∷ xs) = (tt, all_true xs)
@@ -87,23 +93,46 @@ parted id (x ∷ xs) (y ∷ ys) us vs p q e =
     let it = parted id xs ys us vs p q rest in
     (ap₂ (λ z zs. z ∷ zs) first it.0, it.1)
 
-same_censuses : (id : ℕ) (ss ts : List Tallied) → rows_by census_cells id ss ≡ rows_by census_cells id ts → counts_from id ss ≡ counts_from id ts → ss ≡ ts
-same_censuses id [] [] e c = refl
-same_censuses id [] (t ∷ ts) e c = absurd cc
-same_censuses id (s ∷ ss) [] e c = absurd cc
-same_censuses id (s ∷ ss) (t ∷ ts) e c =
+same_unflagged : (id : ℕ) (ss ts : List Tallied) → rows_by census_cells id ss ≡ rows_by census_cells id ts → counts_from id ss ≡ counts_from id ts → map unflagged ss ≡ map unflagged ts
+same_unflagged id [] [] e c = refl
+same_unflagged id [] (t ∷ ts) e c = absurd cc
+same_unflagged id (s ∷ ss) [] e c = absurd cc
+same_unflagged id (s ∷ ss) (t ∷ ts) e c =
     let cells : census_cells s ≡ census_cells t = cc in
     let rest : rows_by census_cells (id + 1) ss ≡ rows_by census_cells (id + 1) ts = cc in
     let it = same_census s t cells in
     let rows = parted id s.tally.rows t.tally.rows (counts_from (id + 1) ss) (counts_from (id + 1) ts) (all_past id (id + 1) (omega arith) ss) (all_past id (id + 1) (omega arith) ts) c in
     let tally : s.tally ≡ t.tally = ap₂ (λ (r : List Counted) (ut : ℕ × ℕ). let n : Counts = record { rows = r; unresolved = ut.0; total = ut.1 } in n) rows.0 (ap₂ (λ u n. (u, n)) it.1 it.2) in
-    let first : s ≡ t = ap₂ (λ (x : Census) (y : Counts). let n : Tallied = record { census = x; tally = y } in n) it.0 tally in
-    ap₂ (λ z zs. z ∷ zs) first (same_censuses (id + 1) ss ts rest rows.1)
+    let first : unflagged s ≡ unflagged t = ap₂ (λ (x : Census) (y : Counts). (x, y)) it.0 tally in
+    ap₂ (λ z zs. z ∷ zs) first (same_unflagged (id + 1) ss ts rest rows.1)
+
+same_flags : (id : ℕ) (ss ts : List Tallied) → map unflagged ss ≡ map unflagged ts → rows_by flag_cells id ss ≡ rows_by flag_cells id ts → ss ≡ ts
+same_flags id [] [] e f = refl
+same_flags id [] (t ∷ ts) e f = absurd cc
+same_flags id (s ∷ ss) [] e f = absurd cc
+same_flags id (s ∷ ss) (t ∷ ts) e f =
+    let head : unflagged s ≡ unflagged t = cc in
+    let rest : map unflagged ss ≡ map unflagged ts = cc in
+    let flags : rows_by flag_cells (id + 1) ss ≡ rows_by flag_cells (id + 1) ts = cc in
+    let number : flag_number s.steady ≡ flag_number t.steady = cc in
+    let first : s ≡ t = ap₂ (λ (u : Census × Counts) (b : Bool). let n : Tallied = record { census = u.0; tally = u.1; steady = b } in n) head (same_flag s.steady t.steady number) in
+    ap₂ (λ z zs. z ∷ zs) first (same_flags (id + 1) ss ts rest flags)
+
+same_deposits : (a b : List Deposit) → AllByRecursion IsFiled a → AllByRecursion IsFiled b → rows_by deposit_cells 1 a ≡ rows_by deposit_cells 1 b → a ≡ b
+same_deposits a b p q e = same_list deposit_cells IsFiled same_deposit 1 a b p q e
+
+same_kept : (a b : List Tallied) → rows_by census_cells 1 a ≡ rows_by census_cells 1 b → rows_by count_cells 1 (counts_from 1 a) ≡ rows_by count_cells 1 (counts_from 1 b) → map unflagged a ≡ map unflagged b
+same_kept a b e c =
+    let counts : counts_from 1 a ≡ counts_from 1 b = same_list count_cells (λ r. ⊤) (λ r s x y. same_count r s) 1 (counts_from 1 a) (counts_from 1 b) (all_true (counts_from 1 a)) (all_true (counts_from 1 b)) c in
+    same_unflagged 1 a b e counts
 
 pub one_meaning : (t : Tables) (a b : Kept) → Holds t a → Holds t b → a ≡ b
 one_meaning t a b p q =
-    let deposits : a.deposits ≡ b.deposits = same_list deposit_cells IsFiled same_deposit 1 a.deposits b.deposits p.filed q.filed (sym p.deposits ∙ q.deposits) in
-    let counts : counts_from 1 a.censuses ≡ counts_from 1 b.censuses =
-    same_list count_cells (λ r. ⊤) (λ r s x y. same_count r s) 1 (counts_from 1 a.censuses) (counts_from 1 b.censuses) (all_true (counts_from 1 a.censuses)) (all_true (counts_from 1 b.censuses)) (sym p.census_rows ∙ q.census_rows) in
-    let censuses : a.censuses ≡ b.censuses = same_censuses 1 a.censuses b.censuses (sym p.censuses ∙ q.censuses) counts in
+    let deposits : a.deposits ≡ b.deposits = same_deposits a.deposits b.deposits p.filed q.filed (sym p.deposits ∙ q.deposits) in
+    let kept = same_kept a.censuses b.censuses (sym p.censuses ∙ q.censuses) (sym p.census_rows ∙ q.census_rows) in
+    let censuses : a.censuses ≡ b.censuses = same_flags 1 a.censuses b.censuses kept (sym p.census_flags ∙ q.census_flags) in
     ap₂ (λ d c. let it : Kept = record { deposits = d; censuses = c } in it) deposits censuses
+
+pub first_meaning : (t : Tables) (a b : Kept) → HoldsFirst t a → HoldsFirst t b → (a.deposits ≡ b.deposits) × (map unflagged a.censuses ≡ map unflagged b.censuses)
+first_meaning t a b p q =
+    (same_deposits a.deposits b.deposits p.filed q.filed (sym p.deposits ∙ q.deposits), same_kept a.censuses b.censuses (sym p.censuses ∙ q.censuses) (sym p.census_rows ∙ q.census_rows))

@@ -1,5 +1,5 @@
 -- Trees list one schema, so that a file which was closed is opened with the schema that it had.
-use Rattle.std.proofs.Common.{◌≡◌, ℕ, ◌+◌, pos, List, [], ◌∷◌, filter, slice_get, Bool, true, false, refl, sym, ap, ap₂, subst, ◌∙◌, arith}
+use Rattle.std.proofs.Common.{◌≡◌, inl, inr, ℕ, ◌+◌, pos, List, [], ◌∷◌, filter, slice_get, Bool, true, false, refl, sym, ap, ap₂, subst, ◌∙◌, arith}
 use Rattle.std.specs.List.{AllZip}
 use Rattle.sqlite_value.specs.declared.value.Value.{Value}
 use Rattle.sqlite_value.specs.declared.value.Value.TheVariants.{Null, Int, Real, Text, Blob}
@@ -23,12 +23,14 @@ use Rattle.life_store.specs.declared.fault.OpenFault.{OpenFault}
 use Rattle.life_store.specs.declared.fault.OpenFault.TheVariants.{BadCapacity, NotOurs}
 use Rattle.life_store.specs.LayingState.{IsLaid}
 use Rattle.life_store.specs.Kept.{Kept}
-use Rattle.life_store.specs.Layout.{archive_schema, no_schema}
-use Rattle.life_store.specs.Opening.{FilesHold, ListNothing, nothing_kept, versions_in, known_versions, FilesHaveVersions}
+use Rattle.life_store.specs.Layout.{first_schema, archive_schema, no_schema}
+use Rattle.life_store.specs.Opening.{FilesHold, FilesHoldFirst, ListNothing, nothing_kept, versions_in, IsLayout, FilesHaveVersions}
+use Rattle.life_store.specs.Carrying.{HoldsFirst, CarriedOver}
+use Rattle.life_store.specs.CarryingState.{Carries}
 use Rattle.life_store.specs.OpeningState.{HaveVersions}
 use Rattle.life_store.specs.Tables.{Tables, Shelf, tables_in, tables_of, Holds}
-use Rattle.life_store.proofs.KeepLemmas.{held_as}
-use Rattle.life_store.proofs.OpenLemmas.{have_known}
+use Rattle.life_store.proofs.KeepLemmas.{held_as, first_held_as}
+use Rattle.life_store.proofs.OpenLemmas.{second_own, have_second}
 use Rattle.sqlite_catalog.proofs.StepLemmas.{named_once, same_itself}
 use Rattle.sqlite_catalog.proofs.AlterLemmas.{numbers_differ}
 
@@ -86,25 +88,33 @@ one_schema one two db none p q =
     let views : two.views ≡ one.views = nothing _ _ two.views (subst (AllZip IsViewRow _) none a.views) b.views ∙ sym none in
     ap₂ (λ (ti : List Table × List Index) vs. let it : Schema = record { tables = ti.0; indexes = ti.1; views = vs } in it) (ap₂ (λ ts is. (ts, is)) (sym tables) (sym indexes)) views
 
--- a connection that was opened over files that hold the archive's tables
-finds_tables : (new : State) (image : Image) (db : Trees) → Opens new × IsLive new → ((db : Trees) → HoldsDatabase image db → new.committed.trees ≡ db) → ∥ HoldsDatabase image db ∥₁ → IsSound archive_schema db
-    → new.now ≡ record { schema = archive_schema; trees = db }
-finds_tables new image db opened found held sound =
+-- a connection that was opened over files that hold these tables
+finds_tables : (new : State) (image : Image) (schema : Schema) (db : Trees) → schema.views ≡ [] → Opens new × IsLive new → ((db : Trees) → HoldsDatabase image db → new.committed.trees ≡ db) → ∥ HoldsDatabase image db ∥₁ → IsSound schema db
+    → new.now ≡ record { schema = schema; trees = db }
+finds_tables new image schema db none opened found held sound =
     let trees : new.committed.trees ≡ db = ∥∥₁_elim held (Trees-set _ _) (found db) in
     let same : new.now.trees ≡ db = ap (λ (d : Database). d.trees) opened.0.clean ∙ trees in
-    let schema : new.now.schema ≡ archive_schema = one_schema archive_schema new.now.schema db refl sound (subst (IsSound new.now.schema) same (opened.1 opened.0.is_open).0) in
-    ap₂ (λ (s : _) (t : Trees). let d : Database = record { schema = s; trees = t } in d) schema same
+    let is : new.now.schema ≡ schema = one_schema schema new.now.schema db none sound (subst (IsSound new.now.schema) same (opened.1 opened.0.is_open).0) in
+    ap₂ (λ (s : _) (t : Trees). let d : Database = record { schema = s; trees = t } in d) is same
 
 -- and so finds their rows
 pub finds_held : (new : State) (image : Image) (k : Kept) → Opens new × IsLive new → ((db : Trees) → HoldsDatabase image db → new.committed.trees ≡ db) → FilesHold image k → Holds (tables_of new) k
 finds_held new image k opened found files =
-    held_as true (tables_of new).is_sure new.now k (subst (λ (d : Database). Holds (tables_in true d) k) (sym (finds_tables new image files.trees opened found files.held files.sound)) files.holds)
+    held_as true (tables_of new).is_sure new.now k (subst (λ (d : Database). Holds (tables_in true d) k) (sym (finds_tables new image archive_schema files.trees refl opened found files.held files.sound)) files.holds)
+
+pub finds_first : (new : State) (image : Image) (k : Kept) → Opens new × IsLive new → ((db : Trees) → HoldsDatabase image db → new.committed.trees ≡ db) → FilesHoldFirst image k → HoldsFirst (tables_of new) k
+finds_first new image k opened found files =
+    first_held_as true (tables_of new).is_sure new.now k (subst (λ (d : Database). HoldsFirst (tables_in true d) k) (sym (finds_tables new image first_schema files.trees refl opened found files.held files.sound)) files.holds)
+
+no_views : (schema : Schema) (own : List Value) → IsLayout schema own → schema.views ≡ []
+no_views schema own (inl second) = ap (λ (s : Schema). s.views) second.0
+no_views schema own (inr first) = ap (λ (s : Schema). s.views) first.0
 
 -- and their versions
-pub finds_versions : (new : State) (image : Image) (versions : List Value) → Opens new × IsLive new → ((db : Trees) → HoldsDatabase image db → new.committed.trees ≡ db) → FilesHaveVersions image versions
-    → HaveVersions (tables_of new) versions
-finds_versions new image versions opened found files =
-    let is = finds_tables new image files.trees opened found files.held files.sound in
+pub finds_versions : (new : State) (image : Image) (schema : Schema) (own versions : List Value) → IsLayout schema own → Opens new × IsLive new → ((db : Trees) → HoldsDatabase image db → new.committed.trees ≡ db) → FilesHaveVersions schema image versions
+    → HaveVersions schema (tables_of new) versions
+finds_versions new image schema own versions known opened found files =
+    let is = finds_tables new image schema files.trees (no_views schema own known) opened found files.held files.sound in
     record { schema = ap (λ (d : Database). d.schema) is; are = ap (λ (d : Database). versions_in (d.trees 0)) is ∙ files.are }
 
 -- a connection that was opened over files that list no table
@@ -132,10 +142,15 @@ module _ {E : Type 0} (s : State) (image : Image) (opened : HasCleanDisk s → O
   opens_held (Ok a) found was held = λ k sure files. let clean = was sure in held k sure (finds_held s image k (opened clean) (found clean) files)
   opens_held (Err e) found was held = tt
 
+  pub opens_carried : (r : Result Shelf E) → (HasCleanDisk s → (db : Trees) → HoldsDatabase image db → s.committed.trees ≡ db) → IfOk r (λ a. IsSureOf a → HasCleanDisk s)
+      → IfOk r (λ a. Carries (tables_of s) a.tables) → IfOk r (λ a. (k : Kept) → IsSureOf a → FilesHoldFirst image k → CarriedOver a.tables k)
+  opens_carried (Ok a) found was held = λ k sure files. let clean = was sure in held k sure (finds_first s image k (opened clean) (found clean) files)
+  opens_carried (Err e) found was held = tt
+
   pub opens_known : (r : Result Shelf E) → (HasCleanDisk s → (db : Trees) → HoldsDatabase image db → s.committed.trees ≡ db) → IfOk r (λ a. IsSureOf a → HasCleanDisk s)
-      → IfOk r (λ a. (versions : List Value) → IsSureOf a → HaveVersions (tables_of s) versions → versions ≡ known_versions)
-      → IfOk r (λ a. (versions : List Value) → IsSureOf a → FilesHaveVersions image versions → versions ≡ known_versions)
-  opens_known (Ok a) found was known = λ versions sure files. let clean = was sure in known versions sure (finds_versions s image versions (opened clean) (found clean) files)
+      → IfOk r (λ a. (schema : Schema) (own versions : List Value) → IsLayout schema own → IsSureOf a → HaveVersions schema (tables_of s) versions → versions ≡ own)
+      → IfOk r (λ a. (schema : Schema) (own versions : List Value) → IsLayout schema own → IsSureOf a → FilesHaveVersions schema image versions → versions ≡ own)
+  opens_known (Ok a) found was known = λ schema own versions of sure files. let clean = was sure in known schema own versions of sure (finds_versions s image schema own versions of (opened clean) (found clean) files)
   opens_known (Err e) found was known = tt
 
   pub opens_fresh : (r : Result Shelf E) → (HasCleanDisk s → AreFoundIn image s.committed.trees) → IfOk r (λ a. IsSureOf a → HasCleanDisk s)
@@ -146,19 +161,19 @@ module _ {E : Type 0} (s : State) (image : Image) (opened : HasCleanDisk s → O
 -- why an opening is refused as not ours
 module _ {A F : Type 0} (s : State) (image : Image) (opened : HasCleanDisk s → Opens s × IsLive s) (found : HasCleanDisk s → (db : Trees) → HoldsDatabase image db → s.committed.trees ≡ db) (C : F → Type 0) where
   abbrev IsNotOurs : Result A (OpenFault × F) → Type 0
-  IsNotOurs r = IfErr r (λ e. C e.1 → e.0 ≡ NotOurs → HasCleanDisk s × (HaveVersions (tables_of s) known_versions → ⊥))
+  IsNotOurs r = IfErr r (λ e. C e.1 → e.0 ≡ NotOurs → HasCleanDisk s × ((schema : Schema) (own : List Value) → IsLayout schema own → HaveVersions schema (tables_of s) own → ⊥))
 
   pub opens_ours : (r : Result A (OpenFault × F)) → IsNotOurs r → IfErr r (λ e. (k : Kept) → C e.1 → FilesHold image k → e.0 ≢ NotOurs)
   opens_ours (Ok a) h = tt
-  opens_ours (Err e) h = λ k clean files is. let it = h clean is in it.1 (have_known (tables_of s) k (finds_held s image k (opened it.0) (found it.0) files))
+  opens_ours (Err e) h = λ k clean files is. let it = h clean is in it.1 archive_schema second_own (inl (refl, refl)) (have_second (tables_of s) k (finds_held s image k (opened it.0) (found it.0) files))
 
   pub opens_clean : (P : Type 0) (r : Result A (OpenFault × F)) → (HasCleanDisk s → P) → IsNotOurs r → IfErr r (λ e. C e.1 → e.0 ≡ NotOurs → P)
   opens_clean P (Ok a) then h = tt
   opens_clean P (Err e) then h = λ clean is. then (h clean is).0
 
-  pub opens_versions : (r : Result A (OpenFault × F)) → IsNotOurs r → IfErr r (λ e. C e.1 → FilesHaveVersions image known_versions → e.0 ≢ NotOurs)
+  pub opens_versions : (r : Result A (OpenFault × F)) → IsNotOurs r → IfErr r (λ e. (schema : Schema) (own : List Value) → IsLayout schema own → C e.1 → FilesHaveVersions schema image own → e.0 ≢ NotOurs)
   opens_versions (Ok a) h = tt
-  opens_versions (Err e) h = λ clean files is. let it = h clean is in it.1 (finds_versions s image known_versions (opened it.0) (found it.0) files)
+  opens_versions (Err e) h = λ schema own of clean files is. let it = h clean is in it.1 schema own of (finds_versions s image schema own own of (opened it.0) (found it.0) files)
 
   pub opens_none : (r : Result A (OpenFault × F)) → IsNotOurs r → (HasCleanDisk s → AreFoundIn image s.committed.trees) → (s.now.schema ≡ no_schema → IfErr r (λ e. e.0 ≢ NotOurs))
       → IfErr r (λ e. C e.1 → ListNothing image → e.0 ≢ NotOurs)

@@ -1,5 +1,5 @@
 -- Words of the code alone: what the rows of the tables stand for (Tables.antt), part by part, as a transaction writes them.
-use Rattle.std.specs.Prelude.{◌≡◌, ℕ, pos, false, List, [], ◌∷◌, IsTrue}
+use Rattle.std.specs.Prelude.{◌≡◌, ℕ, pos, Bool, false, List, [], ◌∷◌, ◌++◌, IsTrue}
 use Rattle.sqlite_value.specs.declared.value.Value.TheVariants.{Int, Text}
 use Rattle.sqlite_value.specs.Order.{Row}
 use Rattle.sqlite.specs.Effect.{Database}
@@ -7,28 +7,44 @@ use Rattle.sqlite.specs.State.{State}
 use Rattle.life_store.specs.declared.kept.Deposit.{Deposit}
 use Rattle.life_store.specs.Kept.{Tallied}
 use Rattle.life_store.specs.Layout.{archive_schema}
-use Rattle.life_store.specs.Stored.{rows_by, deposit_cells, census_cells, count_cells}
-use Rattle.life_store.specs.Tables.{version_1}
+use Rattle.life_store.specs.Stored.{rows_by, deposit_cells, census_cells, count_cells, flag_cells, flag_number, tagged}
 
--- the rows of the three tables, each for a list of its own
-pub record Stands (db : Database) (ds : List Deposit) (ts : List Tallied) (rs : List (ℕ × (List ℕ × ℕ))) : Type 0 where
+-- the rows of `layout`, and what the rows of the other tables stand for, each for a list of its own
+pub record Parts : Type 0 where
+  pub layout : List Row
+  pub deposits : List Deposit
+  pub censuses : List Tallied
+  pub counts : List (ℕ × (List ℕ × ℕ))
+  -- the censuses whose flags are there
+  pub flagged : List Tallied
+
+pub record Stands (db : Database) (p : Parts) : Type 0 where
   pub schema : db.schema ≡ archive_schema
-  pub layout : db.trees 0 ≡ version_1
-  pub deposits : db.trees 1 ≡ rows_by deposit_cells 1 ds
-  pub censuses : db.trees 3 ≡ rows_by census_cells 1 ts
-  pub census_rows : db.trees 5 ≡ rows_by count_cells 1 rs
+  pub layout : db.trees 0 ≡ p.layout
+  pub deposits : db.trees 1 ≡ rows_by deposit_cells 1 p.deposits
+  pub censuses : db.trees 3 ≡ rows_by census_cells 1 p.censuses
+  pub census_rows : db.trees 5 ≡ rows_by count_cells 1 p.counts
+  pub census_flags : db.trees 7 ≡ rows_by flag_cells 1 p.flagged
+
+-- one census more, the last, with the rows of its tally under its number
+abbrev pub with_census : ℕ → Tallied → Parts → Parts
+with_census id t p = record p { censuses = p.censuses ++ t ∷ []; counts = p.counts ++ tagged id t.tally.rows }
+
+-- one flag more, the last
+abbrev pub with_flag : Tallied → Parts → Parts
+with_flag t p = record p { flagged = p.flagged ++ t ∷ [] }
 
 -- no transaction is open, and the rows stand for these
-pub record IsMeant (s : State) (ds : List Deposit) (ts : List Tallied) (rs : List (ℕ × (List ℕ × ℕ))) : Type 0 where
+pub record IsMeant (s : State) (p : Parts) : Type 0 where
   pub mode : s.in_transaction ≡ false
   pub same : s.now ≡ s.committed
-  pub stands : Stands s.now ds ts rs
+  pub stands : Stands s.now p
 
 -- a database that is shut says nothing
-abbrev pub Means : State → List Deposit → List Tallied → List (ℕ × (List ℕ × ℕ)) → Type 0
-Means s ds ts rs = IsTrue s.is_open → IsMeant s ds ts rs
+abbrev pub Means : State → Parts → Type 0
+Means s p = IsTrue s.is_open → IsMeant s p
 
--- what is bound to the parameters of the two INSERTs
+-- what is bound to the parameters of the three INSERTs
 abbrev pub given_census : ℕ → Tallied → Row
 given_census id t =
     Int (pos id) ∷ Text t.census.member ∷ Text t.census.token ∷ Int (pos t.census.deposit) ∷ Int (pos t.census.generation) ∷ Int (pos t.census.limit) ∷ Int (pos t.tally.total)
@@ -36,3 +52,6 @@ given_census id t =
 
 abbrev pub given_row : ℕ → List ℕ × ℕ → Row
 given_row id row = Int (pos id) ∷ Text row.0 ∷ Int (pos row.1) ∷ []
+
+abbrev pub given_flag : ℕ → Bool → Row
+given_flag id steady = Int (pos id) ∷ Int (pos (flag_number steady)) ∷ []

@@ -1,4 +1,4 @@
--- What is kept: deposits, and censuses each with a tally. A number is a place in its list, from 1.
+-- What is kept: deposits, and censuses each with a tally and a flag. A number is a place in its list, from 1.
 use Rattle.std.specs.Prelude.{◌&&◌, ◌+◌, ℕ, zero, suc, Bool, List, [], ◌∷◌, Option, None, Some, option_map, map, filter, take, sum_by, slice_get, nat_lt, bytes_eq, false, if◌then◌else◌}
 use Rattle.std.specs.FinSet as set
 use Rattle.life_core.specs.Rule.{RuleSets}
@@ -12,10 +12,11 @@ use Rattle.life_store.specs.declared.kept.FoundCensus.{FoundCensus}
 use Rattle.life_store.specs.declared.kept.KeptCensus.{KeptCensus}
 use Rattle.life_store.specs.declared.kept.Listed.{Listed}
 
--- a census with a tally
+-- a census with a tally, and whether the generation that it counted is steady
 pub record Tallied : Type 0 where
   pub census : Census
   pub tally : Counts
+  pub steady : Bool
 
 -- what an archive keeps, in the order in which it came
 pub record Kept : Type 0 where

@@ -1,7 +1,8 @@
 -- What makes the definitions of archives believable.
-use Rattle.std.specs.Prelude.{◌≡◌}
+use Rattle.std.specs.Prelude.{◌≡◌, map}
 use Rattle.sqlite_wal.specs.Recovery.{Image}
 use Rattle.sqlite.specs.Files.{IsNothing}
+use Rattle.life_store.specs.Carrying.{HoldsFirst, unflagged}
 use Rattle.life_store.specs.Kept.{Kept}
 use Rattle.life_store.specs.Opening.{ListNothing}
 use Rattle.life_store.specs.Tables.{Tables, Holds}
@@ -13,3 +14,7 @@ BlankFilesListNothing = (image : Image) → IsNothing image → ListNothing imag
 -- Rows stand for one list of deposits and one list of censuses at most.
 abbrev pub OneMeaning : Type 0
 OneMeaning = (t : Tables) (a b : Kept) → Holds t a → Holds t b → a ≡ b
+
+-- So do those of layout 1, but for the flags, which it does not have.
+abbrev pub OneFirstMeaning : Type 0
+OneFirstMeaning = (t : Tables) (a b : Kept) → HoldsFirst t a → HoldsFirst t b → (a.deposits ≡ b.deposits) × (map unflagged a.censuses ≡ map unflagged b.censuses)

@@ -18,8 +18,11 @@ censuses_text = codes "CREATE TABLE censuses (id INTEGER PRIMARY KEY, member TEX
 abbrev pub census_rows_text : List ℕ
 census_rows_text = codes "CREATE TABLE census_rows (census INTEGER NOT NULL REFERENCES censuses (id), code TEXT NOT NULL, n INTEGER NOT NULL CHECK (n > 0), PRIMARY KEY (census, code)) STRICT"
 
+abbrev pub census_flags_text : List ℕ
+census_flags_text = codes "CREATE TABLE census_flags (census INTEGER PRIMARY KEY REFERENCES censuses (id), steady INTEGER NOT NULL CHECK (steady IN (0, 1))) STRICT"
+
 abbrev pub version_text : List ℕ
-version_text = codes "INSERT INTO layout (version) VALUES (1)"
+version_text = codes "INSERT INTO layout (version) VALUES (2)"
 
 abbrev pub schema_1 : Schema
 schema_1 = record { tables = layout_table ∷ []; indexes = []; views = [] }
@@ -39,7 +42,7 @@ pub record IsLaid (schema : Schema) (empty : List ℕ) (db : Database) : Type 0 
   pub is : db.schema ≡ schema
   pub none : AllByRecursion (λ t. db.trees t ≡ []) empty
 
--- the four tables, empty, and the row that names the layout
+-- the five tables, empty, and the row that names the layout
 pub record IsNewArchive (db : Database) : Type 0 where
-  pub laid : IsLaid archive_schema (1 ∷ 3 ∷ 5 ∷ []) db
-  pub version : db.trees 0 ≡ (Int (pos 1) ∷ Int (pos 1) ∷ []) ∷ []
+  pub laid : IsLaid archive_schema (1 ∷ 3 ∷ 5 ∷ 7 ∷ []) db
+  pub version : db.trees 0 ≡ (Int (pos 1) ∷ Int (pos 2) ∷ []) ∷ []

@@ -1,4 +1,5 @@
--- The schema of the four tables of docs/FORMATS.md, layout 1 (SQLite's "CREATE TABLE"). That the texts of LayingState.antt make it is proved.
+-- The schemas of the tables of docs/FORMATS.md (SQLite's "CREATE TABLE"): the five tables of layout 2, and the four of layout 1.
+-- That the texts of LayingState.antt make them is proved.
 use Rattle.std.specs.Prelude.{true, false, [], ◌∷◌, Some, None, codes, List, ℕ, pos}
 use Rattle.sqlite_value.specs.declared.keys.Collation.TheVariants.{Binary}
 use Rattle.sqlite_value.specs.declared.value.Value.TheVariants.{Null, Int}
@@ -12,8 +13,8 @@ use Rattle.sqlite_schema.specs.declared.schema.Index.{Index}
 use Rattle.sqlite_schema.specs.declared.schema.Reference.{Reference}
 use Rattle.sqlite_schema.specs.declared.schema.Action.TheVariants.{NoAction}
 use Rattle.sqlite_schema.specs.declared.schema.Stamps.{Stamps}
-use Rattle.sqlite_sql.specs.declared.ops.BinaryOp.TheVariants.{Compare}
-use Rattle.sqlite_sql.specs.declared.ops.CompareOp.TheVariants.{Ge, Gt}
+use Rattle.sqlite_sql.specs.declared.ops.BinaryOp.TheVariants.{Compare, Or}
+use Rattle.sqlite_sql.specs.declared.ops.CompareOp.TheVariants.{Eq, Ge, Gt}
 use Rattle.sqlite_sql.specs.Term.{lit, col, op2}
 
 -- id INTEGER PRIMARY KEY
@@ -95,15 +96,43 @@ census_rows_table = record {
   is_counted = false;
 }
 
+abbrev pub census_flags_table : Table
+census_flags_table = record {
+  name = codes "census_flags";
+  tree = 0;
+  columns = record column_key { name = codes "census" } ∷ needed (codes "steady") Integer ∷ [];
+  key = Some 0;
+  primary = 0 ∷ [];
+  uniques = [];
+  orders = [];
+  checks = op2 Or (op2 (Compare Eq Binary) (col 1 2) (lit (Int (pos 0)))) (op2 (Compare Eq Binary) (col 1 2) (lit (Int (pos 1)))) ∷ [];
+  references = reference 0 (codes "censuses") (codes "id") ∷ [];
+  computed = [];
+  stamps = no_stamps;
+  is_counted = false;
+}
+
 abbrev pub key_index : List ℕ → ℕ → ℕ → List ℕ → Index
 key_index name tree table columns = record { name = name; tree = tree; table = table; columns = columns; order = plain; is_unique = true }
 
--- after the four tables were made in turn
+abbrev pub key_indexes : List Index
+key_indexes =
+    key_index (codes "sqlite_autoindex_deposits_1") 2 1 (2 ∷ 3 ∷ []) ∷ key_index (codes "sqlite_autoindex_censuses_1") 4 3 (2 ∷ 3 ∷ [])
+    ∷ key_index (codes "sqlite_autoindex_census_rows_1") 6 5 (1 ∷ 2 ∷ []) ∷ []
+
+-- layout 1: after the first four tables were made in turn
+abbrev pub first_schema : Schema
+first_schema = record {
+  tables = layout_table ∷ record deposits_table { tree = 1 } ∷ record censuses_table { tree = 3 } ∷ record census_rows_table { tree = 5 } ∷ [];
+  indexes = key_indexes;
+  views = [];
+}
+
+-- layout 2: after the fifth was made too
 abbrev pub archive_schema : Schema
 archive_schema = record {
-  tables = layout_table ∷ record deposits_table { tree = 1 } ∷ record censuses_table { tree = 3 } ∷ record census_rows_table { tree = 5 } ∷ [];
-  indexes = key_index (codes "sqlite_autoindex_deposits_1") 2 1 (2 ∷ 3 ∷ []) ∷ key_index (codes "sqlite_autoindex_censuses_1") 4 3 (2 ∷ 3 ∷ [])
-      ∷ key_index (codes "sqlite_autoindex_census_rows_1") 6 5 (1 ∷ 2 ∷ []) ∷ [];
+  tables = layout_table ∷ record deposits_table { tree = 1 } ∷ record censuses_table { tree = 3 } ∷ record census_rows_table { tree = 5 } ∷ record census_flags_table { tree = 7 } ∷ [];
+  indexes = key_indexes;
   views = [];
 }
 

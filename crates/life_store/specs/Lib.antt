@@ -10,6 +10,8 @@ pub mod Tables
 pub mod CensusesState
 pub mod AskingState
 pub mod ReadingState
+pub mod Carrying
+pub mod CarryingState
 pub mod Opening
 pub mod OpeningState
 pub mod Laws

@@ -1,14 +1,16 @@
 -- What files hold before they are opened, and after they are closed. What a database is in files: SQLite's "Database File Format".
-use Rattle.std.specs.Prelude.{◌≡◌, ◌&&◌, ℕ, Bool, true, nat_le, pos, List, [], ◌∷◌, map}
+use Rattle.std.specs.Prelude.{◌≡◌, ◌⊎◌, ◌&&◌, ℕ, Bool, true, nat_le, pos, List, [], ◌∷◌, map}
 use Rattle.sqlite_value.specs.declared.value.Value.{Value}
 use Rattle.sqlite_value.specs.declared.value.Value.TheVariants.{Int}
 use Rattle.sqlite_value.specs.Order.{Row, column}
 use Rattle.sqlite_wal.specs.Recovery.{Image}
 use Rattle.sqlite_trees.specs.Tree.{Trees}
 use Rattle.sqlite_catalog.specs.Listing.{IsSound}
+use Rattle.sqlite_schema.specs.declared.schema.Schema.{Schema}
 use Rattle.sqlite.specs.Files.{HoldsDatabase, AreFoundIn}
+use Rattle.life_store.specs.Carrying.{HoldsFirst}
 use Rattle.life_store.specs.Kept.{Kept}
-use Rattle.life_store.specs.Layout.{archive_schema, no_schema}
+use Rattle.life_store.specs.Layout.{first_schema, archive_schema, no_schema}
 use Rattle.life_store.specs.Tables.{tables_in, Holds}
 
 -- from 1 to 1,000,000
@@ -26,6 +28,13 @@ pub record FilesHold (image : Image) (k : Kept) : Type 0 where
   pub sound : IsSound archive_schema trees
   pub holds : Holds (tables_in true (record { schema = archive_schema; trees = trees })) k
 
+-- The files hold a database that obeys the tables of layout 1, with rows that stand for these.
+pub record FilesHoldFirst (image : Image) (k : Kept) : Type 0 where
+  pub trees : Trees
+  pub held : ∥ HoldsDatabase image trees ∥₁
+  pub sound : IsSound first_schema trees
+  pub holds : HoldsFirst (tables_in true (record { schema = first_schema; trees = trees })) k
+
 -- Whatever the files are found to hold lists no table. So it is of two files with no byte: a law says it.
 abbrev pub ListNothing : Image → Type 0
 ListNothing image = (db : Trees) → AreFoundIn image db → IsSound no_schema db
@@ -36,13 +45,14 @@ ListNothing image = (db : Trees) → AreFoundIn image db → IsSound no_schema d
 abbrev pub versions_in : List Row → List Value
 versions_in rows = map (λ row. column row 1) rows
 
--- version 1, and no other
-abbrev pub known_versions : List Value
-known_versions = Int (pos 1) ∷ []
+-- The known layouts, each by its tables and by what `layout` names:
+-- the archive's tables with version 2 and no other, and those of layout 1 with version 1 and no other.
+abbrev pub IsLayout : Schema → List Value → Type 0
+IsLayout schema own = ((schema ≡ archive_schema) × (own ≡ Int (pos 2) ∷ [])) ⊎ ((schema ≡ first_schema) × (own ≡ Int (pos 1) ∷ []))
 
--- The files hold a database that obeys the archive's tables, and these are the versions in its table `layout`.
-pub record FilesHaveVersions (image : Image) (versions : List Value) : Type 0 where
+-- The files hold a database that obeys these tables, and these are the versions in its table `layout`.
+pub record FilesHaveVersions (schema : Schema) (image : Image) (versions : List Value) : Type 0 where
   pub trees : Trees
   pub held : ∥ HoldsDatabase image trees ∥₁
-  pub sound : IsSound archive_schema trees
+  pub sound : IsSound schema trees
   pub are : versions_in (trees 0) ≡ versions

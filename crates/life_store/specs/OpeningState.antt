@@ -1,5 +1,5 @@
 -- Words of the code alone: which tables stand in a database that is opened, and which versions its layout has.
-use Rattle.std.specs.Prelude.{◌≡◌, ◌||◌, ℕ, Bool, pos, codes, List, [], ◌∷◌}
+use Rattle.std.specs.Prelude.{◌≡◌, ◌||◌, ℕ, Bool, true, false, pos, codes, List, [], ◌∷◌, map}
 use Rattle.std.specs.List.{list_any}
 use Rattle.sqlite_value.specs.declared.value.Value.{Value}
 use Rattle.sqlite_value.specs.declared.value.Value.TheVariants.{Int}
@@ -8,7 +8,9 @@ use Rattle.sqlite_schema.specs.declared.schema.Table.{Table}
 use Rattle.sqlite_schema.specs.declared.schema.View.{View}
 use Rattle.sqlite_schema.specs.declared.schema.Schema.{Schema}
 use Rattle.sqlite_schema.specs.Names.{same_name}
-use Rattle.life_store.specs.Layout.{archive_schema}
+use Rattle.life_store.specs.declared.opening.Version.{Version}
+use Rattle.life_store.specs.declared.opening.Version.TheVariants.{First, Second}
+use Rattle.life_store.specs.Layout.{first_schema, archive_schema}
 use Rattle.life_store.specs.Opening.{versions_in}
 use Rattle.life_store.specs.Tables.{Tables}
 
@@ -24,13 +26,30 @@ has_name s name = has_table s.tables name || has_view s.views name
 
 -- some of the archive's tables stand
 abbrev pub has_some : Schema → Bool
-has_some s = has_name s (codes "layout") || (has_name s (codes "deposits") || (has_name s (codes "censuses") || has_name s (codes "census_rows")))
+has_some s = has_name s (codes "layout") || (has_name s (codes "deposits") || (has_name s (codes "censuses") || (has_name s (codes "census_rows") || has_name s (codes "census_flags"))))
 
--- The tables are the archive's, and these are the versions in the table `layout`.
-pub record HaveVersions (t : Tables) (versions : List Value) : Type 0 where
-  pub schema : t.schema ≡ archive_schema
+-- The tables are these, and these are the versions in the table `layout`.
+pub record HaveVersions (s : Schema) (t : Tables) (versions : List Value) : Type 0 where
+  pub schema : t.schema ≡ s
   pub are : versions_in t.layout ≡ versions
 
--- the one known version, as a query shows it
-abbrev pub version_shown : List Row
-version_shown = (Int (pos 1) ∷ []) ∷ []
+-- values, as a query of one column shows them
+abbrev pub column_of : List Value → List Row
+column_of values = map (λ v. v ∷ []) values
+
+-- a version alone, as a query shows it
+abbrev pub version_shown : ℕ → List Row
+version_shown n = (Int (pos n) ∷ []) ∷ []
+
+-- the version that the tables ask for, by whether there is a table of flags
+abbrev pub version_with : Bool → Version
+version_with true = Second
+version_with false = First
+
+abbrev pub rows_of_version : Version → List Row
+rows_of_version First = version_shown 1
+rows_of_version Second = version_shown 2
+
+abbrev pub schema_of : Version → Schema
+schema_of First = first_schema
+schema_of Second = archive_schema

@@ -1,12 +1,12 @@
 -- Words of the code alone: what the rows of an answer show, column by column as the queries of StatementsState.antt list them.
-use Rattle.std.specs.Prelude.{◌≡◌, ◌⊎◌, ℕ, zero, suc, pos, List, [], ◌∷◌, Option, None, Some}
+use Rattle.std.specs.Prelude.{◌≡◌, ◌⊎◌, ℕ, zero, suc, pos, Bool, List, [], ◌∷◌, Option, None, Some}
 use Rattle.sqlite_value.specs.declared.value.Value.TheVariants.{Null, Int, Text, Blob}
 use Rattle.sqlite_value.specs.Order.{Row}
 use Rattle.life_rle.specs.Writer.{text}
 use Rattle.life_store.specs.declared.kept.FoundDeposit.{FoundDeposit}
 use Rattle.life_store.specs.declared.kept.Listed.{Listed}
 use Rattle.life_store.specs.Kept.{Tallied}
-use Rattle.life_store.specs.Stored.{IsFiled}
+use Rattle.life_store.specs.Stored.{IsFiled, flag_number}
 
 -- the greatest of so many numbers: one row, or none where there are none
 abbrev pub newest_rows : ℕ → List Row
@@ -33,6 +33,11 @@ census_shown p =
 abbrev pub ShowsCensus : Option (ℕ × Tallied) → List Row → Type 0
 ShowsCensus None rows = rows ≡ []
 ShowsCensus (Some p) rows = (more : List Row) × (rows ≡ census_shown p ∷ more)
+
+-- the first row shows the flag, or there is no row
+abbrev pub ShowsFlag : Option Bool → List Row → Type 0
+ShowsFlag None rows = rows ≡ []
+ShowsFlag (Some b) rows = (more : List Row) × (rows ≡ (Int (pos (flag_number b)) ∷ []) ∷ more)
 
 abbrev pub row_shown : List ℕ × ℕ → Row
 row_shown row = Text row.0 ∷ Int (pos row.1) ∷ []

@@ -51,6 +51,12 @@ add_census_text = codes "INSERT INTO censuses (id, member, token, deposit, gens,
 abbrev pub add_row_text : List ℕ
 add_row_text = codes "INSERT INTO census_rows (census, code, n) VALUES (?1, ?2, ?3)"
 
+abbrev pub flag_text : List ℕ
+flag_text = codes "SELECT steady FROM census_flags WHERE census = ?1 ORDER BY census"
+
+abbrev pub add_flag_text : List ℕ
+add_flag_text = codes "INSERT INTO census_flags (census, steady) VALUES (?1, ?2)"
+
 -- ---- their meaning
 
 -- every row of an answer, from the first one on
@@ -121,6 +127,9 @@ of_census = equals (col 1 1) (col 0 0) ∷ []
 abbrev pub row_columns : List Term
 row_columns = col 1 2 ∷ col 1 3 ∷ []
 
+abbrev pub flag_columns : List Term
+flag_columns = col 1 2 ∷ []
+
 abbrev pub by_code : Term
 by_code = col 1 2
 
@@ -135,6 +144,9 @@ census_query filter = ordered_query 3 filter census_columns by_id (ascending Bin
 
 abbrev pub rows_query : Query
 rows_query = ordered_query 5 of_census row_columns by_code (ascending Binary) all_rows
+
+abbrev pub flag_query : Query
+flag_query = ordered_query 7 has_id flag_columns by_id (ascending Binary) all_rows
 
 -- the three tables, each row of a tally with its census and that with its deposit
 abbrev pub joined_tables : Join
@@ -168,6 +180,9 @@ census_names = codes "id" ∷ codes "member" ∷ codes "token" ∷ codes "deposi
 abbrev pub row_names : List (List ℕ)
 row_names = codes "code" ∷ codes "n" ∷ []
 
+abbrev pub flag_names : List (List ℕ)
+flag_names = codes "steady" ∷ []
+
 -- what each INSERT writes
 abbrev pub deposit_terms : List Term
 deposit_terms = col 0 0 ∷ lit Null ∷ col 0 1 ∷ col 0 2 ∷ col 0 3 ∷ col 0 4 ∷ col 0 5 ∷ []
@@ -178,10 +193,16 @@ census_terms = col 0 0 ∷ lit Null ∷ col 0 1 ∷ col 0 2 ∷ col 0 3 ∷ col 
 abbrev pub row_terms : List Term
 row_terms = lit Null ∷ col 0 0 ∷ col 0 1 ∷ col 0 2 ∷ []
 
+abbrev pub flag_terms : List Term
+flag_terms = col 0 0 ∷ lit Null ∷ col 0 1 ∷ []
+
 -- ---- the layout
 
 abbrev pub version_text : List ℕ
 version_text = codes "SELECT * FROM layout ORDER BY 1 LIMIT 2"
+
+abbrev pub rename_text : List ℕ
+rename_text = codes "UPDATE layout SET version = 2"
 
 abbrev pub layout_name : List ℕ
 layout_name = codes "layout"
@@ -194,6 +215,16 @@ version_column = col_version ∷ []
 
 abbrev pub version_query : Query
 version_query = ordered_query 0 [] version_column col_version (ascending Binary) (rows_up_to 2)
+
+-- the id that the row has, and then the row that replaces it
+abbrev pub renamed_columns : List Term
+renamed_columns = col 1 0 ∷ col 1 0 ∷ lit (Int (pos 2)) ∷ []
+
+abbrev pub rename_query : Query
+rename_query = plain_query (inner 0 end) [] renamed_columns
+
+abbrev pub flags_name : List ℕ
+flags_name = codes "census_flags"
 
 abbrev pub version_names : List (List ℕ)
 version_names = codes "version" ∷ []

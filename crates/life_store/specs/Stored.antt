@@ -1,6 +1,6 @@
 -- The rows that deposits and censuses are kept as: the tables of docs/FORMATS.md, column by column.
 -- As in SQLite's file format ("Representation Of SQL Tables") a row begins with its rowid, and where a column is that id (INTEGER PRIMARY KEY), its own place holds NULL.
-use Rattle.std.specs.Prelude.{◌≡◌, ℕ, ◌+◌, pos, Ok, List, [], ◌∷◌, ◌++◌, map}
+use Rattle.std.specs.Prelude.{◌≡◌, ℕ, ◌+◌, pos, Ok, Bool, if◌then◌else◌, List, [], ◌∷◌, ◌++◌, map}
 use Rattle.std.specs.FinSet as set
 use Rattle.sqlite_value.specs.declared.value.Value.TheVariants.{Null, Int, Text, Blob}
 use Rattle.sqlite_value.specs.Order.{Row}
@@ -34,6 +34,13 @@ census_cells t =
 -- census_rows: census, code, n. This table has no column for its ids.
 abbrev pub count_cells : ℕ × (List ℕ × ℕ) → Row
 count_cells r = Int (pos r.0) ∷ Text r.1.0 ∷ Int (pos r.1.1) ∷ []
+
+-- census_flags: census (it stands in front), steady
+abbrev pub flag_number : Bool → ℕ
+flag_number b = if b then 1 else 0
+
+abbrev pub flag_cells : Tallied → Row
+flag_cells t = Null ∷ Int (pos (flag_number t.steady)) ∷ []
 
 -- the rows of a tally, each with the number of its census
 abbrev pub tagged : ℕ → List (List ℕ × ℕ) → List (ℕ × (List ℕ × ℕ))

@@ -16,7 +16,7 @@ use Rattle.life_census.specs.Rows.{Counts}
 use Rattle.life_store.specs.declared.kept.Deposit.{Deposit}
 use Rattle.life_store.specs.Kept.{Kept, Tallied}
 use Rattle.life_store.specs.Layout.{archive_schema}
-use Rattle.life_store.specs.Stored.{IsFiled, rows_by, deposit_cells, census_cells, count_cells, counts_from}
+use Rattle.life_store.specs.Stored.{IsFiled, rows_by, deposit_cells, census_cells, count_cells, flag_cells, counts_from}
 
 -- the tables of a database
 pub record Tables : Type 0 where
@@ -27,6 +27,7 @@ pub record Tables : Type 0 where
   pub deposits : List Row
   pub censuses : List Row
   pub census_rows : List Row
+  pub census_flags : List Row
 
 -- an archive: its tables, and how many deposits, and how many censuses, it takes
 pub record Shelf : Type 0 where
@@ -39,37 +40,38 @@ coded_rows = coded_list (coded_list value.the_row.coded)
 -- a shelf is stored as the pairs of its parts
 abbrev pub coded_shelf : Coded Shelf
 coded_shelf =
-    code_by (Bool × (Schema × (List Row × (List Row × (List Row × (List Row × ℕ))))))
-    (coded× coded_bool (coded× the_row.coded (coded× coded_rows (coded× coded_rows (coded× coded_rows (coded× coded_rows coded_ℕ))))))
-    (λ s. (s.tables.is_sure, (s.tables.schema, (s.tables.layout, (s.tables.deposits, (s.tables.censuses, (s.tables.census_rows, s.capacity)))))))
-    (λ p. record { tables = record { is_sure = p.0; schema = p.1.0; layout = p.1.1.0; deposits = p.1.1.1.0; censuses = p.1.1.1.1.0; census_rows = p.1.1.1.1.1.0 }; capacity = p.1.1.1.1.1.1 })
+    code_by (Bool × (Schema × (List Row × (List Row × (List Row × (List Row × (List Row × ℕ)))))))
+    (coded× coded_bool (coded× the_row.coded (coded× coded_rows (coded× coded_rows (coded× coded_rows (coded× coded_rows (coded× coded_rows coded_ℕ)))))))
+    (λ s. (s.tables.is_sure, (s.tables.schema, (s.tables.layout, (s.tables.deposits, (s.tables.censuses, (s.tables.census_rows, (s.tables.census_flags, s.capacity))))))))
+    (λ p. record { tables = record { is_sure = p.0; schema = p.1.0; layout = p.1.1.0; deposits = p.1.1.1.0; censuses = p.1.1.1.1.0; census_rows = p.1.1.1.1.1.0; census_flags = p.1.1.1.1.1.1.0 }; capacity = p.1.1.1.1.1.1.1 })
     (λ _. refl)
 
 -- The tables have these numbers. A UNIQUE or PRIMARY KEY of two columns has an index, which takes the number after its table's.
 abbrev pub tables_in : Bool → Database → Tables
-tables_in is_sure db = record { is_sure = is_sure; schema = db.schema; layout = db.trees 0; deposits = db.trees 1; censuses = db.trees 3; census_rows = db.trees 5 }
+tables_in is_sure db = record { is_sure = is_sure; schema = db.schema; layout = db.trees 0; deposits = db.trees 1; censuses = db.trees 3; census_rows = db.trees 5; census_flags = db.trees 7 }
 
 -- the tables that a connection sees
 abbrev pub tables_of : State → Tables
 tables_of s = tables_in (s.is_clean && s.is_open) s.now
 
--- the one row of `layout`, whose id is 1 too: version 1
-abbrev pub version_1 : List Row
-version_1 = (Int (pos 1) ∷ Int (pos 1) ∷ []) ∷ []
+-- the one row of `layout`, whose id is 1: version 2
+abbrev pub version_2 : List Row
+version_2 = (Int (pos 1) ∷ Int (pos 2) ∷ []) ∷ []
 
 -- the codes of a tally ascend, byte by byte
 abbrev pub HasOrder : Counts → Type 0
 HasOrder t = IsStrictlySortedBy row_cmp (map (λ (row : List ℕ × ℕ). row.0) t.rows)
 
--- The tables stand for these deposits and these censuses, each with its tally, and for no others:
--- the schema is the archive's, `layout` names version 1,
--- and the rows of `deposits`, `censuses` and `census_rows` are theirs, in this order, under the ids 1, 2, 3 and so on.
+-- The tables stand for these deposits and these censuses, each with its tally and its flag, and for no others:
+-- the schema is the archive's, `layout` names version 2,
+-- and the rows of `deposits`, `censuses`, `census_rows` and `census_flags` are theirs, in this order, under the ids 1, 2, 3 and so on.
 pub record Holds (t : Tables) (k : Kept) : Type 0 where
   pub schema : t.schema ≡ archive_schema
-  pub layout : t.layout ≡ version_1
+  pub layout : t.layout ≡ version_2
   pub deposits : t.deposits ≡ rows_by deposit_cells 1 k.deposits
   pub censuses : t.censuses ≡ rows_by census_cells 1 k.censuses
   pub census_rows : t.census_rows ≡ rows_by count_cells 1 (counts_from 1 k.censuses)
+  pub census_flags : t.census_flags ≡ rows_by flag_cells 1 k.censuses
   -- each file is read as its record again
   pub filed : AllByRecursion IsFiled k.deposits
   -- the rows of each tally stand in the order in which they are asked for

@@ -8,8 +8,10 @@ ghost use Rattle.life_store.specs.Tables.{tables_of, Goes, Keeps, Tells, HasOrde
 
 use crate::fault::Unavailable;
 use crate::kept::{Census, Deposit, FoundCensus, FoundDeposit, KeptCensus, Listing};
-use crate::reading::{all_lines, all_rows, count_in, first_census, first_deposit, total_in};
-use crate::{censuses, deposits};
+use crate::reading::{
+    all_lines, all_rows, count_in, first_census, first_deposit, first_flag, total_in,
+};
+use crate::{censuses, deposits, flags};
 use life_census::{Rows, Tally};
 use life_core::Rule;
 use life_rle::write;
@@ -203,21 +205,27 @@ impl<S: Alter> Archive<S> {
         }
     }
 
-    /// Adds a census with the rows of its tally in one transaction, and answers its number. Whether its member and token
-    /// are kept already, and whether the tally is that of its deposit, is for the caller to see to.
-    pub fn add_census(&mut self, census: &Census, tally: &Tally) -> Result<u64, Unavailable>
+    /// Adds a census with the rows of its tally and with its flag in one transaction, and answers its number. Whether its
+    /// member and token are kept already, whether the tally is that of its deposit, and whether the generation that it
+    /// counted is steady, is for the caller to see to.
+    pub fn add_census(
+        &mut self,
+        census: &Census,
+        tally: &Tally,
+        steady: bool,
+    ) -> Result<u64, Unavailable>
         // The codes of a tally that `tally` made ascend.
         requires { HasOrder tally.now }
         ensures goes { Goes self.old self.new }
         ensures value { Tells self.old.tables self.new.tables (λ k. IfOk result (λ n. n ≡ length k.censuses + 1)) }
-        ensures ok { OnOk result (AddsCensus self.old.tables self.new.tables (record { census = census.now; tally = tally.now })) }
+        ensures ok { OnOk result (AddsCensus self.old.tables self.new.tables (record { census = census.now; tally = tally.now; steady = steady })) }
         ensures err { OnErr result (Keeps self.old.tables self.new.tables) }
     {
         let count = self.count_censuses()?;
         let Some(id) = count.checked_add(1) else {
             return Err(Unavailable);
         };
-        censuses::insert(&mut self.conn, id, census, tally)?;
+        censuses::insert(&mut self.conn, id, census, tally, steady)?;
         Ok(id)
     }
 
@@ -233,6 +241,19 @@ impl<S: Alter> Archive<S> {
         };
         let rows = censuses::rows_of(&mut self.conn, place)?;
         all_rows(alloc, rows.as_slice())
+    }
+
+    /// The flag of the census of the number, or none: whether the generation that it counted is steady.
+    pub fn flag_of(&mut self, id: u64) -> Result<Option<bool>, Unavailable>
+        ensures goes { Goes self.old self.new }
+        ensures same { Keeps self.old.tables self.new.tables }
+        ensures value { Tells self.old.tables self.new.tables (λ k. IfOk result (λ b. b ≡ option_map (λ t. t.steady) (numbered k.censuses id))) }
+    {
+        let Ok(place) = i64::try_from(id) else {
+            return Ok(None);
+        };
+        let rows = flags::show(&mut self.conn, place)?;
+        first_flag(rows.as_slice())
     }
 
     /// How many clusters with the code there are in all censuses of deposits of the rule.

@@ -1,16 +1,18 @@
 //! Statements that are run outside a transaction, and the values that are bound to them.
 
-ghost use Rattle.std.specs.Prelude.{◌≡◌, ◌≤◌, Ok, IfOk, OnErr};
+ghost use Rattle.std.specs.Prelude.{◌≡◌, ◌≤◌, pos, Ok, IsTrue, IfOk, OnOk, OnErr};
 ghost use Rattle.sqlite_value.specs.declared.value.Value.TheVariants.{Int, Text, Blob};
 ghost use Rattle.sqlite_value.specs.Value.{owned};
 ghost use Rattle.sqlite_trees.specs.View.{doubt};
-ghost use Rattle.sqlite.specs.State.{HasCleanDisk, Shown, Executes};
+ghost use Rattle.sqlite.specs.State.{HasCleanDisk, Shown, Executes, KeepsCommit};
 ghost use Rattle.sqlite.specs.Held.{state};
 ghost use Rattle.sqlite.specs.Values.{bound};
 ghost use Rattle.life_store.specs.AskingState.{IsSeenAgain};
+ghost use Rattle.life_store.specs.Stored.{flag_number};
 
+use crate::fault::Unavailable;
 use sqlite::types::ValueRef;
-use sqlite::{Alter, Connection, Error, ErrorCode, Row};
+use sqlite::{Alter, Connection, Error, ErrorCode, Row, Transaction};
 
 /// An INTEGER of SQL.
 pub(crate) fn whole<'a>(n: i64) -> ValueRef<'a>
@@ -31,6 +33,17 @@ pub(crate) fn blob<'a>(bytes: &'a [u8]) -> ValueRef<'a>
     ensures { owned result ≡ Blob bytes.now }
 {
     ValueRef::Blob(bytes)
+}
+
+/// A truth value, as SQL has it: 1 or 0.
+pub(crate) fn flag<'a>(steady: bool) -> ValueRef<'a>
+    ensures { owned result ≡ Int (pos (flag_number steady)) }
+{
+    if steady {
+        ValueRef::Int(1)
+    } else {
+        ValueRef::Int(0)
+    }
 }
 
 /// All rows of the answer to a query. Where a transaction is open, the query is refused.
@@ -63,4 +76,19 @@ pub(crate) fn write<S: Alter>(
         return Err(Error::SqliteFailure(ErrorCode::TransactionState));
     }
     conn.execute(sql, params)
+}
+
+/// All rows of the answer to a query inside a transaction.
+pub(crate) fn ask_inside<S: Alter>(
+    tx: &mut Transaction<'_, S>,
+    sql: &str,
+    params: &[ValueRef<'_>],
+) -> Result<Vec<Row>, Unavailable>
+    ensures same_reference { tx.new.conn.ghost_name ≡ tx.old.conn.ghost_name }
+    ensures shown { HasCleanDisk (state S.Store tx.new.conn.now) → IfOk result (λ rows. Shown sql.now (bound params.now) (state S.Store tx.old.conn.now) (state S.Store tx.new.conn.now) rows.items) }
+    ensures inside { HasCleanDisk (state S.Store tx.new.conn.now) → IsTrue tx.old.conn.now.in_transaction → OnOk result (IsTrue tx.new.conn.now.in_transaction) }
+    ensures kept { HasCleanDisk (state S.Store tx.new.conn.now) → IsTrue tx.old.conn.now.in_transaction → KeepsCommit (state S.Store tx.old.conn.now) (state S.Store tx.new.conn.now) }
+    ensures clean { doubt (state S.Store tx.old.conn.now).is_clean ≤ doubt (state S.Store tx.new.conn.now).is_clean }
+{
+    Ok(tx.query_all(sql, params)?)
 }

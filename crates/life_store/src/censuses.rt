@@ -1,21 +1,21 @@
 //! The statements on the tables of censuses, one function for each.
 
-ghost use Rattle.std.specs.Prelude.{◌≡◌, ◌<◌, ◌≤◌, ◌+◌, ◌^◌, ◌++◌, ℕ, pos, false, List, [], ◌∷◌, length, map, option_map, IsTrue, IfOk, IfSome, OnOk, OnErr};
+ghost use Rattle.std.specs.Prelude.{◌≡◌, ◌<◌, ◌≤◌, ◌+◌, ◌^◌, ◌++◌, ℕ, pos, Bool, false, [], ◌∷◌, length, map, option_map, IsTrue, IfOk, IfSome, OnOk, OnErr};
 ghost use Rattle.sqlite_trees.specs.View.{doubt};
 ghost use Rattle.sqlite.specs.State.{HasCleanDisk, KeepsCommit};
 ghost use Rattle.sqlite.specs.Held.{state};
 ghost use Rattle.life_core.specs.Rule.{RuleSets, IsRule};
 ghost use Rattle.life_core.specs.RuleText.{rule_text};
 ghost use Rattle.life_census.specs.Rows.{row_seen};
-ghost use Rattle.life_store.specs.declared.kept.Deposit.{Deposit as Given};
 ghost use Rattle.life_store.specs.ReadingState.{newest_rows, ShowsCensus, ShowsTotal, row_shown};
 ghost use Rattle.life_store.specs.Kept.{Kept, Tallied, numbered, tallied_from, total_of};
-ghost use Rattle.life_store.specs.CensusesState.{Stands, Means};
+ghost use Rattle.life_store.specs.CensusesState.{Parts, Stands, Means, with_census, with_flag};
 ghost use Rattle.life_store.specs.Stored.{tagged};
 ghost use Rattle.life_store.specs.Tables.{tables_of, HasOrder, Holds, StaysLost, Keeps, Tells};
 
 use crate::asking::{ask, text, whole};
 use crate::fault::Unavailable;
+use crate::flags;
 use crate::kept::Census;
 use life_census::{Row as Counted, Tally};
 use sqlite::{Alter, Connection, Error, Row, Transaction};
@@ -85,7 +85,7 @@ fn insert_census<S: Alter>(
 ) -> Result<(), Unavailable>
     ensures same_reference { tx.new.conn.ghost_name ≡ tx.old.conn.ghost_name }
     ensures added { HasCleanDisk (state S.Store tx.new.conn.now) → IsTrue tx.old.conn.now.in_transaction
-        → (ds : List Given) (ts : List Tallied) (rs : List _) → Stands (state S.Store tx.old.conn.now).now ds ts rs → id ≡ length ts + 1 → OnOk result (IsTrue tx.new.conn.now.in_transaction × Stands (state S.Store tx.new.conn.now).now ds (ts ++ record { census = census.now; tally = tally.now } ∷ []) rs) }
+        → (p : Parts) (steady : Bool) → Stands (state S.Store tx.old.conn.now).now p → id ≡ length p.censuses + 1 → OnOk result (IsTrue tx.new.conn.now.in_transaction × Stands (state S.Store tx.new.conn.now).now (record p { censuses = p.censuses ++ record { census = census.now; tally = tally.now; steady = steady } ∷ [] })) }
     ensures inside { HasCleanDisk (state S.Store tx.new.conn.now) → IsTrue tx.old.conn.now.in_transaction → OnOk result (IsTrue tx.new.conn.now.in_transaction) }
     ensures kept { HasCleanDisk (state S.Store tx.new.conn.now) → IsTrue tx.old.conn.now.in_transaction → KeepsCommit (state S.Store tx.old.conn.now) (state S.Store tx.new.conn.now) }
     ensures clean { doubt (state S.Store tx.old.conn.now).is_clean ≤ doubt (state S.Store tx.new.conn.now).is_clean }
@@ -123,7 +123,7 @@ fn insert_row<S: Alter>(
 ) -> Result<(), Unavailable>
     ensures same_reference { tx.new.conn.ghost_name ≡ tx.old.conn.ghost_name }
     ensures added { HasCleanDisk (state S.Store tx.new.conn.now) → IsTrue tx.old.conn.now.in_transaction
-        → (ds : List Given) (ts : List Tallied) (rs : List _) → Stands (state S.Store tx.old.conn.now).now ds ts rs → OnOk result (IsTrue tx.new.conn.now.in_transaction × Stands (state S.Store tx.new.conn.now).now ds ts (rs ++ (id, row_seen row.now) ∷ [])) }
+        → (p : Parts) → Stands (state S.Store tx.old.conn.now).now p → OnOk result (IsTrue tx.new.conn.now.in_transaction × Stands (state S.Store tx.new.conn.now).now (record p { counts = p.counts ++ (id, row_seen row.now) ∷ [] })) }
     ensures inside { HasCleanDisk (state S.Store tx.new.conn.now) → IsTrue tx.old.conn.now.in_transaction → OnOk result (IsTrue tx.new.conn.now.in_transaction) }
     ensures kept { HasCleanDisk (state S.Store tx.new.conn.now) → IsTrue tx.old.conn.now.in_transaction → KeepsCommit (state S.Store tx.old.conn.now) (state S.Store tx.new.conn.now) }
     ensures clean { doubt (state S.Store tx.old.conn.now).is_clean ≤ doubt (state S.Store tx.new.conn.now).is_clean }
@@ -146,7 +146,7 @@ fn insert_rows<S: Alter>(
 ) -> Result<(), Unavailable>
     ensures same_reference { tx.new.conn.ghost_name ≡ tx.old.conn.ghost_name }
     ensures added { HasCleanDisk (state S.Store tx.new.conn.now) → IsTrue tx.old.conn.now.in_transaction
-        → (ds : List Given) (ts : List Tallied) (rs : List _) → Stands (state S.Store tx.old.conn.now).now ds ts rs → OnOk result (IsTrue tx.new.conn.now.in_transaction × Stands (state S.Store tx.new.conn.now).now ds ts (rs ++ tagged id (map row_seen rows.now))) }
+        → (p : Parts) → Stands (state S.Store tx.old.conn.now).now p → OnOk result (IsTrue tx.new.conn.now.in_transaction × Stands (state S.Store tx.new.conn.now).now (record p { counts = p.counts ++ tagged id (map row_seen rows.now) })) }
     ensures inside { HasCleanDisk (state S.Store tx.new.conn.now) → IsTrue tx.old.conn.now.in_transaction → OnOk result (IsTrue tx.new.conn.now.in_transaction) }
     ensures kept { HasCleanDisk (state S.Store tx.new.conn.now) → IsTrue tx.old.conn.now.in_transaction → KeepsCommit (state S.Store tx.old.conn.now) (state S.Store tx.new.conn.now) }
     ensures clean { doubt (state S.Store tx.old.conn.now).is_clean ≤ doubt (state S.Store tx.new.conn.now).is_clean }
@@ -165,7 +165,7 @@ fn insert_tally<S: Alter>(
 ) -> Result<(), Unavailable>
     ensures same_reference { tx.new.conn.ghost_name ≡ tx.old.conn.ghost_name }
     ensures added { HasCleanDisk (state S.Store tx.new.conn.now) → IsTrue tx.old.conn.now.in_transaction
-        → (ds : List Given) (ts : List Tallied) (rs : List _) → Stands (state S.Store tx.old.conn.now).now ds ts rs → OnOk result (IsTrue tx.new.conn.now.in_transaction × Stands (state S.Store tx.new.conn.now).now ds ts (rs ++ tagged id tally.now.rows)) }
+        → (p : Parts) → Stands (state S.Store tx.old.conn.now).now p → OnOk result (IsTrue tx.new.conn.now.in_transaction × Stands (state S.Store tx.new.conn.now).now (record p { counts = p.counts ++ tagged id tally.now.rows })) }
     ensures inside { HasCleanDisk (state S.Store tx.new.conn.now) → IsTrue tx.old.conn.now.in_transaction → OnOk result (IsTrue tx.new.conn.now.in_transaction) }
     ensures kept { HasCleanDisk (state S.Store tx.new.conn.now) → IsTrue tx.old.conn.now.in_transaction → KeepsCommit (state S.Store tx.old.conn.now) (state S.Store tx.new.conn.now) }
     ensures clean { doubt (state S.Store tx.old.conn.now).is_clean ≤ doubt (state S.Store tx.new.conn.now).is_clean }
@@ -182,8 +182,8 @@ fn insert_with_rows<S: Alter>(
 ) -> Result<(), Unavailable>
     ensures same_reference { tx.new.conn.ghost_name ≡ tx.old.conn.ghost_name }
     ensures added { HasCleanDisk (state S.Store tx.new.conn.now) → IsTrue tx.old.conn.now.in_transaction
-        → (ds : List Given) (ts : List Tallied) (rs : List _) → Stands (state S.Store tx.old.conn.now).now ds ts rs → id ≡ length ts + 1
-        → OnOk result (IsTrue tx.new.conn.now.in_transaction × Stands (state S.Store tx.new.conn.now).now ds (ts ++ record { census = census.now; tally = tally.now } ∷ []) (rs ++ tagged id tally.now.rows)) }
+        → (p : Parts) (steady : Bool) → Stands (state S.Store tx.old.conn.now).now p → id ≡ length p.censuses + 1
+        → OnOk result (IsTrue tx.new.conn.now.in_transaction × Stands (state S.Store tx.new.conn.now).now (with_census id (record { census = census.now; tally = tally.now; steady = steady }) p)) }
     ensures inside { HasCleanDisk (state S.Store tx.new.conn.now) → IsTrue tx.old.conn.now.in_transaction → OnOk result (IsTrue tx.new.conn.now.in_transaction) }
     ensures kept { HasCleanDisk (state S.Store tx.new.conn.now) → IsTrue tx.old.conn.now.in_transaction → KeepsCommit (state S.Store tx.old.conn.now) (state S.Store tx.new.conn.now) }
     ensures clean { doubt (state S.Store tx.old.conn.now).is_clean ≤ doubt (state S.Store tx.new.conn.now).is_clean }
@@ -193,23 +193,45 @@ fn insert_with_rows<S: Alter>(
     insert_tally(tx, id, tally)
 }
 
+/// The census under the number, the rows of its tally, and its flag.
+fn insert_with_flag<S: Alter>(
+    tx: &mut Transaction<'_, S>,
+    id: u64,
+    census: &Census,
+    tally: &Tally,
+    steady: bool,
+) -> Result<(), Unavailable>
+    ensures same_reference { tx.new.conn.ghost_name ≡ tx.old.conn.ghost_name }
+    ensures added { HasCleanDisk (state S.Store tx.new.conn.now) → IsTrue tx.old.conn.now.in_transaction
+        → (p : Parts) (t : Tallied) → t ≡ record { census = census.now; tally = tally.now; steady = steady } → Stands (state S.Store tx.old.conn.now).now p → id ≡ length p.censuses + 1 → id ≡ length p.flagged + 1
+        → OnOk result (IsTrue tx.new.conn.now.in_transaction × Stands (state S.Store tx.new.conn.now).now (with_flag t (with_census id t p))) }
+    ensures inside { HasCleanDisk (state S.Store tx.new.conn.now) → IsTrue tx.old.conn.now.in_transaction → OnOk result (IsTrue tx.new.conn.now.in_transaction) }
+    ensures kept { HasCleanDisk (state S.Store tx.new.conn.now) → IsTrue tx.old.conn.now.in_transaction → KeepsCommit (state S.Store tx.old.conn.now) (state S.Store tx.new.conn.now) }
+    ensures clean { doubt (state S.Store tx.old.conn.now).is_clean ≤ doubt (state S.Store tx.new.conn.now).is_clean }
+    ensures few { OnOk result (id < 2 ^ 63) }
+{
+    insert_with_rows(tx, id, census, tally)?;
+    flags::insert(tx, id, steady)
+}
+
 /// The same in one transaction, which is rolled back where it fails.
 fn insert_all<S: Alter>(
     conn: &mut Connection<S>,
     id: u64,
     census: &Census,
     tally: &Tally,
+    steady: bool,
 ) -> Result<(), Unavailable>
     requires { conn.old.in_transaction ≡ false }
-    ensures added { HasCleanDisk (state S.Store conn.new) → (ds : List Given) (ts : List Tallied) (rs : List _) → Means (state S.Store conn.old) ds ts rs → id ≡ length ts + 1
-        → OnOk result (Means (state S.Store conn.new) ds (ts ++ record { census = census.now; tally = tally.now } ∷ []) (rs ++ tagged id tally.now.rows)) }
-    ensures undone { HasCleanDisk (state S.Store conn.new) → (ds : List Given) (ts : List Tallied) (rs : List _) → Means (state S.Store conn.old) ds ts rs → OnErr result (Means (state S.Store conn.new) ds ts rs) }
+    ensures added { HasCleanDisk (state S.Store conn.new) → (p : Parts) (t : Tallied) → t ≡ record { census = census.now; tally = tally.now; steady = steady } → Means (state S.Store conn.old) p → id ≡ length p.censuses + 1 → id ≡ length p.flagged + 1
+        → OnOk result (Means (state S.Store conn.new) (with_flag t (with_census id t p))) }
+    ensures undone { HasCleanDisk (state S.Store conn.new) → (p : Parts) → Means (state S.Store conn.old) p → OnErr result (Means (state S.Store conn.new) p) }
     ensures few { OnOk result (id < 2 ^ 63) }
     ensures was_open { HasCleanDisk (state S.Store conn.new) → IsTrue (state S.Store conn.new).is_open → IsTrue (state S.Store conn.old).is_open }
     ensures clean { doubt (state S.Store conn.old).is_clean ≤ doubt (state S.Store conn.new).is_clean }
 {
     let mut tx = conn.transaction();
-    match insert_with_rows(&mut tx, id, census, tally) {
+    match insert_with_flag(&mut tx, id, census, tally, steady) {
         Ok(()) => match tx.commit() {
             Ok(()) => Ok(()),
             Err(_) => Err(Unavailable),
@@ -218,22 +240,23 @@ fn insert_all<S: Alter>(
     }
 }
 
-/// Adds the census under the number, and the rows of its tally; or nothing of them.
+/// Adds the census under the number, the rows of its tally, and its flag; or nothing of them.
 pub(crate) fn insert<S: Alter>(
     conn: &mut Connection<S>,
     id: u64,
     census: &Census,
     tally: &Tally,
+    steady: bool,
 ) -> Result<(), Unavailable>
     requires { HasOrder tally.now }
     ensures lost { StaysLost (tables_of (state S.Store conn.old)) (tables_of (state S.Store conn.new)) }
-    ensures ok { OnOk result ((k : Kept) → IsTrue (tables_of (state S.Store conn.new)).is_sure → Holds (tables_of (state S.Store conn.old)) k → id ≡ length k.censuses + 1 → Holds (tables_of (state S.Store conn.new)) (record k { censuses = k.censuses ++ record { census = census.now; tally = tally.now } ∷ [] })) }
+    ensures ok { OnOk result ((k : Kept) → IsTrue (tables_of (state S.Store conn.new)).is_sure → Holds (tables_of (state S.Store conn.old)) k → id ≡ length k.censuses + 1 → Holds (tables_of (state S.Store conn.new)) (record k { censuses = k.censuses ++ record { census = census.now; tally = tally.now; steady = steady } ∷ [] })) }
     ensures err { OnErr result (Keeps (tables_of (state S.Store conn.old)) (tables_of (state S.Store conn.new))) }
 {
     if !conn.is_autocommit() {
         return Err(Unavailable);
     }
-    insert_all(conn, id, census, tally)
+    insert_all(conn, id, census, tally, steady)
 }
 
 /// How many clusters with the code the censuses have whose deposits have the rule.

@@ -1,9 +1,11 @@
 //! What makes the definitions of archives believable.
-ghost use Rattle.life_store.specs.Laws.{BlankFilesListNothing, OneMeaning};
+ghost use Rattle.life_store.specs.Laws.{BlankFilesListNothing, OneMeaning, OneFirstMeaning};
 
 /// What the definitions mean: files in which nothing was written yet list no table, so an archive opened over them is
-/// empty; and rows stand for one list of deposits and one list of censuses at most. A law: calling it does nothing.
+/// empty; and rows stand for one list of deposits and one list of censuses at most, in layout 1 but for the flags. A law:
+/// calling it does nothing.
 pub fn laws_of_archives()
     ensures blank { BlankFilesListNothing }
     ensures one { OneMeaning }
+    ensures first { OneFirstMeaning }
 {}

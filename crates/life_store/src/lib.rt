@@ -6,9 +6,11 @@
 
 mod archive;
 mod asking;
+mod carrying;
 mod censuses;
 mod deposits;
 mod fault;
+mod flags;
 mod kept;
 mod laws;
 mod laying;

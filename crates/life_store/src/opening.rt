@@ -1,22 +1,28 @@
-//! Archives as they are opened and closed. In a database in which none of the tables stands they are made.
+//! Archives as they are opened and closed. In a database in which none of the tables stands they are made, and the tables
+//! of layout 1 are carried over.
 
 ghost use Rattle.std.specs.Prelude.{◌≡◌, ◌≢◌, ◌↔◌, ◌≤◌, Ok, Err, false, List, [], IsTrue, IfOk, IfErr, OnOk};
 ghost use Rattle.sqlite_value.specs.declared.value.Value.{Value};
 ghost use Rattle.sqlite_trees.specs.View.{doubt};
-ghost use Rattle.sqlite.specs.State.{HasCleanDisk};
+ghost use Rattle.sqlite.specs.State.{HasCleanDisk, IsLive};
 ghost use Rattle.sqlite.specs.Held.{state};
+ghost use Rattle.sqlite.specs.Closing.{IsCopied};
 ghost use Rattle.sqlite.specs.Files.{file_state, image_of};
 ghost use Rattle.sqlite_wal.specs.Files.{image_at};
 ghost use Rattle.sqlite_wal.specs.Reads.{AreClean};
+ghost use Rattle.sqlite_schema.specs.declared.schema.Schema.{Schema as SchemaValue};
+ghost use Rattle.life_store.specs.Carrying.{CarriedOver};
+ghost use Rattle.life_store.specs.CarryingState.{Carries};
 ghost use Rattle.life_store.specs.Kept.{Kept};
 ghost use Rattle.life_store.specs.LayingState.{IsLaid};
 ghost use Rattle.life_store.specs.Layout.{no_schema};
-ghost use Rattle.life_store.specs.Opening.{is_capacity, nothing_kept, known_versions, FilesHaveVersions, FilesHold, ListNothing};
-ghost use Rattle.life_store.specs.OpeningState.{HaveVersions, has_table, has_view, has_name, has_some, version_shown};
+ghost use Rattle.life_store.specs.Opening.{is_capacity, nothing_kept, IsLayout, FilesHaveVersions, FilesHold, FilesHoldFirst, ListNothing};
+ghost use Rattle.life_store.specs.OpeningState.{HaveVersions, has_table, has_view, has_name, has_some, column_of, version_shown, version_with, rows_of_version, schema_of};
 ghost use Rattle.life_store.specs.Tables.{tables_of, Holds, Keeps};
 
 use crate::archive::Archive;
 use crate::asking::ask;
+use crate::carrying::carry_over;
 use crate::fault::{OpenFault, Unavailable};
 use crate::laying::lay_out;
 use sqlite::types::ValueRef;
@@ -67,20 +73,30 @@ fn has_some(schema: &Schema) -> bool
         || has_name(schema, b"deposits")
         || has_name(schema, b"censuses")
         || has_name(schema, b"census_rows")
+        || has_name(schema, b"census_flags")
+}
+
+/// The layout of an archive's tables.
+#[derive(Clone, Copy, Debug, PartialEq, Eq)]
+enum Version {
+    /// Without a table of flags.
+    First,
+    /// With one.
+    Second,
 }
 
 /// The rows that name the layout.
 fn versions<S: Alter>(conn: &mut Connection<S>) -> Result<Vec<Row>, Error>
-    ensures keeps { Keeps (tables_of (state S.Store conn.old)) (tables_of (state S.Store conn.new)) }
-    ensures tells { (versions : List Value) → IsTrue (tables_of (state S.Store conn.new)).is_sure → HaveVersions (tables_of (state S.Store conn.old)) versions → IfOk result (λ rows. (rows.items ≡ version_shown) ↔ (versions ≡ known_versions)) }
+    ensures same { (schema : SchemaValue) (own : List Value) → IsLayout schema own → IsTrue (tables_of (state S.Store conn.new)).is_sure → (state S.Store conn.old).now.schema ≡ schema → (state S.Store conn.new).now ≡ (state S.Store conn.old).now }
+    ensures tells { (schema : SchemaValue) (own versions : List Value) → IsLayout schema own → IsTrue (tables_of (state S.Store conn.new)).is_sure → HaveVersions schema (tables_of (state S.Store conn.old)) versions → IfOk result (λ rows. (rows.items ≡ column_of own) ↔ (versions ≡ own)) }
     ensures clean { doubt (state S.Store conn.old).is_clean ≤ doubt (state S.Store conn.new).is_clean }
 {
     ask(conn, "SELECT * FROM layout ORDER BY 1 LIMIT 2", &[])
 }
 
-/// Whether the rows are the one that is known.
-fn is_known(rows: &[Row]) -> bool
-    ensures { IsTrue result ↔ (rows.now ≡ version_shown) }
+/// Whether the rows are version 1 alone.
+fn is_version_1(rows: &[Row]) -> bool
+    ensures { IsTrue result ↔ (rows.now ≡ version_shown 1) }
 {
     match rows {
         [row] => row.get_ref(1).is_err() && matches!(row.get_ref(0), Ok(ValueRef::Int(1))),
@@ -88,12 +104,78 @@ fn is_known(rows: &[Row]) -> bool
     }
 }
 
-/// Sees that the tables are those of an archive; where none of them stands, makes them.
-fn prepare<S: Alter>(conn: &mut Connection<S>) -> Result<(), OpenFault>
+/// Whether the rows are version 2 alone.
+fn is_version_2(rows: &[Row]) -> bool
+    ensures { IsTrue result ↔ (rows.now ≡ version_shown 2) }
+{
+    match rows {
+        [row] => row.get_ref(1).is_err() && matches!(row.get_ref(0), Ok(ValueRef::Int(2))),
+        _ => false,
+    }
+}
+
+/// The version of the tables, if it is the one that the rows name.
+fn version_named(has_flags: bool, rows: &[Row]) -> Result<Version, OpenFault>
+    ensures found { IfOk result (λ v. (v ≡ version_with has_flags) × (rows.now ≡ rows_of_version v)) }
+    ensures named { rows.now ≡ rows_of_version (version_with has_flags) → result ≢ Err OpenFault.NotOurs }
+    ensures fits { result ≢ Err OpenFault.BadCapacity }
+{
+    if has_flags {
+        if is_version_2(rows) {
+            return Ok(Version::Second);
+        }
+        return Err(OpenFault::NotOurs);
+    }
+    if is_version_1(rows) {
+        return Ok(Version::First);
+    }
+    Err(OpenFault::NotOurs)
+}
+
+/// The version of the tables, some of which stand.
+fn version_of<S: Alter>(conn: &mut Connection<S>) -> Result<Version, OpenFault>
+    ensures same { OnOk result ((schema : SchemaValue) (own : List Value) → IsLayout schema own → IsTrue (tables_of (state S.Store conn.new)).is_sure → (state S.Store conn.old).now.schema ≡ schema → (state S.Store conn.new).now ≡ (state S.Store conn.old).now) }
+    ensures found { (schema : SchemaValue) (own versions : List Value) → IsLayout schema own → IsTrue (tables_of (state S.Store conn.new)).is_sure → HaveVersions schema (tables_of (state S.Store conn.old)) versions → IfOk result (λ v. (versions ≡ own) × (schema ≡ schema_of v)) }
+    ensures ours { (schema : SchemaValue) (own : List Value) → IsLayout schema own → IsTrue (tables_of (state S.Store conn.new)).is_sure → HaveVersions schema (tables_of (state S.Store conn.old)) own → result ≢ Err OpenFault.NotOurs }
+    ensures fits { result ≢ Err OpenFault.BadCapacity }
+    ensures clean { doubt (state S.Store conn.old).is_clean ≤ doubt (state S.Store conn.new).is_clean }
+{
+    if !has_table(conn.schema().tables.as_slice(), b"layout") {
+        return Err(OpenFault::NotOurs);
+    }
+    let has_flags = has_table(conn.schema().tables.as_slice(), b"census_flags");
+    match versions(conn) {
+        Ok(rows) => version_named(has_flags, rows.as_slice()),
+        Err(_) => Err(OpenFault::Unavailable),
+    }
+}
+
+/// Sees that the tables, some of which stand, are those of an archive, and carries those of layout 1 over.
+fn take_up<S: Alter>(alloc: Global, conn: &mut Connection<S>) -> Result<(), OpenFault>
     ensures keeps { OnOk result (Keeps (tables_of (state S.Store conn.old)) (tables_of (state S.Store conn.new))) }
+    ensures carries { OnOk result (Carries (tables_of (state S.Store conn.old)) (tables_of (state S.Store conn.new))) }
+    ensures known { OnOk result ((schema : SchemaValue) (own versions : List Value) → IsLayout schema own → IsTrue (tables_of (state S.Store conn.new)).is_sure → HaveVersions schema (tables_of (state S.Store conn.old)) versions → versions ≡ own) }
+    ensures ours { (schema : SchemaValue) (own : List Value) → IsLayout schema own → IsTrue (tables_of (state S.Store conn.new)).is_sure → HaveVersions schema (tables_of (state S.Store conn.old)) own → result ≢ Err OpenFault.NotOurs }
+    ensures fits { result ≢ Err OpenFault.BadCapacity }
+    ensures clean { doubt (state S.Store conn.old).is_clean ≤ doubt (state S.Store conn.new).is_clean }
+{
+    match version_of(conn) {
+        Ok(Version::Second) => Ok(()),
+        Ok(Version::First) => match carry_over(alloc, conn) {
+            Ok(()) => Ok(()),
+            Err(_) => Err(OpenFault::Unavailable),
+        },
+        Err(fault) => Err(fault),
+    }
+}
+
+/// Sees that the tables are those of an archive; where none of them stands, makes them.
+fn prepare<S: Alter>(alloc: Global, conn: &mut Connection<S>) -> Result<(), OpenFault>
+    ensures keeps { OnOk result (Keeps (tables_of (state S.Store conn.old)) (tables_of (state S.Store conn.new))) }
+    ensures carries { OnOk result (Carries (tables_of (state S.Store conn.old)) (tables_of (state S.Store conn.new))) }
     ensures fresh { HasCleanDisk (state S.Store conn.new) → IsLaid no_schema [] (state S.Store conn.old).now → OnOk result (IsTrue (tables_of (state S.Store conn.new)).is_sure × Holds (tables_of (state S.Store conn.new)) nothing_kept) }
-    ensures known { (versions : List Value) → IsTrue (tables_of (state S.Store conn.new)).is_sure → HaveVersions (tables_of (state S.Store conn.old)) versions → OnOk result (versions ≡ known_versions) }
-    ensures ours { IsTrue (tables_of (state S.Store conn.new)).is_sure → HaveVersions (tables_of (state S.Store conn.old)) known_versions → result ≢ Err OpenFault.NotOurs }
+    ensures known { OnOk result ((schema : SchemaValue) (own versions : List Value) → IsLayout schema own → IsTrue (tables_of (state S.Store conn.new)).is_sure → HaveVersions schema (tables_of (state S.Store conn.old)) versions → versions ≡ own) }
+    ensures ours { (schema : SchemaValue) (own : List Value) → IsLayout schema own → IsTrue (tables_of (state S.Store conn.new)).is_sure → HaveVersions schema (tables_of (state S.Store conn.old)) own → result ≢ Err OpenFault.NotOurs }
     ensures none { (state S.Store conn.old).now.schema ≡ no_schema → result ≢ Err OpenFault.NotOurs }
     ensures fits { result ≢ Err OpenFault.BadCapacity }
     ensures clean { doubt (state S.Store conn.old).is_clean ≤ doubt (state S.Store conn.new).is_clean }
@@ -107,14 +189,7 @@ fn prepare<S: Alter>(conn: &mut Connection<S>) -> Result<(), OpenFault>
             Err(_) => Err(OpenFault::Unavailable),
         };
     }
-    if !has_table(conn.schema().tables.as_slice(), b"layout") {
-        return Err(OpenFault::NotOurs);
-    }
-    match versions(conn) {
-        Ok(rows) if is_known(rows.as_slice()) => Ok(()),
-        Ok(_) => Err(OpenFault::NotOurs),
-        Err(_) => Err(OpenFault::Unavailable),
-    }
+    take_up(alloc, conn)
 }
 
 impl Archive<MemStore> {
@@ -137,6 +212,32 @@ impl Archive<MemStore> {
     }
 }
 
+/// The connection of the archive; where a transaction is open, its store alone.
+fn settled<S: Alter + Drop>(archive: Archive<S>) -> Result<Connection<S>, S>
+    ensures tables { IfOk result (λ conn. tables_of (state S.Store conn) ≡ archive.tables) }
+    ensures live { IfOk result (λ conn. IsLive (state S.Store conn)) }
+    ensures settled { IfOk result (λ conn. IsTrue (state S.Store conn).is_open → (state S.Store conn).now ≡ (state S.Store conn).committed) }
+{
+    let conn = archive.into_connection();
+    // What it says of the tables is wanted: a connection obeys them.
+    let _tables = conn.schema();
+    if !conn.is_autocommit() {
+        return Err(conn.into_store());
+    }
+    Ok(conn)
+}
+
+/// Closes the connection, and gives its files back, also where the close is refused.
+fn close<D: Disk + Drop>(conn: Connection<FileStore<D>>) -> Result<Files<D>, Files<D>>
+    ensures usable { IfOk result (λ files. IsTrue (D.Disk.is_usable files.log) × IsTrue (D.Disk.is_usable files.db)) }
+    ensures copied { IfOk result (λ files. AreClean D.Disk files.log files.db → IsCopied conn files) }
+{
+    match conn.close_files() {
+        Ok(files) => Ok(files),
+        Err((_, store)) => Err(store.close()),
+    }
+}
+
 /// The fault, and the files. Those of a database that is not an archive's are closed as `close_files`
 /// closes them; others are given back with no IO.
 fn refused<D: Disk + Drop>(
@@ -150,37 +251,40 @@ fn refused<D: Disk + Drop>(
     if fault != OpenFault::NotOurs {
         return (fault, conn.into_store().close());
     }
-    match conn.close_files() {
+    match close(conn) {
         Ok(files) => (fault, files),
-        Err((_, store)) => (OpenFault::Unavailable, store.close()),
+        Err(files) => (OpenFault::Unavailable, files),
     }
 }
 
 /// The connection as an archive, once its tables were seen to; else the files.
 fn archive_over<D: Disk + Drop>(
+    alloc: Global,
     conn: Connection<FileStore<D>>,
     capacity: u64,
 ) -> Result<Archive<FileStore<D>>, (OpenFault, Files<D>)>
     ensures capacity { IfOk result (λ a. a.capacity ≡ capacity) }
     ensures found { IfOk result (λ a. (k : Kept) → IsTrue a.tables.is_sure → Holds (tables_of (file_state conn)) k → Holds a.tables k) }
+    ensures carries { IfOk result (λ a. Carries (tables_of (file_state conn)) a.tables) }
     ensures fresh { IfOk result (λ a. IsTrue a.tables.is_sure → IsLaid no_schema [] (file_state conn).now → Holds a.tables nothing_kept) }
     ensures fits { IfErr result (λ e. e.0 ≢ OpenFault.BadCapacity) }
-    ensures known { IfOk result (λ a. (versions : List Value) → IsTrue a.tables.is_sure → HaveVersions (tables_of (file_state conn)) versions → versions ≡ known_versions) }
-    ensures ours { IfErr result (λ e. AreClean D.Disk e.1.log e.1.db → e.0 ≡ OpenFault.NotOurs → HasCleanDisk (file_state conn) × (HaveVersions (tables_of (file_state conn)) known_versions → ⊥)) }
+    ensures known { IfOk result (λ a. (schema : SchemaValue) (own versions : List Value) → IsLayout schema own → IsTrue a.tables.is_sure → HaveVersions schema (tables_of (file_state conn)) versions → versions ≡ own) }
+    ensures ours { IfErr result (λ e. AreClean D.Disk e.1.log e.1.db → e.0 ≡ OpenFault.NotOurs → HasCleanDisk (file_state conn) × ((schema : SchemaValue) (own : List Value) → IsLayout schema own → HaveVersions schema (tables_of (file_state conn)) own → ⊥)) }
     ensures none { (file_state conn).now.schema ≡ no_schema → IfErr result (λ e. e.0 ≢ OpenFault.NotOurs) }
     ensures clean { IfOk result (λ a. IsTrue a.tables.is_sure → HasCleanDisk (file_state conn)) }
 {
     let mut conn = conn;
-    match prepare(&mut conn) {
+    match prepare(alloc, &mut conn) {
         Ok(()) => Ok(Archive { conn, capacity }),
         Err(fault) => Err(refused(conn, fault)),
     }
 }
 
 impl<D: Disk + Drop> Archive<FileStore<D>> {
-    /// The archive that the files hold; where they hold none of its tables, a new one. What the capacity was before plays
-    /// no part. A refused opening gives the files back: with BadCapacity as they were, and with NotOurs once they were
-    /// closed.
+    /// The archive that the files hold; where they hold none of its tables, a new one. An archive of layout 1 is carried
+    /// over in one transaction, in which each census gets its flag; where that fails, it is Unavailable and the
+    /// transaction is rolled back. What the capacity was before plays no part. A refused opening gives the files back: with
+    /// BadCapacity as they were, and with NotOurs once they were closed.
     pub fn open_files(
         alloc: Global,
         files: Files<D>,
@@ -190,13 +294,14 @@ impl<D: Disk + Drop> Archive<FileStore<D>> {
         requires db { IsTrue (D.Disk.is_usable files.db) }
         ensures capacity { IfOk result (λ a. (a.capacity ≡ capacity) × IsTrue (is_capacity capacity)) }
         ensures found { IfOk result (λ a. (k : Kept) → IsTrue a.tables.is_sure → FilesHold (image_of D.Disk files) k → Holds a.tables k) }
+        ensures carried { IfOk result (λ a. (k : Kept) → IsTrue a.tables.is_sure → FilesHoldFirst (image_of D.Disk files) k → CarriedOver a.tables k) }
         ensures fresh { IfOk result (λ a. IsTrue a.tables.is_sure → ListNothing (image_of D.Disk files) → Holds a.tables nothing_kept) }
         ensures honest { IfOk result (λ a. IsTrue a.tables.is_sure → AreClean D.Disk files.log files.db) }
-        ensures known { IfOk result (λ a. (versions : List Value) → IsTrue a.tables.is_sure → FilesHaveVersions (image_of D.Disk files) versions → versions ≡ known_versions) }
+        ensures known { IfOk result (λ a. (schema : SchemaValue) (own versions : List Value) → IsLayout schema own → IsTrue a.tables.is_sure → FilesHaveVersions schema (image_of D.Disk files) versions → versions ≡ own) }
         ensures bad { IfErr result (λ e. (e.0 ≡ OpenFault.BadCapacity) ↔ (is_capacity capacity ≡ false)) }
         ensures back { IfErr result (λ e. e.0 ≡ OpenFault.BadCapacity → e.1 ≡ files) }
         ensures ours { IfErr result (λ e. (k : Kept) → AreClean D.Disk e.1.log e.1.db → FilesHold (image_of D.Disk files) k → e.0 ≢ OpenFault.NotOurs) }
-        ensures versions { IfErr result (λ e. AreClean D.Disk e.1.log e.1.db → FilesHaveVersions (image_of D.Disk files) known_versions → e.0 ≢ OpenFault.NotOurs) }
+        ensures versions { IfErr result (λ e. (schema : SchemaValue) (own : List Value) → IsLayout schema own → AreClean D.Disk e.1.log e.1.db → FilesHaveVersions schema (image_of D.Disk files) own → e.0 ≢ OpenFault.NotOurs) }
         ensures none { IfErr result (λ e. AreClean D.Disk e.1.log e.1.db → ListNothing (image_of D.Disk files) → e.0 ≢ OpenFault.NotOurs) }
         ensures clean { IfErr result (λ e. AreClean D.Disk e.1.log e.1.db → e.0 ≡ OpenFault.NotOurs → AreClean D.Disk files.log files.db) }
     {
@@ -204,7 +309,7 @@ impl<D: Disk + Drop> Archive<FileStore<D>> {
             return Err((OpenFault::BadCapacity, files));
         }
         match Connection::open_files(alloc, files, Options::new(SEED)) {
-            Ok(conn) => archive_over(conn, capacity),
+            Ok(conn) => archive_over(alloc, conn, capacity),
             Err((_, left)) => Err((OpenFault::Unavailable, left.into_files())),
         }
     }
@@ -215,15 +320,12 @@ impl<D: Disk + Drop> Archive<FileStore<D>> {
         ensures usable { IfOk result (λ files. IsTrue (D.Disk.is_usable files.log) × IsTrue (D.Disk.is_usable files.db)) }
         ensures held { IfOk result (λ files. (k : Kept) → AreClean D.Disk files.log files.db → Holds self.tables k → FilesHold (image_of D.Disk files) k) }
     {
-        let conn = self.into_connection();
-        // What it says of the tables is wanted: a connection obeys them.
-        let _tables = conn.schema();
-        if !conn.is_autocommit() {
-            return Err((Unavailable, conn.into_store().close()));
-        }
-        match conn.close_files() {
-            Ok(files) => Ok(files),
-            Err((_, store)) => Err((Unavailable, store.close())),
+        match settled(self) {
+            Ok(conn) => match close(conn) {
+                Ok(files) => Ok(files),
+                Err(files) => Err((Unavailable, files)),
+            },
+            Err(store) => Err((Unavailable, store.close())),
         }
     }
 }
@@ -249,9 +351,9 @@ impl<D: Disk + Drop> Archive<FileStore<D>> {
 }
 
 impl<T: Start> Archive<FileStore<FileFrom<T>>> {
-    /// The archive in the file of the path, and in the log beside it; where they hold none of its tables, a new one. `start`
-    /// says what the two files are taken to hold: `sqlite::Unknown` says nothing of files that are not empty. A refused
-    /// opening drops the files.
+    /// The archive in the file of the path, and in the log beside it; where they hold none of its tables, a new one. An
+    /// archive of layout 1 is carried over, as `open_files` does it. `start` says what the two files are taken to hold:
+    /// `sqlite::Unknown` says nothing of files that are not empty. A refused opening drops the files.
     pub fn open_path(
         rt: &HostRuntime,
         path: &str,
@@ -260,8 +362,9 @@ impl<T: Start> Archive<FileStore<FileFrom<T>>> {
     ) -> Result<Archive<FileStore<FileFrom<T>>>, OpenFault>
         ensures capacity { IfOk result (λ a. (a.capacity ≡ capacity) × IsTrue (is_capacity capacity)) }
         ensures found { IfOk result (λ a. (k : Kept) → IsTrue a.tables.is_sure → FilesHold (image_at T.Start) k → Holds a.tables k) }
+        ensures carried { IfOk result (λ a. (k : Kept) → IsTrue a.tables.is_sure → FilesHoldFirst (image_at T.Start) k → CarriedOver a.tables k) }
         ensures fresh { IfOk result (λ a. IsTrue a.tables.is_sure → ListNothing (image_at T.Start) → Holds a.tables nothing_kept) }
-        ensures known { IfOk result (λ a. (versions : List Value) → IsTrue a.tables.is_sure → FilesHaveVersions (image_at T.Start) versions → versions ≡ known_versions) }
+        ensures known { IfOk result (λ a. (schema : SchemaValue) (own versions : List Value) → IsLayout schema own → IsTrue a.tables.is_sure → FilesHaveVersions schema (image_at T.Start) versions → versions ≡ own) }
         ensures bad { (result ≡ Err OpenFault.BadCapacity) ↔ (is_capacity capacity ≡ false) }
     {
         if !is_capacity(capacity) {
@@ -270,7 +373,7 @@ impl<T: Start> Archive<FileStore<FileFrom<T>>> {
         let Ok(conn) = Connection::open_from(rt, path, false, start) else {
             return Err(OpenFault::Unavailable);
         };
-        match archive_over(conn, capacity) {
+        match archive_over(rt.alloc(), conn, capacity) {
             Ok(archive) => Ok(archive),
             Err((fault, _)) => Err(fault),
         }

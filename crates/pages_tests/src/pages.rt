@@ -211,7 +211,7 @@ const CENSUS_PAGES: [Page; 5] = [
         "/censuses/1",
         "200 OK",
         "application/json",
-        "{\"census\":1,\"clusters\":2,\"deposit\":1,\"generation\":0,\"limit\":1,\"rows\":[{\"code\":\"xs4_33\",\"count\":2}],\"unresolved\":0}",
+        "{\"census\":1,\"clusters\":2,\"deposit\":1,\"generation\":0,\"limit\":1,\"rows\":[{\"code\":\"xs4_33\",\"count\":2}],\"steady\":true,\"unresolved\":0}",
     ),
     (
         "/objects/B3S23/xs4_33/1",
@@ -259,7 +259,7 @@ const GOOD_AND_BAD: [(&str, &str); 2] = [
 ];
 
 /// Pages of the deposit, and pages that are none.
-const PAGES: [Page; 7] = [
+const PAGES: [Page; 9] = [
     ("/deposits/x", "404 Not Found", "application/json", NO_PAGE),
     ("/deposits/1/", "404 Not Found", "application/json", NO_PAGE),
     ("*", "404 Not Found", "application/json", NO_PAGE),
@@ -270,13 +270,25 @@ const PAGES: [Page; 7] = [
         "{\"error\":\"bad-method\",\"refusal\":13}",
     ),
     (
-        "/deposits/1/at/1024",
+        "/deposits/1/at/1025",
+        "200 OK",
+        "text/plain",
+        "x = 3, y = 3, rule = B3/S23\nobo$b2o$bo!\n",
+    ),
+    (
+        "/deposits/1/at/2048",
         "200 OK",
         "text/plain",
         "x = 3, y = 3, rule = B3/S23\nbo$2bo$3o!\n",
     ),
     (
         "/deposits/9/at/1025",
+        "404 Not Found",
+        "application/json",
+        "{\"error\":\"no-such-deposit\",\"refusal\":1}",
+    ),
+    (
+        "/deposits/9/at/2049",
         "400 Bad Request",
         "application/json",
         "{\"error\":\"out-of-limit\",\"refusal\":6}",

@@ -238,10 +238,11 @@ pub fn is_of_two_blocks<S: Alter>(
         [row] => row.code.as_bytes() == b"xs4_33".as_slice() && row.count == 2,
         _ => false,
     };
-    Ok(one_row && kept.total == 2 && kept.unresolved == 0 && kept.census.deposit == 1)
+    let steady = archive.flag_of(id)? == Some(true);
+    Ok(steady && one_row && kept.total == 2 && kept.unresolved == 0 && kept.census.deposit == 1)
 }
 
-/// Adds a census of `ann` of deposit 1 with this tally, and answers its number.
+/// Adds a census of `ann` of deposit 1 with this tally, as of a steady field, and answers its number.
 pub fn take<S: Alter>(
     alloc: Global,
     archive: &mut Archive<S>,
@@ -251,7 +252,7 @@ pub fn take<S: Alter>(
     requires { HasOrder tally.now }
 {
     let given = census(alloc, token)?;
-    archive.add_census(&given, tally)
+    archive.add_census(&given, tally, true)
 }
 
 /// Adds two blocks at distance 3, and takes two censuses of them.
@@ -266,7 +267,7 @@ fn take_two<S: Alter>(alloc: Global, archive: &mut Archive<S>) -> Result<(u64, u
 /// Whether both censuses are found, by number and by token, and no others.
 fn has_censuses<S: Alter>(alloc: Global, archive: &mut Archive<S>) -> Result<bool, Unavailable> {
     for id in NOT_KEPT {
-        if archive.census_of(alloc, id)?.is_some() {
+        if archive.census_of(alloc, id)?.is_some() || archive.flag_of(id)?.is_some() {
             return Ok(false);
         }
     }
@@ -323,9 +324,10 @@ fn capacities_are_judged(rt: HostRuntime) -> Result<(), Fail> {
 
 // ---- files
 
-type Pair = Files<Memory>;
+pub type Pair = Files<Memory>;
 
-fn blank(alloc: Global) -> Pair {
+/// Two empty files.
+pub fn blank(alloc: Global) -> Pair {
     Files {
         log: Memory::new(alloc),
         db: Memory::new(alloc),
@@ -400,7 +402,7 @@ fn a_closed_archive_is_opened_under_another_capacity(rt: HostRuntime) -> Result<
 }
 
 /// The files of a database in which these statements were run.
-fn made_by(alloc: Global, files: Pair, statements: &[&str]) -> Option<Pair> {
+pub fn made_by(alloc: Global, files: Pair, statements: &[&str]) -> Option<Pair> {
     if !files.may_be_used() {
         return None;
     }
@@ -423,10 +425,14 @@ fn opened_over(alloc: Global, statements: &[&str]) -> Option<Result<u64, (OpenFa
 const LAYOUT: &str = "CREATE TABLE layout (version INTEGER NOT NULL) STRICT";
 
 /// Databases in which some of an archive's tables stand, and that are none.
-const OTHERS: [(&str, &[&str]); 10] = [
+const OTHERS: [(&str, &[&str]); 12] = [
     (
         "version 3",
         &[LAYOUT, "INSERT INTO layout (version) VALUES (3)"],
+    ),
+    (
+        "version 2 without flags",
+        &[LAYOUT, "INSERT INTO layout (version) VALUES (2)"],
     ),
     (
         "version 0",
@@ -456,6 +462,10 @@ const OTHERS: [(&str, &[&str]); 10] = [
     (
         "census_rows alone",
         &["CREATE TABLE census_rows (n INTEGER)"],
+    ),
+    (
+        "census_flags alone",
+        &["CREATE TABLE census_flags (n INTEGER)"],
     ),
     (
         "a view",

@@ -4,4 +4,6 @@
 #[cfg(test)]
 mod archives;
 #[cfg(test)]
+mod carrying;
+#[cfg(test)]
 mod stops;

@@ -8,7 +8,7 @@ use std::alloc::Global;
 use std::test::Fail;
 
 /// A file that stops after some calls.
-type Stopping = Fuse<Memory>;
+pub type Stopping = Fuse<Memory>;
 
 /// Two empty files that stop after so many calls.
 fn blank(alloc: Global, log_calls: u64, db_calls: u64) -> Files<Stopping> {
@@ -27,14 +27,15 @@ fn copied(alloc: Global, file: &Stopping) -> Result<Stopping, Unavailable> {
     Ok(Fuse::new(copy, u64::MAX))
 }
 
-fn again(alloc: Global, files: &Files<Stopping>) -> Result<Files<Stopping>, Unavailable> {
+/// What the files hold, in files that never stop.
+pub fn again(alloc: Global, files: &Files<Stopping>) -> Result<Files<Stopping>, Unavailable> {
     Ok(Files {
         log: copied(alloc, &files.log)?,
         db: copied(alloc, &files.db)?,
     })
 }
 
-fn open(
+pub fn open(
     alloc: Global,
     files: Files<Stopping>,
 ) -> Result<Archive<FileStore<Stopping>>, (OpenFault, Files<Stopping>)> {
@@ -44,7 +45,7 @@ fn open(
     Archive::open_files(alloc, files, 2)
 }
 
-fn close(archive: Archive<FileStore<Stopping>>) -> Files<Stopping> {
+pub fn close(archive: Archive<FileStore<Stopping>>) -> Files<Stopping> {
     match archive.close_files() {
         Ok(files) => files,
         Err((_, files)) => files,

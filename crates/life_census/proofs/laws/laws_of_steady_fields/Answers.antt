@@ -1,3 +1,4 @@
+use Rattle.life_census.proofs.SteadyDecided.{steady_is_decided}
 use Rattle.life_census.proofs.SteadyEvolution.{evolve_by_parts, share_no_cell}
 use Rattle.life_census.proofs.laws.laws_of_steady_fields.Goals as goal
 
@@ -6,3 +7,6 @@ returns-clause-evolve c = evolve_by_parts
 
 pub returns-clause-share : goal.returns-clause-share
 returns-clause-share c = share_no_cell
+
+pub returns-clause-decided : goal.returns-clause-decided
+returns-clause-decided c = steady_is_decided

@@ -1,4 +1,5 @@
 use Rattle.std.proofs.Common.{◌≤◌, ◌++◌, ap, arith, ◌∙◌}
+use Rattle.life_code.specs.declared.period.TheConstants.{PERIOD_LIMIT}
 use Rattle.life_census.proofs.SteadyPhases.{stays_some}
 use Rattle.life_census.proofs.SteadyShapes.{shape_stays, shape_moved}
 use Rattle.life_census.proofs.SteadyVisits.{phases_inside, inside_more, visits_at, visits_go_on}
@@ -18,7 +19,7 @@ visit_cells-requires g c =
     let of = c.requires.shape.3 in
     let v = c.way-move_by.result in
     let is = shape_moved r limit c.args.cluster.now c.args.shape.now of v c.in-Some.corner c.in-Some.ensures.0 c.way-move_by.ensures.row c.way-move_by.ensures.column in
-    let few : of.0.p ≤ 1024 = omega (arith, of.0.stays.few, below) in
+    let few : of.0.p ≤ PERIOD_LIMIT = omega (arith, of.0.stays.few, below) in
     phases_inside r of.0.X c.args.cluster.now v of.0.p c.deref.result.now is c.requires.room few (c.deref.ensures.value ∙ of.0.phases_are)
 
 pub returns-clause-stays : goal.returns-clause-stays
@@ -39,6 +40,6 @@ returns-clause-inside g c =
     let of = c.requires.shape.3 in
     let v = c.way-move_by.result in
     let is = shape_moved r limit c.args.cluster.now c.args.shape.now of v c.in-Some.corner c.in-Some.ensures.0 c.way-move_by.ensures.row c.way-move_by.ensures.column in
-    let few : of.0.p ≤ 1024 = omega (arith, of.0.stays.few, below) in
+    let few : of.0.p ≤ PERIOD_LIMIT = omega (arith, of.0.stays.few, below) in
     inside_more c.args.visits.now.items _ c.deref.result.now c.args.number v c.in_ok-visit_cells.ensures
     (phases_inside r of.0.X c.args.cluster.now v of.0.p c.deref.result.now is c.requires.room few (c.deref.ensures.value ∙ of.0.phases_are))

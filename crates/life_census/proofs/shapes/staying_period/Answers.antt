@@ -1,5 +1,6 @@
 use Rattle.std.proofs.Common.{ap, inl, inr}
-use Rattle.life_census.proofs.SteadyPhases.{still_stays, oscillator_stays, is_staying, others_go}
+use Rattle.life_census.specs.Steady.{is_staying}
+use Rattle.life_census.proofs.SteadyPhases.{still_stays, oscillator_stays, others_go}
 use Rattle.life_census.proofs.shapes.staying_period.Goals as goal
 
 pub returns-in-Still : goal.returns-in-Still

@@ -3,6 +3,7 @@ use Rattle.life_desk.proofs.Once.{deposits_act_once_lem, deposits_stay_lem}
 use Rattle.life_desk.proofs.OnceCensus.{censuses_act_once_lem, censuses_stay_lem}
 use Rattle.life_desk.proofs.Steps.{nothing_is_lost}
 use Rattle.life_desk.proofs.OneReply.{one_reply, same_replies}
+use Rattle.life_desk.proofs.Telling.{flag_tells_steady}
 use Rattle.life_desk.proofs.laws.laws_of_runs.Goals as goal
 
 pub returns-clause-same : goal.returns-clause-same
@@ -25,6 +26,9 @@ returns-clause-deposits c = deposits_act_once_lem
 
 pub returns-clause-censuses : goal.returns-clause-censuses
 returns-clause-censuses c = censuses_act_once_lem
+
+pub returns-clause-flag : goal.returns-clause-flag
+returns-clause-flag c = flag_tells_steady c.laws_of_steady_fields.ensures.decided
 
 pub returns-clause-same_replies : goal.returns-clause-same_replies
 returns-clause-same_replies c = same_replies

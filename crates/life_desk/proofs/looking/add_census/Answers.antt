@@ -7,7 +7,7 @@ pub returns-clause-value : goal.returns-clause-value
 returns-clause-value g c = λ A sure m. subst (λ k. IfOk c.add_census.result (λ n. n ≡ k + 1)) (length_tallied A.deposits A.censuses) (c.add_census.ensures.value (kept_of A) sure (holds_of _ A m))
 
 pub returns-clause-ok : goal.returns-clause-ok
-returns-clause-ok g c = census_ok _ _ c.args.census.now c.args.tally.now _ c.add_census.ensures.goes c.add_census.ensures.ok
+returns-clause-ok g c = census_ok _ _ c.args.census.now c.args.tally.now c.args.steady _ c.add_census.ensures.goes c.add_census.ensures.ok
 
 pub returns-clause-err : goal.returns-clause-err
 returns-clause-err g c = err_still _ _ _ c.add_census.ensures.goes c.add_census.ensures.err

@@ -1,27 +1,25 @@
-use Rattle.std.proofs.Common.{◌++◌, ◌∷◌, [], rules, arith}
+use Rattle.std.proofs.Common.{rules, arith}
 use Rattle.std.specs.Prelude.{IsTrue}
 use Rattle.sqlite.specs.State.{HasCleanDisk}
 use Rattle.sqlite.specs.Held.{state}
-use Rattle.life_store.specs.Kept.{Tallied}
-use Rattle.life_store.specs.CensusesState.{Stands}
-use Rattle.life_store.specs.Stored.{tagged}
+use Rattle.life_store.specs.CensusesState.{Stands, with_census, with_flag}
 use Rattle.life_store.proofs.CensusLemmas.{committed}
 use Rattle.life_store.proofs.censuses.insert_all.Goals as goal
 
 pub returns-in-Ok-commit-clause-added : goal.returns-in-Ok-commit-clause-added
-returns-in-Ok-commit-clause-added g c clean ds ts rs means is up =
-    let t : Tallied = record { census = c.args.census.now; tally = c.args.tally.now } in
+returns-in-Ok-commit-clause-added g c clean p t made means is is_flag up =
+    let more = with_flag t (with_census c.args.id t p) in
     let begun = c.transaction-tx.ensures.begun in
     let first = state g.S.Store c.transaction-tx.result.conn.now in
-    let last = state g.S.Store c.insert_with_rows.new.tx.conn.now in
+    let last = state g.S.Store c.insert_with_flag.new.tx.conn.now in
     let clean_3 : HasCleanDisk (state g.S.Store c.commit.new.self.0) = search (rules, clean) in
     let clean_2 : HasCleanDisk last = omega (arith, c.commit.ensures.survives.clean, clean_3) in
     let inside : IsTrue c.transaction-tx.result.conn.now.in_transaction = search (rules, begun) in
     let shows = (c.in-Ok-commit.ensures.ok clean_3).1 in
-    let up_1 : IsTrue first.is_open = (c.insert_with_rows.ensures.kept clean_2 inside).was_open shows.was_open in
+    let up_1 : IsTrue first.is_open = (c.insert_with_flag.ensures.kept clean_2 inside).was_open shows.was_open in
     let up_0 : IsTrue (state g.S.Store c.args.conn.now).is_open = search (rules, begun, up_1) in
     let stands_0 = (means up_0).stands in
-    let stands_1 : Stands first.now ds ts rs = search (rules, begun, stands_0) in
-    let stands_2 : Stands last.now ds (ts ++ t ∷ []) (rs ++ tagged c.args.id t.tally.rows) = (c.in-Ok.ensures.added clean_2 inside ds ts rs stands_1 is).1 in
-    let done = committed last (state g.S.Store c.commit.new.self.0) ds (ts ++ t ∷ []) (rs ++ tagged c.args.id t.tally.rows) shows stands_2 in
+    let stands_1 : Stands first.now p = search (rules, begun, stands_0) in
+    let stands_2 : Stands last.now more = (c.in-Ok.ensures.added clean_2 inside p t made stands_1 is is_flag).1 in
+    let done = committed last (state g.S.Store c.commit.new.self.0) more shows stands_2 in
     search (rules, done)

@@ -7,13 +7,13 @@ use Rattle.life_store.proofs.CensusLemmas.{keeps_then}
 use Rattle.life_store.proofs.censuses.insert_with_rows.Goals as goal
 
 pub returns-clause-added : goal.returns-clause-added
-returns-clause-added g c clean inside ds ts rs stands is =
-    let t : Tallied = record { census = c.args.census.now; tally = c.args.tally.now } in
+returns-clause-added g c clean inside p steady stands is =
+    let t : Tallied = record { census = c.args.census.now; tally = c.args.tally.now; steady = steady } in
     let middle = state g.S.Store c.insert_census.new.tx.conn.now in
     let clean_2 : HasCleanDisk middle = omega (arith, c.insert_tally.ensures.clean, clean) in
     let inside_2 = c.in_ok-insert_census.ensures.inside clean_2 inside in
-    let stands_2 : Stands middle.now ds (ts ++ t ∷ []) rs = (c.in_ok-insert_census.ensures.added clean_2 inside ds ts rs stands is).1 in
-    c.insert_tally.ensures.added clean inside_2 ds (ts ++ t ∷ []) rs stands_2
+    let stands_2 : Stands middle.now (record p { censuses = p.censuses ++ t ∷ [] }) = (c.in_ok-insert_census.ensures.added clean_2 inside p steady stands is).1 in
+    c.insert_tally.ensures.added clean inside_2 (record p { censuses = p.censuses ++ t ∷ [] }) stands_2
 
 pub returns-clause-kept : goal.returns-clause-kept
 returns-clause-kept g c clean inside =

@@ -1,5 +1,5 @@
 use Rattle.life_store.proofs.BlankLemmas.{blank_lists_nothing}
-use Rattle.life_store.proofs.MeaningLemmas.{one_meaning}
+use Rattle.life_store.proofs.MeaningLemmas.{one_meaning, first_meaning}
 use Rattle.life_store.proofs.laws.laws_of_archives.Goals as goal
 
 pub returns-clause-blank : goal.returns-clause-blank
@@ -7,3 +7,6 @@ returns-clause-blank c = blank_lists_nothing
 
 pub returns-clause-one : goal.returns-clause-one
 returns-clause-one c = one_meaning
+
+pub returns-clause-first : goal.returns-clause-first
+returns-clause-first c = first_meaning

@@ -17,4 +17,4 @@ returns-in-Err-clause-ours g c clean is =
     let it = c.refused.ensures.clean clean is in
     let sure = sure_from new it.0 it.1 in
     let same : c.prepare.result ≡ Err NotOurs = c.in-Err.is ∙ ap Err (c.refused.ensures.same is) in
-    (was_clean old new c.prepare.ensures.clean sure, λ have. c.prepare.ensures.ours sure have same)
+    (was_clean old new c.prepare.ensures.clean sure, λ schema own known have. c.prepare.ensures.ours schema own known sure have same)

@@ -2,12 +2,16 @@ use Rattle.std.proofs.Common.{◌≡◌, rules, true}
 use Rattle.sqlite_wal.specs.Reads.{AreClean}
 use Rattle.sqlite.specs.Files.{file_state, image_of}
 use Rattle.life_store.specs.Opening.{is_capacity}
-use Rattle.life_store.proofs.SchemaLemmas.{opens_held, opens_fresh, opens_known, opens_ours, opens_clean, opens_versions, opens_none, sure_then, errs_not, errs_never}
+use Rattle.life_store.proofs.SchemaLemmas.{opens_held, opens_carried, opens_fresh, opens_known, opens_ours, opens_clean, opens_versions, opens_none, sure_then, errs_not, errs_never}
 use Rattle.life_store.proofs.opening.Archive+FileStore+D.open_files.Goals as goal
 
 pub returns-in-Ok-clause-found : goal.returns-in-Ok-clause-found
 returns-in-Ok-clause-found g c =
     opens_held (file_state c.in-Ok.conn) (image_of g.D.Disk c.args.files) c.in-Ok.ensures.opened c.archive_over.result (λ clean. (c.in-Ok.ensures.found clean).holds) c.archive_over.ensures.clean c.archive_over.ensures.found
+
+pub returns-in-Ok-clause-carried : goal.returns-in-Ok-clause-carried
+returns-in-Ok-clause-carried g c =
+    opens_carried (file_state c.in-Ok.conn) (image_of g.D.Disk c.args.files) c.in-Ok.ensures.opened c.archive_over.result (λ clean. (c.in-Ok.ensures.found clean).holds) c.archive_over.ensures.clean c.archive_over.ensures.carries
 
 pub returns-in-Ok-clause-fresh : goal.returns-in-Ok-clause-fresh
 returns-in-Ok-clause-fresh g c =

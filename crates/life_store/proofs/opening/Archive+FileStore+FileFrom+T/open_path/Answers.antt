@@ -1,12 +1,17 @@
 use Rattle.sqlite_wal.specs.Files.{image_at}
 use Rattle.sqlite.specs.Files.{file_state}
-use Rattle.life_store.proofs.SchemaLemmas.{finds_held, finds_versions, finds_none}
+use Rattle.life_store.proofs.SchemaLemmas.{finds_held, finds_first, finds_versions, finds_none}
 use Rattle.life_store.proofs.opening.Archive+FileStore+FileFrom+T.open_path.Goals as goal
 
 pub returns-in-Ok-archive_over-clause-found : goal.returns-in-Ok-archive_over-clause-found
 returns-in-Ok-archive_over-clause-found g c k sure files =
     let clean = c.in-Ok-archive_over.ensures.clean sure in
     c.in-Ok-archive_over.ensures.found k sure (finds_held (file_state c.in-Ok.conn) (image_at g.T.Start) k (c.in-Ok.ensures.opened clean) (c.in-Ok.ensures.found clean).holds files)
+
+pub returns-in-Ok-archive_over-clause-carried : goal.returns-in-Ok-archive_over-clause-carried
+returns-in-Ok-archive_over-clause-carried g c k sure files =
+    let clean = c.in-Ok-archive_over.ensures.clean sure in
+    c.in-Ok-archive_over.ensures.carries k sure (finds_first (file_state c.in-Ok.conn) (image_at g.T.Start) k (c.in-Ok.ensures.opened clean) (c.in-Ok.ensures.found clean).holds files)
 
 pub returns-in-Ok-archive_over-clause-fresh : goal.returns-in-Ok-archive_over-clause-fresh
 returns-in-Ok-archive_over-clause-fresh g c sure none =
@@ -15,6 +20,6 @@ returns-in-Ok-archive_over-clause-fresh g c sure none =
     c.in-Ok-archive_over.ensures.fresh sure (record { is = finds_none conn (c.in-Ok.ensures.opened clean) (none conn.committed.trees (c.in-Ok.ensures.found clean).reads); none = tt })
 
 pub returns-in-Ok-archive_over-clause-known : goal.returns-in-Ok-archive_over-clause-known
-returns-in-Ok-archive_over-clause-known g c versions sure files =
+returns-in-Ok-archive_over-clause-known g c schema own versions known sure files =
     let clean = c.in-Ok-archive_over.ensures.clean sure in
-    c.in-Ok-archive_over.ensures.known versions sure (finds_versions (file_state c.in-Ok.conn) (image_at g.T.Start) versions (c.in-Ok.ensures.opened clean) (c.in-Ok.ensures.found clean).holds files)
+    c.in-Ok-archive_over.ensures.known schema own versions known sure (finds_versions (file_state c.in-Ok.conn) (image_at g.T.Start) schema own versions known (c.in-Ok.ensures.opened clean) (c.in-Ok.ensures.found clean).holds files)

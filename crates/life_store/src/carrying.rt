@@ -1,0 +1,260 @@
+//! Archives of layout 1, which keep no flags, as they are carried over to layout 2.
+
+ghost use Rattle.std.specs.Prelude.{◌≡◌, ◌≤◌, ◌+◌, ◌↔◌, Bool, false, [], Some, length, option_map, IsTrue, IfOk, OnOk, OnErr};
+ghost use Rattle.std.specs.List.{AllByRecursion};
+ghost use Rattle.sqlite_trees.specs.View.{doubt};
+ghost use Rattle.sqlite.specs.State.{HasCleanDisk, KeepsCommit};
+ghost use Rattle.sqlite.specs.Held.{state};
+ghost use Rattle.life_rle.specs.Record.{IsInside};
+ghost use Rattle.life_census.specs.Steady.{IsSteady};
+ghost use Rattle.life_store.specs.AskingState.{IsSeenAgain};
+ghost use Rattle.life_store.specs.Carrying.{version_1, generation_in, IsFlagged};
+ghost use Rattle.life_store.specs.CarryingState.{StandsFirst, IsFlaggedUpTo, IsCarried};
+ghost use Rattle.life_store.specs.CensusesState.{Parts, Stands, with_flag};
+ghost use Rattle.life_store.specs.Kept.{Tallied, numbered};
+ghost use Rattle.life_store.specs.ReadingState.{newest_rows, ShowsDeposit, ShowsCensus};
+ghost use Rattle.life_store.specs.Stored.{IsFiled};
+ghost use Rattle.life_store.specs.Tables.{version_2};
+
+use crate::asking::{ask_inside, whole};
+use crate::fault::Unavailable;
+use crate::flags;
+use crate::kept::{Census, Deposit};
+use crate::laying::make_census_flags;
+use crate::reading::{count_in, first_census, first_deposit};
+use life_census::steady;
+use life_code::PERIOD_LIMIT;
+use life_core::{GENERATION_LIMIT, generation};
+use life_rle::Record;
+use sqlite::{Alter, Connection, Row, Transaction};
+use std::alloc::Global;
+
+/// Whether the generation of the content is steady under the limit. A generation or a limit that no census has is
+/// refused.
+fn is_steady(alloc: Global, content: &Record, number: u32, limit: u32) -> Result<bool, Unavailable>
+    requires { IsInside 1024 content.now.cells }
+    ensures { IfOk result (λ b. IsTrue b ↔ IsSteady content.now.rule (generation_in content.now number) limit) }
+{
+    if number > GENERATION_LIMIT {
+        return Err(Unavailable);
+    }
+    if limit < 1 || limit > PERIOD_LIMIT {
+        return Err(Unavailable);
+    }
+    let pattern = generation(alloc, &content.rule, &content.cells, number)?;
+    Ok(steady(alloc, &content.rule, &pattern, limit)?)
+}
+
+/// The greatest number of a census.
+fn newest_census<S: Alter>(tx: &mut Transaction<'_, S>) -> Result<Vec<Row>, Unavailable>
+    ensures same_reference { tx.new.conn.ghost_name ≡ tx.old.conn.ghost_name }
+    ensures tells { HasCleanDisk (state S.Store tx.new.conn.now) → (p : Parts) → Stands (state S.Store tx.old.conn.now).now p → IfOk result (λ rows. (rows.items ≡ newest_rows (length p.censuses)) × Stands (state S.Store tx.new.conn.now).now p) }
+    ensures inside { HasCleanDisk (state S.Store tx.new.conn.now) → IsTrue tx.old.conn.now.in_transaction → OnOk result (IsTrue tx.new.conn.now.in_transaction) }
+    ensures kept { HasCleanDisk (state S.Store tx.new.conn.now) → IsTrue tx.old.conn.now.in_transaction → KeepsCommit (state S.Store tx.old.conn.now) (state S.Store tx.new.conn.now) }
+    ensures clean { doubt (state S.Store tx.old.conn.now).is_clean ≤ doubt (state S.Store tx.new.conn.now).is_clean }
+{
+    ask_inside(tx, "SELECT id FROM censuses ORDER BY id DESC LIMIT 1", &[])
+}
+
+/// The census of the number.
+fn show_census<S: Alter>(tx: &mut Transaction<'_, S>, id: u64) -> Result<Vec<Row>, Unavailable>
+    ensures same_reference { tx.new.conn.ghost_name ≡ tx.old.conn.ghost_name }
+    ensures tells { HasCleanDisk (state S.Store tx.new.conn.now) → (p : Parts) → Stands (state S.Store tx.old.conn.now).now p → IfOk result (λ rows. ShowsCensus (option_map (λ t. (id, t)) (numbered p.censuses id)) rows.items × Stands (state S.Store tx.new.conn.now).now p) }
+    ensures inside { HasCleanDisk (state S.Store tx.new.conn.now) → IsTrue tx.old.conn.now.in_transaction → OnOk result (IsTrue tx.new.conn.now.in_transaction) }
+    ensures kept { HasCleanDisk (state S.Store tx.new.conn.now) → IsTrue tx.old.conn.now.in_transaction → KeepsCommit (state S.Store tx.old.conn.now) (state S.Store tx.new.conn.now) }
+    ensures clean { doubt (state S.Store tx.old.conn.now).is_clean ≤ doubt (state S.Store tx.new.conn.now).is_clean }
+{
+    let Ok(id) = i64::try_from(id) else {
+        return Err(Unavailable);
+    };
+    ask_inside(
+        tx,
+        "SELECT id, member, token, deposit, gens, lim, clusters, unresolved FROM censuses WHERE id = ?1 ORDER BY id",
+        &[whole(id)],
+    )
+}
+
+/// The deposit of the number.
+fn show_deposit<S: Alter>(tx: &mut Transaction<'_, S>, id: u64) -> Result<Vec<Row>, Unavailable>
+    ensures same_reference { tx.new.conn.ghost_name ≡ tx.old.conn.ghost_name }
+    ensures tells { HasCleanDisk (state S.Store tx.new.conn.now) → (p : Parts) → AllByRecursion IsFiled p.deposits → Stands (state S.Store tx.old.conn.now).now p
+        → IfOk result (λ rows. ShowsDeposit (option_map (λ d. record { id = id; deposit = d }) (numbered p.deposits id)) rows.items × Stands (state S.Store tx.new.conn.now).now p) }
+    ensures inside { HasCleanDisk (state S.Store tx.new.conn.now) → IsTrue tx.old.conn.now.in_transaction → OnOk result (IsTrue tx.new.conn.now.in_transaction) }
+    ensures kept { HasCleanDisk (state S.Store tx.new.conn.now) → IsTrue tx.old.conn.now.in_transaction → KeepsCommit (state S.Store tx.old.conn.now) (state S.Store tx.new.conn.now) }
+    ensures clean { doubt (state S.Store tx.old.conn.now).is_clean ≤ doubt (state S.Store tx.new.conn.now).is_clean }
+{
+    let Ok(id) = i64::try_from(id) else {
+        return Err(Unavailable);
+    };
+    ask_inside(
+        tx,
+        "SELECT id, member, token, rle FROM deposits WHERE id = ?1 ORDER BY id",
+        &[whole(id)],
+    )
+}
+
+/// How many censuses there are.
+fn count_censuses<S: Alter>(tx: &mut Transaction<'_, S>) -> Result<u64, Unavailable>
+    ensures same_reference { tx.new.conn.ghost_name ≡ tx.old.conn.ghost_name }
+    ensures counted { HasCleanDisk (state S.Store tx.new.conn.now) → (p : Parts) → Stands (state S.Store tx.old.conn.now).now p → IfOk result (λ n. (n ≡ length p.censuses) × Stands (state S.Store tx.new.conn.now).now p) }
+    ensures inside { HasCleanDisk (state S.Store tx.new.conn.now) → IsTrue tx.old.conn.now.in_transaction → OnOk result (IsTrue tx.new.conn.now.in_transaction) }
+    ensures kept { HasCleanDisk (state S.Store tx.new.conn.now) → IsTrue tx.old.conn.now.in_transaction → KeepsCommit (state S.Store tx.old.conn.now) (state S.Store tx.new.conn.now) }
+    ensures clean { doubt (state S.Store tx.old.conn.now).is_clean ≤ doubt (state S.Store tx.new.conn.now).is_clean }
+{
+    let rows = newest_census(tx)?;
+    count_in(rows.as_slice())
+}
+
+/// The census of the number.
+fn census_at<S: Alter>(
+    alloc: Global,
+    tx: &mut Transaction<'_, S>,
+    id: u64,
+) -> Result<Census, Unavailable>
+    ensures same_reference { tx.new.conn.ghost_name ≡ tx.old.conn.ghost_name }
+    ensures found { HasCleanDisk (state S.Store tx.new.conn.now) → (p : Parts) (t : Tallied) → Stands (state S.Store tx.old.conn.now).now p → numbered p.censuses id ≡ Some t → IfOk result (λ c. (c ≡ t.census) × Stands (state S.Store tx.new.conn.now).now p) }
+    ensures inside { HasCleanDisk (state S.Store tx.new.conn.now) → IsTrue tx.old.conn.now.in_transaction → OnOk result (IsTrue tx.new.conn.now.in_transaction) }
+    ensures kept { HasCleanDisk (state S.Store tx.new.conn.now) → IsTrue tx.old.conn.now.in_transaction → KeepsCommit (state S.Store tx.old.conn.now) (state S.Store tx.new.conn.now) }
+    ensures clean { doubt (state S.Store tx.old.conn.now).is_clean ≤ doubt (state S.Store tx.new.conn.now).is_clean }
+{
+    let rows = show_census(tx, id)?;
+    match first_census(alloc, rows.as_slice())? {
+        Some((_, kept)) => Ok(kept.census),
+        None => Err(Unavailable),
+    }
+}
+
+/// The deposit of the number.
+fn deposit_at<S: Alter>(
+    alloc: Global,
+    tx: &mut Transaction<'_, S>,
+    id: u64,
+) -> Result<Deposit, Unavailable>
+    ensures same_reference { tx.new.conn.ghost_name ≡ tx.old.conn.ghost_name }
+    ensures found { HasCleanDisk (state S.Store tx.new.conn.now) → (p : Parts) → AllByRecursion IsFiled p.deposits → Stands (state S.Store tx.old.conn.now).now p → IfOk result (λ d. (numbered p.deposits id ≡ Some d) × Stands (state S.Store tx.new.conn.now).now p) }
+    ensures inside { HasCleanDisk (state S.Store tx.new.conn.now) → IsTrue tx.old.conn.now.in_transaction → OnOk result (IsTrue tx.new.conn.now.in_transaction) }
+    ensures kept { HasCleanDisk (state S.Store tx.new.conn.now) → IsTrue tx.old.conn.now.in_transaction → KeepsCommit (state S.Store tx.old.conn.now) (state S.Store tx.new.conn.now) }
+    ensures clean { doubt (state S.Store tx.old.conn.now).is_clean ≤ doubt (state S.Store tx.new.conn.now).is_clean }
+    ensures small { IfOk result (λ d. IsInside 1024 d.content.cells) }
+{
+    let rows = show_deposit(tx, id)?;
+    match first_deposit(alloc, rows.as_slice())? {
+        Some(found) => Ok(found.deposit),
+        None => Err(Unavailable),
+    }
+}
+
+/// The flag of the census of the number, computed from its deposit.
+fn flag_at<S: Alter>(
+    alloc: Global,
+    tx: &mut Transaction<'_, S>,
+    id: u64,
+) -> Result<bool, Unavailable>
+    ensures same_reference { tx.new.conn.ghost_name ≡ tx.old.conn.ghost_name }
+    ensures computed { HasCleanDisk (state S.Store tx.new.conn.now) → (p : Parts) (t : Tallied) → AllByRecursion IsFiled p.deposits → Stands (state S.Store tx.old.conn.now).now p → numbered p.censuses id ≡ Some t
+        → IfOk result (λ b. IsFlagged p.deposits (record t { steady = b }) × Stands (state S.Store tx.new.conn.now).now p) }
+    ensures inside { HasCleanDisk (state S.Store tx.new.conn.now) → IsTrue tx.old.conn.now.in_transaction → OnOk result (IsTrue tx.new.conn.now.in_transaction) }
+    ensures kept { HasCleanDisk (state S.Store tx.new.conn.now) → IsTrue tx.old.conn.now.in_transaction → KeepsCommit (state S.Store tx.old.conn.now) (state S.Store tx.new.conn.now) }
+    ensures clean { doubt (state S.Store tx.old.conn.now).is_clean ≤ doubt (state S.Store tx.new.conn.now).is_clean }
+{
+    let census = census_at(alloc, tx, id)?;
+    let deposit = deposit_at(alloc, tx, census.deposit)?;
+    is_steady(alloc, &deposit.content, census.generation, census.limit)
+}
+
+/// Computes the flag of the census of the number, and adds it.
+fn carry_one<S: Alter>(
+    alloc: Global,
+    tx: &mut Transaction<'_, S>,
+    id: u64,
+) -> Result<(), Unavailable>
+    ensures same_reference { tx.new.conn.ghost_name ≡ tx.old.conn.ghost_name }
+    ensures carried { HasCleanDisk (state S.Store tx.new.conn.now) → IsTrue tx.old.conn.now.in_transaction → (p : Parts) (t : Tallied) → AllByRecursion IsFiled p.deposits → Stands (state S.Store tx.old.conn.now).now p → id ≡ length p.flagged + 1 → numbered p.censuses id ≡ Some t
+        → OnOk result ((b : Bool) × IsFlagged p.deposits (record t { steady = b }) × Stands (state S.Store tx.new.conn.now).now (with_flag (record t { steady = b }) p)) }
+    ensures inside { HasCleanDisk (state S.Store tx.new.conn.now) → IsTrue tx.old.conn.now.in_transaction → OnOk result (IsTrue tx.new.conn.now.in_transaction) }
+    ensures kept { HasCleanDisk (state S.Store tx.new.conn.now) → IsTrue tx.old.conn.now.in_transaction → KeepsCommit (state S.Store tx.old.conn.now) (state S.Store tx.new.conn.now) }
+    ensures clean { doubt (state S.Store tx.old.conn.now).is_clean ≤ doubt (state S.Store tx.new.conn.now).is_clean }
+{
+    let steady = flag_at(alloc, tx, id)?;
+    flags::insert(tx, id, steady)
+}
+
+/// The same for each census, in the order of their numbers.
+fn carry_each<S: Alter>(
+    alloc: Global,
+    tx: &mut Transaction<'_, S>,
+    count: u64,
+) -> Result<(), Unavailable>
+    ensures same_reference { tx.new.conn.ghost_name ≡ tx.old.conn.ghost_name }
+    ensures carried { HasCleanDisk (state S.Store tx.new.conn.now) → IsTrue tx.old.conn.now.in_transaction → (p : Parts) → AllByRecursion IsFiled p.deposits → Stands (state S.Store tx.old.conn.now).now p → p.flagged ≡ [] → count ≡ length p.censuses
+        → OnOk result (IsFlaggedUpTo p count (state S.Store tx.new.conn.now).now) }
+    ensures inside { HasCleanDisk (state S.Store tx.new.conn.now) → IsTrue tx.old.conn.now.in_transaction → OnOk result (IsTrue tx.new.conn.now.in_transaction) }
+    ensures kept { HasCleanDisk (state S.Store tx.new.conn.now) → IsTrue tx.old.conn.now.in_transaction → KeepsCommit (state S.Store tx.old.conn.now) (state S.Store tx.new.conn.now) }
+    ensures clean { doubt (state S.Store tx.old.conn.now).is_clean ≤ doubt (state S.Store tx.new.conn.now).is_clean }
+{
+    for i in 0..count {
+        carry_one(alloc, tx, i + 1)?;
+    }
+    Ok(())
+}
+
+/// Names layout 2 in the one row of `layout`.
+fn name_version<S: Alter>(tx: &mut Transaction<'_, S>) -> Result<(), Unavailable>
+    ensures same_reference { tx.new.conn.ghost_name ≡ tx.old.conn.ghost_name }
+    ensures named { HasCleanDisk (state S.Store tx.new.conn.now) → IsTrue tx.old.conn.now.in_transaction → (p : Parts) → Stands (state S.Store tx.old.conn.now).now p → p.layout ≡ version_1 → OnOk result (Stands (state S.Store tx.new.conn.now).now (record p { layout = version_2 })) }
+    ensures inside { HasCleanDisk (state S.Store tx.new.conn.now) → IsTrue tx.old.conn.now.in_transaction → OnOk result (IsTrue tx.new.conn.now.in_transaction) }
+    ensures kept { HasCleanDisk (state S.Store tx.new.conn.now) → IsTrue tx.old.conn.now.in_transaction → KeepsCommit (state S.Store tx.old.conn.now) (state S.Store tx.new.conn.now) }
+    ensures clean { doubt (state S.Store tx.old.conn.now).is_clean ≤ doubt (state S.Store tx.new.conn.now).is_clean }
+{
+    tx.execute("UPDATE layout SET version = 2", &[])?;
+    Ok(())
+}
+
+/// Makes the table of flags, fills it, and names the layout.
+fn carry_all<S: Alter>(alloc: Global, tx: &mut Transaction<'_, S>) -> Result<(), Unavailable>
+    ensures same_reference { tx.new.conn.ghost_name ≡ tx.old.conn.ghost_name }
+    ensures carried { HasCleanDisk (state S.Store tx.new.conn.now) → IsTrue tx.old.conn.now.in_transaction → (p : Parts) → AllByRecursion IsFiled p.deposits → StandsFirst (state S.Store tx.old.conn.now).now p → p.layout ≡ version_1
+        → OnOk result (IsCarried p (state S.Store tx.new.conn.now).now) }
+    ensures inside { HasCleanDisk (state S.Store tx.new.conn.now) → IsTrue tx.old.conn.now.in_transaction → OnOk result (IsTrue tx.new.conn.now.in_transaction) }
+    ensures kept { HasCleanDisk (state S.Store tx.new.conn.now) → IsTrue tx.old.conn.now.in_transaction → KeepsCommit (state S.Store tx.old.conn.now) (state S.Store tx.new.conn.now) }
+    ensures clean { doubt (state S.Store tx.old.conn.now).is_clean ≤ doubt (state S.Store tx.new.conn.now).is_clean }
+{
+    make_census_flags(tx)?;
+    let count = count_censuses(tx)?;
+    carry_each(alloc, tx, count)?;
+    name_version(tx)
+}
+
+/// The same in one transaction, which is rolled back where it fails.
+fn carry_at_once<S: Alter>(alloc: Global, conn: &mut Connection<S>) -> Result<(), Unavailable>
+    requires { conn.old.in_transaction ≡ false }
+    ensures carried { HasCleanDisk (state S.Store conn.new) → (p : Parts) → AllByRecursion IsFiled p.deposits → StandsFirst (state S.Store conn.old).now p → p.layout ≡ version_1 → OnOk result (IsCarried p (state S.Store conn.new).now) }
+    ensures undone { HasCleanDisk (state S.Store conn.new) → (IsTrue (state S.Store conn.old).is_open → (state S.Store conn.old).now ≡ (state S.Store conn.old).committed) → OnErr result (IsSeenAgain (state S.Store conn.old) (state S.Store conn.new)) }
+    ensures was_open { HasCleanDisk (state S.Store conn.new) → IsTrue (state S.Store conn.new).is_open → IsTrue (state S.Store conn.old).is_open }
+    ensures clean { doubt (state S.Store conn.old).is_clean ≤ doubt (state S.Store conn.new).is_clean }
+{
+    let mut tx = conn.transaction();
+    match carry_all(alloc, &mut tx) {
+        Ok(()) => match tx.commit() {
+            Ok(()) => Ok(()),
+            Err(_) => Err(Unavailable),
+        },
+        Err(fault) => Err(fault),
+    }
+}
+
+/// Carries an archive of layout 1 over to layout 2, or leaves it as it is.
+pub(crate) fn carry_over<S: Alter>(
+    alloc: Global,
+    conn: &mut Connection<S>,
+) -> Result<(), Unavailable>
+    ensures carried { HasCleanDisk (state S.Store conn.new) → (p : Parts) → AllByRecursion IsFiled p.deposits → StandsFirst (state S.Store conn.old).now p → p.layout ≡ version_1 → OnOk result (IsCarried p (state S.Store conn.new).now) }
+    ensures undone { HasCleanDisk (state S.Store conn.new) → OnErr result (IsSeenAgain (state S.Store conn.old) (state S.Store conn.new)) }
+    ensures was_open { HasCleanDisk (state S.Store conn.new) → IsTrue (state S.Store conn.new).is_open → IsTrue (state S.Store conn.old).is_open }
+    ensures clean { doubt (state S.Store conn.old).is_clean ≤ doubt (state S.Store conn.new).is_clean }
+{
+    if !conn.is_autocommit() {
+        return Err(Unavailable);
+    }
+    carry_at_once(alloc, conn)
+}

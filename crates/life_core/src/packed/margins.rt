@@ -165,6 +165,7 @@ fn bottom_is_free(frame: Frame, rows: &[u64]) -> bool
 
 /// Whether all places `i` of the words `j` of the rows are dead.
 fn column_is_dead(frame: Frame, rows: &[u64], j: usize, i: u32) -> bool
+    requires frame { IsFrame frame }
     requires j { j < frame.words }
     requires i { i < 64 }
     requires rows { frame.height * frame.words ≡ length rows.now }

@@ -1,5 +1,5 @@
 //! A plane of rows of packed words.
-ghost use Rattle.std.specs.Prelude.{◌≡◌, ℕ, ℤ, pos, negsuc, ◌+◌, ◌-◌, ◌*◌, ◌<◌, ◌≤◌, ◌+ℤ◌, IsTrue, length, slice_index_or};
+ghost use Rattle.std.specs.Prelude.{◌≡◌, ℕ, ℤ, pos, negsuc, ◌+◌, ◌-◌, ◌*◌, ◌<◌, ◌≤◌, ◌+ℤ◌, IfOk, IsTrue, List, length, slice_index_or};
 ghost use Rattle.life_core.specs.Generations.{next};
 ghost use Rattle.life_core.specs.PackedFrameState.{framed, IsFrame, IsRow, IsBlank, HasRoom};
 ghost use Rattle.life_core.specs.PackedSpanState.{AreSpans};
@@ -9,14 +9,14 @@ use crate::fault::Fault;
 use crate::packed::frame::Frame;
 use crate::packed::margins::with_room;
 use crate::packed::shifts::shift_of_words;
-use crate::packed::span::{Span, both, is_settled, set_whole, span_round, span_step, whole_spans};
+use crate::packed::span::{Span, both, is_settled, keep_whole, span_round, span_step, whole_spans};
 use crate::packed::trimming::{copy_part, narrowed};
 use crate::packed::word_rule::RuleMasks;
 use crate::packed::words::{list_cells, moved_rows, words_of, zeros};
 use crate::pattern::Pattern;
 use crate::plane::Plane;
 use crate::rule::Rule;
-use std::alloc::{Allocator, Global};
+use std::alloc::{AllocError, Allocator, Global};
 use std::marker::Model;
 use std::mem;
 
@@ -66,17 +66,14 @@ impl<A: Allocator + Copy> Plane<A> for PackedRows<A> {
     fn from_pattern(alloc: A, pattern: &Pattern<A>) -> Result<Self, Fault> {
         let frame = Frame::of(pattern);
         let rows = words_of(alloc, frame, pattern.cells())?;
-        let spare = zeros(alloc, rows.len())?;
-        let blank = zeros(alloc, frame.words)?;
-        let spans = whole_spans(alloc, frame)?;
-        let spare_spans = whole_spans(alloc, frame)?;
+        let spares = spares_of(alloc, frame, rows.len())?;
         Ok(PackedRows {
             frame,
             rows,
-            spare,
-            blank,
-            spans,
-            spare_spans,
+            spare: spares.rows,
+            blank: spares.blank,
+            spans: spares.spans,
+            spare_spans: spares.spare_spans,
             rule: Rule::LIFE,
             follows: false,
             steps: 0,
@@ -91,17 +88,13 @@ impl<A: Allocator + Copy> Plane<A> for PackedRows<A> {
         if let Some(wider) = with_room(self.frame, &self.rows) {
             let alloc = *self.rows.allocator();
             let rows = moved_rows(alloc, self.frame, &self.rows, wider)?;
-            let frame = wider.frame;
-            let spare = zeros(alloc, rows.len())?;
-            let blank = zeros(alloc, frame.words)?;
-            let spans = whole_spans(alloc, frame)?;
-            let spare_spans = whole_spans(alloc, frame)?;
-            self.frame = frame;
+            let spares = spares_of(alloc, wider.frame, rows.len())?;
+            self.frame = wider.frame;
             self.rows = rows;
-            self.spare = spare;
-            self.blank = blank;
-            self.spans = spans;
-            self.spare_spans = spare_spans;
+            self.spare = spares.rows;
+            self.blank = spares.blank;
+            self.spans = spares.spans;
+            self.spare_spans = spares.spare_spans;
             self.follows = false;
         }
         let follows = both(self.follows, self.rule == *rule);
@@ -137,14 +130,44 @@ impl<A: Allocator + Copy> Plane<A> for PackedRows<A> {
             mem::swap(&mut self.rows, &mut self.spare);
             self.spare.truncate(len);
             self.blank.truncate(frame.words);
-            self.spans.truncate(frame.height);
-            self.spare_spans.truncate(frame.height);
-            set_whole(&mut self.spans, frame);
-            set_whole(&mut self.spare_spans, frame);
+            keep_whole(&mut self.spans, frame);
+            keep_whole(&mut self.spare_spans, frame);
             self.frame = frame;
             self.follows = false;
         }
     }
+}
+
+/// What steps of rows in a frame take besides the rows.
+#[derive(Drop)]
+struct Spares<A: Allocator> {
+    /// Where the next generation is made.
+    rows: Vec<u64, A>,
+    /// A row without cells.
+    blank: Vec<u64, A>,
+    /// For each row a span of all its words.
+    spans: Vec<Span, A>,
+    /// The same of the next generation.
+    spare_spans: Vec<Span, A>,
+}
+
+/// What the steps of so many words of rows in the frame take.
+fn spares_of<A: Allocator + Copy>(
+    alloc: A,
+    frame: Frame,
+    len: usize,
+) -> Result<Spares<A>, AllocError>
+    ensures rows { IfOk result (λ s. length s.rows.items ≡ len) }
+    ensures blank { IfOk result (λ s. IsBlank frame.words s.blank.items) }
+    ensures spans { IfOk result (λ s. (rows : List ℕ) → AreSpans frame rows s.spans.items) }
+    ensures spare_spans { IfOk result (λ s. (rows : List ℕ) → AreSpans frame rows s.spare_spans.items) }
+{
+    Ok(Spares {
+        rows: zeros(alloc, len)?,
+        blank: zeros(alloc, frame.words)?,
+        spans: whole_spans(alloc, frame)?,
+        spare_spans: whole_spans(alloc, frame)?,
+    })
 }
 
 /// Puts the rows one generation later into `out`, and their spans into `out_spans`. Where three rows

@@ -2,7 +2,7 @@
 ghost use Rattle.std.specs.Prelude.{◌≡◌, ◌↔◌, ◌+◌, ◌*◌, ◌<◌, nat_eq, ◌≤◌, ◌≤ℤ◌, neg_ℤ, pos, false, IfSome, IsNone, IsTrue, length};
 ghost use Rattle.std.specs.FinSet as set;
 ghost use Rattle.life_core.specs.declared.cell.Cell.{Cell};
-ghost use Rattle.life_core.specs.Cell.{IsCellWithin};
+ghost use Rattle.life_core.specs.Cell.{IsCellWithin, moved_cell};
 ghost use Rattle.life_core.specs.Pattern.{IsWithin, ShiftsTo};
 ghost use Rattle.life_core.specs.PackedRow.{place};
 ghost use Rattle.life_core.specs.PackedFrameState.{framed, IsFrame};
@@ -86,13 +86,22 @@ fn covers_word(start: Cell, word: u64, to: Frame, others: &[u64], shift: (i64, i
     ensures { IsTrue result ↔ CoversWord start word (framed to others.now) shift }
 {
     for i in 0..64_u32 {
-        if word >> i & 1 == 1
-            && !is_live(to, others, to_the_right(start, i).moved(shift.0, shift.1))
-        {
+        if word >> i & 1 == 1 && !is_live(to, others, moved_place(start, i, shift)) {
             return false;
         }
     }
     true
+}
+
+/// The cell to which the move takes the one `i` columns to the right of `start`.
+fn moved_place(start: Cell, i: u32, shift: (i64, i64)) -> Cell
+    requires start { IsCellWithin (2 * PLANE) start }
+    requires i { i < 64 }
+    requires columns { (neg_ℤ (pos (2 * PLANE)) ≤ℤ shift.0) × (shift.0 ≤ℤ pos (2 * PLANE)) }
+    requires rows { (neg_ℤ (pos (2 * PLANE)) ≤ℤ shift.1) × (shift.1 ≤ℤ pos (2 * PLANE)) }
+    ensures { result ≡ moved_cell shift.0 shift.1 (moved_cell (pos i) (pos 0) start) }
+{
+    to_the_right(start, i).moved(shift.0, shift.1)
 }
 
 /// Whether the cell is live.

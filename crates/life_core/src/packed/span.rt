@@ -70,8 +70,17 @@ pub(crate) fn whole_spans<A: Allocator>(alloc: A, frame: Frame) -> Result<Vec<Sp
     }; frame.height]
 }
 
+/// Keeps as many spans as the frame has rows, and makes each one of all the words of a row.
+pub(crate) fn keep_whole<A: Allocator>(spans: &mut Vec<Span, A>, frame: Frame)
+    requires { frame.height ≤ length spans.old.items }
+    ensures { (rows : List ℕ) → AreSpans frame rows spans.new.items }
+{
+    spans.truncate(frame.height);
+    set_whole(spans, frame);
+}
+
 /// Makes each span one of all the words of a row.
-pub(crate) fn set_whole(spans: &mut [Span], frame: Frame)
+fn set_whole(spans: &mut [Span], frame: Frame)
     requires { length spans.old ≡ frame.height }
     ensures { (rows : List ℕ) → AreSpans frame rows spans.new }
 {

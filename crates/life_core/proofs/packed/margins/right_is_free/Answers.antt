@@ -2,8 +2,31 @@ use Rattle.std.proofs.Common.{◌+◌, ◌-◌, ◌*◌, ap, inl, inr, arith}
 use Rattle.std.proofs.lemmas.Int.{ints}
 use Rattle.std.proofs.lemmas.Bool.{cases_eq}
 use Rattle.life_core.specs.PackedRow.{place}
+use Rattle.life_core.proofs.FrameBounds.{near_fits, words_few}
 use Rattle.life_core.proofs.PackedCells.{live_place}
 use Rattle.life_core.proofs.packed.margins.right_is_free.Goals as goal
+
+pub overflow_mul-frame : goal.overflow_mul-frame
+overflow_mul-frame c = record { fits = omega (arith, words_few c.args.frame c.requires.frame) }
+
+pub overflow_cast-frame : goal.overflow_cast-frame
+overflow_cast-frame c = record { sfits = omega (arith, ints, words_few c.args.frame c.requires.frame) }
+
+pub overflow_add-frame : goal.overflow_add-frame
+overflow_add-frame c =
+    let few = words_few c.args.frame c.requires.frame in
+    near_fits _ (omega (arith, ints, c.requires.frame.from_left, c.requires.frame.to_right)) (omega (arith, ints, c.requires.frame.from_left, c.requires.frame.to_right))
+
+pub overflow_add-from : goal.overflow_add-from
+overflow_add-from c = near_fits _ (omega (arith, ints, c.from.ensures)) (omega (arith, ints, c.from.ensures))
+
+pub overflow_sub-frame : goal.overflow_sub-frame
+overflow_sub-frame c = c.requires.frame.wide
+
+pub returns-then-frame-from-clause-free : goal.returns-then-frame-from-clause-free
+returns-then-frame-from-clause-free c past d live =
+    let few = words_few c.args.frame c.requires.frame in
+    omega (arith, ints, c.from.ensures, c.if-frame-from.true, (c.requires.within d live).right, c.requires.frame.from_left, c.requires.frame.to_right)
 
 pub returns-else-frame-from-clause-free : goal.returns-else-frame-from-clause-free
 returns-else-frame-from-clause-free c free d live =
@@ -13,3 +36,8 @@ returns-else-frame-from-clause-free c free d live =
       | inl edge ↦ absurd (omega (arith, p.live, c.column_is_dead.ensures free p.y p.low, ap (λ x. place c.args.rows.now (p.y * (64 * f.words) + x)) edge))
       | inr apart ↦ omega (arith, ints, p.column, p.narrow, apart)
     ]
+
+pub returns-else-frame-from-clause-near : goal.returns-else-frame-from-clause-near
+returns-else-frame-from-clause-near c _ =
+    let few = words_few c.args.frame c.requires.frame in
+    omega (arith, ints, c.from.ensures, c.if-frame-from.false, c.requires.frame.from_left, c.requires.frame.to_right)

@@ -1,5 +1,5 @@
 use Rattle.std.specs.Prelude.{IsTrue}
-use Rattle.std.proofs.Common.{◌≡◌, ℕ, ◌*◌, ◌+◌, ◌-◌, ◌<◌, ◌≤◌, length, min, inl, inr, refl, ap, subst, ◌∙◌, arith}
+use Rattle.std.proofs.Common.{◌≡◌, ℕ, ◌*◌, ◌+◌, ◌-◌, ◌<◌, ◌≤◌, length, min, inl, inr, refl, sym, ap, subst, ◌∙◌, rules, arith}
 use Rattle.std.specs.FinSet as set
 use Rattle.std.proofs.lemmas.Nat.{mul-le}
 use Rattle.life_core.specs.Generations.{next}
@@ -12,8 +12,83 @@ use Rattle.std.proofs.lemmas.Bool.{cases_eq}
 use Rattle.life_core.specs.PackedSpanState.{IsBlankOutside, span_at}
 use Rattle.life_core.proofs.Spans.{row_blank, none_blank, spans_join, same_join, rest_join, spans_marked, same_marked, slice_blank, length-row}
 use Rattle.life_core.proofs.SettledRows.{IsSameRow, settled_next, settled_joins}
-use Rattle.life_core.proofs.FrameBounds.{row_fits}
+use Rattle.life_core.proofs.FrameBounds.{row_fits, rows_few, word_few}
 use Rattle.life_core.proofs.packed.rows.advance.Goals as goal
+
+pub is_settled-requires : goal.is_settled-requires
+is_settled-requires c = omega (arith, c.requires.spans.long, c.loop-y-test.true)
+
+pub offset_bounds-out_spans-y : goal.offset_bounds-out_spans-y
+offset_bounds-out_spans-y c = record { fits = omega (arith, rows_few c.args.frame c.requires.frame, c.loop-y-test.true) }
+
+pub bounds-out_spans-y : goal.bounds-out_spans-y
+bounds-out_spans-y c = omega (arith, c.loop-y.invariant.spans.long, c.loop-y-test.true)
+
+pub row_above-requires-clause-rows : goal.row_above-requires-clause-rows
+row_above-requires-clause-rows c = omega (arith, row_fits c.args.frame.words c.args.frame.height c.loop-y.y c.loop-y-test.true, c.requires.rows)
+
+pub row_above-requires-clause-blank : goal.row_above-requires-clause-blank
+row_above-requires-clause-blank c = c.requires.blank
+
+pub row-requires : goal.row-requires
+row-requires c = omega (arith, row_fits c.args.frame.words c.args.frame.height c.loop-y.y c.loop-y-test.true, c.requires.rows)
+
+pub row_below-requires-clause-rows : goal.row_below-requires-clause-rows
+row_below-requires-clause-rows c = c.requires.rows
+
+pub row_below-requires-clause-y : goal.row_below-requires-clause-y
+row_below-requires-clause-y c = c.loop-y-test.true
+
+pub span_round-requires : goal.span_round-requires
+span_round-requires c = omega (arith, c.requires.spans.long, c.loop-y-test.true)
+
+pub overflow_mul-y : goal.overflow_mul-y
+overflow_mul-y c = record { fits = omega (arith, word_few c.args.frame 0 c.loop-y.y c.requires.frame (omega arith) c.loop-y-test.true) }
+
+pub overflow_mul-y-in-loop-y : goal.overflow_mul-y-in-loop-y
+overflow_mul-y-in-loop-y c = record { fits = omega (arith, word_few c.args.frame 0 c.loop-y.y c.requires.frame (omega arith) c.loop-y-test.true) }
+
+pub overflow_add-y : goal.overflow_add-y
+overflow_add-y c = record { fits = omega (arith, word_few c.args.frame c.args.frame.words c.loop-y.y c.requires.frame (omega arith) c.loop-y-test.true) }
+
+pub offset_bounds-out-y : goal.offset_bounds-out-y
+offset_bounds-out-y c = record { fits = omega (arith, word_few c.args.frame 0 c.loop-y.y c.requires.frame (omega arith) c.loop-y-test.true) }
+
+pub slice_bounds-span_step-count : goal.slice_bounds-span_step-count
+slice_bounds-span_step-count c = omega arith
+
+pub slice_bounds-span_step-end : goal.slice_bounds-span_step-end
+slice_bounds-span_step-end c =
+    let f = c.args.frame in
+    let fits : c.loop-y.y * f.words + f.words ≤ length c.loop-y.out = omega (arith, row_fits c.args.frame.words c.args.frame.height c.loop-y.y c.loop-y-test.true, c.requires.rows, c.loop-y.invariant.long) in
+    search rules
+
+pub offset_bounds-out_spans-y-in-loop-y : goal.offset_bounds-out_spans-y-in-loop-y
+offset_bounds-out_spans-y-in-loop-y c = record { fits = omega (arith, rows_few c.args.frame c.requires.frame, c.loop-y-test.true) }
+
+pub span_step-requires-clause-above : goal.span_step-requires-clause-above
+span_step-requires-clause-above c =
+    let f = c.args.frame in
+    let y = c.loop-y.y in
+    let size : (y * f.words + f.words) - y * f.words ≡ f.words = omega arith in
+    c.row_above.ensures.long ∙ sym (length-row c.loop-y.out f.words y _ size (omega (arith, row_fits f.words f.height y c.loop-y-test.true, c.requires.rows, c.loop-y.invariant.long)))
+
+pub span_step-requires-clause-here : goal.span_step-requires-clause-here
+span_step-requires-clause-here c =
+    let f = c.args.frame in
+    let y = c.loop-y.y in
+    let size : (y * f.words + f.words) - y * f.words ≡ f.words = omega arith in
+    c.row.ensures.long ∙ sym (length-row c.loop-y.out f.words y _ size (omega (arith, row_fits f.words f.height y c.loop-y-test.true, c.requires.rows, c.loop-y.invariant.long)))
+
+pub span_step-requires-clause-below : goal.span_step-requires-clause-below
+span_step-requires-clause-below c =
+    let f = c.args.frame in
+    let y = c.loop-y.y in
+    let size : (y * f.words + f.words) - y * f.words ≡ f.words = omega arith in
+    c.row_below.ensures.long ∙ sym (length-row c.loop-y.out f.words y _ size (omega (arith, row_fits f.words f.height y c.loop-y-test.true, c.requires.rows, c.loop-y.invariant.long)))
+
+pub span_step-requires-clause-rule : goal.span_step-requires-clause-rule
+span_step-requires-clause-rule c = (c.args.rule.now, c.of-masks.ensures)
 
 pub span_step-requires-clause-blank : goal.span_step-requires-clause-blank
 span_step-requires-clause-blank c =
@@ -55,6 +130,12 @@ span_step-requires-clause-ends c =
     let above = all.ends (y - 1) (omega (arith, low)) in
     let below = all.ends (min (y + 1) (length c.args.spans.now - 1)) (omega (arith, low, all.long)) in
     (omega (arith, long, c.span_round.ensures.to, own, above, below), omega (arith, long, c.loop-y.invariant.spans.ends y low))
+
+pub offset_bounds-out_spans-y-in-loop-y-2 : goal.offset_bounds-out_spans-y-in-loop-y-2
+offset_bounds-out_spans-y-in-loop-y-2 c = record { fits = omega (arith, rows_few c.args.frame c.requires.frame, c.loop-y-test.true) }
+
+pub bounds-out_spans-y-in-loop-y : goal.bounds-out_spans-y-in-loop-y
+bounds-out_spans-y-in-loop-y c = omega (arith, c.loop-y.invariant.spans.long, c.loop-y-test.true)
 
 pub loop-y-preserved-then-is_settled : goal.loop-y-preserved-then-is_settled
 loop-y-preserved-then-is_settled c =
@@ -100,6 +181,9 @@ returns-clause-rows c =
     rows_are f.left f.top (64 * f.words) f.height c.loop-y.out (next c.args.rule.now (framed f c.args.rows.now)) wide size
     (next_in c.args.rule.now f.left f.top (64 * f.words) f.height (framed f c.args.rows.now) c.requires.room)
     (λ x y narrow low. c.loop-y.invariant.below x y narrow (omega arith))
+
+pub returns-clause-spans : goal.returns-clause-spans
+returns-clause-spans c = c.loop-y.invariant.spans
 
 pub returns-clause-settled : goal.returns-clause-settled
 returns-clause-settled c = record {

@@ -1,9 +1,9 @@
-use Rattle.std.proofs.Common.{◌≡◌, ◌*◌, ◌+◌, ℕ, pos, get_or, refl, sym, ap, ◌∙◌, inl, inr, arith}
+use Rattle.std.proofs.Common.{◌≡◌, ◌*◌, ◌+◌, ℕ, pos, get_or, refl, sym, ap, subst, ◌∙◌, inl, inr, arith}
 use Rattle.std.specs.FinSet as set
 use Rattle.std.proofs.lemmas.Bool.{false≢true, cases_lt}
-use Rattle.life_core.specs.Cell.{moved_cell}
+use Rattle.life_core.specs.Cell.{moved_cell, IsCellWithin}
 use Rattle.life_core.specs.PackedFrameState.{framed, cell_of}
-use Rattle.life_core.proofs.FrameBounds.{places_few}
+use Rattle.life_core.proofs.FrameBounds.{places_few, cell_near}
 use Rattle.life_core.proofs.PackedCells.{cell_of-word}
 use Rattle.life_core.proofs.PackedShifts.{live_bit, bit_lives}
 use Rattle.std.specs.Int.{bit_at}
@@ -14,6 +14,33 @@ use Rattle.life_core.proofs.packed.shifts.covers.Goals.{else-rows-k-ne0-via-then
 
 pub overflow_mul-k : goal.overflow_mul-k
 overflow_mul-k c = record { fits = omega (arith, places_few c.args.frame c.requires.frame) }
+
+pub offset_bounds-rows-k : goal.offset_bounds-rows-k
+offset_bounds-rows-k c = record { fits = omega (arith, places_few c.args.frame c.requires.frame, c.requires.rows, c.loop-k-test.true) }
+
+pub bounds-rows-k : goal.bounds-rows-k
+bounds-rows-k c = c.loop-k-test.true
+
+pub cell-requires-clause-p : goal.cell-requires-clause-p
+cell-requires-clause-p c = omega (arith, c.requires.rows, c.loop-k-test.true)
+
+pub covers_word-requires-clause-start : goal.covers_word-requires-clause-start
+covers_word-requires-clause-start c = subst (IsCellWithin 2000000000) (sym c.cell.ensures) (cell_near c.args.frame (64 * c.loop-k.k) c.requires.frame (omega (arith, c.requires.rows, c.loop-k-test.true)))
+
+pub covers_word-requires-clause-others : goal.covers_word-requires-clause-others
+covers_word-requires-clause-others c = c.requires.others
+
+pub covers_word-requires-clause-columns : goal.covers_word-requires-clause-columns
+covers_word-requires-clause-columns c = c.requires.columns
+
+pub covers_word-requires-clause-rows_moved : goal.covers_word-requires-clause-rows_moved
+covers_word-requires-clause-rows_moved c = c.requires.rows_moved
+
+pub covers_word-requires-clause-to : goal.covers_word-requires-clause-to
+covers_word-requires-clause-to c = c.requires.to
+
+pub cell-requires-clause-frame : goal.cell-requires-clause-frame
+cell-requires-clause-frame c = c.requires.frame
 
 pub returns-then-not-covers_word : goal.returns-then-not-covers_word
 returns-then-not-covers_word c =

@@ -6,6 +6,32 @@ use Rattle.life_core.specs.PackedFrameState.{framed}
 use Rattle.life_core.proofs.PackedShifts.{from_none, to_none, by_covers, covers_there, covers_back}
 use Rattle.life_core.proofs.packed.shifts.shift_of_words.Goals as goal
 
+pub shift_of-there-requires-clause-from : goal.shift_of-there-requires-clause-from
+shift_of-there-requires-clause-from c = c.requires.within c.in_ok-first.first c.in_ok-first.ensures.first.live
+
+pub shift_of-there-requires-clause-to : goal.shift_of-there-requires-clause-to
+shift_of-there-requires-clause-to c = c.requires.others_within c.in_ok-other.other c.in_ok-other.ensures.first.live
+
+pub shift_of-back-requires-clause-from : goal.shift_of-back-requires-clause-from
+shift_of-back-requires-clause-from c = c.requires.others_within c.in_ok-other.other c.in_ok-other.ensures.first.live
+
+pub shift_of-back-requires-clause-to : goal.shift_of-back-requires-clause-to
+shift_of-back-requires-clause-to c = c.requires.within c.in_ok-first.first c.in_ok-first.ensures.first.live
+
+pub covers-requires-clause-columns : goal.covers-requires-clause-columns
+covers-requires-clause-columns c =
+    let a = c.requires.within c.in_ok-first.first c.in_ok-first.ensures.first.live in
+    let b = c.requires.others_within c.in_ok-other.other c.in_ok-other.ensures.first.live in
+    let move = c.shift_of-there.ensures.columns in
+    (omega (arith, ints, move, a.left, a.right, b.left, b.right), omega (arith, ints, move, a.left, a.right, b.left, b.right))
+
+pub covers-requires-2-clause-columns : goal.covers-requires-2-clause-columns
+covers-requires-2-clause-columns c =
+    let a = c.requires.within c.in_ok-first.first c.in_ok-first.ensures.first.live in
+    let b = c.requires.others_within c.in_ok-other.other c.in_ok-other.ensures.first.live in
+    let move = c.shift_of-back.ensures.columns in
+    (omega (arith, ints, move, a.left, a.right, b.left, b.right), omega (arith, ints, move, a.left, a.right, b.left, b.right))
+
 pub returns-in_err-first : goal.returns-in_err-first
 returns-in_err-first c = subst (ShiftsTo (framed c.args.frame c.args.rows.now) (framed c.args.to c.args.others.now)) (sym c.from_residual.ensures) (from_none _ _ (c.in_err-first.ensures.none refl))
 

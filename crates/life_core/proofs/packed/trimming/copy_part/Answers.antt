@@ -1,9 +1,30 @@
 use Rattle.std.proofs.Common.{◌≡◌, ℕ, List, ◌+◌, ◌-◌, ◌*◌, ◌<◌, length, take, drop, get_or, sym, ap, ◌∙◌, inl, inr, rules, arith}
 use Rattle.std.proofs.lemmas.Bool.{cases_lt}
-use Rattle.life_core.proofs.FrameBounds.{row_fits}
+use Rattle.life_core.proofs.FrameBounds.{row_fits, rows_few, word_few}
 use Rattle.life_core.proofs.PackedGrowth.{put_at, copied_rows}
 use Rattle.life_core.proofs.PackedTrimming.{part_fits, length-part, part_words, written_long, written_before, written_here}
 use Rattle.life_core.proofs.packed.trimming.copy_part.Goals as goal
+
+pub overflow_add-start : goal.overflow_add-start
+overflow_add-start c = record { fits = omega (arith, rows_few c.args.frame c.requires.frame, c.requires.to.wider.tall, c.loop-y-test.true) }
+
+pub overflow_mul-start : goal.overflow_mul-start
+overflow_mul-start c = record { fits = omega (arith, word_few c.args.frame 0 (c.args.to.top + c.loop-y.y) c.requires.frame (omega arith) (omega (arith, c.requires.to.wider.tall, c.loop-y-test.true))) }
+
+pub overflow_add-start-in-loop-y : goal.overflow_add-start-in-loop-y
+overflow_add-start-in-loop-y c = record { fits = omega (arith, word_few c.args.frame c.args.to.left (c.args.to.top + c.loop-y.y) c.requires.frame (omega (arith, c.requires.to.wider.wide)) (omega (arith, c.requires.to.wider.tall, c.loop-y-test.true))) }
+
+pub overflow_mul-y : goal.overflow_mul-y
+overflow_mul-y c = record { fits = omega (arith, word_few c.args.to.frame 0 c.loop-y.y c.requires.to.frame (omega arith) c.loop-y-test.true) }
+
+pub overflow_add-start-in-loop-y-2 : goal.overflow_add-start-in-loop-y-2
+overflow_add-start-in-loop-y-2 c = record { fits = omega (arith, word_few c.args.frame (c.args.to.left + c.args.to.frame.words) (c.args.to.top + c.loop-y.y) c.requires.frame c.requires.to.wider.wide (omega (arith, c.requires.to.wider.tall, c.loop-y-test.true))) }
+
+pub offset_bounds-rows-start : goal.offset_bounds-rows-start
+offset_bounds-rows-start c = record { fits = omega (arith, word_few c.args.frame c.args.to.left (c.args.to.top + c.loop-y.y) c.requires.frame (omega (arith, c.requires.to.wider.wide)) (omega (arith, c.requires.to.wider.tall, c.loop-y-test.true))) }
+
+pub slice_bounds-copy_at-count : goal.slice_bounds-copy_at-count
+slice_bounds-copy_at-count c = omega arith
 
 pub slice_bounds-copy_at-end : goal.slice_bounds-copy_at-end
 slice_bounds-copy_at-end c =

@@ -1,11 +1,41 @@
-use Rattle.std.proofs.Common.{◌≡◌, ℕ, List, ◌+◌, ◌-◌, ◌*◌, ◌<◌, length, take, drop, get_or, refl, sym, ap, subst, ◌∙◌, inl, inr, arith}
+use Rattle.std.proofs.Common.{◌≡◌, ℕ, List, ◌+◌, ◌-◌, ◌*◌, ◌<◌, ◌≤◌, length, take, drop, get_or, refl, sym, ap, subst, ◌∙◌, inl, inr, rules, arith}
 use Rattle.std.proofs.lemmas.Bool.{cases_lt}
-use Rattle.life_core.proofs.FrameBounds.{row_fits}
+use Rattle.life_core.proofs.FrameBounds.{row_fits, rows_few, word_few}
 use Rattle.life_core.proofs.Spans.{row_words, length-row}
 use Rattle.life_core.proofs.PackedGrowth.{IsBeside, put_at, as_long, row_has_room, copied_before, copied_here, blank_beside, copied_rows}
 use Rattle.life_core.specs.declared.packed.frame.Frame.{Frame}
 use Rattle.life_core.specs.declared.packed.margins.Wider.{Wider}
 use Rattle.life_core.proofs.packed.words.copy_rows.Goals as goal
+
+pub overflow_add-start : goal.overflow_add-start
+overflow_add-start c = record { fits = omega (arith, rows_few c.args.to.frame c.requires.to, c.requires.wider.tall, c.loop-y-test.true) }
+
+pub overflow_mul-start : goal.overflow_mul-start
+overflow_mul-start c = record { fits = omega (arith, word_few c.args.to.frame 0 (c.args.to.top + c.loop-y.y) c.requires.to (omega arith) (omega (arith, c.requires.wider.tall, c.loop-y-test.true))) }
+
+pub overflow_add-start-in-loop-y : goal.overflow_add-start-in-loop-y
+overflow_add-start-in-loop-y c = record { fits = omega (arith, word_few c.args.to.frame c.args.to.left (c.args.to.top + c.loop-y.y) c.requires.to (omega (arith, c.requires.wider.wide)) (omega (arith, c.requires.wider.tall, c.loop-y-test.true))) }
+
+pub overflow_mul-y : goal.overflow_mul-y
+overflow_mul-y c = record { fits = omega (arith, word_few c.args.from 0 c.loop-y.y c.requires.from (omega arith) c.loop-y-test.true) }
+
+pub overflow_mul-y-in-loop-y : goal.overflow_mul-y-in-loop-y
+overflow_mul-y-in-loop-y c = record { fits = omega (arith, word_few c.args.from 0 c.loop-y.y c.requires.from (omega arith) c.loop-y-test.true) }
+
+pub overflow_add-y : goal.overflow_add-y
+overflow_add-y c = record { fits = omega (arith, word_few c.args.from c.args.from.words c.loop-y.y c.requires.from (omega arith) c.loop-y-test.true) }
+
+pub offset_bounds-rows-y : goal.offset_bounds-rows-y
+offset_bounds-rows-y c = record { fits = omega (arith, word_few c.args.from 0 c.loop-y.y c.requires.from (omega arith) c.loop-y-test.true) }
+
+pub slice_bounds-copy_at-count : goal.slice_bounds-copy_at-count
+slice_bounds-copy_at-count c = omega arith
+
+pub slice_bounds-copy_at-end : goal.slice_bounds-copy_at-end
+slice_bounds-copy_at-end c =
+    let f = c.args.from in
+    let fits : c.loop-y.y * f.words + f.words ≤ length c.args.rows.now = omega (arith, row_fits f.words f.height c.loop-y.y c.loop-y-test.true, c.requires.rows) in
+    search rules
 
 pub copy_at-requires : goal.copy_at-requires
 copy_at-requires c =

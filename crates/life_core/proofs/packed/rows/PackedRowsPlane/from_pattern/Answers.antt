@@ -19,11 +19,11 @@ pub invariant_of-result-2 : goal.invariant_of-result-2
 invariant_of-result-2 g c = record {
   frame = c.of-frame.ensures.frame;
   size = c.in_ok-rows.ensures.len;
-  room = omega (arith, c.in_ok-rows.ensures.len, c.in_ok-spare.ensures.len);
-  empty = record { long = c.in_ok-blank.ensures.len; dead = c.in_ok-blank.ensures.zeros };
+  room = omega (arith, c.in_ok-rows.ensures.len, c.in_ok-spares.ensures.rows);
+  empty = c.in_ok-spares.ensures.blank;
   within = subst (IsWithin PLANE) (sym c.in_ok-rows.ensures.cells) (within_from_list PLANE c.cells.result.now c.cells.ensures.inside);
-  blank_words = c.in_ok-spans.ensures c.in_ok-rows.rows.items;
-  blank_spare = c.in_ok-spare_spans.ensures c.in_ok-spare.spare.items;
+  blank_words = c.in_ok-spares.ensures.spans c.in_ok-rows.rows.items;
+  blank_spare = c.in_ok-spares.ensures.spare_spans c.in_ok-spares.spares.rows.items;
   settled = λ never. absurd (false≢true never);
   after = λ never. absurd (false≢true never);
 }

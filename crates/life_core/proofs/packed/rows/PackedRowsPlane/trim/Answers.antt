@@ -1,12 +1,45 @@
-use Rattle.std.proofs.Common.{◌≡◌, ◌*◌, ◌≤◌, length, drop, sym, ap, subst, ◌∙◌, arith}
+use Rattle.std.proofs.Common.{◌≡◌, ℕ, List, ◌*◌, ◌≤◌, length, drop, sym, ap, subst, ◌∙◌, arith}
 use Rattle.std.proofs.lemmas.Bool.{false≢true}
 use Rattle.std.proofs.lemmas.List.{take_at}
 use Rattle.std.proofs.lemmas.Nat.{mul-le}
 use Rattle.life_core.specs.Pattern.{IsWithin}
 use Rattle.life_core.specs.PackedFrameState.{framed, IsBlank}
-use Rattle.life_core.specs.PackedSpanState.{AreSpans}
+use Rattle.life_core.specs.PackedTrimmingState.{IsNarrower}
+use Rattle.life_core.proofs.FrameBounds.{places_few}
 use Rattle.life_core.proofs.PackedTrimming.{length-front, blank_front}
 use Rattle.life_core.proofs.packed.rows.PackedRowsPlane.trim.Goals as goal
+
+pub narrowed-requires-clause-frame : goal.narrowed-requires-clause-frame
+narrowed-requires-clause-frame g c = c.self.invariant.frame
+
+pub narrowed-requires-clause-rows : goal.narrowed-requires-clause-rows
+narrowed-requires-clause-rows g c = c.self.invariant.size ∙ ap length (sym c.deref.ensures.value)
+
+pub overflow_mul-len : goal.overflow_mul-len
+overflow_mul-len g c = record { fits = omega (arith, places_few c.in-Some.narrower.frame c.in-Some.ensures.frame) }
+
+pub copy_part-requires-clause-frame : goal.copy_part-requires-clause-frame
+copy_part-requires-clause-frame g c = c.self.invariant.frame
+
+pub copy_part-requires-clause-rows : goal.copy_part-requires-clause-rows
+copy_part-requires-clause-rows g c = c.self.invariant.size ∙ ap length (sym c.deref-in-Some.ensures.value)
+
+pub copy_part-requires-clause-to : goal.copy_part-requires-clause-to
+copy_part-requires-clause-to g c = subst (λ (rows : List ℕ). IsNarrower c.self.inside.frame rows c.in-Some.narrower) (c.deref.ensures.value ∙ sym c.deref-in-Some.ensures.value) c.in-Some.ensures
+
+pub copy_part-requires-clause-out : goal.copy_part-requires-clause-out
+copy_part-requires-clause-out g c =
+    let s = c.self.inside in
+    let n = c.in-Some.narrower.frame in
+    let narrow = c.in-Some.ensures.wider in
+    let few = mul-le n.height n.words s.frame.height s.frame.words (omega (arith, narrow.tall)) (omega (arith, narrow.wide)) in
+    sym (ap length (c.deref_mut.ensures.value ∙ c.truncate.ensures.items) ∙ length-front s.spare.items _ (omega (arith, few, c.self.invariant.size, c.self.invariant.room)))
+
+pub keep_whole-requires : goal.keep_whole-requires
+keep_whole-requires g c = omega (arith, c.self.invariant.blank_words.long, c.in-Some.ensures.wider.tall)
+
+pub keep_whole-requires-in-Some : goal.keep_whole-requires-in-Some
+keep_whole-requires-in-Some g c = omega (arith, c.self.invariant.blank_spare.long, c.in-Some.ensures.wider.tall)
 
 pub invariant_of-self : goal.invariant_of-self
 invariant_of-self g c =
@@ -22,8 +55,6 @@ invariant_of-self g c =
     let x : c.swap.new.x.items ≡ c.copy_part.new.out = ap (λ v. v.items) c.swap.ensures.x_after ∙ take_at c.copy_part.new.out (drop (length c.copy_part.new.out) c.truncate.new.self.items) c.truncate.new.self.len (omega (arith, long, c.truncate.new.self.ok)) in
     let y : c.swap.new.y.items ≡ s.rows.items = ap (λ v. v.items) c.swap.ensures.y_after in
     let kept : length c.truncate-in-Some.new.self.items ≡ n.frame.height * n.frame.words = ap length c.truncate-in-Some.ensures.items ∙ length-front c.swap.new.y.items _ (omega (arith, few, ap length y)) in
-    let spans = take_at c.set_whole.new.spans (drop (length c.set_whole.new.spans) c.truncate-in-Some-3.new.self.items) c.truncate-in-Some-3.new.self.len (omega (arith, ap length c.deref_mut-in-Some.ensures.value, c.truncate-in-Some-3.new.self.ok)) in
-    let spare_spans = take_at c.set_whole-in-Some.new.spans (drop (length c.set_whole-in-Some.new.spans) c.truncate-in-Some-4.new.self.items) c.truncate-in-Some-4.new.self.len (omega (arith, ap length c.deref_mut-in-Some-2.ensures.value, c.truncate-in-Some-4.new.self.ok)) in
     let eq : framed n.frame c.swap.new.x.items ≡ framed f s.rows.items = ap (framed n.frame) x ∙ c.copy_part.ensures ∙ ap (framed f) c.deref-in-Some.ensures.value in
     record {
       frame = narrow.frame;
@@ -31,8 +62,8 @@ invariant_of-self g c =
       room = omega (arith, kept, spare, long, ap length x);
       empty = subst (IsBlank n.frame.words) (sym c.truncate-in-Some-2.ensures.items) (blank_front s.blank.items f.words n.frame.words packed.empty (omega (arith, narrow.wider.wide)));
       within = subst (IsWithin 1000000000) (sym eq) packed.within;
-      blank_words = subst (AreSpans n.frame c.swap.new.x.items) (sym spans) (c.set_whole.ensures _);
-      blank_spare = subst (AreSpans n.frame c.truncate-in-Some.new.self.items) (sym spare_spans) (c.set_whole-in-Some.ensures _);
+      blank_words = c.keep_whole.ensures _;
+      blank_spare = c.keep_whole-in-Some.ensures _;
       settled = λ never. absurd (false≢true never);
       after = λ never. absurd (false≢true never);
     }

@@ -14,7 +14,6 @@ use crate::reading::{
 use crate::{censuses, deposits, flags};
 use life_census::{Rows, Tally};
 use life_core::Rule;
-use life_rle::write;
 use sqlite::{Alter, Connection};
 use std::alloc::Global;
 use std::marker::Model;
@@ -139,21 +138,17 @@ impl<S: Alter> Archive<S> {
         let Some(id) = count.checked_add(1) else {
             return Err(Unavailable);
         };
-        let (Ok(place), Ok(population)) = (
-            i64::try_from(id),
-            i64::try_from(deposit.content.cells.population()),
-        ) else {
+        let Ok(place) = i64::try_from(id) else {
             return Err(Unavailable);
         };
-        let rule = deposit.content.rule.text(alloc)?;
-        let file = write(alloc, &deposit.content)?;
+        let values = deposits::values_of(alloc, deposit)?;
         deposits::insert(
             &mut self.conn,
             place,
             deposit,
-            rule.as_bytes(),
-            population,
-            file.as_slice(),
+            values.rule.as_bytes(),
+            values.population,
+            values.file.as_slice(),
         )?;
         Ok(id)
     }

@@ -1,15 +1,19 @@
 //! The statements on the table of deposits, one function for each.
 
 ghost use Rattle.std.specs.Prelude.{◌≡◌, ◌+◌, ◌++◌, ℕ, pos, [], ◌∷◌, length, map, option_map, IsTrue, IfOk, OnErr, OnOk};
+ghost use Rattle.std.specs.String.{string_bytes};
 ghost use Rattle.sqlite.specs.Held.{state};
+ghost use Rattle.life_rle.specs.Record.{IsInside};
 ghost use Rattle.life_store.specs.ReadingState.{newest_rows, ShowsDeposit, line_shown};
 ghost use Rattle.life_store.specs.Kept.{Kept, numbered, deposit_by, lines_after};
 ghost use Rattle.life_store.specs.DepositsState.{AreValuesOf};
 ghost use Rattle.life_store.specs.Tables.{tables_of, Holds, StaysLost, Keeps, Tells};
 
 use crate::asking::{ask, blob, text, whole, write};
+use crate::fault::Unavailable;
 use crate::kept::Deposit;
 use sqlite::{Alter, Connection, Error, Row};
+use std::alloc::Global;
 
 /// The greatest number.
 pub(crate) fn newest<S: Alter>(conn: &mut Connection<S>) -> Result<Vec<Row>, Error>
@@ -65,6 +69,31 @@ pub(crate) fn list_after<S: Alter>(conn: &mut Connection<S>, id: i64) -> Result<
         "SELECT id, member, population, rule FROM deposits WHERE id > ?1 ORDER BY id LIMIT 100",
         &[whole(id)],
     )
+}
+
+/// What a deposit's row has besides its number, member and token.
+#[derive(Drop)]
+pub(crate) struct Values {
+    pub(crate) rule: String,
+    pub(crate) population: i64,
+    pub(crate) file: Vec<u8>,
+}
+
+/// The values of a deposit's row.
+pub(crate) fn values_of(alloc: Global, deposit: &Deposit) -> Result<Values, Unavailable>
+    requires { IsInside 1024 deposit.now.content.cells }
+    ensures { IfOk result (λ v. AreValuesOf deposit.now (string_bytes v.rule) v.population v.file.items) }
+{
+    let Ok(population) = i64::try_from(deposit.content.cells.population()) else {
+        return Err(Unavailable);
+    };
+    let rule = deposit.content.rule.text(alloc)?;
+    let file = life_rle::write(alloc, &deposit.content)?;
+    Ok(Values {
+        rule,
+        population,
+        file,
+    })
 }
 
 /// Adds the deposit under the number.

@@ -238,26 +238,34 @@ fn close<D: Disk + Drop>(conn: Connection<FileStore<D>>) -> Result<Files<D>, Fil
     }
 }
 
-/// The fault, and the files. Those of a database that is not an archive's are closed as `close_files`
-/// closes them; others are given back with no IO.
-fn refused<D: Disk + Drop>(
-    conn: Connection<FileStore<D>>,
-    fault: OpenFault,
-) -> (OpenFault, Files<D>)
-    ensures same { result.0 ≡ OpenFault.NotOurs → fault ≡ OpenFault.NotOurs }
-    ensures fits { fault ≢ OpenFault.BadCapacity → result.0 ≢ OpenFault.BadCapacity }
-    ensures clean { AreClean D.Disk result.1.log result.1.db → result.0 ≡ OpenFault.NotOurs → HasCleanDisk (file_state conn) × IsTrue (file_state conn).is_open }
+/// The connection as an archive, once its tables were seen to; else the fault, with the connection where the
+/// database is not an archive's, and with its store alone in other cases.
+fn seen_to<S: Alter + Drop>(
+    alloc: Global,
+    conn: Connection<S>,
+    capacity: u64,
+) -> Result<Archive<S>, (OpenFault, Result<Connection<S>, S>)>
+    ensures capacity { IfOk result (λ a. a.capacity ≡ capacity) }
+    ensures found { IfOk result (λ a. (k : Kept) → IsTrue a.tables.is_sure → Holds (tables_of (state S.Store conn)) k → Holds a.tables k) }
+    ensures carries { IfOk result (λ a. Carries (tables_of (state S.Store conn)) a.tables) }
+    ensures fresh { IfOk result (λ a. IsTrue a.tables.is_sure → IsLaid no_schema [] (state S.Store conn).now → Holds a.tables nothing_kept) }
+    ensures known { IfOk result (λ a. (schema : SchemaValue) (own versions : List Value) → IsLayout schema own → IsTrue a.tables.is_sure → HaveVersions schema (tables_of (state S.Store conn)) versions → versions ≡ own) }
+    ensures clean { IfOk result (λ a. IsTrue a.tables.is_sure → HasCleanDisk (state S.Store conn)) }
+    ensures fits { IfErr result (λ e. e.0 ≢ OpenFault.BadCapacity) }
+    ensures none { (state S.Store conn).now.schema ≡ no_schema → IfErr result (λ e. e.0 ≢ OpenFault.NotOurs) }
+    ensures others { IfErr result (λ e. IfErr e.1 (λ _. e.0 ≢ OpenFault.NotOurs)) }
+    ensures ours { IfErr result (λ e. IfOk e.1 (λ left. HasCleanDisk (state S.Store left) → IsTrue (state S.Store left).is_open → HasCleanDisk (state S.Store conn) × ((schema : SchemaValue) (own : List Value) → IsLayout schema own → HaveVersions schema (tables_of (state S.Store conn)) own → ⊥))) }
 {
-    if fault != OpenFault::NotOurs {
-        return (fault, conn.into_store().close());
-    }
-    match close(conn) {
-        Ok(files) => (fault, files),
-        Err(files) => (OpenFault::Unavailable, files),
+    let mut conn = conn;
+    match prepare(alloc, &mut conn) {
+        Ok(()) => Ok(Archive { conn, capacity }),
+        Err(OpenFault::NotOurs) => Err((OpenFault::NotOurs, Ok(conn))),
+        Err(fault) => Err((fault, Err(conn.into_store()))),
     }
 }
 
-/// The connection as an archive, once its tables were seen to; else the files.
+/// The connection as an archive, once its tables were seen to; else the fault and the files. Those of a database
+/// that is not an archive's are closed as `close_files` closes them; others are given back with no IO.
 fn archive_over<D: Disk + Drop>(
     alloc: Global,
     conn: Connection<FileStore<D>>,
@@ -273,10 +281,13 @@ fn archive_over<D: Disk + Drop>(
     ensures none { (file_state conn).now.schema ≡ no_schema → IfErr result (λ e. e.0 ≢ OpenFault.NotOurs) }
     ensures clean { IfOk result (λ a. IsTrue a.tables.is_sure → HasCleanDisk (file_state conn)) }
 {
-    let mut conn = conn;
-    match prepare(alloc, &mut conn) {
-        Ok(()) => Ok(Archive { conn, capacity }),
-        Err(fault) => Err(refused(conn, fault)),
+    match seen_to(alloc, conn, capacity) {
+        Ok(archive) => Ok(archive),
+        Err((fault, Err(store))) => Err((fault, store.close())),
+        Err((fault, Ok(left))) => match close(left) {
+            Ok(files) => Err((fault, files)),
+            Err(files) => Err((OpenFault::Unavailable, files)),
+        },
     }
 }
 

@@ -1,20 +1,15 @@
 -- The reply to a request, as it was written.
-use Rattle.std.proofs.Common.{◌≡◌, true, List, ℕ, Result, Ok, inl, inr}
+use Rattle.std.proofs.Common.{◌≡◌, true, List, ℕ, Ok, inl, inr}
 use Rattle.life_desk.specs.declared.request.Request.{Request}
 use Rattle.life_desk.specs.declared.request.Reply.{Reply}
 use Rattle.life_desk.specs.declared.request.Reply.TheVariants as says
 use Rattle.life_desk.specs.declared.refusal.Refusal.TheVariants as refusals
-use Rattle.life_pages.specs.declared.asked.PageRefusal.{PageRefusal}
 use Rattle.life_desk.specs.Replies.{is_shown}
 use Rattle.life_pages.specs.ReplyState.{Writes}
 use Rattle.life_pages.specs.Message.{AnswersAsked}
 
 module _ {D : Type 0} (answers : D → Request → Reply → D → Type 0) where
-  written : (old new : D) (q : Request) (r : Reply) (bytes : List ℕ) → answers old q r new
+  pub written : (old new : D) (q : Request) (r : Reply) (bytes : List ℕ) → answers old q r new
       → (is_shown r ≡ true → answers old q (says.Refused refusals.Unavailable) new) → Writes r bytes → AnswersAsked answers old (Ok q) bytes new
   written old new q r bytes a withheld (inl e) = inl (r, a, e)
   written old new q r bytes a withheld (inr p) = inl (says.Refused refusals.Unavailable, withheld p.0, p.1)
-
-  pub reply_written : (x : Result Request PageRefusal) (old new : D) (q : Request) (r : Reply) (bytes : List ℕ) → x ≡ Ok q → answers old q r new
-      → (is_shown r ≡ true → answers old q (says.Refused refusals.Unavailable) new) → Writes r bytes → AnswersAsked answers old x bytes new
-  reply_written x old new q r bytes is a withheld w = rw is (written old new q r bytes a withheld w)

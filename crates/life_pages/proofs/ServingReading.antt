@@ -1,15 +1,14 @@
 -- A stream as far as it was taken.
-use Rattle.std.proofs.Common.{◌≡◌, ℕ, true, false, List, [], ◌∷◌, ◌++◌, Option, None, Some, Result, Ok, Err, IfSome, refl, sym, ◌∙◌, ap, append_assoc, append-nil}
+use Rattle.std.proofs.Common.{◌≡◌, ℕ, false, List, [], ◌∷◌, ◌++◌, Option, None, Some, Ok, IfSome, refl, sym, ◌∙◌, ap, append_assoc, append-nil}
 use Rattle.life_pages.specs.Head.{Head}
 use Rattle.life_rle.specs.Stream.{Gains, GainsSome, Loses, IsEnded}
 use Rattle.life_rle.proofs.StreamLemmas.{gains_more, gains_none}
 use Rattle.life_rle.specs.declared.stream.Failed.{Failed}
-use Rattle.std.specs.Result.{is_err}
 use Rattle.life_pages.specs.Reply.{bad_bytes}
 use Rattle.life_pages.specs.Message.{Message, bad, Messages, Front, Starts, Run, HasNone, is_blank}
 use Rattle.life_pages.specs.Serving.{Broke, Served, Fronts, Paused, Cut}
-use Rattle.life_pages.specs.ServingState.{Went, Ended, Feeds, AtEnd}
-use Rattle.life_pages.proofs.ServingRunning.{front_then, front_append, front_messages, front_starts, run_then, some_more, then_cut, cut_broke}
+use Rattle.life_pages.specs.ServingState.{Went, Ended, Feeds}
+use Rattle.life_pages.proofs.ServingRunning.{front_then, front_append, front_messages, front_starts, run_then, some_more, then_cut}
 
 fronts_none : (stream : Option (List ℕ)) → Fronts stream [] [] stream
 fronts_none None = tt
@@ -137,16 +136,6 @@ pub fed_end : (left next : Option (List ℕ)) (held all : List ℕ) (k : ℕ) �
 fed_end left next held all k f z = (f.2 ∙ ap (λ (l : List ℕ). held ++ l) (f.3 z).0 ∙ append-nil held, (f.3 z).1)
 
 module _ {D : Type 0} (answers : D → Head → List ℕ → List ℕ → D → Type 0) where
-  pub end_ok : (r : Result (Unit {0}) Failed) (held : List ℕ) (desk : D) (x y : Option (List ℕ)) → is_err r ≡ false → AtEnd answers r held desk x y
-      → Served answers held desk desk x y
-  end_ok (Ok u) held desk x y e a = a
-  end_ok (Err f) held desk x y e a = absurd (cc)
-
-  pub end_any : (r : Result (Unit {0}) Failed) (held : List ℕ) (desk : D) (x y : Option (List ℕ)) → AtEnd answers r held desk x y
-      → Broke answers desk desk x y
-  end_any (Ok u) held desk x y a = served_broke answers held desk desk x y a
-  end_any (Err f) held desk x y a = cut_broke answers (λ ms. Starts held ms) desk desk x y a
-
   pub paused : (stream left : Option (List ℕ)) (held : List ℕ) (old new : D) (x y : Option (List ℕ)) → Reading answers stream left held old new x y → HasNone held
       → Paused answers stream left old new x y
   paused stream left held old new x y r n =
@@ -181,11 +170,6 @@ module _ {D : Type 0} (answers : D → Head → List ℕ → List ℕ → D → 
   reading_cut_end stream left held old mid new x y z r e c =
       then_cut answers (λ ms. Starts held ms) (λ ms. IfSome stream (λ s. Starts s ms)) r.done r.bytes old mid new x y z r.run r.put
       (λ ms h. fronts_starts_end stream left r.done ms held r.front e h) c
-
-  pub end_cut : (r : Result (Unit {0}) Failed) (held : List ℕ) (desk : D) (x y : Option (List ℕ)) → is_err r ≡ true → AtEnd answers r held desk x y
-      → Cut answers (λ ms. Starts held ms) desk desk x y
-  end_cut (Ok u) held desk x y e a = absurd (cc)
-  end_cut (Err f) held desk x y e a = a
 
   -- the last message, cut short by the end of the input
   pub bad_cut : (held : List ℕ) (desk : D) (x y : Option (List ℕ)) → is_blank held ≡ false → HasNone held → GainsSome x y bad_bytes

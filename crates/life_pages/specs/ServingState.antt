@@ -1,6 +1,8 @@
 -- What the private calls that serve a stream do, one after the other.
-use Rattle.std.specs.Prelude.{◌≡◌, ℕ, ◌<◌, ◌≤◌, Bool, true, false, List, [], ◌++◌, length, Option, None, Some, Result, Ok, Err}
-use Rattle.life_rle.specs.Stream.{Loses, Gains, IsEnded}
+use Rattle.std.specs.Prelude.{◌≡◌, ◌⊎◌, ℕ, ◌<◌, ◌≤◌, Bool, true, false, List, [], ◌++◌, length, Option, None, Some, Result, Ok, Err, IfSome}
+use Rattle.life_rle.specs.Stream.{Loses, Gains, GainsSome, IsEnded}
+use Rattle.life_pages.specs.declared.serving.IoFault.{IoFault}
+use Rattle.life_pages.specs.declared.serving.IoFault.TheVariants as faults
 use Rattle.life_pages.specs.declared.serving.Step.{Step}
 use Rattle.life_pages.specs.declared.serving.Step.TheVariants.{Wants, Goes, Ends}
 use Rattle.life_pages.specs.declared.serving.Passed.{Passed}
@@ -8,7 +10,12 @@ use Rattle.life_pages.specs.declared.serving.Passed.TheVariants as passed
 use Rattle.life_pages.specs.Head.{Head}
 use Rattle.life_pages.specs.Message.{Message, Messages, Front, Starts, Run, is_blank}
 use Rattle.life_pages.specs.MessageState.{IsWanting}
-use Rattle.life_pages.specs.Serving.{Cut, Served}
+use Rattle.life_pages.specs.Reply.{bad_bytes}
+use Rattle.life_pages.specs.Serving.{Cut, Served, Broke, Paused, LosesAtLeast}
+
+-- the most takes of one call
+abbrev pub most_takes : ℕ
+most_takes = 1048576
 
 -- a take of more bytes behind those that are held
 abbrev pub Feeds : {E : Type 0} → Option (List ℕ) → Option (List ℕ) → List ℕ → List ℕ → Result ℕ E → Type 0
@@ -49,9 +56,22 @@ module _ {D : Type 0} (answers : D → Head → List ℕ → List ℕ → D → 
   IsServed (Err e) held rest old new before after = Cut answers (λ ms. (more : List ℕ) → Starts (held ++ more) ms) old new before after
 
   -- at the end of the input
-  abbrev pub AtEnd : {E : Type 0} → Result (Unit {0}) E → List ℕ → D → Option (List ℕ) → Option (List ℕ) → Type 0
+  abbrev pub AtEnd : Result (Unit {0}) IoFault → List ℕ → D → Option (List ℕ) → Option (List ℕ) → Type 0
   AtEnd (Ok u) held desk before after = Served answers held desk desk before after
-  AtEnd (Err e) held desk before after = Cut answers (λ ms. Starts held ms) desk desk before after
+  AtEnd (Err faults.Write) held desk before after = Cut answers (λ ms. Starts held ms) desk desk before after
+  AtEnd (Err faults.Read) held desk before after = ⊥
+  AtEnd (Err faults.TooManyReads) held desk before after = ⊥
+  AtEnd (Err faults.Memory) held desk before after = ⊥
+
+  -- what became of a stream
+  abbrev pub IsOutcome : Result (Unit {0}) IoFault → Option (List ℕ) → Option (List ℕ) → D → D → Option (List ℕ) → Option (List ℕ) → Type 0
+  IsOutcome (Ok u) stream left old new before after =
+      IfSome stream (λ bytes. Served answers bytes old new before after) × Broke answers old new before after
+  IsOutcome (Err faults.Read) stream left old new before after = Paused answers stream left old new before after
+  IsOutcome (Err faults.TooManyReads) stream left old new before after =
+      Paused answers stream left old new before after × LosesAtLeast most_takes stream left
+  IsOutcome (Err faults.Write) stream left old new before after = Cut answers (λ ms. IfSome stream (λ bytes. Starts bytes ms)) old new before after
+  IsOutcome (Err faults.Memory) stream left old new before after = ⊥
 
 -- at least so many bytes were taken, all of them CR and LF
 abbrev pub PassesBlank : ℕ → Option (List ℕ) → Option (List ℕ) → Type 0
@@ -68,3 +88,12 @@ IsPassed passed.Ended takes old new = IsBlankRest old true
 IsPassed passed.Other takes old new = IsBlankRest old false
 IsPassed passed.Failed takes old new = PassesBlank 0 old new
 IsPassed passed.TooMany takes old new = PassesBlank takes old new
+
+-- what became of a stream behind as many of them as a head may have, in at most so many takes
+abbrev pub IsBlankEnd : Result (Unit {0}) IoFault → ℕ → Option (List ℕ) → Option (List ℕ) → Option (List ℕ) → Option (List ℕ) → Type 0
+IsBlankEnd (Ok u) takes old new before after =
+    (IsBlankRest old true × (after ≡ before)) ⊎ (IsBlankRest old false × Gains before after bad_bytes)
+IsBlankEnd (Err faults.Write) takes old new before after = IsBlankRest old false × GainsSome before after bad_bytes
+IsBlankEnd (Err faults.Read) takes old new before after = PassesBlank 0 old new × (after ≡ before)
+IsBlankEnd (Err faults.TooManyReads) takes old new before after = PassesBlank takes old new × (after ≡ before)
+IsBlankEnd (Err faults.Memory) takes old new before after = ⊥

@@ -1,23 +1,45 @@
 //! The reply to a good message.
-ghost use Rattle.std.specs.Prelude.{◌≡◌, ◌≤◌, vec_capacity};
+ghost use Rattle.std.specs.Prelude.{◌≡◌, ◌≤◌, vec_capacity, Ok, IfOk};
 ghost use Rattle.life_pages.specs.HeadState.{said};
 ghost use Rattle.life_pages.specs.Route.{page_rows};
-ghost use Rattle.life_pages.specs.Message.{AnswersMessage};
+ghost use Rattle.life_pages.specs.Message.{AnswersAsked, AnswersMessage};
 ghost use Rattle.life_pages.specs.AnswerState.{HasRoom};
 
 use crate::asked::{Unasked, asked};
 use crate::desk::Desk;
 use crate::head::GoodHead;
-use crate::reply::{write_page, write_reply, write_unavailable};
+use crate::reply::{BODY_ROOM, REPLY_ROOM, write_page, write_reply, write_unavailable};
 use crate::route::Page;
+use life_desk::Request;
 use matchit::Router;
-use std::alloc::Global;
+use std::alloc::{AllocError, Global};
 
 /// Where a reply is written, and the body of a short one before it.
 #[derive(Drop)]
 pub(crate) struct Draft {
     pub(crate) reply: Vec<u8>,
     pub(crate) body: Vec<u8>,
+}
+
+impl Draft {
+    /// A draft with room for each short reply.
+    pub(crate) fn with_room(alloc: Global) -> Result<Draft, AllocError>
+        ensures { IfOk result (λ d. HasRoom d) }
+    {
+        let reply = Vec::with_capacity(alloc, REPLY_ROOM)?;
+        let body = Vec::with_capacity(alloc, BODY_ROOM)?;
+        Ok(Draft { reply, body })
+    }
+}
+
+/// Writes the reply to a request.
+fn answer_request<D: Desk>(alloc: Global, desk: &mut D, request: Request, draft: &mut Draft)
+    requires room { HasRoom draft.old }
+    ensures answered { AnswersAsked D.answers desk.old (Ok request) draft.new.reply.items desk.new }
+    ensures room { HasRoom draft.new }
+{
+    let reply = desk.answer(alloc, request);
+    write_reply(alloc, &mut draft.reply, &mut draft.body, &reply);
 }
 
 /// Writes the reply to a good message.
@@ -35,10 +57,7 @@ pub(crate) fn answer_message<D: Desk>(
     ensures room { HasRoom draft.new }
 {
     match asked(alloc, routes, head, body) {
-        Ok(request) => {
-            let reply = desk.answer(alloc, request);
-            write_reply(alloc, &mut draft.reply, &mut draft.body, &reply);
-        }
+        Ok(request) => answer_request(alloc, desk, request, draft),
         Err(Unasked::Refused(refusal)) => write_page(&mut draft.reply, refusal),
         Err(Unasked::Memory) => write_unavailable(&mut draft.reply),
     }

@@ -1,21 +1,21 @@
 //! Serving the messages of a stream.
-ghost use Rattle.std.specs.Prelude.{◌⊎◌, ◌≡◌, ℕ, ◌+◌, ◌-◌, ◌<◌, ◌≤◌, List, [], ◌∷◌, ◌++◌, length, drop, true, vec_len, vec_capacity, Err, OnOk, OnErr, IfOk, IfSome};
+ghost use Rattle.std.specs.Prelude.{◌⊎◌, ◌≡◌, ℕ, ◌+◌, ◌-◌, ◌<◌, ◌≤◌, List, [], ◌∷◌, ◌++◌, length, drop, true, false, vec_len, vec_capacity, Err, OnOk, OnErr, IfOk, IfSome};
 ghost use Rattle.life_rle.specs.Stream.{counted, FailedBetween, Gains, GainsSome};
 ghost use Rattle.life_pages.specs.Head.{Head};
 ghost use Rattle.life_pages.specs.HeadState.{said};
 ghost use Rattle.life_pages.specs.Route.{page_rows};
 ghost use Rattle.life_pages.specs.Reply.{bad_bytes};
 ghost use Rattle.life_pages.specs.Message.{is_blank, Stands, HasNone, Starts, AnswersMessage};
-ghost use Rattle.life_pages.specs.MessageState.{held_limit, WantsUntil};
+ghost use Rattle.life_pages.specs.MessageState.{held_limit, NeverHas, IsWanting, WantsUntil};
 ghost use Rattle.life_pages.specs.AnswerState.{HasRoom};
 ghost use Rattle.life_pages.specs.Serving.{Paused, Cut, Served, Broke, LosesAtLeast};
-ghost use Rattle.life_pages.specs.ServingState.{AtEnd, IsStep, IsServed, Feeds, IsPassed};
+ghost use Rattle.life_pages.specs.ServingState.{AtEnd, IsStep, IsServed, IsOutcome, Feeds, IsPassed, IsBlankEnd};
 
 use crate::answer::{Draft, answer_message};
 use crate::asked::PageRefusal;
 use crate::desk::Desk;
 use crate::message::{HEAD_LIMIT, Next, are_blank, next_message};
-use crate::reply::{BODY_ROOM, REPLY_ROOM, add, page_reply};
+use crate::reply::{add, page_reply};
 use crate::route::{Page, page_routes};
 use life_rle::{Failed, Inlet, Outlet, put_all};
 use matchit::Router;
@@ -157,6 +157,33 @@ fn serve_held<O: Outlet, D: Desk>(
     }
 }
 
+/// How many bytes may be taken behind those that are held.
+fn room_left(held: &Vec<u8>) -> usize
+    requires { vec_len held.now < HELD_LIMIT }
+    ensures some { 0 < result }
+    ensures most { result ≤ MOST_TAKEN }
+    ensures fits { vec_len held.now + result ≤ HELD_LIMIT }
+{
+    (HELD_LIMIT - held.len()).min(MOST_TAKEN)
+}
+
+/// Takes bytes into some room, and adds them to those that are held.
+fn take_into<I: Inlet>(input: &mut I, place: &mut [u8], held: &mut Vec<u8>) -> Result<usize, Failed>
+    requires some { 0 < length place.old }
+    requires fits { vec_len held.old + length place.old ≤ vec_capacity held.old }
+    ensures taken { Feeds (I.to_come input.old) (I.to_come input.new) held.old.items held.new.items result }
+    ensures room { vec_capacity held.old ≤ vec_capacity held.new }
+    ensures count { I.failures input.new ≡ counted (I.failures input.old) result }
+{
+    match input.take(place) {
+        Ok(k) => {
+            add(held, &place[..k]);
+            Ok(k)
+        }
+        Err(e) => Err(e),
+    }
+}
+
 /// Takes more bytes behind those that are held, which hold no whole message.
 fn take_more<I: Inlet>(input: &mut I, held: &mut Vec<u8>) -> Result<usize, Failed>
     requires none { HasNone held.old.items }
@@ -167,14 +194,8 @@ fn take_more<I: Inlet>(input: &mut I, held: &mut Vec<u8>) -> Result<usize, Faile
     ensures count { I.failures input.new ≡ counted (I.failures input.old) result }
 {
     let mut place = [0u8; MOST_TAKEN];
-    let room = (HELD_LIMIT - held.len()).min(MOST_TAKEN);
-    match input.take(&mut place[..room]) {
-        Ok(k) => {
-            add(held, &place[..k]);
-            Ok(k)
-        }
-        Err(e) => Err(e),
-    }
+    let room = room_left(held);
+    take_into(input, &mut place[..room], held)
 }
 
 /// What became of bytes that were taken as long as they were CR and LF.
@@ -210,18 +231,48 @@ fn pass_blank<I: Inlet>(input: &mut I, takes: u64) -> Passed
     Passed::TooMany
 }
 
+/// Whether as many CR and LF bytes are held as a head may have, and no others: a message that begins so never comes.
+fn is_long_blank(held: &[u8]) -> bool
+    ensures blank { result ≡ true → is_blank held.now ≡ true }
+    ensures never { result ≡ true → NeverHas held.now }
+    ensures room { result ≡ false → IsWanting held.now → length held.now < HELD_LIMIT }
+{
+    held.len() >= HEAD_LIMIT && are_blank(held)
+}
+
+/// Behind long CR and LF bytes: the stream ends with more of them, or with a bad message.
+fn serve_blank<I: Inlet, O: Outlet>(
+    input: &mut I,
+    output: &mut O,
+    takes: u64,
+) -> Result<(), IoFault>
+    ensures end { IsBlankEnd result takes (I.to_come input.old) (I.to_come input.new) (O.already output.old) (O.already output.new) }
+    ensures read { result ≡ Err IoFault.Read → FailedBetween (I.failures input.old) (I.failures input.new) }
+    ensures write { result ≡ Err IoFault.Write → FailedBetween (O.failures output.old) (O.failures output.new) }
+{
+    match pass_blank(input, takes) {
+        Passed::Ended => Ok(()),
+        Passed::Other => match put_bad(output) {
+            Ok(()) => Ok(()),
+            Err(_) => Err(IoFault::Write),
+        },
+        Passed::Failed => Err(IoFault::Read),
+        Passed::TooMany => Err(IoFault::TooManyReads),
+    }
+}
+
 /// The end of the input: what is held is CR and LF alone, or a message that is cut short.
-fn finish<O: Outlet, D: Desk>(desk: &D, output: &mut O, held: &[u8]) -> Result<(), Failed>
+fn finish<O: Outlet, D: Desk>(desk: &D, output: &mut O, held: &[u8]) -> Result<(), IoFault>
     requires { HasNone held.now }
     ensures end { AtEnd (AnswersMessage D.answers) result held.now desk.now (O.already output.old) (O.already output.new) }
-    ensures failed { OnErr result (FailedBetween (O.failures output.old) (O.failures output.new)) }
+    ensures write { result ≡ Err IoFault.Write → FailedBetween (O.failures output.old) (O.failures output.new) }
 {
     if are_blank(held) {
         return Ok(());
     }
     match put_bad(output) {
         Ok(()) => Ok(()),
-        Err(e) => Err(e),
+        Err(_) => Err(IoFault::Write),
     }
 }
 
@@ -243,19 +294,17 @@ fn prepared(alloc: Global) -> Result<Ready, AllocError>
     ensures below { IfOk result (λ p. WantsUntil p.wanted p.held.items) }
     ensures draft { IfOk result (λ p. HasRoom p.draft) }
 {
-    let routes = match page_routes(alloc) {
-        Ok(routes) => routes,
-        Err(_) => return Err(AllocError),
-    };
-    Ok(Ready {
-        routes,
-        held: Vec::with_capacity(alloc, HELD_LIMIT)?,
-        wanted: 0,
-        draft: Draft {
-            reply: Vec::with_capacity(alloc, REPLY_ROOM)?,
-            body: Vec::with_capacity(alloc, BODY_ROOM)?,
-        },
-    })
+    let draft = Draft::with_room(alloc)?;
+    let held = Vec::with_capacity(alloc, HELD_LIMIT)?;
+    match page_routes(alloc) {
+        Ok(routes) => Ok(Ready {
+            routes,
+            held,
+            wanted: 0,
+            draft,
+        }),
+        Err(_) => Err(AllocError),
+    }
 }
 
 /// Answers the messages of a stream, with room made ready.
@@ -271,25 +320,12 @@ fn serve_stream<I: Inlet, O: Outlet, D: Desk>(
     requires held { HELD_LIMIT ≤ vec_capacity ready.old.held }
     requires draft { HasRoom ready.old.draft }
     requires below { WantsUntil ready.old.wanted ready.old.held.items }
-    // Told: what was put is the replies to the messages of the stream.
-    ensures told { OnOk result (IfSome (I.to_come input.old) (λ stream.
-        Served (AnswersMessage D.answers) stream desk.old desk.new (O.already output.old) (O.already output.new))) }
-    // Told or not: some messages were answered, and no more than their replies was put.
-    ensures some { Broke (AnswersMessage D.answers) desk.old desk.new (O.already output.old) (O.already output.new) }
-    // A failed take: what was taken whole was answered, and the replies were put whole.
-    ensures paused { result ≡ Err IoFault.Read → Paused (AnswersMessage D.answers) (I.to_come input.old) (I.to_come input.new)
-        desk.old desk.new (O.already output.old) (O.already output.new) }
-    ensures full { result ≡ Err IoFault.TooManyReads → Paused (AnswersMessage D.answers) (I.to_come input.old) (I.to_come input.new)
-        desk.old desk.new (O.already output.old) (O.already output.new) }
-    ensures many { result ≡ Err IoFault.TooManyReads → LosesAtLeast TAKES (I.to_come input.old) (I.to_come input.new) }
-    // A failed put: the replies to all answered messages but the last were put whole, and of the last a beginning.
-    ensures cut { result ≡ Err IoFault.Write → Cut (AnswersMessage D.answers) (λ ms. IfSome (I.to_come input.old) (λ stream. Starts stream ms))
-        desk.old desk.new (O.already output.old) (O.already output.new) }
-    ensures memory { result ≡ Err IoFault.Memory → ⊥ }
+    ensures outcome { IsOutcome (AnswersMessage D.answers) result (I.to_come input.old) (I.to_come input.new) desk.old desk.new (O.already output.old) (O.already output.new) }
     ensures read { result ≡ Err IoFault.Read → FailedBetween (I.failures input.old) (I.failures input.new) }
     ensures write { result ≡ Err IoFault.Write → FailedBetween (O.failures output.old) (O.failures output.new) }
 {
-    'takes: for taken in 0..TAKES {
+    let mut taken = 0;
+    'takes: loop {
         match serve_held(
             alloc,
             &ready.routes,
@@ -303,42 +339,18 @@ fn serve_stream<I: Inlet, O: Outlet, D: Desk>(
             Ok(false) => {}
             Err(_) => return Err(IoFault::Write),
         }
-        if ready.held.len() >= HEAD_LIMIT && are_blank(&ready.held) {
-            match pass_blank(input, TAKES - taken) {
-                Passed::Ended => return Ok(()),
-                Passed::Other => {
-                    return match put_bad(output) {
-                        Ok(()) => Ok(()),
-                        Err(_) => Err(IoFault::Write),
-                    };
-                }
-                Passed::Failed => return Err(IoFault::Read),
-                Passed::TooMany => return Err(IoFault::TooManyReads),
-            }
+        if taken == TAKES {
+            return Err(IoFault::TooManyReads);
         }
+        if is_long_blank(&ready.held) {
+            return serve_blank(input, output, TAKES - taken);
+        }
+        taken += 1;
         match take_more(input, &mut ready.held) {
-            Ok(0) => {
-                return match finish(desk, output, &ready.held) {
-                    Ok(()) => Ok(()),
-                    Err(_) => Err(IoFault::Write),
-                };
-            }
+            Ok(0) => return finish(desk, output, &ready.held),
             Ok(_) => {}
             Err(_) => return Err(IoFault::Read),
         }
-    }
-    match serve_held(
-        alloc,
-        &ready.routes,
-        desk,
-        output,
-        &mut ready.held,
-        &mut ready.wanted,
-        &mut ready.draft,
-    ) {
-        Ok(true) => Ok(()),
-        Ok(false) => Err(IoFault::TooManyReads),
-        Err(_) => Err(IoFault::Write),
     }
 }
 

@@ -9,6 +9,9 @@ between len body = omega arith
 shorter : (held : List ℕ) (n : ℕ) → 0 < n → n ≤ length held → length (drop n held) < length held
 shorter held n some fits = let l = length-drop n held in omega arith
 
+some_first : (len body : ℕ) → 0 < len → 0 < len + body
+some_first len body some = omega arith
+
 pub returns-then-len-wanted-clause-step : goal.returns-then-len-wanted-clause-step
 returns-then-len-wanted-clause-step g c =
     (went_none _ _ _ _, wants_now c.args.wanted.now c.args.held.now.items c.requires.below (omega (arith, c.if-len-wanted.true, c.len.ensures)))
@@ -52,6 +55,6 @@ returns-clause-step g c =
     let n = rw c.deref.ensures.value at c.in-Whole.ensures in
     let a = rw (c.deref-in-Whole.ensures.value, between c.in-Whole.head.len c.in-Whole.head.body) at c.answer_message.ensures.answered in
     let p = rw c.deref-2.ensures.value at c.in_default.ensures.all in
-    let less = shorter c.args.held.now.items (c.in-Whole.head.len + c.in-Whole.head.body) (omega (arith, n.1)) n.0 in
+    let less = shorter c.args.held.now.items (c.in-Whole.head.len + c.in-Whole.head.body) (some_first _ _ n.1) n.0 in
     let went = went_one _ _ _ _ _ _ _ _ _ _ n.2 c.if-closes.false a p in
     rw c.forget.ensures.items (went, less)

@@ -1,0 +1,72 @@
+-- What became of a stream, where serving it ended.
+use Rattle.std.proofs.Common.{◌≡◌, ◌≢◌, ℕ, ◌+◌, ◌-◌, ◌<◌, ◌≤◌, true, List, Option, Result, Ok, Err, IfSome, OnOk, inl, inr, arith}
+use Rattle.life_rle.specs.Stream.{IsEnded}
+use Rattle.life_pages.specs.Head.{Head}
+use Rattle.life_pages.specs.Message.{Starts, is_blank}
+use Rattle.life_pages.specs.MessageState.{NeverHas, held_limit}
+use Rattle.life_pages.specs.Serving.{Broke, Served, LosesAtLeast}
+use Rattle.life_pages.specs.declared.serving.IoFault.{IoFault}
+use Rattle.life_pages.specs.declared.serving.IoFault.TheVariants as faults
+use Rattle.life_pages.specs.ServingState.{Ended, AtEnd, IsOutcome, IsBlankEnd, most_takes}
+use Rattle.life_pages.proofs.ServingRunning.{cut_broke}
+use Rattle.life_pages.proofs.ServingReading.{Reading, reading_ended, reading_end, reading_broke, reading_stop, reading_cut_end, ended_broke, served_broke, broke_of}
+use Rattle.life_pages.proofs.ServingPassing.{many_passed, blank_end, other_end, other_cut, bad_put, passed_paused}
+
+pub one_more : (taken : ℕ) → taken ≤ most_takes → taken ≢ most_takes → taken + 1 ≤ most_takes
+one_more taken few some_left = omega (arith, some_left)
+
+pub rest_fits : (taken : ℕ) → taken ≤ most_takes → most_takes ≤ taken + (most_takes - taken)
+rest_fits taken few = omega arith
+
+pub still_room : (a b c : ℕ) → held_limit ≤ a → a ≤ b → b ≤ c → held_limit ≤ c
+still_room a b c room first second = omega arith
+
+pub below_same : (a b n : ℕ) → a ≡ b → a < n → b < n
+below_same a b n same below = rw (← same) below
+
+module _ {D : Type 0} (answers : D → Head → List ℕ → List ℕ → D → Type 0) where
+  -- the last message ended the stream
+  pub outcome_ended : (stream left : Option (List ℕ)) (held : List ℕ) (old mid new : D) (x y z : Option (List ℕ)) → Reading answers stream left held old mid x y
+      → Ended answers held mid new y z → IsOutcome answers (Ok tt) stream left old new x z
+  outcome_ended stream left held old mid new x y z r e =
+      (reading_ended answers stream left held old mid new x y z r e, reading_broke answers stream left held old mid new x y z r (ended_broke answers held mid new y z e))
+
+  -- the input ended
+  pub outcome_end : (result : Result (Unit {0}) IoFault) (stream left next : Option (List ℕ)) (held : List ℕ) (old new : D) (x y z : Option (List ℕ))
+      → Reading answers stream left held old new x y → IsEnded left → AtEnd answers result held new y z → IsOutcome answers result stream next old new x z
+  outcome_end (Ok u) stream left next held old new x y z r e a =
+      (reading_end answers stream left held old new new x y z r e a, reading_broke answers stream left held old new new x y z r (served_broke answers held new new y z a))
+  outcome_end (Err faults.Write) stream left next held old new x y z r e a = reading_cut_end answers stream left held old new new x y z r e a
+  outcome_end (Err faults.Read) stream left next held old new x y z r e a = absurd a
+  outcome_end (Err faults.TooManyReads) stream left next held old new x y z r e a = absurd a
+  outcome_end (Err faults.Memory) stream left next held old new x y z r e a = absurd a
+
+  -- long blank bytes were held
+  pub outcome_blank : (result : Result (Unit {0}) IoFault) (stream left next : Option (List ℕ)) (held : List ℕ) (taken takes : ℕ) (old new : D) (x y z : Option (List ℕ))
+      → Reading answers stream left held old new x y → is_blank held ≡ true → NeverHas held → LosesAtLeast taken stream left → most_takes ≤ taken + takes
+      → IsBlankEnd result takes left next y z → IsOutcome answers result stream next old new x z
+  outcome_blank (Ok u) stream left next held taken takes old new x y z r blank never many fits (inl (rest, same)) =
+      rw same (blank_end answers stream left held old new x y r blank rest, reading_stop answers stream left held old new x y r)
+  outcome_blank (Ok u) stream left next held taken takes old new x y z r blank never many fits (inr (rest, put)) =
+      (other_end answers stream left held old new x y z r never rest put, bad_put answers stream left held old new x y z r put)
+  outcome_blank (Err faults.Write) stream left next held taken takes old new x y z r blank never many fits (rest, some) =
+      other_cut answers stream left held old new x y z r never rest some
+  outcome_blank (Err faults.Read) stream left next held taken takes old new x y z r blank never many fits (passed, same) =
+      rw same (passed_paused answers stream left next held 0 old new x y r never passed)
+  outcome_blank (Err faults.TooManyReads) stream left next held taken takes old new x y z r blank never many fits (passed, same) =
+      rw same (passed_paused answers stream left next held takes old new x y r never passed, many_passed stream left next taken takes most_takes many passed fits)
+  outcome_blank (Err faults.Memory) stream left next held taken takes old new x y z r blank never many fits e = absurd e
+
+  -- what an outcome says, whatever the result is
+  pub outcome_told : (result : Result (Unit {0}) IoFault) (stream left : Option (List ℕ)) (old new : D) (x y : Option (List ℕ))
+      → IsOutcome answers result stream left old new x y → OnOk result (IfSome stream (λ bytes. Served answers bytes old new x y))
+  outcome_told (Ok u) stream left old new x y o = o.0
+  outcome_told (Err fault) stream left old new x y o = tt
+
+  pub outcome_some : (result : Result (Unit {0}) IoFault) (stream left : Option (List ℕ)) (old new : D) (x y : Option (List ℕ))
+      → IsOutcome answers result stream left old new x y → Broke answers old new x y
+  outcome_some (Ok u) stream left old new x y o = o.1
+  outcome_some (Err faults.Read) stream left old new x y o = broke_of answers old new o.done o.bytes x y o.run o.put
+  outcome_some (Err faults.TooManyReads) stream left old new x y o = broke_of answers old new o.0.done o.0.bytes x y o.0.run o.0.put
+  outcome_some (Err faults.Write) stream left old new x y o = cut_broke answers (λ ms. IfSome stream (λ bytes. Starts bytes ms)) old new x y o
+  outcome_some (Err faults.Memory) stream left old new x y o = absurd o

@@ -1,8 +1,9 @@
 //! The jobs over an archive, over any streams.
-ghost use Rattle.std.specs.Prelude.{◌≡◌, ◌≢◌, IfOk, OnOk, OnErr, Err};
+ghost use Rattle.std.specs.Prelude.{◌≡◌, ◌≢◌, ◌∷◌, [], IfOk, OnOk, OnErr, Err};
 ghost use Rattle.std.specs.Fmt.{decimal};
 ghost use Rattle.life_rle.specs.Stream.{Gains, GainsSome, FailedBetween};
 ghost use Rattle.life_desk.specs.declared.request.Request.TheVariants as ask;
+ghost use Rattle.life_desk.specs.Run.{Answered};
 ghost use Rattle.life_cli.specs.Jobs.{TakesFile, PutsOnce};
 ghost use Rattle.life_cli.specs.Archives.{IsTaken, IsUnasked, deposit_line, desk_stop, PutsReply, Deposits};
 
@@ -114,6 +115,13 @@ fn put_reply<O: Outlet>(output: &mut O, reply: Reply) -> Result<(), Stop>
     }
 }
 
+/// What the archive replies to the request.
+fn reply_of<S: Alter>(alloc: Global, archive: &mut Archive<S>, request: Request) -> Reply
+    ensures { Answered archive.old archive.new (request ∷ []) (result ∷ []) }
+{
+    answer(archive, alloc, request)
+}
+
 /// Takes a file to its end and deposits it under the member and the token; puts the number of the
 /// deposit as one line.
 pub fn run_deposit<S: Alter, I: Inlet, O: Outlet>(
@@ -137,6 +145,5 @@ pub fn run_deposit<S: Alter, I: Inlet, O: Outlet>(
         Ok(request) => request,
         Err(_) => return Err(Stop::Unavailable),
     };
-    let reply = answer(archive, alloc, request);
-    put_reply(output, reply)
+    put_reply(output, reply_of(alloc, archive, request))
 }

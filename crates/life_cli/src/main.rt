@@ -12,8 +12,8 @@ use jobs::{run_census, run_generation, run_kind, run_object};
 use life_rle::{FromRead, FromWrite, Inlet, Outlet};
 use life_store::Archive;
 use net::{open_archive, serve_port};
-use sqlite::Alter;
-use std::alloc::Global;
+use sqlite::{Alter, FileStore};
+use sqlite_disk::Disk;
 use std::io;
 use std::process::ExitCode;
 use stop::Stop;
@@ -40,45 +40,97 @@ fn print_fault(rt: &impl Eprint, fault: WordFault) -> io::Result<ExitCode> {
     Ok(ExitCode::from(BAD_WORDS))
 }
 
-/// Keeps what comes in as a deposit in an archive, as `run_deposit` does, in a store of any kind.
-fn deposit_in<S: Alter, I: Inlet, O: Outlet>(
-    alloc: Global,
+/// A job over an archive.
+#[derive(Clone, Copy)]
+enum ArchiveJob<'a> {
+    /// Deposit the pattern that comes in.
+    Deposit { member: &'a str, token: &'a str },
+    /// Serve so many connections at this port.
+    Serve { port: u64, connections: u64 },
+}
+
+/// Does a job over an archive in a store of any kind.
+fn done_in<S: Alter, I: Inlet, O: Outlet>(
+    rt: &HostRuntime,
     archive: &mut Archive<S>,
-    member: &str,
-    token: &str,
+    job: ArchiveJob<'_>,
     input: &mut I,
     output: &mut O,
 ) -> Result<(), Stop> {
-    run_deposit(alloc, archive, member, token, input, output)
+    match job {
+        ArchiveJob::Deposit { member, token } => {
+            run_deposit(rt.alloc(), archive, member, token, input, output)
+        }
+        ArchiveJob::Serve { port, connections } => serve_port(rt, archive, port, connections),
+    }
 }
 
-/// Does a job, over standard input and output.
-fn done(rt: &HostRuntime, job: Job<'_>) -> Result<(), Stop> {
+/// Does a job over an archive in files of any kind.
+fn done_in_files<D: Disk + Drop, I: Inlet, O: Outlet>(
+    rt: &HostRuntime,
+    archive: &mut Archive<FileStore<D>>,
+    job: ArchiveJob<'_>,
+    input: &mut I,
+    output: &mut O,
+) -> Result<(), Stop> {
+    done_in(rt, archive, job, input, output)
+}
+
+/// Does a job over the archive in the file.
+fn done_at<I: Inlet, O: Outlet>(
+    rt: &HostRuntime,
+    file: &str,
+    job: ArchiveJob<'_>,
+    input: &mut I,
+    output: &mut O,
+) -> Result<(), Stop> {
+    let mut archive = open_archive(rt, file)?;
+    done_in_files(rt, &mut archive, job, input, output)
+}
+
+/// Does a job over these streams.
+fn done<I: Inlet, O: Outlet>(
+    rt: &HostRuntime,
+    job: Job<'_>,
+    input: &mut I,
+    output: &mut O,
+) -> Result<(), Stop> {
     let alloc = rt.alloc();
-    let mut input = FromRead::new(rt.reader());
-    let mut output = FromWrite::new(io::writer(rt));
     match job {
-        Job::Generation(n) => run_generation(alloc, n, &mut input, &mut output),
-        Job::Kind(limit) => run_kind(alloc, limit, &mut input, &mut output),
-        Job::Object { rule, code, limit } => run_object(alloc, rule, code, limit, &mut output),
-        Job::Census { n, limit } => run_census(alloc, n, limit, &mut input, &mut output),
+        Job::Generation(n) => run_generation(alloc, n, input, output),
+        Job::Kind(limit) => run_kind(alloc, limit, input, output),
+        Job::Object { rule, code, limit } => run_object(alloc, rule, code, limit, output),
+        Job::Census { n, limit } => run_census(alloc, n, limit, input, output),
         Job::Deposit {
             file,
             member,
             token,
-        } => {
-            let mut archive = open_archive(rt, file)?;
-            deposit_in(alloc, &mut archive, member, token, &mut input, &mut output)
-        }
+        } => done_at(
+            rt,
+            file,
+            ArchiveJob::Deposit { member, token },
+            input,
+            output,
+        ),
         Job::Serve {
             file,
             port,
             connections,
-        } => {
-            let mut archive = open_archive(rt, file)?;
-            serve_port(rt, &mut archive, port, connections)
-        }
+        } => done_at(
+            rt,
+            file,
+            ArchiveJob::Serve { port, connections },
+            input,
+            output,
+        ),
     }
+}
+
+/// Does a job over standard input and output.
+fn run(rt: &HostRuntime, job: Job<'_>) -> Result<(), Stop> {
+    let mut input = FromRead::new(rt.reader());
+    let mut output = FromWrite::new(io::writer(rt));
+    done(rt, job, &mut input, &mut output)
 }
 
 fn main(rt: HostRuntime) -> io::Result<ExitCode> {
@@ -90,7 +142,7 @@ fn main(rt: HostRuntime) -> io::Result<ExitCode> {
         Ok(job) => job,
         Err(fault) => return print_fault(&rt, fault),
     };
-    match done(&rt, job) {
+    match run(&rt, job) {
         Ok(()) => Ok(ExitCode::SUCCESS),
         Err(stop) => print_stop(&rt, stop),
     }

@@ -1,7 +1,7 @@
 //! The words of the command line, read by `clap`.
 ghost use Rattle.std.specs.Prelude.{◌≡◌, codes, map, option_map, IfOk, false};
 ghost use Rattle.clap.specs.Simple.{App};
-ghost use Rattle.clap.specs.Words.{app_of, rule_of, rows_of, found_of, subcommand_rows_of, with_subcommand};
+ghost use Rattle.clap.specs.Words.{Rule, new_app, app_of, rule_of, rows_of, found_of, subcommand_rows_of, with_rule, with_subcommand};
 ghost use Rattle.clap.specs.declared.builder.command.Command.TheViews.{out-Command as fields_of};
 ghost use Rattle.life_cli.specs.Words.{number_rule, number_rule_in, text_rule, file_rule, generation, kind, object, census, deposit, serve, life_alone, life, asked_by};
 ghost use Rattle.life_cli.specs.Words.{number_at, text_at, object_of, census_of, deposit_of, serve_of, job_of, number_of, ComesFrom, Answers};
@@ -157,14 +157,37 @@ fn generation_arg<'a>(alloc: Global) -> Arg<'a>
     number_arg(alloc, "N").help("The number of the generation, from 0 to 2048")
 }
 
+// A command of this name, without words, and what help says of it.
+fn named_command<'a>(alloc: Global, name: &'a str, about: &'a str, help: &'a str) -> Command<'a>
+    ensures app { app_of result ≡ new_app name.entry.now }
+    ensures local { (fields_of result).has_globals ≡ false }
+{
+    Command::new(alloc, name).about(about).after_help(help)
+}
+
+// The command with one more argument, if the command was made.
+fn with_arg<'a>(
+    above: Result<Command<'a>, AllocError>,
+    arg: Arg<'a>,
+) -> Result<Command<'a>, AllocError>
+    requires { arg.global ≡ false }
+    ensures app { (made : App) (rule : Rule) → IfOk above.entry (λ command. app_of command ≡ made) → rule_of arg.entry ≡ rule → IfOk result (λ command. app_of command ≡ with_rule made rule) }
+    ensures local { IfOk above.entry (λ command. (fields_of command).has_globals ≡ false) → IfOk result (λ command. (fields_of command).has_globals ≡ false) }
+{
+    above?.arg(arg)
+}
+
 fn generation_command<'a>(alloc: Global) -> Result<Command<'a>, AllocError>
     ensures app { IfOk result (λ command. app_of command ≡ generation) }
     ensures local { IfOk result (λ command. (fields_of command).has_globals ≡ false) }
 {
-    Command::new(alloc, "generation")
-        .about("Prints generation N of the pattern on standard input")
-        .after_help(GENERATION_HELP)
-        .arg(generation_arg(alloc))
+    named_command(
+        alloc,
+        "generation",
+        "Prints generation N of the pattern on standard input",
+        GENERATION_HELP,
+    )
+    .arg(generation_arg(alloc))
 }
 
 // The word that is a limit of the period.
@@ -179,10 +202,13 @@ fn kind_command<'a>(alloc: Global) -> Result<Command<'a>, AllocError>
     ensures app { IfOk result (λ command. app_of command ≡ kind) }
     ensures local { IfOk result (λ command. (fields_of command).has_globals ≡ false) }
 {
-    Command::new(alloc, "kind")
-        .about("Prints the kind and the code of the pattern on standard input")
-        .after_help(KIND_HELP)
-        .arg(limit_arg(alloc))
+    named_command(
+        alloc,
+        "kind",
+        "Prints the kind and the code of the pattern on standard input",
+        KIND_HELP,
+    )
+    .arg(limit_arg(alloc))
 }
 
 // The rule of a code.
@@ -205,23 +231,24 @@ fn object_command<'a>(alloc: Global) -> Result<Command<'a>, AllocError>
     ensures app { IfOk result (λ command. app_of command ≡ object) }
     ensures local { IfOk result (λ command. (fields_of command).has_globals ≡ false) }
 {
-    Command::new(alloc, "object")
-        .about("Prints the pattern of a code")
-        .after_help(OBJECT_HELP)
-        .arg(rule_arg(alloc))?
-        .arg(code_arg(alloc))?
-        .arg(limit_arg(alloc))
+    let command = Ok(named_command(alloc, "object", "Prints the pattern of a code", OBJECT_HELP));
+    let command = with_arg(command, rule_arg(alloc));
+    let command = with_arg(command, code_arg(alloc));
+    with_arg(command, limit_arg(alloc))
 }
 
 fn census_command<'a>(alloc: Global) -> Result<Command<'a>, AllocError>
     ensures app { IfOk result (λ command. app_of command ≡ census) }
     ensures local { IfOk result (λ command. (fields_of command).has_globals ≡ false) }
 {
-    Command::new(alloc, "census")
-        .about("Prints how many clusters of generation N of the pattern have each code")
-        .after_help(CENSUS_HELP)
-        .arg(generation_arg(alloc))?
-        .arg(limit_arg(alloc))
+    let command = Ok(named_command(
+        alloc,
+        "census",
+        "Prints how many clusters of generation N of the pattern have each code",
+        CENSUS_HELP,
+    ));
+    let command = with_arg(command, generation_arg(alloc));
+    with_arg(command, limit_arg(alloc))
 }
 
 // The option `--db`, whose word is the file of an archive.
@@ -254,12 +281,15 @@ fn deposit_command<'a>(alloc: Global) -> Result<Command<'a>, AllocError>
     ensures app { IfOk result (λ command. app_of command ≡ deposit) }
     ensures local { IfOk result (λ command. (fields_of command).has_globals ≡ false) }
 {
-    Command::new(alloc, "deposit")
-        .about("Keeps the pattern on standard input in an archive")
-        .after_help(DEPOSIT_HELP)
-        .arg(file_arg(alloc))?
-        .arg(member_arg(alloc))?
-        .arg(token_arg(alloc))
+    let command = Ok(named_command(
+        alloc,
+        "deposit",
+        "Keeps the pattern on standard input in an archive",
+        DEPOSIT_HELP,
+    ));
+    let command = with_arg(command, file_arg(alloc));
+    let command = with_arg(command, member_arg(alloc));
+    with_arg(command, token_arg(alloc))
 }
 
 // The option `--port`.
@@ -288,26 +318,26 @@ fn serve_command<'a>(alloc: Global) -> Result<Command<'a>, AllocError>
     ensures app { IfOk result (λ command. app_of command ≡ serve) }
     ensures local { IfOk result (λ command. (fields_of command).has_globals ≡ false) }
 {
-    Command::new(alloc, "serve")
-        .about("Serves the messages of an archive on 127.0.0.1")
-        .after_help(SERVE_HELP)
-        .arg(file_arg(alloc))?
-        .arg(port_arg(alloc))?
-        .arg(connections_arg(alloc))
+    let command = Ok(named_command(
+        alloc,
+        "serve",
+        "Serves the messages of an archive on 127.0.0.1",
+        SERVE_HELP,
+    ));
+    let command = with_arg(command, file_arg(alloc));
+    let command = with_arg(command, port_arg(alloc));
+    with_arg(command, connections_arg(alloc))
 }
 
-// The command with one more subcommand, which has no global argument, if that was made.
+// The command with one more subcommand, which has no global argument, if both were made.
 fn with_command<'a>(
-    above: Command<'a>,
+    above: Result<Command<'a>, AllocError>,
     below: Result<Command<'a>, AllocError>,
 ) -> Result<Command<'a>, AllocError>
     requires { IfOk below (λ command. (fields_of command).has_globals ≡ false) }
-    ensures { (added : App) → IfOk below.entry (λ command. app_of command ≡ added) → IfOk result (λ command. app_of command ≡ with_subcommand (app_of above.entry) added.top) }
+    ensures { (made added : App) → IfOk above.entry (λ command. app_of command ≡ made) → IfOk below.entry (λ command. app_of command ≡ added) → IfOk result (λ command. app_of command ≡ with_subcommand made added.top) }
 {
-    match below {
-        Ok(below) => above.subcommand(below),
-        Err(error) => Err(error),
-    }
+    above?.subcommand(below?)
 }
 
 // The command without its subcommands.
@@ -323,11 +353,11 @@ fn command_alone<'a>(alloc: Global) -> Command<'a>
 fn life_command<'a>(alloc: Global) -> Result<Command<'a>, AllocError>
     ensures { IfOk result (λ command. app_of command ≡ life) }
 {
-    let command = with_command(command_alone(alloc), generation_command(alloc))?;
-    let command = with_command(command, kind_command(alloc))?;
-    let command = with_command(command, object_command(alloc))?;
-    let command = with_command(command, census_command(alloc))?;
-    let command = with_command(command, deposit_command(alloc))?;
+    let command = with_command(Ok(command_alone(alloc)), generation_command(alloc));
+    let command = with_command(command, kind_command(alloc));
+    let command = with_command(command, object_command(alloc));
+    let command = with_command(command, census_command(alloc));
+    let command = with_command(command, deposit_command(alloc));
     with_command(command, serve_command(alloc))
 }
 

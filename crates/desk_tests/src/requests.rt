@@ -17,7 +17,7 @@ const GLIDER_AGAIN: &str = "x = 3, y = 3\nbo$2bo$ooo!\n";
 
 const GLIDER_SHOWN: &str = "x = 3, y = 3, rule = B3/S23\nbo$2bo$3o!\n";
 
-const BLOCK: &str = "x = 2, y = 2\n2o$2o!\n";
+pub const BLOCK: &str = "x = 2, y = 2\n2o$2o!\n";
 
 pub const BLOCK_SHOWN: &str = "x = 2, y = 2, rule = B3/S23\n2o$2o!\n";
 
@@ -46,7 +46,7 @@ pub enum Asked {
 }
 
 /// Deposits in an archive of capacity 2.
-pub const DEPOSITS: [(Asked, &str); 20] = [
+const DEPOSITS: [(Asked, &str); 20] = [
     (Asked::Deposit("ann", "t1", GLIDER), "deposited 1"),
     (Asked::Deposit("ann", "t1", GLIDER_AGAIN), "deposited 1"),
     (Asked::Deposit("ann", "t1", BLOCK), "refused 5"),
@@ -247,20 +247,42 @@ fn other_as_a_list(alloc: Global, rows: &[(Asked, &'static str)]) -> Result<Opti
     Ok(None)
 }
 
+/// The first row that is answered otherwise, one by one and as one list.
+fn others(
+    alloc: Global,
+    rows: &[(Asked, &'static str)],
+) -> Result<(Option<usize>, Option<usize>), Fail> {
+    let one_by_one = other_one_by_one(alloc, rows)?;
+    Ok((one_by_one, other_as_a_list(alloc, rows)?))
+}
+
+#[test]
+fn the_laws_are_called() {
+    laws_of_runs();
+    law_of_the_archive();
+}
+
 #[test]
 fn deposits_are_answered(rt: HostRuntime) -> Result<(), Fail> {
-    laws_of_runs();
-    assert_eq!(rt; other_one_by_one(rt.alloc(), DEPOSITS.as_slice())?, None);
-    assert_eq!(rt; other_as_a_list(rt.alloc(), DEPOSITS.as_slice())?, None);
+    let others = others(rt.alloc(), DEPOSITS.as_slice())?;
+    assert_eq!(rt; others, (None, None));
     Ok(())
 }
 
 #[test]
 fn censuses_are_answered(rt: HostRuntime) -> Result<(), Fail> {
-    law_of_the_archive();
-    assert_eq!(rt; other_one_by_one(rt.alloc(), CENSUSES.as_slice())?, None);
-    assert_eq!(rt; other_as_a_list(rt.alloc(), CENSUSES.as_slice())?, None);
+    let others = others(rt.alloc(), CENSUSES.as_slice())?;
+    assert_eq!(rt; others, (None, None));
     Ok(())
+}
+
+/// The deposit of the glider under this token.
+fn deposit(alloc: Global, token: &str) -> Result<Request, Fail> {
+    Ok(Request::Deposit(
+        text(alloc, "ann")?,
+        text(alloc, token)?,
+        bytes(alloc, GLIDER)?,
+    ))
 }
 
 /// A hundred and one deposits, and two lists of them.
@@ -268,54 +290,46 @@ fn many(alloc: Global) -> Result<Vec<Request>, Fail> {
     let mut requests = Vec::new(alloc);
     for n in 1..102u64 {
         let token = format!(in alloc; "t{n}")?;
-        requests.push(Request::Deposit(
-            text(alloc, "ann")?,
-            text(alloc, token.as_str())?,
-            bytes(alloc, GLIDER)?,
-        ))?;
+        requests.push(deposit(alloc, token.as_str())?)?;
     }
     requests.push(Request::ListAfter(0))?;
     requests.push(Request::ListAfter(100))?;
     Ok(requests)
 }
 
-/// How many deposits a list has, and the number of the last of them.
-fn listed(reply: &Reply) -> Option<(usize, u64)> {
-    match reply {
-        Reply::Deposits(lines) => {
+/// Whether the reply in this place is that the deposit has this number.
+fn has_number(replies: &[Reply], at: usize, number: u64) -> bool {
+    match replies.get(at) {
+        Some(Reply::Deposited(id)) => *id == number,
+        _ => false,
+    }
+}
+
+/// Whether the reply in this place is a list of so many deposits, of which the last has this number.
+fn has_list(replies: &[Reply], at: usize, many: usize, last: u64) -> bool {
+    match replies.get(at) {
+        Some(Reply::Deposits(lines)) => {
             let lines = lines.as_slice();
-            Some((lines.len(), lines.last()?.id))
+            lines.len() == many && lines.last().map(|line| line.id) == Some(last)
         }
-        _ => None,
+        _ => false,
     }
 }
 
 /// Whether these are the replies to `many`.
 fn are_of_many(replies: &[Reply]) -> bool {
-    for (at, reply) in replies.iter().enumerate() {
-        let right = match at {
-            0..=100 => matches!(reply, Reply::Deposited(id) if *id == at as u64 + 1),
-            101 => listed(reply) == Some((100, 100)),
-            _ => listed(reply) == Some((1, 101)),
-        };
-        if !right {
+    for at in 0..101usize {
+        if !has_number(replies, at, at as u64 + 1) {
             return false;
         }
     }
-    replies.len() == 103
+    replies.len() == 103 && has_list(replies, 101, 100, 100) && has_list(replies, 102, 1, 101)
 }
 
 #[test]
 fn a_list_has_at_most_a_hundred_lines(rt: HostRuntime) -> Result<(), Fail> {
-    let alloc = rt.alloc();
-    let mut first = archive(alloc, 200)?;
-    let mut replies = Vec::new(alloc);
-    for asked in many(alloc)? {
-        replies.push(answer(&mut first, alloc, asked))?;
-    }
-    assert!(rt; are_of_many(&replies));
-    let mut second = archive(alloc, 200)?;
-    let Ok(replies) = answer_all(&mut second, alloc, many(alloc)?) else {
+    let mut archive = archive(rt.alloc(), 200)?;
+    let Ok(replies) = answer_all(&mut archive, rt.alloc(), many(rt.alloc())?) else {
         return Err("no room for the replies".into());
     };
     assert!(rt; are_of_many(&replies));

@@ -1,7 +1,9 @@
 //! An archive in files: closed and opened again, and a stop at each call of a file.
-use crate::requests::{Asked, BLOCK_SHOWN, CENSUS_SHOWN, DEPOSITS, FIELD, GLIDER, told_by};
-use life_store::{Archive, OpenFault};
-use sqlite::{Alter, FileStore, Files};
+//!
+//! A call on a store of files is dear to prove: so one function opens, asks and closes, and what is asked is a value.
+use crate::requests::{Asked, BLOCK, BLOCK_SHOWN, CENSUS_SHOWN, FIELD, GLIDER, told_by};
+use life_store::Archive;
+use sqlite::{Alter, Files};
 use sqlite_disk::{Disk, Fuse, Memory};
 use std::alloc::Global;
 use std::test::Fail;
@@ -33,25 +35,14 @@ fn again(alloc: Global, files: &Files<Stopping>) -> Result<Files<Stopping>, Fail
     })
 }
 
-fn open(
-    alloc: Global,
-    files: Files<Stopping>,
-    capacity: u64,
-) -> Result<Archive<FileStore<Stopping>>, (OpenFault, Files<Stopping>)> {
-    if !files.may_be_used() {
-        return Err((OpenFault::Unavailable, files));
-    }
-    Archive::open_files(alloc, files, capacity)
-}
+/// Requests to an archive of capacity 2.
+const WITH_ROOM_FOR_TWO: [(Asked, &str); 3] = [
+    (Asked::Deposit("ann", "t1", GLIDER), "deposited 1"),
+    (Asked::Deposit("ann", "t2", BLOCK), "deposited 2"),
+    (Asked::Deposit("ann", "t3", BLOCK), "refused 10"),
+];
 
-fn close(archive: Archive<FileStore<Stopping>>) -> Files<Stopping> {
-    match archive.close_files() {
-        Ok(files) => files,
-        Err((_, files)) => files,
-    }
-}
-
-/// Requests to the archive of the first deposits, which is opened again with capacity 1.
+/// Requests to the same archive, which is opened again with capacity 1.
 const WITH_ROOM_FOR_ONE: [(Asked, &str); 3] = [
     (Asked::Deposit("ann", "t1", GLIDER), "deposited 1"),
     (Asked::Deposit("ann", "t4", GLIDER), "refused 10"),
@@ -70,20 +61,6 @@ fn tells_all<S: Alter>(
         }
     }
     Ok(true)
-}
-
-#[test]
-fn a_smaller_capacity_keeps_what_there_is(rt: HostRuntime) -> Result<(), Fail> {
-    let alloc = rt.alloc();
-    let Ok(mut first) = open(alloc, blank(alloc, u64::MAX, u64::MAX), 2) else {
-        return Err("the archive was not opened".into());
-    };
-    assert!(rt; tells_all(alloc, &mut first, &DEPOSITS[..7])?);
-    let Ok(mut second) = open(alloc, close(first), 1) else {
-        return Err("the archive was not opened again".into());
-    };
-    assert!(rt; tells_all(alloc, &mut second, WITH_ROOM_FOR_ONE.as_slice())?);
-    Ok(())
 }
 
 const DEPOSIT: Asked = Asked::Deposit("ann", "t1", FIELD);
@@ -142,33 +119,102 @@ fn comes_again<S: Alter>(alloc: Global, archive: &mut Archive<S>) -> Result<bool
     Ok(kept(archive) == Some((1, 1)))
 }
 
-/// Whether the files, opened again, hold what was answered, and take both requests again.
-fn is_sound(alloc: Global, files: &Files<Stopping>, done: (bool, bool)) -> Result<bool, Fail> {
-    let Ok(mut archive) = open(alloc, again(alloc, files)?, 2) else {
+/// Whether the archive holds what was answered, and takes both requests again.
+fn goes_on<S: Alter>(
+    alloc: Global,
+    archive: &mut Archive<S>,
+    done: (bool, bool),
+) -> Result<bool, Fail> {
+    let Some(found) = kept(archive) else {
         return Ok(false);
     };
-    let Some(found) = kept(&mut archive) else {
-        return Ok(false);
-    };
-    if !fits(found, done) {
+    if !fits(found, done) || !is_whole(alloc, archive, found.1)? {
         return Ok(false);
     }
-    if !is_whole(alloc, &mut archive, found.1)? {
-        return Ok(false);
+    comes_again(alloc, archive)
+}
+
+/// What is asked of an archive.
+#[derive(Clone, Copy)]
+enum Ask {
+    /// Whether it answers the first deposits.
+    TellsDeposits,
+    /// Whether it keeps them where it has room for one.
+    KeepsDeposits,
+    /// What a deposit and a census are answered.
+    Acts,
+    /// Whether it has what was answered, and takes both requests again.
+    GoesOn((bool, bool)),
+}
+
+/// What came of it.
+#[derive(Clone, Copy, PartialEq, Eq)]
+enum Answer {
+    /// The opening was refused.
+    Refused,
+    /// Whether it is so.
+    Is(bool),
+    /// Which of the two requests were answered by their numbers.
+    Did((bool, bool)),
+}
+
+/// Whether it is so, as an answer.
+fn answer_of(found: Result<bool, Fail>) -> Result<Answer, Fail> {
+    Ok(Answer::Is(found?))
+}
+
+/// What the archive answers.
+fn asked<S: Alter>(alloc: Global, archive: &mut Archive<S>, ask: Ask) -> Result<Answer, Fail> {
+    match ask {
+        Ask::TellsDeposits => answer_of(tells_all(alloc, archive, WITH_ROOM_FOR_TWO.as_slice())),
+        Ask::KeepsDeposits => answer_of(tells_all(alloc, archive, WITH_ROOM_FOR_ONE.as_slice())),
+        Ask::Acts => Ok(Answer::Did(act(alloc, archive)?)),
+        Ask::GoesOn(done) => answer_of(goes_on(alloc, archive, done)),
     }
-    comes_again(alloc, &mut archive)
+}
+
+/// Opens an archive over the files, asks it and closes it: what it answered, and the files.
+fn over<D: Disk + Drop>(
+    alloc: Global,
+    files: Files<D>,
+    capacity: u64,
+    ask: Ask,
+) -> (Result<Answer, Fail>, Files<D>) {
+    if !files.may_be_used() {
+        return (Ok(Answer::Refused), files);
+    }
+    match Archive::open_files(alloc, files, capacity) {
+        Ok(mut archive) => {
+            let answer = asked(alloc, &mut archive, ask);
+            match archive.close_files() {
+                Ok(files) => (answer, files),
+                Err((_, files)) => (answer, files),
+            }
+        }
+        Err((_, files)) => (Ok(Answer::Refused), files),
+    }
+}
+
+#[test]
+fn a_smaller_capacity_keeps_what_there_is(rt: HostRuntime) -> Result<(), Fail> {
+    let alloc = rt.alloc();
+    let files = blank(alloc, u64::MAX, u64::MAX);
+    let (first, files) = over(alloc, files, 2, Ask::TellsDeposits);
+    assert!(rt; first? == Answer::Is(true));
+    let (second, _) = over(alloc, files, 1, Ask::KeepsDeposits);
+    assert!(rt; second? == Answer::Is(true));
+    Ok(())
 }
 
 /// Whether both requests were answered, and whether what is found afterwards is sound.
 fn stop_at(alloc: Global, log_calls: u64, db_calls: u64) -> Result<(bool, bool), Fail> {
-    let (done, files) = match open(alloc, blank(alloc, log_calls, db_calls), 2) {
-        Ok(mut archive) => {
-            let done = act(alloc, &mut archive)?;
-            (done, close(archive))
-        }
-        Err((_, files)) => ((false, false), files),
+    let (answer, files) = over(alloc, blank(alloc, log_calls, db_calls), 2, Ask::Acts);
+    let done = match answer? {
+        Answer::Did(done) => done,
+        _ => (false, false),
     };
-    Ok((done.0 && done.1, is_sound(alloc, &files, done)?))
+    let (sound, _) = over(alloc, again(alloc, &files)?, 2, Ask::GoesOn(done));
+    Ok((done.0 && done.1, sound? == Answer::Is(true)))
 }
 
 /// After how many calls on the log, or else on the database file, a run ends with no stop; none where a

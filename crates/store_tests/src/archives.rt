@@ -1,5 +1,4 @@
-//! The archive in use: deposits and censuses kept and found, files closed and opened again, and files that
-//! hold something else.
+//! The archive in use: deposits and censuses kept and found.
 ghost use Rattle.std.specs.Prelude.{IfOk};
 ghost use Rattle.life_rle.specs.Record.{IsInside};
 ghost use Rattle.life_store.specs.Tables.{HasOrder};
@@ -8,17 +7,15 @@ use life_census::{Tally, laws_of_tallies, tally};
 use life_core::Rule;
 use life_rle::{Text, read, write};
 use life_store::{Archive, Census, Deposit, Listed, OpenFault, Unavailable};
-use sqlite::{Alter, Connection, FileStore, Files, MemStore, Options, Unknown};
-use sqlite_disk::{Disk, Memory};
+use sqlite::{Alter, MemStore};
 use std::alloc::Global;
-use std::fs;
 use std::test::Fail;
 
 pub const GLIDER: &[u8] = b"x = 3, y = 3, rule = B3/S23\nbo$2bo$3o!\n";
 
 const BLOCK: &[u8] = b"x = 2, y = 2\n2o$2o!\n";
 
-const BLOCK_TEXT: &[u8] = b"x = 2, y = 2, rule = B3/S23\n2o$2o!\n";
+pub const BLOCK_TEXT: &[u8] = b"x = 2, y = 2, rule = B3/S23\n2o$2o!\n";
 
 /// Two blocks at distance 3.
 pub const BLOCKS: &[u8] = b"x = 6, y = 2, rule = B3/S23\n2o2b2o$2o2b2o!\n";
@@ -76,7 +73,7 @@ fn number_of<S: Alter>(
 }
 
 /// Whether the deposit with the number is of `ann`, and its content has this canonical text.
-fn has_content<S: Alter>(
+pub fn has_content<S: Alter>(
     alloc: Global,
     archive: &mut Archive<S>,
     id: u64,
@@ -103,7 +100,10 @@ pub fn keep<S: Alter>(
 }
 
 /// Adds the glider under the token `t1` and the block under `t2`, and answers their numbers.
-fn keep_two<S: Alter>(alloc: Global, archive: &mut Archive<S>) -> Result<(u64, u64), Unavailable> {
+pub fn keep_two<S: Alter>(
+    alloc: Global,
+    archive: &mut Archive<S>,
+) -> Result<(u64, u64), Unavailable> {
     let first = keep(alloc, archive, b"t1", GLIDER)?;
     let second = keep(alloc, archive, b"t2", BLOCK)?;
     Ok((first, second))
@@ -131,7 +131,10 @@ fn has_tokens<S: Alter>(alloc: Global, archive: &mut Archive<S>) -> Result<bool,
 }
 
 /// Whether the two deposits have their contents.
-fn has_contents<S: Alter>(alloc: Global, archive: &mut Archive<S>) -> Result<bool, Unavailable> {
+pub fn has_contents<S: Alter>(
+    alloc: Global,
+    archive: &mut Archive<S>,
+) -> Result<bool, Unavailable> {
     Ok(
         has_content(alloc, archive, 1, GLIDER)?
             && has_content(alloc, archive, 2, BLOCK_TEXT)?
@@ -319,267 +322,5 @@ fn capacities_are_judged(rt: HostRuntime) -> Result<(), Fail> {
             "at {capacity}"
         );
     }
-    Ok(())
-}
-
-// ---- files
-
-pub type Pair = Files<Memory>;
-
-/// Two empty files.
-pub fn blank(alloc: Global) -> Pair {
-    Files {
-        log: Memory::new(alloc),
-        db: Memory::new(alloc),
-    }
-}
-
-fn open(
-    alloc: Global,
-    files: Pair,
-    capacity: u64,
-) -> Result<Archive<FileStore<Memory>>, (OpenFault, Pair)> {
-    if !files.may_be_used() {
-        return Err((OpenFault::Unavailable, files));
-    }
-    Archive::open_files(alloc, files, capacity)
-}
-
-/// The files of an archive that keeps the glider and the block.
-fn two_kept(alloc: Global) -> Result<Pair, Unavailable> {
-    let Ok(mut archive) = open(alloc, blank(alloc), 2) else {
-        return Err(Unavailable);
-    };
-    keep_two(alloc, &mut archive)?;
-    match archive.close_files() {
-        Ok(files) => Ok(files),
-        Err(_) => Err(Unavailable),
-    }
-}
-
-/// The files behind an opening that is refused for its capacity.
-fn refused_at(alloc: Global, files: Pair, capacity: u64) -> Option<Pair> {
-    match open(alloc, files, capacity) {
-        Err((OpenFault::BadCapacity, files)) => Some(files),
-        _ => None,
-    }
-}
-
-#[test]
-fn a_refused_opening_gives_the_files_back(rt: HostRuntime) -> Result<(), Fail> {
-    let mut files = two_kept(rt.alloc()).map_err(|_| "not kept")?;
-    for capacity in [0, 1_000_001] {
-        files = refused_at(rt.alloc(), files, capacity).ok_or("a bad capacity was taken")?;
-    }
-    let mut archive = open(rt.alloc(), files, 2).map_err(|_| "not opened")?;
-    assert_eq!(rt; has_contents(rt.alloc(), &mut archive), Ok(true));
-    Ok(())
-}
-
-/// Whether the archive has this capacity and the two deposits.
-fn is_kept_under<S: Alter>(
-    alloc: Global,
-    archive: &mut Archive<S>,
-    capacity: u64,
-) -> Result<bool, Unavailable> {
-    Ok(
-        archive.capacity() == capacity
-            && archive.count_deposits()? == 2
-            && has_contents(alloc, archive)?,
-    )
-}
-
-#[test]
-fn a_closed_archive_is_opened_under_another_capacity(rt: HostRuntime) -> Result<(), Fail> {
-    let files = two_kept(rt.alloc()).map_err(|_| "not kept")?;
-    let mut archive = open(rt.alloc(), files, 1).map_err(|_| "not opened")?;
-    assert_eq!(rt; is_kept_under(rt.alloc(), &mut archive, 1), Ok(true));
-    let mut again = archive
-        .reopen(rt.alloc(), 3)
-        .map_err(|_| "not opened again")?;
-    assert_eq!(rt; is_kept_under(rt.alloc(), &mut again, 3), Ok(true));
-    Ok(())
-}
-
-/// The files of a database in which these statements were run.
-pub fn made_by(alloc: Global, files: Pair, statements: &[&str]) -> Option<Pair> {
-    if !files.may_be_used() {
-        return None;
-    }
-    let mut conn = Connection::open_files(alloc, files, Options::new(7)).ok()?;
-    for statement in statements {
-        conn.execute(statement, &[]).ok()?;
-    }
-    conn.close_files().ok()
-}
-
-/// How an archive is opened over the files of a database in which these statements were run.
-fn opened_over(alloc: Global, statements: &[&str]) -> Option<Result<u64, (OpenFault, Pair)>> {
-    let files = made_by(alloc, blank(alloc), statements)?;
-    match open(alloc, files, 2) {
-        Ok(mut archive) => Some(Ok(archive.count_deposits().ok()?)),
-        Err(refused) => Some(Err(refused)),
-    }
-}
-
-const LAYOUT: &str = "CREATE TABLE layout (version INTEGER NOT NULL) STRICT";
-
-/// Databases in which some of an archive's tables stand, and that are none.
-const OTHERS: [(&str, &[&str]); 12] = [
-    (
-        "version 3",
-        &[LAYOUT, "INSERT INTO layout (version) VALUES (3)"],
-    ),
-    (
-        "version 2 without flags",
-        &[LAYOUT, "INSERT INTO layout (version) VALUES (2)"],
-    ),
-    (
-        "version 0",
-        &[LAYOUT, "INSERT INTO layout (version) VALUES (0)"],
-    ),
-    ("no version", &[LAYOUT]),
-    (
-        "two versions",
-        &[LAYOUT, "INSERT INTO layout (version) VALUES (1), (1)"],
-    ),
-    (
-        "two columns",
-        &[
-            "CREATE TABLE layout (version INTEGER, more INTEGER)",
-            "INSERT INTO layout VALUES (1, 1)",
-        ],
-    ),
-    (
-        "a text",
-        &[
-            "CREATE TABLE layout (version TEXT)",
-            "INSERT INTO layout VALUES ('1')",
-        ],
-    ),
-    ("deposits alone", &["CREATE TABLE Deposits (n INTEGER)"]),
-    ("censuses alone", &["CREATE TABLE censuses (n INTEGER)"]),
-    (
-        "census_rows alone",
-        &["CREATE TABLE census_rows (n INTEGER)"],
-    ),
-    (
-        "census_flags alone",
-        &["CREATE TABLE census_flags (n INTEGER)"],
-    ),
-    (
-        "a view",
-        &[
-            "CREATE TABLE other (n INTEGER)",
-            "CREATE VIEW layout AS SELECT n FROM other",
-        ],
-    ),
-];
-
-#[test]
-fn other_databases_are_not_ours(rt: HostRuntime) -> Result<(), Fail> {
-    let alloc = rt.alloc();
-    for (name, statements) in OTHERS {
-        match opened_over(alloc, statements) {
-            Some(Err((OpenFault::NotOurs, files))) => {
-                // The files are given back, and a database is in them as it was.
-                let again = made_by(alloc, files, &["CREATE TABLE more (n INTEGER)"]);
-                assert!(rt; again.is_some(), "{name}");
-            }
-            _ => return Err(name.into()),
-        }
-    }
-    Ok(())
-}
-
-#[test]
-fn tables_are_made_beside_others(rt: HostRuntime) -> Result<(), Fail> {
-    let statements = [
-        "CREATE TABLE other (n INTEGER)",
-        "INSERT INTO other VALUES (7)",
-    ];
-    let opened = opened_over(rt.alloc(), &statements);
-    assert!(rt; matches!(opened, Some(Ok(0))));
-    Ok(())
-}
-
-/// A file of bytes that no database begins with.
-fn scrambled(alloc: Global) -> Result<Memory, Fail> {
-    let mut bytes = Vec::new(alloc);
-    let mut state = 88_172_645_463_325_252u64;
-    for _ in 0..8192 {
-        state ^= state << 13;
-        state ^= state >> 7;
-        state ^= state << 17;
-        bytes.push((state & 255) as u8)?;
-    }
-    let mut file = Memory::new(alloc);
-    file.write_at(0, bytes.as_slice())?;
-    file.sync()?;
-    Ok(file)
-}
-
-#[test]
-fn a_file_of_random_bytes_is_no_archive(rt: HostRuntime) -> Result<(), Fail> {
-    let alloc = rt.alloc();
-    let files = Files {
-        log: Memory::new(alloc),
-        db: scrambled(alloc)?,
-    };
-    let Err((fault, files)) = open(alloc, files, 2) else {
-        return Err("random bytes were opened".into());
-    };
-    assert_eq!(rt; fault, OpenFault::Unavailable);
-    assert!(rt; files.db.bytes() == scrambled(alloc)?.bytes());
-    Ok(())
-}
-
-/// Changes that no archive makes.
-const CHANGES: [&str; 4] = [
-    "UPDATE deposits SET rle = x'00' WHERE id = 1",
-    "UPDATE deposits SET population = 1, rule = 'B9' WHERE id = 2",
-    "INSERT INTO censuses VALUES (1, 'ann', 'c1', 1, -1, 1, 0, 0)",
-    "INSERT INTO census_rows VALUES (1, 'no code', 1)",
-];
-
-/// Whether each changed row is unavailable where it is met. The columns for lists alone are not met by number.
-fn is_unavailable<S: Alter>(alloc: Global, archive: &mut Archive<S>) -> bool {
-    archive.deposit_of(alloc, 1).is_err()
-        && archive.find_deposit(alloc, b"ann", b"t1").is_err()
-        && has_content(alloc, archive, 2, BLOCK_TEXT) == Ok(true)
-        && archive.census_of(alloc, 1).is_err()
-        && archive.rows_of(alloc, 1).is_err()
-}
-
-#[test]
-fn rows_of_others_are_unavailable(rt: HostRuntime) -> Result<(), Fail> {
-    let files = two_kept(rt.alloc()).map_err(|_| "not kept")?;
-    let files = made_by(rt.alloc(), files, &CHANGES).ok_or("not changed")?;
-    let mut archive = open(rt.alloc(), files, 2).map_err(|_| "not opened")?;
-    assert!(rt; is_unavailable(rt.alloc(), &mut archive));
-    Ok(())
-}
-
-const PATH: &str = "life_tests_archive.db";
-
-/// Removes the file at the path and its log, where they are there.
-fn sweep(rt: &HostRuntime) {
-    let _file = fs::remove_file(rt, PATH);
-    let _log = fs::remove_file(rt, "life_tests_archive.db-wal");
-}
-
-#[test]
-fn an_archive_is_opened_at_a_path(rt: HostRuntime) -> Result<(), Fail> {
-    sweep(&rt);
-    let mut archive = Archive::open_path(&rt, PATH, 2, Unknown).map_err(|_| "not opened")?;
-    assert_eq!(rt; keep_two(rt.alloc(), &mut archive), Ok((1, 2)));
-    drop(archive);
-    let mut again = Archive::open_path(&rt, PATH, 3, Unknown).map_err(|_| "not opened again")?;
-    assert_eq!(rt; again.count_deposits(), Ok(2));
-    assert_eq!(rt; has_contents(rt.alloc(), &mut again), Ok(true));
-    drop(again);
-    let refused = Archive::open_path(&rt, PATH, 0, Unknown).err();
-    assert_eq!(rt; refused, Some(OpenFault::BadCapacity));
-    sweep(&rt);
     Ok(())
 }

@@ -1,10 +1,10 @@
 //! Archives of layout 1, which are carried over as they are opened, and a stop at each call of it.
-use crate::archives::{Pair, blank, made_by};
-use crate::stops::{Stopping, again, close, open};
+use crate::files::{Answer, Ask, Deed, database, made_by, over};
+use crate::stops::{Stopping, again};
 use life_store::{Archive, OpenFault, Unavailable};
 use sqlite::types::ValueRef;
-use sqlite::{Alter, Connection, Files, Options, Row};
-use sqlite_disk::Fuse;
+use sqlite::{Alter, Connection, Files, Row};
+use sqlite_disk::{Fuse, Memory};
 use std::alloc::Global;
 use std::test::Fail;
 
@@ -25,8 +25,8 @@ const FIRST: [&str; 11] = [
 ];
 
 /// The files of the archive of layout 1.
-fn first(alloc: Global) -> Option<Pair> {
-    made_by(alloc, blank(alloc), FIRST.as_slice())
+fn first(alloc: Global) -> Option<Files<Memory>> {
+    made_by(alloc, FIRST.as_slice())
 }
 
 /// The same in files that stop after so many calls.
@@ -39,7 +39,7 @@ fn stopping(alloc: Global, log_calls: u64, db_calls: u64) -> Option<Files<Stoppi
 }
 
 /// Whether both censuses are there with their flags and nothing else.
-fn is_carried<S: Alter>(alloc: Global, archive: &mut Archive<S>) -> Result<bool, Unavailable> {
+pub fn is_carried<S: Alter>(alloc: Global, archive: &mut Archive<S>) -> Result<bool, Unavailable> {
     let first = archive
         .census_of(alloc, 1)?
         .map(|kept| (kept.total, kept.census.limit));
@@ -55,23 +55,21 @@ fn is_carried<S: Alter>(alloc: Global, archive: &mut Archive<S>) -> Result<bool,
 }
 
 /// Whether an archive is opened over the files, and closed and opened again, each time with both flags.
-fn opens(alloc: Global, files: Files<Stopping>) -> Result<bool, Unavailable> {
-    let Ok(mut archive) = open(alloc, files) else {
-        return Ok(false);
-    };
-    if !is_carried(alloc, &mut archive)? {
-        return Ok(false);
-    }
-    match open(alloc, close(archive)) {
-        Ok(mut archive) => is_carried(alloc, &mut archive),
-        Err(_) => Ok(false),
+fn opens(alloc: Global, files: Files<Stopping>) -> bool {
+    let (first, files) = over(alloc, files, 2, Ask::IsCarried);
+    match files {
+        Ok(files) => {
+            let (second, _) = over(alloc, files, 2, Ask::IsCarried);
+            first == Answer::Is(true) && second == Answer::Is(true)
+        }
+        Err(_) => false,
     }
 }
 
 #[test]
 fn an_archive_of_layout_1_is_carried_over(rt: HostRuntime) -> Result<(), Fail> {
     let files = stopping(rt.alloc(), u64::MAX, u64::MAX).ok_or("not made")?;
-    assert_eq!(rt; opens(rt.alloc(), files), Ok(true));
+    assert!(rt; opens(rt.alloc(), files));
     Ok(())
 }
 
@@ -81,7 +79,7 @@ fn is_number(row: &Row, number: i64) -> bool {
 }
 
 /// Whether the database is of layout 1 and has no table of flags, or of layout 2 with both flags.
-fn is_before_or_whole<S: Alter>(conn: &mut Connection<S>) -> bool {
+pub fn is_before_or_whole<S: Alter>(conn: &mut Connection<S>) -> bool {
     let version = conn.query_all("SELECT version FROM layout", &[]);
     let flags = conn.query_all("SELECT steady FROM census_flags ORDER BY census", &[]);
     match (version, flags) {
@@ -94,26 +92,17 @@ fn is_before_or_whole<S: Alter>(conn: &mut Connection<S>) -> bool {
     }
 }
 
-/// Whether the files hold the archive as it was, or whole.
-fn hold_before_or_whole(alloc: Global, files: Files<Stopping>) -> bool {
-    if !files.may_be_used() {
-        return false;
-    }
-    match Connection::open_files(alloc, files, Options::new(7)) {
-        Ok(mut conn) => is_before_or_whole(&mut conn),
-        Err(_) => false,
-    }
-}
-
-/// Whether the opening ended with no stop, and whether what is found afterwards is sound.
+/// Whether the opening ended with no stop, and whether what is found afterwards is sound: the archive as it was, or whole,
+/// and one that can be opened.
 fn stop_at(alloc: Global, log_calls: u64, db_calls: u64) -> Option<(bool, bool)> {
-    let (opened, files) = match open(alloc, stopping(alloc, log_calls, db_calls)?) {
-        Ok(archive) => (true, close(archive)),
-        Err((_, files)) => (false, files),
+    let files = stopping(alloc, log_calls, db_calls)?;
+    let (answer, files) = over(alloc, files, 2, Ask::IsEmpty);
+    let files = match files {
+        Ok(files) | Err(files) => files,
     };
-    let sound = hold_before_or_whole(alloc, again(alloc, &files).ok()?);
-    let carried = opens(alloc, again(alloc, &files).ok()?).ok()?;
-    Some((opened, sound && carried))
+    let sound = database(alloc, again(alloc, &files).ok()?, Deed::IsBeforeOrWhole).is_some();
+    let carried = opens(alloc, again(alloc, &files).ok()?);
+    Some((answer == Answer::Is(false), sound && carried))
 }
 
 /// After how many calls on the one file an opening ends with no stop; none where a stop left what is not sound.
@@ -149,14 +138,10 @@ fn a_stop_of_the_database_leaves_layout_1_or_2(rt: HostRuntime) -> Result<(), Fa
     Ok(())
 }
 
-/// Whether an opening of the archive in which one more statement was run is refused so.
-fn refused_after(alloc: Global, statement: &str, fault: OpenFault) -> Option<bool> {
-    let files = made_by(alloc, first(alloc)?, &[statement])?;
-    let files = Files {
-        log: Fuse::new(files.log, u64::MAX),
-        db: Fuse::new(files.db, u64::MAX),
-    };
-    Some(matches!(open(alloc, files), Err((refused, _)) if refused == fault))
+/// What comes of an opening of the archive in which one more statement was run.
+fn opened_after(alloc: Global, statement: &str) -> Option<Answer> {
+    let files = database(alloc, first(alloc)?, Deed::Run(&[statement]))?;
+    Some(over(alloc, files, 2, Ask::IsCarried).0)
 }
 
 /// What is changed in the archive of layout 1, and how its opening is refused then.
@@ -176,11 +161,8 @@ const CHANGES: [(&str, OpenFault); 4] = [
 #[test]
 fn others_of_layout_1_are_refused(rt: HostRuntime) -> Result<(), Fail> {
     for (statement, fault) in CHANGES {
-        assert_eq!(rt;
-            refused_after(rt.alloc(), statement, fault),
-            Some(true),
-            "{statement}"
-        );
+        let answer = opened_after(rt.alloc(), statement);
+        assert_eq!(rt; answer, Some(Answer::Refused(fault)), "{statement}");
     }
     Ok(())
 }

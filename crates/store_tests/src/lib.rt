@@ -6,4 +6,6 @@ mod archives;
 #[cfg(test)]
 mod carrying;
 #[cfg(test)]
+mod files;
+#[cfg(test)]
 mod stops;

@@ -1,8 +1,9 @@
 //! A stop at each call of the log, and then at each call of the database file: what the files hold is
 //! sound, whatever call was the last.
 use crate::archives::{BLOCKS, counted, is_of_two_blocks, keep, take};
-use life_store::{Archive, OpenFault, Unavailable};
-use sqlite::{Alter, FileStore, Files};
+use crate::files::{Answer, Ask, over};
+use life_store::{Archive, Unavailable};
+use sqlite::{Alter, Files};
 use sqlite_disk::{Disk, Fuse, Memory};
 use std::alloc::Global;
 use std::test::Fail;
@@ -35,32 +36,21 @@ pub fn again(alloc: Global, files: &Files<Stopping>) -> Result<Files<Stopping>, 
     })
 }
 
-pub fn open(
-    alloc: Global,
-    files: Files<Stopping>,
-) -> Result<Archive<FileStore<Stopping>>, (OpenFault, Files<Stopping>)> {
-    if !files.may_be_used() {
-        return Err((OpenFault::Unavailable, files));
-    }
-    Archive::open_files(alloc, files, 2)
-}
-
-pub fn close(archive: Archive<FileStore<Stopping>>) -> Files<Stopping> {
-    match archive.close_files() {
-        Ok(files) => files,
-        Err((_, files)) => files,
-    }
-}
-
 /// What a run was told: whether the deposit was taken, and whether the census was.
-#[derive(Clone, Copy)]
-struct Told {
+#[derive(Clone, Copy, Debug, PartialEq, Eq)]
+pub struct Told {
     deposited: bool,
     counted: bool,
 }
 
+/// What a run is told that does not come to a request.
+const NOTHING_TOLD: Told = Told {
+    deposited: false,
+    counted: false,
+};
+
 /// Adds the deposit, and then the census, up to the first call that is unavailable.
-fn act<S: Alter>(alloc: Global, archive: &mut Archive<S>) -> Result<Told, Unavailable> {
+pub fn act<S: Alter>(alloc: Global, archive: &mut Archive<S>) -> Result<Told, Unavailable> {
     let tally = counted(alloc, BLOCKS)?;
     let deposited = keep(alloc, archive, b"t1", BLOCKS) == Ok(1);
     let counted = deposited && take(alloc, archive, b"c1", &tally) == Ok(1);
@@ -87,7 +77,7 @@ fn census_again<S: Alter>(alloc: Global, archive: &mut Archive<S>) -> Result<u64
 }
 
 /// Whether the archive has what was answered, a census only with its rows, and nothing else.
-fn has_told<S: Alter>(
+pub fn has_told<S: Alter>(
     alloc: Global,
     archive: &mut Archive<S>,
     told: Told,
@@ -100,34 +90,30 @@ fn has_told<S: Alter>(
 }
 
 /// Whether both requests made again are answered 1, and each table then has one row.
-fn goes_on<S: Alter>(alloc: Global, archive: &mut Archive<S>) -> Result<bool, Unavailable> {
+pub fn goes_on<S: Alter>(alloc: Global, archive: &mut Archive<S>) -> Result<bool, Unavailable> {
     let same = deposit_again(alloc, archive)? == 1 && census_again(alloc, archive)? == 1;
     let once = archive.count_deposits()? == 1 && archive.count_censuses()? == 1;
     Ok(same && once && is_of_two_blocks(alloc, archive, 1)?)
 }
 
-/// Whether the files, opened again with no stop, are an archive that has what was answered. An archive in
-/// which some of the tables stand and others not would be refused here.
-fn is_sound(alloc: Global, files: &Files<Stopping>, told: Told) -> Result<bool, Unavailable> {
-    let Ok(mut archive) = open(alloc, again(alloc, files)?) else {
-        return Ok(false);
+/// What a run over files is told, and the files behind it. The run ends at the first call that is unavailable.
+fn run(alloc: Global, files: Files<Stopping>) -> (Told, Files<Stopping>) {
+    let (answer, files) = over(alloc, files, 2, Ask::Acts);
+    let told = match answer {
+        Answer::Told(told) => told,
+        _ => NOTHING_TOLD,
     };
-    Ok(has_told(alloc, &mut archive, told)? && goes_on(alloc, &mut archive)?)
+    match files {
+        Ok(files) | Err(files) => (told, files),
+    }
 }
 
-/// Whether all was answered before the stop, and whether what is found afterwards is sound.
+/// Whether all was answered before the stop, and whether the files, opened again with no stop, are an archive that has what
+/// was answered. An archive in which some of the tables stand and others not would be refused there.
 fn stop_at(alloc: Global, log_calls: u64, db_calls: u64) -> Result<(bool, bool), Unavailable> {
-    let (told, files) = match open(alloc, blank(alloc, log_calls, db_calls)) {
-        Ok(mut archive) => (act(alloc, &mut archive)?, close(archive)),
-        Err((_, files)) => (
-            Told {
-                deposited: false,
-                counted: false,
-            },
-            files,
-        ),
-    };
-    Ok((told.counted, is_sound(alloc, &files, told)?))
+    let (told, files) = run(alloc, blank(alloc, log_calls, db_calls));
+    let (answer, _) = over(alloc, again(alloc, &files)?, 2, Ask::GoesOn(told));
+    Ok((told.counted, answer == Answer::Is(true)))
 }
 
 /// After how many calls on the one file a run ends with no stop; none where a stop left what is not sound.

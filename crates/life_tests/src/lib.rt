@@ -2,8 +2,6 @@
 #![tactic(auto)]
 
 #[cfg(test)]
-mod codes;
-#[cfg(test)]
 mod fields;
 #[cfg(test)]
 mod files;

@@ -4,146 +4,169 @@ use life_core::{
     Plane, Rule, generation, generation_by, is_packed, laws_of_constants, laws_of_generations,
     laws_of_patterns, laws_of_symmetries, row_step,
 };
-use life_rle::read;
 use std::alloc::Global;
-use std::test::Fail;
 
-/// Whether generation `n` of the first pattern under Life is the second, on both kinds of plane.
-fn goes_on(alloc: Global, before: &Pattern, n: u32, after: &Pattern) -> Result<bool, Fault> {
+const GLIDER: [(i64, i64); 5] = [(1, 0), (2, 1), (0, 2), (1, 2), (2, 2)];
+
+/// Whether generation `n` of the first pattern under Life is the second, on planes of the kind `P`.
+fn goes_on_by<P: Plane<Global>>(
+    alloc: Global,
+    before: &Pattern,
+    n: u32,
+    after: &Pattern,
+) -> Result<bool, Fault> {
     if n > GENERATION_LIMIT || !before.within(PLANE - GENERATION_LIMIT) {
         return Ok(false);
     }
-    let listed = generation_by::<_, CellList>(alloc, &Rule::LIFE, before, n)?;
-    let packed = generation_by::<_, PackedRows>(alloc, &Rule::LIFE, before, n)?;
-    Ok(listed.same(after) && packed.same(after))
+    Ok(generation_by::<_, P>(alloc, &Rule::LIFE, before, n)?.same(after))
+}
+
+/// Whether generation `n` of the first pattern under Life is the second, on both kinds of plane.
+fn goes_on(alloc: Global, before: &Pattern, n: u32, after: &Pattern) -> Result<bool, Fault> {
+    Ok(
+        goes_on_by::<CellList>(alloc, before, n, after)?
+            && goes_on_by::<PackedRows>(alloc, before, n, after)?,
+    )
+}
+
+/// Whether a glider moves by a column and a row in four generations.
+fn glider_goes_on(alloc: Global) -> Result<bool, Fault> {
+    let glider = Pattern::from_cells(alloc, &GLIDER)?;
+    let later = Pattern::from_cells(alloc, &[(2, 1), (3, 2), (1, 3), (2, 3), (3, 3)])?;
+    goes_on(alloc, &glider, 4, &later)
+}
+
+/// Whether a blinker turns whose row lies across the edge of a word left of column 0.
+fn left_blinker_goes_on(alloc: Global) -> Result<bool, Fault> {
+    let blinker = Pattern::from_cells(alloc, &[(-65, -1), (-64, -1), (-63, -1)])?;
+    let later = Pattern::from_cells(alloc, &[(-64, -2), (-64, -1), (-64, 0)])?;
+    goes_on(alloc, &blinker, 1, &later)
+}
+
+/// Whether a blinker turns whose row lies across the edge of a word right of column 0.
+fn right_blinker_goes_on(alloc: Global) -> Result<bool, Fault> {
+    let blinker = Pattern::from_cells(alloc, &[(63, 0), (64, 0), (65, 0)])?;
+    let later = Pattern::from_cells(alloc, &[(64, -1), (64, 0), (64, 1)])?;
+    goes_on(alloc, &blinker, 1, &later)
 }
 
 #[test]
-fn a_glider_goes_on(rt: HostRuntime) -> Result<(), Fail> {
-    let glider = Pattern::from_cells(rt.alloc(), &[(1, 0), (2, 1), (0, 2), (1, 2), (2, 2)])?;
-    let later = Pattern::from_cells(rt.alloc(), &[(2, 1), (3, 2), (1, 3), (2, 3), (3, 3)])?;
-    assert!(rt; goes_on(rt.alloc(), &glider, 4, &later)?);
+fn patterns_go_on(rt: HostRuntime) {
+    assert!(rt; glider_goes_on(rt.alloc()) == Ok(true));
+    assert!(rt; left_blinker_goes_on(rt.alloc()) == Ok(true));
+    assert!(rt; right_blinker_goes_on(rt.alloc()) == Ok(true));
     laws_of_generations();
     laws_of_constants();
+}
+
+/// Steps the plane under Life so many times, or fewer where its set comes to the edge.
+fn steps<P: Plane<Global>>(alloc: Global, plane: &mut P, n: u16) -> Result<(), Fault> {
+    for _ in 0..n {
+        if !plane.to_pattern(alloc)?.within(PLANE - 1) {
+            return Ok(());
+        }
+        plane.step(&Rule::LIFE)?;
+    }
     Ok(())
 }
 
-/// Steps the plane under Life so many times, as far as its set lies in the plane; whether it did.
-fn steps<P: Plane<Global>>(alloc: Global, plane: &mut P, n: u32) -> Result<bool, Fault> {
-    for _ in 0..n {
-        if !plane.to_pattern(alloc)?.within(PLANE - 1) {
+/// Generation `n` of the pattern on a plane that has given up what room it does not need.
+fn trimmed<P: Plane<Global>>(alloc: Global, before: &Pattern, n: u16) -> Result<P, Fault> {
+    let mut plane = P::from_pattern(alloc, before)?;
+    steps(alloc, &mut plane, n)?;
+    plane.trim();
+    Ok(plane)
+}
+
+/// Whether generation `n` of the pattern is on the plane.
+fn has_generation<P: Plane<Global>>(
+    alloc: Global,
+    plane: &P,
+    before: &Pattern,
+    n: u32,
+) -> Result<bool, Fault> {
+    let here = plane.to_pattern(alloc)?;
+    goes_on_by::<P>(alloc, before, n, &here)
+}
+
+/// Whether a plane whose room is given up after `n` generations goes on as one that keeps it.
+fn trims_by<P: Plane<Global>>(alloc: Global, before: &Pattern, n: u16) -> Result<bool, Fault> {
+    let mut plane = trimmed::<P>(alloc, before, n)?;
+    if !has_generation(alloc, &plane, before, u32::from(n))? {
+        return Ok(false);
+    }
+    steps(alloc, &mut plane, n)?;
+    has_generation(alloc, &plane, before, 2 * u32::from(n))
+}
+
+/// Whether planes of both kinds whose room is given up after `n` generations go on as ones that keep it.
+fn trims(alloc: Global, before: &Pattern, n: u16) -> Result<bool, Fault> {
+    Ok(trims_by::<CellList>(alloc, before, n)? && trims_by::<PackedRows>(alloc, before, n)?)
+}
+
+/// Whether planes with a glider go on where their room is given up.
+fn glider_trims(alloc: Global) -> Result<bool, Fault> {
+    let glider = Pattern::from_cells(alloc, &GLIDER)?;
+    for n in [1, 70, 300] {
+        if !trims(alloc, &glider, n)? {
             return Ok(false);
         }
-        plane.step(&Rule::LIFE)?;
     }
     Ok(true)
 }
 
-/// Whether a plane goes on alike with and without its room given up after `n` generations.
-fn trims<P: Plane<Global>>(alloc: Global, before: &Pattern, n: u32) -> Result<bool, Fault> {
-    let mut whole = P::from_pattern(alloc, before)?;
-    let mut trimmed = P::from_pattern(alloc, before)?;
-    if !steps(alloc, &mut whole, n)? || !steps(alloc, &mut trimmed, n)? {
+/// Whether planes without a cell go on where their room is given up.
+fn empty_trims(alloc: Global) -> Result<bool, Fault> {
+    let empty = Pattern::from_cells(alloc, &[])?;
+    trims(alloc, &empty, 2)
+}
+
+#[test]
+fn a_trimmed_plane_goes_on(rt: HostRuntime) {
+    assert!(rt; glider_trims(rt.alloc()) == Ok(true));
+    assert!(rt; empty_trims(rt.alloc()) == Ok(true));
+}
+
+/// Two blocks, too far from one another for packed rows.
+const FAR_BLOCKS: [(i64, i64); 8] = [
+    (0, 0),
+    (1, 0),
+    (0, 1),
+    (1, 1),
+    (900_000_000, 0),
+    (900_000_001, 0),
+    (900_000_000, 1),
+    (900_000_001, 1),
+];
+
+/// Whether the pattern is not packed, and its next generation is the pattern.
+fn stays_unpacked(alloc: Global, pattern: &Pattern) -> Result<bool, Fault> {
+    if is_packed(pattern.bounds(), 1) || !pattern.within(PLANE - 1) {
         return Ok(false);
     }
-    trimmed.trim();
-    let same = whole.to_pattern(alloc)?.same(&trimmed.to_pattern(alloc)?);
-    if !steps(alloc, &mut whole, n)? || !steps(alloc, &mut trimmed, n)? {
-        return Ok(false);
-    }
-    Ok(same && whole.to_pattern(alloc)?.same(&trimmed.to_pattern(alloc)?))
+    Ok(generation(alloc, &Rule::LIFE, pattern, 1)?.same(pattern))
+}
+
+/// Whether the far blocks stay, on a plane that is not packed.
+fn blocks_stay(alloc: Global) -> Result<bool, Fault> {
+    let blocks = Pattern::from_cells(alloc, &FAR_BLOCKS)?;
+    stays_unpacked(alloc, &blocks)
 }
 
 #[test]
-fn a_trimmed_plane_goes_on(rt: HostRuntime) -> Result<(), Fail> {
-    let glider = Pattern::from_cells(rt.alloc(), &[(1, 0), (2, 1), (0, 2), (1, 2), (2, 2)])?;
-    let empty = Pattern::from_cells(rt.alloc(), &[])?;
-    for (before, n) in [(&glider, 1), (&glider, 70), (&glider, 300), (&empty, 2)] {
-        assert!(rt; trims::<CellList>(rt.alloc(), before, n)?, "after {n}");
-        assert!(rt; trims::<PackedRows>(rt.alloc(), before, n)?, "after {n}");
-    }
-    Ok(())
+fn far_blocks_stay(rt: HostRuntime) {
+    assert!(rt; blocks_stay(rt.alloc()) == Ok(true));
 }
 
 #[test]
-fn blinkers_lie_across_words(rt: HostRuntime) -> Result<(), Fail> {
-    let left = Pattern::from_cells(rt.alloc(), &[(-65, -1), (-64, -1), (-63, -1)])?;
-    let later = Pattern::from_cells(rt.alloc(), &[(-64, -2), (-64, -1), (-64, 0)])?;
-    assert!(rt; goes_on(rt.alloc(), &left, 1, &later)?);
-    let right = Pattern::from_cells(rt.alloc(), &[(63, 0), (64, 0), (65, 0)])?;
-    let later = Pattern::from_cells(rt.alloc(), &[(64, -1), (64, 0), (64, 1)])?;
-    assert!(rt; goes_on(rt.alloc(), &right, 1, &later)?);
-    Ok(())
-}
-
-/// The cells of a file with this body.
-fn cells_of(alloc: Global, body: &str) -> Result<Pattern, Fail> {
-    let file = format!(in alloc; "x = 0, y = 0\n{body}\n")?;
-    Ok(read(alloc, file.as_bytes())?.cells)
-}
-
-/// Whether the next generation of the first pattern, moved to the origin, is the second.
-fn is_next(alloc: Global, before: &Pattern, after: &Pattern) -> Result<bool, Fault> {
-    if !before.within(PLANE - 1) {
-        return Ok(false);
-    }
-    let next = generation(alloc, &Rule::LIFE, before, 1)?;
-    if !next.within(500_000_000) {
-        return Ok(false);
-    }
-    Ok(next.normal(alloc)?.same(after))
-}
-
-/// Whether the cells of the first body become those of the second.
-fn becomes(alloc: Global, before: &str, after: &str) -> Result<bool, Fail> {
-    let before = cells_of(alloc, before)?;
-    let after = cells_of(alloc, after)?;
-    Ok(is_next(alloc, &before, &after)?)
-}
-
-#[test]
-fn full_rows_become_three(rt: HostRuntime) -> Result<(), Fail> {
-    for wide in 2..299_u64 {
-        let row = format!(in rt.alloc(); "{}o!", wide + 2)?;
-        let three = format!(in rt.alloc(); "{wide}o${wide}o${wide}o!")?;
-        assert!(rt; becomes(rt.alloc(), &row, &three)?, "of {wide}");
-    }
-    Ok(())
-}
-
-#[test]
-fn far_blocks_stay(rt: HostRuntime) -> Result<(), Fail> {
-    let blocks = Pattern::from_cells(
-        rt.alloc(),
-        &[
-            (0, 0),
-            (1, 0),
-            (0, 1),
-            (1, 1),
-            (900_000_000, 0),
-            (900_000_001, 0),
-            (900_000_000, 1),
-            (900_000_001, 1),
-        ],
-    )?;
-    assert!(rt; !is_packed(blocks.bounds(), 1));
-    assert!(rt; blocks.within(PLANE - 1));
-    assert!(rt; generation(rt.alloc(), &Rule::LIFE, &blocks, 1)?.same(&blocks));
-    Ok(())
-}
-
-#[test]
-fn a_row_steps_across_words(rt: HostRuntime) -> Result<(), Fail> {
+fn a_row_steps_across_words(rt: HostRuntime) {
     let side = [1 << 63, 0];
     let mut out = [0, 0];
     row_step(&side, &[0, 1], &side, &Rule::LIFE, &mut out);
-    assert_eq!(rt; out, [1 << 63, 1]);
-    row_step(&[7], &[7], &[7], &Rule::read(b"B/S8")?, &mut out[..1]);
-    assert_eq!(rt; out, [2, 1]);
-    Ok(())
+    assert!(rt; out == [1 << 63, 1]);
 }
 
-/// The move from the first pattern to the second, as planes of one kind that were trimmed.
+/// The move from the first pattern to the second, as planes of one kind of which one was trimmed.
 fn shift_by<P: Plane<Global>>(
     alloc: Global,
     from: &Pattern,
@@ -167,82 +190,140 @@ fn is_move(
     Ok(listed == shift && packed == shift)
 }
 
-#[test]
-fn a_move_is_found(rt: HostRuntime) -> Result<(), Fail> {
-    let pair = Pattern::from_cells(rt.alloc(), &[(0, 0), (63, 0)])?;
-    let later = Pattern::from_cells(rt.alloc(), &[(1, 5), (64, 5)])?;
-    assert!(rt; is_move(rt.alloc(), &pair, &later, Some((1, 5)))?);
-    Ok(())
+/// Whether the move between two pairs of cells that are alike is found.
+fn pair_moves(alloc: Global) -> Result<bool, Fault> {
+    let pair = Pattern::from_cells(alloc, &[(0, 0), (63, 0)])?;
+    let later = Pattern::from_cells(alloc, &[(1, 5), (64, 5)])?;
+    is_move(alloc, &pair, &later, Some((1, 5)))
+}
+
+/// Whether no move is found between sets of another size, either way.
+fn sizes_differ(alloc: Global) -> Result<bool, Fault> {
+    let one = Pattern::from_cells(alloc, &[(0, 0)])?;
+    let two = Pattern::from_cells(alloc, &[(0, 0), (1, 0)])?;
+    Ok(is_move(alloc, &one, &two, None)? && is_move(alloc, &two, &one, None)?)
+}
+
+/// Whether no move is found between sets of another shape.
+fn shapes_differ(alloc: Global) -> Result<bool, Fault> {
+    let pair = Pattern::from_cells(alloc, &[(0, 0), (63, 0)])?;
+    let two = Pattern::from_cells(alloc, &[(0, 0), (1, 0)])?;
+    is_move(alloc, &pair, &two, None)
+}
+
+/// Whether no move is found from the empty set to itself.
+fn empty_has_no_move(alloc: Global) -> Result<bool, Fault> {
+    let empty = Pattern::from_cells(alloc, &[])?;
+    is_move(alloc, &empty, &empty, None)
 }
 
 #[test]
-fn no_move_takes_a_set_to_another_size(rt: HostRuntime) -> Result<(), Fail> {
-    let one = Pattern::from_cells(rt.alloc(), &[(0, 0)])?;
-    let two = Pattern::from_cells(rt.alloc(), &[(0, 0), (1, 0)])?;
-    assert!(rt; is_move(rt.alloc(), &one, &two, None)?);
-    assert!(rt; is_move(rt.alloc(), &two, &one, None)?);
-    Ok(())
+fn moves_are_found(rt: HostRuntime) {
+    assert!(rt; pair_moves(rt.alloc()) == Ok(true));
+    assert!(rt; sizes_differ(rt.alloc()) == Ok(true));
+    assert!(rt; shapes_differ(rt.alloc()) == Ok(true));
+    assert!(rt; empty_has_no_move(rt.alloc()) == Ok(true));
 }
 
-#[test]
-fn no_move_takes_a_set_to_another_shape(rt: HostRuntime) -> Result<(), Fail> {
-    let pair = Pattern::from_cells(rt.alloc(), &[(0, 0), (63, 0)])?;
-    let two = Pattern::from_cells(rt.alloc(), &[(0, 0), (1, 0)])?;
-    assert!(rt; is_move(rt.alloc(), &pair, &two, None)?);
-    Ok(())
-}
-
-#[test]
-fn no_move_takes_the_empty_set_to_itself(rt: HostRuntime) -> Result<(), Fail> {
-    let empty = Pattern::from_cells(rt.alloc(), &[])?;
-    assert!(rt; is_move(rt.alloc(), &empty, &empty, None)?);
-    Ok(())
-}
-
-#[test]
-fn each_call_of_a_pattern(rt: HostRuntime) -> Result<(), Fail> {
-    let pattern = Pattern::from_cells(rt.alloc(), &[(3, -1), (2, 5), (3, -1)])?;
-    assert_eq!(rt; pattern.population(), 2);
-    assert!(rt; pattern.contains(Cell { row: 5, column: 2 }));
-    assert!(rt; !pattern.contains(Cell { row: 2, column: 5 }));
-    assert!(rt; pattern.within(5) && !pattern.within(4));
+/// Whether the pattern has the cells (3, -1) and (2, 5).
+fn has_both_cells(pattern: &Pattern) -> bool {
     let bounds = Bounds {
         left: 2,
         top: -1,
         width: 2,
         height: 7,
     };
-    assert_eq!(rt; pattern.bounds(), Some(bounds));
-    assert!(rt; pattern.within(500_000_000));
-    let normal = pattern.normal(rt.alloc())?;
-    let cells = [Cell { row: 0, column: 1 }, Cell { row: 6, column: 0 }];
-    assert_eq!(rt; normal.cells(), cells.as_slice());
-    assert!(rt; normal.copy(rt.alloc())?.same(&normal));
-    assert!(rt; !normal.same(&pattern));
-    laws_of_patterns();
-    Ok(())
+    pattern.population() == 2
+        && pattern.contains(Cell { row: 5, column: 2 })
+        && !pattern.contains(Cell { row: 2, column: 5 })
+        && pattern.within(5)
+        && !pattern.within(4)
+        && pattern.bounds() == Some(bounds)
+}
+
+/// Whether the pattern is equal to its copy.
+fn is_copied(alloc: Global, pattern: &Pattern) -> Result<bool, Fault> {
+    Ok(pattern.copy(alloc)?.same(pattern))
+}
+
+/// Whether these are the cells of the pattern moved to the corner, in their order, and not those of the pattern.
+fn has_normal(alloc: Global, pattern: &Pattern, cells: &[Cell]) -> Result<bool, Fault> {
+    if !pattern.within(500_000_000) {
+        return Ok(false);
+    }
+    let normal = pattern.normal(alloc)?;
+    Ok(normal.cells() == cells && !normal.same(pattern))
+}
+
+/// Whether each call of a pattern answers what it should.
+fn calls_are_right(alloc: Global) -> Result<bool, Fault> {
+    let pattern = Pattern::from_cells(alloc, &[(3, -1), (2, 5), (3, -1)])?;
+    let normal = [Cell { row: 0, column: 1 }, Cell { row: 6, column: 0 }];
+    Ok(
+        has_both_cells(&pattern)
+            && is_copied(alloc, &pattern)?
+            && has_normal(alloc, &pattern, &normal)?,
+    )
 }
 
 #[test]
-fn a_tromino_is_turned(rt: HostRuntime) -> Result<(), Fail> {
-    let tromino = Pattern::from_cells(rt.alloc(), &[(1, 2), (1, 3), (2, 3)])?;
-    let places = [
-        [(1, 2), (1, 3), (2, 3)],
-        [(-2, 1), (-3, 1), (-3, 2)],
-        [(-1, -2), (-1, -3), (-2, -3)],
-        [(2, -1), (3, -1), (3, -2)],
-        [(-1, 2), (-1, 3), (-2, 3)],
-        [(1, -2), (1, -3), (2, -3)],
-        [(2, 1), (3, 1), (3, 2)],
-        [(-2, -1), (-3, -1), (-3, -2)],
-    ];
-    for (orientation, cells) in Orientation::ALL.iter().zip(&places) {
-        let turned = tromino.turned(rt.alloc(), *orientation)?;
-        assert_eq!(rt; turned.population(), 3);
-        for (column, row) in *cells {
-            assert!(rt; turned.contains(Cell { row, column }), "of {orientation:?}");
+fn each_call_of_a_pattern(rt: HostRuntime) {
+    assert!(rt; calls_are_right(rt.alloc()) == Ok(true));
+    laws_of_patterns();
+}
+
+/// The cells of a tromino, (1, 2), (1, 3) and (2, 3), in each orientation.
+const TURNED: [[(i64, i64); 3]; 8] = [
+    [(1, 2), (1, 3), (2, 3)],
+    [(-2, 1), (-3, 1), (-3, 2)],
+    [(-1, -2), (-1, -3), (-2, -3)],
+    [(2, -1), (3, -1), (3, -2)],
+    [(-1, 2), (-1, 3), (-2, 3)],
+    [(1, -2), (1, -3), (2, -3)],
+    [(2, 1), (3, 1), (3, 2)],
+    [(-2, -1), (-3, -1), (-3, -2)],
+];
+
+/// Whether these are the cells of the pattern, each given once.
+fn has_cells(pattern: &Pattern, cells: &[(i64, i64)]) -> bool {
+    for (column, row) in cells {
+        let cell = Cell {
+            row: *row,
+            column: *column,
+        };
+        if !pattern.contains(cell) {
+            return false;
         }
     }
+    pattern.population() == cells.len()
+}
+
+/// Whether the pattern has these cells where it is turned so.
+fn turns_to(
+    alloc: Global,
+    pattern: &Pattern,
+    orientation: Orientation,
+    cells: &[(i64, i64)],
+) -> bool {
+    match pattern.turned(alloc, orientation) {
+        Ok(turned) => has_cells(&turned, cells),
+        Err(_) => false,
+    }
+}
+
+/// The first place in the table where the tromino is turned to other cells.
+fn first_other_turn(alloc: Global) -> Result<Option<usize>, Fault> {
+    let tromino = Pattern::from_cells(alloc, &[(1, 2), (1, 3), (2, 3)])?;
+    for place in 0..8 {
+        if !turns_to(alloc, &tromino, Orientation::ALL[place], &TURNED[place]) {
+            return Ok(Some(place));
+        }
+    }
+    Ok(None)
+}
+
+#[test]
+fn a_tromino_is_turned(rt: HostRuntime) {
+    assert!(rt; first_other_turn(rt.alloc()) == Ok(None));
     laws_of_symmetries();
-    Ok(())
 }

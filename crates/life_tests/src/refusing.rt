@@ -74,16 +74,21 @@ mod tests {
         Ok(numbers)
     }
 
+    // Whether the nine numbers come in memory whose growth of this number is refused, and whether it was.
+    fn answers(alloc: Global, refused: u64) -> (bool, bool)
+        requires { 0 < refused }
+    {
+        let refusing = Refusing::new(alloc, refused);
+        let comes = below_nine(&refusing).is_ok();
+        (comes, refusing.has_refused())
+    }
+
     #[test]
     fn each_growth_of_a_vector_can_be_refused(rt: HostRuntime) {
         for refused in 1..4 {
-            let refusing = Refusing::new(rt.alloc(), refused);
-            assert!(rt; below_nine(&refusing).is_err());
-            assert!(rt; refusing.has_refused());
+            assert!(rt; answers(rt.alloc(), refused) == (false, true));
         }
-        let refusing = Refusing::new(rt.alloc(), 4);
-        assert!(rt; below_nine(&refusing).is_ok());
-        assert!(rt; !refusing.has_refused());
+        assert!(rt; answers(rt.alloc(), 4) == (true, false));
     }
 
     #[test]

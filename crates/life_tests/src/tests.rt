@@ -1,12 +1,13 @@
 //! Each growth of a call refused in turn: the call answers want of memory, or goes on in less room, and
 //! gives its answer when it is made again with memory.
+ghost use Rattle.std.specs.Prelude.{◌<◌};
+
 use crate::refusing::Refusing;
-use life_census::{clusters, csv, steady, tally};
+use life_census::{Tally, clusters, csv, steady, tally};
 use life_code::{CodeFault, Kind, code, kind, open_code};
 use life_core::{Fault, PLANE, Pattern, Rule, generation};
 use life_rle::{Record, RleFault, read, write};
 use std::process::Abort;
-use std::test::Fail;
 
 /// More growths than any of the calls asks for.
 const MANY: u64 = 1000;
@@ -130,19 +131,39 @@ impl Calls {
     }
 }
 
+/// Whether this is written of the record.
+fn is_written<'a>(
+    alloc: &'a Refusing,
+    record: &Record<&'a Refusing>,
+    text: &[u8],
+) -> Result<bool, Fault> {
+    Ok(write(alloc, record)?.as_slice() == text)
+}
+
 fn file_is_right(alloc: &Refusing) -> Result<bool, Fault> {
-    let read: Result<Record<&Refusing>, RleFault> = read(alloc, FILE);
-    match read {
-        Ok(record) => Ok(write(alloc, &record)?.as_slice() == TEXT),
+    match read(alloc, FILE) {
+        Ok(record) => is_written(alloc, &record, TEXT),
         Err(RleFault::Memory) => Err(Fault::Memory),
         Err(_) => Ok(false),
     }
 }
 
+/// Whether generation 4 of the first pattern is the second.
+fn is_later<'a>(
+    alloc: &'a Refusing,
+    before: &Pattern<&'a Refusing>,
+    after: &Pattern<&'a Refusing>,
+) -> Result<bool, Fault> {
+    if !before.within(PLANE - 4) {
+        return Ok(false);
+    }
+    Ok(generation(alloc, &Rule::LIFE, before, 4)?.same(after))
+}
+
 fn generation_is_right(alloc: &Refusing) -> Result<bool, Fault> {
     let glider = Pattern::from_cells(alloc, &GLIDER)?;
     let later = Pattern::from_cells(alloc, &GLIDER_LATER)?;
-    Ok(glider.within(PLANE - 4) && generation(alloc, &Rule::LIFE, &glider, 4)?.same(&later))
+    is_later(alloc, &glider, &later)
 }
 
 fn kind_is_right(alloc: &Refusing) -> Result<bool, Fault> {
@@ -150,15 +171,24 @@ fn kind_is_right(alloc: &Refusing) -> Result<bool, Fault> {
     Ok(glider.within(400_000_000) && kind(alloc, &Rule::LIFE, &glider, 4)? == Kind::Ship(4, 1, 1))
 }
 
-fn code_is_right(alloc: &Refusing) -> Result<bool, Fault> {
-    let blinker = Pattern::from_cells(alloc, &BLINKER)?;
-    if !blinker.within(400_000_000) {
+/// Whether this is the code of the pattern under limit 2.
+fn has_code<'a>(
+    alloc: &'a Refusing,
+    pattern: &Pattern<&'a Refusing>,
+    text: &[u8],
+) -> Result<bool, Fault> {
+    if !pattern.within(400_000_000) {
         return Ok(false);
     }
-    match code(alloc, &Rule::LIFE, &blinker, 2)? {
-        Some(coded) => Ok(coded.text() == b"xp2_7".as_slice()),
+    match code(alloc, &Rule::LIFE, pattern, 2)? {
+        Some(coded) => Ok(coded.text() == text),
         None => Ok(false),
     }
+}
+
+fn code_is_right(alloc: &Refusing) -> Result<bool, Fault> {
+    let blinker = Pattern::from_cells(alloc, &BLINKER)?;
+    has_code(alloc, &blinker, b"xp2_7")
 }
 
 fn opened_code_is_right(alloc: &Refusing) -> Result<bool, Fault> {
@@ -171,17 +201,35 @@ fn opened_code_is_right(alloc: &Refusing) -> Result<bool, Fault> {
 }
 
 fn clusters_are_right(alloc: &Refusing, field: Field) -> Result<bool, Fault> {
-    let found = clusters(alloc, &field.pattern(alloc)?)?;
-    Ok(found.len() == field.clusters())
+    let pattern = field.pattern(alloc)?;
+    Ok(clusters(alloc, &pattern)?.len() == field.clusters())
+}
+
+/// Whether this is the CSV of the tally.
+fn has_table<'a>(
+    alloc: &'a Refusing,
+    counts: &Tally<&'a Refusing>,
+    table: &[u8],
+) -> Result<bool, Fault> {
+    Ok(csv(alloc, counts)?.as_slice() == table)
+}
+
+/// Whether this is the CSV of the tally of the pattern under limit 2.
+fn is_tallied<'a>(
+    alloc: &'a Refusing,
+    pattern: &Pattern<&'a Refusing>,
+    table: &[u8],
+) -> Result<bool, Fault> {
+    if !pattern.within(400_000_000) {
+        return Ok(false);
+    }
+    let counts = tally(alloc, &Rule::LIFE, pattern, 2)?;
+    has_table(alloc, &counts, table)
 }
 
 fn tally_is_right(alloc: &Refusing, field: Field) -> Result<bool, Fault> {
     let pattern = field.pattern(alloc)?;
-    if !pattern.within(400_000_000) {
-        return Ok(false);
-    }
-    let counts = tally(alloc, &Rule::LIFE, &pattern, 2)?;
-    Ok(csv(alloc, &counts)?.as_slice() == field.table())
+    is_tallied(alloc, &pattern, field.table())
 }
 
 /// Each of the fields is steady under limit 2.
@@ -193,31 +241,37 @@ fn steady_is_right(alloc: &Refusing, field: Field) -> Result<bool, Fault> {
     steady(alloc, &Rule::LIFE, &pattern, 2)
 }
 
+/// Refuses this growth of the calls, which are right then or want memory, and makes them again with memory, when they
+/// are right. Whether no growth was refused, since they ask for fewer.
+fn refuse_growth(rt: &impl Abort, refusing: &Refusing, calls: Calls, growth: u64) -> bool
+    requires { 0 < growth }
+{
+    refusing.refuse(growth);
+    let first = calls.are_right(refusing);
+    let ended = !refusing.has_refused();
+    refusing.refuse(u64::MAX);
+    let again = calls.are_right(refusing);
+    assert!(rt;
+        first == Ok(true) || first.is_err() && !ended,
+        "{calls:?} at growth {growth}"
+    );
+    assert!(rt; again == Ok(true), "{calls:?} after growth {growth}");
+    ended
+}
+
 /// Refuses the first growth of the calls, then the second, and so on until none is left to refuse.
-fn refuse_each_growth(rt: &impl Abort, refusing: &Refusing, calls: Calls) -> Result<(), Fail> {
+fn refuse_each_growth(rt: &impl Abort, refusing: &Refusing, calls: Calls) {
     for growth in 1..MANY {
-        refusing.refuse(growth);
-        let first = calls.are_right(refusing);
-        let ended = !refusing.has_refused();
-        refusing.refuse(u64::MAX);
-        match first {
-            Ok(right) => assert!(rt; right, "{calls:?} at growth {growth}"),
-            Err(_) => assert!(rt; !ended, "{calls:?} at growth {growth}"),
-        }
-        assert!(rt;
-            calls.are_right(refusing)?,
-            "{calls:?} after growth {growth}"
-        );
-        if ended {
+        if refuse_growth(rt, refusing, calls, growth) {
             assert!(rt; growth > 1, "{calls:?} asks for no growth");
-            return Ok(());
+            return;
         }
     }
     panic!(rt; "{calls:?}: a growth is refused each time");
 }
 
 #[test]
-fn calls_with_each_growth_refused(rt: HostRuntime) -> Result<(), Fail> {
+fn calls_with_each_growth_refused(rt: HostRuntime) {
     let refusing = Refusing::new(rt.alloc(), u64::MAX);
     for calls in [
         Calls::Files,
@@ -226,16 +280,15 @@ fn calls_with_each_growth_refused(rt: HostRuntime) -> Result<(), Fail> {
         Calls::Codes,
         Calls::OpenedCodes,
     ] {
-        refuse_each_growth(&rt, &refusing, calls)?;
+        refuse_each_growth(&rt, &refusing, calls);
     }
     for field in [
         Field::TwoBlocks,
         Field::BlocksTogether,
         Field::BlockAndBlinker,
     ] {
-        refuse_each_growth(&rt, &refusing, Calls::Clusters(field))?;
-        refuse_each_growth(&rt, &refusing, Calls::Tallies(field))?;
-        refuse_each_growth(&rt, &refusing, Calls::SteadyFields(field))?;
+        refuse_each_growth(&rt, &refusing, Calls::Clusters(field));
+        refuse_each_growth(&rt, &refusing, Calls::Tallies(field));
+        refuse_each_growth(&rt, &refusing, Calls::SteadyFields(field));
     }
-    Ok(())
 }

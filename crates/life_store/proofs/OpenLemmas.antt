@@ -137,6 +137,10 @@ layout_stands schema own (inr first) = ap (λ (s : Schema). has_table s.tables s
 pub stands_not : (s schema : Schema) (own : List Value) → IsLayout schema own → s ≡ schema → has_some s ≡ false → ⊥
 stands_not s schema own known is none = absurd (let e : true ≡ false = sym (some_stands schema own known) ∙ ap has_some (sym is) ∙ none in cc)
 
+-- and none stands where there is no table
+pub none_not : (s : Schema) → s ≡ no_schema → has_some s ≡ true → ⊥
+none_not s is some = absurd (let e : true ≡ false = sym some ∙ ap has_some is ∙ none_stands in cc)
+
 pub layout_not : (s schema : Schema) (own : List Value) → IsLayout schema own → s ≡ schema → has_table s.tables st.layout_name ≡ false → ⊥
 layout_not s schema own known is none = absurd (let e : true ≡ false = sym (layout_stands schema own known) ∙ ap (λ (x : Schema). has_table x.tables st.layout_name) (sym is) ∙ none in cc)
 

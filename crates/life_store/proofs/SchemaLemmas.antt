@@ -20,11 +20,11 @@ use Rattle.sqlite_wal.specs.Recovery.{Image}
 use Rattle.std.specs.Prelude.{◌↔◌, Result, Ok, Err, IfOk, IfErr, ◌≢◌}
 use Rattle.sqlite.specs.Files.{HoldsDatabase, AreFoundIn}
 use Rattle.life_store.specs.declared.fault.OpenFault.{OpenFault}
-use Rattle.life_store.specs.declared.fault.OpenFault.TheVariants.{BadCapacity, NotOurs}
+use Rattle.life_store.specs.declared.fault.OpenFault.TheVariants.{BadCapacity, NotOurs, Unavailable}
 use Rattle.life_store.specs.LayingState.{IsLaid}
 use Rattle.life_store.specs.Kept.{Kept}
 use Rattle.life_store.specs.Layout.{first_schema, archive_schema, no_schema}
-use Rattle.life_store.specs.Opening.{FilesHold, FilesHoldFirst, ListNothing, nothing_kept, versions_in, IsLayout, FilesHaveVersions}
+use Rattle.life_store.specs.Opening.{is_capacity, FilesHold, FilesHoldFirst, ListNothing, nothing_kept, versions_in, IsLayout, FilesHaveVersions}
 use Rattle.life_store.specs.Carrying.{HoldsFirst, CarriedOver}
 use Rattle.life_store.specs.CarryingState.{Carries}
 use Rattle.life_store.specs.OpeningState.{HaveVersions}
@@ -191,6 +191,20 @@ errs_not (Err e) P h = λ is. absurd (h is)
 pub errs_never : {A F : Type 0} (r : Result A (OpenFault × F)) (b : Bool) → b ≡ true → IfErr r (λ e. e.0 ≢ BadCapacity) → IfErr r (λ e. (e.0 ≡ BadCapacity) ↔ (b ≡ false))
 errs_never (Ok a) b fits h = tt
 errs_never (Err e) b fits h = (λ is. absurd (h is), λ is. absurd (let e : true ≡ false = sym fits ∙ is in cc))
+
+-- what an opening with a good capacity says of it
+pub capacity_fits : {E : Type 0} (r : Result Shelf E) (n : ℕ) → is_capacity n ≡ true → IfOk r (λ a. a.capacity ≡ n) → IfOk r (λ a. (a.capacity ≡ n) × IsTrue (is_capacity n))
+capacity_fits (Ok a) n fits is = (is, fits)
+capacity_fits (Err e) n fits is = tt
+
+pub bad_not_ours : BadCapacity ≢ NotOurs
+bad_not_ours is = absurd cc
+
+pub unavailable_not_bad : Unavailable ≢ BadCapacity
+unavailable_not_bad is = absurd cc
+
+pub unavailable_not_ours : Unavailable ≢ NotOurs
+unavailable_not_ours is = absurd cc
 
 -- what was closed is found again
 pub found_again : {E : Type 0} (r : Result Shelf E) (t : Tables) (image : Image) (Clean : Type 0) → IfOk r (λ a. (k : Kept) → IsSureOf a → FilesHold image k → Holds a.tables k) → IfOk r (λ a. IsSureOf a → Clean)

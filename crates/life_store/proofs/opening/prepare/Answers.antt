@@ -1,6 +1,8 @@
 use Rattle.std.proofs.Common.{◌∙◌, inl, inr, refl, sym}
+use Rattle.sqlite.specs.Held.{state}
 use Rattle.life_store.specs.Layout.{first_schema, archive_schema}
-use Rattle.life_store.proofs.OpenLemmas.{stands_not, first_own, second_own}
+use Rattle.life_store.proofs.KeepLemmas.{sure_from}
+use Rattle.life_store.proofs.OpenLemmas.{stands_not, none_not, new_holds, first_own, second_own}
 use Rattle.life_store.proofs.opening.prepare.Goals as goal
 
 pub returns-in-Ok-clause-keeps : goal.returns-in-Ok-clause-keeps
@@ -11,3 +13,39 @@ returns-in-Ok-clause-carries g c k sure holds = absurd (stands_not c.schema.resu
 
 pub returns-in-Ok-clause-known : goal.returns-in-Ok-clause-known
 returns-in-Ok-clause-known g c schema own versions known sure have = absurd (stands_not c.schema.result.now schema own known (c.schema.ensures.value ∙ have.schema) (sym c.has_some.ensures ∙ c.if-not-has_some.true))
+
+pub returns-in-Ok-clause-fresh : goal.returns-in-Ok-clause-fresh
+returns-in-Ok-clause-fresh g c clean laid =
+    let new = state g.S.Store c.lay_out.new.conn in
+    let made = c.in-Ok.ensures.laid clean laid in
+    (sure_from new clean made.0, new_holds new made.1)
+
+pub returns-in-Ok-clause-clean : goal.returns-in-Ok-clause-clean
+returns-in-Ok-clause-clean g c = c.lay_out.ensures.clean
+
+pub returns-in-Err-clause-clean : goal.returns-in-Err-clause-clean
+returns-in-Err-clause-clean g c = c.lay_out.ensures.clean
+
+pub returns-clause-keeps : goal.returns-clause-keeps
+returns-clause-keeps g c = c.take_up.ensures.keeps
+
+pub returns-clause-carries : goal.returns-clause-carries
+returns-clause-carries g c = c.take_up.ensures.carries
+
+pub returns-clause-fresh : goal.returns-clause-fresh
+returns-clause-fresh g c clean laid = absurd (none_not c.schema.result.now (c.schema.ensures.value ∙ laid.is) (sym c.has_some.ensures ∙ c.if-not-has_some.false))
+
+pub returns-clause-known : goal.returns-clause-known
+returns-clause-known g c = c.take_up.ensures.known
+
+pub returns-clause-ours : goal.returns-clause-ours
+returns-clause-ours g c = c.take_up.ensures.ours
+
+pub returns-clause-none : goal.returns-clause-none
+returns-clause-none g c is = absurd (none_not c.schema.result.now (c.schema.ensures.value ∙ is) (sym c.has_some.ensures ∙ c.if-not-has_some.false))
+
+pub returns-clause-fits : goal.returns-clause-fits
+returns-clause-fits g c = c.take_up.ensures.fits
+
+pub returns-clause-clean : goal.returns-clause-clean
+returns-clause-clean g c = c.take_up.ensures.clean

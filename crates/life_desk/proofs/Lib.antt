@@ -7,4 +7,5 @@ pub mod OnceCensus
 pub mod Steps
 pub mod Totals
 pub mod OneReply
+pub mod Looks
 pub mod Telling

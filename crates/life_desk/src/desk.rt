@@ -1,19 +1,23 @@
 //! The desk: a request is judged by its own words, the archive is asked, and a reply is made.
-ghost use Rattle.std.specs.Prelude.{◌≡◌, ◌≤◌, ◌∷◌, [], IfErr, IfOk, IsTrue, OnErr, length, option_map, Some, true};
+ghost use Rattle.std.specs.Prelude.{◌≡◌, ◌≤◌, ◌∷◌, [], if◌then◌else◌, None, IfErr, IfOk, IsTrue, OnErr, length, option_map, Some, true};
 ghost use Rattle.life_rle.specs.Record.{IsInside};
 ghost use Rattle.life_store.specs.Kept.{numbered, deposit_by, lines_after};
 ghost use Rattle.life_store.specs.Tables.{Goes, Keeps, HasOrder};
 ghost use Rattle.life_desk.specs.declared.request.Reply.TheVariants as says;
 ghost use Rattle.life_desk.specs.declared.refusal.Refusal.TheVariants as refusals;
-ghost use Rattle.life_desk.specs.Replies.{deposit_by_token, deposit_verdict, deposit_reply, with_deposit, is_same_content, census_by_token, census_verdict, census_reply, with_census, file_reply, at_reply, kind_reply, shown_reply, csv_reply, IsTotal, IsReplyTo, after_all_of, is_shown};
+ghost use Rattle.life_desk.specs.Replies.{Adds, deposit_by_token, deposit_verdict, deposit_reply, with_deposit, is_same_content, census_by_token, census_verdict, census_reply, with_census, file_reply, at_reply, kind_reply, shown_reply, csv_reply, IsTotal, IsReplyTo, after_all_of, is_shown};
 ghost use Rattle.life_core.specs.Pattern.{IsWithin};
 ghost use Rattle.life_code.specs.Codes as codes;
+ghost use Rattle.life_desk.specs.Content.{same_contents};
 ghost use Rattle.life_desk.specs.Judging.{judged};
 ghost use Rattle.life_desk.specs.JudgingState.{IsGood};
 ghost use Rattle.life_desk.specs.DeskState.{Acts, ActsWhere};
 ghost use Rattle.life_desk.specs.Headline.{IsTheArchive};
 ghost use Rattle.life_desk.specs.Run.{Answered};
-ghost use Rattle.life_desk.specs.Archive.{census_by, tally_for, tally_at, steady_for};
+ghost use Rattle.life_desk.specs.Archive.{census_by, tally_for, tally_at, tally_of_cells, steady_for};
+ghost use Rattle.life_rle.specs.Writer as writer;
+ghost use Rattle.life_census.specs.Steady.{is_steady};
+ghost use Rattle.life_census.specs.Table.{csv_text};
 
 use crate::bytes::Bytes;
 use crate::content::same_contents;
@@ -28,10 +32,39 @@ use crate::request::{Judged, Reply, Request, Shown};
 use life_census::{Tally, csv, laws_of_tallies, steady, tally};
 use life_code::{CodeFault, PERIOD_LIMIT, code, kind, open_code};
 use life_core::{Fault, GENERATION_LIMIT, Pattern, Rule, generation};
-use life_rle::{RleFault, Text, plain, read, write};
-use life_store::{Archive, Census, Deposit, FoundCensus, Unavailable};
+use life_rle::{Record, RleFault, Text, plain, read, write};
+use life_store::{Archive, Census, Deposit, FoundCensus, FoundDeposit, Unavailable};
 use sqlite::Alter;
 use std::alloc::Global;
+
+/// The reply to a deposit whose token is kept.
+fn kept_again(found: &FoundDeposit, deposit: &Deposit) -> Reply
+    ensures { result ≡ (if same_contents found.now.deposit.content deposit.now.content then says.Deposited found.now.id else says.Refused refusals.TokenReused) }
+{
+    if same_contents(&found.deposit.content, &deposit.content) {
+        Reply::Deposited(found.id)
+    } else {
+        Reply::Refused(Refusal::TokenReused)
+    }
+}
+
+/// Answers a deposit whose token is new.
+fn keep_new<S: Alter>(
+    archive: &mut Archive<S>,
+    alloc: Global,
+    deposit: &Deposit,
+) -> Result<Reply, Unavailable>
+    requires { IsInside 1024 deposit.now.content.cells }
+    ensures goes { Goes archive.old archive.new }
+    ensures acts { Acts archive.old archive.new result
+        (λ A r. r ≡ deposit_reply A (deposit_by_token A deposit.now None))
+        (λ A. with_deposit A (deposit_by_token A deposit.now None)) }
+{
+    if !has_room(archive)? {
+        return Ok(Reply::Refused(Refusal::Full));
+    }
+    Ok(Reply::Deposited(add_deposit(archive, alloc, deposit)?))
+}
 
 /// Answers a deposit whose file is read.
 fn keep_deposit<S: Alter>(
@@ -51,18 +84,8 @@ fn keep_deposit<S: Alter>(
         deposit.member.as_bytes(),
         deposit.token.as_bytes(),
     )? {
-        Some(found) => Ok(if same_contents(&found.deposit.content, &deposit.content) {
-            Reply::Deposited(found.id)
-        } else {
-            Reply::Refused(Refusal::TokenReused)
-        }),
-        None => {
-            if has_room(archive)? {
-                Ok(Reply::Deposited(add_deposit(archive, alloc, deposit)?))
-            } else {
-                Ok(Reply::Refused(Refusal::Full))
-            }
-        }
+        Some(found) => Ok(kept_again(&found, deposit)),
+        None => keep_new(archive, alloc, deposit),
     }
 }
 
@@ -94,6 +117,13 @@ fn deposit<S: Alter>(
     }
 }
 
+/// The reply with the file of a record.
+fn file_of(alloc: Global, content: &Record) -> Result<Reply, Unavailable>
+    ensures { IfOk result (λ r. r ≡ says.File (writer.text content.now)) }
+{
+    Ok(Reply::File(Bytes::of(write(alloc, content)?)))
+}
+
 /// Answers with the file of a deposit.
 fn show<S: Alter>(archive: &mut Archive<S>, alloc: Global, id: u64) -> Result<Reply, Unavailable>
     ensures goes { Goes archive.old archive.new }
@@ -101,7 +131,7 @@ fn show<S: Alter>(archive: &mut Archive<S>, alloc: Global, id: u64) -> Result<Re
 {
     match deposit_of(archive, alloc, id)? {
         None => Ok(Reply::Refused(Refusal::NoSuchDeposit)),
-        Some(deposit) => Ok(Reply::File(Bytes::of(write(alloc, &deposit.content)?))),
+        Some(deposit) => file_of(alloc, &deposit.content),
     }
 }
 
@@ -117,16 +147,16 @@ fn list_after<S: Alter>(
     Ok(Reply::Deposits(deposits_after(archive, alloc, id)?))
 }
 
-/// The file of a generation of a deposit.
-fn file_at(alloc: Global, deposit: &Deposit, n: u32) -> Result<Bytes, Unavailable>
+/// The reply with the file of a generation of a deposit.
+fn file_at(alloc: Global, deposit: &Deposit, n: u32) -> Result<Reply, Unavailable>
     requires small { IsInside 1024 deposit.now.content.cells }
     requires few { n ≤ GENERATION_LIMIT }
-    ensures { IfOk result (λ file. says.File file ≡ at_reply n (Some deposit.now)) }
+    ensures { IfOk result (λ r. r ≡ at_reply n (Some deposit.now)) }
 {
     let rule = deposit.content.rule;
     let later = generation(alloc, &rule, &deposit.content.cells, n)?;
     let content = plain(alloc, rule, &later)?;
-    Ok(Bytes::of(write(alloc, &content)?))
+    file_of(alloc, &content)
 }
 
 /// Answers with the file of a generation of a deposit.
@@ -142,7 +172,7 @@ fn show_at<S: Alter>(
 {
     match deposit_of(archive, alloc, id)? {
         None => Ok(Reply::Refused(Refusal::NoSuchDeposit)),
-        Some(deposit) => Ok(Reply::File(file_at(alloc, &deposit, n)?)),
+        Some(deposit) => file_at(alloc, &deposit, n),
     }
 }
 
@@ -195,6 +225,26 @@ fn name_kind<S: Alter>(
     }
 }
 
+/// The tally of a pattern, and whether it is steady.
+fn count(
+    alloc: Global,
+    rule: &Rule,
+    cells: &Pattern,
+    limit: u32,
+) -> Result<(Tally, bool), Unavailable>
+    requires some { 1 ≤ limit }
+    requires few { limit ≤ PERIOD_LIMIT }
+    requires room { IsWithin 400_000_000 cells.now }
+    ensures is { IfOk result (λ p. p.0 ≡ tally_of_cells rule.now cells.now limit) }
+    ensures flag { IfOk result (λ p. p.1 ≡ is_steady rule.now cells.now limit) }
+    ensures ordered { IfOk result (λ p. HasOrder p.0) }
+{
+    laws_of_tallies();
+    let tally = tally(alloc, rule, cells, limit)?;
+    let steady = steady(alloc, rule, cells, limit)?;
+    Ok((tally, steady))
+}
+
 /// The census of a deposit, counted, and whether the generation that it counts is steady.
 fn counted(alloc: Global, deposit: &Deposit, census: &Census) -> Result<(Tally, bool), Unavailable>
     requires small { IsInside 1024 deposit.now.content.cells }
@@ -207,10 +257,28 @@ fn counted(alloc: Global, deposit: &Deposit, census: &Census) -> Result<(Tally, 
 {
     let rule = deposit.content.rule;
     let later = generation(alloc, &rule, &deposit.content.cells, census.generation)?;
-    laws_of_tallies();
-    let tally = tally(alloc, &rule, &later, census.limit)?;
-    let steady = steady(alloc, &rule, &later, census.limit)?;
-    Ok((tally, steady))
+    count(alloc, &rule, &later, census.limit)
+}
+
+/// Counts a census of a deposit that is there, and adds it.
+fn add_counted<S: Alter>(
+    archive: &mut Archive<S>,
+    alloc: Global,
+    deposit: &Deposit,
+    census: &Census,
+) -> Result<Reply, Unavailable>
+    requires small { IsInside 1024 deposit.now.content.cells }
+    requires few { census.now.generation ≤ GENERATION_LIMIT }
+    requires some { 1 ≤ census.now.limit }
+    requires short { census.now.limit ≤ PERIOD_LIMIT }
+    ensures goes { Goes archive.old archive.new }
+    ensures acts { ActsWhere archive.old archive.new result
+        (λ A. numbered A.deposits census.now.deposit ≡ Some deposit.now)
+        (λ A r. r ≡ census_reply A (Adds census.now))
+        (λ A. with_census A (Adds census.now)) }
+{
+    let (tally, steady) = counted(alloc, deposit, census)?;
+    Ok(Reply::Counted(add_census(archive, census, &tally, steady)?))
 }
 
 /// Answers a census of a deposit that is there.
@@ -243,8 +311,7 @@ fn keep_census<S: Alter>(
         }),
         None => {
             if has_census_room(archive)? {
-                let (tally, steady) = counted(alloc, deposit, census)?;
-                Ok(Reply::Counted(add_census(archive, census, &tally, steady)?))
+                add_counted(archive, alloc, deposit, census)
             } else {
                 Ok(Reply::Refused(Refusal::Full))
             }
@@ -263,19 +330,19 @@ fn is_same_content(a: &Census, b: &Census) -> bool
 fn take_census<S: Alter>(
     archive: &mut Archive<S>,
     alloc: Global,
-    census: Census,
+    census: &Census,
 ) -> Result<Reply, Unavailable>
-    requires few { census.generation ≤ GENERATION_LIMIT }
-    requires some { 1 ≤ census.limit }
-    requires short { census.limit ≤ PERIOD_LIMIT }
+    requires few { census.now.generation ≤ GENERATION_LIMIT }
+    requires some { 1 ≤ census.now.limit }
+    requires short { census.now.limit ≤ PERIOD_LIMIT }
     ensures goes { Goes archive.old archive.new }
     ensures acts { Acts archive.old archive.new result
-        (λ A r. r ≡ census_reply A (census_verdict A census))
-        (λ A. with_census A (census_verdict A census)) }
+        (λ A r. r ≡ census_reply A (census_verdict A census.now))
+        (λ A. with_census A (census_verdict A census.now)) }
 {
     match deposit_of(archive, alloc, census.deposit)? {
         None => Ok(Reply::Refused(Refusal::NoSuchDeposit)),
-        Some(deposit) => keep_census(archive, alloc, &deposit, &census),
+        Some(deposit) => keep_census(archive, alloc, &deposit, census),
     }
 }
 
@@ -304,6 +371,13 @@ fn show_census<S: Alter>(
     }
 }
 
+/// The reply with a tally as CSV.
+fn csv_of(alloc: Global, tally: &Tally) -> Result<Reply, Unavailable>
+    ensures { IfOk result (λ r. r ≡ says.Csv (csv_text tally.now)) }
+{
+    Ok(Reply::Csv(Bytes::of(csv(alloc, tally)?)))
+}
+
 /// Answers with the tally of a census as CSV.
 fn census_csv<S: Alter>(
     archive: &mut Archive<S>,
@@ -315,7 +389,7 @@ fn census_csv<S: Alter>(
 {
     match kept_tally(archive, alloc, id)? {
         None => Ok(Reply::Refused(Refusal::NoSuchCensus)),
-        Some((_, tally)) => Ok(Reply::Csv(Bytes::of(csv(alloc, &tally)?))),
+        Some((_census, tally)) => csv_of(alloc, &tally),
     }
 }
 
@@ -323,20 +397,21 @@ fn census_csv<S: Alter>(
 fn total<S: Alter>(
     archive: &mut Archive<S>,
     alloc: Global,
-    rule: Rule,
-    text: Bytes,
+    rule: &Rule,
+    text: &[u8],
     limit: u32,
 ) -> Result<Reply, Unavailable>
     requires some { 1 ≤ limit }
     requires few { limit ≤ PERIOD_LIMIT }
     ensures goes { Goes archive.old archive.new }
-    ensures acts { Acts archive.old archive.new result (λ A r. IsTotal A rule text limit r) (λ A. A) }
+    ensures acts { Acts archive.old archive.new result (λ A r. IsTotal A rule.now text.now limit r) (λ A. A) }
 {
-    match open_code(alloc, &rule, text.as_slice(), limit) {
-        Ok(_) => Ok(Reply::Total(counts_of(archive, alloc, &rule, text.as_slice())?)),
-        Err(CodeFault::Memory) => Err(Unavailable),
-        Err(_) => Ok(Reply::Refused(Refusal::BadCode)),
+    match open_code(alloc, rule, text, limit) {
+        Ok(_) => {}
+        Err(CodeFault::Memory) => return Err(Unavailable),
+        Err(_) => return Ok(Reply::Refused(Refusal::BadCode)),
     }
+    Ok(Reply::Total(counts_of(archive, alloc, rule, text)?))
 }
 
 /// Answers a request whose words are good.
@@ -355,10 +430,10 @@ fn act<S: Alter>(
         Judged::ListAfter(id) => list_after(archive, alloc, id),
         Judged::At(id, n) => show_at(archive, alloc, id, n),
         Judged::KindOf(id, limit) => name_kind(archive, alloc, id, limit),
-        Judged::Census(census) => take_census(archive, alloc, census),
+        Judged::Census(census) => take_census(archive, alloc, &census),
         Judged::ShowCensus(id) => show_census(archive, alloc, id),
         Judged::CensusCsv(id) => census_csv(archive, alloc, id),
-        Judged::Total(rule, text, limit) => total(archive, alloc, rule, text, limit),
+        Judged::Total(rule, text, limit) => total(archive, alloc, &rule, text.as_slice(), limit),
     }
 }
 

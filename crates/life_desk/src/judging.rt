@@ -1,14 +1,17 @@
 //! What is judged of a request's own words.
 ghost use Rattle.std.specs.Prelude.{◌≡◌, if◌then◌else◌, Ok, Err, IfOk};
 ghost use Rattle.std.specs.List.{list_all};
-ghost use Rattle.life_desk.specs.declared.refusal.Refusal.TheVariants.{OutOfLimit};
+ghost use Rattle.life_desk.specs.declared.refusal.Refusal.TheVariants.{BadMember, BadToken, OutOfLimit};
+ghost use Rattle.life_desk.specs.declared.request.Request.TheVariants as ask;
 ghost use Rattle.life_desk.specs.Judging.{is_member, is_token, is_member_byte, is_token_byte, is_between, is_generation, is_limit, judged};
 ghost use Rattle.life_desk.specs.JudgingState.{IsGood};
 
+use crate::bytes::Bytes;
 use crate::refusal::Refusal;
 use crate::request::{Judged, Request};
 use life_code::PERIOD_LIMIT;
 use life_core::{GENERATION_LIMIT, Rule};
+use life_rle::Text;
 use life_store::Census;
 
 /// A small letter, a digit or `-`.
@@ -84,50 +87,79 @@ fn limit_in(n: u64) -> Result<u32, Refusal>
     }
 }
 
+/// The member and the token, judged in this order.
+fn judge_names(member: &Text, token: &Text) -> Result<(), Refusal>
+    ensures { result ≡ (if is_member member.now then (if is_token token.now then Ok tt else Err BadToken) else Err BadMember) }
+{
+    if !is_member(member.as_bytes()) {
+        return Err(Refusal::BadMember);
+    }
+    if !is_token(token.as_bytes()) {
+        return Err(Refusal::BadToken);
+    }
+    Ok(())
+}
+
+/// The words of a deposit, judged.
+fn judge_deposit(member: Text, token: Text, file: Bytes) -> Result<Judged, Refusal>
+    ensures value { result ≡ judged (ask.Deposit member token file) }
+    ensures within { IfOk result IsGood }
+{
+    judge_names(&member, &token)?;
+    Ok(Judged::Deposit(member, token, file))
+}
+
+/// The words of a census, judged.
+fn judge_census(
+    member: Text,
+    token: Text,
+    deposit: u64,
+    n: u64,
+    limit: u64,
+) -> Result<Judged, Refusal>
+    ensures value { result ≡ judged (ask.Census member token deposit n limit) }
+    ensures within { IfOk result IsGood }
+{
+    judge_names(&member, &token)?;
+    let generation = generation_in(n)?;
+    let limit = limit_in(limit)?;
+    Ok(Judged::Census(Census {
+        member,
+        token,
+        deposit,
+        generation,
+        limit,
+    }))
+}
+
+/// The words of a request for a total, judged.
+fn judge_total(rule: Bytes, code: Bytes, limit: u64) -> Result<Judged, Refusal>
+    ensures value { result ≡ judged (ask.Total rule code limit) }
+    ensures within { IfOk result IsGood }
+{
+    let limit = limit_in(limit)?;
+    match Rule::read(rule.as_slice()) {
+        Ok(rule) => Ok(Judged::Total(rule, code, limit)),
+        Err(_) => Err(Refusal::BadRule),
+    }
+}
+
 /// The request with its words judged, in the order member, token, limits, rule. It takes no growth.
 pub(crate) fn judge(request: Request) -> Result<Judged, Refusal>
     ensures value { result ≡ judged request }
     ensures within { IfOk result IsGood }
 {
-    Ok(match request {
-        Request::Deposit(member, token, file) => {
-            if !is_member(member.as_bytes()) {
-                return Err(Refusal::BadMember);
-            }
-            if !is_token(token.as_bytes()) {
-                return Err(Refusal::BadToken);
-            }
-            Judged::Deposit(member, token, file)
-        }
-        Request::Show(id) => Judged::Show(id),
-        Request::ListAfter(id) => Judged::ListAfter(id),
-        Request::At(id, n) => Judged::At(id, generation_in(n)?),
-        Request::KindOf(id, limit) => Judged::KindOf(id, limit_in(limit)?),
+    match request {
+        Request::Deposit(member, token, file) => judge_deposit(member, token, file),
+        Request::Show(id) => Ok(Judged::Show(id)),
+        Request::ListAfter(id) => Ok(Judged::ListAfter(id)),
+        Request::At(id, n) => Ok(Judged::At(id, generation_in(n)?)),
+        Request::KindOf(id, limit) => Ok(Judged::KindOf(id, limit_in(limit)?)),
         Request::Census(member, token, deposit, n, limit) => {
-            if !is_member(member.as_bytes()) {
-                return Err(Refusal::BadMember);
-            }
-            if !is_token(token.as_bytes()) {
-                return Err(Refusal::BadToken);
-            }
-            let generation = generation_in(n)?;
-            let limit = limit_in(limit)?;
-            Judged::Census(Census {
-                member,
-                token,
-                deposit,
-                generation,
-                limit,
-            })
+            judge_census(member, token, deposit, n, limit)
         }
-        Request::ShowCensus(id) => Judged::ShowCensus(id),
-        Request::CensusCsv(id) => Judged::CensusCsv(id),
-        Request::Total(rule, code, limit) => {
-            let limit = limit_in(limit)?;
-            match Rule::read(rule.as_slice()) {
-                Ok(rule) => Judged::Total(rule, code, limit),
-                Err(_) => return Err(Refusal::BadRule),
-            }
-        }
-    })
+        Request::ShowCensus(id) => Ok(Judged::ShowCensus(id)),
+        Request::CensusCsv(id) => Ok(Judged::CensusCsv(id)),
+        Request::Total(rule, code, limit) => judge_total(rule, code, limit),
+    }
 }

@@ -1,6 +1,7 @@
 -- What is known of shapes that came before.
-use Rattle.std.proofs.Common.{◌≡◌, ℕ, ◌∷◌, [], ◌++◌, List, sym, ap, subst, ◌∙◌}
+use Rattle.std.proofs.Common.{◌≡◌, ℕ, ◌∷◌, [], ◌++◌, List, length, Option, sym, ap, subst, ◌∙◌, arith}
 use Rattle.std.specs.List.{All}
+use Rattle.std.proofs.lemmas.List.{length_push, get_or_push}
 use Rattle.std.proofs.lemmas.List.Elements.{All-push}
 use Rattle.life_core.specs.Pattern.{Cells, normal}
 use Rattle.life_core.specs.Rule.{RuleSets}
@@ -19,3 +20,9 @@ code_at {A = A} r limit known searched X S i all same shape found =
 pub known_more : {A : Type 0} (r : RuleSets) (limit : ℕ) (known after : List (Known A)) (X : Cells) (one : Known A) → All (IsKnown r limit) known → one.shape ≡ normal X → one.code ≡ code_of r X limit → after ≡ known ++ one ∷ [] → All (IsKnown r limit) after
 known_more {A = A} r limit known after X one all shape code same =
     subst (λ (ks : List (Known A)). All (IsKnown r limit) ks) (sym same) (All-push (IsKnown {A = A} r limit) known one all (code ∙ sym (ap (λ (Y : Cells). code_of r Y limit) shape ∙ code_normal r X limit)))
+
+-- the last that is known has this code
+pub code_last : {A : Type 0} (known after : List (Known A)) (one : Known A) (code : Option (List ℕ)) (i : ℕ) → after ≡ known ++ one ∷ [] → i ≡ length known → one.code ≡ code → HasCodeAt after code i
+code_last {A = A} known after one code i made end is =
+    subst (λ (ks : List (Known A)). HasCodeAt ks code i) (sym made)
+    (let long = length_push known one in omega (arith, long, end), λ d. ap (λ (k : Known A). k.code) (get_or_push known one d i (sym end)) ∙ is)

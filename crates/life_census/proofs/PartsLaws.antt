@@ -1,14 +1,14 @@
 -- Laws of parts: two that share a cell are one, and a set has one list of them.
-use Rattle.std.specs.Prelude.{◌≡◌, true, List, [], ◌∷◌, ◌++◌, ◌⊎◌, refl}
+use Rattle.std.specs.Prelude.{◌≡◌, ℕ, true, List, [], ◌∷◌, ◌++◌, ◌⊎◌, refl}
 use Rattle.std.proofs.Common.{sym, ap, subst, ◌∙◌, ◌<◌, inl, inr, arith}
 use Rattle.std.specs.Ordering.{is_lt}
 use Rattle.std.proofs.lemmas.Bool.{false≢true, cases_Bool}
 use Rattle.std.proofs.lemmas.Cmp.{tied_itself}
-use Rattle.std.proofs.lemmas.List.Elements.{Contains-append_cases, Contains-append_left, Contains-append_right, Contains-push, Contains-push_cases}
-use Rattle.std.specs.List.{AllByRecursion, Contains}
+use Rattle.std.proofs.lemmas.List.Elements.{All-from_recursion, Contains-append_cases, Contains-append_left, Contains-append_right, Contains-push, Contains-push_cases}
+use Rattle.std.specs.List.{All, AllByRecursion, Contains}
 use Rattle.std.specs.FinSet as set
 use Rattle.life_core.specs.declared.cell.Cell.{Cell}
-use Rattle.life_core.specs.Pattern.{Cells}
+use Rattle.life_core.specs.Pattern.{Cells, IsWithin}
 use Rattle.life_core.proofs.PatternMembers.{cell_cmp_total, same_answer, cells_by_members}
 use Rattle.life_census.specs.Parts.{near, IsChain, AreJoined, IsPart, IsBefore, AreInOrder, ArePartsOf}
 use Rattle.life_census.proofs.NearLaws.{near_symmetric}
@@ -35,6 +35,11 @@ chain_back X c d (x ∷ xs) here h = joined_then X d x c (chain_back X x d xs h.
 
 pub joined_back : (X : Cells) (c d : Cell) → set.contains X c ≡ true → AreJoined X c d → AreJoined X d c
 joined_back X c d here p = chain_back X c d p.0 here p.1
+
+-- ---- parts lie inside
+
+pub parts_within : (k : ℕ) (X : Cells) (Ps : List Cells) → ArePartsOf X Ps → IsWithin k X → All (IsWithin k) Ps
+parts_within k X Ps parts room i d low c here = room c ((All-from_recursion (IsPart X) Ps parts.each i d low).inside c here)
 
 -- ---- two parts that share a cell are one
 

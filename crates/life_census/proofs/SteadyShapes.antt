@@ -1,7 +1,8 @@
 -- Shapes of sets that stay.
-use Rattle.std.specs.Prelude.{◌≡◌, ℕ, ℤ, pos, neg_ℤ, ◌-ℤ◌, ◌≤ℤ◌, List, [], ◌∷◌, ◌++◌}
+use Rattle.std.specs.Prelude.{◌≡◌, ℕ, ℤ, pos, neg_ℤ, ◌-ℤ◌, ◌≤ℤ◌, List, [], ◌∷◌, ◌++◌, length}
 use Rattle.std.proofs.lemmas.Int.{ints}
 use Rattle.std.proofs.Common.{get_or, arith, sym, ap, subst, ◌∙◌}
+use Rattle.std.proofs.lemmas.List.{length_push, get_or_push}
 use Rattle.std.proofs.lemmas.List.Elements.{All-push}
 use Rattle.std.specs.List.{All}
 use Rattle.life_core.specs.declared.cell.Cell.{Cell}
@@ -13,7 +14,7 @@ use Rattle.life_core.proofs.PatternBoxes.{least_is, corner_within}
 use Rattle.life_core.proofs.PatternCorners.{same_normal}
 use Rattle.life_core.proofs.Placements.{minus, plus, moved}
 use Rattle.life_census.specs.declared.shapes.Shape.{Shape}
-use Rattle.life_census.specs.SteadyState.{phases_of, StaysFor, IsShape, IsShapeOf, HasShapeFor}
+use Rattle.life_census.specs.SteadyState.{phases_of, StaysFor, IsShape, IsShapeOf, HasNormalAt, HasShapeFor}
 use Rattle.life_census.specs.Steady.{Stays}
 use Rattle.life_census.proofs.SteadyPhases.{stays_moved}
 
@@ -45,6 +46,18 @@ module _ {A : Type 0} (r : RuleSets) (limit : ℕ) (Y : Cells) (s : Shape A) (of
   shape_moved v c is row column = same ∙ ap (λ (w : Cell). moved w X) (same_coordinates (plus (minus (corner X)) (corner Y)) v
       (let a : c.row ≡ (corner Y).row = ap (λ (d : Cell). d.row) is in let b : s.corner.row ≡ (corner X).row = ap (λ (d : Cell). d.row) of.0.corner_is in omega (arith, ints, a, b, row))
       (let a : c.column ≡ (corner Y).column = ap (λ (d : Cell). d.column) is in let b : s.corner.column ≡ (corner X).column = ap (λ (d : Cell). d.column) of.0.corner_is in omega (arith, ints, a, b, column)))
+
+-- where the normal set of Y is known, the shape of Y is
+pub shape_found : {A : Type 0} (shapes searched : List (Shape A)) (N Y : Cells) (i : ℕ) → searched ≡ shapes → N ≡ normal Y → HasNormalAt searched N i → HasShapeFor shapes Y i
+shape_found {A = A} shapes searched N Y i same is found =
+    let here : HasNormalAt shapes N i = subst (λ (ss : List (Shape A)). HasNormalAt ss N i) same found in
+    (here.0, λ d. here.1 d ∙ is)
+
+-- the last shape is that of Y
+pub shape_last : {A : Type 0} (shapes after : List (Shape A)) (s : Shape A) (Y : Cells) (i : ℕ) → after ≡ shapes ++ s ∷ [] → i ≡ length shapes → s.normal ≡ normal Y → HasShapeFor after Y i
+shape_last {A = A} shapes after s Y i made end is =
+    subst (λ (ss : List (Shape A)). HasShapeFor ss Y i) (sym made)
+    (let long = length_push shapes s in omega (arith, long, end), λ d. ap (λ (t : Shape A). t.normal) (get_or_push shapes s d i (sym end)) ∙ is)
 
 pub shape_more : {A : Type 0} (r : RuleSets) (limit p : ℕ) (shapes after : List (Shape A)) (X : Cells) (s : Shape A) → All (IsShape r limit) shapes → s.normal ≡ normal X → s.corner ≡ corner X → IsCellWithin 400000000 s.corner → StaysFor r limit X p → s.phases.items ≡ phases_of r X p
     → after ≡ shapes ++ s ∷ [] → All (IsShape r limit) after

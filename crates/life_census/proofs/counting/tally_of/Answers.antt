@@ -1,8 +1,9 @@
-use Rattle.std.proofs.Common.{◌≡◌, ℕ, ◌+◌, List, get_or, ◌≤◌, map, count_by, is_none, Option, Some, None, sym, ap, ◌∙◌, refl, arith}
+use Rattle.std.proofs.Common.{◌≡◌, ℕ, ◌+◌, List, get_or, ◌≤◌, map, count_by, is_none, Option, Some, None, sym, ap, subst, ◌∙◌, refl, arith}
 use Rattle.std.specs.List.{filter_map}
+use Rattle.std.proofs.lemmas.Result.{IfOk-from_err}
 use Rattle.std.proofs.lemmas.List.{take_all}
 use Rattle.std.proofs.lemmas.List.Elements.{All-weaker}
-use Rattle.life_core.specs.Pattern.{Cells}
+use Rattle.life_core.specs.Pattern.{Cells, IsWithin}
 use Rattle.life_code.specs.Codes.{code_of}
 use Rattle.life_census.specs.declared.rows.Row.{Row}
 use Rattle.life_census.specs.Rows.{row_seen}
@@ -21,6 +22,45 @@ loop-cluster-init g c = record {
   bounded = rw c.new-rows.ensures.items (λ k d none. absurd (omega arith));
   few = omega arith;
 }
+
+pub offset_bounds-clusters-cluster-index : goal.offset_bounds-clusters-cluster-index
+offset_bounds-clusters-cluster-index g c = omega (arith, c.loop-cluster-test.true)
+
+pub bounds-clusters-cluster-index : goal.bounds-clusters-cluster-index
+bounds-clusters-cluster-index g c = c.loop-cluster-test.true
+
+pub known_place-requires-clause-from_one : goal.known_place-requires-clause-from_one
+known_place-requires-clause-from_one g c = c.requires.from_one
+
+pub known_place-requires-clause-few : goal.known_place-requires-clause-few
+known_place-requires-clause-few g c = c.requires.few
+
+pub known_place-requires-clause-room : goal.known_place-requires-clause-room
+known_place-requires-clause-room g c =
+    subst (IsWithin 400000000) (sym c.cluster-item.is) (c.requires.room c.loop-cluster.cluster-index c.cluster-item.result c.loop-cluster-test.true)
+
+pub known_place-requires-clause-known : goal.known_place-requires-clause-known
+known_place-requires-clause-known g c = c.loop-cluster.invariant.known
+
+pub returns-in_err-i : goal.returns-in_err-i
+returns-in_err-i g c = IfOk-from_err c.from_residual.result _ c.from_residual.ensures.0
+
+pub index-requires : goal.index-requires
+index-requires g c = omega (arith, c.in_ok-i.ensures.code.0, c.known_place.new.known.ok)
+
+pub count_code-requires : goal.count_code-requires
+count_code-requires g c k d low =
+    let few : (get_or c.loop-cluster.rows.items k d).count ≤ c.loop-cluster.cluster-index = c.loop-cluster.invariant.bounded k d low in
+    omega arith
+
+pub returns-in_err-count_code-in-Some : goal.returns-in_err-count_code-in-Some
+returns-in_err-count_code-in-Some g c = IfOk-from_err c.from_residual-in_err-count_code-in-Some.result _ c.from_residual-in_err-count_code-in-Some.ensures.0
+
+pub overflow_add-unresolved : goal.overflow_add-unresolved
+overflow_add-unresolved g c = record { fits = omega arith }
+
+pub loop-cluster-smaller : goal.loop-cluster-smaller
+loop-cluster-smaller g c = omega (arith, c.loop-cluster-test.true)
 
 pub loop-cluster-preserved : goal.loop-cluster-preserved
 loop-cluster-preserved g c =

@@ -1,10 +1,31 @@
-use Rattle.std.proofs.Common.{sym, subst}
+use Rattle.std.proofs.Common.{true≢false, sym, subst}
+use Rattle.std.proofs.lemmas.Result.{IfOk-from_err}
 use Rattle.std.proofs.lemmas.List.Elements.{All-same}
 use Rattle.std.proofs.lemmas.List.Sorted.{All-permutation}
-use Rattle.std.specs.List.Sorted.{IsPermutation}
-use Rattle.life_census.specs.SteadyState.{IsInside}
-use Rattle.life_census.proofs.SteadyLemmas.{steady_if_apart}
+use Rattle.std.specs.List.Sorted.{IsSorted, IsPermutation}
+use Rattle.life_census.specs.SteadyState.{visit_cmp, IsInside}
+use Rattle.life_census.proofs.SteadyLemmas.{not_steady, steady_if_apart}
 use Rattle.life_census.proofs.meeting.never_meet.Goals as goal
+
+pub all_visits-requires-clause-from_one : goal.all_visits-requires-clause-from_one
+all_visits-requires-clause-from_one g c = c.requires.from_one
+
+pub all_visits-requires-clause-few : goal.all_visits-requires-clause-few
+all_visits-requires-clause-few g c = c.requires.few
+
+pub all_visits-requires-clause-room : goal.all_visits-requires-clause-room
+all_visits-requires-clause-room g c = c.requires.room
+
+pub returns-in_err-visits : goal.returns-in_err-visits
+returns-in_err-visits g c = IfOk-from_err c.from_residual.result _ c.from_residual.ensures.0
+
+pub returns-in_default : goal.returns-in_default
+returns-in_default g c X parts =
+    let goes = rw c.in_default.is at c.in_ok-visits.ensures.stay in
+    (λ wrong. absurd (true≢false (sym wrong)), λ steady. absurd (not_steady c.args.rule.now c.args.limit X c.args.clusters.now parts goes steady))
+
+pub are_apart-requires-clause-sorted : goal.are_apart-requires-clause-sorted
+are_apart-requires-clause-sorted g c = subst (IsSorted visit_cmp) (sym c.deref.ensures.value) c.sort_unstable.ensures.sorted
 
 pub are_apart-requires-clause-inside : goal.are_apart-requires-clause-inside
 are_apart-requires-clause-inside g c =

@@ -19,6 +19,7 @@ impl<S: Alter> Desk for Archive<S> {
 
     ghost answers = { StoreAnswers };
 
+    #[tactic(auto, unfolding(crate::specs::Archive::StoreAnswers))]
     fn answer(&mut self, alloc: Global, request: Request) -> Reply {
         answer(self, alloc, request)
     }

@@ -1,4 +1,4 @@
-use Rattle.std.proofs.Common.{◌<◌, ◌+◌, ◌++◌, ◌∙◌, arith, take, length}
+use Rattle.std.proofs.Common.{◌<◌, ◌++◌, ◌∙◌, arith, take, length}
 use Rattle.std.proofs.lemmas.List.{length-append, length-take-le, length-take}
 use Rattle.life_cli.proofs.ArchivesLemmas.{loses_more, taken_all, taken_full}
 use Rattle.life_cli.proofs.archives.take_file.Goals as goal

@@ -1,7 +1,7 @@
 //! What a line is.
 ghost use Rattle.std.specs.Prelude.{◌≡◌};
 ghost use Rattle.life_core.specs.RuleText.{is_blank};
-ghost use Rattle.life_rle.specs.Lines.{trim_start, trim_end, is_mark_line, line_kind};
+ghost use Rattle.life_rle.specs.Lines.{trim_start, trim_end, is_mark_line, marked, line_kind};
 ghost use Rattle.life_rle.specs.LinesState.{kind_of};
 
 /// A space, a tab or a CR.
@@ -56,23 +56,31 @@ pub(crate) enum LineKind<'a> {
     Header,
 }
 
+/// What the letter after `#` makes of the text.
+fn marked(letter: u8, text: &[u8]) -> LineKind<'_>
+    ensures { kind_of result ≡ marked letter text.now }
+{
+    match letter {
+        b'N' => LineKind::Name(text),
+        b'O' => LineKind::Author(text),
+        b'C' | b'c' => LineKind::Comment(text),
+        b'r' => LineKind::Rule(text),
+        _ => LineKind::Passed,
+    }
+}
+
 #[tactic(auto, unfolding(crate::specs::Lines::line_kind))]
 pub(crate) fn line_kind(line: &[u8]) -> LineKind<'_>
     ensures { kind_of result ≡ line_kind line.now }
 {
     let front = trim_start(line);
     match front {
-        [] => LineKind::Passed,
-        [b'#', b'C', b'X', b'R', b'L', b'E', ..] => LineKind::Passed,
-        [b'#'] => LineKind::Passed,
+        [] | [b'#'] => LineKind::Passed,
         [b'#', letter, text @ ..] => {
-            let text = trim_end(trim_start(text));
-            match *letter {
-                b'N' => LineKind::Name(text),
-                b'O' => LineKind::Author(text),
-                b'C' | b'c' => LineKind::Comment(text),
-                b'r' => LineKind::Rule(text),
-                _ => LineKind::Passed,
+            if front.starts_with(b"#CXRLE") {
+                LineKind::Passed
+            } else {
+                marked(*letter, trim_end(trim_start(text)))
             }
         }
         _ => LineKind::Header,

@@ -7,10 +7,6 @@ mod fields;
 mod files;
 #[cfg(test)]
 mod kinds;
-#[cfg(test)]
-mod planes;
 pub mod refusing;
-#[cfg(test)]
-mod rules;
 #[cfg(test)]
 mod tests;

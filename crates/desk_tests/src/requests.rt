@@ -1,12 +1,15 @@
 //! Worked requests and their replies, one by one and as one list.
-use life_census::Row;
+//!
+//! What is asked and what is said are values with nothing to drop. A value that has something is alive in one function alone,
+//! which gives it no way out but its end.
+use life_census::Tally;
 use life_code::Kind;
 use life_desk::{
     Bytes, Refusal, Reply, Request, Shown, answer, answer_all, law_of_the_archive, laws_of_runs,
 };
 use life_rle::Text;
-use life_store::{Archive, Listed};
-use sqlite::{Alter, MemStore};
+use life_store::{Archive, Listed, Unavailable};
+use sqlite::Alter;
 use std::alloc::Global;
 use std::test::Fail;
 
@@ -27,10 +30,6 @@ const NO_END: &str = "x = 3, y = 3\nbo$2bo$3o\n";
 /// Two blocks, which are two clusters.
 pub const FIELD: &str = "x = 6, y = 2\n2o2b2o$2o2b2o!\n";
 
-/// The census of that field under limit 1, as it is shown.
-pub const CENSUS_SHOWN: &str =
-    "census 1 of 1 at 0 within 1\nxs4_33 2\nsteady true\nunresolved 0 of 2";
-
 /// A request, as a row of a table.
 #[derive(Clone, Copy)]
 pub enum Asked {
@@ -45,215 +44,305 @@ pub enum Asked {
     Total(&'static str, &'static str, u64),
 }
 
+/// A reply, as a row of a table.
+#[derive(Clone, Copy)]
+pub enum Said {
+    Deposited(u64),
+    File(&'static str),
+    /// Lines of `ann` under Life: numbers and populations.
+    Deposits(&'static [(u64, u64)]),
+    Kinded(Kind, &'static str),
+    Counted(u64),
+    /// The census of the two blocks, as census 1 of generation 0 of deposit 1 under limit 1.
+    Census,
+    Csv(&'static str),
+    Total(u64),
+    /// Refused for another reason than a bad pattern: the number of the reason.
+    Refused(u8),
+    /// Refused as a bad pattern: the number of its fault.
+    BadPattern(u8),
+}
+
+/// What is asked, and what should be said to it.
+pub type Row = (Asked, Said);
+
 /// Deposits in an archive of capacity 2.
-const DEPOSITS: [(Asked, &str); 20] = [
-    (Asked::Deposit("ann", "t1", GLIDER), "deposited 1"),
-    (Asked::Deposit("ann", "t1", GLIDER_AGAIN), "deposited 1"),
-    (Asked::Deposit("ann", "t1", BLOCK), "refused 5"),
-    (Asked::Deposit("ann", "t2", BLOCK), "deposited 2"),
-    (Asked::Deposit("ann", "t3", BLOCK), "refused 10"),
-    (Asked::Deposit("ann", "t1", GLIDER), "deposited 1"),
-    (Asked::Deposit("Ann", "t1", GLIDER), "refused 3"),
-    (Asked::Deposit("Ann", "", NO_END), "refused 3"),
-    (Asked::Deposit("ann", "", NO_END), "refused 4"),
-    (Asked::Deposit("ann", "t9", NO_END), "refused 7 10"),
-    (Asked::ListAfter(0), "1 ann 5 B3/S23\n2 ann 4 B3/S23\n"),
-    (Asked::ListAfter(1), "2 ann 4 B3/S23\n"),
-    (Asked::ListAfter(2), ""),
-    (Asked::ListAfter(99), ""),
-    (Asked::Show(1), GLIDER_SHOWN),
-    (Asked::At(1, 2048), GLIDER_SHOWN),
-    (Asked::At(1, 2049), "refused 6"),
-    (Asked::Show(9), "refused 1"),
-    (Asked::At(9, 2049), "refused 6"),
-    (Asked::KindOf(1, 4), "ship 4 1 1 xq4_153"),
+const DEPOSITS: [Row; 20] = [
+    (Asked::Deposit("ann", "t1", GLIDER), Said::Deposited(1)),
+    (
+        Asked::Deposit("ann", "t1", GLIDER_AGAIN),
+        Said::Deposited(1),
+    ),
+    (Asked::Deposit("ann", "t1", BLOCK), Said::Refused(5)),
+    (Asked::Deposit("ann", "t2", BLOCK), Said::Deposited(2)),
+    (Asked::Deposit("ann", "t3", BLOCK), Said::Refused(10)),
+    (Asked::Deposit("ann", "t1", GLIDER), Said::Deposited(1)),
+    (Asked::Deposit("Ann", "t1", GLIDER), Said::Refused(3)),
+    (Asked::Deposit("Ann", "", NO_END), Said::Refused(3)),
+    (Asked::Deposit("ann", "", NO_END), Said::Refused(4)),
+    (Asked::Deposit("ann", "t9", NO_END), Said::BadPattern(10)),
+    (Asked::ListAfter(0), Said::Deposits(&[(1, 5), (2, 4)])),
+    (Asked::ListAfter(1), Said::Deposits(&[(2, 4)])),
+    (Asked::ListAfter(2), Said::Deposits(&[])),
+    (Asked::ListAfter(99), Said::Deposits(&[])),
+    (Asked::Show(1), Said::File(GLIDER_SHOWN)),
+    (Asked::At(1, 2048), Said::File(GLIDER_SHOWN)),
+    (Asked::At(1, 2049), Said::Refused(6)),
+    (Asked::Show(9), Said::Refused(1)),
+    (Asked::At(9, 2049), Said::Refused(6)),
+    (
+        Asked::KindOf(1, 4),
+        Said::Kinded(Kind::Ship(4, 1, 1), "xq4_153"),
+    ),
 ];
 
 /// Censuses in an archive of capacity 2.
-const CENSUSES: [(Asked, &str); 18] = [
-    (Asked::Deposit("ann", "t1", FIELD), "deposited 1"),
-    (Asked::Census("t1", 1, 0, 1), "counted 1"),
-    (Asked::Census("t1", 1, 0, 1), "counted 1"),
-    (Asked::Census("t1", 1, 1, 1), "refused 5"),
-    (Asked::Census("t1", 9, 0, 1), "refused 1"),
-    (Asked::Census("t1", 9, 0, 0), "refused 6"),
-    (Asked::Total("B3S23", "xs4_33", 1), "total 2"),
-    (Asked::Census("c2", 1, 0, 1), "counted 2"),
-    (Asked::Total("B3S23", "xs4_33", 1), "total 4"),
-    (Asked::Total("B36/S23", "xs4_33", 1), "total 0"),
-    (Asked::Census("c3", 1, 0, 1), "refused 10"),
-    (Asked::Total("B9/S", "xs4_330", 0), "refused 6"),
-    (Asked::Total("B9/S", "xs4_330", 1), "refused 8"),
-    (Asked::Total("B3/S23", "xs4_330", 1), "refused 9"),
-    (Asked::ShowCensus(3), "refused 2"),
-    (Asked::At(1, 2049), "refused 6"),
-    (Asked::ShowCensus(1), CENSUS_SHOWN),
-    (Asked::CensusCsv(1), "code,count\nxs4_33,2\nunresolved,0\n"),
+const CENSUSES: [Row; 18] = [
+    (Asked::Deposit("ann", "t1", FIELD), Said::Deposited(1)),
+    (Asked::Census("t1", 1, 0, 1), Said::Counted(1)),
+    (Asked::Census("t1", 1, 0, 1), Said::Counted(1)),
+    (Asked::Census("t1", 1, 1, 1), Said::Refused(5)),
+    (Asked::Census("t1", 9, 0, 1), Said::Refused(1)),
+    (Asked::Census("t1", 9, 0, 0), Said::Refused(6)),
+    (Asked::Total("B3S23", "xs4_33", 1), Said::Total(2)),
+    (Asked::Census("c2", 1, 0, 1), Said::Counted(2)),
+    (Asked::Total("B3S23", "xs4_33", 1), Said::Total(4)),
+    (Asked::Total("B36/S23", "xs4_33", 1), Said::Total(0)),
+    (Asked::Census("c3", 1, 0, 1), Said::Refused(10)),
+    (Asked::Total("B9/S", "xs4_330", 0), Said::Refused(6)),
+    (Asked::Total("B9/S", "xs4_330", 1), Said::Refused(8)),
+    (Asked::Total("B3/S23", "xs4_330", 1), Said::Refused(9)),
+    (Asked::ShowCensus(3), Said::Refused(2)),
+    (Asked::At(1, 2049), Said::Refused(6)),
+    (Asked::ShowCensus(1), Said::Census),
+    (
+        Asked::CensusCsv(1),
+        Said::Csv("code,count\nxs4_33,2\nunresolved,0\n"),
+    ),
 ];
 
-fn text(alloc: Global, word: &str) -> Result<Text, Fail> {
-    Ok(Text::from_slice(alloc, word.as_bytes())?)
+/// The deposit of a file, under a member and a token.
+fn deposit(alloc: Global, member: &str, token: &str, file: &str) -> Result<Request, Unavailable> {
+    Ok(Request::Deposit(
+        Text::from_slice(alloc, member.as_bytes())?,
+        Text::from_slice(alloc, token.as_bytes())?,
+        Bytes::from_slice(alloc, file.as_bytes())?,
+    ))
 }
 
-fn bytes(alloc: Global, word: &str) -> Result<Bytes, Fail> {
-    Ok(Bytes::from_slice(alloc, word.as_bytes())?)
+/// A census of `ann`'s.
+fn census(alloc: Global, token: &str, id: u64, n: u64, limit: u64) -> Result<Request, Unavailable> {
+    Ok(Request::Census(
+        Text::from_slice(alloc, b"ann")?,
+        Text::from_slice(alloc, token.as_bytes())?,
+        id,
+        n,
+        limit,
+    ))
 }
 
-/// The request of a row. Censuses are `ann`'s.
-fn request(alloc: Global, asked: Asked) -> Result<Request, Fail> {
-    Ok(match asked {
-        Asked::Deposit(member, token, file) => Request::Deposit(
-            text(alloc, member)?,
-            text(alloc, token)?,
-            bytes(alloc, file)?,
-        ),
-        Asked::Show(id) => Request::Show(id),
-        Asked::ListAfter(id) => Request::ListAfter(id),
-        Asked::At(id, n) => Request::At(id, n),
-        Asked::KindOf(id, limit) => Request::KindOf(id, limit),
-        Asked::Census(token, id, n, limit) => {
-            Request::Census(text(alloc, "ann")?, text(alloc, token)?, id, n, limit)
-        }
-        Asked::ShowCensus(id) => Request::ShowCensus(id),
-        Asked::CensusCsv(id) => Request::CensusCsv(id),
-        Asked::Total(rule, code, limit) => {
-            Request::Total(bytes(alloc, rule)?, bytes(alloc, code)?, limit)
-        }
-    })
+fn total(alloc: Global, rule: &str, code: &str, limit: u64) -> Result<Request, Unavailable> {
+    Ok(Request::Total(
+        Bytes::from_slice(alloc, rule.as_bytes())?,
+        Bytes::from_slice(alloc, code.as_bytes())?,
+        limit,
+    ))
 }
 
-fn string(alloc: Global, bytes: &[u8]) -> Result<String, Fail> {
-    Ok(String::from_str(alloc, str::from_utf8(bytes)?)?)
-}
-
-fn list_text(alloc: Global, lines: &[Listed]) -> Result<String, Fail> {
-    let mut all = String::new(alloc);
-    for line in lines {
-        let member = string(alloc, line.member.as_bytes())?;
-        let rule = string(alloc, line.rule.as_bytes())?;
-        let shown = format!(in alloc; "{} {member} {} {rule}\n", line.id, line.population)?;
-        all.push_str(shown.as_str())?;
-    }
-    Ok(all)
-}
-
-fn rows_text(alloc: Global, rows: &[Row]) -> Result<String, Fail> {
-    let mut all = String::new(alloc);
-    for row in rows {
-        let code = string(alloc, row.code.as_bytes())?;
-        let shown = format!(in alloc; "{code} {}\n", row.count)?;
-        all.push_str(shown.as_str())?;
-    }
-    Ok(all)
-}
-
-fn census_text(alloc: Global, shown: &Shown) -> Result<String, Fail> {
-    let rows = rows_text(alloc, shown.tally.rows.as_slice())?;
-    Ok(format!(in alloc;
-        "census {} of {} at {} within {}\n{rows}steady {}\nunresolved {} of {}",
-        shown.census,
-        shown.deposit,
-        shown.generation,
-        shown.limit,
-        shown.steady,
-        shown.tally.unresolved,
-        shown.tally.total
-    )?)
-}
-
-fn kind_text(alloc: Global, kind: Kind, code: &Option<Bytes>) -> Result<String, Fail> {
-    let code = match code {
-        Some(code) => string(alloc, code.as_slice())?,
-        None => string(alloc, b"-")?,
-    };
-    Ok(match kind {
-        Kind::Empty => format!(in alloc; "empty {code}")?,
-        Kind::Unresolved => format!(in alloc; "unresolved {code}")?,
-        Kind::Still => format!(in alloc; "still {code}")?,
-        Kind::Oscillator(period) => format!(in alloc; "oscillator {period} {code}")?,
-        Kind::Ship(period, dx, dy) => format!(in alloc; "ship {period} {dx} {dy} {code}")?,
-    })
-}
-
-/// A reply as a text.
-fn told(alloc: Global, reply: &Reply) -> Result<String, Fail> {
-    Ok(match reply {
-        Reply::Deposited(id) => format!(in alloc; "deposited {id}")?,
-        Reply::File(file) => string(alloc, file.as_slice())?,
-        Reply::Deposits(lines) => list_text(alloc, lines.as_slice())?,
-        Reply::Kinded(kind, code) => kind_text(alloc, *kind, code)?,
-        Reply::Counted(id) => format!(in alloc; "counted {id}")?,
-        Reply::Shown(shown) => census_text(alloc, shown)?,
-        Reply::Csv(table) => string(alloc, table.as_slice())?,
-        Reply::Total(n) => format!(in alloc; "total {n}")?,
-        Reply::Refused(Refusal::BadPattern(fault)) => {
-            format!(in alloc; "refused 7 {}", fault.number())?
-        }
-        Reply::Refused(refusal) => format!(in alloc; "refused {}", refusal.number())?,
-    })
-}
-
-/// What an archive answers to a row.
-pub fn told_by<S: Alter>(
-    alloc: Global,
-    archive: &mut Archive<S>,
-    asked: Asked,
-) -> Result<String, Fail> {
-    told(alloc, &answer(archive, alloc, request(alloc, asked)?))
-}
-
-fn archive(alloc: Global, capacity: u64) -> Result<Archive<MemStore>, Fail> {
-    match Archive::open_in_memory(alloc, capacity) {
-        Ok(archive) => Ok(archive),
-        Err(_) => Err("the archive was not opened".into()),
+/// The request of a row.
+fn request(alloc: Global, asked: Asked) -> Result<Request, Unavailable> {
+    match asked {
+        Asked::Deposit(member, token, file) => deposit(alloc, member, token, file),
+        Asked::Show(id) => Ok(Request::Show(id)),
+        Asked::ListAfter(id) => Ok(Request::ListAfter(id)),
+        Asked::At(id, n) => Ok(Request::At(id, n)),
+        Asked::KindOf(id, limit) => Ok(Request::KindOf(id, limit)),
+        Asked::Census(token, id, n, limit) => census(alloc, token, id, n, limit),
+        Asked::ShowCensus(id) => Ok(Request::ShowCensus(id)),
+        Asked::CensusCsv(id) => Ok(Request::CensusCsv(id)),
+        Asked::Total(rule, code, limit) => total(alloc, rule, code, limit),
     }
 }
 
-/// The first row that a new archive answers otherwise, the rows asked one by one.
-fn other_one_by_one(alloc: Global, rows: &[(Asked, &'static str)]) -> Result<Option<usize>, Fail> {
-    let mut archive = archive(alloc, 2)?;
-    for (at, (asked, expected)) in rows.iter().enumerate() {
-        if told_by(alloc, &mut archive, *asked)?.as_str() != *expected {
-            return Ok(Some(at));
-        }
-    }
-    Ok(None)
+/// Whether a line of a list is this one of `ann`, under Life.
+fn is_line(line: &Listed, id: u64, population: u64) -> bool {
+    line.id == id
+        && line.member.as_bytes() == b"ann".as_slice()
+        && line.population == population
+        && line.rule.as_bytes() == b"B3/S23".as_slice()
 }
 
-/// The replies of a new archive to the rows as one list.
-fn replies_to(alloc: Global, rows: &[(Asked, &'static str)]) -> Result<Vec<Reply>, Fail> {
-    let mut archive = archive(alloc, 2)?;
+fn are_lines(list: &[Listed], lines: &[(u64, u64)]) -> bool {
+    if list.len() != lines.len() {
+        return false;
+    }
+    for at in 0..lines.len() {
+        if !is_line(&list[at], lines[at].0, lines[at].1) {
+            return false;
+        }
+    }
+    true
+}
+
+/// Whether a tally is that of two blocks, each of them resolved.
+fn is_of_two_blocks(tally: &Tally) -> bool {
+    let rows = tally.rows.as_slice();
+    tally.unresolved == 0
+        && tally.total == 2
+        && matches!(rows, [row] if row.code.as_bytes() == b"xs4_33".as_slice() && row.count == 2)
+}
+
+/// Whether a census is the one of the two blocks.
+fn is_census(shown: &Shown) -> bool {
+    shown.census == 1
+        && shown.deposit == 1
+        && shown.generation == 0
+        && shown.limit == 1
+        && shown.steady
+        && is_of_two_blocks(&shown.tally)
+}
+
+/// Whether a refusal is that of a bad pattern with this fault.
+fn is_bad_pattern(refusal: &Refusal, number: u8) -> bool {
+    match refusal {
+        Refusal::BadPattern(fault) => fault.number() == number,
+        _ => false,
+    }
+}
+
+/// Whether a reply says so.
+fn says(reply: &Reply, said: Said) -> bool {
+    match said {
+        Said::Deposited(number) => matches!(reply, Reply::Deposited(id) if *id == number),
+        Said::File(text) =>
+            matches!(reply, Reply::File(file) if file.as_slice() == text.as_bytes()),
+        Said::Deposits(lines) => {
+            matches!(reply, Reply::Deposits(list) if are_lines(list.as_slice(), lines))
+        }
+        Said::Kinded(expected, text) => {
+            matches!(reply, Reply::Kinded(kind, Some(code)) if *kind == expected && code.as_slice() == text.as_bytes())
+        }
+        Said::Counted(number) => matches!(reply, Reply::Counted(id) if *id == number),
+        Said::Census => matches!(reply, Reply::Shown(shown) if is_census(shown)),
+        Said::Csv(text) =>
+            matches!(reply, Reply::Csv(table) if table.as_slice() == text.as_bytes()),
+        Said::Total(number) => matches!(reply, Reply::Total(n) if *n == number),
+        Said::Refused(number) => {
+            matches!(reply, Reply::Refused(refusal) if refusal.number() == number)
+        }
+        Said::BadPattern(number) => {
+            matches!(reply, Reply::Refused(refusal) if is_bad_pattern(refusal, number))
+        }
+    }
+}
+
+/// Whether an archive answers a row so.
+pub fn tells<S: Alter>(alloc: Global, archive: &mut Archive<S>, row: Row) -> bool {
+    match request(alloc, row.0) {
+        Ok(request) => says(&answer(archive, alloc, request), row.1),
+        Err(_) => false,
+    }
+}
+
+/// The first row that an archive answers otherwise, the rows asked one by one.
+pub fn other<S: Alter>(alloc: Global, archive: &mut Archive<S>, rows: &[Row]) -> Option<usize> {
+    for (at, row) in rows.iter().enumerate() {
+        if !tells(alloc, archive, *row) {
+            return Some(at);
+        }
+    }
+    None
+}
+
+/// Puts a request that was made behind the others.
+fn put(
+    requests: &mut Vec<Request>,
+    request: Result<Request, Unavailable>,
+) -> Result<(), Unavailable> {
+    match request {
+        Ok(request) => match requests.push(request) {
+            Ok(()) => Ok(()),
+            Err(_) => Err(Unavailable),
+        },
+        Err(_) => Err(Unavailable),
+    }
+}
+
+/// The requests of the rows.
+fn requests(alloc: Global, rows: &[Row]) -> Result<Vec<Request>, Unavailable> {
     let mut requests = Vec::new(alloc);
     for (asked, _) in rows {
-        requests.push(request(alloc, *asked)?)?;
+        put(&mut requests, request(alloc, *asked))?;
     }
-    match answer_all(&mut archive, alloc, requests) {
-        Ok(replies) => Ok(replies),
-        Err(_) => Err("no room for the replies".into()),
-    }
+    Ok(requests)
 }
 
-/// The first row that is answered otherwise, the rows asked as one list.
-fn other_as_a_list(alloc: Global, rows: &[(Asked, &'static str)]) -> Result<Option<usize>, Fail> {
-    let replies = replies_to(alloc, rows)?;
+/// The first row that is answered otherwise by these replies.
+fn other_reply(replies: &[Reply], rows: &[Row]) -> Option<usize> {
     if replies.len() != rows.len() {
-        return Err("as many replies as requests".into());
+        return Some(rows.len());
     }
     for at in 0..rows.len() {
-        if told(alloc, &replies[at])?.as_str() != rows[at].1 {
-            return Ok(Some(at));
+        if !says(&replies[at], rows[at].1) {
+            return Some(at);
         }
     }
-    Ok(None)
+    None
 }
 
-/// The first row that is answered otherwise, one by one and as one list.
-fn others(
+/// The replies of an archive to requests as one list.
+fn replies<S: Alter>(
     alloc: Global,
-    rows: &[(Asked, &'static str)],
-) -> Result<(Option<usize>, Option<usize>), Fail> {
-    let one_by_one = other_one_by_one(alloc, rows)?;
-    Ok((one_by_one, other_as_a_list(alloc, rows)?))
+    archive: &mut Archive<S>,
+    requests: Result<Vec<Request>, Unavailable>,
+) -> Result<Vec<Reply>, Unavailable> {
+    match requests {
+        Ok(requests) => match answer_all(archive, alloc, requests) {
+            Ok(replies) => Ok(replies),
+            Err(_) => Err(Unavailable),
+        },
+        Err(_) => Err(Unavailable),
+    }
+}
+
+/// The first row that an archive answers otherwise, the rows asked as one list.
+fn other_as_a_list<S: Alter>(
+    alloc: Global,
+    archive: &mut Archive<S>,
+    rows: &[Row],
+) -> Option<usize> {
+    match replies(alloc, archive, requests(alloc, rows)) {
+        Ok(replies) => other_reply(replies.as_slice(), rows),
+        Err(_) => Some(0),
+    }
+}
+
+/// What is asked of a new archive in memory.
+#[derive(Clone, Copy)]
+enum Way<'a> {
+    /// The first row that is answered otherwise, the rows asked one by one.
+    OneByOne(&'a [Row]),
+    /// The first row that is answered otherwise, the rows asked as one list.
+    AsAList(&'a [Row]),
+    /// Many deposits, and lists of them.
+    Many,
+}
+
+/// What an archive answers otherwise.
+fn otherwise<S: Alter>(alloc: Global, archive: &mut Archive<S>, way: Way<'_>) -> Option<usize> {
+    match way {
+        Way::OneByOne(rows) => other(alloc, archive, rows),
+        Way::AsAList(rows) => other_as_a_list(alloc, archive, rows),
+        Way::Many => other_of_many(replies(alloc, archive, many(alloc))),
+    }
+}
+
+/// What a new archive in memory answers otherwise.
+fn in_memory(alloc: Global, capacity: u64, way: Way<'_>) -> Option<usize> {
+    match Archive::open_in_memory(alloc, capacity) {
+        Ok(mut archive) => otherwise(alloc, &mut archive, way),
+        Err(_) => Some(0),
+    }
 }
 
 #[test]
@@ -262,76 +351,91 @@ fn the_laws_are_called() {
     law_of_the_archive();
 }
 
+/// The first row that is answered otherwise, one by one and as one list.
+fn others(alloc: Global, rows: &[Row]) -> (Option<usize>, Option<usize>) {
+    let one_by_one = in_memory(alloc, 2, Way::OneByOne(rows));
+    (one_by_one, in_memory(alloc, 2, Way::AsAList(rows)))
+}
+
 #[test]
 fn deposits_are_answered(rt: HostRuntime) -> Result<(), Fail> {
-    let others = others(rt.alloc(), DEPOSITS.as_slice())?;
-    assert_eq!(rt; others, (None, None));
+    assert_eq!(rt; others(rt.alloc(), DEPOSITS.as_slice()), (None, None));
     Ok(())
 }
 
 #[test]
 fn censuses_are_answered(rt: HostRuntime) -> Result<(), Fail> {
-    let others = others(rt.alloc(), CENSUSES.as_slice())?;
-    assert_eq!(rt; others, (None, None));
+    assert_eq!(rt; others(rt.alloc(), CENSUSES.as_slice()), (None, None));
     Ok(())
 }
 
-/// The deposit of the glider under this token.
-fn deposit(alloc: Global, token: &str) -> Result<Request, Fail> {
-    Ok(Request::Deposit(
-        text(alloc, "ann")?,
-        text(alloc, token)?,
-        bytes(alloc, GLIDER)?,
-    ))
+/// The deposit of the glider under the token of this number.
+fn numbered(alloc: Global, n: u64) -> Result<Request, Unavailable> {
+    match format!(in alloc; "t{n}") {
+        Ok(token) => deposit(alloc, "ann", token.as_str(), GLIDER),
+        Err(_) => Err(Unavailable),
+    }
 }
 
-/// A hundred and one deposits, and two lists of them.
-fn many(alloc: Global) -> Result<Vec<Request>, Fail> {
+/// A hundred and one deposits.
+fn numbered_ones(alloc: Global) -> Result<Vec<Request>, Unavailable> {
     let mut requests = Vec::new(alloc);
     for n in 1..102u64 {
-        let token = format!(in alloc; "t{n}")?;
-        requests.push(deposit(alloc, token.as_str())?)?;
+        put(&mut requests, numbered(alloc, n))?;
     }
-    requests.push(Request::ListAfter(0))?;
-    requests.push(Request::ListAfter(100))?;
     Ok(requests)
 }
 
-/// Whether the reply in this place is that the deposit has this number.
-fn has_number(replies: &[Reply], at: usize, number: u64) -> bool {
-    match replies.get(at) {
-        Some(Reply::Deposited(id)) => *id == number,
-        _ => false,
-    }
+/// A hundred and one deposits, and two lists of them.
+fn many(alloc: Global) -> Result<Vec<Request>, Unavailable> {
+    let mut requests = numbered_ones(alloc)?;
+    put(&mut requests, Ok(Request::ListAfter(0)))?;
+    put(&mut requests, Ok(Request::ListAfter(100)))?;
+    Ok(requests)
 }
 
 /// Whether the reply in this place is a list of so many deposits, of which the last has this number.
 fn has_list(replies: &[Reply], at: usize, many: usize, last: u64) -> bool {
     match replies.get(at) {
-        Some(Reply::Deposits(lines)) => {
-            let lines = lines.as_slice();
-            lines.len() == many && lines.last().map(|line| line.id) == Some(last)
+        Some(Reply::Deposits(list)) => {
+            let lines = list.as_slice();
+            lines.len() == many && matches!(lines.last(), Some(line) if line.id == last)
         }
         _ => false,
     }
 }
 
-/// Whether these are the replies to `many`.
-fn are_of_many(replies: &[Reply]) -> bool {
+/// Whether the reply in this place is that the deposit has this number.
+fn has_number(replies: &[Reply], at: usize, number: u64) -> bool {
+    match replies.get(at) {
+        Some(reply) => says(reply, Said::Deposited(number)),
+        None => false,
+    }
+}
+
+/// The first of the replies that is not as it should be to `many`.
+fn other_in_many(replies: &[Reply]) -> Option<usize> {
     for at in 0..101usize {
         if !has_number(replies, at, at as u64 + 1) {
-            return false;
+            return Some(at);
         }
     }
-    replies.len() == 103 && has_list(replies, 101, 100, 100) && has_list(replies, 102, 1, 101)
+    if replies.len() == 103 && has_list(replies, 101, 100, 100) && has_list(replies, 102, 1, 101) {
+        None
+    } else {
+        Some(101)
+    }
+}
+
+fn other_of_many(replies: Result<Vec<Reply>, Unavailable>) -> Option<usize> {
+    match replies {
+        Ok(replies) => other_in_many(replies.as_slice()),
+        Err(_) => Some(0),
+    }
 }
 
 #[test]
 fn a_list_has_at_most_a_hundred_lines(rt: HostRuntime) -> Result<(), Fail> {
-    let mut archive = archive(rt.alloc(), 200)?;
-    let Ok(replies) = answer_all(&mut archive, rt.alloc(), many(rt.alloc())?) else {
-        return Err("no room for the replies".into());
-    };
-    assert!(rt; are_of_many(&replies));
+    assert_eq!(rt; in_memory(rt.alloc(), 200, Way::Many), None);
     Ok(())
 }

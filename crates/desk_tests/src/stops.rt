@@ -1,7 +1,7 @@
 //! An archive in files: closed and opened again, and a stop at each call of a file.
 //!
 //! A call on a store of files is dear to prove: so one function opens, asks and closes, and what is asked is a value.
-use crate::requests::{Asked, BLOCK, BLOCK_SHOWN, CENSUS_SHOWN, FIELD, GLIDER, told_by};
+use crate::requests::{Asked, BLOCK, BLOCK_SHOWN, FIELD, GLIDER, Row, Said, other, tells};
 use life_store::Archive;
 use sqlite::{Alter, Files};
 use sqlite_disk::{Disk, Fuse, Memory};
@@ -20,62 +20,38 @@ fn blank(alloc: Global, log_calls: u64, db_calls: u64) -> Files<Stopping> {
 }
 
 /// What a file holds, in a file that never stops.
-fn copied(alloc: Global, file: &Stopping) -> Result<Stopping, Fail> {
+fn copied(alloc: Global, file: &Stopping) -> Option<Stopping> {
     let mut copy = Memory::new(alloc);
     if copy.write_at(0, file.inner().bytes()).is_err() || copy.sync().is_err() {
-        return Err("the file was not copied".into());
+        return None;
     }
-    Ok(Fuse::new(copy, u64::MAX))
+    Some(Fuse::new(copy, u64::MAX))
 }
 
-fn again(alloc: Global, files: &Files<Stopping>) -> Result<Files<Stopping>, Fail> {
-    Ok(Files {
-        log: copied(alloc, &files.log)?,
-        db: copied(alloc, &files.db)?,
-    })
+fn again(alloc: Global, files: &Files<Stopping>) -> Option<Files<Stopping>> {
+    match (copied(alloc, &files.log), copied(alloc, &files.db)) {
+        (Some(log), Some(db)) => Some(Files { log, db }),
+        _ => None,
+    }
 }
 
 /// Requests to an archive of capacity 2.
-const WITH_ROOM_FOR_TWO: [(Asked, &str); 3] = [
-    (Asked::Deposit("ann", "t1", GLIDER), "deposited 1"),
-    (Asked::Deposit("ann", "t2", BLOCK), "deposited 2"),
-    (Asked::Deposit("ann", "t3", BLOCK), "refused 10"),
+const WITH_ROOM_FOR_TWO: [Row; 3] = [
+    (Asked::Deposit("ann", "t1", GLIDER), Said::Deposited(1)),
+    (Asked::Deposit("ann", "t2", BLOCK), Said::Deposited(2)),
+    (Asked::Deposit("ann", "t3", BLOCK), Said::Refused(10)),
 ];
 
 /// Requests to the same archive, which is opened again with capacity 1.
-const WITH_ROOM_FOR_ONE: [(Asked, &str); 3] = [
-    (Asked::Deposit("ann", "t1", GLIDER), "deposited 1"),
-    (Asked::Deposit("ann", "t4", GLIDER), "refused 10"),
-    (Asked::Show(2), BLOCK_SHOWN),
+const WITH_ROOM_FOR_ONE: [Row; 3] = [
+    (Asked::Deposit("ann", "t1", GLIDER), Said::Deposited(1)),
+    (Asked::Deposit("ann", "t4", GLIDER), Said::Refused(10)),
+    (Asked::Show(2), Said::File(BLOCK_SHOWN)),
 ];
 
-/// Whether the archive answers the rows so.
-fn tells_all<S: Alter>(
-    alloc: Global,
-    archive: &mut Archive<S>,
-    rows: &[(Asked, &'static str)],
-) -> Result<bool, Fail> {
-    for (asked, expected) in rows {
-        if !tells(alloc, archive, *asked, expected)? {
-            return Ok(false);
-        }
-    }
-    Ok(true)
-}
+const DEPOSIT: Row = (Asked::Deposit("ann", "t1", FIELD), Said::Deposited(1));
 
-const DEPOSIT: Asked = Asked::Deposit("ann", "t1", FIELD);
-
-const CENSUS: Asked = Asked::Census("c1", 1, 0, 1);
-
-/// Whether an archive answers this to a row.
-fn tells<S: Alter>(
-    alloc: Global,
-    archive: &mut Archive<S>,
-    asked: Asked,
-    expected: &str,
-) -> Result<bool, Fail> {
-    Ok(told_by(alloc, archive, asked)?.as_str() == expected)
-}
+const CENSUS: Row = (Asked::Census("c1", 1, 0, 1), Said::Counted(1));
 
 /// How many deposits and censuses are kept.
 fn kept<S: Alter>(archive: &mut Archive<S>) -> Option<(u64, u64)> {
@@ -86,11 +62,9 @@ fn kept<S: Alter>(archive: &mut Archive<S>) -> Option<(u64, u64)> {
 
 /// Whether the deposit was answered by its number, and whether the census was. The run ends at the
 /// first that was not.
-fn act<S: Alter>(alloc: Global, archive: &mut Archive<S>) -> Result<(bool, bool), Fail> {
-    if !tells(alloc, archive, DEPOSIT, "deposited 1")? {
-        return Ok((false, false));
-    }
-    Ok((true, tells(alloc, archive, CENSUS, "counted 1")?))
+fn act<S: Alter>(alloc: Global, archive: &mut Archive<S>) -> (bool, bool) {
+    let deposited = tells(alloc, archive, DEPOSIT);
+    (deposited, deposited && tells(alloc, archive, CENSUS))
 }
 
 /// Whether what is kept is what was answered, or one more.
@@ -100,47 +74,30 @@ fn fits(kept: (u64, u64), done: (bool, bool)) -> bool {
 }
 
 /// Whether a census that is kept is whole.
-fn is_whole<S: Alter>(
-    alloc: Global,
-    archive: &mut Archive<S>,
-    censuses: u64,
-) -> Result<bool, Fail> {
-    if censuses == 0 {
-        return Ok(true);
-    }
-    tells(alloc, archive, Asked::ShowCensus(1), CENSUS_SHOWN)
+fn is_whole<S: Alter>(alloc: Global, archive: &mut Archive<S>, censuses: u64) -> bool {
+    censuses == 0 || tells(alloc, archive, (Asked::ShowCensus(1), Said::Census))
 }
 
 /// Whether both requests made again are answered by their numbers, and each is kept once.
-fn comes_again<S: Alter>(alloc: Global, archive: &mut Archive<S>) -> Result<bool, Fail> {
-    if act(alloc, archive)? != (true, true) {
-        return Ok(false);
-    }
-    Ok(kept(archive) == Some((1, 1)))
+fn comes_again<S: Alter>(alloc: Global, archive: &mut Archive<S>) -> bool {
+    act(alloc, archive) == (true, true) && kept(archive) == Some((1, 1))
 }
 
 /// Whether the archive holds what was answered, and takes both requests again.
-fn goes_on<S: Alter>(
-    alloc: Global,
-    archive: &mut Archive<S>,
-    done: (bool, bool),
-) -> Result<bool, Fail> {
-    let Some(found) = kept(archive) else {
-        return Ok(false);
-    };
-    if !fits(found, done) || !is_whole(alloc, archive, found.1)? {
-        return Ok(false);
+fn goes_on<S: Alter>(alloc: Global, archive: &mut Archive<S>, done: (bool, bool)) -> bool {
+    match kept(archive) {
+        Some(found) => {
+            fits(found, done) && is_whole(alloc, archive, found.1) && comes_again(alloc, archive)
+        }
+        None => false,
     }
-    comes_again(alloc, archive)
 }
 
 /// What is asked of an archive.
 #[derive(Clone, Copy)]
-enum Ask {
-    /// Whether it answers the first deposits.
-    TellsDeposits,
-    /// Whether it keeps them where it has room for one.
-    KeepsDeposits,
+enum Ask<'a> {
+    /// Whether it answers the rows.
+    Tells(&'a [Row]),
     /// What a deposit and a census are answered.
     Acts,
     /// Whether it has what was answered, and takes both requests again.
@@ -158,18 +115,12 @@ enum Answer {
     Did((bool, bool)),
 }
 
-/// Whether it is so, as an answer.
-fn answer_of(found: Result<bool, Fail>) -> Result<Answer, Fail> {
-    Ok(Answer::Is(found?))
-}
-
 /// What the archive answers.
-fn asked<S: Alter>(alloc: Global, archive: &mut Archive<S>, ask: Ask) -> Result<Answer, Fail> {
+fn asked<S: Alter>(alloc: Global, archive: &mut Archive<S>, ask: Ask<'_>) -> Answer {
     match ask {
-        Ask::TellsDeposits => answer_of(tells_all(alloc, archive, WITH_ROOM_FOR_TWO.as_slice())),
-        Ask::KeepsDeposits => answer_of(tells_all(alloc, archive, WITH_ROOM_FOR_ONE.as_slice())),
-        Ask::Acts => Ok(Answer::Did(act(alloc, archive)?)),
-        Ask::GoesOn(done) => answer_of(goes_on(alloc, archive, done)),
+        Ask::Tells(rows) => Answer::Is(other(alloc, archive, rows).is_none()),
+        Ask::Acts => Answer::Did(act(alloc, archive)),
+        Ask::GoesOn(done) => Answer::Is(goes_on(alloc, archive, done)),
     }
 }
 
@@ -178,10 +129,10 @@ fn over<D: Disk + Drop>(
     alloc: Global,
     files: Files<D>,
     capacity: u64,
-    ask: Ask,
-) -> (Result<Answer, Fail>, Files<D>) {
+    ask: Ask<'_>,
+) -> (Answer, Files<D>) {
     if !files.may_be_used() {
-        return (Ok(Answer::Refused), files);
+        return (Answer::Refused, files);
     }
     match Archive::open_files(alloc, files, capacity) {
         Ok(mut archive) => {
@@ -191,60 +142,73 @@ fn over<D: Disk + Drop>(
                 Err((_, files)) => (answer, files),
             }
         }
-        Err((_, files)) => (Ok(Answer::Refused), files),
+        Err((_, files)) => (Answer::Refused, files),
     }
+}
+
+/// What the archive answers that is opened over the files for the second time, with capacity 1.
+fn answers_twice(alloc: Global) -> (Answer, Answer) {
+    let files = blank(alloc, u64::MAX, u64::MAX);
+    let (first, files) = over(alloc, files, 2, Ask::Tells(WITH_ROOM_FOR_TWO.as_slice()));
+    let (second, _) = over(alloc, files, 1, Ask::Tells(WITH_ROOM_FOR_ONE.as_slice()));
+    (first, second)
 }
 
 #[test]
 fn a_smaller_capacity_keeps_what_there_is(rt: HostRuntime) -> Result<(), Fail> {
-    let alloc = rt.alloc();
-    let files = blank(alloc, u64::MAX, u64::MAX);
-    let (first, files) = over(alloc, files, 2, Ask::TellsDeposits);
-    assert!(rt; first? == Answer::Is(true));
-    let (second, _) = over(alloc, files, 1, Ask::KeepsDeposits);
-    assert!(rt; second? == Answer::Is(true));
+    let (first, second) = answers_twice(rt.alloc());
+    assert!(rt; first == Answer::Is(true));
+    assert!(rt; second == Answer::Is(true));
     Ok(())
 }
 
+/// Whether a copy of what the files hold is sound behind a run in which this was answered.
+fn is_sound(alloc: Global, files: &Files<Stopping>, done: (bool, bool)) -> bool {
+    match again(alloc, files) {
+        Some(copy) => {
+            let (answer, _) = over(alloc, copy, 2, Ask::GoesOn(done));
+            answer == Answer::Is(true)
+        }
+        None => false,
+    }
+}
+
 /// Whether both requests were answered, and whether what is found afterwards is sound.
-fn stop_at(alloc: Global, log_calls: u64, db_calls: u64) -> Result<(bool, bool), Fail> {
+fn stop_at(alloc: Global, log_calls: u64, db_calls: u64) -> (bool, bool) {
     let (answer, files) = over(alloc, blank(alloc, log_calls, db_calls), 2, Ask::Acts);
-    let done = match answer? {
+    let done = match answer {
         Answer::Did(done) => done,
         _ => (false, false),
     };
-    let (sound, _) = over(alloc, again(alloc, &files)?, 2, Ask::GoesOn(done));
-    Ok((done.0 && done.1, sound? == Answer::Is(true)))
+    (done.0 && done.1, is_sound(alloc, &files, done))
 }
 
 /// After how many calls on the log, or else on the database file, a run ends with no stop; none where a
 /// stop left what is not sound.
-fn calls_of(alloc: Global, is_log: bool) -> Result<Option<u64>, Fail> {
+fn calls_of(alloc: Global, is_log: bool) -> Option<u64> {
     for calls in 0..1000u64 {
         let (log_calls, db_calls) = if is_log {
             (calls, u64::MAX)
         } else {
             (u64::MAX, calls)
         };
-        let (done, sound) = stop_at(alloc, log_calls, db_calls)?;
-        if !sound {
-            return Ok(None);
-        }
-        if done {
-            return Ok(Some(calls));
+        match stop_at(alloc, log_calls, db_calls) {
+            (true, true) => return Some(calls),
+            (false, true) => {}
+            _ => return None,
         }
     }
-    Ok(None)
+    None
 }
 
 #[test]
 fn a_stop_at_each_call_on_the_log_loses_nothing(rt: HostRuntime) -> Result<(), Fail> {
-    assert!(rt; calls_of(rt.alloc(), true)?.is_some());
+    assert!(rt; calls_of(rt.alloc(), true).is_some());
     Ok(())
 }
 
 #[test]
 fn a_stop_at_each_call_on_the_database_loses_nothing(rt: HostRuntime) -> Result<(), Fail> {
-    assert!(rt; calls_of(rt.alloc(), false)?.is_some());
+    assert!(rt; calls_of(rt.alloc(), false).is_some());
     Ok(())
 }

@@ -1,10 +1,9 @@
 //! Archives of layout 1, which are carried over as they are opened, and a stop at each call of it.
-use crate::files::{Answer, Ask, Deed, database, made_by, over};
-use crate::stops::{Stopping, again};
-use life_store::{Archive, OpenFault, Unavailable};
-use sqlite::types::ValueRef;
-use sqlite::{Alter, Connection, Files, Row};
-use sqlite_disk::{Fuse, Memory};
+use crate::asking::{Answer, Ask, Asked};
+use crate::files::{Stopping, made_by, over, stopping};
+use life_store::Unavailable;
+use sqlite::Files;
+use sqlite_disk::{Disk, Memory};
 use std::alloc::Global;
 use std::test::Fail;
 
@@ -24,85 +23,94 @@ const FIRST: [&str; 11] = [
     "INSERT INTO census_rows (census, code, n) VALUES (2, 'xp2_7', 2)",
 ];
 
-/// The files of the archive of layout 1.
-fn first(alloc: Global) -> Option<Files<Memory>> {
-    made_by(alloc, FIRST.as_slice())
+/// The files of the archive of layout 1, which stop after so many calls.
+fn first(alloc: Global, log_calls: u64, db_calls: u64) -> Option<Files<Stopping>> {
+    match made_by(alloc, FIRST.as_slice()) {
+        Some(files) => again(alloc, &files, log_calls, db_calls),
+        None => None,
+    }
 }
 
-/// The same in files that stop after so many calls.
-fn stopping(alloc: Global, log_calls: u64, db_calls: u64) -> Option<Files<Stopping>> {
-    let files = first(alloc)?;
-    Some(Files {
-        log: Fuse::new(files.log, log_calls),
-        db: Fuse::new(files.db, db_calls),
-    })
+/// What a file holds.
+fn copied(alloc: Global, file: &Stopping) -> Result<Memory, Unavailable> {
+    let mut copy = Memory::new(alloc);
+    if copy.write_at(0, file.inner().bytes()).is_err() || copy.sync().is_err() {
+        return Err(Unavailable);
+    }
+    Ok(copy)
 }
 
-/// Whether both censuses are there with their flags and nothing else.
-pub fn is_carried<S: Alter>(alloc: Global, archive: &mut Archive<S>) -> Result<bool, Unavailable> {
-    let first = archive
-        .census_of(alloc, 1)?
-        .map(|kept| (kept.total, kept.census.limit));
-    let second = archive
-        .census_of(alloc, 2)?
-        .map(|kept| (kept.total, kept.census.limit));
-    let same = first == Some((2, 1)) && second == Some((2, 2));
-    let rows = archive.rows_of(alloc, 2)?;
-    let row = rows.as_slice().first().map(|row| row.count);
-    let counts = archive.count_deposits()? == 2 && archive.count_censuses()? == 2;
-    let flags = archive.flag_of(1)? == Some(true) && archive.flag_of(2)? == Some(false);
-    Ok(same && row == Some(2) && counts && flags && archive.flag_of(3)?.is_none())
+/// What the files hold, in files that stop after so many calls.
+fn again(
+    alloc: Global,
+    files: &Files<Stopping>,
+    log_calls: u64,
+    db_calls: u64,
+) -> Option<Files<Stopping>> {
+    match (copied(alloc, &files.log), copied(alloc, &files.db)) {
+        (Ok(log), Ok(db)) => Some(stopping(log, log_calls, db, db_calls)),
+        _ => None,
+    }
+}
+
+/// Both deposits and both censuses are there with their flags, and nothing else.
+const CARRIED: [Asked; 8] = [
+    (Ask::Deposits, Answer::Number(2)),
+    (Ask::Censuses, Answer::Number(2)),
+    (Ask::HasCensus(1, 1, 1), Answer::Is(true)),
+    (Ask::HasCensus(2, 2, 2), Answer::Is(true)),
+    (Ask::HasRow(2, "xp2_7"), Answer::Is(true)),
+    (Ask::Flag(1), Answer::Is(true)),
+    (Ask::Flag(2), Answer::Is(false)),
+    (Ask::Flag(3), Answer::None),
+];
+
+/// The files of an archive that is opened over the files, found carried over, and closed.
+fn carried(alloc: Global, files: Files<Stopping>) -> Option<Files<Stopping>> {
+    match over(alloc, files, 2, CARRIED.as_slice()) {
+        (None, files) => Some(files),
+        _ => None,
+    }
 }
 
 /// Whether an archive is opened over the files, and closed and opened again, each time with both flags.
 fn opens(alloc: Global, files: Files<Stopping>) -> bool {
-    let (first, files) = over(alloc, files, 2, Ask::IsCarried);
-    match files {
-        Ok(files) => {
-            let (second, _) = over(alloc, files, 2, Ask::IsCarried);
-            first == Answer::Is(true) && second == Answer::Is(true)
-        }
-        Err(_) => false,
+    match carried(alloc, files) {
+        Some(files) => carried(alloc, files).is_some(),
+        None => false,
     }
 }
 
 #[test]
 fn an_archive_of_layout_1_is_carried_over(rt: HostRuntime) -> Result<(), Fail> {
-    let files = stopping(rt.alloc(), u64::MAX, u64::MAX).ok_or("not made")?;
+    let files = first(rt.alloc(), u64::MAX, u64::MAX).ok_or("not made")?;
     assert!(rt; opens(rt.alloc(), files));
     Ok(())
 }
 
-/// Whether a row is this number alone.
-fn is_number(row: &Row, number: i64) -> bool {
-    matches!(row.get_ref(0), Ok(ValueRef::Int(n)) if n == number)
-}
-
-/// Whether the database is of layout 1 and has no table of flags, or of layout 2 with both flags.
-pub fn is_before_or_whole<S: Alter>(conn: &mut Connection<S>) -> bool {
-    let version = conn.query_all("SELECT version FROM layout", &[]);
-    let flags = conn.query_all("SELECT steady FROM census_flags ORDER BY census", &[]);
-    match (version, flags) {
-        (Ok(version), Err(_)) => matches!(version.as_slice(), [row] if is_number(row, 1)),
-        (Ok(version), Ok(flags)) => {
-            matches!(version.as_slice(), [row] if is_number(row, 2))
-                && matches!(flags.as_slice(), [one, two] if is_number(one, 1) && is_number(two, 0))
-        }
-        _ => false,
+/// Whether what the files hold, in files that never stop, is the archive as it was, or carried over whole: an opening refuses
+/// a table of flags under layout 1, and layout 2 without one, and flags that lack are missed behind it.
+fn is_sound(alloc: Global, files: &Files<Stopping>) -> bool {
+    match again(alloc, files, u64::MAX, u64::MAX) {
+        Some(copy) => opens(alloc, copy),
+        None => false,
     }
 }
 
-/// Whether the opening ended with no stop, and whether what is found afterwards is sound: the archive as it was, or whole,
-/// and one that can be opened.
+/// What is asked of an archive of layout 1 as it is opened.
+const HAS_TWO: [Asked; 1] = [(Ask::Deposits, Answer::Number(2))];
+
+/// Whether the opening ended with no stop, and whether what is found afterwards is sound.
 fn stop_at(alloc: Global, log_calls: u64, db_calls: u64) -> Option<(bool, bool)> {
-    let files = stopping(alloc, log_calls, db_calls)?;
-    let (answer, files) = over(alloc, files, 2, Ask::IsEmpty);
-    let files = match files {
-        Ok(files) | Err(files) => files,
-    };
-    let sound = database(alloc, again(alloc, &files).ok()?, Deed::IsBeforeOrWhole).is_some();
-    let carried = opens(alloc, again(alloc, &files).ok()?);
-    Some((answer == Answer::Is(false), sound && carried))
+    match first(alloc, log_calls, db_calls) {
+        Some(files) => {
+            let (other, files) = over(alloc, files, 2, HAS_TWO.as_slice());
+            // The close, which is asked for behind the one row, may have been stopped.
+            let opened = !matches!(other, Some((0, _)));
+            Some((opened, is_sound(alloc, &files)))
+        }
+        None => None,
+    }
 }
 
 /// After how many calls on the one file an opening ends with no stop; none where a stop left what is not sound.
@@ -135,34 +143,5 @@ fn a_stop_of_the_database_leaves_layout_1_or_2(rt: HostRuntime) -> Result<(), Fa
     let calls = calls_of(rt.alloc(), false).ok_or("a stop left what is not sound")?;
     println!(&rt; "stops at each of {calls} calls on the database file")?;
     assert!(rt; calls > 0);
-    Ok(())
-}
-
-/// What comes of an opening of the archive in which one more statement was run.
-fn opened_after(alloc: Global, statement: &str) -> Option<Answer> {
-    let files = database(alloc, first(alloc)?, Deed::Run(&[statement]))?;
-    Some(over(alloc, files, 2, Ask::IsCarried).0)
-}
-
-/// What is changed in the archive of layout 1, and how its opening is refused then.
-const CHANGES: [(&str, OpenFault); 4] = [
-    ("UPDATE layout SET version = 2", OpenFault::NotOurs),
-    ("UPDATE layout SET version = 3", OpenFault::NotOurs),
-    (
-        "CREATE TABLE census_flags (census INTEGER PRIMARY KEY REFERENCES censuses (id), steady INTEGER NOT NULL) STRICT",
-        OpenFault::NotOurs,
-    ),
-    (
-        "UPDATE censuses SET gens = 2049 WHERE id = 2",
-        OpenFault::Unavailable,
-    ),
-];
-
-#[test]
-fn others_of_layout_1_are_refused(rt: HostRuntime) -> Result<(), Fail> {
-    for (statement, fault) in CHANGES {
-        let answer = opened_after(rt.alloc(), statement);
-        assert_eq!(rt; answer, Some(Answer::Refused(fault)), "{statement}");
-    }
     Ok(())
 }

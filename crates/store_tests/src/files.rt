@@ -1,191 +1,147 @@
-//! An archive in files: opened, asked, closed and opened again, over files that hold an archive and over others.
+//! An archive in files: opened, asked, closed and opened again.
 //!
-//! A call on a store of files is dear to prove: so each function here makes a few, and what is asked is a value.
-use crate::archives::{BLOCK_TEXT, has_content, has_contents, keep_two};
-use crate::carrying::{is_before_or_whole, is_carried};
-use crate::stops::{Told, act, goes_on, has_told};
-use life_store::{Archive, OpenFault, Unavailable};
-use sqlite::{Alter, Connection, FileStore, Files, Options, Start, Unknown};
-use sqlite_disk::{Disk, Memory};
+//! A call on a store of files is dear to prove: so each function here makes a few, gives the files back on every way, and
+//! drops no store. All files are of one kind, which stops after some calls, or never.
+use crate::asking::{Answer, Ask, Asked, BLOCK, BLOCK_TEXT, GLIDER, Other, others};
+use life_store::{Archive, OpenFault};
+use sqlite::{Alter, Connection, FileStore, Files, Options};
+use sqlite_disk::{Disk, Fuse, Memory};
 use std::alloc::Global;
-use std::fs;
 use std::test::Fail;
 
-/// What is asked of an archive.
-#[derive(Clone, Copy)]
-pub enum Ask {
-    /// Whether it has no deposit.
-    IsEmpty,
-    /// Whether it keeps the glider and the block as 1 and 2.
-    KeepsTwo,
-    /// Whether it has them, and this capacity.
-    HasTwo(u64),
-    /// Whether its changed rows are unavailable.
-    IsUnavailable,
-    /// Whether it was carried over.
-    IsCarried,
-    /// What a deposit and a census are told.
-    Acts,
-    /// Whether it has what was told, and takes the same requests again.
-    GoesOn(Told),
+/// A file that stops after some calls.
+pub type Stopping = Fuse<Memory>;
+
+/// Two files of these bytes, which stop after so many calls.
+pub fn stopping(log: Memory, log_calls: u64, db: Memory, db_calls: u64) -> Files<Stopping> {
+    Files {
+        log: Fuse::new(log, log_calls),
+        db: Fuse::new(db, db_calls),
+    }
 }
 
-/// What came of it.
-#[derive(Clone, Copy, Debug, PartialEq, Eq)]
-pub enum Answer {
-    /// The opening was refused.
-    Refused(OpenFault),
-    /// A call was unavailable.
-    Unavailable,
-    /// Whether it is so.
-    Is(bool),
-    /// What a run was told.
-    Told(Told),
+/// Two empty files, which never stop.
+pub fn blank(alloc: Global) -> Files<Stopping> {
+    stopping(Memory::new(alloc), u64::MAX, Memory::new(alloc), u64::MAX)
 }
 
-/// Whether the archive has this capacity and the two deposits.
-fn has_two<S: Alter>(
+/// What an archive that was opened answers otherwise before it is closed, and its files. Its close is asked for behind the
+/// rows: where it is refused, it is unavailable.
+fn closed<D: Disk + Drop>(
     alloc: Global,
-    archive: &mut Archive<S>,
-    capacity: u64,
-) -> Result<bool, Unavailable> {
-    Ok(
-        archive.capacity() == capacity
-            && archive.count_deposits()? == 2
-            && has_contents(alloc, archive)?,
-    )
-}
-
-/// Changes that no archive makes.
-const CHANGES: [&str; 4] = [
-    "UPDATE deposits SET rle = x'00' WHERE id = 1",
-    "UPDATE deposits SET population = 1, rule = 'B9' WHERE id = 2",
-    "INSERT INTO censuses VALUES (1, 'ann', 'c1', 1, -1, 1, 0, 0)",
-    "INSERT INTO census_rows VALUES (1, 'no code', 1)",
-];
-
-/// Whether each changed row is unavailable where it is met. The columns for lists alone are not met by number.
-fn is_unavailable<S: Alter>(alloc: Global, archive: &mut Archive<S>) -> bool {
-    archive.deposit_of(alloc, 1).is_err()
-        && archive.find_deposit(alloc, b"ann", b"t1").is_err()
-        && has_content(alloc, archive, 2, BLOCK_TEXT) == Ok(true)
-        && archive.census_of(alloc, 1).is_err()
-        && archive.rows_of(alloc, 1).is_err()
-}
-
-/// What the archive answers, unless a call is unavailable.
-fn answered<S: Alter>(
-    alloc: Global,
-    archive: &mut Archive<S>,
-    ask: Ask,
-) -> Result<Answer, Unavailable> {
-    Ok(match ask {
-        Ask::IsEmpty => Answer::Is(archive.count_deposits()? == 0),
-        Ask::KeepsTwo => Answer::Is(keep_two(alloc, archive)? == (1, 2)),
-        Ask::HasTwo(capacity) => Answer::Is(has_two(alloc, archive, capacity)?),
-        Ask::IsUnavailable => Answer::Is(is_unavailable(alloc, archive)),
-        Ask::IsCarried => Answer::Is(is_carried(alloc, archive)?),
-        Ask::Acts => Answer::Told(act(alloc, archive)?),
-        Ask::GoesOn(told) => {
-            Answer::Is(has_told(alloc, archive, told)? && goes_on(alloc, archive)?)
+    opened: Result<Archive<FileStore<D>>, (OpenFault, Files<D>)>,
+    rows: &[Asked],
+) -> (Other, Files<D>) {
+    match opened {
+        Ok(mut archive) => {
+            let other = others(alloc, &mut archive, rows);
+            match archive.close_files() {
+                Ok(files) => (other, files),
+                Err((_, files)) => (
+                    Some(other.unwrap_or((rows.len(), Answer::Unavailable))),
+                    files,
+                ),
+            }
         }
-    })
+        Err((fault, files)) => (Some((0, Answer::Refused(fault))), files),
+    }
 }
 
-/// What the archive answers.
-fn asked<S: Alter>(alloc: Global, archive: &mut Archive<S>, ask: Ask) -> Answer {
-    answered(alloc, archive, ask).unwrap_or(Answer::Unavailable)
-}
-
-/// Opens an archive over the files, asks it, and closes it. The files are given back in any case: Ok where the archive was
-/// opened and closed.
-pub fn over<D: Disk + Drop>(
+/// Opens an archive over files of any kind, asks it, and closes it.
+fn over_any<D: Disk + Drop>(
     alloc: Global,
     files: Files<D>,
     capacity: u64,
-    ask: Ask,
-) -> (Answer, Result<Files<D>, Files<D>>) {
+    rows: &[Asked],
+) -> (Other, Files<D>) {
     if !files.may_be_used() {
-        return (Answer::Unavailable, Err(files));
+        return (Some((0, Answer::Unavailable)), files);
     }
-    match Archive::open_files(alloc, files, capacity) {
-        Ok(mut archive) => {
-            let answer = asked(alloc, &mut archive, ask);
-            (answer, archive.close_files().map_err(|(_, files)| files))
-        }
-        Err((fault, files)) => (Answer::Refused(fault), Err(files)),
+    closed(alloc, Archive::open_files(alloc, files, capacity), rows)
+}
+
+/// Opens an archive over the files, asks it, and closes it. The files are given back in any case.
+pub fn over(
+    alloc: Global,
+    files: Files<Stopping>,
+    capacity: u64,
+    rows: &[Asked],
+) -> (Other, Files<Stopping>) {
+    over_any(alloc, files, capacity, rows)
+}
+
+/// The same over files that are opened with capacity 2, closed, and opened again with capacity 3.
+fn over_again<D: Disk + Drop>(alloc: Global, files: Files<D>, rows: &[Asked]) -> (Other, Files<D>) {
+    if !files.may_be_used() {
+        return (Some((0, Answer::Unavailable)), files);
+    }
+    match Archive::open_files(alloc, files, 2) {
+        Ok(archive) => closed(alloc, archive.reopen(alloc, 3), rows),
+        Err((fault, files)) => (Some((0, Answer::Refused(fault))), files),
     }
 }
 
-/// Two empty files.
-pub fn blank(alloc: Global) -> Files<Memory> {
-    Files {
-        log: Memory::new(alloc),
-        db: Memory::new(alloc),
-    }
+/// The glider and the block are kept as 1 and 2.
+const KEEPS_TWO: [Asked; 2] = [
+    (Ask::Keep("t1", GLIDER), Answer::Number(1)),
+    (Ask::Keep("t2", BLOCK), Answer::Number(2)),
+];
+
+/// Whether an archive over the files, which is opened with this capacity, has it, and has the glider and the block.
+fn rows_of_two(capacity: u64) -> [Asked; 5] {
+    [
+        (Ask::Capacity, Answer::Number(capacity)),
+        (Ask::Deposits, Answer::Number(2)),
+        (Ask::HasContent(1, GLIDER), Answer::Is(true)),
+        (Ask::HasContent(2, BLOCK_TEXT), Answer::Is(true)),
+        (Ask::HasContent(2, GLIDER), Answer::Is(false)),
+    ]
 }
 
 /// The files of an archive that keeps the glider and the block.
-fn two_kept(alloc: Global) -> Option<Files<Memory>> {
-    match over(alloc, blank(alloc), 2, Ask::KeepsTwo) {
-        (Answer::Is(true), Ok(files)) => Some(files),
+fn two_kept(alloc: Global) -> Option<Files<Stopping>> {
+    match over(alloc, blank(alloc), 2, KEEPS_TWO.as_slice()) {
+        (None, files) => Some(files),
         _ => None,
     }
 }
 
 /// The files behind an opening that is refused for its capacity.
-fn refused_at(alloc: Global, files: Files<Memory>, capacity: u64) -> Option<Files<Memory>> {
-    match over(alloc, files, capacity, Ask::IsEmpty) {
-        (Answer::Refused(OpenFault::BadCapacity), Err(files)) => Some(files),
+fn refused_at(alloc: Global, files: Files<Stopping>, capacity: u64) -> Option<Files<Stopping>> {
+    match over(alloc, files, capacity, &[]) {
+        (Some((0, Answer::Refused(OpenFault::BadCapacity))), files) => Some(files),
         _ => None,
     }
 }
 
+/// What the archive in the files answers otherwise after two openings that are refused for their capacities; none where
+/// one was taken.
+fn others_behind_refusals(alloc: Global, files: Files<Stopping>) -> Option<Other> {
+    let files = refused_at(alloc, files, 0)?;
+    let files = refused_at(alloc, files, 1_000_001)?;
+    let (other, _) = over(alloc, files, 2, rows_of_two(2).as_slice());
+    Some(other)
+}
+
 #[test]
 fn a_refused_opening_gives_the_files_back(rt: HostRuntime) -> Result<(), Fail> {
-    let mut files = two_kept(rt.alloc()).ok_or("not kept")?;
-    for capacity in [0, 1_000_001] {
-        files = refused_at(rt.alloc(), files, capacity).ok_or("a bad capacity was taken")?;
-    }
-    let (answer, _) = over(rt.alloc(), files, 2, Ask::HasTwo(2));
-    assert_eq!(rt; answer, Answer::Is(true));
+    let files = two_kept(rt.alloc()).ok_or("not kept")?;
+    assert_eq!(rt; others_behind_refusals(rt.alloc(), files), Some(None));
     Ok(())
 }
 
-/// What an archive answers that is opened over the files with capacity 2, and opened again with capacity 3.
-fn over_again<D: Disk + Drop>(alloc: Global, files: Files<D>, ask: Ask) -> Answer {
-    if !files.may_be_used() {
-        return Answer::Unavailable;
-    }
-    let Ok(archive) = Archive::open_files(alloc, files, 2) else {
-        return Answer::Unavailable;
-    };
-    match archive.reopen(alloc, 3) {
-        Ok(mut again) => asked(alloc, &mut again, ask),
-        Err((fault, _)) => Answer::Refused(fault),
-    }
+/// What the archive in the files answers otherwise, which is opened with capacity 1, and opened again with capacity 3.
+fn others_twice(alloc: Global, files: Files<Stopping>) -> (Other, Other) {
+    let (first, files) = over(alloc, files, 1, rows_of_two(1).as_slice());
+    let (second, _) = over_again(alloc, files, rows_of_two(3).as_slice());
+    (first, second)
 }
 
 #[test]
 fn a_closed_archive_is_opened_under_another_capacity(rt: HostRuntime) -> Result<(), Fail> {
     let files = two_kept(rt.alloc()).ok_or("not kept")?;
-    let (answer, files) = over(rt.alloc(), files, 1, Ask::HasTwo(1));
-    assert_eq!(rt; answer, Answer::Is(true));
-    let files = files.map_err(|_| "not closed")?;
-    assert_eq!(rt;
-        over_again(rt.alloc(), files, Ask::HasTwo(3)),
-        Answer::Is(true)
-    );
+    assert_eq!(rt; others_twice(rt.alloc(), files), (None, None));
     Ok(())
-}
-
-/// What is done in a database.
-#[derive(Clone, Copy)]
-pub enum Deed<'a> {
-    /// These statements are run.
-    Run(&'a [&'a str]),
-    /// It is seen that it is an archive of layout 1, or one that was carried over whole.
-    IsBeforeOrWhole,
 }
 
 /// Whether all statements were run.
@@ -198,194 +154,31 @@ fn runs<S: Alter>(conn: &mut Connection<S>, statements: &[&str]) -> bool {
     true
 }
 
-/// Whether it came out.
-fn does<S: Alter>(conn: &mut Connection<S>, deed: Deed<'_>) -> bool {
-    match deed {
-        Deed::Run(statements) => runs(conn, statements),
-        Deed::IsBeforeOrWhole => is_before_or_whole(conn),
-    }
-}
-
-/// The files of a database in which this was done, if it came out.
-pub fn database<D: Disk + Drop>(
+/// Whether these statements were run in the database of the files and it was closed, and the files.
+fn run_over<D: Disk + Drop>(
     alloc: Global,
     files: Files<D>,
-    deed: Deed<'_>,
-) -> Option<Files<D>> {
+    statements: &[&str],
+) -> (bool, Files<D>) {
     if !files.may_be_used() {
-        return None;
+        return (false, files);
     }
-    let mut conn = Connection::open_files(alloc, files, Options::new(7)).ok()?;
-    if !does(&mut conn, deed) {
-        return None;
+    match Connection::open_files(alloc, files, Options::new(7)) {
+        Ok(mut conn) => {
+            let all = runs(&mut conn, statements);
+            match conn.close_files() {
+                Ok(files) => (all, files),
+                Err((_, store)) => (false, store.close()),
+            }
+        }
+        Err((_, left)) => (false, left.into_files()),
     }
-    conn.close_files().ok()
 }
 
 /// The files of a new database in which these statements were run.
-pub fn made_by(alloc: Global, statements: &[&str]) -> Option<Files<Memory>> {
-    database(alloc, blank(alloc), Deed::Run(statements))
-}
-
-const LAYOUT: &str = "CREATE TABLE layout (version INTEGER NOT NULL) STRICT";
-
-/// Databases in which some of an archive's tables stand, and that are none.
-const OTHERS: [(&str, &[&str]); 12] = [
-    (
-        "version 3",
-        &[LAYOUT, "INSERT INTO layout (version) VALUES (3)"],
-    ),
-    (
-        "version 2 without flags",
-        &[LAYOUT, "INSERT INTO layout (version) VALUES (2)"],
-    ),
-    (
-        "version 0",
-        &[LAYOUT, "INSERT INTO layout (version) VALUES (0)"],
-    ),
-    ("no version", &[LAYOUT]),
-    (
-        "two versions",
-        &[LAYOUT, "INSERT INTO layout (version) VALUES (1), (1)"],
-    ),
-    (
-        "two columns",
-        &[
-            "CREATE TABLE layout (version INTEGER, more INTEGER)",
-            "INSERT INTO layout VALUES (1, 1)",
-        ],
-    ),
-    (
-        "a text",
-        &[
-            "CREATE TABLE layout (version TEXT)",
-            "INSERT INTO layout VALUES ('1')",
-        ],
-    ),
-    ("deposits alone", &["CREATE TABLE Deposits (n INTEGER)"]),
-    ("censuses alone", &["CREATE TABLE censuses (n INTEGER)"]),
-    (
-        "census_rows alone",
-        &["CREATE TABLE census_rows (n INTEGER)"],
-    ),
-    (
-        "census_flags alone",
-        &["CREATE TABLE census_flags (n INTEGER)"],
-    ),
-    (
-        "a view",
-        &[
-            "CREATE TABLE other (n INTEGER)",
-            "CREATE VIEW layout AS SELECT n FROM other",
-        ],
-    ),
-];
-
-#[test]
-fn other_databases_are_not_ours(rt: HostRuntime) -> Result<(), Fail> {
-    let alloc = rt.alloc();
-    for (name, statements) in OTHERS {
-        let files = made_by(alloc, statements).ok_or("not made")?;
-        let (answer, files) = over(alloc, files, 2, Ask::IsEmpty);
-        assert_eq!(rt; answer, Answer::Refused(OpenFault::NotOurs), "{name}");
-        // The files are given back, and a database is in them as it was.
-        let files = files.err().ok_or("no files")?;
-        let more = Deed::Run(&["CREATE TABLE more (n INTEGER)"]);
-        assert!(rt; database(alloc, files, more).is_some(), "{name}");
+pub fn made_by(alloc: Global, statements: &[&str]) -> Option<Files<Stopping>> {
+    match run_over(alloc, blank(alloc), statements) {
+        (true, files) => Some(files),
+        _ => None,
     }
-    Ok(())
-}
-
-#[test]
-fn tables_are_made_beside_others(rt: HostRuntime) -> Result<(), Fail> {
-    let statements = [
-        "CREATE TABLE other (n INTEGER)",
-        "INSERT INTO other VALUES (7)",
-    ];
-    let files = made_by(rt.alloc(), &statements).ok_or("not made")?;
-    let (answer, _) = over(rt.alloc(), files, 2, Ask::IsEmpty);
-    assert_eq!(rt; answer, Answer::Is(true));
-    Ok(())
-}
-
-/// A file of bytes that no database begins with.
-fn scrambled(alloc: Global) -> Result<Memory, Fail> {
-    let mut bytes = Vec::new(alloc);
-    let mut state = 88_172_645_463_325_252u64;
-    for _ in 0..8192 {
-        state ^= state << 13;
-        state ^= state >> 7;
-        state ^= state << 17;
-        bytes.push((state & 255) as u8)?;
-    }
-    let mut file = Memory::new(alloc);
-    file.write_at(0, bytes.as_slice())?;
-    file.sync()?;
-    Ok(file)
-}
-
-#[test]
-fn a_file_of_random_bytes_is_no_archive(rt: HostRuntime) -> Result<(), Fail> {
-    let alloc = rt.alloc();
-    let files = Files {
-        log: Memory::new(alloc),
-        db: scrambled(alloc)?,
-    };
-    let (answer, files) = over(alloc, files, 2, Ask::IsEmpty);
-    assert_eq!(rt; answer, Answer::Refused(OpenFault::Unavailable));
-    let files = files.err().ok_or("random bytes were opened")?;
-    assert!(rt; files.db.bytes() == scrambled(alloc)?.bytes());
-    Ok(())
-}
-
-#[test]
-fn rows_of_others_are_unavailable(rt: HostRuntime) -> Result<(), Fail> {
-    let files = two_kept(rt.alloc()).ok_or("not kept")?;
-    let files = database(rt.alloc(), files, Deed::Run(&CHANGES)).ok_or("not changed")?;
-    let (answer, _) = over(rt.alloc(), files, 2, Ask::IsUnavailable);
-    assert_eq!(rt; answer, Answer::Is(true));
-    Ok(())
-}
-
-const PATH: &str = "life_tests_archive.db";
-
-/// Removes the file at the path and its log, where they are there.
-fn sweep(rt: &HostRuntime) {
-    let _file = fs::remove_file(rt, PATH);
-    let _log = fs::remove_file(rt, "life_tests_archive.db-wal");
-}
-
-/// What an archive in files of any kind answers.
-fn answer_in_files<D: Disk + Drop>(
-    alloc: Global,
-    archive: &mut Archive<FileStore<D>>,
-    ask: Ask,
-) -> Answer {
-    asked(alloc, archive, ask)
-}
-
-/// What the archive at the path answers.
-fn answer_at<T: Start>(rt: &HostRuntime, start: T, capacity: u64, ask: Ask) -> Answer {
-    match Archive::open_path(rt, PATH, capacity, start) {
-        Ok(mut archive) => answer_in_files(rt.alloc(), &mut archive, ask),
-        Err(fault) => Answer::Refused(fault),
-    }
-}
-
-/// What is asked of the archive at the path, under which capacity, and what it answers.
-const AT_PATH: [(Ask, u64, Answer); 3] = [
-    (Ask::KeepsTwo, 2, Answer::Is(true)),
-    (Ask::HasTwo(3), 3, Answer::Is(true)),
-    (Ask::HasTwo(0), 0, Answer::Refused(OpenFault::BadCapacity)),
-];
-
-#[test]
-fn an_archive_is_opened_at_a_path(rt: HostRuntime) -> Result<(), Fail> {
-    sweep(&rt);
-    for (ask, capacity, expected) in AT_PATH {
-        let answer = answer_at(&rt, Unknown, capacity, ask);
-        assert_eq!(rt; answer, expected, "under {capacity}");
-    }
-    sweep(&rt);
-    Ok(())
 }

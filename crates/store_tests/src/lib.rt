@@ -4,8 +4,8 @@
 #[cfg(test)]
 mod archives;
 #[cfg(test)]
+mod asking;
+#[cfg(test)]
 mod carrying;
 #[cfg(test)]
 mod files;
-#[cfg(test)]
-mod stops;

@@ -50,25 +50,25 @@ enum ArchiveJob<'a> {
 }
 
 /// Does a job over an archive in a store of any kind.
-fn done_in<S: Alter, I: Inlet, O: Outlet>(
+fn done_in<S: Alter + Drop, I: Inlet, O: Outlet>(
     rt: &HostRuntime,
-    archive: &mut Archive<S>,
+    mut archive: Archive<S>,
     job: ArchiveJob<'_>,
     input: &mut I,
     output: &mut O,
 ) -> Result<(), Stop> {
     match job {
         ArchiveJob::Deposit { member, token } => {
-            run_deposit(rt.alloc(), archive, member, token, input, output)
+            run_deposit(rt.alloc(), &mut archive, member, token, input, output)
         }
-        ArchiveJob::Serve { port, connections } => serve_port(rt, archive, port, connections),
+        ArchiveJob::Serve { port, connections } => serve_port(rt, &mut archive, port, connections),
     }
 }
 
 /// Does a job over an archive in files of any kind.
 fn done_in_files<D: Disk + Drop, I: Inlet, O: Outlet>(
     rt: &HostRuntime,
-    archive: &mut Archive<FileStore<D>>,
+    archive: Archive<FileStore<D>>,
     job: ArchiveJob<'_>,
     input: &mut I,
     output: &mut O,
@@ -84,8 +84,10 @@ fn done_at<I: Inlet, O: Outlet>(
     input: &mut I,
     output: &mut O,
 ) -> Result<(), Stop> {
-    let mut archive = open_archive(rt, file)?;
-    done_in_files(rt, &mut archive, job, input, output)
+    match open_archive(rt, file) {
+        Ok(archive) => done_in_files(rt, archive, job, input, output),
+        Err(stop) => Err(stop),
+    }
 }
 
 /// Does a job over these streams.

@@ -11,7 +11,7 @@ use crate::cell::PLANE;
 use crate::packed::frame::Frame;
 
 /// A wider frame, and how many words and rows it has before those of the narrower.
-#[derive(Clone, Copy, Debug)]
+#[derive(Clone, Copy)]
 pub(crate) struct Wider {
     pub(crate) frame: Frame,
     pub(crate) left: usize,

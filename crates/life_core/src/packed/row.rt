@@ -267,14 +267,14 @@ fn count_inner(above: &[u64], here: &[u64], below: &[u64], j: usize) -> WordCoun
     ensures few { (i : ℕ) → count_at result i < 9 }
 {
     count(
-        left_word(above[j - 1], above[j]),
+        left_inner(above, j),
         above[j],
-        right_word(above[j], above[j + 1]),
-        left_word(here[j - 1], here[j]),
-        right_word(here[j], here[j + 1]),
-        left_word(below[j - 1], below[j]),
+        right_inner(above, j),
+        left_inner(here, j),
+        right_inner(here, j),
+        left_inner(below, j),
         below[j],
-        right_word(below[j], below[j + 1]),
+        right_inner(below, j),
     )
 }
 
@@ -292,6 +292,25 @@ fn from_right(words: &[u64], j: usize) -> u64
     ensures { (i : ℕ) → i < 64 → bit_at result i ≡ place words.now (64 * j + i + 1) }
 {
     right_word(words[j], word_at(words, j + 1))
+}
+
+/// `from_left` of a word that is not the first.
+#[inline(always)]
+fn left_inner(words: &[u64], j: usize) -> u64
+    requires later { 0 < j }
+    requires j { j < length words.now }
+    ensures { (i : ℕ) → i < 64 → bit_at result i ≡ place_before words.now (64 * j + i) }
+{
+    left_word(words[j - 1], words[j])
+}
+
+/// `from_right` of a word that is not the last.
+#[inline(always)]
+fn right_inner(words: &[u64], j: usize) -> u64
+    requires { j + 1 < length words.now }
+    ensures { (i : ℕ) → i < 64 → bit_at result i ≡ place words.now (64 * j + i + 1) }
+{
+    right_word(words[j], words[j + 1])
 }
 
 /// The word shifted up by one place, with the top bit of the word before it.

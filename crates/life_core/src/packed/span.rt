@@ -53,7 +53,7 @@ impl Span {
     {
         Span {
             from: self.from.saturating_sub(1),
-            to: if self.to < words { self.to + 1 } else { words },
+            to: self.to.saturating_add(1).min(words),
             same: false,
         }
     }

@@ -8,7 +8,7 @@ use crate::packed::margins::row_is_dead;
 use crate::packed::words::copy_at;
 
 /// A frame within a wider one, and how many words and rows the wider has before those of it.
-#[derive(Clone, Copy, Debug)]
+#[derive(Clone, Copy)]
 pub(crate) struct Narrower {
     pub(crate) frame: Frame,
     pub(crate) left: usize,

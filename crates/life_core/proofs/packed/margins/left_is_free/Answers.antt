@@ -4,6 +4,7 @@ use Rattle.std.proofs.lemmas.Bool.{cases_eq}
 use Rattle.std.proofs.Common.{inl, inr}
 use Rattle.life_core.specs.PackedRow.{place}
 use Rattle.life_core.proofs.PackedCells.{live_place}
+use Rattle.life_core.proofs.FrameBounds.{near_fits}
 use Rattle.life_core.proofs.packed.margins.left_is_free.Goals as goal
 
 pub returns-else-frame-from-clause-free : goal.returns-else-frame-from-clause-free
@@ -14,3 +15,15 @@ returns-else-frame-from-clause-free c free d live =
       | inl edge ↦ absurd (omega (arith, p.live, c.column_is_dead.ensures free p.y p.low, ap (λ x. place c.args.rows.now (p.y * (64 * f.words) + x)) edge))
       | inr apart ↦ omega (arith, ints, p.column, apart)
     ]
+
+pub overflow_sub-from : goal.overflow_sub-from
+overflow_sub-from c = near_fits _ (omega (arith, ints, c.from.ensures)) (omega (arith, ints, c.from.ensures))
+
+pub column_is_dead-requires-clause-j : goal.column_is_dead-requires-clause-j
+column_is_dead-requires-clause-j c = c.requires.frame.wide
+
+pub returns-then-frame-from-clause-free : goal.returns-then-frame-from-clause-free
+returns-then-frame-from-clause-free c past d live = omega (arith, ints, c.from.ensures, c.if-frame-from.true, (c.requires.within d live).left)
+
+pub returns-else-frame-from-clause-near : goal.returns-else-frame-from-clause-near
+returns-else-frame-from-clause-near c _ = omega (arith, ints, c.from.ensures, c.if-frame-from.false)

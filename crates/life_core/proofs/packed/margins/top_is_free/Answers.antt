@@ -3,6 +3,7 @@ use Rattle.std.proofs.lemmas.Int.{ints}
 use Rattle.std.proofs.lemmas.Bool.{cases_eq}
 use Rattle.life_core.specs.PackedRow.{place}
 use Rattle.life_core.proofs.PackedCells.{live_place}
+use Rattle.life_core.proofs.FrameBounds.{near_fits}
 use Rattle.life_core.proofs.packed.margins.top_is_free.Goals as goal
 
 pub returns-else-frame-from-clause-free : goal.returns-else-frame-from-clause-free
@@ -13,3 +14,15 @@ returns-else-frame-from-clause-free c free d live =
       | inl edge ↦ absurd (omega (arith, p.live, c.row_is_dead.ensures.places free p.x p.narrow, ap (λ y. place c.args.rows.now (y * (64 * f.words) + p.x)) edge))
       | inr apart ↦ omega (arith, ints, p.row, apart)
     ]
+
+pub overflow_sub-from : goal.overflow_sub-from
+overflow_sub-from c = near_fits _ (omega (arith, ints, c.from.ensures)) (omega (arith, ints, c.from.ensures))
+
+pub row_is_dead-requires-clause-y : goal.row_is_dead-requires-clause-y
+row_is_dead-requires-clause-y c = c.requires.frame.tall
+
+pub returns-then-frame-from-clause-free : goal.returns-then-frame-from-clause-free
+returns-then-frame-from-clause-free c past d live = omega (arith, ints, c.from.ensures, c.if-frame-from.true, (c.requires.within d live).top)
+
+pub returns-else-frame-from-clause-near : goal.returns-else-frame-from-clause-near
+returns-else-frame-from-clause-near c _ = omega (arith, ints, c.from.ensures, c.if-frame-from.false)

@@ -15,3 +15,24 @@ loop-j-preserved c =
           (λ i lt. c.next-word.ensures r i are lt (c.count_word.ensures.few i) ∙ (λ t. one_if (lives_at r (nat_eq (sym (place_at c.args.here.now j i lt) t) 1) (c.count_word.ensures.sum i lt t))));
       same = search rules;
     }
+
+pub bounds-here-j : goal.bounds-here-j
+bounds-here-j c = omega (arith, c.requires.here, c.requires.ends.1, c.loop-j-test.true)
+
+pub count_word-requires-clause-above : goal.count_word-requires-clause-above
+count_word-requires-clause-above c = omega (arith, c.requires.above, c.requires.ends.1, c.loop-j-test.true)
+
+pub count_word-requires-clause-here : goal.count_word-requires-clause-here
+count_word-requires-clause-here c = omega (arith, c.requires.here, c.requires.ends.1, c.loop-j-test.true)
+
+pub count_word-requires-clause-below : goal.count_word-requires-clause-below
+count_word-requires-clause-below c = omega (arith, c.requires.below, c.requires.ends.1, c.loop-j-test.true)
+
+pub bounds-out-j : goal.bounds-out-j
+bounds-out-j c = omega (arith, c.loop-j.auto.out, c.requires.ends.1, c.loop-j-test.true)
+
+pub bounds-out-j-in-loop-j : goal.bounds-out-j-in-loop-j
+bounds-out-j-in-loop-j c = omega (arith, c.loop-j.auto.out, c.requires.ends.1, c.loop-j-test.true)
+
+pub loop-j-smaller : goal.loop-j-smaller
+loop-j-smaller c = omega (arith, c.loop-j-test.true)

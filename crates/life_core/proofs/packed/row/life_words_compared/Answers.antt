@@ -15,3 +15,27 @@ loop-j-preserved c =
           (λ i lt. c.life_word-word.ensures i lt ∙ (λ t. one_if (lives_at life (nat_eq (sym (place_at c.args.here.now j i lt) t) 1) (c.count_inner.ensures.sum i lt t))));
       same = search rules;
     }
+
+pub bounds-here-j : goal.bounds-here-j
+bounds-here-j c = omega (arith, c.requires.here, c.requires.ends.1, c.loop-j-test.true)
+
+pub count_inner-requires-clause-j : goal.count_inner-requires-clause-j
+count_inner-requires-clause-j c = omega (arith, (c.requires.inner (omega (arith, c.loop-j.auto.j, c.loop-j-test.true))).0, c.loop-j.auto.j)
+
+pub count_inner-requires-clause-above : goal.count_inner-requires-clause-above
+count_inner-requires-clause-above c = omega (arith, (c.requires.inner (omega (arith, c.loop-j.auto.j, c.loop-j-test.true))).1, c.requires.above, c.loop-j-test.true)
+
+pub count_inner-requires-clause-here : goal.count_inner-requires-clause-here
+count_inner-requires-clause-here c = omega (arith, (c.requires.inner (omega (arith, c.loop-j.auto.j, c.loop-j-test.true))).1, c.requires.here, c.loop-j-test.true)
+
+pub count_inner-requires-clause-below : goal.count_inner-requires-clause-below
+count_inner-requires-clause-below c = omega (arith, (c.requires.inner (omega (arith, c.loop-j.auto.j, c.loop-j-test.true))).1, c.requires.below, c.loop-j-test.true)
+
+pub bounds-out-j : goal.bounds-out-j
+bounds-out-j c = omega (arith, c.loop-j.auto.out, c.requires.ends.1, c.loop-j-test.true)
+
+pub bounds-out-j-in-loop-j : goal.bounds-out-j-in-loop-j
+bounds-out-j-in-loop-j c = omega (arith, c.loop-j.auto.out, c.requires.ends.1, c.loop-j-test.true)
+
+pub loop-j-smaller : goal.loop-j-smaller
+loop-j-smaller c = omega (arith, c.loop-j-test.true)

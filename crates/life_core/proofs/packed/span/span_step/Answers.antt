@@ -1,4 +1,4 @@
-use Rattle.std.proofs.Common.{◌≡◌, ◌+◌, ◌-◌, ◌%◌, ◌/◌, min, max, length, ap, ◌∙◌, inl, inr, arith}
+use Rattle.std.proofs.Common.{◌≡◌, ◌+◌, ◌-◌, ◌%◌, ◌/◌, min, max, length, sym, ap, ◌∙◌, inl, inr, arith}
 use Rattle.std.specs.Int.{bit_at}
 use Rattle.std.proofs.lemmas.Bool.{cases_lt}
 use Rattle.life_core.proofs.Spans.{blank_more, untouched}
@@ -46,3 +46,31 @@ returns-clause-places c r p are lt =
         | inr high ↦ ap (λ x. bit_at x (p % 64)) (done.after (p / 64) high) ∙ at (inr high)
       ]
     ]
+
+pub widened-requires : goal.widened-requires
+widened-requires c = c.requires.ends.0
+
+pub returns-then-reach-clause-span : goal.returns-then-reach-clause-span
+returns-then-reach-clause-span c = blank_more c.args.out_span c.marked.result c.args.out.now (omega (arith, c.marked.ensures.from, c.joined-reach.ensures.from)) (omega (arith, c.marked.ensures.to, c.joined-reach.ensures.to)) c.requires.out
+
+pub returns-then-reach-clause-end : goal.returns-then-reach-clause-end
+returns-then-reach-clause-end c = omega (arith, c.marked.ensures.to, c.joined-reach.ensures.to, c.widened.ensures.to, c.requires.ends.1)
+
+pub words_step-same-requires-clause-ends : goal.words_step-same-requires-clause-ends
+words_step-same-requires-clause-ends c = (omega (arith, c.if-reach.false), omega (arith, c.joined-reach.ensures.to, c.widened.ensures.to, c.requires.ends.1))
+
+pub trimmed-requires-clause-end : goal.trimmed-requires-clause-end
+trimmed-requires-clause-end c =
+    let done = c.words_step-same.ensures.words c.requires.rule.0 c.requires.rule.1 in
+    omega (arith, done.long, c.joined-reach.ensures.to, c.widened.ensures.to, c.requires.ends.1)
+
+pub returns-clause-span : goal.returns-clause-span
+returns-clause-span c = blank_more c.trimmed.result c.marked-2.result c.words_step-same.new.out (omega (arith, c.marked-2.ensures.from)) (omega (arith, c.marked-2.ensures.to)) c.trimmed.ensures.span
+
+pub returns-clause-end : goal.returns-clause-end
+returns-clause-end c = omega (arith, c.marked-2.ensures.to, c.trimmed.ensures.end)
+
+pub returns-clause-same : goal.returns-clause-same
+returns-clause-same c t =
+    let both = c.both.ensures (sym c.marked-2.ensures.same ∙ t) in
+    (both.0, c.words_step-same.ensures.same both.1)

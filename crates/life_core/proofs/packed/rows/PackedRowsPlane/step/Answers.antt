@@ -137,3 +137,24 @@ invariant_of-self g c =
       settled = λ t. subst (λ (p : (List ℕ × List ℕ) × List Span). AreSettled s.frame r p.0.0 p.0.1 p.1) (λ i. ((sym x i, (c.deref-2.ensures.value ∙ sym y) i), sym u i)) c.advance.ensures.settled;
       after = λ t. ap (framed s.frame) x ∙ c.advance.ensures.rows ∙ ap (λ (rows : List ℕ). next r (framed s.frame rows)) (c.deref-2.ensures.value ∙ sym y);
     }
+
+pub with_room-requires-clause-frame : goal.with_room-requires-clause-frame
+with_room-requires-clause-frame g c = c.self.invariant.frame
+
+pub with_room-requires-clause-rows : goal.with_room-requires-clause-rows
+with_room-requires-clause-rows g c = c.self.invariant.size ∙ ap length (sym c.deref.ensures.value)
+
+pub with_room-requires-clause-within : goal.with_room-requires-clause-within
+with_room-requires-clause-within g c = subst (λ (rows : List ℕ). IsWithin 1000000000 (framed c.self.inside.frame rows)) (sym c.deref.ensures.value) c.self.invariant.within
+
+pub moved_rows-requires-clause-from : goal.moved_rows-requires-clause-from
+moved_rows-requires-clause-from g c = c.self.invariant.frame
+
+pub moved_rows-requires-clause-to : goal.moved_rows-requires-clause-to
+moved_rows-requires-clause-to g c = c.in-Some.ensures.frame
+
+pub moved_rows-requires-clause-wider : goal.moved_rows-requires-clause-wider
+moved_rows-requires-clause-wider g c = c.in-Some.ensures.wider
+
+pub moved_rows-requires-clause-rows : goal.moved_rows-requires-clause-rows
+moved_rows-requires-clause-rows g c = c.self.invariant.size ∙ ap length (sym c.deref-in-Some.ensures.value)

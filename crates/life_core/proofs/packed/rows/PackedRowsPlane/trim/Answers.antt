@@ -67,3 +67,12 @@ invariant_of-self g c =
       settled = λ never. absurd (false≢true never);
       after = λ never. absurd (false≢true never);
     }
+
+pub returns-in-Some : goal.returns-in-Some
+returns-in-Some g c =
+    let s = c.self.inside in
+    let f = s.frame in
+    let n = c.in-Some.narrower in
+    let long : length c.copy_part.new.out ≡ length c.truncate.new.self.items = omega (arith, ap length c.deref_mut.ensures.value) in
+    let x : c.swap.new.x.items ≡ c.copy_part.new.out = ap (λ v. v.items) c.swap.ensures.x_after ∙ take_at c.copy_part.new.out (drop (length c.copy_part.new.out) c.truncate.new.self.items) c.truncate.new.self.len (omega (arith, long, c.truncate.new.self.ok)) in
+    ap (framed n.frame) x ∙ c.copy_part.ensures ∙ ap (framed f) c.deref-in-Some.ensures.value ∙ c.self.view_is

@@ -19,7 +19,7 @@ use life_core::{Cell, Fault, Pattern, Rule};
 use std::alloc::{AllocError, Allocator};
 
 /// A cell that a cluster comes to in one of its phases, and the number of the cluster.
-#[derive(Clone, Copy, Debug, PartialEq, Eq, PartialOrd, Ord)]
+#[derive(Clone, Copy, PartialEq, Eq, PartialOrd, Ord)]
 struct Visit {
     cell: Cell,
     cluster: usize,

@@ -123,7 +123,7 @@ impl<A: Allocator> Body<A> {
 }
 
 /// Whether a body has come to its end.
-#[derive(Clone, Copy, Debug)]
+#[derive(Clone, Copy)]
 pub(crate) enum Progress {
     More,
     Ended,

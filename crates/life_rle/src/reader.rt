@@ -19,7 +19,7 @@ use life_core::{Cell, Fault, Pattern, Rule};
 use std::alloc::{AllocError, Allocator};
 
 /// How far a file has come.
-#[derive(Clone, Copy, Debug)]
+#[derive(Clone, Copy)]
 pub(crate) enum Stage {
     Front,
     Body,

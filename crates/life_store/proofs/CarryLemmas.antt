@@ -147,17 +147,18 @@ all_flagged (Ok x) p n db after u is stands = record { done = u.done; same = u.s
 all_flagged (Err e) p n db after u is stands = tt
 
 -- the flag that was computed
-pub flagged_by : {E Q : Type 0} (r : Result Bool E) (ds : List Deposit) (t : Tallied) (c : Census) (d : Deposit) → c ≡ t.census → numbered ds c.deposit ≡ Some d
-    → IfOk r (λ b. IsTrue b ↔ IsSteady d.content.rule (generation_in d.content c.generation) c.limit) → Q → IfOk r (λ b. IsFlagged ds (record t { steady = b }) × Q)
-flagged_by (Ok b) ds t c d is there same q = (
+pub flagged_by : {E Q : Type 0} (r : Result Bool E) (ds : List Deposit) (t : Tallied) (deposit generation limit : ℕ) (d : Deposit) → deposit ≡ t.census.deposit → generation ≡ t.census.generation → limit ≡ t.census.limit
+    → numbered ds deposit ≡ Some d → IfOk r (λ b. IsTrue b ↔ IsSteady d.content.rule (generation_in d.content generation) limit) → Q → IfOk r (λ b. IsFlagged ds (record t { steady = b }) × Q)
+flagged_by (Ok b) ds t deposit generation limit d of_deposit of_generation of_limit there same q = (
   record {
     deposit = d;
-    is = ap (λ (x : Census). numbered ds x.deposit) (sym is) ∙ there;
-    flag = subst (λ (x : Census). IsTrue b ↔ IsSteady d.content.rule (generation_in d.content x.generation) x.limit) is same;
+    is = ap (numbered ds) (sym of_deposit) ∙ there;
+    flag = subst (λ n. IsTrue b ↔ IsSteady d.content.rule (generation_in d.content n) t.census.limit) of_generation
+        (subst (λ n. IsTrue b ↔ IsSteady d.content.rule (generation_in d.content generation) n) of_limit same);
   },
   q,
 )
-flagged_by (Err e) ds t c d is there same q = tt
+flagged_by (Err e) ds t deposit generation limit d of_deposit of_generation of_limit there same q = tt
 
 pub carried_by : {E : Type 0} (r : Result (Unit {0}) E) (P : Type 0) (p : Parts) (t : Tallied) (b : Bool) (new : Database) → IsFlagged p.deposits (record t { steady = b }) → OnOk r (P × Stands new (with_flag (record t { steady = b }) p))
     → OnOk r ((x : Bool) × IsFlagged p.deposits (record t { steady = x }) × Stands new (with_flag (record t { steady = x }) p))

@@ -1,5 +1,5 @@
 -- The UPDATE that names the layout is one step.
-use Rattle.std.proofs.Common.{◌≡◌, ◌⊎◌, inl, inr, ℕ, pos, List, [], ◌∷◌, map, Option, None, Some, Ok, Err, Result, slice_get, refl, sym, ap, subst, ◌∙◌}
+use Rattle.std.proofs.Common.{◌≡◌, ℕ, pos, List, [], ◌∷◌, map, Option, None, Some, Ok, slice_get, refl, sym, ap, subst, ◌∙◌}
 use Rattle.std.specs.List.Sorted.{IsPermutation}
 use Rattle.std.specs.declared.cmp.Ordering.TheVariants.{Equal}
 use Rattle.sqlite_value.specs.declared.value.Value.TheVariants.{Null, Int}
@@ -31,16 +31,9 @@ use Rattle.life_store.specs.PickingState.{picked, shows}
 use Rattle.life_store.specs.StatementsState as st
 use Rattle.life_store.specs.Tables.{version_2}
 use Rattle.life_store.proofs.AddLemmas.{cast_int}
+use Rattle.life_store.proofs.InsertLemmas.{went, same_value}
 use Rattle.life_store.proofs.QueryLemmas.{matches_are}
 use Rattle.life_store.proofs.Texts.{rename_is}
-
--- a part that gave a value did not stop on the way
-went : {B E R : Type 0} {b : B} {Stops : E → Type 0} → ((stop : E) × Stops stop × (Ok b ≡ Err stop)) ⊎ R → R
-went (inl stopped) = absurd (let e = stopped.2 in cc)
-went (inr on) = on
-
-same_value : {B E : Type 0} {a b : B} → ◌≡◌ {A = Result B E} (Ok a) (Ok b) → a ≡ b
-same_value e = cc
 
 -- the rows that stand for those with the ids that the query shows first
 abbrev edit_by : Trees → Table → List Row → Edit
@@ -56,10 +49,12 @@ pub updated : (limit : Option ℕ) (mode : Mode) (params : Row) (old : Database)
     → Does limit mode params old text None (Update at q) (Ok (tally, new))
     → IsUpdated table rows old new
 updated limit mode params old text at q table tally new rows enforced listed determined none does =
-    let done = went (rw (listed, enforced) at does) in
-    let now = ap (λ (p : Tally × Database). p.1) (same_value (went (went done.2).2).2) in
-    let asked = went done.1 in
-    let written = went asked.2 in
+    went (rw (listed, enforced) at does) (λ done.
+    went done.2 (λ kept.
+    went kept.2 (λ ended.
+    went done.1 (λ asked.
+    went asked.2 (λ written.
+    let now = ap (λ (p : Tally × Database). p.1) (same_value ended.2) in
     let trees : done.0.trees ≡ written.0 = ap (λ (it : Written). it.trees) (same_value written.2) in
     let wrote : Writes old.schema Enforced old.trees (edit_by old.trees table rows) (Ok written.0) =
     subst (λ r. Writes old.schema Enforced old.trees (edit_by old.trees table r) (Ok written.0)) (determined asked.0 asked.1) written.1 in
@@ -67,7 +62,7 @@ updated limit mode params old text at q table tally new rows enforced listed det
     record {
       schema = ap (λ (d : Database). d.schema) now;
       step = subst (Applies old.schema Enforced old.trees (edit_by old.trees table rows)) (sym (ap (λ (d : Database). d.trees) now ∙ trees)) step;
-    }
+    })))))
 
 -- what a query in no order shows of a table with one row
 one_shown : (db : Trees) (tree : ℕ) (project : List Term) (params row : Row) (rows : List Row) → db tree ≡ row ∷ [] → IsAnswer (st.plain_query (inner tree end) [] project) db params rows → rows ≡ shows project params row ∷ []

@@ -141,15 +141,7 @@ impl<S: Alter> Archive<S> {
         let Ok(place) = i64::try_from(id) else {
             return Err(Unavailable);
         };
-        let values = deposits::values_of(alloc, deposit)?;
-        deposits::insert(
-            &mut self.conn,
-            place,
-            deposit,
-            values.rule.as_bytes(),
-            values.population,
-            values.file.as_slice(),
-        )?;
+        deposits::add(&mut self.conn, alloc, place, deposit)?;
         Ok(id)
     }
 

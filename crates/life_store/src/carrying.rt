@@ -19,7 +19,7 @@ ghost use Rattle.life_store.specs.Tables.{version_2};
 use crate::asking::{ask_inside, whole};
 use crate::fault::Unavailable;
 use crate::flags;
-use crate::kept::{Census, Deposit};
+use crate::kept::Deposit;
 use crate::laying::make_census_flags;
 use crate::reading::{count_in, first_census, first_deposit};
 use life_census::steady;
@@ -105,21 +105,25 @@ fn count_censuses<S: Alter>(tx: &mut Transaction<'_, S>) -> Result<u64, Unavaila
     count_in(rows.as_slice())
 }
 
-/// The census of the number.
-fn census_at<S: Alter>(
+/// The deposit, the generation and the limit of the census of the number.
+fn numbers_at<S: Alter>(
     alloc: Global,
     tx: &mut Transaction<'_, S>,
     id: u64,
-) -> Result<Census, Unavailable>
+) -> Result<(u64, u32, u32), Unavailable>
     ensures same_reference { tx.new.conn.ghost_name ≡ tx.old.conn.ghost_name }
-    ensures found { HasCleanDisk (state S.Store tx.new.conn.now) → (p : Parts) (t : Tallied) → Stands (state S.Store tx.old.conn.now).now p → numbered p.censuses id ≡ Some t → IfOk result (λ c. (c ≡ t.census) × Stands (state S.Store tx.new.conn.now).now p) }
+    ensures found { HasCleanDisk (state S.Store tx.new.conn.now) → (p : Parts) (t : Tallied) → Stands (state S.Store tx.old.conn.now).now p → numbered p.censuses id ≡ Some t → IfOk result (λ n. (n.0 ≡ t.census.deposit) × (n.1 ≡ t.census.generation) × (n.2 ≡ t.census.limit) × Stands (state S.Store tx.new.conn.now).now p) }
     ensures inside { HasCleanDisk (state S.Store tx.new.conn.now) → IsTrue tx.old.conn.now.in_transaction → OnOk result (IsTrue tx.new.conn.now.in_transaction) }
     ensures kept { HasCleanDisk (state S.Store tx.new.conn.now) → IsTrue tx.old.conn.now.in_transaction → KeepsCommit (state S.Store tx.old.conn.now) (state S.Store tx.new.conn.now) }
     ensures clean { doubt (state S.Store tx.old.conn.now).is_clean ≤ doubt (state S.Store tx.new.conn.now).is_clean }
 {
     let rows = show_census(tx, id)?;
     match first_census(alloc, rows.as_slice())? {
-        Some((_, kept)) => Ok(kept.census),
+        Some((_, kept)) => Ok((
+            kept.census.deposit,
+            kept.census.generation,
+            kept.census.limit,
+        )),
         None => Err(Unavailable),
     }
 }
@@ -157,9 +161,9 @@ fn flag_at<S: Alter>(
     ensures kept { HasCleanDisk (state S.Store tx.new.conn.now) → IsTrue tx.old.conn.now.in_transaction → KeepsCommit (state S.Store tx.old.conn.now) (state S.Store tx.new.conn.now) }
     ensures clean { doubt (state S.Store tx.old.conn.now).is_clean ≤ doubt (state S.Store tx.new.conn.now).is_clean }
 {
-    let census = census_at(alloc, tx, id)?;
-    let deposit = deposit_at(alloc, tx, census.deposit)?;
-    is_steady(alloc, &deposit.content, census.generation, census.limit)
+    let (deposit, generation, limit) = numbers_at(alloc, tx, id)?;
+    let deposit = deposit_at(alloc, tx, deposit)?;
+    is_steady(alloc, &deposit.content, generation, limit)
 }
 
 /// Computes the flag of the census of the number, and adds it.

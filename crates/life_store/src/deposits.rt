@@ -73,14 +73,14 @@ pub(crate) fn list_after<S: Alter>(conn: &mut Connection<S>, id: i64) -> Result<
 
 /// What a deposit's row has besides its number, member and token.
 #[derive(Drop)]
-pub(crate) struct Values {
-    pub(crate) rule: String,
-    pub(crate) population: i64,
-    pub(crate) file: Vec<u8>,
+struct Values {
+    rule: String,
+    population: i64,
+    file: Vec<u8>,
 }
 
 /// The values of a deposit's row.
-pub(crate) fn values_of(alloc: Global, deposit: &Deposit) -> Result<Values, Unavailable>
+fn values_of(alloc: Global, deposit: &Deposit) -> Result<Values, Unavailable>
     requires { IsInside 1024 deposit.now.content.cells }
     ensures { IfOk result (λ v. AreValuesOf deposit.now (string_bytes v.rule) v.population v.file.items) }
 {
@@ -96,8 +96,8 @@ pub(crate) fn values_of(alloc: Global, deposit: &Deposit) -> Result<Values, Unav
     })
 }
 
-/// Adds the deposit under the number.
-pub(crate) fn insert<S: Alter>(
+/// Adds the deposit under the number, with these values.
+fn insert<S: Alter>(
     conn: &mut Connection<S>,
     id: i64,
     deposit: &Deposit,
@@ -122,4 +122,30 @@ pub(crate) fn insert<S: Alter>(
             blob(file),
         ],
     )
+}
+
+/// Adds the deposit under the number.
+pub(crate) fn add<S: Alter>(
+    conn: &mut Connection<S>,
+    alloc: Global,
+    id: i64,
+    deposit: &Deposit,
+) -> Result<(), Unavailable>
+    requires { IsInside 1024 deposit.now.content.cells }
+    ensures lost { StaysLost (tables_of (state S.Store conn.old)) (tables_of (state S.Store conn.new)) }
+    ensures ok { OnOk result ((k : Kept) → IsTrue (tables_of (state S.Store conn.new)).is_sure → Holds (tables_of (state S.Store conn.old)) k → id ≡ pos (length k.deposits + 1) → Holds (tables_of (state S.Store conn.new)) (record k { deposits = k.deposits ++ deposit.now ∷ [] })) }
+    ensures err { OnErr result (Keeps (tables_of (state S.Store conn.old)) (tables_of (state S.Store conn.new))) }
+{
+    let values = values_of(alloc, deposit)?;
+    match insert(
+        conn,
+        id,
+        deposit,
+        values.rule.as_bytes(),
+        values.population,
+        values.file.as_slice(),
+    ) {
+        Ok(_) => Ok(()),
+        Err(_) => Err(Unavailable),
+    }
 }

@@ -77,7 +77,7 @@ fn has_some(schema: &Schema) -> bool
 }
 
 /// The layout of an archive's tables.
-#[derive(Clone, Copy, Debug, PartialEq, Eq)]
+#[derive(Clone, Copy)]
 enum Version {
     /// Without a table of flags.
     First,

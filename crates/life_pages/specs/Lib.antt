@@ -9,6 +9,7 @@ pub mod Serving
 pub mod Archive
 pub mod HeadState
 pub mod AskedState
+pub mod JsonState
 pub mod ReplyState
 pub mod MessageState
 pub mod AnswerState

@@ -6,7 +6,7 @@ ghost use Rattle.life_pages.specs.HeadState.{said};
 ghost use Rattle.life_pages.specs.Path.{path_of, part};
 ghost use Rattle.life_pages.specs.Route.{page_rows, page_of};
 ghost use Rattle.life_pages.specs.Asked.{place_in, place_of, method_of, asked, request_of};
-ghost use Rattle.life_pages.specs.AskedState.{IsAsked, GivesRequest};
+ghost use Rattle.life_pages.specs.AskedState.{place_with, IsAsked, GivesRequest};
 
 use crate::head::{GoodHead, number};
 use crate::path::{part, path_of};
@@ -74,24 +74,30 @@ fn number_at(path: &str, slashes: usize) -> Option<u64>
     number(part(path, slashes).as_bytes())
 }
 
+/// The page of a deposit or a census with this number and the numbers behind it in the path, if they are numbers.
+fn place_with(page: Page, id: u64, path: &str) -> Option<Place>
+    ensures { result ≡ place_with page id path.now }
+{
+    match page {
+        Page::Deposit => Some(Place::Deposit(id)),
+        Page::At => Some(Place::At(id, number_at(path, 4)?)),
+        Page::Kind => Some(Place::Kind(id, number_at(path, 4)?)),
+        Page::Censuses => Some(Place::Censuses(id, number_at(path, 4)?, number_at(path, 5)?)),
+        Page::Census => Some(Place::Census(id)),
+        Page::CensusCsv => Some(Place::CensusCsv(id)),
+        _ => None,
+    }
+}
+
 /// The page with the numbers of the path, if they are numbers.
 fn place_in(page: Page, path: &str) -> Option<Place>
     ensures { result ≡ place_in page path.now }
 {
     match page {
         Page::Deposits => Some(Place::Deposits),
-        Page::Deposit => Some(Place::Deposit(number_at(path, 2)?)),
         Page::After => Some(Place::After(number_at(path, 3)?)),
-        Page::At => Some(Place::At(number_at(path, 2)?, number_at(path, 4)?)),
-        Page::Kind => Some(Place::Kind(number_at(path, 2)?, number_at(path, 4)?)),
-        Page::Censuses => Some(Place::Censuses(
-            number_at(path, 2)?,
-            number_at(path, 4)?,
-            number_at(path, 5)?,
-        )),
-        Page::Census => Some(Place::Census(number_at(path, 2)?)),
-        Page::CensusCsv => Some(Place::CensusCsv(number_at(path, 2)?)),
         Page::Total => Some(Place::Total(number_at(path, 4)?)),
+        _ => place_with(page, number_at(path, 2)?, path),
     }
 }
 
@@ -116,6 +122,47 @@ fn method_of(place: Place) -> &'static str
     }
 }
 
+/// The request for a deposit.
+fn deposit_request(alloc: Global, head: &GoodHead<'_>, body: &[u8]) -> Result<Request, AllocError>
+    ensures { GivesRequest result (Request.Deposit head.now.member.now head.now.token.now body.now) }
+{
+    Ok(Request::Deposit(
+        Text::from_slice(alloc, head.member)?,
+        Text::from_slice(alloc, head.token)?,
+        Bytes::from_slice(alloc, body)?,
+    ))
+}
+
+/// The request for a census.
+fn census_request(
+    alloc: Global,
+    head: &GoodHead<'_>,
+    id: u64,
+    n: u64,
+    limit: u64,
+) -> Result<Request, AllocError>
+    ensures { GivesRequest result (Request.Census head.now.member.now head.now.token.now id n limit) }
+{
+    Ok(Request::Census(
+        Text::from_slice(alloc, head.member)?,
+        Text::from_slice(alloc, head.token)?,
+        id,
+        n,
+        limit,
+    ))
+}
+
+/// The request for a total, whose rule and code stand in the path.
+fn total_request(alloc: Global, path: &str, limit: u64) -> Result<Request, AllocError>
+    ensures { GivesRequest result (Request.Total (part 2 path.now) (part 3 path.now) limit) }
+{
+    Ok(Request::Total(
+        Bytes::from_slice(alloc, part(path, 2).as_bytes())?,
+        Bytes::from_slice(alloc, part(path, 3).as_bytes())?,
+        limit,
+    ))
+}
+
 /// The request of a page.
 fn request_of(
     alloc: Global,
@@ -127,31 +174,17 @@ fn request_of(
     requires { path.now ≡ path_of head.now.target.now }
     ensures { GivesRequest result (request_of place (said head.now) body.now) }
 {
-    Ok(match place {
-        Place::Deposits => Request::Deposit(
-            Text::from_slice(alloc, head.member)?,
-            Text::from_slice(alloc, head.token)?,
-            Bytes::from_slice(alloc, body)?,
-        ),
-        Place::Deposit(id) => Request::Show(id),
-        Place::After(id) => Request::ListAfter(id),
-        Place::At(id, n) => Request::At(id, n),
-        Place::Kind(id, limit) => Request::KindOf(id, limit),
-        Place::Censuses(id, n, limit) => Request::Census(
-            Text::from_slice(alloc, head.member)?,
-            Text::from_slice(alloc, head.token)?,
-            id,
-            n,
-            limit,
-        ),
-        Place::Census(id) => Request::ShowCensus(id),
-        Place::CensusCsv(id) => Request::CensusCsv(id),
-        Place::Total(limit) => Request::Total(
-            Bytes::from_slice(alloc, part(path, 2).as_bytes())?,
-            Bytes::from_slice(alloc, part(path, 3).as_bytes())?,
-            limit,
-        ),
-    })
+    match place {
+        Place::Deposits => deposit_request(alloc, head, body),
+        Place::Deposit(id) => Ok(Request::Show(id)),
+        Place::After(id) => Ok(Request::ListAfter(id)),
+        Place::At(id, n) => Ok(Request::At(id, n)),
+        Place::Kind(id, limit) => Ok(Request::KindOf(id, limit)),
+        Place::Censuses(id, n, limit) => census_request(alloc, head, id, n, limit),
+        Place::Census(id) => Ok(Request::ShowCensus(id)),
+        Place::CensusCsv(id) => Ok(Request::CensusCsv(id)),
+        Place::Total(limit) => total_request(alloc, path, limit),
+    }
 }
 
 /// Why there is no request.

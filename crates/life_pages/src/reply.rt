@@ -210,6 +210,14 @@ pub(crate) fn write_page(out: &mut Vec<u8>, refusal: PageRefusal)
     add(out, page_reply(refusal));
 }
 
+/// Writes a reply with a JSON body that was made for it.
+fn write_json(out: &mut Vec<u8>, body: Vec<u8>) -> Result<(), AllocError>
+    ensures ok { OnOk result (out.new.items ≡ reply_bytes 200 json body.items) }
+    ensures room { vec_capacity out.old ≤ vec_capacity out.new }
+{
+    write_body(out, "application/json", &body)
+}
+
 /// Writes a reply that is as long as what it shows.
 fn write_long(alloc: Global, out: &mut Vec<u8>, reply: &Reply) -> Result<(), AllocError>
     requires { is_shown reply.now ≡ true }
@@ -219,18 +227,9 @@ fn write_long(alloc: Global, out: &mut Vec<u8>, reply: &Reply) -> Result<(), All
     match reply {
         Reply::File(bytes) => write_body(out, "text/plain", bytes.as_slice()),
         Reply::Csv(bytes) => write_body(out, "text/csv", bytes.as_slice()),
-        Reply::Deposits(lines) => {
-            let body = list_body(alloc, lines.as_slice())?;
-            write_body(out, "application/json", &body)
-        }
-        Reply::Kinded(kind, code) => {
-            let body = kind_body(alloc, *kind, code)?;
-            write_body(out, "application/json", &body)
-        }
-        Reply::Shown(shown) => {
-            let body = shown_body(alloc, shown)?;
-            write_body(out, "application/json", &body)
-        }
+        Reply::Deposits(lines) => write_json(out, list_body(alloc, lines.as_slice())?),
+        Reply::Kinded(kind, code) => write_json(out, kind_body(alloc, *kind, code)?),
+        Reply::Shown(shown) => write_json(out, shown_body(alloc, shown)?),
         _ => Err(AllocError),
     }
 }

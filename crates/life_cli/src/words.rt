@@ -4,7 +4,7 @@ ghost use Rattle.clap.specs.Simple.{App};
 ghost use Rattle.clap.specs.Words.{Rule, new_app, app_of, rule_of, rows_of, found_of, subcommand_rows_of, with_rule, with_subcommand};
 ghost use Rattle.clap.specs.declared.builder.command.Command.TheViews.{out-Command as fields_of};
 ghost use Rattle.life_cli.specs.Words.{number_rule, number_rule_in, text_rule, file_rule, generation, kind, object, census, deposit, serve, life_alone, life, asked_by};
-ghost use Rattle.life_cli.specs.Words.{number_at, text_at, object_of, census_of, deposit_of, serve_of, job_of, number_of, ComesFrom, Answers};
+ghost use Rattle.life_cli.specs.Words.{AsksGeneration, AsksKind, number_at, text_at, object_of, census_of, deposit_of, serve_of, job_of, number_of, ComesFrom, Answers};
 
 use clap::builder::ValueParser;
 use clap::error::ErrorKind;
@@ -59,7 +59,7 @@ Bad words, and a request for help, end with status 2.
 Example: life generation 1 < glider.rle";
 
 /// What the program is to do.
-#[derive(Clone, Copy, Debug, PartialEq, Eq)]
+#[derive(Clone, Copy)]
 pub enum Job<'a> {
     /// Print the generation of this number of the pattern on standard input.
     Generation(u64),
@@ -92,7 +92,7 @@ pub enum Job<'a> {
 }
 
 /// Why words name no job.
-#[derive(Debug, Drop)]
+#[derive(Drop)]
 pub enum WordFault {
     /// The words are not the command's, or ask for help. The error has the text for the user.
     BadWords(Option<Error>),
@@ -377,8 +377,8 @@ pub fn words_of(rt: &HostRuntime) -> Result<Vec<String>, WordFault> {
 // The fault of words of which one is not UTF-8, in clap's form.
 fn not_text(alloc: Global) -> Result<WordFault, AllocError> {
     let message = "invalid UTF-8 was found in one or more arguments";
-    let error = life_command(alloc)?.error(ErrorKind::ValueValidation, message)?;
-    Ok(WordFault::BadWords(Some(error)))
+    let error = life_command(alloc)?.error(ErrorKind::ValueValidation, message);
+    Ok(WordFault::BadWords(Some(error?)))
 }
 
 // The number of the word with this id.
@@ -393,6 +393,18 @@ fn text_in<'a>(found: &ArgMatches<'a>, id: &str) -> Option<&'a str>
     ensures { option_map (λ text. text.now) result ≡ text_at id.now (rows_of (found_of found.now)) }
 {
     found.get_str(id)
+}
+
+fn generation_in<'a>(found: &ArgMatches<'a>) -> Option<Job<'a>>
+    ensures { option_map asked_by result ≡ option_map AsksGeneration (number_at (codes "N") (rows_of (found_of found.now))) }
+{
+    Some(Job::Generation(number_in(found, "N")?))
+}
+
+fn kind_in<'a>(found: &ArgMatches<'a>) -> Option<Job<'a>>
+    ensures { option_map asked_by result ≡ option_map AsksKind (number_at (codes "LIMIT") (rows_of (found_of found.now))) }
+{
+    Some(Job::Kind(number_in(found, "LIMIT")?))
 }
 
 fn object_in<'a>(found: &ArgMatches<'a>) -> Option<Job<'a>>
@@ -437,13 +449,14 @@ fn serve_in<'a>(found: &ArgMatches<'a>) -> Option<Job<'a>>
 fn job_in<'a>(matches: &ArgMatches<'a>) -> Option<Job<'a>>
     ensures { option_map asked_by result ≡ job_of (subcommand_rows_of matches.now) }
 {
-    match matches.subcommand() {
-        Some(("generation", found)) => Some(Job::Generation(number_in(found, "N")?)),
-        Some(("kind", found)) => Some(Job::Kind(number_in(found, "LIMIT")?)),
-        Some(("object", found)) => object_in(found),
-        Some(("census", found)) => census_in(found),
-        Some(("deposit", found)) => deposit_in(found),
-        Some(("serve", found)) => serve_in(found),
+    let (name, found) = matches.subcommand()?;
+    match name {
+        "generation" => generation_in(found),
+        "kind" => kind_in(found),
+        "object" => object_in(found),
+        "census" => census_in(found),
+        "deposit" => deposit_in(found),
+        "serve" => serve_in(found),
         _ => None,
     }
 }
@@ -455,5 +468,8 @@ pub fn read_words<'a, S: AsStr>(alloc: Global, words: &'a [S]) -> Result<Job<'a>
     ensures { Answers (map S.text words.entry.now) result }
 {
     let matches = life_command(alloc)?.try_get_matches_from(words)?;
-    job_in(&matches).ok_or(WordFault::BadWords(None))
+    let Some(job) = job_in(&matches) else {
+        return Err(WordFault::BadWords(None));
+    };
+    Ok(job)
 }

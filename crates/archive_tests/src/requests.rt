@@ -18,7 +18,7 @@ pub const GLIDER: &str = "x = 3, y = 3\nbo$2bo$3o!\n";
 /// The same glider, spelled otherwise.
 const GLIDER_AGAIN: &str = "x = 3, y = 3\nbo$2bo$ooo!\n";
 
-const GLIDER_SHOWN: &str = "x = 3, y = 3, rule = B3/S23\nbo$2bo$3o!\n";
+pub const GLIDER_SHOWN: &str = "x = 3, y = 3, rule = B3/S23\nbo$2bo$3o!\n";
 
 pub const BLOCK: &str = "x = 2, y = 2\n2o$2o!\n";
 
@@ -29,6 +29,8 @@ const NO_END: &str = "x = 3, y = 3\nbo$2bo$3o\n";
 
 /// Two blocks, which are two clusters.
 pub const FIELD: &str = "x = 6, y = 2\n2o2b2o$2o2b2o!\n";
+
+pub const FIELD_SHOWN: &str = "x = 6, y = 2, rule = B3/S23\n2o2b2o$2o2b2o!\n";
 
 /// A request, as a row of a table.
 #[derive(Clone, Copy)]
@@ -53,8 +55,9 @@ pub enum Said {
     Deposits(&'static [(u64, u64)]),
     Kinded(Kind, &'static str),
     Counted(u64),
-    /// The census of the two blocks, as census 1 of generation 0 of deposit 1 under limit 1.
-    Census,
+    /// The census of this number, of generation 0 of the deposit of the same number under that limit: whether it is steady,
+    /// and the one code of its two clusters.
+    Census(u64, bool, &'static str),
     Csv(&'static str),
     Total(u64),
     /// Refused for another reason than a bad pattern: the number of the reason.
@@ -67,7 +70,7 @@ pub enum Said {
 pub type Row = (Asked, Said);
 
 /// Deposits in an archive of capacity 2.
-const DEPOSITS: [Row; 20] = [
+const DEPOSITS: [Row; 23] = [
     (Asked::Deposit("ann", "t1", GLIDER), Said::Deposited(1)),
     (
         Asked::Deposit("ann", "t1", GLIDER_AGAIN),
@@ -76,6 +79,7 @@ const DEPOSITS: [Row; 20] = [
     (Asked::Deposit("ann", "t1", BLOCK), Said::Refused(5)),
     (Asked::Deposit("ann", "t2", BLOCK), Said::Deposited(2)),
     (Asked::Deposit("ann", "t3", BLOCK), Said::Refused(10)),
+    (Asked::Deposit("bob", "t1", GLIDER), Said::Refused(10)),
     (Asked::Deposit("ann", "t1", GLIDER), Said::Deposited(1)),
     (Asked::Deposit("Ann", "t1", GLIDER), Said::Refused(3)),
     (Asked::Deposit("Ann", "", NO_END), Said::Refused(3)),
@@ -84,11 +88,13 @@ const DEPOSITS: [Row; 20] = [
     (Asked::ListAfter(0), Said::Deposits(&[(1, 5), (2, 4)])),
     (Asked::ListAfter(1), Said::Deposits(&[(2, 4)])),
     (Asked::ListAfter(2), Said::Deposits(&[])),
-    (Asked::ListAfter(99), Said::Deposits(&[])),
+    (Asked::ListAfter(u64::MAX), Said::Deposits(&[])),
     (Asked::Show(1), Said::File(GLIDER_SHOWN)),
+    (Asked::Show(2), Said::File(BLOCK_SHOWN)),
     (Asked::At(1, 2048), Said::File(GLIDER_SHOWN)),
     (Asked::At(1, 2049), Said::Refused(6)),
-    (Asked::Show(9), Said::Refused(1)),
+    (Asked::Show(0), Said::Refused(1)),
+    (Asked::Show(1 << 63), Said::Refused(1)),
     (Asked::At(9, 2049), Said::Refused(6)),
     (
         Asked::KindOf(1, 4),
@@ -97,7 +103,7 @@ const DEPOSITS: [Row; 20] = [
 ];
 
 /// Censuses in an archive of capacity 2.
-const CENSUSES: [Row; 18] = [
+const CENSUSES: [Row; 19] = [
     (Asked::Deposit("ann", "t1", FIELD), Said::Deposited(1)),
     (Asked::Census("t1", 1, 0, 1), Said::Counted(1)),
     (Asked::Census("t1", 1, 0, 1), Said::Counted(1)),
@@ -112,9 +118,10 @@ const CENSUSES: [Row; 18] = [
     (Asked::Total("B9/S", "xs4_330", 0), Said::Refused(6)),
     (Asked::Total("B9/S", "xs4_330", 1), Said::Refused(8)),
     (Asked::Total("B3/S23", "xs4_330", 1), Said::Refused(9)),
+    (Asked::Total("B3/S23", "xp2_7", 2), Said::Total(0)),
     (Asked::ShowCensus(3), Said::Refused(2)),
-    (Asked::At(1, 2049), Said::Refused(6)),
-    (Asked::ShowCensus(1), Said::Census),
+    (Asked::ShowCensus(u64::MAX), Said::Refused(2)),
+    (Asked::ShowCensus(1), Said::Census(1, true, "xs4_33")),
     (
         Asked::CensusCsv(1),
         Said::Csv("code,count\nxs4_33,2\nunresolved,0\n"),
@@ -184,22 +191,22 @@ fn are_lines(list: &[Listed], lines: &[(u64, u64)]) -> bool {
     true
 }
 
-/// Whether a tally is that of two blocks, each of them resolved.
-fn is_of_two_blocks(tally: &Tally) -> bool {
+/// Whether a tally is that of two clusters of one code.
+fn is_of_two(tally: &Tally, code: &str) -> bool {
     let rows = tally.rows.as_slice();
     tally.unresolved == 0
         && tally.total == 2
-        && matches!(rows, [row] if row.code.as_bytes() == b"xs4_33".as_slice() && row.count == 2)
+        && matches!(rows, [row] if row.code.as_bytes() == code.as_bytes() && row.count == 2)
 }
 
-/// Whether a census is the one of the two blocks.
-fn is_census(shown: &Shown) -> bool {
-    shown.census == 1
-        && shown.deposit == 1
+/// Whether a census has this number, which is that of its deposit and its limit too, this flag, and two clusters of this code.
+fn is_census(shown: &Shown, number: u64, steady: bool, code: &str) -> bool {
+    shown.census == number
+        && shown.deposit == number
         && shown.generation == 0
-        && shown.limit == 1
-        && shown.steady
-        && is_of_two_blocks(&shown.tally)
+        && u64::from(shown.limit) == number
+        && shown.steady == steady
+        && is_of_two(&shown.tally, code)
 }
 
 /// Whether a refusal is that of a bad pattern with this fault.
@@ -223,7 +230,9 @@ fn says(reply: &Reply, said: Said) -> bool {
             matches!(reply, Reply::Kinded(kind, Some(code)) if *kind == expected && code.as_slice() == text.as_bytes())
         }
         Said::Counted(number) => matches!(reply, Reply::Counted(id) if *id == number),
-        Said::Census => matches!(reply, Reply::Shown(shown) if is_census(shown)),
+        Said::Census(number, steady, code) => {
+            matches!(reply, Reply::Shown(shown) if is_census(shown, number, steady, code))
+        }
         Said::Csv(text) =>
             matches!(reply, Reply::Csv(table) if table.as_slice() == text.as_bytes()),
         Said::Total(number) => matches!(reply, Reply::Total(n) if *n == number),
@@ -237,7 +246,7 @@ fn says(reply: &Reply, said: Said) -> bool {
 }
 
 /// Whether an archive answers a row so.
-pub fn tells<S: Alter>(alloc: Global, archive: &mut Archive<S>, row: Row) -> bool {
+fn tells<S: Alter>(alloc: Global, archive: &mut Archive<S>, row: Row) -> bool {
     match request(alloc, row.0) {
         Ok(request) => says(&answer(archive, alloc, request), row.1),
         Err(_) => false,

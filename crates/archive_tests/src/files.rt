@@ -1,0 +1,162 @@
+//! An archive in files: opened, asked, closed and opened again.
+//!
+//! A call on a store of files is dear to prove: so each function here makes a few, gives the files back on every way, and
+//! drops no store. All files are of one kind, which stops after some calls, or never.
+use crate::requests::{Asked, BLOCK, BLOCK_SHOWN, GLIDER, GLIDER_SHOWN, Row, Said, other};
+use life_store::{Archive, OpenFault};
+use sqlite::{Alter, Connection, FileStore, Files, Options};
+use sqlite_disk::{Disk, Fuse, Memory};
+use std::alloc::Global;
+use std::test::Fail;
+
+/// A file that stops after some calls.
+pub type Stopping = Fuse<Memory>;
+
+/// The first row that an archive over files answers otherwise, or why it is not opened. The close is asked for behind the
+/// rows: where it is refused, it is the row that is answered otherwise.
+pub type Outcome = Result<Option<usize>, OpenFault>;
+
+/// Two files of these bytes, which stop after so many calls.
+pub fn stopping(log: Memory, log_calls: u64, db: Memory, db_calls: u64) -> Files<Stopping> {
+    Files {
+        log: Fuse::new(log, log_calls),
+        db: Fuse::new(db, db_calls),
+    }
+}
+
+/// Two empty files, which stop after so many calls.
+pub fn blank(alloc: Global, log_calls: u64, db_calls: u64) -> Files<Stopping> {
+    stopping(Memory::new(alloc), log_calls, Memory::new(alloc), db_calls)
+}
+
+/// What came of an archive that was opened, which is asked and closed, and its files.
+fn closed<D: Disk + Drop>(
+    alloc: Global,
+    opened: Result<Archive<FileStore<D>>, (OpenFault, Files<D>)>,
+    rows: &[Row],
+) -> (Outcome, Files<D>) {
+    match opened {
+        Ok(mut archive) => {
+            let other = other(alloc, &mut archive, rows);
+            match archive.close_files() {
+                Ok(files) => (Ok(other), files),
+                Err((_, files)) => (Ok(Some(other.unwrap_or(rows.len()))), files),
+            }
+        }
+        Err((fault, files)) => (Err(fault), files),
+    }
+}
+
+/// Opens an archive over files of any kind, asks it, and closes it.
+fn over_any<D: Disk + Drop>(
+    alloc: Global,
+    files: Files<D>,
+    capacity: u64,
+    rows: &[Row],
+) -> (Outcome, Files<D>) {
+    if !files.may_be_used() {
+        return (Err(OpenFault::Unavailable), files);
+    }
+    closed(alloc, Archive::open_files(alloc, files, capacity), rows)
+}
+
+/// Opens an archive over the files, asks it, and closes it. The files are given back in any case.
+pub fn over(
+    alloc: Global,
+    files: Files<Stopping>,
+    capacity: u64,
+    rows: &[Row],
+) -> (Outcome, Files<Stopping>) {
+    over_any(alloc, files, capacity, rows)
+}
+
+/// The same over files that are opened with capacity 2, closed, and opened again with capacity 3.
+fn over_again<D: Disk + Drop>(alloc: Global, files: Files<D>, rows: &[Row]) -> (Outcome, Files<D>) {
+    if !files.may_be_used() {
+        return (Err(OpenFault::Unavailable), files);
+    }
+    match Archive::open_files(alloc, files, 2) {
+        Ok(archive) => closed(alloc, archive.reopen(alloc, 3), rows),
+        Err((fault, files)) => (Err(fault), files),
+    }
+}
+
+/// The glider and the block are kept as 1 and 2, and nothing else in an archive of capacity 2.
+const KEEPS_TWO: [Row; 3] = [
+    (Asked::Deposit("ann", "t1", GLIDER), Said::Deposited(1)),
+    (Asked::Deposit("ann", "t2", BLOCK), Said::Deposited(2)),
+    (Asked::Deposit("ann", "t3", BLOCK), Said::Refused(10)),
+];
+
+/// Both are there, also with capacity 1, and nothing else is kept.
+const HAS_TWO: [Row; 4] = [
+    (Asked::Deposit("ann", "t1", GLIDER), Said::Deposited(1)),
+    (Asked::Deposit("ann", "t4", GLIDER), Said::Refused(10)),
+    (Asked::Show(1), Said::File(GLIDER_SHOWN)),
+    (Asked::Show(2), Said::File(BLOCK_SHOWN)),
+];
+
+/// With capacity 3 one more is kept.
+const KEEPS_A_THIRD: [Row; 3] = [
+    (Asked::Show(2), Said::File(BLOCK_SHOWN)),
+    (Asked::Deposit("ann", "t4", GLIDER), Said::Deposited(3)),
+    (Asked::Deposit("ann", "t5", GLIDER), Said::Refused(10)),
+];
+
+/// What came of openings of the same files, one after the other: an archive keeps two deposits, is opened with two capacities
+/// that are none, with capacity 1, and, closed and opened again, with capacity 3.
+fn outcomes(alloc: Global) -> [Outcome; 5] {
+    let files = blank(alloc, u64::MAX, u64::MAX);
+    let (first, files) = over(alloc, files, 2, KEEPS_TWO.as_slice());
+    let (none, files) = over(alloc, files, 0, &[]);
+    let (above, files) = over(alloc, files, 1_000_001, &[]);
+    let (less, files) = over(alloc, files, 1, HAS_TWO.as_slice());
+    let (more, _) = over_again(alloc, files, KEEPS_A_THIRD.as_slice());
+    [first, none, above, less, more]
+}
+
+#[test]
+fn files_are_opened_with_other_capacities(rt: HostRuntime) -> Result<(), Fail> {
+    let bad = Err(OpenFault::BadCapacity);
+    assert!(rt; outcomes(rt.alloc()) == [Ok(None), bad, bad, Ok(None), Ok(None)]);
+    Ok(())
+}
+
+/// Whether all statements were run.
+fn runs<S: Alter>(conn: &mut Connection<S>, statements: &[&str]) -> bool {
+    for statement in statements {
+        if conn.execute(statement, &[]).is_err() {
+            return false;
+        }
+    }
+    true
+}
+
+/// Whether these statements were run in the database of the files and it was closed, and the files.
+fn run_over<D: Disk + Drop>(
+    alloc: Global,
+    files: Files<D>,
+    statements: &[&str],
+) -> (bool, Files<D>) {
+    if !files.may_be_used() {
+        return (false, files);
+    }
+    match Connection::open_files(alloc, files, Options::new(7)) {
+        Ok(mut conn) => {
+            let all = runs(&mut conn, statements);
+            match conn.close_files() {
+                Ok(files) => (all, files),
+                Err((_, store)) => (false, store.close()),
+            }
+        }
+        Err((_, left)) => (false, left.into_files()),
+    }
+}
+
+/// The files of a new database in which these statements were run.
+pub fn made_by(alloc: Global, statements: &[&str]) -> Option<Files<Stopping>> {
+    match run_over(alloc, blank(alloc, u64::MAX, u64::MAX), statements) {
+        (true, files) => Some(files),
+        _ => None,
+    }
+}

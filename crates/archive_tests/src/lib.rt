@@ -1,0 +1,11 @@
+//! Tests over the archive: its requests and replies, its files, and its pages.
+#![tactic(auto)]
+
+#[cfg(test)]
+mod files;
+#[cfg(test)]
+mod pages;
+#[cfg(test)]
+mod requests;
+#[cfg(test)]
+mod stops;

@@ -1,0 +1,505 @@
+//! Messages to an archive: worked ones, whole, in pieces, and with a call that fails.
+//!
+//! What is sent and what is put are values with nothing to drop, and all streams are of one kind, which comes and goes in
+//! pieces.
+ghost use Rattle.std.specs.Prelude.{◌<◌};
+
+use life_pages::{IoFault, serve};
+use life_rle::{PieceInlet, PieceOutlet};
+use life_store::Archive;
+use sqlite::Alter;
+use std::alloc::{AllocError, Global};
+use std::test::Fail;
+
+const GLIDER: &str =
+    "POST /deposits HTTP/1.1\r\nhost: a\r\nx-member: ann\r\nx-token: t1\r\ncontent-length: 24\r\n\r\nx = 3, y = 3\nbo$2bo$3o!\n";
+
+const BLOCK_UNDER_T1: &str =
+    "POST /deposits HTTP/1.1\r\nhost: a\r\nx-member: ann\r\nx-token: t1\r\ncontent-length: 20\r\n\r\nx = 2, y = 2\n2o$2o!\n";
+
+const FIELD: &str =
+    "POST /deposits HTTP/1.1\r\nx-member: ann\r\nx-token: t1\r\ncontent-length: 30\r\n\r\nx = 6, y = 2\n2o2b2o$2o2b2o!\n\n\n";
+
+const DEPOSITED: &str =
+    "HTTP/1.1 201 Created\r\ncontent-type: application/json\r\ncontent-length: 13\r\n\r\n{\"deposit\":1}";
+
+const BAD: &str =
+    "HTTP/1.1 400 Bad Request\r\ncontent-type: application/json\r\ncontent-length: 36\r\n\r\n{\"error\":\"bad-message\",\"refusal\":14}";
+
+const NOT_FOUND: &str =
+    "HTTP/1.1 404 Not Found\r\ncontent-type: application/json\r\ncontent-length: 37\r\n\r\n{\"error\":\"no-such-page\",\"refusal\":12}";
+
+/// A stream, and what comes of it.
+#[derive(Clone, Copy)]
+struct Exchange<'a> {
+    stream: &'a [u8],
+    /// Whether it comes and goes byte by byte.
+    bytewise: bool,
+    /// The number of the take that fails.
+    take_fails: Option<u64>,
+    /// The number of the put that fails.
+    put_fails: Option<u64>,
+    done: Result<(), IoFault>,
+    put: &'a [u8],
+}
+
+/// A stream that comes whole, and the replies to it.
+fn whole<'a>(stream: &'a str, replies: &'a str) -> Exchange<'a> {
+    Exchange {
+        stream: stream.as_bytes(),
+        bytewise: false,
+        take_fails: None,
+        put_fails: None,
+        done: Ok(()),
+        put: replies.as_bytes(),
+    }
+}
+
+/// The most bytes of a take and a put.
+fn piece(bytewise: bool) -> usize
+    ensures { 0 < result }
+{
+    if bytewise { 1 } else { usize::MAX }
+}
+
+/// Whether this comes of a stream.
+fn comes<S: Alter>(alloc: Global, archive: &mut Archive<S>, exchange: Exchange<'_>) -> bool {
+    let Ok(stream) = exchange.stream.to_vec(alloc) else {
+        return false;
+    };
+    let piece = piece(exchange.bytewise);
+    let mut input = PieceInlet::new(stream, piece, exchange.take_fails);
+    let mut output = PieceOutlet::new(alloc, piece, exchange.put_fails);
+    let done = serve(alloc, archive, &mut input, &mut output);
+    done == exchange.done && output.bytes() == exchange.put
+}
+
+/// The path of a GET, and the status line, the type and the body of its reply.
+type Page = (&'static str, &'static str, &'static str, &'static str);
+
+/// What an archive does, as a row of a table.
+#[derive(Clone, Copy)]
+enum Act {
+    /// It answers this to a stream.
+    Answers(&'static str, &'static str),
+    /// It shows this page.
+    Shows(Page),
+    /// It has so many deposits.
+    Has(u64),
+    /// It answers so to a message with so many header lines.
+    AnswersLines(usize, &'static str),
+    /// It answers this to a text behind more line ends than a head has bytes.
+    AnswersBehindLineEnds(&'static str, &'static str),
+    /// It answers each beginning of the glider's deposit as a bad message.
+    AnswersBeginnings,
+}
+
+/// Whether the archive shows a page.
+fn shows<S: Alter>(alloc: Global, archive: &mut Archive<S>, page: Page) -> bool {
+    let (path, status, kind, body) = page;
+    let length = body.len();
+    let stream = format!(in alloc; "GET {path} HTTP/1.1\r\n\r\n");
+    let reply = format!(in alloc;
+        "HTTP/1.1 {status}\r\ncontent-type: {kind}\r\ncontent-length: {length}\r\n\r\n{body}"
+    );
+    match (stream, reply) {
+        (Ok(stream), Ok(reply)) => { comes(alloc, archive, whole(stream.as_str(), reply.as_str())) }
+        _ => false,
+    }
+}
+
+/// How many deposits are kept.
+fn kept<S: Alter>(archive: &mut Archive<S>) -> Option<u64> {
+    archive.count_deposits().ok()
+}
+
+/// A text, so often the same line, and another text.
+fn repeated(
+    alloc: Global,
+    front: &str,
+    line: &str,
+    times: usize,
+    back: &str,
+) -> Result<String, AllocError> {
+    let mut text = String::from_str(alloc, front)?;
+    for _ in 0..times {
+        text.push_str(line)?;
+    }
+    text.push_str(back)?;
+    Ok(text)
+}
+
+/// Whether this comes of a text that was made, and comes whole.
+fn comes_of<S: Alter>(
+    alloc: Global,
+    archive: &mut Archive<S>,
+    text: Result<String, AllocError>,
+    replies: &str,
+) -> bool {
+    match text {
+        Ok(text) => comes(alloc, archive, whole(text.as_str(), replies)),
+        Err(_) => false,
+    }
+}
+
+/// Whether each beginning of the glider's deposit is answered as a bad message.
+fn has_bad_beginnings<S: Alter>(alloc: Global, archive: &mut Archive<S>) -> bool {
+    for end in 1..GLIDER.len() {
+        let exchange = Exchange {
+            stream: &GLIDER.as_bytes()[..end],
+            ..whole("", BAD)
+        };
+        if !comes(alloc, archive, exchange) {
+            return false;
+        }
+    }
+    true
+}
+
+/// Whether the archive does so.
+fn does<S: Alter>(alloc: Global, archive: &mut Archive<S>, act: Act) -> bool {
+    match act {
+        Act::Answers(stream, replies) => comes(alloc, archive, whole(stream, replies)),
+        Act::Shows(page) => shows(alloc, archive, page),
+        Act::Has(number) => kept(archive) == Some(number),
+        Act::AnswersLines(lines, reply) => {
+            let message = repeated(alloc, "GET /x HTTP/1.1\r\n", "a: b\r\n", lines, "\r\n");
+            comes_of(alloc, archive, message, reply)
+        }
+        Act::AnswersBehindLineEnds(text, reply) => {
+            comes_of(
+                alloc,
+                archive,
+                repeated(alloc, "", "\n", 20_000, text),
+                reply,
+            )
+        }
+        Act::AnswersBeginnings => has_bad_beginnings(alloc, archive),
+    }
+}
+
+/// The first act of these that the archive does otherwise.
+fn other_act<S: Alter>(alloc: Global, archive: &mut Archive<S>, acts: &[Act]) -> Option<usize> {
+    for (at, act) in acts.iter().enumerate() {
+        if !does(alloc, archive, *act) {
+            return Some(at);
+        }
+    }
+    None
+}
+
+/// The first act of these that a new archive of capacity 2 does otherwise.
+fn other(alloc: Global, acts: &[Act]) -> Option<usize> {
+    match Archive::open_in_memory(alloc, 2) {
+        Ok(mut archive) => other_act(alloc, &mut archive, acts),
+        Err(_) => Some(acts.len()),
+    }
+}
+
+/// A deposit, the same again, another under its token, and a number that is not kept.
+const DEPOSITS: [Act; 5] = [
+    Act::Answers(GLIDER, DEPOSITED),
+    Act::Answers(GLIDER, DEPOSITED),
+    Act::Answers(
+        BLOCK_UNDER_T1,
+        "HTTP/1.1 409 Conflict\r\ncontent-type: application/json\r\ncontent-length: 36\r\n\r\n{\"error\":\"token-reused\",\"refusal\":5}",
+    ),
+    Act::Answers(
+        "GET /deposits/9 HTTP/1.1\r\n\r\n",
+        "HTTP/1.1 404 Not Found\r\ncontent-type: application/json\r\ncontent-length: 39\r\n\r\n{\"error\":\"no-such-deposit\",\"refusal\":1}",
+    ),
+    Act::Has(1),
+];
+
+#[test]
+fn a_deposit_comes_again(rt: HostRuntime) -> Result<(), Fail> {
+    assert_eq!(rt; other(rt.alloc(), DEPOSITS.as_slice()), None);
+    Ok(())
+}
+
+const BAD_MESSAGES: [Act; 7] = [
+    Act::Answers(
+        "GET /deposits HTTP/1.1\r\ntransfer-encoding: chunked\r\n\r\n",
+        BAD,
+    ),
+    Act::Answers(
+        "GET /deposits HTTP/1.1\r\ncontent-length: 1048577\r\n\r\n",
+        BAD,
+    ),
+    Act::AnswersLines(32, NOT_FOUND),
+    Act::AnswersLines(33, BAD),
+    Act::AnswersBehindLineEnds("GET /deposits/1 HTTP/1.1\r\n\r\n", BAD),
+    Act::AnswersBeginnings,
+    Act::Has(0),
+];
+
+#[test]
+fn bad_messages_are_refused(rt: HostRuntime) -> Result<(), Fail> {
+    assert_eq!(rt; other(rt.alloc(), BAD_MESSAGES.as_slice()), None);
+    Ok(())
+}
+
+/// Streams of line ends, and two messages in one stream, of which the second is the last.
+const STREAMS: [Act; 4] = [
+    Act::Answers("\r\n\r\n", ""),
+    Act::AnswersBehindLineEnds("", ""),
+    Act::Answers(GLIDER, DEPOSITED),
+    Act::Answers(
+        "GET /deposits/1 HTTP/1.1\r\n\r\nGET /deposits/1/kind/4 HTTP/1.0\r\n\r\nany bytes",
+        "HTTP/1.1 200 OK\r\ncontent-type: text/plain\r\ncontent-length: 39\r\n\r\nx = 3, y = 3, rule = B3/S23\nbo$2bo$3o!\nHTTP/1.1 200 OK\r\ncontent-type: application/json\r\ncontent-length: 57\r\n\r\n{\"code\":\"xq4_153\",\"dx\":1,\"dy\":1,\"kind\":\"ship\",\"period\":4}",
+    ),
+];
+
+#[test]
+fn streams_are_answered_to_their_ends(rt: HostRuntime) -> Result<(), Fail> {
+    assert_eq!(rt; other(rt.alloc(), STREAMS.as_slice()), None);
+    Ok(())
+}
+
+const CENSUS: &str =
+    "POST /deposits/1/censuses/0/1 HTTP/1.1\r\nx-member: ann\r\nx-token: c1\r\n\r\n";
+
+const COUNTED: &str =
+    "HTTP/1.1 201 Created\r\ncontent-type: application/json\r\ncontent-length: 12\r\n\r\n{\"census\":1}";
+
+/// A field, its census, the same census again, and what is shown of it.
+const CENSUSES: [Act; 8] = [
+    Act::Answers(FIELD, DEPOSITED),
+    Act::Answers(CENSUS, COUNTED),
+    Act::Answers(CENSUS, COUNTED),
+    Act::Shows((
+        "/censuses/1/csv",
+        "200 OK",
+        "text/csv",
+        "code,count\nxs4_33,2\nunresolved,0\n",
+    )),
+    Act::Shows((
+        "/censuses/1",
+        "200 OK",
+        "application/json",
+        "{\"census\":1,\"clusters\":2,\"deposit\":1,\"generation\":0,\"limit\":1,\"rows\":[{\"code\":\"xs4_33\",\"count\":2}],\"steady\":true,\"unresolved\":0}",
+    )),
+    Act::Shows((
+        "/objects/B3S23/xs4_33/1",
+        "200 OK",
+        "application/json",
+        "{\"total\":2}",
+    )),
+    Act::Shows((
+        "/objects/B3S23/xs4_330/1",
+        "422 Unprocessable Entity",
+        "application/json",
+        "{\"error\":\"bad-code\",\"refusal\":9}",
+    )),
+    Act::Shows((
+        "/deposits/after/0?x=/",
+        "200 OK",
+        "application/json",
+        "{\"deposits\":[{\"id\":1,\"member\":\"ann\",\"population\":8,\"rule\":\"B3/S23\"}]}",
+    )),
+];
+
+#[test]
+fn a_census_is_counted_and_shown(rt: HostRuntime) -> Result<(), Fail> {
+    assert_eq!(rt; other(rt.alloc(), CENSUSES.as_slice()), None);
+    Ok(())
+}
+
+const NO_PAGE: &str = "{\"error\":\"no-such-page\",\"refusal\":12}";
+
+/// A deposit, one without its end, pages of the deposit, and pages that are none.
+const PAGES: [Act; 11] = [
+    Act::Answers(GLIDER, DEPOSITED),
+    Act::Answers(
+        "POST /deposits HTTP/1.1\r\nx-member: ann\r\nx-token: t9\r\ncontent-length: 12\r\n\r\nx = 1, y = 1",
+        "HTTP/1.1 422 Unprocessable Entity\r\ncontent-type: application/json\r\ncontent-length: 44\r\n\r\n{\"error\":\"bad-pattern\",\"refusal\":7,\"rle\":10}",
+    ),
+    Act::Shows(("/deposits/x", "404 Not Found", "application/json", NO_PAGE)),
+    Act::Shows(("/deposits/1/", "404 Not Found", "application/json", NO_PAGE)),
+    Act::Shows(("*", "404 Not Found", "application/json", NO_PAGE)),
+    Act::Shows((
+        "/deposits",
+        "405 Method Not Allowed",
+        "application/json",
+        "{\"error\":\"bad-method\",\"refusal\":13}",
+    )),
+    Act::Shows((
+        "/deposits/1/at/1025",
+        "200 OK",
+        "text/plain",
+        "x = 3, y = 3, rule = B3/S23\nobo$b2o$bo!\n",
+    )),
+    Act::Shows((
+        "/deposits/1/at/2048",
+        "200 OK",
+        "text/plain",
+        "x = 3, y = 3, rule = B3/S23\nbo$2bo$3o!\n",
+    )),
+    Act::Shows((
+        "/deposits/9/at/1025",
+        "404 Not Found",
+        "application/json",
+        "{\"error\":\"no-such-deposit\",\"refusal\":1}",
+    )),
+    Act::Shows((
+        "/deposits/9/at/2049",
+        "400 Bad Request",
+        "application/json",
+        "{\"error\":\"out-of-limit\",\"refusal\":6}",
+    )),
+    Act::Shows((
+        "/deposits/001",
+        "200 OK",
+        "text/plain",
+        "x = 3, y = 3, rule = B3/S23\nbo$2bo$3o!\n",
+    )),
+];
+
+#[test]
+fn pages_and_methods(rt: HostRuntime) -> Result<(), Fail> {
+    assert_eq!(rt; other(rt.alloc(), PAGES.as_slice()), None);
+    Ok(())
+}
+
+/// Whether this comes of a stream to a new archive of capacity 2, and it has so many deposits then.
+fn comes_to_a_new_one(alloc: Global, exchange: Exchange<'_>, number: u64) -> bool {
+    match Archive::open_in_memory(alloc, 2) {
+        Ok(mut archive) => {
+            comes(alloc, &mut archive, exchange) && kept(&mut archive) == Some(number)
+        }
+        Err(_) => false,
+    }
+}
+
+/// Whether the glider's deposit, whose take of this number fails, is kept where it was taken whole, and else not.
+fn stops_at_the_take(alloc: Global, number: usize) -> bool {
+    let is_whole = number > GLIDER.len();
+    let exchange = Exchange {
+        bytewise: true,
+        take_fails: Some(number as u64),
+        done: Err(IoFault::Read),
+        ..whole(GLIDER, if is_whole { DEPOSITED } else { "" })
+    };
+    comes_to_a_new_one(alloc, exchange, u64::from(is_whole))
+}
+
+#[test]
+fn a_take_fails(rt: HostRuntime) -> Result<(), Fail> {
+    for number in 1..=GLIDER.len() + 1 {
+        assert!(rt; stops_at_the_take(rt.alloc(), number));
+    }
+    Ok(())
+}
+
+/// Whether the glider's deposit is kept, and is found again, where a put fails behind these bytes.
+fn stops_behind<S: Alter>(alloc: Global, archive: &mut Archive<S>, put: &[u8]) -> bool {
+    let exchange = Exchange {
+        bytewise: true,
+        put_fails: Some(put.len() as u64 + 1),
+        done: Err(IoFault::Write),
+        put,
+        ..whole(GLIDER, "")
+    };
+    comes(alloc, archive, exchange)
+        && kept(archive) == Some(1)
+        && comes(alloc, archive, whole(GLIDER, DEPOSITED))
+        && kept(archive) == Some(1)
+}
+
+/// Whether it is so in a new archive.
+fn stops_behind_in_a_new_one(alloc: Global, put: &[u8]) -> bool {
+    match Archive::open_in_memory(alloc, 2) {
+        Ok(mut archive) => stops_behind(alloc, &mut archive, put),
+        Err(_) => false,
+    }
+}
+
+#[test]
+fn a_put_fails(rt: HostRuntime) -> Result<(), Fail> {
+    for end in 0..DEPOSITED.len() {
+        assert!(rt; stops_behind_in_a_new_one(rt.alloc(), &DEPOSITED.as_bytes()[..end]));
+    }
+    Ok(())
+}
+
+/// Whether no take follows a message that has come whole, the glider's deposit, before the reply to it is put; the same comes
+/// once more behind it.
+fn takes_none_before_the_reply<S: Alter>(
+    alloc: Global,
+    archive: &mut Archive<S>,
+    stream: Vec<u8>,
+) -> bool {
+    let mut input = PieceInlet::new(stream, 1, None);
+    let mut failing = PieceOutlet::new(alloc, 1, Some(1));
+    let failed = serve(alloc, archive, &mut input, &mut failing);
+    let calls = input.calls();
+    let mut output = PieceOutlet::new(alloc, 1, None);
+    let done = serve(alloc, archive, &mut input, &mut output);
+    failed == Err(IoFault::Write)
+        && calls == GLIDER.len() as u64
+        && done == Ok(())
+        && output.bytes() == DEPOSITED.as_bytes()
+        && kept(archive) == Some(1)
+}
+
+/// Whether it is so in a new archive.
+fn takes_none(alloc: Global) -> bool {
+    match (
+        Archive::open_in_memory(alloc, 2),
+        repeated(alloc, GLIDER, GLIDER, 1, ""),
+    ) {
+        (Ok(mut archive), Ok(twice)) => {
+            takes_none_before_the_reply(alloc, &mut archive, twice.into_bytes())
+        }
+        _ => false,
+    }
+}
+
+#[test]
+fn no_take_before_the_reply(rt: HostRuntime) -> Result<(), Fail> {
+    assert!(rt; takes_none(rt.alloc()));
+    Ok(())
+}
+
+/// The most takes that are made of a stream.
+const TAKES: usize = 1_048_576;
+
+/// A deposit of so many bytes, head and body: one live cell, and line ends behind the end of the pattern.
+fn long_deposit(alloc: Global, bytes: usize) -> Result<String, AllocError> {
+    let front =
+        "POST /deposits HTTP/1.1\r\nx-member: ann\r\nx-token: t1\r\ncontent-length: 1048000\r\n\r\n";
+    let body = bytes.saturating_sub(front.len());
+    let text = format!(in alloc;
+        "POST /deposits HTTP/1.1\r\nx-member: ann\r\nx-token: t1\r\ncontent-length: {body}\r\n\r\nx = 1, y = 1\no!"
+    )?;
+    repeated(
+        alloc,
+        text.as_str(),
+        "\n",
+        bytes.saturating_sub(text.len()),
+        "",
+    )
+}
+
+/// Whether serving a deposit of so many bytes, which come one by one, ends so, and the deposit is kept.
+fn ends_bytewise(alloc: Global, bytes: usize, done: Result<(), IoFault>) -> bool {
+    match long_deposit(alloc, bytes) {
+        Ok(text) => {
+            let exchange = Exchange {
+                bytewise: true,
+                done,
+                ..whole(text.as_str(), DEPOSITED)
+            };
+            text.len() == bytes && comes_to_a_new_one(alloc, exchange, 1)
+        }
+        Err(_) => false,
+    }
+}
+
+/// The last take finds the end, or is one too many.
+#[test]
+fn a_long_body_comes_byte_by_byte(rt: HostRuntime) -> Result<(), Fail> {
+    assert!(rt; ends_bytewise(rt.alloc(), TAKES - 1, Ok(())));
+    assert!(rt; ends_bytewise(rt.alloc(), TAKES, Err(IoFault::TooManyReads)));
+    Ok(())
+}

@@ -1,0 +1,223 @@
+//! A stop at each call of a file: as a deposit and a census are kept, and as an archive of layout 1 is carried over.
+use crate::files::{Outcome, Stopping, blank, made_by, over, stopping};
+use crate::requests::{Asked, FIELD, FIELD_SHOWN, Row, Said};
+use life_store::Unavailable;
+use sqlite::Files;
+use sqlite_disk::{Disk, Memory};
+use std::alloc::Global;
+use std::test::Fail;
+
+/// An archive of layout 1: two blocks at distance 3 (`2o2b2o$2o2b2o!`) and two blinkers whose phases touch
+/// (`o2bo$o2bo$o2bo!`), each with a census of generation 0. Their files are in hexadecimal digits.
+const FIRST: [&str; 11] = [
+    "CREATE TABLE layout (version INTEGER NOT NULL) STRICT",
+    "CREATE TABLE deposits (id INTEGER PRIMARY KEY, member TEXT NOT NULL, token TEXT NOT NULL, rule TEXT NOT NULL, population INTEGER NOT NULL CHECK (population >= 0), rle BLOB NOT NULL, UNIQUE (member, token)) STRICT",
+    "CREATE TABLE censuses (id INTEGER PRIMARY KEY, member TEXT NOT NULL, token TEXT NOT NULL, deposit INTEGER NOT NULL REFERENCES deposits (id), gens INTEGER NOT NULL, lim INTEGER NOT NULL, clusters INTEGER NOT NULL, unresolved INTEGER NOT NULL, UNIQUE (member, token)) STRICT",
+    "CREATE TABLE census_rows (census INTEGER NOT NULL REFERENCES censuses (id), code TEXT NOT NULL, n INTEGER NOT NULL CHECK (n > 0), PRIMARY KEY (census, code)) STRICT",
+    "INSERT INTO layout (version) VALUES (1)",
+    "INSERT INTO deposits (id, member, token, rule, population, rle) VALUES (1, 'ann', 't1', 'B3/S23', 8, X'78203D20362C2079203D20322C2072756C65203D2042332F5332330A326F3262326F24326F3262326F210A')",
+    "INSERT INTO deposits (id, member, token, rule, population, rle) VALUES (2, 'ann', 't2', 'B3/S23', 6, X'78203D20342C2079203D20332C2072756C65203D2042332F5332330A6F32626F246F32626F246F32626F210A')",
+    "INSERT INTO censuses (id, member, token, deposit, gens, lim, clusters, unresolved) VALUES (1, 'ann', 'c1', 1, 0, 1, 2, 0)",
+    "INSERT INTO censuses (id, member, token, deposit, gens, lim, clusters, unresolved) VALUES (2, 'ann', 'c2', 2, 0, 2, 2, 0)",
+    "INSERT INTO census_rows (census, code, n) VALUES (1, 'xs4_33', 2)",
+    "INSERT INTO census_rows (census, code, n) VALUES (2, 'xp2_7', 2)",
+];
+
+/// What a file holds.
+fn copied(alloc: Global, file: &Stopping) -> Result<Memory, Unavailable> {
+    let mut copy = Memory::new(alloc);
+    if copy.write_at(0, file.inner().bytes()).is_err() || copy.sync().is_err() {
+        return Err(Unavailable);
+    }
+    Ok(copy)
+}
+
+/// What the files hold, in files that stop after so many calls.
+fn again(
+    alloc: Global,
+    files: &Files<Stopping>,
+    log_calls: u64,
+    db_calls: u64,
+) -> Option<Files<Stopping>> {
+    match (copied(alloc, &files.log), copied(alloc, &files.db)) {
+        (Ok(log), Ok(db)) => Some(stopping(log, log_calls, db, db_calls)),
+        _ => None,
+    }
+}
+
+/// The second deposit of the archive of layout 1.
+const BLINKERS_SHOWN: &str = "x = 4, y = 3, rule = B3/S23\no2bo$o2bo$o2bo!\n";
+
+const DEPOSIT: Row = (Asked::Deposit("ann", "t1", FIELD), Said::Deposited(1));
+
+const CENSUS: Row = (Asked::Census("c1", 1, 0, 1), Said::Counted(1));
+
+const SHOWN: Row = (Asked::ShowCensus(1), Said::Census(1, true, "xs4_33"));
+
+/// What a new archive is asked.
+const KEEPS: [Row; 2] = [DEPOSIT, CENSUS];
+
+/// What it answers afterwards: where the census was not answered all but the first row, and where the deposit was not either
+/// all but the first two. In each case both are taken again, and are there once and whole.
+const KEPT: [Row; 8] = [
+    SHOWN,
+    (Asked::Show(1), Said::File(FIELD_SHOWN)),
+    DEPOSIT,
+    CENSUS,
+    SHOWN,
+    (Asked::Show(1), Said::File(FIELD_SHOWN)),
+    (Asked::ListAfter(0), Said::Deposits(&[(1, 8)])),
+    (Asked::ShowCensus(2), Said::Refused(2)),
+];
+
+/// What an archive of layout 1 answers once it is carried over: its deposits and censuses are there with their flags, and
+/// nothing else.
+const CARRIED: [Row; 6] = [
+    (Asked::ListAfter(0), Said::Deposits(&[(1, 8), (2, 6)])),
+    (Asked::Show(1), Said::File(FIELD_SHOWN)),
+    (Asked::Show(2), Said::File(BLINKERS_SHOWN)),
+    SHOWN,
+    (Asked::ShowCensus(2), Said::Census(2, false, "xp2_7")),
+    (Asked::ShowCensus(3), Said::Refused(2)),
+];
+
+/// A run that is stopped.
+#[derive(Clone, Copy)]
+struct Run<'a> {
+    /// Whether an archive of layout 1 is carried over as it is opened; or else it is a new one.
+    carries_over: bool,
+    /// What is asked.
+    asked: &'a [Row],
+    /// What is answered afterwards: of its first rows one less for each row that was asked and not answered.
+    behind: &'a [Row],
+}
+
+/// The files that a run begins with, which stop after so many calls.
+fn begun(
+    alloc: Global,
+    carries_over: bool,
+    log_calls: u64,
+    db_calls: u64,
+) -> Option<Files<Stopping>> {
+    if !carries_over {
+        return Some(blank(alloc, log_calls, db_calls));
+    }
+    match made_by(alloc, FIRST.as_slice()) {
+        Some(files) => again(alloc, &files, log_calls, db_calls),
+        None => None,
+    }
+}
+
+/// How many of the rows that were asked were not answered.
+fn unanswered(asked: usize, outcome: Outcome) -> usize {
+    match outcome {
+        Ok(None) => 0,
+        Ok(Some(at)) => asked.saturating_sub(at),
+        Err(_) => asked,
+    }
+}
+
+/// What is answered behind a run of which this came.
+fn rows_behind<'a>(run: Run<'a>, outcome: Outcome) -> &'a [Row] {
+    let from = unanswered(run.asked.len(), outcome).min(run.behind.len());
+    &run.behind[from..]
+}
+
+/// The files of an archive that answers the rows.
+fn answers(alloc: Global, files: Files<Stopping>, rows: &[Row]) -> Option<Files<Stopping>> {
+    match over(alloc, files, 2, rows) {
+        (Ok(None), files) => Some(files),
+        _ => None,
+    }
+}
+
+/// Whether an archive that is opened over the files answers the rows, and once more when it is closed and opened again.
+fn answers_twice(alloc: Global, files: Files<Stopping>, rows: &[Row]) -> bool {
+    match answers(alloc, files, rows) {
+        Some(files) => answers(alloc, files, rows).is_some(),
+        None => false,
+    }
+}
+
+/// Whether what the files hold, in files that never stop, is an archive that answers the rows. An opening refuses a table of
+/// flags under layout 1, and layout 2 without one, so this also says that an archive is carried over whole or not at all.
+fn is_sound(alloc: Global, files: &Files<Stopping>, rows: &[Row]) -> bool {
+    match again(alloc, files, u64::MAX, u64::MAX) {
+        Some(copy) => answers_twice(alloc, copy, rows),
+        None => false,
+    }
+}
+
+/// Whether a run ended with no stop, and whether what is found afterwards is sound.
+fn stop_at(alloc: Global, run: Run<'_>, log_calls: u64, db_calls: u64) -> Option<(bool, bool)> {
+    match begun(alloc, run.carries_over, log_calls, db_calls) {
+        Some(files) => {
+            let (outcome, files) = over(alloc, files, 2, run.asked);
+            let is_sound = is_sound(alloc, &files, rows_behind(run, outcome));
+            Some((outcome == Ok(None), is_sound))
+        }
+        None => None,
+    }
+}
+
+/// Whether the run is tried with a stop at each call on the log, or else on the database file, up to one with no stop, and
+/// none of them left what is not sound.
+fn stands(alloc: Global, run: Run<'_>, is_log: bool) -> bool {
+    for calls in 0..1000u64 {
+        let (log_calls, db_calls) = if is_log {
+            (calls, u64::MAX)
+        } else {
+            (u64::MAX, calls)
+        };
+        match stop_at(alloc, run, log_calls, db_calls) {
+            Some((true, true)) => return calls > 0,
+            Some((false, true)) => {}
+            _ => return false,
+        }
+    }
+    false
+}
+
+/// Whether a new archive that is asked for a deposit and a census stands each stop.
+fn keeps(alloc: Global, is_log: bool) -> bool {
+    let run = Run {
+        carries_over: false,
+        asked: KEEPS.as_slice(),
+        behind: KEPT.as_slice(),
+    };
+    stands(alloc, run, is_log)
+}
+
+/// Whether an archive of layout 1 that is opened stands each stop.
+fn carries_over(alloc: Global, is_log: bool) -> bool {
+    let run = Run {
+        carries_over: true,
+        asked: &[],
+        behind: CARRIED.as_slice(),
+    };
+    stands(alloc, run, is_log)
+}
+
+#[test]
+fn a_stop_of_the_log_loses_nothing(rt: HostRuntime) -> Result<(), Fail> {
+    assert!(rt; keeps(rt.alloc(), true));
+    Ok(())
+}
+
+#[test]
+fn a_stop_of_the_database_loses_nothing(rt: HostRuntime) -> Result<(), Fail> {
+    assert!(rt; keeps(rt.alloc(), false));
+    Ok(())
+}
+
+#[test]
+fn a_stop_of_the_log_leaves_layout_1_or_2(rt: HostRuntime) -> Result<(), Fail> {
+    assert!(rt; carries_over(rt.alloc(), true));
+    Ok(())
+}
+
+#[test]
+fn a_stop_of_the_database_leaves_layout_1_or_2(rt: HostRuntime) -> Result<(), Fail> {
+    assert!(rt; carries_over(rt.alloc(), false));
+    Ok(())
+}

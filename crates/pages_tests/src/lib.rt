@@ -1,5 +1,0 @@
-//! Tests over the archive's pages.
-#![tactic(auto)]
-
-#[cfg(test)]
-mod pages;

@@ -2,6 +2,8 @@
 #![tactic(auto)]
 
 #[cfg(test)]
+mod deposits;
+#[cfg(test)]
 mod files;
 #[cfg(test)]
 mod pages;

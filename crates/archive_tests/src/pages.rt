@@ -4,7 +4,8 @@
 //! pieces.
 ghost use Rattle.std.specs.Prelude.{◌<◌};
 
-use life_pages::{IoFault, serve};
+use life_archive::run_serve;
+use life_pages::IoFault;
 use life_rle::{PieceInlet, PieceOutlet};
 use life_store::Archive;
 use sqlite::Alter;
@@ -70,7 +71,7 @@ fn comes<S: Alter>(alloc: Global, archive: &mut Archive<S>, exchange: Exchange<'
     let piece = piece(exchange.bytewise);
     let mut input = PieceInlet::new(stream, piece, exchange.take_fails);
     let mut output = PieceOutlet::new(alloc, piece, exchange.put_fails);
-    let done = serve(alloc, archive, &mut input, &mut output);
+    let done = run_serve(alloc, archive, &mut input, &mut output);
     done == exchange.done && output.bytes() == exchange.put
 }
 
@@ -239,8 +240,9 @@ fn bad_messages_are_refused(rt: HostRuntime) -> Result<(), Fail> {
     Ok(())
 }
 
-/// Streams of line ends, and two messages in one stream, of which the second is the last.
-const STREAMS: [Act; 4] = [
+/// Streams of nothing, of line ends, and of two messages, of which the second is the last.
+const STREAMS: [Act; 5] = [
+    Act::Answers("", ""),
     Act::Answers("\r\n\r\n", ""),
     Act::AnswersBehindLineEnds("", ""),
     Act::Answers(GLIDER, DEPOSITED),
@@ -431,10 +433,10 @@ fn takes_none_before_the_reply<S: Alter>(
 ) -> bool {
     let mut input = PieceInlet::new(stream, 1, None);
     let mut failing = PieceOutlet::new(alloc, 1, Some(1));
-    let failed = serve(alloc, archive, &mut input, &mut failing);
+    let failed = run_serve(alloc, archive, &mut input, &mut failing);
     let calls = input.calls();
     let mut output = PieceOutlet::new(alloc, 1, None);
-    let done = serve(alloc, archive, &mut input, &mut output);
+    let done = run_serve(alloc, archive, &mut input, &mut output);
     failed == Err(IoFault::Write)
         && calls == GLIDER.len() as u64
         && done == Ok(())

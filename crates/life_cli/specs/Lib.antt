@@ -1,5 +1,0 @@
-pub mod Stop
-pub mod Words
-pub mod Jobs
-pub mod JobsState
-pub mod Archives

@@ -1,149 +1,84 @@
-//! The jobs over an archive, over any streams.
-ghost use Rattle.std.specs.Prelude.{◌≡◌, ◌≢◌, ◌∷◌, [], IfOk, OnOk, OnErr, Err};
-ghost use Rattle.std.specs.Fmt.{decimal};
-ghost use Rattle.life_rle.specs.Stream.{Gains, GainsSome, FailedBetween};
-ghost use Rattle.life_desk.specs.declared.request.Request.TheVariants as ask;
-ghost use Rattle.life_desk.specs.Run.{Answered};
-ghost use Rattle.life_cli.specs.Jobs.{TakesFile, PutsOnce};
-ghost use Rattle.life_cli.specs.Archives.{IsTaken, IsUnasked, deposit_line, desk_stop, PutsReply, Deposits};
+//! The jobs over an archive in a file.
 
-use crate::stop::Stop;
-use itoa::Buffer;
-use life_desk::{Bytes, Refusal, Reply, Request, answer};
-use life_rle::{Failed, Inlet, Outlet, Text, put_all};
-use life_store::Archive;
-use sqlite::Alter;
-use std::alloc::{AllocError, Global};
+use crate::net::serve_port;
+use life_archive::{ArchiveStop, run_deposit};
+use life_jobs::Stop;
+use life_program::{ArchiveJob, ArchiveJobs};
+use life_rle::{Inlet, Outlet};
+use life_store::{Archive, OpenFault};
+use sqlite::{Alter, FileFrom, FileStore, Unknown};
+use sqlite_disk::Disk;
 
-/// One more byte than a file may have.
-const MOST_TAKEN: usize = 1_048_577;
+/// How many deposits and how many censuses an archive takes.
+const CAPACITY: u64 = 1_000_000;
 
-/// The bytes that come in, to their end or to one more than a file may have.
-fn take_file<I: Inlet>(alloc: Global, input: &mut I) -> Result<Vec<u8>, Stop>
-    ensures taken { IfOk result (λ file. IsTaken (I.to_come input.old) file.items) }
-    ensures unasked { OnErr result (IsUnasked result) }
-    ensures takes { TakesFile (I.to_come input.old) (I.to_come input.new) (I.failures input.old) (I.failures input.new) result }
-{
-    let mut file = Vec::new(alloc);
-    let mut buffer = [0u8; 4096];
-    while file.len() < MOST_TAKEN {
-        let room = buffer.len().min(MOST_TAKEN - file.len());
-        let place = &mut buffer[..room];
-        match input.take(place) {
-            Err(_) => return Err(Stop::Unreadable),
-            Ok(0) => return Ok(file),
-            Ok(k) => match file.extend_from_slice(&place[..k]) {
-                Ok(()) => {}
-                Err(_) => return Err(Stop::Unavailable),
-            },
-        }
-    }
-    Ok(file)
-}
-
-/// The deposit that is asked for.
-fn deposit_request(
-    alloc: Global,
-    member: &str,
-    token: &str,
-    file: Vec<u8>,
-) -> Result<Request, AllocError>
-    ensures { IfOk result (λ request. request ≡ ask.Deposit member.now token.now file.items) }
-{
-    Ok(Request::Deposit(
-        Text::from_slice(alloc, member.as_bytes())?,
-        Text::from_slice(alloc, token.as_bytes())?,
-        Bytes::of(file),
-    ))
-}
-
-/// The stop for what the archive refuses.
-fn desk_stop(refusal: Refusal) -> Stop
-    ensures { result ≡ desk_stop refusal }
-{
-    match refusal {
-        Refusal::BadPattern(fault) => Stop::BadPattern(fault),
-        Refusal::Unavailable => Stop::Unavailable,
-        _ => Stop::Desk(refusal),
+/// The archive in the file.
+fn open_archive(
+    rt: &HostRuntime,
+    file: &str,
+) -> Result<Archive<FileStore<FileFrom<Unknown>>>, ArchiveStop> {
+    match Archive::open_path(rt, file, CAPACITY, Unknown) {
+        Ok(archive) => Ok(archive),
+        Err(OpenFault::NotOurs) => Err(ArchiveStop::NotOurs),
+        Err(_) => Err(ArchiveStop::Job(Stop::Unavailable)),
     }
 }
 
-/// Puts a number in decimal digits.
-fn put_decimal<O: Outlet>(output: &mut O, n: u64) -> Result<(), Failed>
-    ensures all { OnOk result (Gains (O.already output.old) (O.already output.new) (decimal n)) }
-    ensures some { OnErr result (GainsSome (O.already output.old) (O.already output.new) (decimal n)) }
-    ensures count { OnOk result (O.failures output.new ≡ O.failures output.old) }
-    ensures failed { OnErr result (FailedBetween (O.failures output.old) (O.failures output.new)) }
-{
-    put_all(output, Buffer::new().format(n).as_bytes())
-}
-
-/// Puts the line of a deposit. It takes no growth.
-fn put_number<O: Outlet>(output: &mut O, id: u64) -> Result<(), Failed>
-    ensures all { OnOk result (Gains (O.already output.old) (O.already output.new) (deposit_line id)) }
-    ensures some { OnErr result (GainsSome (O.already output.old) (O.already output.new) (deposit_line id)) }
-    ensures count { OnOk result (O.failures output.new ≡ O.failures output.old) }
-    ensures failed { OnErr result (FailedBetween (O.failures output.old) (O.failures output.new)) }
-{
-    match put_all(output, b"deposit ") {
-        Ok(()) => {}
-        Err(fault) => return Err(fault),
-    }
-    match put_decimal(output, id) {
-        Ok(()) => {}
-        Err(fault) => return Err(fault),
-    }
-    match put_all(output, b"\n") {
-        Ok(()) => Ok(()),
-        Err(fault) => Err(fault),
-    }
-}
-
-/// Puts the number of a deposit, or answers why it was refused.
-fn put_reply<O: Outlet>(output: &mut O, reply: Reply) -> Result<(), Stop>
-    ensures puts { PutsReply reply (O.already output.old) (O.already output.new) result }
-    ensures once { PutsOnce output.old output.new (O.failures output.old) (O.failures output.new) result }
-    ensures readable { result ≢ Err Stop.Unreadable }
-{
-    match reply {
-        Reply::Deposited(id) => match put_number(output, id) {
-            Ok(()) => Ok(()),
-            Err(_) => Err(Stop::Unwritable),
-        },
-        Reply::Refused(refusal) => Err(desk_stop(refusal)),
-        _ => Err(Stop::Unavailable),
-    }
-}
-
-/// What the archive replies to the request.
-fn reply_of<S: Alter>(alloc: Global, archive: &mut Archive<S>, request: Request) -> Reply
-    ensures { Answered archive.old archive.new (request ∷ []) (result ∷ []) }
-{
-    answer(archive, alloc, request)
-}
-
-/// Takes a file to its end and deposits it under the member and the token; puts the number of the
-/// deposit as one line.
-pub fn run_deposit<S: Alter, I: Inlet, O: Outlet>(
-    alloc: Global,
-    archive: &mut Archive<S>,
-    member: &str,
-    token: &str,
+/// Does a job over an archive in a store of any kind.
+fn done_in<S: Alter + Drop, I: Inlet, O: Outlet>(
+    rt: &HostRuntime,
+    mut archive: Archive<S>,
+    job: ArchiveJob<'_>,
     input: &mut I,
     output: &mut O,
-) -> Result<(), Stop>
-    // The archive is as it was, or was asked once, and its answer is told: where it was asked, it was for the file that came in.
-    ensures deposits { Deposits archive.old archive.new member.now token.now (I.to_come input.old) (O.already output.old) (O.already output.new) result }
-    ensures takes { TakesFile (I.to_come input.old) (I.to_come input.new) (I.failures input.old) (I.failures input.new) result }
-    ensures once { PutsOnce output.old output.new (O.failures output.old) (O.failures output.new) result }
-{
-    let file = match take_file(alloc, input) {
-        Ok(file) => file,
-        Err(stop) => return Err(stop),
-    };
-    let request = match deposit_request(alloc, member, token, file) {
-        Ok(request) => request,
-        Err(_) => return Err(Stop::Unavailable),
-    };
-    put_reply(output, reply_of(alloc, archive, request))
+) -> Result<(), ArchiveStop> {
+    match job {
+        ArchiveJob::Deposit { member, token } => {
+            run_deposit(rt.alloc(), &mut archive, member, token, input, output)
+        }
+        ArchiveJob::Serve { port, connections } => serve_port(rt, &mut archive, port, connections),
+    }
+}
+
+/// Does a job over an archive in files of any kind.
+fn done_in_files<D: Disk + Drop, I: Inlet, O: Outlet>(
+    rt: &HostRuntime,
+    archive: Archive<FileStore<D>>,
+    job: ArchiveJob<'_>,
+    input: &mut I,
+    output: &mut O,
+) -> Result<(), ArchiveStop> {
+    done_in(rt, archive, job, input, output)
+}
+
+/// Does a job over the archive in the file.
+fn done_at<I: Inlet, O: Outlet>(
+    rt: &HostRuntime,
+    file: &str,
+    job: ArchiveJob<'_>,
+    input: &mut I,
+    output: &mut O,
+) -> Result<(), ArchiveStop> {
+    match open_archive(rt, file) {
+        Ok(archive) => done_in_files(rt, archive, job, input, output),
+        Err(stop) => Err(stop),
+    }
+}
+
+/// Archives in files of this machine.
+pub struct InFiles;
+
+impl ArchiveJobs for InFiles {
+    fn done<I: Inlet, O: Outlet>(
+        rt: &HostRuntime,
+        file: &str,
+        job: ArchiveJob<'_>,
+        input: &mut I,
+        output: &mut O,
+    ) -> Result<(), &'static str> {
+        match done_at(rt, file, job, input, output) {
+            Ok(()) => Ok(()),
+            Err(stop) => Err(stop.line()),
+        }
+    }
 }

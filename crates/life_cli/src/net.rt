@@ -1,40 +1,23 @@
-//! An archive in a file, and its connections.
+//! The connections of an archive.
 
-use crate::stop::Stop;
-use life_pages::{IoFault, serve as run_serve};
+use crate::peer::Peer;
+use life_archive::{ArchiveStop, run_serve};
+use life_jobs::Stop;
+use life_pages::IoFault;
 use life_rle::{FromRead, FromWrite};
-use life_store::{Archive, OpenFault};
-use sqlite::{Alter, FileFrom, FileStore, Unknown};
+use life_store::Archive;
+use sqlite::Alter;
 use std::io;
-use std::io::Read;
-use std::net::{OpenListener, OpenStream, Shutdown, TcpListener, TcpStream};
-
-/// How many deposits and how many censuses an archive takes.
-const CAPACITY: u64 = 1_000_000;
-
-/// How many pieces of what a peer still sends are dropped after the last reply.
-const PIECES_DROPPED: u64 = 256;
-
-/// The archive in the file.
-pub fn open_archive(
-    rt: &HostRuntime,
-    file: &str,
-) -> Result<Archive<FileStore<FileFrom<Unknown>>>, Stop> {
-    match Archive::open_path(rt, file, CAPACITY, Unknown) {
-        Ok(archive) => Ok(archive),
-        Err(OpenFault::NotOurs) => Err(Stop::NotOurs),
-        Err(_) => Err(Stop::Unavailable),
-    }
-}
+use std::net::{OpenListener, TcpListener};
 
 /// Listens at a port of this machine.
-fn listen(rt: &HostRuntime, port: u64) -> Result<TcpListener, Stop> {
+fn listen(rt: &HostRuntime, port: u64) -> Result<TcpListener, ArchiveStop> {
     let Ok(address) = format!(in rt.alloc(); "127.0.0.1:{port}") else {
-        return Err(Stop::Unavailable);
+        return Err(ArchiveStop::Job(Stop::Unavailable));
     };
     match TcpListener::bind(rt, address.as_str()) {
         Ok(listener) => Ok(listener),
-        Err(_) => Err(Stop::NoPort),
+        Err(_) => Err(ArchiveStop::NoPort),
     }
 }
 
@@ -48,22 +31,6 @@ fn fault_line(fault: IoFault) -> &'static str {
     }
 }
 
-/// Tells the peer that nothing more comes, and drops some of what it still sends, so that the last reply
-/// reaches it.
-fn end_connection(stream: &TcpStream) {
-    if stream.shutdown(Shutdown::Write).is_err() {
-        return;
-    }
-    let mut reader = stream;
-    let mut piece = [0u8; 4096];
-    for _ in 0..PIECES_DROPPED {
-        match reader.read(&mut piece) {
-            Ok(0) | Err(_) => return,
-            Ok(_) => {}
-        }
-    }
-}
-
 /// Serves the next connection.
 fn serve_next<S: Alter>(
     rt: &HostRuntime,
@@ -73,13 +40,15 @@ fn serve_next<S: Alter>(
     let Ok((stream, _)) = listener.accept() else {
         return Err(IoFault::Read);
     };
+    let peer = Peer::new(rt, &stream);
     let served = run_serve(
         rt.alloc(),
         archive,
-        &mut FromRead::new(&stream),
-        &mut FromWrite::new(&stream),
+        &mut FromRead::new(&peer),
+        &mut FromWrite::new(&peer),
     );
-    end_connection(&stream);
+    // Nobody is told where the peer is gone already.
+    let _ended = peer.end();
     served
 }
 
@@ -90,16 +59,15 @@ pub fn serve_port<S: Alter>(
     archive: &mut Archive<S>,
     port: u64,
     connections: u64,
-) -> Result<(), Stop> {
+) -> Result<(), ArchiveStop> {
     let listener = listen(rt, port)?;
     if say_port(rt, port).is_err() {
-        return Err(Stop::Unwritable);
+        return Err(ArchiveStop::Job(Stop::Unwritable));
     }
     for _ in 0..connections {
         if let Err(fault) = serve_next(rt, archive, &listener) {
-            if rt.eprintln(fault_line(fault)).is_err() {
-                return Err(Stop::Unwritable);
-            }
+            // Where standard error fails there is nobody to tell.
+            let _told = rt.eprintln(fault_line(fault));
         }
     }
     Ok(())

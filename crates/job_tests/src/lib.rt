@@ -1,0 +1,7 @@
+//! Tests of the words of the command line, and of the jobs over a file or a code with streams in memory.
+#![tactic(auto)]
+
+#[cfg(test)]
+mod jobs;
+#[cfg(test)]
+mod words;

@@ -1,0 +1,29 @@
+use Rattle.std.proofs.Common.{◌<◌, ◌++◌, ◌∙◌, arith, take, length}
+use Rattle.std.proofs.lemmas.List.{length-append, length-take-le, length-take}
+use Rattle.life_archive.proofs.DepositLemmas.{loses_more, taken_all, taken_full}
+use Rattle.life_archive.proofs.deposit.take_file.Goals as goal
+
+pub returns-in-Ok-eq0-clause-taken : goal.returns-in-Ok-eq0-clause-taken
+returns-in-Ok-eq0-clause-taken g c =
+    let some : 0 < length c.take.new.place = omega (arith, c.take.auto.place, length-take c.min-room.result c.loop-buffer.buffer) in
+    taken_all _ _ c.loop-buffer.file.items c.loop-buffer.invariant.taken (c.in-Ok-eq0.ensures.bytes.1 c.in-Ok-eq0.field-0-test some) c.loop-buffer.invariant.few
+
+pub returns-in-Err-extend_from_slice-clause-takes : goal.returns-in-Err-extend_from_slice-clause-takes
+returns-in-Err-extend_from_slice-clause-takes g c = record {
+  heard = c.in-Ok.ensures.count ∙ c.loop-buffer.invariant.unfailed;
+  few = (
+    c.loop-buffer.file.items ++ take c.in-Ok.k c.take.new.place,
+    omega (
+      arith,
+      c.take.auto.place,
+      c.in-Ok.ensures.within,
+      length-append c.loop-buffer.file.items (take c.in-Ok.k c.take.new.place),
+      length-take-le c.in-Ok.k c.take.new.place c.in-Ok.ensures.within,
+      length-take c.min-room.result c.loop-buffer.buffer,
+    ),
+    loses_more _ _ _ c.loop-buffer.file.items (take c.in-Ok.k c.take.new.place) c.loop-buffer.invariant.taken c.in-Ok.ensures.bytes.0,
+  );
+}
+
+pub returns-clause-taken : goal.returns-clause-taken
+returns-clause-taken g c = taken_full _ _ c.loop-buffer.file.items c.loop-buffer.invariant.taken (omega (arith, c.loop-buffer.invariant.few))

@@ -1,0 +1,13 @@
+-- The lines that a job over an archive prints on standard error, each without its line end. They are the program's own.
+use Rattle.std.specs.Prelude.{ℕ, List, ◌++◌, codes}
+use Rattle.life_desk.specs.Refusals.{name_of}
+use Rattle.life_jobs.specs.Stop as jobs
+use Rattle.life_archive.specs.declared.stop.ArchiveStop.{ArchiveStop}
+use Rattle.life_archive.specs.declared.stop.ArchiveStop.TheVariants.{Job, Desk, NotOurs, NoPort}
+
+-- the line of a stop
+abbrev pub line_of : ArchiveStop → List ℕ
+line_of (Job stop) = jobs.line_of stop
+line_of (Desk refusal) = codes "refused: " ++ name_of refusal
+line_of NotOurs = codes "refused: not-ours"
+line_of NoPort = codes "refused: no-port"

@@ -1,0 +1,41 @@
+//! Serving an archive over the streams of a connection.
+ghost use Rattle.std.specs.Prelude.{◌≡◌, Err, OnOk, IfSome};
+ghost use Rattle.life_rle.specs.Stream.{FailedBetween};
+ghost use Rattle.life_desk.specs.Run.{Step};
+ghost use Rattle.life_pages.specs.Message.{AnswersMessage, Starts};
+ghost use Rattle.life_pages.specs.Serving.{Served, Broke, Paused, Cut, LosesAtLeast};
+ghost use Rattle.life_pages.specs.Archive.{ByArchive};
+
+use life_pages::{IoFault, serve};
+use life_rle::{Inlet, Outlet};
+use life_store::Archive;
+use sqlite::Alter;
+use std::alloc::Global;
+
+/// Answers the messages of a connection from the archive: `life_pages::serve` for the program.
+pub fn run_serve<S: Alter, I: Inlet, O: Outlet>(
+    alloc: Global,
+    archive: &mut Archive<S>,
+    input: &mut I,
+    output: &mut O,
+) -> Result<(), IoFault>
+    // Told: the archive went through a run over the messages of the stream, and what was put is the run's bytes.
+    ensures told { OnOk result (IfSome (I.to_come input.old) (λ stream.
+        ByArchive (λ A B. Served (AnswersMessage Step) stream A B (O.already output.old) (O.already output.new)) archive.old archive.new)) }
+    // Told or not: it went through a run over some messages, and no more than its bytes was put.
+    ensures some { ByArchive (λ A B. Broke (AnswersMessage Step) A B (O.already output.old) (O.already output.new)) archive.old archive.new }
+    // A failed take: the run is over what was taken whole, and its bytes were put whole.
+    ensures paused { result ≡ Err IoFault.Read →
+        ByArchive (λ A B. Paused (AnswersMessage Step) (I.to_come input.old) (I.to_come input.new) A B (O.already output.old) (O.already output.new)) archive.old archive.new }
+    ensures full { result ≡ Err IoFault.TooManyReads →
+        ByArchive (λ A B. Paused (AnswersMessage Step) (I.to_come input.old) (I.to_come input.new) A B (O.already output.old) (O.already output.new)) archive.old archive.new }
+    ensures many { result ≡ Err IoFault.TooManyReads → LosesAtLeast 1_048_576 (I.to_come input.old) (I.to_come input.new) }
+    // A failed put: of the last reply of the run a beginning was put, and those before it whole.
+    ensures cut { result ≡ Err IoFault.Write →
+        ByArchive (λ A B. Cut (AnswersMessage Step) (λ ms. IfSome (I.to_come input.old) (λ stream. Starts stream ms)) A B (O.already output.old) (O.already output.new)) archive.old archive.new }
+    ensures memory { result ≡ Err IoFault.Memory → (archive.new ≡ archive.old) × (input.new ≡ input.old) × (output.new ≡ output.old) }
+    ensures read { result ≡ Err IoFault.Read → FailedBetween (I.failures input.old) (I.failures input.new) }
+    ensures write { result ≡ Err IoFault.Write → FailedBetween (O.failures output.old) (O.failures output.new) }
+{
+    serve(alloc, archive, input, output)
+}

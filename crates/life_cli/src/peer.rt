@@ -1,0 +1,112 @@
+//! The stream of a connection whose peer may be slow or silent.
+
+use std::cell::Cell;
+use std::io;
+use std::io::{ErrorKind, Read, Write};
+use std::net::{OpenStream, Shutdown, TcpStream};
+use std::time::{Duration, Instant};
+
+/// How many seconds a connection may be silent before a message begins.
+const SILENCE: u64 = 1;
+
+/// How many seconds a message that has begun may take to come whole.
+const MESSAGE: u64 = 10;
+
+/// How many seconds a reply may take to be taken.
+const REPLY: u64 = 10;
+
+/// For how many seconds at most it is read and dropped what a peer still sends after the last reply.
+const REST: u64 = 2;
+
+/// How many pieces of it are dropped at most.
+const PIECES: u64 = 256;
+
+/// A connection with a peer, which ends where the peer takes too long.
+///
+/// Where no byte of a message has come for a second, since the connection began or since the last reply, it reads as ended. A
+/// message that has begun, and a reply, have ten seconds: then the read or the write fails. What is counted is the time in which
+/// the peer is waited for, not the time in which a reply is made.
+#[derive(Drop)]
+pub struct Peer<'a> {
+    rt: &'a HostRuntime,
+    stream: &'a TcpStream,
+    /// How much longer the message may take that has begun; none where none has.
+    message: Cell<Option<Duration>>,
+    /// How much longer the reply may take that is put.
+    reply: Cell<Duration>,
+}
+
+impl<'a> Peer<'a> {
+    /// The peer of a connection on which no byte came yet.
+    pub fn new(rt: &'a HostRuntime, stream: &'a TcpStream) -> Peer<'a> {
+        Peer {
+            rt,
+            stream,
+            message: Cell::new(None),
+            reply: Cell::new(Duration::from_secs(REPLY)),
+        }
+    }
+
+    /// Tells the peer that nothing more comes, and drops some of what it still sends, so that the last reply reaches it.
+    pub fn end(&self) -> io::Result<()> {
+        self.stream.shutdown(Shutdown::Write)?;
+        let begun = Instant::now(self.rt)?;
+        let mut reader = self.stream;
+        let mut piece = [0u8; 4096];
+        for _ in 0..PIECES {
+            let left = Duration::from_secs(REST).saturating_sub(begun.elapsed(self.rt)?);
+            // No time at all is refused as a timeout.
+            self.stream.set_read_timeout(Some(left))?;
+            if reader.read(&mut piece)? == 0 {
+                return Ok(());
+            }
+        }
+        Ok(())
+    }
+}
+
+impl Read for &Peer<'_> {
+    fn read(&mut self, buf: &mut [u8]) -> io::Result<usize> {
+        let left = self.message.get();
+        let wait = left.unwrap_or(Duration::from_secs(SILENCE));
+        self.stream.set_read_timeout(Some(wait))?;
+        let begun = Instant::now(self.rt)?;
+        let mut reader = self.stream;
+        match reader.read(buf) {
+            Ok(k) => {
+                let spent = begun.elapsed(self.rt)?;
+                let left = match left {
+                    Some(left) => left.saturating_sub(spent),
+                    None => Duration::from_secs(MESSAGE),
+                };
+                self.message.set(Some(left));
+                Ok(k)
+            }
+            Err(error) if left.is_none() && error.kind() == ErrorKind::WouldBlock => Ok(0),
+            Err(error) => Err(error),
+        }
+    }
+}
+
+impl Write for &Peer<'_> {
+    fn write(&mut self, buf: &[u8]) -> io::Result<usize> {
+        let left = self.reply.get();
+        self.stream.set_write_timeout(Some(left))?;
+        let begun = Instant::now(self.rt)?;
+        let mut writer = self.stream;
+        let k = writer.write(buf)?;
+        if k == buf.len() {
+            // The reply has been put whole, so the next message is waited for.
+            self.message.set(None);
+            self.reply.set(Duration::from_secs(REPLY));
+        } else {
+            let spent = begun.elapsed(self.rt)?;
+            self.reply.set(left.saturating_sub(spent));
+        }
+        Ok(k)
+    }
+
+    fn flush(&mut self) -> io::Result<()> {
+        Ok(())
+    }
+}

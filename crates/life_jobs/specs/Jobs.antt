@@ -1,0 +1,155 @@
+-- What a job of the program puts for the bytes that come in, or for its words.
+use Rattle.std.specs.Prelude.{◌≡◌, ◌≢◌, ◌≤◌, ℕ, List, [], ◌∷◌, ◌++◌, codes, Option, None, Some, Result, Ok, Err, OnOk}
+use Rattle.std.specs.Fmt.{decimal, signed_decimal}
+use Rattle.life_core.specs.declared.rule_text.RuleFault.{RuleFault}
+use Rattle.life_core.specs.declared.generations.TheConstants.{GENERATION_LIMIT}
+use Rattle.life_core.specs.Generations.{generation_of}
+use Rattle.life_core.specs.Pattern.{Cells}
+use Rattle.life_core.specs.Rule.{RuleSets}
+use Rattle.life_core.specs.RuleText.{read_rule}
+use Rattle.life_rle.specs.declared.fault.RleFault.{RleFault}
+use Rattle.life_rle.specs.Fault.{◌>>=◌}
+use Rattle.life_rle.specs.File.{file}
+use Rattle.life_rle.specs.Record.{Contents, plain}
+use Rattle.life_rle.specs.Writer.{text}
+use Rattle.life_rle.specs.Stream.{Gains, GainsSome, raised, FailedBetween, LosesUpTo}
+use Rattle.life_code.specs.declared.period.TheConstants.{PERIOD_LIMIT}
+use Rattle.life_code.specs.declared.kinds.Kind.{Kind}
+use Rattle.life_code.specs.declared.kinds.Kind.TheVariants.{Empty, Still, Oscillator, Ship, Unresolved}
+use Rattle.life_code.specs.declared.open.CodeFault.{CodeFault}
+use Rattle.life_code.specs.declared.open.CodeFault.TheVariants as code_faults
+use Rattle.life_code.specs.Period.{kind_of}
+use Rattle.life_code.specs.Codes.{code_of}
+use Rattle.life_code.specs.Open.{Spells, Refuses}
+use Rattle.life_census.specs.Parts.{parts}
+use Rattle.life_census.specs.Counting.{tally_of}
+use Rattle.life_census.specs.Table.{csv_text}
+use Rattle.life_jobs.specs.declared.stop.Stop.{Stop}
+use Rattle.life_jobs.specs.declared.stop.Stop.TheVariants.{OutOfLimit, BadPattern, BadRule, BadCode, Unreadable, Unavailable, Unwritable}
+
+-- ---- what is printed for a file
+
+-- generation n of a record, in normal form and without texts
+abbrev pub later : ℕ → Contents → Contents
+later n r = plain r.rule (generation_of r.rule r.cells n)
+
+-- what is printed for a file, by what is printed for its record, or the file's first fault
+unfoldable pub file_text : (Contents → List ℕ) → List ℕ → Result (List ℕ) RleFault
+file_text shown bytes = file bytes >>= λ r. Ok (shown r)
+
+-- what `generation n` prints for a file
+abbrev pub generation_text : ℕ → List ℕ → Result (List ℕ) RleFault
+generation_text n = file_text (λ r. text (later n r))
+
+-- a limit of the period that may be asked for
+abbrev pub IsPeriodLimit : ℕ → Type 0
+IsPeriodLimit limit = (1 ≤ limit) × (limit ≤ PERIOD_LIMIT)
+
+-- a code, or `-` where there is none
+abbrev pub code_or_dash : Option (List ℕ) → List ℕ
+code_or_dash None = codes "-"
+code_or_dash (Some code) = code
+
+-- the words of a kind: its name, the period, the columns and rows of its move, and the code, as far as it has them
+abbrev pub kind_words : Kind → Option (List ℕ) → List ℕ
+kind_words Empty code = codes "empty"
+kind_words Still code = codes "still " ++ code_or_dash code
+kind_words (Oscillator p) code = codes "oscillator " ++ decimal p ++ codes " " ++ code_or_dash code
+kind_words (Ship p dx dy) code = codes "ship " ++ decimal p ++ codes " " ++ signed_decimal dx ++ codes " " ++ signed_decimal dy ++ codes " " ++ code_or_dash code
+kind_words Unresolved code = codes "unresolved"
+
+-- the line of a set's kind under a rule and a limit
+abbrev pub kind_line : RuleSets → Cells → ℕ → List ℕ
+kind_line r X limit = kind_words (kind_of r X limit) (code_of r X limit) ++ 10 ∷ []
+
+-- what `kind limit` prints for a file
+abbrev pub kind_text : ℕ → List ℕ → Result (List ℕ) RleFault
+kind_text limit = file_text (λ r. kind_line r.rule r.cells limit)
+
+-- numbers of a census that may be asked for: of a generation, and of a limit of the period
+abbrev pub AreCensusNumbers : ℕ → ℕ → Type 0
+AreCensusNumbers n limit = (n ≤ GENERATION_LIMIT) × IsPeriodLimit limit
+
+-- the CSV of the tally of the clusters of generation n of a record
+abbrev pub census_table : ℕ → ℕ → Contents → List ℕ
+census_table n limit r = csv_text (tally_of (λ P. code_of r.rule P limit) (parts (generation_of r.rule r.cells n)))
+
+-- what `census n limit` prints for a file
+abbrev pub census_text : ℕ → ℕ → List ℕ → Result (List ℕ) RleFault
+census_text n limit = file_text (census_table n limit)
+
+-- ---- what is printed for a code
+
+-- the rule text is a rule's, under which the code is that of a set, and the text is that set's file
+pub record PrintsObject (rule code : List ℕ) (limit : ℕ) (all : List ℕ) : Type 0 where
+  pub rule_sets : RuleSets
+  pub cells : Cells
+  pub rule_is : read_rule rule ≡ Ok rule_sets
+  pub spells : Spells code cells
+  pub has_code : code_of rule_sets cells limit ≡ Some code
+  pub text_is : all ≡ text (plain rule_sets cells)
+
+-- the rule text is refused
+abbrev pub RefusesRule : List ℕ → Type 0
+RefusesRule rule = (fault : RuleFault) × (read_rule rule ≡ Err fault)
+
+-- the rule text is a rule's, under which the code is refused with this fault, and is no set's
+pub record RefusesCode (rule code : List ℕ) (limit : ℕ) (fault : CodeFault) : Type 0 where
+  pub rule_sets : RuleSets
+  pub rule_is : read_rule rule ≡ Ok rule_sets
+  pub judged : fault ≢ code_faults.Memory
+  pub refuses : Refuses rule_sets code limit fault
+  pub no_code : (X : Cells) → code_of rule_sets X limit ≢ Some code
+
+-- what `object` answers to a rule text, a code and a limit; they are judged in the order limit, rule, code
+abbrev pub PutsObject : List ℕ → List ℕ → ℕ → Option (List ℕ) → Option (List ℕ) → Result (Unit {0}) Stop → Type 0
+PutsObject rule code limit old new (Ok done) = (all : List ℕ) × PrintsObject rule code limit all × Gains old new all
+PutsObject rule code limit old new (Err OutOfLimit) = ¬ IsPeriodLimit limit
+PutsObject rule code limit old new (Err BadRule) = IsPeriodLimit limit × RefusesRule rule
+PutsObject rule code limit old new (Err (BadCode fault)) = IsPeriodLimit limit × RefusesCode rule code limit fault
+PutsObject rule code limit old new (Err Unavailable) = Unit {0}
+PutsObject rule code limit old new (Err Unwritable) = (all : List ℕ) × PrintsObject rule code limit all × GainsSome old new all
+PutsObject rule code limit old new (Err stop) = ⊥
+
+-- ---- answers
+
+-- what a job that prints `wanted` for a file answers to these bytes
+abbrev pub PutsBytes : (List ℕ → Result (List ℕ) RleFault) → List ℕ → Option (List ℕ) → Option (List ℕ) → Result (Unit {0}) Stop → Type 0
+PutsBytes wanted bytes old new (Ok done) = (all : List ℕ) × (wanted bytes ≡ Ok all) × Gains old new all
+PutsBytes wanted bytes old new (Err (BadPattern fault)) = wanted bytes ≡ Err fault
+PutsBytes wanted bytes old new (Err Unreadable) = Unit {0}
+PutsBytes wanted bytes old new (Err Unavailable) = Unit {0}
+PutsBytes wanted bytes old new (Err Unwritable) = (all : List ℕ) × (wanted bytes ≡ Ok all) × GainsSome old new all
+PutsBytes wanted bytes old new (Err stop) = ⊥
+
+-- the same, where the bytes that come in are told
+abbrev pub PutsTold : (List ℕ → Result (List ℕ) RleFault) → Option (List ℕ) → Option (List ℕ) → Option (List ℕ) → Result (Unit {0}) Stop → Type 0
+PutsTold wanted None old new answer = Unit {0}
+PutsTold wanted (Some bytes) old new answer = PutsBytes wanted bytes old new answer
+
+-- ---- the streams of a job
+
+-- a take that failed is answered Unreadable at once, and nothing else is
+abbrev Hears : {X : Type 0} → ℕ → ℕ → Result X Stop → Type 0
+Hears old new (Ok x) = new ≡ old
+Hears old new (Err Unreadable) = new ≡ raised old
+Hears old new (Err stop) = new ≡ old
+
+-- what a job does with the stream that comes in, by what it tells and how often it failed before and after: it also takes at most one byte
+-- more than a file may have
+pub record TakesFile {X : Type 0} (told_old told_new : Option (List ℕ)) (failed_old failed_new : ℕ) (answer : Result X Stop) : Type 0 where
+  pub heard : Hears failed_old failed_new answer
+  pub few : LosesUpTo 1048577 told_old told_new
+
+-- after a stop the output is as it was, unless a put failed
+abbrev IsSilent : {O : Type 0} → O → O → Result (Unit {0}) Stop → Type 0
+IsSilent old new (Ok done) = Unit {0}
+IsSilent old new (Err Unwritable) = Unit {0}
+IsSilent old new (Err stop) = new ≡ old
+
+-- what a job does with the stream that it puts its text into, by how often it failed before and after: where the job is done, no put failed,
+-- and Unwritable is answered only where one did
+pub record PutsOnce {O : Type 0} (old new : O) (failed_old failed_new : ℕ) (answer : Result (Unit {0}) Stop) : Type 0 where
+  pub silent : IsSilent old new answer
+  pub put : OnOk answer (failed_new ≡ failed_old)
+  pub unwritable : answer ≡ Err Unwritable → FailedBetween failed_old failed_new

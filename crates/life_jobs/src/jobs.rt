@@ -1,0 +1,355 @@
+//! The jobs of the program, over any streams.
+ghost use Rattle.std.specs.Prelude.{◌≡◌, ℕ, List, codes, ◌≢◌, ◌<◌, ◌≤◌, ◌↔◌, Some, IfOk, IfErr, OnErr, Err};
+ghost use Rattle.std.specs.Option.{SomeIff, MatchOption};
+ghost use Rattle.life_core.specs.Pattern.{Cells, IsWithin};
+ghost use Rattle.life_rle.specs.Record.{IsInside, plain};
+ghost use Rattle.life_rle.specs.Stream.{LosesUpTo, FailedBetween};
+ghost use Rattle.life_rle.specs.Writer.{text};
+ghost use Rattle.life_code.specs.Period.{kind_of};
+ghost use Rattle.life_code.specs.Codes.{code_of};
+ghost use Rattle.life_code.specs.Open.{Spells, Refuses};
+ghost use Rattle.life_jobs.specs.Jobs.{later, generation_text, IsPeriodLimit, code_or_dash, kind_words, kind_line, kind_text, AreCensusNumbers, census_table, census_text};
+ghost use Rattle.life_jobs.specs.Jobs.{RefusesRule, PutsObject, PutsTold, TakesFile, PutsOnce};
+ghost use Rattle.life_jobs.specs.JobsState.{code_stop, IsOfInput, ReadsTold, PutsText, printed, print_text, IsPrint};
+
+use crate::stop::Stop;
+use life_census::{csv, tally};
+use life_code::{CodeFault, Kind, PERIOD_LIMIT, code_of_kind, kind, open_code};
+use life_core::{Fault, GENERATION_LIMIT, Pattern, Rule, generation};
+use life_rle::{
+    Inlet, Outlet, ReadFault, Record, RleFault, WriteFault, plain, put_all, read_from, write_to,
+};
+use std::alloc::{AllocError, Global};
+
+/// Reads the pattern file that comes in.
+fn read_input<I: Inlet>(alloc: Global, input: &mut I) -> Result<Record, Stop>
+    ensures told { ReadsTold (I.to_come input.old) result }
+    ensures stops { IfErr result IsOfInput }
+    ensures takes { TakesFile (I.to_come input.old) (I.to_come input.new) (I.failures input.old) (I.failures input.new) result }
+    ensures inside { IfOk result (λ r. IsInside 1024 r.cells) }
+{
+    match read_from(alloc, input) {
+        Ok(record) => Ok(record),
+        Err(ReadFault::Unreadable) => Err(Stop::Unreadable),
+        Err(ReadFault::Rle(RleFault::Memory)) => Err(Stop::Unavailable),
+        Err(ReadFault::Rle(fault)) => Err(Stop::BadPattern(fault)),
+    }
+}
+
+/// Generation `n` of a record, without its texts and in normal form.
+fn later(alloc: Global, record: &Record, n: u32) -> Result<Record, Fault>
+    requires few { n ≤ GENERATION_LIMIT }
+    requires inside { IsInside 1024 «record».now.cells }
+    ensures { IfOk result (λ r. r ≡ later n «record».now) }
+{
+    let cells = generation(alloc, &record.rule, &record.cells, n)?;
+    Ok(plain(alloc, record.rule, &cells)?)
+}
+
+/// The words of a kind with a code.
+fn kind_words(alloc: Global, kind: Kind, code: &[u8]) -> Result<Vec<u8>, AllocError>
+    ensures { IfOk result (λ v. v.items ≡ kind_words kind (Some code.now)) }
+{
+    let front = match kind {
+        Kind::Empty => return Ok("empty".to_string(alloc)?.into_bytes()),
+        Kind::Still => "still ".to_string(alloc)?,
+        Kind::Oscillator(period) => format!(in alloc; "oscillator {period} ")?,
+        Kind::Ship(period, dx, dy) => format!(in alloc; "ship {period} {dx} {dy} ")?,
+        Kind::Unresolved => return Ok("unresolved".to_string(alloc)?.into_bytes()),
+    };
+    let mut words = front.into_bytes();
+    words.extend_from_slice(code)?;
+    Ok(words)
+}
+
+/// What stands for a code that is missing.
+fn dash(alloc: Global) -> Result<Vec<u8>, Fault>
+    ensures { IfOk result (λ v. v.items ≡ codes "-") }
+{
+    Ok("-".to_string(alloc)?.into_bytes())
+}
+
+/// The code of a pattern of this kind, or `-` where it has none.
+fn code_or_dash(
+    alloc: Global,
+    rule: &Rule,
+    pattern: &Pattern,
+    limit: u32,
+    kind: Kind,
+) -> Result<Vec<u8>, Fault>
+    requires limit { IsPeriodLimit limit }
+    requires room { IsWithin 400_000_000 pattern.now }
+    requires kind { kind ≡ kind_of rule.now pattern.now limit }
+    ensures { IfOk result (λ v. v.items ≡ code_or_dash (code_of rule.now pattern.now limit)) }
+{
+    match kind {
+        Kind::Empty | Kind::Unresolved => dash(alloc),
+        _ => match code_of_kind(alloc, rule, pattern, limit, kind)? {
+            None => dash(alloc),
+            Some(coded) => Ok(coded.text().to_vec(alloc)?),
+        },
+    }
+}
+
+/// The line of the kind of a pattern.
+fn kind_line(alloc: Global, rule: &Rule, pattern: &Pattern, limit: u32) -> Result<Vec<u8>, Fault>
+    requires limit { IsPeriodLimit limit }
+    requires room { IsWithin 400_000_000 pattern.now }
+    ensures { IfOk result (λ v. v.items ≡ kind_line rule.now pattern.now limit) }
+{
+    let kind = kind(alloc, rule, pattern, limit)?;
+    let code = code_or_dash(alloc, rule, pattern, limit, kind)?;
+    let mut line = kind_words(alloc, kind, &code)?;
+    line.extend_from_slice(b"\n")?;
+    Ok(line)
+}
+
+/// The line of the kind of a record's pattern.
+fn kind_of_record(alloc: Global, record: &Record, limit: u32) -> Result<Vec<u8>, Fault>
+    requires limit { IsPeriodLimit limit }
+    requires inside { IsInside 1024 «record».now.cells }
+    ensures { IfOk result (λ v. v.items ≡ kind_line «record».now.rule «record».now.cells limit) }
+{
+    kind_line(alloc, &record.rule, &record.cells, limit)
+}
+
+/// The CSV of the tally of the clusters of generation `n` of a record.
+fn census_table(alloc: Global, record: &Record, n: u32, limit: u32) -> Result<Vec<u8>, Fault>
+    requires few { n ≤ GENERATION_LIMIT }
+    requires limit { IsPeriodLimit limit }
+    requires inside { IsInside 1024 «record».now.cells }
+    ensures { IfOk result (λ v. v.items ≡ census_table n limit «record».now) }
+{
+    let cells = generation(alloc, &record.rule, &record.cells, n)?;
+    let tally = tally(alloc, &record.rule, &cells, limit)?;
+    csv(alloc, &tally)
+}
+
+/// What is printed for a pattern file.
+#[derive(Clone, Copy)]
+enum Print {
+    /// Its generation of this number.
+    Generation(u32),
+    /// Its kind under this limit of the period.
+    Kind(u32),
+    /// The census of its generation `n` under this limit of the period.
+    Census { n: u32, limit: u32 },
+}
+
+/// Puts a text whole.
+fn put_text<O: Outlet>(output: &mut O, text: &[u8]) -> Result<(), Stop>
+    ensures puts { PutsText (O.already output.old) (O.already output.new) text.now result }
+    ensures once { PutsOnce output.old output.new (O.failures output.old) (O.failures output.new) result }
+{
+    match put_all(output, text) {
+        Ok(()) => Ok(()),
+        Err(_) => Err(Stop::Unwritable),
+    }
+}
+
+/// Puts a record as canonical RLE.
+fn put_record<O: Outlet>(alloc: Global, record: &Record, output: &mut O) -> Result<(), Stop>
+    ensures puts { PutsText (O.already output.old) (O.already output.new) (text «record».now) result }
+    ensures once { PutsOnce output.old output.new (O.failures output.old) (O.failures output.new) result }
+{
+    match write_to(alloc, record, output) {
+        Ok(()) => Ok(()),
+        Err(WriteFault::Unwritable) => Err(Stop::Unwritable),
+        Err(WriteFault::Memory) => Err(Stop::Unavailable),
+    }
+}
+
+/// Puts a text that was made, if memory sufficed.
+fn put_made<O: Outlet>(output: &mut O, made: Result<Vec<u8>, Fault>) -> Result<(), Stop>
+    ensures puts { (text : List ℕ) → IfOk made (λ v. v.items ≡ text) → PutsText (O.already output.old) (O.already output.new) text result }
+    ensures once { PutsOnce output.old output.new (O.failures output.old) (O.failures output.new) result }
+{
+    match made {
+        Ok(text) => put_text(output, &text),
+        Err(_) => Err(Stop::Unavailable),
+    }
+}
+
+/// Puts what is printed for a record.
+fn put_for<O: Outlet>(
+    alloc: Global,
+    print: Print,
+    record: &Record,
+    output: &mut O,
+) -> Result<(), Stop>
+    requires numbers { IsPrint print }
+    requires inside { IsInside 1024 «record».now.cells }
+    ensures puts { PutsText (O.already output.old) (O.already output.new) (printed print «record».now) result }
+    ensures once { PutsOnce output.old output.new (O.failures output.old) (O.failures output.new) result }
+{
+    match print {
+        Print::Generation(n) => match later(alloc, record, n) {
+            Ok(later) => put_record(alloc, &later, output),
+            Err(_) => Err(Stop::Unavailable),
+        },
+        Print::Kind(limit) => put_made(output, kind_of_record(alloc, record, limit)),
+        Print::Census { n, limit } => { put_made(output, census_table(alloc, record, n, limit)) }
+    }
+}
+
+/// Reads a pattern file and puts what is to be printed for it. The input is taken to its end, or to
+/// byte 1,048,577.
+fn print_file<I: Inlet, O: Outlet>(
+    alloc: Global,
+    print: Print,
+    input: &mut I,
+    output: &mut O,
+) -> Result<(), Stop>
+    requires { IsPrint print }
+    ensures limit { result ≢ Err Stop.OutOfLimit }
+    ensures told { PutsTold (print_text print) (I.to_come input.old) (O.already output.old) (O.already output.new) result }
+    ensures takes { TakesFile (I.to_come input.old) (I.to_come input.new) (I.failures input.old) (I.failures input.new) result }
+    ensures once { PutsOnce output.old output.new (O.failures output.old) (O.failures output.new) result }
+{
+    match read_input(alloc, input) {
+        Ok(record) => put_for(alloc, print, &record, output),
+        Err(stop) => Err(stop),
+    }
+}
+
+/// A number of a generation that may be asked for.
+fn generation_number(n: u64) -> Option<u32>
+    ensures { SomeIff result (n ≤ GENERATION_LIMIT) n }
+{
+    match u32::try_from(n) {
+        Ok(n) if n <= GENERATION_LIMIT => Some(n),
+        _ => None,
+    }
+}
+
+/// Reads a pattern file and puts generation `n` of it as canonical RLE, without texts and in normal
+/// form. The number is judged first, before a byte is taken; the input is taken to its end, or to
+/// byte 1,048,577.
+pub fn run_generation<I: Inlet, O: Outlet>(
+    alloc: Global,
+    n: u64,
+    input: &mut I,
+    output: &mut O,
+) -> Result<(), Stop>
+    ensures limit { (result ≡ Err Stop.OutOfLimit) ↔ (GENERATION_LIMIT < n) }
+    ensures untouched { GENERATION_LIMIT < n → (input.new ≡ input.old) × (output.new ≡ output.old) }
+    // Where the bytes that come in are told, what is put is the text of their generation, and a bad pattern is theirs.
+    ensures told { n ≤ GENERATION_LIMIT → PutsTold (generation_text n) (I.to_come input.old) (O.already output.old) (O.already output.new) result }
+    ensures takes { TakesFile (I.to_come input.old) (I.to_come input.new) (I.failures input.old) (I.failures input.new) result }
+    ensures once { PutsOnce output.old output.new (O.failures output.old) (O.failures output.new) result }
+{
+    match generation_number(n) {
+        Some(n) => print_file(alloc, Print::Generation(n), input, output),
+        None => Err(Stop::OutOfLimit),
+    }
+}
+
+/// A limit of the period that may be asked for.
+fn period_limit(limit: u64) -> Option<u32>
+    ensures { SomeIff result (IsPeriodLimit limit) limit }
+{
+    match u32::try_from(limit) {
+        Ok(limit) if 1 <= limit && limit <= PERIOD_LIMIT => Some(limit),
+        _ => None,
+    }
+}
+
+/// Reads a pattern file and puts the kind of its pattern, whose period is at most the limit, with its
+/// code, as one line. The limit is judged first, before a byte is taken; the input is taken as by
+/// `run_generation`.
+pub fn run_kind<I: Inlet, O: Outlet>(
+    alloc: Global,
+    limit: u64,
+    input: &mut I,
+    output: &mut O,
+) -> Result<(), Stop>
+    ensures limit { (result ≡ Err Stop.OutOfLimit) ↔ ¬ IsPeriodLimit limit }
+    ensures untouched { ¬ IsPeriodLimit limit → (input.new ≡ input.old) × (output.new ≡ output.old) }
+    // Where the bytes that come in are told, what is put is the line of their kind, and a bad pattern is theirs.
+    ensures told { IsPeriodLimit limit → PutsTold (kind_text limit) (I.to_come input.old) (O.already output.old) (O.already output.new) result }
+    ensures takes { TakesFile (I.to_come input.old) (I.to_come input.new) (I.failures input.old) (I.failures input.new) result }
+    ensures once { PutsOnce output.old output.new (O.failures output.old) (O.failures output.new) result }
+{
+    match period_limit(limit) {
+        Some(limit) => print_file(alloc, Print::Kind(limit), input, output),
+        None => Err(Stop::OutOfLimit),
+    }
+}
+
+/// The numbers of a census that may be asked for.
+fn census_numbers(n: u64, limit: u64) -> Option<(u32, u32)>
+    ensures { MatchOption result (¬ AreCensusNumbers n limit) (λ found. AreCensusNumbers n limit × (found.0 ≡ n) × (found.1 ≡ limit)) }
+{
+    Some((generation_number(n)?, period_limit(limit)?))
+}
+
+/// Reads a pattern file and puts the tally of the clusters of its generation `n` as CSV: how many of
+/// them have each code under the limit of the period, and how many have none. The numbers are judged
+/// first, before a byte is taken; the input is taken as by `run_generation`.
+pub fn run_census<I: Inlet, O: Outlet>(
+    alloc: Global,
+    n: u64,
+    limit: u64,
+    input: &mut I,
+    output: &mut O,
+) -> Result<(), Stop>
+    ensures limit { (result ≡ Err Stop.OutOfLimit) ↔ ¬ AreCensusNumbers n limit }
+    ensures untouched { ¬ AreCensusNumbers n limit → (input.new ≡ input.old) × (output.new ≡ output.old) }
+    // Where the bytes that come in are told, what is put is the CSV of their tally, and a bad pattern is theirs.
+    ensures told { AreCensusNumbers n limit → PutsTold (census_text n limit) (I.to_come input.old) (O.already output.old) (O.already output.new) result }
+    ensures takes { TakesFile (I.to_come input.old) (I.to_come input.new) (I.failures input.old) (I.failures input.new) result }
+    ensures once { PutsOnce output.old output.new (O.failures output.old) (O.failures output.new) result }
+{
+    match census_numbers(n, limit) {
+        Some((n, limit)) => print_file(alloc, Print::Census { n, limit }, input, output),
+        None => Err(Stop::OutOfLimit),
+    }
+}
+
+/// The record of the pattern that a code spells.
+fn object(alloc: Global, rule: &Rule, code: &[u8], limit: u32) -> Result<Record, CodeFault>
+    requires limit { IsPeriodLimit limit }
+    ensures opened { IfOk result (λ r. (X : Cells) × Spells code.now X × (code_of rule.now X limit ≡ Some code.now) × (r ≡ plain rule.now X)) }
+    ensures refused { IfErr result (Refuses rule.now code.now limit) }
+    ensures no_code { IfErr result (λ fault. fault ≢ CodeFault.Memory → (X : Cells) → code_of rule.now X limit ≢ Some code.now) }
+{
+    let pattern = open_code(alloc, rule, code, limit)?;
+    Ok(plain(alloc, *rule, &pattern)?)
+}
+
+/// The stop for a code that is not opened.
+fn code_stop(fault: CodeFault) -> Stop
+    ensures { result ≡ code_stop fault }
+{
+    match fault {
+        CodeFault::Memory => Stop::Unavailable,
+        _ => Stop::BadCode(fault),
+    }
+}
+
+/// Puts the pattern of a code under a rule and a limit of the period as canonical RLE, without texts
+/// and in normal form. The limit is judged before the rule, and the rule before the code.
+pub fn run_object<O: Outlet>(
+    alloc: Global,
+    rule: &str,
+    code: &str,
+    limit: u64,
+    output: &mut O,
+) -> Result<(), Stop>
+    ensures limit { (result ≡ Err Stop.OutOfLimit) ↔ ¬ IsPeriodLimit limit }
+    ensures rule { (result ≡ Err Stop.BadRule) ↔ IsPeriodLimit limit × RefusesRule rule.now }
+    ensures puts { PutsObject rule.now code.now limit (O.already output.old) (O.already output.new) result }
+    ensures once { PutsOnce output.old output.new (O.failures output.old) (O.failures output.new) result }
+{
+    let limit = match period_limit(limit) {
+        Some(limit) => limit,
+        None => return Err(Stop::OutOfLimit),
+    };
+    let Ok(rule) = Rule::read(rule.as_bytes()) else {
+        return Err(Stop::BadRule);
+    };
+    match object(alloc, &rule, code.as_bytes(), limit) {
+        Ok(object) => put_record(alloc, &object, output),
+        Err(fault) => Err(code_stop(fault)),
+    }
+}

@@ -1,0 +1,475 @@
+//! The words of the command line, read by `clap`.
+ghost use Rattle.std.specs.Prelude.{◌≡◌, codes, map, option_map, IfOk, false};
+ghost use Rattle.clap.specs.Simple.{App};
+ghost use Rattle.clap.specs.Words.{Rule, new_app, app_of, rule_of, rows_of, found_of, subcommand_rows_of, with_rule, with_subcommand};
+ghost use Rattle.clap.specs.declared.builder.command.Command.TheViews.{out-Command as fields_of};
+ghost use Rattle.life_words.specs.Words.{number_rule, number_rule_in, text_rule, file_rule, generation, kind, object, census, deposit, serve, life_alone, life, asked_by};
+ghost use Rattle.life_words.specs.Words.{AsksGeneration, AsksKind, number_at, text_at, object_of, census_of, deposit_of, serve_of, job_of, number_of, ComesFrom, Answers};
+
+use clap::builder::ValueParser;
+use clap::error::ErrorKind;
+use clap::{Arg, ArgMatches, Command, Error};
+use std::alloc::{AllocError, Global};
+use std::convert::AsStr;
+use std::{env, io};
+
+// What the help of each command says after its words: what is read, printed and refused, and an example.
+const GENERATION_HELP: &str = "\
+Reads:   a pattern file (RLE) on standard input
+Prints:  generation N as canonical RLE, without its texts, its first column and its first row at 0
+Refuses: out-of-limit (N over 2048), bad-pattern NAME, unreadable, unavailable
+Example: life generation 1 < glider.rle";
+
+const KIND_HELP: &str = "\
+Reads:   a pattern file (RLE) on standard input
+Prints:  'empty', 'unresolved', 'still CODE', 'oscillator PERIOD CODE' or 'ship PERIOD DX DY CODE';
+         CODE is '-' where no phase fits in a box of 40 by 40
+Refuses: out-of-limit (LIMIT 0 or over 2048), bad-pattern NAME, unreadable, unavailable
+Example: life kind 4 < glider.rle";
+
+const OBJECT_HELP: &str = "\
+Reads:   nothing
+Prints:  the pattern that CODE spells as canonical RLE
+Refuses: out-of-limit (LIMIT 0 or over 2048), bad-rule, bad-code NAME, unavailable
+Example: life object B3/S23 xs6_696 1";
+
+const CENSUS_HELP: &str = "\
+Reads:   a pattern file (RLE) on standard input
+Prints:  a line 'CODE,COUNT' for each code in byte order, after 'code,count', and 'unresolved,COUNT'
+Refuses: out-of-limit (N over 2048, LIMIT 0 or over 2048), bad-pattern NAME, unreadable, unavailable
+Example: life census 0 2 < traffic-light.rle";
+
+const DEPOSIT_HELP: &str = "\
+Reads:   a pattern file (RLE) on standard input, and the archive F,
+         which is made where it is not there
+Prints:  'deposit NUMBER'; the same words with the same pattern have the first number again
+Refuses: bad-member, bad-token, bad-pattern NAME, token-reused, full, not-ours, unreadable, unavailable
+Example: life deposit --db club.db ann t1 < glider.rle";
+
+const SERVE_HELP: &str = "\
+Reads:   HTTP requests of N connections, one after the other, and the archive F,
+         which is made where it is not there
+Prints:  'listening on 127.0.0.1:P', and a line for each connection that ended early on standard error
+Refuses: not-ours, no-port, unavailable
+Example: life serve --db club.db --port 8080 --connections 100";
+
+const LIFE_HELP: &str = "\
+A refusal is one line 'refused: NAME' on standard error, with status 1.
+Bad words, and a request for help, end with status 2.
+Example: life generation 1 < glider.rle";
+
+/// What the program is to do.
+#[derive(Clone, Copy, Debug, PartialEq, Eq)]
+pub enum Job<'a> {
+    /// Print the generation of this number of the pattern on standard input.
+    Generation(u64),
+    /// Print the kind of the pattern on standard input, whose period is at most this limit.
+    Kind(u64),
+    /// Print the pattern of a code under a rule and a limit of the period.
+    Object {
+        rule: &'a str,
+        code: &'a str,
+        limit: u64,
+    },
+    /// Print the tally of the clusters of this generation of the pattern on standard input, under this
+    /// limit of the period.
+    Census {
+        n: u64,
+        limit: u64,
+    },
+    /// Deposit the pattern on standard input in the archive of this file.
+    Deposit {
+        file: &'a str,
+        member: &'a str,
+        token: &'a str,
+    },
+    /// Serve the archive of this file at this port, for so many connections.
+    Serve {
+        file: &'a str,
+        port: u64,
+        connections: u64,
+    },
+}
+
+/// Why words name no job.
+#[derive(Drop)]
+pub enum WordFault {
+    /// The words are not the command's, or ask for help. The error has the text for the user.
+    BadWords(Option<Error>),
+    /// A growth was refused.
+    Memory,
+}
+
+impl WordFault {
+    /// The number of the fault: 1 for bad words, 2 for want of memory.
+    pub fn number(&self) -> u8
+        ensures { result ≡ number_of self.now }
+    {
+        match self {
+            WordFault::BadWords(_) => 1,
+            WordFault::Memory => 2,
+        }
+    }
+}
+
+impl From<AllocError> for WordFault {
+    ghost use Rattle.life_words.specs.declared.words.WordFault.TheVariants.{Memory};
+
+    ghost from_gives = { λ _ fault. fault ≡ Memory };
+
+    fn from(_error: AllocError) -> WordFault {
+        WordFault::Memory
+    }
+}
+
+impl From<Error> for WordFault {
+    ghost from_gives = { ComesFrom };
+
+    fn from(error: Error) -> WordFault {
+        match error.kind() {
+            ErrorKind::OutOfMemory => WordFault::Memory,
+            _ => WordFault::BadWords(Some(error)),
+        }
+    }
+}
+
+// A required word that is a text.
+fn text_arg<'a>(alloc: Global, id: &'a str) -> Arg<'a>
+    ensures rule { rule_of result ≡ text_rule id.entry.now }
+    ensures local { result.global ≡ false }
+{
+    Arg::new(alloc, id).required(true)
+}
+
+// A required word that is a number.
+fn number_arg<'a>(alloc: Global, id: &'a str) -> Arg<'a>
+    ensures rule { rule_of result ≡ number_rule id.entry.now }
+    ensures local { result.global ≡ false }
+{
+    text_arg(alloc, id).value_parser(clap::value_parser!(u64))
+}
+
+// The word that is the number of a generation.
+fn generation_arg<'a>(alloc: Global) -> Arg<'a>
+    ensures rule { rule_of result ≡ number_rule (codes "N") }
+    ensures local { result.global ≡ false }
+{
+    number_arg(alloc, "N").help("The number of the generation, from 0 to 2048")
+}
+
+// A command of this name, without words, and what help says of it.
+fn named_command<'a>(alloc: Global, name: &'a str, about: &'a str, help: &'a str) -> Command<'a>
+    ensures app { app_of result ≡ new_app name.entry.now }
+    ensures local { (fields_of result).has_globals ≡ false }
+{
+    Command::new(alloc, name).about(about).after_help(help)
+}
+
+// The command with one more argument, if the command was made.
+fn with_arg<'a>(
+    above: Result<Command<'a>, AllocError>,
+    arg: Arg<'a>,
+) -> Result<Command<'a>, AllocError>
+    requires { arg.global ≡ false }
+    ensures app { (made : App) (rule : Rule) → IfOk above.entry (λ command. app_of command ≡ made) → rule_of arg.entry ≡ rule → IfOk result (λ command. app_of command ≡ with_rule made rule) }
+    ensures local { IfOk above.entry (λ command. (fields_of command).has_globals ≡ false) → IfOk result (λ command. (fields_of command).has_globals ≡ false) }
+{
+    above?.arg(arg)
+}
+
+fn generation_command<'a>(alloc: Global) -> Result<Command<'a>, AllocError>
+    ensures app { IfOk result (λ command. app_of command ≡ generation) }
+    ensures local { IfOk result (λ command. (fields_of command).has_globals ≡ false) }
+{
+    named_command(
+        alloc,
+        "generation",
+        "Prints generation N of the pattern on standard input",
+        GENERATION_HELP,
+    )
+    .arg(generation_arg(alloc))
+}
+
+// The word that is a limit of the period.
+fn limit_arg<'a>(alloc: Global) -> Arg<'a>
+    ensures rule { rule_of result ≡ number_rule (codes "LIMIT") }
+    ensures local { result.global ≡ false }
+{
+    number_arg(alloc, "LIMIT").help("The limit of the period, from 1 to 2048")
+}
+
+fn kind_command<'a>(alloc: Global) -> Result<Command<'a>, AllocError>
+    ensures app { IfOk result (λ command. app_of command ≡ kind) }
+    ensures local { IfOk result (λ command. (fields_of command).has_globals ≡ false) }
+{
+    named_command(
+        alloc,
+        "kind",
+        "Prints the kind and the code of the pattern on standard input",
+        KIND_HELP,
+    )
+    .arg(limit_arg(alloc))
+}
+
+// The rule of a code.
+fn rule_arg<'a>(alloc: Global) -> Arg<'a>
+    ensures rule { rule_of result ≡ text_rule (codes "RULE") }
+    ensures local { result.global ≡ false }
+{
+    text_arg(alloc, "RULE").help("The rule, as B3/S23")
+}
+
+// A code.
+fn code_arg<'a>(alloc: Global) -> Arg<'a>
+    ensures rule { rule_of result ≡ text_rule (codes "CODE") }
+    ensures local { result.global ≡ false }
+{
+    text_arg(alloc, "CODE").help("The code, as xs4_33")
+}
+
+fn object_command<'a>(alloc: Global) -> Result<Command<'a>, AllocError>
+    ensures app { IfOk result (λ command. app_of command ≡ object) }
+    ensures local { IfOk result (λ command. (fields_of command).has_globals ≡ false) }
+{
+    let command = Ok(named_command(alloc, "object", "Prints the pattern of a code", OBJECT_HELP));
+    let command = with_arg(command, rule_arg(alloc));
+    let command = with_arg(command, code_arg(alloc));
+    with_arg(command, limit_arg(alloc))
+}
+
+fn census_command<'a>(alloc: Global) -> Result<Command<'a>, AllocError>
+    ensures app { IfOk result (λ command. app_of command ≡ census) }
+    ensures local { IfOk result (λ command. (fields_of command).has_globals ≡ false) }
+{
+    let command = Ok(named_command(
+        alloc,
+        "census",
+        "Prints how many clusters of generation N of the pattern have each code",
+        CENSUS_HELP,
+    ));
+    let command = with_arg(command, generation_arg(alloc));
+    with_arg(command, limit_arg(alloc))
+}
+
+// The option `--db`, whose word is the file of an archive.
+fn file_arg<'a>(alloc: Global) -> Arg<'a>
+    ensures rule { rule_of result ≡ file_rule }
+    ensures local { result.global ≡ false }
+{
+    text_arg(alloc, "F")
+        .long("db")
+        .help("The file of the archive")
+}
+
+// The member of a deposit.
+fn member_arg<'a>(alloc: Global) -> Arg<'a>
+    ensures rule { rule_of result ≡ text_rule (codes "MEMBER") }
+    ensures local { result.global ≡ false }
+{
+    text_arg(alloc, "MEMBER").help("The member, as ann")
+}
+
+// The token of a deposit.
+fn token_arg<'a>(alloc: Global) -> Arg<'a>
+    ensures rule { rule_of result ≡ text_rule (codes "TOKEN") }
+    ensures local { result.global ≡ false }
+{
+    text_arg(alloc, "TOKEN").help("The member's token of the deposit, as t1")
+}
+
+fn deposit_command<'a>(alloc: Global) -> Result<Command<'a>, AllocError>
+    ensures app { IfOk result (λ command. app_of command ≡ deposit) }
+    ensures local { IfOk result (λ command. (fields_of command).has_globals ≡ false) }
+{
+    let command = Ok(named_command(
+        alloc,
+        "deposit",
+        "Keeps the pattern on standard input in an archive",
+        DEPOSIT_HELP,
+    ));
+    let command = with_arg(command, file_arg(alloc));
+    let command = with_arg(command, member_arg(alloc));
+    with_arg(command, token_arg(alloc))
+}
+
+// The option `--port`.
+fn port_arg<'a>(alloc: Global) -> Arg<'a>
+    ensures rule { rule_of result ≡ number_rule_in (codes "P") (codes "port") 65535 }
+    ensures local { result.global ≡ false }
+{
+    text_arg(alloc, "P")
+        .value_parser(ValueParser::unsigned(1, 65_535))
+        .long("port")
+        .help("The port on 127.0.0.1, from 1 to 65535")
+}
+
+// The option `--connections`.
+fn connections_arg<'a>(alloc: Global) -> Arg<'a>
+    ensures rule { rule_of result ≡ number_rule_in (codes "N") (codes "connections") 1000000 }
+    ensures local { result.global ≡ false }
+{
+    text_arg(alloc, "N")
+        .value_parser(ValueParser::unsigned(1, 1_000_000))
+        .long("connections")
+        .help("How many connections are served, from 1 to 1000000")
+}
+
+fn serve_command<'a>(alloc: Global) -> Result<Command<'a>, AllocError>
+    ensures app { IfOk result (λ command. app_of command ≡ serve) }
+    ensures local { IfOk result (λ command. (fields_of command).has_globals ≡ false) }
+{
+    let command = Ok(named_command(
+        alloc,
+        "serve",
+        "Serves the messages of an archive on 127.0.0.1",
+        SERVE_HELP,
+    ));
+    let command = with_arg(command, file_arg(alloc));
+    let command = with_arg(command, port_arg(alloc));
+    with_arg(command, connections_arg(alloc))
+}
+
+// The command with one more subcommand, which has no global argument, if both were made.
+fn with_command<'a>(
+    above: Result<Command<'a>, AllocError>,
+    below: Result<Command<'a>, AllocError>,
+) -> Result<Command<'a>, AllocError>
+    requires { IfOk below (λ command. (fields_of command).has_globals ≡ false) }
+    ensures { (made added : App) → IfOk above.entry (λ command. app_of command ≡ made) → IfOk below.entry (λ command. app_of command ≡ added) → IfOk result (λ command. app_of command ≡ with_subcommand made added.top) }
+{
+    above?.subcommand(below?)
+}
+
+// The command without its subcommands.
+fn command_alone<'a>(alloc: Global) -> Command<'a>
+    ensures { app_of result ≡ life_alone }
+{
+    Command::new(alloc, "life")
+        .about("An archive of Game of Life patterns")
+        .after_help(LIFE_HELP)
+        .subcommand_required(true)
+}
+
+fn life_command<'a>(alloc: Global) -> Result<Command<'a>, AllocError>
+    ensures { IfOk result (λ command. app_of command ≡ life) }
+{
+    let command = with_command(Ok(command_alone(alloc)), generation_command(alloc));
+    let command = with_command(command, kind_command(alloc));
+    let command = with_command(command, object_command(alloc));
+    let command = with_command(command, census_command(alloc));
+    let command = with_command(command, deposit_command(alloc));
+    with_command(command, serve_command(alloc))
+}
+
+/// The words of the process, the program's name first. Where one of them is not UTF-8, they are bad
+/// words.
+pub fn words_of(rt: &HostRuntime) -> Result<Vec<String>, WordFault> {
+    let words = match env::args(rt) {
+        Ok(words) => words,
+        Err(error) if error.kind() == io::ErrorKind::InvalidData => return Err(not_text(
+            rt.alloc(),
+        )?),
+        Err(_) => return Err(WordFault::Memory),
+    };
+    Ok(words.collect(rt.alloc())?)
+}
+
+// The fault of words of which one is not UTF-8, in clap's form.
+fn not_text(alloc: Global) -> Result<WordFault, AllocError> {
+    let message = "invalid UTF-8 was found in one or more arguments";
+    let error = life_command(alloc)?.error(ErrorKind::ValueValidation, message);
+    Ok(WordFault::BadWords(Some(error?)))
+}
+
+// The number of the word with this id.
+fn number_in(found: &ArgMatches<'_>, id: &str) -> Option<u64>
+    ensures { result ≡ number_at id.now (rows_of (found_of found.now)) }
+{
+    found.get_one(id)
+}
+
+// The text of the word with this id.
+fn text_in<'a>(found: &ArgMatches<'a>, id: &str) -> Option<&'a str>
+    ensures { option_map (λ text. text.now) result ≡ text_at id.now (rows_of (found_of found.now)) }
+{
+    found.get_str(id)
+}
+
+fn generation_in<'a>(found: &ArgMatches<'a>) -> Option<Job<'a>>
+    ensures { option_map asked_by result ≡ option_map AsksGeneration (number_at (codes "N") (rows_of (found_of found.now))) }
+{
+    Some(Job::Generation(number_in(found, "N")?))
+}
+
+fn kind_in<'a>(found: &ArgMatches<'a>) -> Option<Job<'a>>
+    ensures { option_map asked_by result ≡ option_map AsksKind (number_at (codes "LIMIT") (rows_of (found_of found.now))) }
+{
+    Some(Job::Kind(number_in(found, "LIMIT")?))
+}
+
+fn object_in<'a>(found: &ArgMatches<'a>) -> Option<Job<'a>>
+    ensures { option_map asked_by result ≡ object_of (text_at (codes "RULE") (rows_of (found_of found.now))) (text_at (codes "CODE") (rows_of (found_of found.now))) (number_at (codes "LIMIT") (rows_of (found_of found.now))) }
+{
+    Some(Job::Object {
+        rule: text_in(found, "RULE")?,
+        code: text_in(found, "CODE")?,
+        limit: number_in(found, "LIMIT")?,
+    })
+}
+
+fn census_in<'a>(found: &ArgMatches<'a>) -> Option<Job<'a>>
+    ensures { option_map asked_by result ≡ census_of (number_at (codes "N") (rows_of (found_of found.now))) (number_at (codes "LIMIT") (rows_of (found_of found.now))) }
+{
+    Some(Job::Census {
+        n: number_in(found, "N")?,
+        limit: number_in(found, "LIMIT")?,
+    })
+}
+
+fn deposit_in<'a>(found: &ArgMatches<'a>) -> Option<Job<'a>>
+    ensures { option_map asked_by result ≡ deposit_of (text_at (codes "F") (rows_of (found_of found.now))) (text_at (codes "MEMBER") (rows_of (found_of found.now))) (text_at (codes "TOKEN") (rows_of (found_of found.now))) }
+{
+    Some(Job::Deposit {
+        file: text_in(found, "F")?,
+        member: text_in(found, "MEMBER")?,
+        token: text_in(found, "TOKEN")?,
+    })
+}
+
+fn serve_in<'a>(found: &ArgMatches<'a>) -> Option<Job<'a>>
+    ensures { option_map asked_by result ≡ serve_of (text_at (codes "F") (rows_of (found_of found.now))) (number_at (codes "P") (rows_of (found_of found.now))) (number_at (codes "N") (rows_of (found_of found.now))) }
+{
+    Some(Job::Serve {
+        file: text_in(found, "F")?,
+        port: number_in(found, "P")?,
+        connections: number_in(found, "N")?,
+    })
+}
+
+fn job_in<'a>(matches: &ArgMatches<'a>) -> Option<Job<'a>>
+    ensures { option_map asked_by result ≡ job_of (subcommand_rows_of matches.now) }
+{
+    let (name, found) = matches.subcommand()?;
+    match name {
+        "generation" => generation_in(found),
+        "kind" => kind_in(found),
+        "object" => object_in(found),
+        "census" => census_in(found),
+        "deposit" => deposit_in(found),
+        "serve" => serve_in(found),
+        _ => None,
+    }
+}
+
+/// The job that the words name. The first of them is the program's name, as in `env::args`.
+///
+/// A request for help is a fault too, `BadWords` with the text of the help.
+pub fn read_words<'a, S: AsStr>(alloc: Global, words: &'a [S]) -> Result<Job<'a>, WordFault>
+    ensures { Answers (map S.text words.entry.now) result }
+{
+    let matches = life_command(alloc)?.try_get_matches_from(words)?;
+    let Some(job) = job_in(&matches) else {
+        return Err(WordFault::BadWords(None));
+    };
+    Ok(job)
+}

@@ -4,4 +4,6 @@
 #[cfg(test)]
 mod planes;
 #[cfg(test)]
+mod rows;
+#[cfg(test)]
 mod rules;

@@ -2,7 +2,7 @@
 use life_core::{
     Bounds, Cell, CellList, Fault, GENERATION_LIMIT, Orientation, PLANE, PackedRows, Pattern,
     Plane, Rule, generation, generation_by, is_packed, laws_of_constants, laws_of_generations,
-    laws_of_patterns, laws_of_symmetries, row_step,
+    laws_of_patterns, laws_of_row_steps, laws_of_symmetries, row_step,
 };
 use std::alloc::Global;
 
@@ -164,6 +164,41 @@ fn a_row_steps_across_words(rt: HostRuntime) {
     let mut out = [0, 0];
     row_step(&side, &[0, 1], &side, &Rule::LIFE, &mut out);
     assert!(rt; out == [1 << 63, 1]);
+    laws_of_row_steps();
+}
+
+#[test]
+fn a_row_steps_across_groups_of_words(rt: HostRuntime) {
+    let side = [0, 0, 0, 1 << 63, 0, 0, 0, 1 << 63, 0];
+    let mut out = [0; 9];
+    row_step(
+        &side,
+        &[0, 0, 0, 0, 1, 0, 0, 0, 1],
+        &side,
+        &Rule::LIFE,
+        &mut out,
+    );
+    assert!(rt; out == [0, 0, 0, 1 << 63, 1, 0, 0, 1 << 63, 1]);
+}
+
+/// Whether a place with six live neighbours, at the edge of a group of words, is live next under the
+/// rule of a text.
+fn six_live(text: &str) -> bool {
+    let side = [0, 0, 0, 1 << 63, 3];
+    let mut out = [0; 5];
+    match Rule::read(text.as_bytes()) {
+        Ok(rule) => {
+            row_step(&side, &[0; 5], &side, &rule, &mut out);
+            out == [0, 0, 0, 0, 1]
+        }
+        Err(_) => false,
+    }
+}
+
+#[test]
+fn a_row_steps_by_its_rule(rt: HostRuntime) {
+    assert!(rt; six_live("B36/S23"));
+    assert!(rt; !six_live("B3/S23"));
 }
 
 /// The move from the first pattern to the second, as planes of one kind of which one was trimmed.

@@ -12,7 +12,7 @@ use Rattle.life_core.specs.PackedFrameState.{cell_of, set_places, cells_of, bit_
 use Rattle.life_core.proofs.CellLemmas.{same_coordinates}
 use Rattle.life_core.proofs.PatternMembers.{same_cell, same_answer, same_cell-true, same_cell-self, contains-list}
 
-passing_from : (t : ℕ → Bool) (a n p : ℕ) → a ≤ p → p < a + n → t p ≡ true → list_any t (range_with_len a n) ≡ true
+pub passing_from : (t : ℕ → Bool) (a n p : ℕ) → a ≤ p → p < a + n → t p ≡ true → list_any t (range_with_len a n) ≡ true
 passing_from t a zero p le lt h = absurd (omega arith)
 passing_from t a (suc n) p le lt h = elim (cases_eq a p) [
   | inl same ↦ or_left (t a) (list_any t (range_with_len (a + 1) n)) (ap t same ∙ h)
@@ -20,26 +20,26 @@ passing_from t a (suc n) p le lt h = elim (cases_eq a p) [
 ]
 
 -- a number of a range that passes a test
-record PassingPlace (t : ℕ → Bool) (a n : ℕ) : Type 0 where
-  place : ℕ
-  inside : place < a + n
-  passes : t place ≡ true
+pub record PassingPlace (t : ℕ → Bool) (a n : ℕ) : Type 0 where
+  pub place : ℕ
+  pub inside : place < a + n
+  pub passes : t place ≡ true
 
-passing_place : (t : ℕ → Bool) (a n : ℕ) → list_any t (range_with_len a n) ≡ true → PassingPlace t a n
+pub passing_place : (t : ℕ → Bool) (a n : ℕ) → list_any t (range_with_len a n) ≡ true → PassingPlace t a n
 passing_place t a zero h = absurd (false≢true h)
 passing_place t a (suc n) h = elim (or_cases (t a) (list_any t (range_with_len (a + 1) n)) h) [
   | inl here ↦ record { place = a; inside = omega arith; passes = here }
   | inr there ↦ let rest = passing_place t (a + 1) n there in let lt : rest.place < (a + 1) + n = rest.inside in record { place = rest.place; inside = omega arith; passes = rest.passes }
 ]
 
-list_any-filtered : (t q : ℕ → Bool) (ps : List ℕ) → list_any t (filter q ps) ≡ list_any (λ p. q p && t p) ps
+pub list_any-filtered : (t q : ℕ → Bool) (ps : List ℕ) → list_any t (filter q ps) ≡ list_any (λ p. q p && t p) ps
 list_any-filtered t q [] = refl
 list_any-filtered t q (p ∷ ps) = elim (q p) as (λ b. list_any t (cond b (p ∷ filter q ps) (filter q ps)) ≡ ((b && t p) || list_any (λ r. q r && t r) ps)) [
   | true ↦ ap (λ b. t p || b) (list_any-filtered t q ps)
   | false ↦ list_any-filtered t q ps
 ]
 
-list_any-mapped : (t : Cell → Bool) (f : ℕ → Cell) (ps : List ℕ) → list_any t (map f ps) ≡ list_any (λ p. t (f p)) ps
+pub list_any-mapped : (t : Cell → Bool) (f : ℕ → Cell) (ps : List ℕ) → list_any t (map f ps) ≡ list_any (λ p. t (f p)) ps
 list_any-mapped t f [] = refl
 list_any-mapped t f (p ∷ ps) = ap (λ b. t (f p) || b) (list_any-mapped t f ps)
 

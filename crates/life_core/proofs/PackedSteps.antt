@@ -1,5 +1,5 @@
 -- One generation of rows of packed words.
-use Rattle.std.specs.Prelude.{◌≡◌, ℕ, ℤ, pos, negsuc, ◌+◌, ◌-◌, ◌*◌, ◌<◌, ◌≤◌, ◌+ℤ◌, ◌-ℤ◌, ◌≤ℤ◌, zero, suc, Bool, true, false, cond, nat_eq, nat_lt, List, [], ◌∷◌, length, count_by, refl}
+use Rattle.std.specs.Prelude.{◌≡◌, ℕ, ℤ, pos, negsuc, ◌+◌, ◌*◌, ◌<◌, ◌≤◌, ◌+ℤ◌, ◌-ℤ◌, ◌≤ℤ◌, Bool, true, false, cond, nat_eq, nat_lt, List, [], ◌∷◌, length, count_by, refl}
 use Rattle.std.proofs.Common.{sym, ap, ◌∙◌, inl, inr, arith}
 use Rattle.std.proofs.lemmas.Int.{ints}
 use Rattle.std.proofs.lemmas.Nat.{mul-le}
@@ -12,18 +12,17 @@ use Rattle.std.specs.FinSet as set
 use Rattle.life_core.specs.declared.cell.Cell.{Cell}
 use Rattle.life_core.specs.Cell.{moved_cell, around}
 use Rattle.life_core.specs.Pattern.{Cells}
-use Rattle.life_core.specs.Rule.{RuleSets, lives_at}
-use Rattle.life_core.specs.Generations.{neighbour_count, lives_next, reach, next}
-use Rattle.life_core.specs.PackedRow.{one_if, place, place_before, round_count, next_place}
-use Rattle.life_core.specs.PackedFrameState.{cell_in, cells_of, bit_in, IsIn, IsInner, HasRoom, IsRow}
+use Rattle.life_core.specs.Rule.{RuleSets}
+use Rattle.life_core.specs.Generations.{lives_next, reach, next}
+use Rattle.life_core.specs.PackedRow.{one_if, place}
+use Rattle.life_core.specs.PackedFrameState.{cell_in, cells_of, bit_in, IsIn, IsInner, HasRoom}
 use Rattle.life_core.proofs.PatternMembers.{has_cell, same_answer, same_cell, same_cell-true, contains-list, list_any-flat_map, passing_cell, contains-items, contains-keep, cells_by_members}
-use Rattle.life_core.proofs.GenerationsLaws.{contains-next}
 use Rattle.life_core.proofs.PackedPlaces.{contains-rows}
 
 counted_cons : (p : Cell → Bool) (x : Cell) (xs : List Cell) → count_by p (x ∷ xs) ≡ one_if (p x) + count_by p xs
 counted_cons p x xs = sum_by-cons (λ y. cond (p y) 1 0) x xs
 
-counted_eight : (p : Cell → Bool) (a b c d e f g h : Cell) → count_by p (a ∷ b ∷ c ∷ d ∷ e ∷ f ∷ g ∷ h ∷ []) ≡ one_if (p a) + (one_if (p b) + (one_if (p c) + (one_if (p d) + (one_if (p e) + (one_if (p f) + (one_if (p g) + one_if (p h)))))))
+pub counted_eight : (p : Cell → Bool) (a b c d e f g h : Cell) → count_by p (a ∷ b ∷ c ∷ d ∷ e ∷ f ∷ g ∷ h ∷ []) ≡ one_if (p a) + (one_if (p b) + (one_if (p c) + (one_if (p d) + (one_if (p e) + (one_if (p f) + (one_if (p g) + one_if (p h)))))))
 counted_eight p a b c d e f g h = omega (
   arith,
   counted_cons p a (b ∷ c ∷ d ∷ e ∷ f ∷ g ∷ h ∷ []),
@@ -36,59 +35,9 @@ counted_eight p a b c d e f g h = omega (
   counted_cons p h [],
 )
 
--- ---- one place
-
--- the place of a neighbour
-neighbour_place : (left top : ℤ) (width : ℕ) (rows : List ℕ) → 0 < width → (x y : ℕ) (dx dy ex ey : ℤ) → pos x +ℤ dx ≡ ex → pos y +ℤ dy ≡ ey → set.contains (cells_of left top width rows) (moved_cell dx dy (cell_in left top x y)) ≡ bit_in width rows ex ey
-neighbour_place left top width rows wide x y dx dy ex ey p q =
-    let column : ((left +ℤ pos x) +ℤ dx) -ℤ left ≡ ex = omega (arith, ints) in
-    let row : ((top +ℤ pos y) +ℤ dy) -ℤ top ≡ ey = omega (arith, ints) in
-    contains-rows left top width rows (moved_cell dx dy (cell_in left top x y)) wide ∙ (λ i. bit_in width rows (column i) (row i))
-
-row_before : (width : ℕ) (rows : List ℕ) (y : ℤ) (r : List ℕ) → IsRow width rows y r → (x : ℕ) (e : ℤ) → pos x +ℤ negsuc 0 ≡ e → place_before r x ≡ one_if (bit_in width rows e y)
-row_before width rows y r row zero (negsuc e) at = refl
-row_before width rows y r row zero (pos e) at = absurd (omega (arith, ints))
-row_before width rows y r row (suc x) e at =
-    let before : suc x - 1 ≡ x = omega arith in
-    let same : pos x ≡ e = omega (arith, ints) in
-    ap (λ b. cond b (place r (suc x - 1)) 0) (lt-ltb 0 (suc x) (omega arith)) ∙ ap (place r) before ∙ row.places x ∙ ap (λ z. one_if (bit_in width rows z y)) same
-
-one_if-true : (b : Bool) → nat_eq (one_if b) 1 ≡ b
+pub one_if-true : (b : Bool) → nat_eq (one_if b) 1 ≡ b
 one_if-true true = refl
 one_if-true false = refl
-
--- what `row_step` makes of three rows is the next set's
-pub next_place_is : (r : RuleSets) (left top : ℤ) (width : ℕ) (rows : List ℕ) (above here below : List ℕ) (x y : ℕ) → 0 < width → set.contains r.birth 0 ≡ false
-    → IsRow width rows (pos y +ℤ negsuc 0) above → IsRow width rows (pos y) here → IsRow width rows (pos y +ℤ pos 1) below
-    → next_place r above here below x ≡ one_if (set.contains (next r (cells_of left top width rows)) (cell_in left top x y))
-next_place_is r left top width rows above here below x y wide quiet up mid down =
-    let S = cells_of left top width rows in
-    let c = cell_in left top x y in
-    let at = neighbour_place left top width rows wide x y in
-    let mx : ℤ = pos x +ℤ negsuc 0 in
-    let px : ℤ = pos (x + 1) in
-    let my : ℤ = pos y +ℤ negsuc 0 in
-    let py : ℤ = pos y +ℤ pos 1 in
-    let right : pos x +ℤ pos 1 ≡ px = omega (arith, ints) in
-    let same_x : pos x +ℤ pos 0 ≡ pos x = omega (arith, ints) in
-    let same_y : pos y +ℤ pos 0 ≡ pos y = omega (arith, ints) in
-    let n = round_count above here below x in
-    let count : n ≡ neighbour_count S c =
-    (λ i. row_before width rows my above up x mx refl i + (up.places x i + (up.places (x + 1) i + (row_before width rows (pos y) here mid x mx refl i + (mid.places (x + 1) i + (row_before width rows py below down x mx refl i + (down.places x i + down.places (x + 1) i)))))))
-    ∙ (λ i. one_if (sym (at (negsuc 0) (negsuc 0) mx my refl refl) i) + (one_if (sym (at (pos 0) (negsuc 0) (pos x) my same_x refl) i) + (one_if (sym (at (pos 1) (negsuc 0) px my right refl) i)
-    + (one_if (sym (at (negsuc 0) (pos 0) mx (pos y) refl same_y) i) + (one_if (sym (at (pos 1) (pos 0) px (pos y) right same_y) i)
-    + (one_if (sym (at (negsuc 0) (pos 1) mx py refl refl) i) + (one_if (sym (at (pos 0) (pos 1) (pos x) py same_x refl) i) + one_if (sym (at (pos 1) (pos 1) px py right refl) i))))))))
-    ∙ sym (counted_eight (λ d. set.contains S d) (moved_cell (negsuc 0) (negsuc 0) c) (moved_cell (pos 0) (negsuc 0) c) (moved_cell (pos 1) (negsuc 0) c) (moved_cell (negsuc 0) (pos 0) c) (moved_cell (pos 1) (pos 0) c) (moved_cell (negsuc 0) (pos 1) c) (moved_cell (pos 0) (pos 1) c) (moved_cell (pos 1) (pos 1) c)) in
-    let live : bit_in width rows (pos x) (pos y) ≡ set.contains S c =
-    (let column : (left +ℤ pos x) -ℤ left ≡ pos x = omega (arith, ints) in
-    let row : (top +ℤ pos y) -ℤ top ≡ pos y = omega (arith, ints) in
-    sym (contains-rows left top width rows c wide ∙ (λ i. bit_in width rows (column i) (row i)))) in
-    (λ i. one_if (lives_at r (nat_eq (mid.places x i) 1) n))
-    ∙ ap (λ b. one_if (lives_at r b n)) (one_if-true (bit_in width rows (pos x) (pos y)))
-    ∙ (λ i. one_if (lives_at r (live i) (count i)))
-    ∙ ap one_if (sym (contains-next r S c quiet))
-
--- ---- the whole set
 
 next_to : (left top : ℤ) (width height : ℕ) (d : Cell) (dx dy : ℤ) → negsuc 0 ≤ℤ dx → dx ≤ℤ pos 1 → negsuc 0 ≤ℤ dy → dy ≤ℤ pos 1 → IsInner left top width height d → IsIn left top width height (moved_cell dx dy d)
 next_to left top width height d dx dy a b e f h = record { from_left = omega (arith, ints, h.from_left); to_right = omega (arith, ints, h.to_right); from_top = omega (arith, ints, h.from_top); to_bottom = omega (arith, ints, h.to_bottom) }

@@ -1,13 +1,16 @@
 -- Rows copied into a narrower frame.
-use Rattle.std.proofs.Common.{◌≡◌, ℕ, ◌+◌, ◌*◌, ◌<◌, ◌≤◌, List, take, drop, length, get_or, ◌∙◌, inl, inr, rules, arith}
+use Rattle.std.proofs.Common.{◌≡◌, ℕ, ◌+◌, ◌*◌, ◌/◌, ◌%◌, ◌<◌, ◌≤◌, List, take, drop, replicate, length, get_or, ap, ◌∙◌, inl, inr, rules, arith}
+use Rattle.std.specs.Int.{bit_at}
 use Rattle.std.proofs.lemmas.Bool.{cases_lt}
-use Rattle.std.proofs.lemmas.List.{places, get_or_past}
+use Rattle.std.proofs.lemmas.List.{places, get_or_past, get_or-replicate, length-replicate}
+use Rattle.std.proofs.lemmas.Nat.Bits.{bit_at-zero}
 use Rattle.life_core.specs.declared.packed.frame.Frame.{Frame}
 use Rattle.life_core.specs.declared.packed.trimming.Narrower.{Narrower}
-use Rattle.life_core.specs.PackedFrameState.{IsBlank}
+use Rattle.life_core.specs.PackedRow.{place}
 use Rattle.life_core.specs.PackedTrimmingState.{IsNarrower}
 use Rattle.life_core.proofs.FrameBounds.{row_fits}
 use Rattle.life_core.proofs.PackedGrowth.{put_at}
+use Rattle.life_core.proofs.PackedJoins.{place_in_row}
 
 -- a stretch of a row that a narrower frame has lies among all words
 pub part_fits : (f : Frame) (rows : List ℕ) (n : Narrower) (y : ℕ) → IsNarrower f rows n → f.height * f.words ≡ length rows → y < n.frame.height → (n.top + y) * f.words + n.left + n.frame.words ≤ length rows
@@ -26,14 +29,17 @@ part_words rows start words j k wide lt = search (rules, places)
 pub length-front : (words : List ℕ) (k : ℕ) → k ≤ length words → length (take k words) ≡ k
 length-front words k fits = search (rules, places)
 
-pub blank_front : (row : List ℕ) (words k : ℕ) → IsBlank words row → k ≤ words → IsBlank k (take k row)
-blank_front row words k blank fits = record {
-  long = length-front row k (omega (arith, blank.long));
-  dead = λ j. elim (cases_lt j k) [
-    | inl inside ↦ (let same : get_or (take k row) j 0 ≡ get_or row j 0 = search (rules, places) in same ∙ blank.dead j)
-    | inr past ↦ get_or_past (take k row) j 0 (omega (arith, length-front row k (omega (arith, blank.long))))
-  ];
-}
+-- words without a bit
+pub no_words : (words : List ℕ) (n j : ℕ) → words ≡ replicate n 0 → get_or words j 0 ≡ 0
+no_words words n j blank = elim (cases_lt j n) [
+  | inl inside ↦ ap (λ (ws : List ℕ). get_or ws j 0) blank ∙ get_or-replicate n j 0 0 inside
+  | inr past ↦ get_or_past words j 0 (omega (arith, ap length blank, length-replicate {A = ℕ} n 0, past))
+]
+
+-- a word with a live place is not blank
+pub blank_place : (rows : List ℕ) (words x y : ℕ) → place rows (y * (64 * words) + x) ≡ 1 → get_or rows (y * words + x / 64) 0 ≡ 0 → ⊥
+blank_place rows words x y live none =
+    absurd (omega (arith, live, place_in_row rows words x y, ap (λ w. bit_at w (x % 64)) none, bit_at-zero (x % 64)))
 
 -- a row of so many words is written
 module _ (out ys : List ℕ) (words height y : ℕ) (size : height * words ≡ length out) (low : y < height) (long : length ys ≡ words) where

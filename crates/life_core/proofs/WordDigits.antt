@@ -1,8 +1,6 @@
 -- A number below 16 and its four binary digits.
-use Rattle.std.proofs.Common.{◌≡◌, ℕ, ◌+◌, ◌-◌, ◌*◌, ◌%◌, ◌<◌, Bool, true, false, nat_eq, ◌||◌, [], ◌∷◌, sym, ap, ◌∙◌, min, max, if◌then◌else◌, arith}
+use Rattle.std.proofs.Common.{◌≡◌, ℕ, ◌+◌, ◌*◌, ◌%◌, ◌<◌, Bool, true, false, nat_eq, sym, ap, min, if◌then◌else◌, arith}
 use Rattle.std.proofs.lemmas.Bool.Decides.{nat_tests}
-use Rattle.std.specs.FinSet as set
-use Rattle.life_core.specs.Rule.{life, lives_at}
 use Rattle.life_core.specs.PackedRow.{one_if}
 
 -- one of two digits, by a third
@@ -31,17 +29,3 @@ chosen F o t true true n is lt = absurd (omega (arith, is, lt))
 pub picked : (F : ℕ → ℕ) (o t f e : ℕ) → o < 2 → t < 2 → f < 2 → e < 2 → o + (2 * t + (4 * f + 8 * e)) < 9
     → (if nat_eq e 1 then F 8 else (if nat_eq f 1 then (if nat_eq t 1 then (if nat_eq o 1 then F 7 else F 6) else (if nat_eq o 1 then F 5 else F 4)) else (if nat_eq t 1 then (if nat_eq o 1 then F 3 else F 2) else (if nat_eq o 1 then F 1 else F 0)))) ≡ F (o + (2 * t + (4 * f + 8 * e)))
 picked F o t f e a b c d lt = chosen F (nat_eq o 1) (nat_eq t 1) (nat_eq f 1) (nat_eq e 1) (o + (2 * t + (4 * f + 8 * e))) (λ i. digit_is o a i + (2 * digit_is t b i + (4 * digit_is f c i + 8 * digit_is e d i))) lt
-
--- under Conway's Life a live cell stays at two or three neighbours, and a dead one is born at three
-life_lives : (live : Bool) (n : ℕ) → lives_at life live n ≡ (if live then nat_eq 2 n || (nat_eq 3 n || false) else nat_eq 3 n || false)
-life_lives true n = set.contains-from_list_nat (2 ∷ 3 ∷ []) n
-life_lives false n = set.contains-from_list_nat (3 ∷ []) n
-
-three_or_two : (h o t f e : ℕ) → h < 2 → o < 2 → t < 2 → f < 2 → e < 2
-    → min (min (min t (1 - f)) (1 - e)) (max o h) ≡ (if (if nat_eq h 1 then nat_eq 2 (o + (2 * t + (4 * f + 8 * e))) || (nat_eq 3 (o + (2 * t + (4 * f + 8 * e))) || false) else nat_eq 3 (o + (2 * t + (4 * f + 8 * e))) || false) then 1 else 0)
-three_or_two h o t f e a b c d g = grind (arith, nat_tests)
-
--- a place with these digits of its count is live next under Life
-pub life_digits : (h o t f e : ℕ) → h < 2 → o < 2 → t < 2 → f < 2 → e < 2
-    → min (min (min t (1 - f)) (1 - e)) (max o h) ≡ one_if (lives_at life (nat_eq h 1) (o + (2 * t + (4 * f + 8 * e))))
-life_digits h o t f e a b c d g = three_or_two h o t f e a b c d g ∙ ap one_if (sym (life_lives (nat_eq h 1) (o + (2 * t + (4 * f + 8 * e)))))

@@ -26,15 +26,3 @@ stepped_more N a j w old out done from low word = record {
           let back : 64 * j + p % 64 ≡ p = omega arith in
           ap (λ k. bit_at (get_or (set out j w) k 0) (p % 64)) at ∙ ap (λ x. bit_at x (p % 64)) (get_or-set_same out j w 0 low) ∙ word (p % 64) bit ∙ ap N back
     ]
-
--- one stretch after another
-pub stepped_on : (N : ℕ → ℕ) (a b c : ℕ) (first second third : List ℕ) → a ≤ b → b ≤ c → AreStepped N a b first second → AreStepped N b c second third → AreStepped N a c first third
-stepped_on N a b c first second third low high one two = record {
-  long = two.long ∙ one.long;
-  inside = λ p le lt. elim (cases_lt p (64 * b)) [
-    | inl earlier ↦ ap (λ x. bit_at x (p % 64)) (two.before (p / 64) (omega arith)) ∙ one.inside p le earlier
-    | inr later ↦ two.inside p later lt
-  ];
-  before = λ j lt. two.before j (omega arith) ∙ one.before j lt;
-  after = λ j le. two.after j le ∙ one.after j (omega arith);
-}

@@ -12,12 +12,14 @@ pub mod Orientation
 pub mod CellCountsState
 pub mod CellListState
 pub mod PackedRow
+pub mod PackedRowSets
 pub mod PackedRowState
-pub mod PackedAddersState
-pub mod PackedWordRuleState
+pub mod PackedLanesState
+pub mod PackedRuleFormState
+pub mod PackedBlocksState
+pub mod PackedMarksState
 pub mod PackedFrameState
 pub mod PackedMarginsState
-pub mod PackedSpanState
 pub mod PackedRowsState
 pub mod PackedShiftsState
 pub mod PackedTrimmingState

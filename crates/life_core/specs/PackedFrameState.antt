@@ -1,11 +1,11 @@
 -- Rows of packed words in a frame, and the set of cells that they stand for.
-use Rattle.std.specs.Prelude.{◌≡◌, ℕ, ◌+◌, ◌*◌, ◌/◌, ◌%◌, ◌<◌, ℤ, pos, negsuc, ◌+ℤ◌, ◌≤ℤ◌, neg_ℤ, Bool, true, false, ◌&&◌, nat_eq, nat_lt, List, map, length, slice_index_or}
+use Rattle.std.specs.Prelude.{◌≡◌, ℕ, ◌+◌, ◌*◌, ◌/◌, ◌%◌, ◌<◌, ℤ, pos, negsuc, ◌+ℤ◌, ◌≤ℤ◌, neg_ℤ, Bool, true, false, ◌&&◌, nat_eq, nat_lt, List, map, length}
 use Rattle.std.specs.List.{filter, range_with_len}
 use Rattle.std.specs.FinSet as set
 use Rattle.life_core.specs.declared.cell.Cell.{Cell}
 use Rattle.life_core.specs.declared.packed.frame.Frame.{Frame}
 use Rattle.life_core.specs.Pattern.{Cells}
-use Rattle.life_core.specs.PackedRow.{one_if, place}
+use Rattle.life_core.specs.PackedRow.{place}
 
 -- the cell in column x and row y of a box
 abbrev pub cell_in : ℤ → ℤ → ℕ → ℕ → Cell
@@ -54,17 +54,8 @@ pub record IsInner (left top : ℤ) (width height : ℕ) (c : Cell) : Type 0 whe
 pub record HasRoom (left top : ℤ) (width height : ℕ) (X : Cells) : Type 0 where
   pub inner : (c : Cell) → set.contains X c ≡ true → IsInner left top width height c
 
--- words without a bit
-pub record IsBlank (words : ℕ) (row : List ℕ) : Type 0 where
-  pub long : length row ≡ words
-  pub dead : (j : ℕ) → slice_index_or row j 0 ≡ 0
-
 -- whether the place in column x and row y of the rows is set
 abbrev pub bit_in : ℕ → List ℕ → ℤ → ℤ → Bool
 bit_in width words (pos x) (pos y) = nat_lt x width && (nat_lt (y * width + x) (64 * length words) && nat_eq (place words (y * width + x)) 1)
 bit_in width words (pos x) (negsuc y) = false
 bit_in width words (negsuc x) y = false
-
--- the words of r are the row y of the rows, blank above the first and below the last
-pub record IsRow (width : ℕ) (rows : List ℕ) (y : ℤ) (r : List ℕ) : Type 0 where
-  pub places : (x : ℕ) → place r x ≡ one_if (bit_in width rows (pos x) y)

@@ -23,7 +23,7 @@ pub use generations::{
 };
 pub use laws::laws_of_constants;
 pub use orientation::{Orientation, laws_of_symmetries};
-pub use packed::row::row_step;
+pub use packed::row::{laws_of_row_steps, row_step};
 pub use packed::rows::PackedRows;
 pub use pattern::{Bounds, Pattern, laws_of_patterns};
 pub use plane::Plane;

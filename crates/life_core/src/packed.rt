@@ -1,11 +1,15 @@
 //! Sets of cells as rows of packed words: a bit for each cell of a box.
-mod adders;
+mod blocks;
 mod frame;
+mod lane_rule;
+mod lanes;
+mod lines;
 mod margins;
+mod marks;
 pub mod row;
+mod row_lanes;
 pub mod rows;
+mod rule_form;
 mod shifts;
-mod span;
 mod trimming;
-mod word_rule;
 mod words;

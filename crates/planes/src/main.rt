@@ -1,6 +1,7 @@
-//! Runs the two kinds of plane against each other on seeded sets of sizes round the edges of words, under the rules that are
-//! its arguments: for each rule and set a line with the set's number, the rule, in how many generations the planes differ, and
-//! the population and a digest of the last one. `tests/planes` runs it.
+//! Runs the two kinds of plane against each other on seeded sets of sizes round the edges of words and of blocks, under the
+//! rules that are its arguments, of which two that are joined by `+` take turns of three generations: for each rule and set a
+//! line with the set's number, the rule, in how many generations the planes differ, and the population and a digest of the last
+//! one. `tests/planes` runs it.
 #![tactic(auto)]
 
 ghost use Rattle.std.specs.Prelude.{IsTrue};
@@ -15,9 +16,11 @@ const SETS: u64 = 1000;
 
 const GENERATIONS: u32 = 70;
 
-const WIDTHS: [u64; 12] = [1, 2, 62, 63, 64, 65, 66, 126, 127, 128, 129, 130];
+const WIDTHS: [u64; 17] = [
+    1, 2, 31, 32, 33, 63, 64, 65, 95, 96, 97, 127, 128, 129, 223, 224, 225,
+];
 
-const HEIGHTS: [u64; 7] = [1, 2, 3, 5, 8, 13, 21];
+const HEIGHTS: [u64; 10] = [1, 2, 3, 8, 15, 16, 17, 31, 32, 33];
 
 /// A prime, for digests.
 const PRIME: u128 = 18_446_744_073_709_551_557;
@@ -52,13 +55,13 @@ fn field_of(set: u64) -> Field {
         left: across as i64 - 100,
         top: down as i64 - 100,
         width: round(&WIDTHS, set),
-        height: round(&HEIGHTS, set / 12),
+        height: round(&HEIGHTS, set / 17),
     }
 }
 
 /// A set that fills its box to one, two or three quarters, with two corners live; none outside the plane.
 fn set_of(alloc: Global, set: u64, field: Field) -> Result<Pattern, AllocError> {
-    let most = 1 + set / 84 % 3;
+    let most = 1 + set / 170 % 3;
     let mut cells = Vec::new(alloc);
     let mut state = set;
     for y in 0..field.height {
@@ -121,12 +124,39 @@ fn digest(cells: &[Cell], field: Field) -> u128 {
     sum
 }
 
+/// Two rules that take turns of three generations; the same twice where there is one.
+#[derive(Clone, Copy)]
+struct Turns {
+    first: Rule,
+    second: Rule,
+}
+
+/// The rules of a name; none where it is not one or two.
+fn turns_of(name: &str) -> Option<Turns> {
+    let (first, second) = match name.split_once('+') {
+        None => (name, name),
+        Some(names) => names,
+    };
+    let Ok(first) = Rule::read(first.as_bytes()) else {
+        return None;
+    };
+    let Ok(second) = Rule::read(second.as_bytes()) else {
+        return None;
+    };
+    Some(Turns { first, second })
+}
+
 /// In how many generations the two planes differ, and the last generation.
-fn compared(alloc: Global, rule: &Rule, start: &Pattern) -> Result<(u32, Pattern), Fault> {
+fn compared(alloc: Global, rules: &Turns, start: &Pattern) -> Result<(u32, Pattern), Fault> {
     let mut listed: CellList = CellList::from_pattern(alloc, start)?;
     let mut packed: PackedRows = PackedRows::from_pattern(alloc, start)?;
     let mut different = 0_u32;
-    for _ in 0..GENERATIONS {
+    for generation in 0..GENERATIONS {
+        let rule = if generation % 6 < 3 {
+            &rules.first
+        } else {
+            &rules.second
+        };
         let one = listed.to_pattern(alloc)?;
         let other = packed.to_pattern(alloc)?;
         if one.within(PLANE - 1) && other.within(PLANE - 1) {
@@ -144,9 +174,9 @@ fn compared(alloc: Global, rule: &Rule, start: &Pattern) -> Result<(u32, Pattern
     Ok((different, last))
 }
 
-/// Runs the sets under a rule.
+/// Runs the sets under a rule, or two.
 fn run_rule(rt: &HostRuntime, name: &str) -> io::Result<()> {
-    let Ok(rule) = Rule::read(name.as_bytes()) else {
+    let Some(rules) = turns_of(name) else {
         return println!(rt; "{name} is no rule");
     };
     for set in 0..SETS {
@@ -154,7 +184,7 @@ fn run_rule(rt: &HostRuntime, name: &str) -> io::Result<()> {
         let Ok(start) = set_of(rt.alloc(), set, field) else {
             return println!(rt; "no memory");
         };
-        match compared(rt.alloc(), &rule, &start) {
+        match compared(rt.alloc(), &rules, &start) {
             Ok((different, last)) => {
                 let sum = digest(last.cells(), field);
                 let population = last.population();

@@ -3,6 +3,7 @@ ghost use Rattle.std.specs.Prelude.{◌≡◌, ◌↔◌, IsTrue, ℤ, pos, ◌+
 ghost use Rattle.std.specs.FinSet as set;
 ghost use Rattle.life_core.specs.declared.cell.Cell.{Cell};
 ghost use Rattle.life_core.specs.PackedFrameState.{cell_in, cell_of, IsFrame, IsIn};
+ghost use Rattle.life_core.specs.PackedMarginsState.{HasSlack, IsWhole};
 
 use crate::cell::{Cell, PLANE};
 use crate::pattern::{Bounds, Pattern};
@@ -21,9 +22,11 @@ pub(crate) struct Frame {
 }
 
 impl Frame {
-    /// A frame round the pattern's box.
+    /// A frame of whole blocks round the pattern's box, with room for 31 generations.
     pub(crate) fn of<A: Allocator>(pattern: &Pattern<A>) -> Frame
         ensures frame { IsFrame result }
+        ensures whole { IsWhole result }
+        ensures slack { HasSlack result 31 pattern.now }
         ensures inside { (c : Cell) → set.contains pattern.now c ≡ true → IsIn result.left result.top (64 * result.words) result.height c }
     {
         let _cells = pattern.cells();
@@ -31,14 +34,15 @@ impl Frame {
             None => Frame {
                 left: 0,
                 top: 0,
-                words: 1,
-                height: 1,
+                words: 2,
+                height: 48,
             },
             Some(bounds) => Frame::round(bounds),
         }
     }
 
-    /// A frame round a box.
+    /// A frame of whole blocks round a box, with half a word beside it and three lines of blocks above
+    /// and below.
     fn round(bounds: Bounds) -> Frame
         requires left { neg_ℤ (pos PLANE) ≤ℤ bounds.left }
         requires top { neg_ℤ (pos PLANE) ≤ℤ bounds.top }
@@ -46,16 +50,17 @@ impl Frame {
         requires bottom { (bounds.top +ℤ pos bounds.height) ≤ℤ pos (PLANE + 1) }
         requires some { (0 < bounds.width) × (0 < bounds.height) }
         ensures frame { IsFrame result }
-        ensures left { result.left ≡ bounds.left }
-        ensures top { result.top ≡ bounds.top }
-        ensures width { bounds.width ≤ 64 * result.words }
-        ensures height { result.height ≡ bounds.height }
+        ensures whole { IsWhole result }
+        ensures left { result.left ≡ bounds.left -ℤ pos 32 }
+        ensures top { result.top ≡ bounds.top -ℤ pos 48 }
+        ensures width { bounds.width + 64 ≤ 64 * result.words }
+        ensures height { bounds.height + 96 ≤ result.height }
     {
         Frame {
-            left: bounds.left,
-            top: bounds.top,
-            words: ((bounds.width + 63) / 64) as usize,
-            height: bounds.height as usize,
+            left: bounds.left - 32,
+            top: bounds.top - 48,
+            words: 2 * ((bounds.width + 191) / 128) as usize,
+            height: 16 * ((bounds.height + 111) / 16) as usize,
         }
     }
 
@@ -95,20 +100,20 @@ impl Frame {
         }
     }
 
-    /// The frame with more columns of words, and 64 rows more for each of `top` and `bottom`.
+    /// The frame with so many columns and lines of blocks more.
     pub(crate) fn grown(self, left: usize, right: usize, top: usize, bottom: usize) -> Frame
         requires frame { IsFrame self }
-        requires few { (left ≤ 16) × (right ≤ 16) × (top ≤ 16) × (bottom ≤ 16) }
-        ensures left { result.left ≡ self.left -ℤ pos (64 * left) }
-        ensures top { result.top ≡ self.top -ℤ pos (64 * top) }
-        ensures words { result.words ≡ self.words + left + right }
-        ensures height { result.height ≡ self.height + 64 * top + 64 * bottom }
+        requires few { (left ≤ 64) × (right ≤ 64) × (top ≤ 64) × (bottom ≤ 64) }
+        ensures left { result.left ≡ self.left -ℤ pos (128 * left) }
+        ensures top { result.top ≡ self.top -ℤ pos (16 * top) }
+        ensures words { result.words ≡ self.words + 2 * (left + right) }
+        ensures height { result.height ≡ self.height + 16 * (top + bottom) }
     {
         Frame {
-            left: self.left - (64 * left) as i64,
-            top: self.top - (64 * top) as i64,
-            words: self.words + left + right,
-            height: self.height + 64 * top + 64 * bottom,
+            left: self.left - (128 * left) as i64,
+            top: self.top - (16 * top) as i64,
+            words: self.words + 2 * (left + right),
+            height: self.height + 16 * (top + bottom),
         }
     }
 }

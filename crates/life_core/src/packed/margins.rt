@@ -1,14 +1,21 @@
-//! Room for one more cell on each side of a set in a frame.
+//! Room for a set in a frame, for some generations.
 ghost use Rattle.std.specs.Prelude.{◌≡◌, ℕ, ℤ, pos, ◌+◌, ◌*◌, ◌<◌, ◌≤◌, ◌+ℤ◌, ◌-ℤ◌, ◌≤ℤ◌, neg_ℤ, true, IsTrue, IsFalse, IsNone, IfSome, length, slice_index_or};
+ghost use Rattle.std.specs.Int.{bit_at};
 ghost use Rattle.std.specs.FinSet as set;
 ghost use Rattle.life_core.specs.declared.cell.Cell.{Cell};
 ghost use Rattle.life_core.specs.Pattern.{IsWithin};
 ghost use Rattle.life_core.specs.PackedRow.{place};
-ghost use Rattle.life_core.specs.PackedFrameState.{framed, IsFrame, HasRoom};
-ghost use Rattle.life_core.specs.PackedMarginsState.{IsWider};
+ghost use Rattle.life_core.specs.PackedFrameState.{framed, IsFrame};
+ghost use Rattle.life_core.specs.PackedMarginsState.{HasSlack, IsWhole, IsWider, renewed};
 
 use crate::cell::PLANE;
 use crate::packed::frame::Frame;
+
+/// The lower half of a word.
+const LOW_HALF: u64 = 0xFFFF_FFFF;
+
+/// The upper half of a word.
+const HIGH_HALF: u64 = 0xFFFF_FFFF_0000_0000;
 
 /// A wider frame, and how many words and rows it has before those of the narrower.
 #[derive(Clone, Copy)]
@@ -18,161 +25,191 @@ pub(crate) struct Wider {
     pub(crate) top: usize,
 }
 
-/// A wider frame, where this one has no room for one more cell on each side. A side that has none
-/// grows by a part of the frame's size, so that growths are few.
-pub(crate) fn with_room(frame: Frame, rows: &[u64]) -> Option<Wider>
+/// For how many generations there is room after a look at the margins, where there was room for so
+/// many before.
+pub(crate) fn renewed(slack: u32) -> u32
+    ensures { result ≡ renewed slack }
+{
+    if slack == 0 { 31 } else { slack }
+}
+
+/// A wider frame, where this one has no room for one more generation and its margins are too small
+/// for 31. A side that lacks some grows by a part of the frame's size, so that growths are few.
+pub(crate) fn with_room(frame: Frame, rows: &[u64], slack: u32) -> Option<Wider>
     requires frame { IsFrame frame }
+    requires whole { IsWhole frame }
     requires rows { frame.height * frame.words ≡ length rows.now }
     requires within { IsWithin PLANE (framed frame rows.now) }
-    ensures none { IsNone result → HasRoom frame.left frame.top (64 * frame.words) frame.height (framed frame rows.now) }
+    requires slack { HasSlack frame slack (framed frame rows.now) }
+    ensures none { IsNone result → HasSlack frame (renewed slack) (framed frame rows.now) }
     ensures frame { IfSome result (λ w. IsFrame w.frame) }
+    ensures whole { IfSome result (λ w. IsWhole w.frame) }
     ensures wider { IfSome result (IsWider frame) }
-    ensures room { IfSome result (λ w. HasRoom w.frame.left w.frame.top (64 * w.frame.words) w.frame.height (framed frame rows.now)) }
+    ensures room { IfSome result (λ w. HasSlack w.frame (renewed slack) (framed frame rows.now)) }
 {
+    if slack > 0 {
+        return None;
+    }
     let left = left_growth(frame, rows);
     let right = right_growth(frame, rows);
     let top = top_growth(frame, rows);
     let bottom = bottom_growth(frame, rows);
     if left + right + top + bottom == 0 {
-        None
-    } else {
-        Some(Wider {
-            frame: frame.grown(left, right, top, bottom),
-            left,
-            top: 64 * top,
-        })
+        return None;
     }
+    Some(Wider {
+        frame: frame.grown(left, right, top, bottom),
+        left: 2 * left,
+        top: 16 * top,
+    })
 }
 
-/// By how many times 64 cells a side grows: one for each of so many in its size, and one more.
-fn growth(size: usize, parts: usize) -> usize
-    requires { 0 < parts }
-    ensures some { 0 < result }
-    ensures most { result ≤ 16 }
+/// By how many blocks a side grows: an eighth of those that there are, and so many more.
+fn growth(size: usize, least: usize) -> usize
+    requires { least ≤ 4 }
+    ensures some { least ≤ result }
+    ensures most { result ≤ 64 }
 {
-    1 + (size / parts).min(15)
+    least + (size / 8).min(60)
 }
 
-/// How many columns of words the frame lacks on the left.
+/// How many columns of blocks the frame lacks on the left.
 fn left_growth(frame: Frame, rows: &[u64]) -> usize
     requires frame { IsFrame frame }
     requires rows { frame.height * frame.words ≡ length rows.now }
     requires within { IsWithin PLANE (framed frame rows.now) }
-    ensures most { result ≤ 16 }
-    ensures near { neg_ℤ (pos 1_100_000_000) ≤ℤ (frame.left -ℤ pos (64 * result)) }
-    ensures free { (c : Cell) → set.contains (framed frame rows.now) c ≡ true → (frame.left +ℤ pos 1) ≤ℤ (c.column +ℤ pos (64 * result)) }
+    ensures most { result ≤ 64 }
+    ensures near { neg_ℤ (pos 1_100_000_000) ≤ℤ (frame.left -ℤ pos (128 * result)) }
+    ensures free { (c : Cell) → set.contains (framed frame rows.now) c ≡ true → (frame.left +ℤ pos 32) ≤ℤ (c.column +ℤ pos (128 * result)) }
 {
     if left_is_free(frame, rows) {
         0
     } else {
-        growth(frame.words, 4)
+        growth(frame.words / 2, 1)
     }
 }
 
-/// How many columns of words the frame lacks on the right.
+/// How many columns of blocks the frame lacks on the right.
 fn right_growth(frame: Frame, rows: &[u64]) -> usize
     requires frame { IsFrame frame }
     requires rows { frame.height * frame.words ≡ length rows.now }
     requires within { IsWithin PLANE (framed frame rows.now) }
-    ensures most { result ≤ 16 }
-    ensures near { (frame.left +ℤ pos (64 * (frame.words + result))) ≤ℤ pos 1_100_000_000 }
-    ensures free { (c : Cell) → set.contains (framed frame rows.now) c ≡ true → (c.column +ℤ pos 2) ≤ℤ (frame.left +ℤ pos (64 * (frame.words + result))) }
+    ensures most { result ≤ 64 }
+    ensures near { (frame.left +ℤ pos (64 * (frame.words + 2 * result))) ≤ℤ pos 1_100_000_000 }
+    ensures free { (c : Cell) → set.contains (framed frame rows.now) c ≡ true → (c.column +ℤ pos 33) ≤ℤ (frame.left +ℤ pos (64 * (frame.words + 2 * result))) }
 {
     if right_is_free(frame, rows) {
         0
     } else {
-        growth(frame.words, 4)
+        growth(frame.words / 2, 1)
     }
 }
 
-/// How many times 64 rows the frame lacks above.
+/// How many lines of blocks the frame lacks above.
 fn top_growth(frame: Frame, rows: &[u64]) -> usize
     requires frame { IsFrame frame }
+    requires whole { IsWhole frame }
     requires rows { frame.height * frame.words ≡ length rows.now }
     requires within { IsWithin PLANE (framed frame rows.now) }
-    ensures most { result ≤ 16 }
-    ensures near { neg_ℤ (pos 1_100_000_000) ≤ℤ (frame.top -ℤ pos (64 * result)) }
-    ensures free { (c : Cell) → set.contains (framed frame rows.now) c ≡ true → (frame.top +ℤ pos 1) ≤ℤ (c.row +ℤ pos (64 * result)) }
+    ensures most { result ≤ 64 }
+    ensures near { neg_ℤ (pos 1_100_000_000) ≤ℤ (frame.top -ℤ pos (16 * result)) }
+    ensures free { (c : Cell) → set.contains (framed frame rows.now) c ≡ true → (frame.top +ℤ pos 48) ≤ℤ (c.row +ℤ pos (16 * result)) }
 {
     if top_is_free(frame, rows) {
         0
     } else {
-        growth(frame.height, 256)
+        growth(frame.height / 16, 4)
     }
 }
 
-/// How many times 64 rows the frame lacks below.
+/// How many lines of blocks the frame lacks below.
 fn bottom_growth(frame: Frame, rows: &[u64]) -> usize
     requires frame { IsFrame frame }
+    requires whole { IsWhole frame }
     requires rows { frame.height * frame.words ≡ length rows.now }
     requires within { IsWithin PLANE (framed frame rows.now) }
-    ensures most { result ≤ 16 }
-    ensures near { (frame.top +ℤ pos (frame.height + 64 * result)) ≤ℤ pos 1_100_000_000 }
-    ensures free { (c : Cell) → set.contains (framed frame rows.now) c ≡ true → (c.row +ℤ pos 2) ≤ℤ (frame.top +ℤ pos (frame.height + 64 * result)) }
+    ensures most { result ≤ 64 }
+    ensures near { (frame.top +ℤ pos (frame.height + 16 * result)) ≤ℤ pos 1_100_000_000 }
+    ensures free { (c : Cell) → set.contains (framed frame rows.now) c ≡ true → (c.row +ℤ pos 49) ≤ℤ (frame.top +ℤ pos (frame.height + 16 * result)) }
 {
     if bottom_is_free(frame, rows) {
         0
     } else {
-        growth(frame.height, 256)
+        growth(frame.height / 16, 4)
     }
 }
 
-/// Whether no live cell stands in the first column, or none can.
+/// Whether no live cell stands in the lower half of the first words, or none can.
 fn left_is_free(frame: Frame, rows: &[u64]) -> bool
     requires frame { IsFrame frame }
     requires rows { frame.height * frame.words ≡ length rows.now }
     requires within { IsWithin PLANE (framed frame rows.now) }
-    ensures free { IsTrue result → (c : Cell) → set.contains (framed frame rows.now) c ≡ true → (frame.left +ℤ pos 1) ≤ℤ c.column }
-    ensures near { IsFalse result → neg_ℤ (pos PLANE) ≤ℤ frame.left }
+    ensures free { IsTrue result → (c : Cell) → set.contains (framed frame rows.now) c ≡ true → (frame.left +ℤ pos 32) ≤ℤ c.column }
+    ensures near { IsFalse result → (neg_ℤ (pos PLANE) -ℤ pos 32) ≤ℤ frame.left }
 {
-    frame.left < -i64::from(PLANE) || column_is_dead(frame, rows, 0, 0)
+    frame.left < -i64::from(PLANE) - 32 || column_is_dead(frame, rows, 0, LOW_HALF)
 }
 
-/// Whether no live cell stands in the last column, or none can.
+/// Whether no live cell stands in the upper half of the last words, or none can.
 fn right_is_free(frame: Frame, rows: &[u64]) -> bool
     requires frame { IsFrame frame }
     requires rows { frame.height * frame.words ≡ length rows.now }
     requires within { IsWithin PLANE (framed frame rows.now) }
-    ensures free { IsTrue result → (c : Cell) → set.contains (framed frame rows.now) c ≡ true → (c.column +ℤ pos 2) ≤ℤ (frame.left +ℤ pos (64 * frame.words)) }
-    ensures near { IsFalse result → (frame.left +ℤ pos (64 * frame.words)) ≤ℤ pos (PLANE + 1) }
+    ensures free { IsTrue result → (c : Cell) → set.contains (framed frame rows.now) c ≡ true → (c.column +ℤ pos 33) ≤ℤ (frame.left +ℤ pos (64 * frame.words)) }
+    ensures near { IsFalse result → (frame.left +ℤ pos (64 * frame.words)) ≤ℤ pos (PLANE + 33) }
 {
-    frame.left + (64 * frame.words) as i64 > i64::from(PLANE) + 1
-        || column_is_dead(frame, rows, frame.words - 1, 63)
+    frame.left + (64 * frame.words) as i64 > i64::from(PLANE) + 33
+        || column_is_dead(frame, rows, frame.words - 1, HIGH_HALF)
 }
 
-/// Whether no live cell stands in the first row, or none can.
+/// Whether no live cell stands in the first three lines of blocks, or none can.
 fn top_is_free(frame: Frame, rows: &[u64]) -> bool
     requires frame { IsFrame frame }
+    requires whole { IsWhole frame }
     requires rows { frame.height * frame.words ≡ length rows.now }
     requires within { IsWithin PLANE (framed frame rows.now) }
-    ensures free { IsTrue result → (c : Cell) → set.contains (framed frame rows.now) c ≡ true → (frame.top +ℤ pos 1) ≤ℤ c.row }
-    ensures near { IsFalse result → neg_ℤ (pos PLANE) ≤ℤ frame.top }
+    ensures free { IsTrue result → (c : Cell) → set.contains (framed frame rows.now) c ≡ true → (frame.top +ℤ pos 48) ≤ℤ c.row }
+    ensures near { IsFalse result → (neg_ℤ (pos PLANE) -ℤ pos 48) ≤ℤ frame.top }
 {
-    frame.top < -i64::from(PLANE) || row_is_dead(frame, rows, 0)
+    frame.top < -i64::from(PLANE) - 48 || rows_are_dead(frame, rows, 0, 48)
 }
 
-/// Whether no live cell stands in the last row, or none can.
+/// Whether no live cell stands in the last three lines of blocks, or none can.
 fn bottom_is_free(frame: Frame, rows: &[u64]) -> bool
     requires frame { IsFrame frame }
+    requires whole { IsWhole frame }
     requires rows { frame.height * frame.words ≡ length rows.now }
     requires within { IsWithin PLANE (framed frame rows.now) }
-    ensures free { IsTrue result → (c : Cell) → set.contains (framed frame rows.now) c ≡ true → (c.row +ℤ pos 2) ≤ℤ (frame.top +ℤ pos frame.height) }
-    ensures near { IsFalse result → (frame.top +ℤ pos frame.height) ≤ℤ pos (PLANE + 1) }
+    ensures free { IsTrue result → (c : Cell) → set.contains (framed frame rows.now) c ≡ true → (c.row +ℤ pos 49) ≤ℤ (frame.top +ℤ pos frame.height) }
+    ensures near { IsFalse result → (frame.top +ℤ pos frame.height) ≤ℤ pos (PLANE + 49) }
 {
-    frame.top + frame.height as i64 > i64::from(PLANE) + 1
-        || row_is_dead(frame, rows, frame.height - 1)
+    frame.top + frame.height as i64 > i64::from(PLANE) + 49
+        || rows_are_dead(frame, rows, frame.height - 48, frame.height)
 }
 
-/// Whether all places `i` of the words `j` of the rows are dead.
-fn column_is_dead(frame: Frame, rows: &[u64], j: usize, i: u32) -> bool
+/// Whether no word `j` of the rows has a bit of the mask.
+fn column_is_dead(frame: Frame, rows: &[u64], j: usize, mask: u64) -> bool
     requires frame { IsFrame frame }
     requires j { j < frame.words }
-    requires i { i < 64 }
     requires rows { frame.height * frame.words ≡ length rows.now }
-    ensures { IsTrue result → (y : ℕ) → y < frame.height → place rows.now (y * (64 * frame.words) + (64 * j + i)) ≡ 0 }
+    ensures { IsTrue result → (y i : ℕ) → y < frame.height → i < 64 → bit_at mask i ≡ 1 → place rows.now (y * (64 * frame.words) + (64 * j + i)) ≡ 0 }
 {
     for y in 0..frame.height {
-        if rows[y * frame.words + j] >> i & 1 == 1 {
+        if rows[y * frame.words + j] & mask != 0 {
+            return false;
+        }
+    }
+    true
+}
+
+/// Whether all places of the rows from one up to another are dead.
+fn rows_are_dead(frame: Frame, rows: &[u64], from: usize, to: usize) -> bool
+    requires ends { (from ≤ to) × (to ≤ frame.height) }
+    requires rows { frame.height * frame.words ≡ length rows.now }
+    ensures { IsTrue result → (x y : ℕ) → from ≤ y → y < to → x < 64 * frame.words → place rows.now (y * (64 * frame.words) + x) ≡ 0 }
+{
+    for y in from..to {
+        if !row_is_dead(frame, rows, y) {
             return false;
         }
     }

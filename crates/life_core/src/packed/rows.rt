@@ -1,17 +1,20 @@
 //! A plane of rows of packed words.
-ghost use Rattle.std.specs.Prelude.{◌≡◌, ℕ, ℤ, pos, negsuc, ◌+◌, ◌-◌, ◌*◌, ◌<◌, ◌≤◌, ◌+ℤ◌, IfOk, IsTrue, List, length, slice_index_or};
+ghost use Rattle.std.specs.Prelude.{◌≡◌, ◌⊎◌, ℕ, pos, ◌+◌, ◌-◌, ◌*◌, ◌/◌, ◌<◌, ◌≤◌, ◌+ℤ◌, IfOk, IsTrue, IsFalse, length, slice_index_or};
 ghost use Rattle.life_core.specs.Generations.{next};
-ghost use Rattle.life_core.specs.PackedFrameState.{framed, IsFrame, IsRow, IsBlank, HasRoom};
-ghost use Rattle.life_core.specs.PackedSpanState.{AreSpans};
-ghost use Rattle.life_core.specs.PackedRowsState.{AreSettled};
+ghost use Rattle.life_core.specs.PackedBlocksState.{flat_next};
+ghost use Rattle.life_core.specs.PackedFrameState.{framed, IsFrame};
+ghost use Rattle.life_core.specs.PackedMarginsState.{HasSlack, IsWhole};
+ghost use Rattle.life_core.specs.PackedMarksState.{IsAdvanced, IsMarked, KeepsMarks, block_at};
+ghost use Rattle.life_core.specs.PackedRowsState.{AreMarks, AreSettled};
 
 use crate::fault::Fault;
 use crate::packed::frame::Frame;
-use crate::packed::margins::with_room;
+use crate::packed::lane_rule::ConwayLife;
+use crate::packed::lines::advance_blocks;
+use crate::packed::margins::{renewed, with_room};
+use crate::packed::rule_form::RuleForm;
 use crate::packed::shifts::shift_of_words;
-use crate::packed::span::{Span, both, is_settled, keep_whole, span_round, span_step, whole_spans};
 use crate::packed::trimming::{copy_part, narrowed};
-use crate::packed::word_rule::RuleMasks;
 use crate::packed::words::{list_cells, moved_rows, words_of, zeros};
 use crate::pattern::Pattern;
 use crate::plane::Plane;
@@ -20,30 +23,34 @@ use std::alloc::{AllocError, Allocator, Global};
 use std::marker::Model;
 use std::mem;
 
-/// How many steps there are to one that asks which rows are what they were. Comparing costs about a
-/// tenth of a step, and the rows beside one that changes are asked anew each time.
-const COMPARING: u32 = 4;
-
-/// Rows of words with a bit for each cell of a box round the live cells. It suits sets that fill
-/// much of their box; a generation takes a time that is linear in the box.
+/// Rows of words with a bit for each cell of a box round the live cells, in whole blocks of two words
+/// and sixteen rows. A generation takes a time that is linear in the blocks in and next to which
+/// cells differ from those of two generations before.
 #[derive(Debug, Drop)]
 pub struct PackedRows<A: Allocator = Global> {
     frame: Frame,
     rows: Vec<u64, A>,
-    /// Where the next generation is made.
+    /// The generation before, and where the next is made.
     spare: Vec<u64, A>,
-    /// A row without cells.
-    blank: Vec<u64, A>,
-    /// For each row the words outside of which it is blank.
-    spans: Vec<Span, A>,
-    /// The same of `spare`.
-    spare_spans: Vec<Span, A>,
+    /// Which blocks the next step makes anew.
+    marks: Marks<A>,
+    /// Where the marks of the step after that are put.
+    next_marks: Marks<A>,
     /// The rule of the last step.
     rule: Rule,
     /// Whether `rows` is the generation after `spare`, by that rule.
     follows: bool,
-    /// How many steps were made, as far as a word counts.
-    steps: u32,
+    /// How many generations more there is room for.
+    slack: u32,
+}
+
+/// Marks of the blocks that a change reached.
+#[derive(Debug, Drop)]
+struct Marks<A: Allocator> {
+    /// Line by line, with one more before the first and one after the last.
+    blocks: Vec<bool, A>,
+    /// One for each line, without which none of its blocks counts as marked.
+    lines: Vec<bool, A>,
 }
 
 impl<A: Allocator> Model for PackedRows<A> {
@@ -57,7 +64,7 @@ impl<A: Allocator> Model for PackedRows<A> {
 
     ghost view = { λ a. framed a.frame a.rows.items };
 
-    ghost invariant = { λ a. IsPacked a.frame a.rows.items a.spare.items a.blank.items a.spans.items a.spare_spans.items a.rule a.follows };
+    ghost invariant = { λ a. IsPacked a.frame a.rows.items a.spare.items a.marks.blocks.items a.marks.lines.items a.next_marks.blocks.items a.next_marks.lines.items a.rule a.follows a.slack };
 }
 
 impl<A: Allocator + Copy> Plane<A> for PackedRows<A> {
@@ -66,17 +73,18 @@ impl<A: Allocator + Copy> Plane<A> for PackedRows<A> {
     fn from_pattern(alloc: A, pattern: &Pattern<A>) -> Result<Self, Fault> {
         let frame = Frame::of(pattern);
         let rows = words_of(alloc, frame, pattern.cells())?;
-        let spares = spares_of(alloc, frame, rows.len())?;
+        let spare = zeros(alloc, rows.len())?;
+        let marks = marks_of(alloc, frame)?;
+        let next_marks = marks_of(alloc, frame)?;
         Ok(PackedRows {
             frame,
             rows,
-            spare: spares.rows,
-            blank: spares.blank,
-            spans: spares.spans,
-            spare_spans: spares.spare_spans,
+            spare,
+            marks,
+            next_marks,
             rule: Rule::LIFE,
             follows: false,
-            steps: 0,
+            slack: 31,
         })
     }
 
@@ -85,35 +93,35 @@ impl<A: Allocator + Copy> Plane<A> for PackedRows<A> {
     }
 
     fn step(&mut self, rule: &Rule) -> Result<(), Fault> {
-        if let Some(wider) = with_room(self.frame, &self.rows) {
+        if let Some(wider) = with_room(self.frame, &self.rows, self.slack) {
             let alloc = *self.rows.allocator();
             let rows = moved_rows(alloc, self.frame, &self.rows, wider)?;
-            let spares = spares_of(alloc, wider.frame, rows.len())?;
+            let spare = zeros(alloc, rows.len())?;
+            let marks = marks_of(alloc, wider.frame)?;
+            let next_marks = marks_of(alloc, wider.frame)?;
             self.frame = wider.frame;
             self.rows = rows;
-            self.spare = spares.rows;
-            self.blank = spares.blank;
-            self.spans = spares.spans;
-            self.spare_spans = spares.spare_spans;
+            self.spare = spare;
+            self.marks = marks;
+            self.next_marks = next_marks;
             self.follows = false;
         }
-        let follows = both(self.follows, self.rule == *rule);
         advance(
             rule,
             self.frame,
-            follows,
-            self.steps % COMPARING == 0,
+            both(self.follows, self.rule == *rule),
             &self.rows,
-            &self.spans,
-            &self.blank,
+            &mut self.marks.blocks,
+            &mut self.marks.lines,
             &mut self.spare,
-            &mut self.spare_spans,
+            &mut self.next_marks.blocks,
+            &mut self.next_marks.lines,
         );
         mem::swap(&mut self.rows, &mut self.spare);
-        mem::swap(&mut self.spans, &mut self.spare_spans);
+        mem::swap(&mut self.marks, &mut self.next_marks);
         self.rule = *rule;
         self.follows = true;
-        self.steps = self.steps.wrapping_add(1);
+        self.slack = renewed(self.slack) - 1;
         Ok(())
     }
 
@@ -129,139 +137,141 @@ impl<A: Allocator + Copy> Plane<A> for PackedRows<A> {
             copy_part(self.frame, &self.rows, narrower, &mut self.spare);
             mem::swap(&mut self.rows, &mut self.spare);
             self.spare.truncate(len);
-            self.blank.truncate(frame.words);
-            keep_whole(&mut self.spans, frame);
-            keep_whole(&mut self.spare_spans, frame);
+            self.spare.fill(0);
+            keep_marks(&mut self.marks, frame);
+            keep_marks(&mut self.next_marks, frame);
             self.frame = frame;
             self.follows = false;
+            self.slack = 0;
         }
     }
 }
 
-/// What steps of rows in a frame take besides the rows.
-#[derive(Drop)]
-struct Spares<A: Allocator> {
-    /// Where the next generation is made.
-    rows: Vec<u64, A>,
-    /// A row without cells.
-    blank: Vec<u64, A>,
-    /// For each row a span of all its words.
-    spans: Vec<Span, A>,
-    /// The same of the next generation.
-    spare_spans: Vec<Span, A>,
-}
-
-/// What the steps of so many words of rows in the frame take.
-fn spares_of<A: Allocator + Copy>(
-    alloc: A,
-    frame: Frame,
-    len: usize,
-) -> Result<Spares<A>, AllocError>
-    ensures rows { IfOk result (λ s. length s.rows.items ≡ len) }
-    ensures blank { IfOk result (λ s. IsBlank frame.words s.blank.items) }
-    ensures spans { IfOk result (λ s. (rows : List ℕ) → AreSpans frame rows s.spans.items) }
-    ensures spare_spans { IfOk result (λ s. (rows : List ℕ) → AreSpans frame rows s.spare_spans.items) }
+/// Marks of the lines and blocks of the frame, of which all are set.
+fn marks_of<A: Allocator + Copy>(alloc: A, frame: Frame) -> Result<Marks<A>, AllocError>
+    requires { IsFrame frame }
+    ensures { IfOk result (λ m. AreMarks frame m.blocks.items m.lines.items) }
 {
-    Ok(Spares {
-        rows: zeros(alloc, len)?,
-        blank: zeros(alloc, frame.words)?,
-        spans: whole_spans(alloc, frame)?,
-        spare_spans: whole_spans(alloc, frame)?,
+    let lines = frame.height / 16;
+    Ok(Marks {
+        blocks: vec![in alloc; true; lines * (frame.words / 2) + 2]?,
+        lines: vec![in alloc; true; lines]?,
     })
 }
 
-/// Puts the rows one generation later into `out`, and their spans into `out_spans`. Where three rows
-/// are known to be what they were two generations ago, `out` has the middle one's next already.
+/// Keeps as many marks as a narrower frame has.
+fn keep_marks<A: Allocator>(marks: &mut Marks<A>, frame: Frame)
+    requires frame { IsFrame frame }
+    requires blocks { (frame.height / 16) * (frame.words / 2) + 2 ≤ length marks.old.blocks.items }
+    requires lines { frame.height / 16 ≤ length marks.old.lines.items }
+    ensures { AreMarks frame marks.new.blocks.items marks.new.lines.items }
+{
+    let lines = frame.height / 16;
+    marks.blocks.truncate(lines * (frame.words / 2) + 2);
+    marks.lines.truncate(lines);
+}
+
+/// Whether both hold.
+fn both(a: bool, b: bool) -> bool
+    ensures { IsTrue result → IsTrue a × IsTrue b }
+{
+    a & b
+}
+
+/// Puts the rows one generation later into `out`, and what it changes into the marks of the step
+/// after this one. Where a block is not marked, `out` has its next already: if `out` is what `rows`
+/// follow, for else all blocks are made anew, in this step and in the next.
 fn advance(
     rule: &Rule,
     frame: Frame,
     follows: bool,
-    compares: bool,
     rows: &[u64],
-    spans: &[Span],
-    blank: &[u64],
+    blocks: &mut [bool],
+    lines: &mut [bool],
     out: &mut [u64],
-    out_spans: &mut [Span],
+    next_blocks: &mut [bool],
+    next_lines: &mut [bool],
 )
     requires frame { IsFrame frame }
+    requires whole { IsWhole frame }
     requires rows { frame.height * frame.words ≡ length rows.now }
-    requires spans { AreSpans frame rows.now spans.now }
-    requires blank { IsBlank frame.words blank.now }
-    requires room { HasRoom frame.left frame.top (64 * frame.words) frame.height (framed frame rows.now) }
+    requires room { HasSlack frame 1 (framed frame rows.now) }
+    requires marks { AreMarks frame blocks.old lines.old }
     requires out { length out.old ≡ length rows.now }
-    requires out_spans { AreSpans frame out.old out_spans.old }
-    requires settled { IsTrue follows → AreSettled frame rule.now rows.now out.old spans.now }
+    requires out_room { HasSlack frame 0 (framed frame out.old) }
+    requires next_marks { AreMarks frame next_blocks.old next_lines.old }
+    requires settled { IsTrue follows → AreSettled frame rule.now rows.now out.old blocks.old lines.old }
     requires follows { IsTrue follows → framed frame rows.now ≡ next rule.now (framed frame out.old) }
     ensures rows { framed frame out.new ≡ next rule.now (framed frame rows.now) }
-    ensures spans { AreSpans frame out.new out_spans.new }
-    ensures settled { AreSettled frame rule.now out.new rows.now out_spans.new }
+    ensures settled { AreSettled frame rule.now out.new rows.now next_blocks.new next_lines.new }
 {
-    let masks = RuleMasks::of(rule);
-    let words = frame.words;
-    for y in 0..frame.height {
-        if is_settled(follows, spans, y) {
-            out_spans[y].same = true;
-            continue;
-        }
-        out_spans[y] = span_step(
-            row_above(rows, blank, words, y),
-            row(rows, words, y),
-            row_below(rows, blank, words, frame.height, y),
-            &masks,
-            span_round(spans, y),
-            &mut out[y * words..y * words + words],
-            out_spans[y],
-            follows,
-            compares,
+    let _flags = rule.flags();
+    set_unless(follows, blocks);
+    set_unless(follows, lines);
+    rule_blocks(
+        rule,
+        frame.words / 2,
+        rows,
+        blocks,
+        lines,
+        out,
+        next_blocks,
+        next_lines,
+    );
+    set_unless(follows, next_blocks);
+    set_unless(follows, next_lines);
+}
+
+/// Sets all marks, unless they are to be kept.
+fn set_unless(kept: bool, marks: &mut [bool])
+    ensures kept { KeepsMarks marks.old marks.new }
+    ensures set { IsFalse kept → (j : ℕ) → j < length marks.new → IsMarked marks.new j }
+{
+    if !kept {
+        marks.fill(true);
+    }
+}
+
+/// `advance_blocks` under the rule.
+fn rule_blocks(
+    rule: &Rule,
+    columns: usize,
+    rows: &[u64],
+    marks: &mut [bool],
+    lines: &mut [bool],
+    out: &mut [u64],
+    next_marks: &mut [bool],
+    next_lines: &mut [bool],
+)
+    requires lines { (1 ≤ length lines.old) × (length lines.old ≡ length next_lines.old) }
+    requires rows { length rows.now ≡ (16 * length next_lines.old) * (2 * columns) }
+    requires out { length out.old ≡ length rows.now }
+    requires marks { length marks.old ≡ length next_lines.old * columns + 2 }
+    requires next_marks { length next_marks.old ≡ length marks.old }
+    ensures guards { (j : ℕ) → (j < block_at columns 1 0) ⊎ (block_at columns (length lines.old - 1) 0 ≤ j) → slice_index_or out.new j 0 ≡ slice_index_or out.old j 0 }
+    ensures blocks { (line column : ℕ) → 1 ≤ line → line + 2 ≤ length lines.old → column < columns → IsAdvanced (flat_next rule.now rows.now (64 * (2 * columns))) columns line column marks.old lines.old out.old out.new next_marks.new next_lines.new }
+{
+    if rule.is_life() {
+        advance_blocks(
+            &ConwayLife,
+            columns,
+            rows,
+            marks,
+            lines,
+            out,
+            next_marks,
+            next_lines,
         );
+        return;
     }
-}
-
-/// Row `y`.
-fn row(rows: &[u64], words: usize, y: usize) -> &[u64]
-    requires { y * words + words ≤ length rows.now }
-    ensures long { length result.now ≡ words }
-    ensures words { (j : ℕ) → j < words → slice_index_or result.now j 0 ≡ slice_index_or rows.now (y * words + j) 0 }
-    ensures row { 0 < words → IsRow (64 * words) rows.now (pos y) result.now }
-{
-    &rows[y * words..y * words + words]
-}
-
-/// The row above row `y`, which is blank above the first.
-fn row_above<'a>(rows: &'a [u64], blank: &'a [u64], words: usize, y: usize) -> &'a [u64]
-    requires rows { y * words + words ≤ length rows.now }
-    requires blank { IsBlank words blank.now }
-    ensures long { length result.now ≡ words }
-    ensures first { y ≡ 0 → (j : ℕ) → slice_index_or result.now j 0 ≡ 0 }
-    ensures words { 0 < y → (j : ℕ) → j < words → slice_index_or result.now j 0 ≡ slice_index_or rows.now ((y - 1) * words + j) 0 }
-    ensures row { 0 < words → IsRow (64 * words) rows.now (pos y +ℤ negsuc 0) result.now }
-{
-    if y > 0 {
-        row(rows, words, y - 1)
-    } else {
-        blank
-    }
-}
-
-/// The row below row `y`, which is blank below the last.
-fn row_below<'a>(
-    rows: &'a [u64],
-    blank: &'a [u64],
-    words: usize,
-    height: usize,
-    y: usize,
-) -> &'a [u64]
-    requires rows { height * words ≡ length rows.now }
-    requires y { y < height }
-    requires blank { IsBlank words blank.now }
-    ensures long { length result.now ≡ words }
-    ensures last { y + 1 ≡ height → (j : ℕ) → slice_index_or result.now j 0 ≡ 0 }
-    ensures words { y + 1 < height → (j : ℕ) → j < words → slice_index_or result.now j 0 ≡ slice_index_or rows.now ((y + 1) * words + j) 0 }
-    ensures row { 0 < words → IsRow (64 * words) rows.now (pos y +ℤ pos 1) result.now }
-{
-    if y + 1 < height {
-        row(rows, words, y + 1)
-    } else {
-        blank
-    }
+    advance_blocks(
+        &RuleForm::of(rule),
+        columns,
+        rows,
+        marks,
+        lines,
+        out,
+        next_marks,
+        next_lines,
+    );
 }

@@ -1,6 +1,7 @@
 //! Frames without the room that a set in a frame does not need.
 ghost use Rattle.std.specs.Prelude.{◌≡◌, ℕ, pos, ◌+◌, ◌*◌, ◌<◌, ◌≤◌, ◌+ℤ◌, IsTrue, IfSome, length, slice_index_or};
 ghost use Rattle.life_core.specs.PackedFrameState.{framed, IsFrame};
+ghost use Rattle.life_core.specs.PackedMarginsState.{HasSlack, IsWhole};
 ghost use Rattle.life_core.specs.PackedTrimmingState.{IsNarrower};
 
 use crate::packed::frame::Frame;
@@ -15,25 +16,39 @@ pub(crate) struct Narrower {
     pub(crate) top: usize,
 }
 
-/// The least frame of this one's rows and columns of words that has all live cells; none where this
-/// is it.
+/// The least frame of this one's blocks that has all live cells, three lines of blocks above and
+/// below them, and a column of blocks beside them, as far as this one has these; none where this is
+/// it.
 pub(crate) fn narrowed(frame: Frame, rows: &[u64]) -> Option<Narrower>
     requires frame { IsFrame frame }
+    requires whole { IsWhole frame }
     requires rows { frame.height * frame.words ≡ length rows.now }
-    ensures { IfSome result (IsNarrower frame rows.now) }
+    requires room { HasSlack frame 0 (framed frame rows.now) }
+    ensures frame { IfSome result (IsNarrower frame rows.now) }
+    ensures whole { IfSome result (λ n. IsWhole n.frame) }
+    ensures room { IfSome result (λ n. HasSlack n.frame 0 (framed frame rows.now)) }
 {
     let top = top_margin(frame, rows);
     let bottom = bottom_end(frame, rows, top);
     let left = left_margin(frame, rows);
     let right = right_end(frame, rows, left);
-    let narrow = part(frame, left, right, top, bottom);
-    if narrow == frame {
+    let above = 16 * (top / 16).saturating_sub(3);
+    let below = 16 * ((frame.height - bottom) / 16).saturating_sub(3);
+    let before = 2 * (left / 2).saturating_sub(1);
+    let after = 2 * ((frame.words - right) / 2).saturating_sub(1);
+    if above + below + before + after == 0 {
         return None;
     }
     Some(Narrower {
-        frame: narrow,
-        left,
-        top,
+        frame: part(
+            frame,
+            before,
+            frame.words - after,
+            above,
+            frame.height - below,
+        ),
+        left: before,
+        top: above,
     })
 }
 

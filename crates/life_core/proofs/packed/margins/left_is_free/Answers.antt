@@ -1,7 +1,7 @@
-use Rattle.std.proofs.Common.{◌+◌, ◌*◌, ap, arith}
+use Rattle.std.proofs.Common.{◌≡◌, ◌+◌, ◌*◌, ap, inl, inr, arith}
 use Rattle.std.proofs.lemmas.Int.{ints}
-use Rattle.std.proofs.lemmas.Bool.{cases_eq}
-use Rattle.std.proofs.Common.{inl, inr}
+use Rattle.std.proofs.lemmas.Bool.{cases_lt}
+use Rattle.std.proofs.lemmas.Nat.Bits.{bit_at_ones}
 use Rattle.life_core.specs.PackedRow.{place}
 use Rattle.life_core.proofs.PackedCells.{live_place}
 use Rattle.life_core.proofs.FrameBounds.{near_fits}
@@ -11,8 +11,11 @@ pub returns-else-frame-from-clause-free : goal.returns-else-frame-from-clause-fr
 returns-else-frame-from-clause-free c free d live =
     let f = c.args.frame in
     let p = live_place f c.args.rows.now c.requires.frame.wide c.requires.rows d live in
-    elim (cases_eq p.x (64 * 0 + 0)) [
-      | inl edge ↦ absurd (omega (arith, p.live, c.column_is_dead.ensures free p.y p.low, ap (λ x. place c.args.rows.now (p.y * (64 * f.words) + x)) edge))
+    elim (cases_lt p.x 32) [
+      | inl edge ↦
+          let dead : place c.args.rows.now (p.y * (64 * f.words) + (0 + p.x)) ≡ 0 = c.column_is_dead.ensures free p.y p.x p.low (omega (arith, edge)) (bit_at_ones 32 p.x edge) in
+          let at : 0 + p.x ≡ p.x = omega arith in
+          absurd (omega (arith, p.live, dead, ap (λ x. place c.args.rows.now (p.y * (64 * f.words) + x)) at))
       | inr apart ↦ omega (arith, ints, p.column, apart)
     ]
 

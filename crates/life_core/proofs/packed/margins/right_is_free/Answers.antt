@@ -1,6 +1,7 @@
-use Rattle.std.proofs.Common.{◌+◌, ◌-◌, ◌*◌, ap, inl, inr, arith}
+use Rattle.std.proofs.Common.{◌≡◌, ◌+◌, ◌-◌, ◌*◌, ap, inl, inr, arith}
 use Rattle.std.proofs.lemmas.Int.{ints}
-use Rattle.std.proofs.lemmas.Bool.{cases_eq}
+use Rattle.std.proofs.lemmas.Bool.{cases_lt}
+use Rattle.std.proofs.lemmas.Nat.Bits.{bit_at_mask_inside}
 use Rattle.life_core.specs.PackedRow.{place}
 use Rattle.life_core.proofs.FrameBounds.{near_fits, words_few}
 use Rattle.life_core.proofs.PackedCells.{live_place}
@@ -32,9 +33,13 @@ pub returns-else-frame-from-clause-free : goal.returns-else-frame-from-clause-fr
 returns-else-frame-from-clause-free c free d live =
     let f = c.args.frame in
     let p = live_place f c.args.rows.now c.requires.frame.wide c.requires.rows d live in
-    elim (cases_eq p.x (64 * (f.words - 1) + 63)) [
-      | inl edge ↦ absurd (omega (arith, p.live, c.column_is_dead.ensures free p.y p.low, ap (λ x. place c.args.rows.now (p.y * (64 * f.words) + x)) edge))
-      | inr apart ↦ omega (arith, ints, p.column, p.narrow, apart)
+    elim (cases_lt (p.x + 32) (64 * f.words)) [
+      | inl apart ↦ omega (arith, ints, p.column, apart)
+      | inr edge ↦
+          let last = 64 * (f.words - 1) in
+          let at : last + (p.x - last) ≡ p.x = omega (arith, edge, c.requires.frame.wide) in
+          let dead : place c.args.rows.now (p.y * (64 * f.words) + (last + (p.x - last))) ≡ 0 = c.column_is_dead.ensures free p.y (p.x - last) p.low (omega (arith, p.narrow)) (bit_at_mask_inside 32 64 (p.x - last) (omega (arith, edge, c.requires.frame.wide)) (omega (arith, p.narrow))) in
+          absurd (omega (arith, p.live, dead, ap (λ x. place c.args.rows.now (p.y * (64 * f.words) + x)) at))
     ]
 
 pub returns-else-frame-from-clause-near : goal.returns-else-frame-from-clause-near

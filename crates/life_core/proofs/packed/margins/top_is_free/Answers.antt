@@ -1,7 +1,6 @@
-use Rattle.std.proofs.Common.{◌+◌, ◌*◌, ap, inl, inr, arith}
+use Rattle.std.proofs.Common.{inl, inr, arith}
 use Rattle.std.proofs.lemmas.Int.{ints}
-use Rattle.std.proofs.lemmas.Bool.{cases_eq}
-use Rattle.life_core.specs.PackedRow.{place}
+use Rattle.std.proofs.lemmas.Bool.{cases_lt}
 use Rattle.life_core.proofs.PackedCells.{live_place}
 use Rattle.life_core.proofs.FrameBounds.{near_fits}
 use Rattle.life_core.proofs.packed.margins.top_is_free.Goals as goal
@@ -10,16 +9,13 @@ pub returns-else-frame-from-clause-free : goal.returns-else-frame-from-clause-fr
 returns-else-frame-from-clause-free c free d live =
     let f = c.args.frame in
     let p = live_place f c.args.rows.now c.requires.frame.wide c.requires.rows d live in
-    elim (cases_eq p.y 0) [
-      | inl edge ↦ absurd (omega (arith, p.live, c.row_is_dead.ensures.places free p.x p.narrow, ap (λ y. place c.args.rows.now (y * (64 * f.words) + p.x)) edge))
+    elim (cases_lt p.y 48) [
+      | inl edge ↦ absurd (omega (arith, p.live, c.rows_are_dead.ensures free p.x p.y (omega arith) edge p.narrow))
       | inr apart ↦ omega (arith, ints, p.row, apart)
     ]
 
 pub overflow_sub-from : goal.overflow_sub-from
 overflow_sub-from c = near_fits _ (omega (arith, ints, c.from.ensures)) (omega (arith, ints, c.from.ensures))
-
-pub row_is_dead-requires-clause-y : goal.row_is_dead-requires-clause-y
-row_is_dead-requires-clause-y c = c.requires.frame.tall
 
 pub returns-then-frame-from-clause-free : goal.returns-then-frame-from-clause-free
 returns-then-frame-from-clause-free c past d live = omega (arith, ints, c.from.ensures, c.if-frame-from.true, (c.requires.within d live).top)

@@ -1,7 +1,7 @@
 use Rattle.std.proofs.Common.{◌≡◌, ℕ, List, ◌+◌, ◌-◌, ◌*◌, ◌<◌, ◌≤◌, length, take, drop, get_or, refl, sym, ap, subst, ◌∙◌, inl, inr, rules, arith}
 use Rattle.std.proofs.lemmas.Bool.{cases_lt}
 use Rattle.life_core.proofs.FrameBounds.{row_fits, rows_few, word_few}
-use Rattle.life_core.proofs.Spans.{row_words, length-row}
+use Rattle.life_core.proofs.PackedJoins.{row_words, length-row}
 use Rattle.life_core.proofs.PackedGrowth.{IsBeside, put_at, as_long, row_has_room, copied_before, copied_here, blank_beside, copied_rows}
 use Rattle.life_core.specs.declared.packed.frame.Frame.{Frame}
 use Rattle.life_core.specs.declared.packed.margins.Wider.{Wider}

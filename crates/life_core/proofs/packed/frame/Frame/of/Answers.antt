@@ -39,3 +39,32 @@ round-requires-clause-bottom g c =
 
 pub returns-in-None-clause-inside : goal.returns-in-None-clause-inside
 returns-in-None-clause-inside g c d live = absurd (false≢true (sym (set.contains-empty cell_cmp d) ∙ ap (λ (X : Cells). set.contains X d) (sym (c.in-None.ensures.none.0 refl)) ∙ live))
+
+pub returns-in-None-clause-slack : goal.returns-in-None-clause-slack
+returns-in-None-clause-slack g c = record {
+  away = λ d live. absurd (false≢true (sym (set.contains-empty cell_cmp d) ∙ ap (λ (X : Cells). set.contains X d) (sym (c.in-None.ensures.none.0 refl)) ∙ live));
+}
+
+pub returns-in-Some-clause-slack : goal.returns-in-Some-clause-slack
+returns-in-Some-clause-slack g c = record {
+  away = λ d live.
+      let box = c.in-Some.ensures.is_box in
+      let n = c.round.ensures in
+      record {
+        from_left = omega (arith, ints, n.left, box.from_column.below d live);
+        to_right = omega (arith, ints, n.left, n.width, box.to_column.above d live);
+        from_top = omega (arith, ints, n.top, box.from_row.below d live);
+        to_bottom = omega (arith, ints, n.top, n.height, box.to_row.above d live);
+      };
+}
+
+pub returns-in-Some-clause-inside : goal.returns-in-Some-clause-inside
+returns-in-Some-clause-inside g c d live =
+    let box = c.in-Some.ensures.is_box in
+    let n = c.round.ensures in
+    record {
+      from_left = omega (arith, ints, n.left, box.from_column.below d live);
+      to_right = omega (arith, ints, n.left, n.width, box.to_column.above d live);
+      from_top = omega (arith, ints, n.top, box.from_row.below d live);
+      to_bottom = omega (arith, ints, n.top, n.height, box.to_row.above d live);
+    }

@@ -1,0 +1,51 @@
+//! Rules by which several words of a row go on at once.
+ghost use Rattle.std.specs.Prelude.{◌≡◌};
+ghost use Rattle.life_core.specs.Rule.{RuleSets, life};
+ghost use Rattle.life_core.specs.PackedLanesState.{AreNextLanes};
+
+use crate::packed::lanes::life_lanes;
+use std::simd::prelude::*;
+
+/// A rule by which `N` words of a row go on at once.
+pub(crate) trait LaneRule<const N: usize> {
+    // It goes on by this rule.
+    ghost is_of: { Self → RuleSets → Type 0 };
+
+    /// The places that are live next, by the digits of the sums of the row above, of the two beside
+    /// each place, and of the row below.
+    fn next_lanes(
+        &self,
+        here: Simd<u64, N>,
+        above: Simd<u64, N>,
+        above2: Simd<u64, N>,
+        sides: Simd<u64, N>,
+        sides2: Simd<u64, N>,
+        below: Simd<u64, N>,
+        below2: Simd<u64, N>,
+    ) -> Simd<u64, N>
+        ensures { (r : RuleSets) → is_of self.now r → AreNextLanes r N here.entry above.entry above2.entry sides.entry sides2.entry below.entry below2.entry result };
+}
+
+/// Conway's Life, which has a shorter way of its own.
+#[derive(Clone, Copy)]
+pub(crate) struct ConwayLife;
+
+impl<const N: usize> LaneRule<N> for ConwayLife {
+    ghost is_of = { λ s r. r ≡ life };
+
+    #[inline(always)]
+    fn next_lanes(
+        &self,
+        here: Simd<u64, N>,
+        above: Simd<u64, N>,
+        above2: Simd<u64, N>,
+        sides: Simd<u64, N>,
+        sides2: Simd<u64, N>,
+        below: Simd<u64, N>,
+        below2: Simd<u64, N>,
+    ) -> Simd<u64, N>
+        ensures { (r : RuleSets) → r ≡ life → AreNextLanes r N here.entry above.entry above2.entry sides.entry sides2.entry below.entry below2.entry result }
+    {
+        life_lanes(here, above, above2, sides, sides2, below, below2)
+    }
+}

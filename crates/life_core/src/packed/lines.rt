@@ -1,0 +1,158 @@
+//! Lines of blocks, and all lines.
+ghost use Rattle.std.specs.Prelude.{◌≡◌, ◌⊎◌, ℕ, ◌+◌, ◌-◌, ◌*◌, ◌≤◌, ◌<◌, ◌≢◌, length, slice_index_or, false};
+ghost use Rattle.life_core.specs.Rule.{RuleSets};
+ghost use Rattle.life_core.specs.PackedBlocksState.{flat_next, IsOutside};
+ghost use Rattle.life_core.specs.PackedMarksState.{KeepsMarks, IsStepped, IsAdvanced, block_at, mark_at};
+
+use crate::packed::blocks::block_step;
+use crate::packed::lane_rule::LaneRule;
+use crate::packed::marks::wake;
+
+/// The block in a line and a column, if it is marked. Its mark is taken away.
+#[inline(always)]
+fn column_step<R: LaneRule<2>>(
+    rule: &R,
+    columns: usize,
+    line: usize,
+    column: usize,
+    rows: &[u64],
+    marks: &mut [bool],
+    out: &mut [u64],
+    next_marks: &mut [bool],
+    next_lines: &mut [bool],
+)
+    requires column { column < columns }
+    requires line { (1 ≤ line) × (line + 2 ≤ length next_lines.old) }
+    requires rows { length rows.now ≡ (16 * length next_lines.old) * (2 * columns) }
+    requires out { length out.old ≡ length rows.now }
+    requires marks { length marks.old ≡ length next_lines.old * columns + 2 }
+    requires next_marks { length next_marks.old ≡ length marks.old }
+    ensures out { length out.new ≡ length out.old }
+    ensures marks { length marks.new ≡ length marks.old }
+    ensures next_marks { KeepsMarks next_marks.old next_marks.new }
+    ensures next_lines { KeepsMarks next_lines.old next_lines.new }
+    ensures others { (j : ℕ) → j ≢ mark_at columns line column → slice_index_or marks.new j false ≡ slice_index_or marks.old j false }
+    ensures rest { (j : ℕ) → IsOutside (block_at columns line column) (2 * columns) 16 j → slice_index_or out.new j 0 ≡ slice_index_or out.old j 0 }
+    ensures block { (r : RuleSets) → R.is_of rule.now r → IsStepped (flat_next r rows.now (64 * (2 * columns))) columns line column marks.old out.old out.new next_marks.new next_lines.new }
+{
+    let b = 1 + line * columns + column;
+    if !marks[b] {
+        return;
+    }
+    marks[b] = false;
+    let changes = block_step(
+        rule,
+        rows,
+        2 * columns,
+        16 * line * (2 * columns) + 2 * column,
+        out,
+    );
+    wake(changes.all, line, b, next_marks, next_lines);
+    wake(changes.top, line - 1, b - columns, next_marks, next_lines);
+    wake(
+        changes.bottom,
+        line + 1,
+        b + columns,
+        next_marks,
+        next_lines,
+    );
+}
+
+/// The blocks of a line that are marked.
+fn line_step<R: LaneRule<2>>(
+    rule: &R,
+    columns: usize,
+    line: usize,
+    rows: &[u64],
+    marks: &mut [bool],
+    out: &mut [u64],
+    next_marks: &mut [bool],
+    next_lines: &mut [bool],
+)
+    requires line { (1 ≤ line) × (line + 2 ≤ length next_lines.old) }
+    requires rows { length rows.now ≡ (16 * length next_lines.old) * (2 * columns) }
+    requires out { length out.old ≡ length rows.now }
+    requires marks { length marks.old ≡ length next_lines.old * columns + 2 }
+    requires next_marks { length next_marks.old ≡ length marks.old }
+    ensures out { length out.new ≡ length out.old }
+    ensures marks { length marks.new ≡ length marks.old }
+    ensures next_marks { KeepsMarks next_marks.old next_marks.new }
+    ensures next_lines { KeepsMarks next_lines.old next_lines.new }
+    ensures others { (j : ℕ) → mark_at columns (line + 1) 0 ≤ j → slice_index_or marks.new j false ≡ slice_index_or marks.old j false }
+    ensures rest { (j : ℕ) → (j < block_at columns line 0) ⊎ (block_at columns (line + 1) 0 ≤ j) → slice_index_or out.new j 0 ≡ slice_index_or out.old j 0 }
+    ensures blocks { (r : RuleSets) (column : ℕ) → R.is_of rule.now r → column < columns → IsStepped (flat_next r rows.now (64 * (2 * columns))) columns line column marks.old out.old out.new next_marks.new next_lines.new }
+{
+    for column in 0..columns {
+        column_step(
+            rule, columns, line, column, rows, marks, out, next_marks, next_lines,
+        );
+    }
+}
+
+/// The blocks of a line that are marked, if the line is. Its mark is taken away.
+fn marked_line_step<R: LaneRule<2>>(
+    rule: &R,
+    columns: usize,
+    line: usize,
+    rows: &[u64],
+    marks: &mut [bool],
+    lines: &mut [bool],
+    out: &mut [u64],
+    next_marks: &mut [bool],
+    next_lines: &mut [bool],
+)
+    requires line { (1 ≤ line) × (line + 2 ≤ length next_lines.old) }
+    requires lines { length lines.old ≡ length next_lines.old }
+    requires rows { length rows.now ≡ (16 * length next_lines.old) * (2 * columns) }
+    requires out { length out.old ≡ length rows.now }
+    requires marks { length marks.old ≡ length next_lines.old * columns + 2 }
+    requires next_marks { length next_marks.old ≡ length marks.old }
+    ensures out { length out.new ≡ length out.old }
+    ensures marks { length marks.new ≡ length marks.old }
+    ensures lines { length lines.new ≡ length lines.old }
+    ensures next_marks { KeepsMarks next_marks.old next_marks.new }
+    ensures next_lines { KeepsMarks next_lines.old next_lines.new }
+    ensures others { (j : ℕ) → mark_at columns (line + 1) 0 ≤ j → slice_index_or marks.new j false ≡ slice_index_or marks.old j false }
+    ensures later { (j : ℕ) → line < j → slice_index_or lines.new j false ≡ slice_index_or lines.old j false }
+    ensures rest { (j : ℕ) → (j < block_at columns line 0) ⊎ (block_at columns (line + 1) 0 ≤ j) → slice_index_or out.new j 0 ≡ slice_index_or out.old j 0 }
+    ensures blocks { (r : RuleSets) (column : ℕ) → R.is_of rule.now r → column < columns → IsAdvanced (flat_next r rows.now (64 * (2 * columns))) columns line column marks.old lines.old out.old out.new next_marks.new next_lines.new }
+{
+    if !lines[line] {
+        return;
+    }
+    lines[line] = false;
+    line_step(
+        rule, columns, line, rows, marks, out, next_marks, next_lines,
+    );
+}
+
+/// All lines but the first and the last.
+pub(crate) fn advance_blocks<R: LaneRule<2>>(
+    rule: &R,
+    columns: usize,
+    rows: &[u64],
+    marks: &mut [bool],
+    lines: &mut [bool],
+    out: &mut [u64],
+    next_marks: &mut [bool],
+    next_lines: &mut [bool],
+)
+    requires lines { (1 ≤ length lines.old) × (length lines.old ≡ length next_lines.old) }
+    requires rows { length rows.now ≡ (16 * length next_lines.old) * (2 * columns) }
+    requires out { length out.old ≡ length rows.now }
+    requires marks { length marks.old ≡ length next_lines.old * columns + 2 }
+    requires next_marks { length next_marks.old ≡ length marks.old }
+    ensures out { length out.new ≡ length out.old }
+    ensures marks { length marks.new ≡ length marks.old }
+    ensures lines { length lines.new ≡ length lines.old }
+    ensures next_marks { KeepsMarks next_marks.old next_marks.new }
+    ensures next_lines { KeepsMarks next_lines.old next_lines.new }
+    ensures guards { (j : ℕ) → (j < block_at columns 1 0) ⊎ (block_at columns (length lines.old - 1) 0 ≤ j) → slice_index_or out.new j 0 ≡ slice_index_or out.old j 0 }
+    ensures blocks { (r : RuleSets) (line column : ℕ) → R.is_of rule.now r → 1 ≤ line → line + 2 ≤ length lines.old → column < columns → IsAdvanced (flat_next r rows.now (64 * (2 * columns))) columns line column marks.old lines.old out.old out.new next_marks.new next_lines.new }
+{
+    for line in 1..lines.len() - 1 {
+        marked_line_step(
+            rule, columns, line, rows, marks, lines, out, next_marks, next_lines,
+        );
+    }
+}

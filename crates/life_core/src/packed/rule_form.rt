@@ -1,0 +1,196 @@
+//! Rules as normal forms, by which several words of a row go on at once.
+ghost use Rattle.std.specs.Prelude.{◌≡◌, ℕ, ◌+◌, ◌*◌, ◌%◌, ◌≤◌, ◌<◌, length, min, nat_eq, slice_index_or, if◌then◌else◌};
+ghost use Rattle.std.specs.Int.{bit_at};
+ghost use Rattle.life_core.specs.PackedRow.{place, one_if};
+ghost use Rattle.life_core.specs.Rule.{RuleSets};
+ghost use Rattle.life_core.specs.PackedLanesState.{AreNextLanes};
+ghost use Rattle.life_core.specs.PackedRuleFormState.{toggled_bit, part_bit, form_bit, AreParts, IsForm};
+
+use crate::packed::lane_rule::LaneRule;
+use crate::packed::lanes::{carry, odd};
+use crate::rule::Rule;
+use std::simd::prelude::*;
+
+/// A rule as words with all bits or none. Below 8 word `n` of `parts` toggles the places whose count
+/// has all the digits of `n`, and word 8 those whose count is eight; the words of `parts_here` toggle
+/// those of them that are live.
+#[derive(Clone, Copy)]
+pub(crate) struct RuleForm {
+    pub(crate) parts: [u64; 9],
+    pub(crate) parts_here: [u64; 9],
+}
+
+impl RuleForm {
+    /// The form of a rule.
+    pub(crate) fn of(rule: &Rule) -> RuleForm
+        ensures { IsForm rule.now result }
+    {
+        let (birth, survival) = rule.flags();
+        let parts = parts_of(birth);
+        let parts_here = toggles(&parts, &parts_of(survival));
+        RuleForm { parts, parts_here }
+    }
+}
+
+/// The words by which each of nine words is toggled to another.
+fn toggles(from: &[u64; 9], to: &[u64; 9]) -> [u64; 9]
+    ensures { (n i : ℕ) → n < 9 → bit_at (slice_index_or result n 0) i ≡ (bit_at (slice_index_or from.now n 0) i + bit_at (slice_index_or to.now n 0) i) % 2 }
+{
+    let mut toggles = *from;
+    for n in 0..9_usize {
+        toggles[n] = from[n] ^ to[n];
+    }
+    toggles
+}
+
+/// The parts of nine flags.
+fn parts_of(flags: &[bool; 9]) -> [u64; 9]
+    ensures { AreParts flags.now result }
+{
+    let low = parts_of_four(flags[0], flags[1], flags[2], flags[3]);
+    let high = parts_of_four(flags[4], flags[5], flags[6], flags[7]);
+    [
+        low[0],
+        low[1],
+        low[2],
+        low[3],
+        low[0] ^ high[0],
+        low[1] ^ high[1],
+        low[2] ^ high[2],
+        low[3] ^ high[3],
+        low[0] ^ mask(flags[8]),
+    ]
+}
+
+/// The parts of four flags.
+fn parts_of_four(zero: bool, one: bool, two: bool, three: bool) -> [u64; 4]
+    ensures { (i o t : ℕ) → i < 64 → o < 2 → t < 2 → toggled_bit (toggled_bit (bit_at (slice_index_or result 0 0) i) o (bit_at (slice_index_or result 1 0) i)) t (toggled_bit (bit_at (slice_index_or result 2 0) i) o (bit_at (slice_index_or result 3 0) i)) ≡ (if nat_eq t 1 then (if nat_eq o 1 then one_if three else one_if two) else (if nat_eq o 1 then one_if one else one_if zero)) }
+{
+    let low = parts_of_two(zero, one);
+    let high = parts_of_two(two, three);
+    [low[0], low[1], low[0] ^ high[0], low[1] ^ high[1]]
+}
+
+/// The parts of two flags.
+fn parts_of_two(zero: bool, one: bool) -> [u64; 2]
+    ensures { (i o : ℕ) → i < 64 → o < 2 → toggled_bit (bit_at (slice_index_or result 0 0) i) o (bit_at (slice_index_or result 1 0) i) ≡ (if nat_eq o 1 then one_if one else one_if zero) }
+{
+    let zero = mask(zero);
+    [zero, zero ^ mask(one)]
+}
+
+/// All bits, or none.
+pub(crate) fn mask(flag: bool) -> u64
+    ensures { (i : ℕ) → i < 64 → bit_at result i ≡ one_if flag }
+{
+    if flag { u64::MAX } else { 0 }
+}
+
+/// The places of `x`, toggled by those of `y` where `s` is set.
+#[inline(always)]
+fn toggled<const N: usize>(x: Simd<u64, N>, s: Simd<u64, N>, y: Simd<u64, N>) -> Simd<u64, N>
+    ensures { (p : ℕ) → place result p ≡ toggled_bit (place x.entry p) (place s.entry p) (place y.entry p) }
+{
+    x ^ (s & y)
+}
+
+/// A word in each lane.
+#[inline(always)]
+fn spread<const N: usize>(word: u64) -> Simd<u64, N>
+    ensures { (p : ℕ) → p < 64 * N → place result p ≡ bit_at word (p % 64) }
+{
+    Simd::splat(word)
+}
+
+/// A part of the form, with what a live place adds.
+#[inline(always)]
+fn part<const N: usize>(rule: &RuleForm, here: Simd<u64, N>, n: usize) -> Simd<u64, N>
+    requires { n < 9 }
+    ensures { (p : ℕ) → p < 64 * N → place result p ≡ part_bit rule.now (p % 64) (place here.entry p) n }
+{
+    toggled(spread(rule.parts[n]), here, spread(rule.parts_here[n]))
+}
+
+/// The places where both are set.
+#[inline(always)]
+fn both<const N: usize>(a: Simd<u64, N>, b: Simd<u64, N>) -> Simd<u64, N>
+    ensures { (p : ℕ) → place result p ≡ min (place a.entry p) (place b.entry p) }
+{
+    a & b
+}
+
+/// The places where one of two is set.
+#[inline(always)]
+fn one_of<const N: usize>(a: Simd<u64, N>, b: Simd<u64, N>) -> Simd<u64, N>
+    ensures { (p : ℕ) → place result p ≡ (place a.entry p + place b.entry p) % 2 }
+{
+    a ^ b
+}
+
+/// The form at the three lower digits of the counts.
+#[inline(always)]
+fn formed<const N: usize>(
+    rule: &RuleForm,
+    here: Simd<u64, N>,
+    ones: Simd<u64, N>,
+    twos: Simd<u64, N>,
+    fours: Simd<u64, N>,
+) -> Simd<u64, N>
+    ensures { (p : ℕ) → p < 64 * N → place result p ≡ form_bit (part_bit rule.now (p % 64) (place here.entry p)) (place ones.entry p) (place twos.entry p) (place fours.entry p) }
+{
+    let zero = toggled(part(rule, here, 0), ones, part(rule, here, 1));
+    let two = toggled(part(rule, here, 2), ones, part(rule, here, 3));
+    let four = toggled(part(rule, here, 4), ones, part(rule, here, 5));
+    let six = toggled(part(rule, here, 6), ones, part(rule, here, 7));
+    toggled(toggled(zero, twos, two), fours, toggled(four, twos, six))
+}
+
+/// The places that are live next under the rule of the form, by the digits of the sums of the row
+/// above, of the two beside each place, and of the row below.
+#[inline(always)]
+fn rule_lanes<const N: usize>(
+    rule: &RuleForm,
+    here: Simd<u64, N>,
+    above: Simd<u64, N>,
+    above2: Simd<u64, N>,
+    sides: Simd<u64, N>,
+    sides2: Simd<u64, N>,
+    below: Simd<u64, N>,
+    below2: Simd<u64, N>,
+) -> Simd<u64, N>
+    ensures { (r : RuleSets) → IsForm r rule.now → AreNextLanes r N here.entry above.entry above2.entry sides.entry sides2.entry below.entry below2.entry result }
+{
+    let ones = odd(above, sides, below);
+    let more = carry(above, sides, below);
+    let some = odd(above2, sides2, below2);
+    let high = carry(above2, sides2, below2);
+    let twos = one_of(some, more);
+    let rest = both(some, more);
+    let fours = one_of(high, rest);
+    let eights = both(high, rest);
+    toggled(
+        formed(rule, here, ones, twos, fours),
+        eights,
+        part(rule, here, 8),
+    )
+}
+
+impl<const N: usize> LaneRule<N> for RuleForm {
+    ghost is_of = { λ m r. IsForm r m };
+
+    #[inline(always)]
+    fn next_lanes(
+        &self,
+        here: Simd<u64, N>,
+        above: Simd<u64, N>,
+        above2: Simd<u64, N>,
+        sides: Simd<u64, N>,
+        sides2: Simd<u64, N>,
+        below: Simd<u64, N>,
+        below2: Simd<u64, N>,
+    ) -> Simd<u64, N>
+        ensures { (r : RuleSets) → IsForm r self.now → AreNextLanes r N here.entry above.entry above2.entry sides.entry sides2.entry below.entry below2.entry result }
+    {
+        rule_lanes(self, here, above, above2, sides, sides2, below, below2)
+    }
+}

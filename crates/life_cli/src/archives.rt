@@ -25,30 +25,34 @@ fn open_archive(
 }
 
 /// Does a job over an archive in a store of any kind.
-fn done_in<S: Alter + Drop, I: Inlet, O: Outlet>(
+fn done_in<S: Alter, I: Inlet, O: Outlet>(
     rt: &HostRuntime,
-    mut archive: Archive<S>,
+    archive: &mut Archive<S>,
     job: ArchiveJob<'_>,
     input: &mut I,
     output: &mut O,
 ) -> Result<(), ArchiveStop> {
     match job {
         ArchiveJob::Deposit { member, token } => {
-            run_deposit(rt.alloc(), &mut archive, member, token, input, output)
+            run_deposit(rt.alloc(), archive, member, token, input, output)
         }
-        ArchiveJob::Serve { port, connections } => serve_port(rt, &mut archive, port, connections),
+        ArchiveJob::Serve { port, connections } => serve_port(rt, archive, port, connections),
     }
 }
 
-/// Does a job over an archive in files of any kind.
+/// Does a job over an archive in files of any kind, and closes it whatever came of the job. What was answered stands
+/// also where the close is refused: the two files keep it together then.
 fn done_in_files<D: Disk + Drop, I: Inlet, O: Outlet>(
     rt: &HostRuntime,
-    archive: Archive<FileStore<D>>,
+    mut archive: Archive<FileStore<D>>,
     job: ArchiveJob<'_>,
     input: &mut I,
     output: &mut O,
 ) -> Result<(), ArchiveStop> {
-    done_in(rt, archive, job, input, output)
+    let answer = done_in(rt, &mut archive, job, input, output);
+    match archive.close() {
+        Ok(()) | Err(_) => answer,
+    }
 }
 
 /// Does a job over the archive in the file.

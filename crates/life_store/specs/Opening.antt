@@ -21,6 +21,10 @@ is_capacity n = nat_le 1 n && nat_le n 1000000
 abbrev pub nothing_kept : Kept
 nothing_kept = record { deposits = []; censuses = [] }
 
+-- the database file with no log, or with an empty one
+abbrev pub without_log : Image → Image
+without_log image = record image { log = [] }
+
 -- The files hold a database that obeys the archive's tables, with rows that stand for these.
 pub record FilesHold (image : Image) (k : Kept) : Type 0 where
   pub trees : Trees

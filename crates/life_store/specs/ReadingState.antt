@@ -1,7 +1,9 @@
 -- Words of the code alone: what the rows of an answer show, column by column as the queries of StatementsState.antt list them.
 use Rattle.std.specs.Prelude.{◌≡◌, ◌⊎◌, ℕ, zero, suc, pos, Bool, List, [], ◌∷◌, Option, None, Some}
+use Rattle.std.specs.FinSet as set
 use Rattle.sqlite_value.specs.declared.value.Value.TheVariants.{Null, Int, Text, Blob}
 use Rattle.sqlite_value.specs.Order.{Row}
+use Rattle.life_core.specs.RuleText.{rule_text}
 use Rattle.life_rle.specs.Writer.{text}
 use Rattle.life_store.specs.declared.kept.FoundDeposit.{FoundDeposit}
 use Rattle.life_store.specs.declared.kept.Listed.{Listed}
@@ -14,7 +16,9 @@ newest_rows zero = []
 newest_rows (suc n) = (Int (pos (suc n)) ∷ []) ∷ []
 
 abbrev pub deposit_shown : FoundDeposit → Row
-deposit_shown f = Int (pos f.id) ∷ Text f.deposit.member ∷ Text f.deposit.token ∷ Blob (text f.deposit.content) ∷ []
+deposit_shown f =
+    Int (pos f.id) ∷ Text f.deposit.member ∷ Text f.deposit.token ∷ Text (rule_text f.deposit.content.rule) ∷ Int (pos (set.len f.deposit.content.cells))
+    ∷ Blob (text f.deposit.content) ∷ []
 
 -- the first row shows the deposit, or there is no row
 abbrev pub ShowsDeposit : Option FoundDeposit → List Row → Type 0

@@ -17,10 +17,10 @@ abbrev pub newest_deposit_text : List ℕ
 newest_deposit_text = codes "SELECT id FROM deposits ORDER BY id DESC LIMIT 1"
 
 abbrev pub deposit_text : List ℕ
-deposit_text = codes "SELECT id, member, token, rle FROM deposits WHERE id = ?1 ORDER BY id"
+deposit_text = codes "SELECT id, member, token, rule, population, rle FROM deposits WHERE id = ?1 ORDER BY id"
 
 abbrev pub find_deposit_text : List ℕ
-find_deposit_text = codes "SELECT id, member, token, rle FROM deposits WHERE member = ?1 AND token = ?2 ORDER BY id"
+find_deposit_text = codes "SELECT id, member, token, rule, population, rle FROM deposits WHERE member = ?1 AND token = ?2 ORDER BY id"
 
 abbrev pub deposits_after_text : List ℕ
 deposits_after_text = codes "SELECT id, member, population, rule FROM deposits WHERE id > ?1 ORDER BY id LIMIT 100"
@@ -113,7 +113,7 @@ abbrev pub is_after : List Term
 is_after = op2 (Compare Gt Binary) (col 1 0) (col 0 0) ∷ []
 
 abbrev pub deposit_columns : List Term
-deposit_columns = col 1 0 ∷ col 1 2 ∷ col 1 3 ∷ col 1 6 ∷ []
+deposit_columns = col 1 0 ∷ col 1 2 ∷ col 1 3 ∷ col 1 4 ∷ col 1 5 ∷ col 1 6 ∷ []
 
 abbrev pub listed_columns : List Term
 listed_columns = col 1 0 ∷ col 1 2 ∷ col 1 5 ∷ col 1 4 ∷ []
@@ -169,7 +169,7 @@ abbrev pub id_names : List (List ℕ)
 id_names = codes "id" ∷ []
 
 abbrev pub deposit_names : List (List ℕ)
-deposit_names = codes "id" ∷ codes "member" ∷ codes "token" ∷ codes "rle" ∷ []
+deposit_names = codes "id" ∷ codes "member" ∷ codes "token" ∷ codes "rule" ∷ codes "population" ∷ codes "rle" ∷ []
 
 abbrev pub listed_names : List (List ℕ)
 listed_names = codes "id" ∷ codes "member" ∷ codes "population" ∷ codes "rule" ∷ []

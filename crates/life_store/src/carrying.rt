@@ -88,7 +88,7 @@ fn show_deposit<S: Alter>(tx: &mut Transaction<'_, S>, id: u64) -> Result<Vec<Ro
     };
     ask_inside(
         tx,
-        "SELECT id, member, token, rle FROM deposits WHERE id = ?1 ORDER BY id",
+        "SELECT id, member, token, rule, population, rle FROM deposits WHERE id = ?1 ORDER BY id",
         &[whole(id)],
     )
 }

@@ -36,7 +36,7 @@ pub(crate) fn show<S: Alter>(conn: &mut Connection<S>, id: i64) -> Result<Vec<Ro
 {
     ask(
         conn,
-        "SELECT id, member, token, rle FROM deposits WHERE id = ?1 ORDER BY id",
+        "SELECT id, member, token, rule, population, rle FROM deposits WHERE id = ?1 ORDER BY id",
         &[whole(id)],
     )
 }
@@ -53,7 +53,7 @@ pub(crate) fn find<'a, S: Alter>(
 {
     ask(
         conn,
-        "SELECT id, member, token, rle FROM deposits WHERE member = ?1 AND token = ?2 ORDER BY id",
+        "SELECT id, member, token, rule, population, rle FROM deposits WHERE member = ?1 AND token = ?2 ORDER BY id",
         &[text(member), text(token)],
     )
 }

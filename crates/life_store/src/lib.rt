@@ -6,6 +6,7 @@
 
 mod archive;
 mod asking;
+mod beside;
 mod carrying;
 mod censuses;
 mod deposits;

@@ -8,6 +8,7 @@ ghost use Rattle.sqlite.specs.State.{HasCleanDisk, IsLive};
 ghost use Rattle.sqlite.specs.Held.{state};
 ghost use Rattle.sqlite.specs.Closing.{IsCopied};
 ghost use Rattle.sqlite.specs.Files.{file_state, image_of};
+ghost use Rattle.sqlite_disk.specs.declared.Files.{Files as Pair};
 ghost use Rattle.sqlite_wal.specs.Files.{image_at};
 ghost use Rattle.sqlite_wal.specs.Reads.{AreClean};
 ghost use Rattle.sqlite_schema.specs.declared.schema.Schema.{Schema as SchemaValue};
@@ -16,12 +17,13 @@ ghost use Rattle.life_store.specs.CarryingState.{Carries};
 ghost use Rattle.life_store.specs.Kept.{Kept};
 ghost use Rattle.life_store.specs.LayingState.{IsLaid};
 ghost use Rattle.life_store.specs.Layout.{no_schema};
-ghost use Rattle.life_store.specs.Opening.{is_capacity, nothing_kept, IsLayout, FilesHaveVersions, FilesHold, FilesHoldFirst, ListNothing};
+ghost use Rattle.life_store.specs.Opening.{is_capacity, nothing_kept, without_log, IsLayout, FilesHaveVersions, FilesHold, FilesHoldFirst, ListNothing};
 ghost use Rattle.life_store.specs.OpeningState.{HaveVersions, has_table, has_view, has_name, has_some, column_of, version_shown, version_with, rows_of_version, schema_of};
 ghost use Rattle.life_store.specs.Tables.{tables_of, Holds, Keeps};
 
 use crate::archive::Archive;
 use crate::asking::ask;
+use crate::beside::{missing_log, remove_blank};
 use crate::carrying::carry_over;
 use crate::fault::{OpenFault, Unavailable};
 use crate::laying::lay_out;
@@ -34,6 +36,9 @@ use std::alloc::Global;
 
 /// The seed of the random numbers by which a log tells its own frames.
 const SEED: u64 = 1;
+
+/// A file in which an archive is made keeps the sum of each page. One that is there stays as it is.
+const WITH_SUMS: bool = true;
 
 /// Whether an archive may take so many.
 fn is_capacity(capacity: u64) -> bool
@@ -319,17 +324,18 @@ impl<D: Disk + Drop> Archive<FileStore<D>> {
         if !is_capacity(capacity) {
             return Err((OpenFault::BadCapacity, files));
         }
-        match Connection::open_files(alloc, files, Options::new(SEED)) {
+        match Connection::open_files_with(alloc, files, Options::new(SEED), WITH_SUMS) {
             Ok(conn) => archive_over(alloc, conn, capacity),
             Err((_, left)) => Err((OpenFault::Unavailable, left.into_files())),
         }
     }
 
     /// Closes the archive and gives its files back, also where the close is refused. Files that were closed hold what the
-    /// archive held.
+    /// archive held, and so does the database file with no log.
     pub fn close_files(self) -> Result<Files<D>, (Unavailable, Files<D>)>
         ensures usable { IfOk result (λ files. IsTrue (D.Disk.is_usable files.log) × IsTrue (D.Disk.is_usable files.db)) }
         ensures held { IfOk result (λ files. (k : Kept) → AreClean D.Disk files.log files.db → Holds self.tables k → FilesHold (image_of D.Disk files) k) }
+        ensures alone { IfOk result (λ files. (k : Kept) → AreClean D.Disk files.log files.db → Holds self.tables k → FilesHold (without_log (image_of D.Disk files)) k) }
     {
         match settled(self) {
             Ok(conn) => match close(conn) {
@@ -337,6 +343,18 @@ impl<D: Disk + Drop> Archive<FileStore<D>> {
                 Err(files) => Err((Unavailable, files)),
             },
             Err(store) => Err((Unavailable, store.close())),
+        }
+    }
+
+    /// As `close_files`, and the files are closed too. What the archive held is in the database file alone then; where the
+    /// close is refused, it is in the two files together, as it was.
+    pub fn close(self) -> Result<(), Unavailable>
+        // No result names the files, so it says that there are some.
+        ensures { OnOk result ((files : Pair D) × ((k : Kept) → AreClean D.Disk files.log files.db → Holds self.tables k → FilesHold (without_log (image_of D.Disk files)) k)) }
+    {
+        match self.close_files() {
+            Ok(_files) => Ok(()),
+            Err((fault, _files)) => Err(fault),
         }
     }
 }
@@ -361,10 +379,19 @@ impl<D: Disk + Drop> Archive<FileStore<D>> {
     }
 }
 
+/// Removes the log that an opening made and left with no commit. The files are locked until it is gone, so that no other opening takes it up.
+fn remove_unmade<D: Disk + Drop>(rt: &HostRuntime, unmade: Option<String>, files: Files<D>) {
+    if let Some(name) = unmade {
+        remove_blank(rt, name.as_str());
+    }
+    drop(files);
+}
+
 impl<T: Start> Archive<FileStore<FileFrom<T>>> {
     /// The archive in the file of the path, and in the log beside it; where they hold none of its tables, a new one. An
     /// archive of layout 1 is carried over, as `open_files` does it. `start` says what the two files are taken to hold:
-    /// `sqlite::Unknown` says nothing of files that are not empty. A refused opening drops the files.
+    /// `sqlite::Unknown` says nothing of files that are not empty. A refused opening drops the files, and where it made a
+    /// log that has no commit, beside a file that was there, it removes it.
     pub fn open_path(
         rt: &HostRuntime,
         path: &str,
@@ -381,12 +408,20 @@ impl<T: Start> Archive<FileStore<FileFrom<T>>> {
         if !is_capacity(capacity) {
             return Err(OpenFault::BadCapacity);
         }
-        let Ok(conn) = Connection::open_from(rt, path, false, start) else {
-            return Err(OpenFault::Unavailable);
-        };
-        match archive_over(rt.alloc(), conn, capacity) {
-            Ok(archive) => Ok(archive),
-            Err((fault, _)) => Err(fault),
+        let unmade = missing_log(rt, path);
+        match Connection::open_from(rt, path, WITH_SUMS, start) {
+            Ok(conn) => match archive_over(rt.alloc(), conn, capacity) {
+                Ok(archive) => Ok(archive),
+                Err((fault, files)) => {
+                    remove_unmade(rt, unmade, files);
+                    Err(fault)
+                }
+            },
+            Err((_, Some(left))) => {
+                remove_unmade(rt, unmade, left.into_files());
+                Err(OpenFault::Unavailable)
+            }
+            Err((_, None)) => Err(OpenFault::Unavailable),
         }
     }
 }

@@ -117,10 +117,11 @@ impl<A: Allocator + Copy> BodyWriter<A> {
 /// Writes the body for cells in the order of rows and columns.
 fn write_body<A: Allocator + Copy>(
     out: Vec<u8, A>,
-    cells: &[(u32, u32)],
+    cells: &[Cell],
 ) -> Result<Vec<u8, A>, AllocError>
-    requires { InOrder 0 0 cells.now }
-    ensures { IfOk result (λ text. text.items ≡ out.items ++ laid 0 (item_texts cells.now)) }
+    requires inside { All IsQuarterCell cells.now }
+    requires order { InOrder 0 0 (map coordinates cells.now) }
+    ensures { IfOk result (λ text. text.items ≡ out.items ++ laid 0 (item_texts (map coordinates cells.now))) }
 {
     let mut body = BodyWriter {
         lines: ItemLines::new(out),
@@ -129,7 +130,7 @@ fn write_body<A: Allocator + Copy>(
         live: 0,
     };
     for cell in cells {
-        body.cell(*cell)?;
+        body.cell(pair_of(*cell))?;
     }
     body.lines.item(body.live, b'o')?;
     body.lines.put(b"", b'!')?;
@@ -204,23 +205,25 @@ fn header_line<A: Allocator>(
 }
 
 /// One past the greatest column, and 0 where there are no cells.
-fn width_of(cells: &[(u32, u32)]) -> u64
-    ensures { result ≡ width_of cells.now }
+fn width_of(cells: &[Cell]) -> u64
+    requires { All IsQuarterCell cells.now }
+    ensures { result ≡ width_of (map coordinates cells.now) }
 {
     let mut width = 0;
     for cell in cells {
-        width = width.max(u64::from(cell.0) + 1);
+        width = width.max(u64::from(pair_of(*cell).0) + 1);
     }
     width
 }
 
 /// One past the greatest row, and 0 where there are no cells.
-fn height_of(cells: &[(u32, u32)]) -> u64
-    ensures { result ≡ height_of cells.now }
+fn height_of(cells: &[Cell]) -> u64
+    requires { All IsQuarterCell cells.now }
+    ensures { result ≡ height_of (map coordinates cells.now) }
 {
     let mut height = 0;
     for cell in cells {
-        height = height.max(u64::from(cell.1) + 1);
+        height = height.max(u64::from(pair_of(*cell).1) + 1);
     }
     height
 }
@@ -233,14 +236,6 @@ fn pair_of(cell: Cell) -> (u32, u32)
     (cell.column as u32, cell.row as u32)
 }
 
-/// The coordinates of the cells.
-fn pairs_of<A: Allocator>(alloc: A, cells: &[Cell]) -> Result<Vec<(u32, u32), A>, AllocError>
-    requires { All IsQuarterCell cells.now }
-    ensures { IfOk result (λ v. v.items ≡ map coordinates cells.now) }
-{
-    cells.iter().map(|cell| pair_of(*cell)).collect(alloc)
-}
-
 /// The text of a record: its texts, its header and its body. Cells stand in the longest runs, and a
 /// line takes whole items as long as it then has at most 70 bytes.
 #[tactic(auto, unfolding(crate::specs::Writer::text))]
@@ -250,16 +245,11 @@ pub fn write<A: Allocator + Copy>(alloc: A, record: &Record<A>) -> Result<Vec<u8
     ensures again { IfOk result (λ v. IsInside 1024 «record».now.cells → kept v.items ≡ Ok «record».now) }
 {
     let rule = record.rule.text(alloc)?;
-    let cells = pairs_of(alloc, record.cells.cells())?;
+    let cells = record.cells.cells();
     let mut out = Vec::new(alloc);
     optional_line(&mut out, b'N', &record.name)?;
     optional_line(&mut out, b'O', &record.author)?;
     comment_lines(&mut out, record.comments.as_slice())?;
-    header_line(
-        &mut out,
-        width_of(&cells),
-        height_of(&cells),
-        rule.as_bytes(),
-    )?;
-    Ok(write_body(out, &cells)?)
+    header_line(&mut out, width_of(cells), height_of(cells), rule.as_bytes())?;
+    Ok(write_body(out, cells)?)
 }

@@ -11,13 +11,17 @@ use std::alloc::{AllocError, Global};
 use std::io;
 
 /// Files, and what is written of them or the name of their fault.
-const FILES: [(&str, &str); 5] = [
+const FILES: [(&str, &str); 6] = [
     (
         "x = 36, y = 9, rule = B3/S23\n24bo11b$22bobo11b$12b2o6b2o12b2o$11bo3bo4b2o12b2o$2o8bo5bo3b2o14b$2o8bo3bob2o4bobo11b$10bo5bo7bo11b$11bo3bo20b$12b2o!\n",
         "x = 36, y = 9, rule = B3/S23\n24bo$22bobo$12b2o6b2o12b2o$11bo3bo4b2o12b2o$2o8bo5bo3b2o$2o8bo3bob2o4b\nobo$10bo5bo7bo$11bo3bo$12b2o!\n",
     ),
     (
         "#N Glider\n#O A. Member\n#C first\n#c second\n#N Other\n#CXRLE Pos=-1,-1 Gen=0\nx = 3, y = 3, rule = B3/S23\nbo$2bo$3o!\n",
+        "#N Glider\n#O A. Member\n#C first\n#C second\n#C Other\nx = 3, y = 3, rule = B3/S23\nbo$2bo$3o!\n",
+    ),
+    (
+        "#N Glider\r\n#O A. Member\r\n#C first\r\n#c second\r\n#N Other\r\n#CXRLE Pos=-1,-1 Gen=0\r\nx = 3, y = 3, rule = B3/S23\r\nbo$2bo$3o!\r\n",
         "#N Glider\n#O A. Member\n#C first\n#C second\n#C Other\nx = 3, y = 3, rule = B3/S23\nbo$2bo$3o!\n",
     ),
     (
@@ -121,6 +125,23 @@ fn is_long_stream(alloc: Global, file: &[u8]) -> bool {
         Err(ReadFault::Rle(RleFault::TooLong)) => read_kept(alloc, file).is_ok(),
         _ => false,
     }
+}
+
+/// Whether a stream is too long that begins with a bad header and ends in so many blanks.
+fn is_long_with_a_bad_header(alloc: Global, blanks: usize) -> bool {
+    match with_blanks(alloc, "x = 1\n", blanks) {
+        Ok(file) => {
+            read_from(alloc, &mut SliceInlet::new(&file)).err()
+                == Some(ReadFault::Rle(RleFault::TooLong))
+        }
+        Err(_) => false,
+    }
+}
+
+#[test]
+fn the_length_of_a_stream_is_judged_before_its_header(rt: HostRuntime) {
+    assert!(rt; is_long_with_a_bad_header(rt.alloc(), 1_048_571));
+    assert!(rt; !is_long_with_a_bad_header(rt.alloc(), 1_048_570));
 }
 
 #[test]

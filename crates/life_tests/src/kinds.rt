@@ -2,13 +2,10 @@
 ghost use Rattle.std.specs.Prelude.{◌≤◌};
 
 use life_code::{CodeFault, Coded, Kind, PERIOD_LIMIT, code, kind_by, laws_of_codes, same_object};
-use life_core::{CellList, Fault, PackedRows, Pattern, Plane, Rule};
+use life_core::{CellList, Fault, Orientation, PackedRows, Pattern, Plane, Rule, generation};
 use std::alloc::Global;
 
 const GLIDER: [(i64, i64); 5] = [(1, 0), (2, 1), (0, 2), (1, 2), (2, 2)];
-
-/// The glider two generations later, its left and its right exchanged.
-const ANOTHER_GLIDER: [(i64, i64); 5] = [(0, 0), (0, 1), (2, 1), (0, 2), (1, 2)];
 
 const BLOCK: [(i64, i64); 4] = [(0, 0), (1, 0), (0, 1), (1, 1)];
 
@@ -84,10 +81,15 @@ fn coded_glider(alloc: Global) -> Result<Option<Coded>, Fault> {
     coded(alloc, &Rule::LIFE, &glider, 4)
 }
 
-/// The other glider with its code, under another limit.
+/// The glider three generations later, its left and its right exchanged, with its code under another limit.
 fn coded_other(alloc: Global) -> Result<Option<Coded>, Fault> {
-    let glider = Pattern::from_cells(alloc, &ANOTHER_GLIDER)?;
-    coded(alloc, &Rule::LIFE, &glider, 100)
+    let glider = Pattern::from_cells(alloc, &GLIDER)?;
+    if !glider.within(400_000_000) {
+        return Ok(None);
+    }
+    let later = generation(alloc, &Rule::LIFE, &glider, 3)?;
+    let mirrored = later.turned(alloc, Orientation::O4)?;
+    coded(alloc, &Rule::LIFE, &mirrored, 100)
 }
 
 /// Compares the gliders.

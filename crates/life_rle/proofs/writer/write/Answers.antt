@@ -8,13 +8,18 @@ use Rattle.life_rle.proofs.RecordPairs.{quarter_cells, pairs_in_order}
 use Rattle.life_rle.proofs.RoundText.{read_again}
 use Rattle.life_rle.proofs.writer.write.Goals as goal
 
-pub pairs_of-requires : goal.pairs_of-requires
-pairs_of-requires g c = quarter_cells c.record.inside.cells c.cells.result.now c.record.invariant.cells c.cells.ensures.cells c.cells.ensures.inside
+pub width_of-requires : goal.width_of-requires
+width_of-requires g c = quarter_cells c.record.inside.cells c.cells-cells.result.now c.record.invariant.cells c.cells-cells.ensures.cells c.cells-cells.ensures.inside
 
-pub write_body-requires : goal.write_body-requires
-write_body-requires g c =
-    subst (λ ps. InOrder 0 0 ps) (sym (c.deref-3.ensures.value ∙ c.in_ok-cells.ensures ∙ ap (λ cs. map coordinates cs) c.cells.ensures.cells))
-    (pairs_in_order c.record.inside.cells c.record.invariant.cells)
+pub height_of-requires : goal.height_of-requires
+height_of-requires g c = quarter_cells c.record.inside.cells c.cells-cells.result.now c.record.invariant.cells c.cells-cells.ensures.cells c.cells-cells.ensures.inside
+
+pub write_body-requires-clause-inside : goal.write_body-requires-clause-inside
+write_body-requires-clause-inside g c = quarter_cells c.record.inside.cells c.cells-cells.result.now c.record.invariant.cells c.cells-cells.ensures.cells c.cells-cells.ensures.inside
+
+pub write_body-requires-clause-order : goal.write_body-requires-clause-order
+write_body-requires-clause-order g c =
+    subst (λ ps. InOrder 0 0 ps) (sym (ap (λ cs. map coordinates cs) c.cells-cells.ensures.cells)) (pairs_in_order c.record.inside.cells c.record.invariant.cells)
 
 pub returns-clause-again : goal.returns-clause-again
 unfolding text

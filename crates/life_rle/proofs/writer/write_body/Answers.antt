@@ -1,6 +1,6 @@
-use Rattle.std.proofs.Common.{◌≡◌, ◌++◌, ◌∷◌, [], ap, sym, ◌∙◌, drop, arith}
+use Rattle.std.proofs.Common.{◌≡◌, ◌++◌, ◌∷◌, [], ap, sym, ◌∙◌, drop, map, arith}
 use Rattle.std.proofs.lemmas.List.{drop_all}
-use Rattle.life_rle.specs.Writer.{laid}
+use Rattle.life_rle.specs.Writer.{laid, coordinates}
 use Rattle.life_rle.specs.WriterState.{texts_from}
 use Rattle.life_rle.specs.ItemLinesState.{written}
 use Rattle.life_rle.proofs.WriterRuns.{texts_none}
@@ -14,5 +14,5 @@ returns g c =
     c.in_ok-push.ensures.items
     ∙ c.in_ok-put.ensures []
     ∙ c.in_ok-item.ensures ((33 ∷ []) ∷ [])
-    ∙ ap (λ t. written body.lines (t ++ (33 ∷ []) ∷ [])) (sym (ap (λ cells. texts_from body.live body.row body.column cells) rest ∙ texts_none body.live body.row body.column))
+    ∙ ap (λ t. written body.lines (t ++ (33 ∷ []) ∷ [])) (sym (ap (λ cells. texts_from body.live body.row body.column (map coordinates cells)) rest ∙ texts_none body.live body.row body.column))
     ∙ c.loop-cell.invariant.same ((33 ∷ []) ∷ [])

@@ -1,5 +1,5 @@
-use Rattle.std.proofs.Common.{◌≡◌, ℕ, ◌≤◌, ◌++◌, List, drop}
-use Rattle.life_rle.specs.Writer.{laid}
+use Rattle.std.proofs.Common.{◌≡◌, ℕ, ◌≤◌, ◌++◌, List, drop, map}
+use Rattle.life_rle.specs.Writer.{laid, coordinates}
 use Rattle.life_rle.specs.WriterState.{InOrder, texts_from}
 use Rattle.life_rle.specs.ItemLinesState.{body_written}
 use Rattle.life_rle.proofs.writer.write_body.Given as goal
@@ -10,4 +10,4 @@ pub record Writes (out : List ℕ) (all rest : List (ℕ × ℕ)) (text : List (
   pub few : live ≤ index
 
 abbrev pub invariant-loop-cell : goal.invariant-loop-cell
-invariant-loop-cell g l = Writes l.fn.out.items l.cells (drop l.cell-index l.cells) (λ items. body_written l.body (drop l.cell-index l.cells) items) l.body.row l.body.column l.body.live l.cell-index
+invariant-loop-cell g l = Writes l.fn.out.items (map coordinates l.cells) (map coordinates (drop l.cell-index l.cells)) (λ items. body_written l.body (map coordinates (drop l.cell-index l.cells)) items) l.body.row l.body.column l.body.live l.cell-index

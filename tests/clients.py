@@ -45,6 +45,8 @@ def free_port():
             PORTS["last"] = (PORTS["last"] + 1) % PORTS["many"]
             port = PORTS["first"] + PORTS["last"]
         with socket.socket() as probe:
+            # A process that is started meanwhile has the probe too, until its program is there: it is not to keep the server off.
+            probe.setsockopt(socket.SOL_SOCKET, socket.SO_REUSEADDR, 1)
             try:
                 probe.bind(("127.0.0.1", port))
                 return port
@@ -53,10 +55,10 @@ def free_port():
 
 
 class Server:
-    """A server on an archive's file for so many connections."""
+    """A server on an archive's file for so many connections, at a port of its own where none is given."""
 
-    def __init__(self, database, connections, environment=None, stderr=subprocess.PIPE):
-        self.port = free_port()
+    def __init__(self, database, connections, environment=None, stderr=subprocess.PIPE, port=None):
+        self.port = port or free_port()
         words = [PROGRAM, "serve", "--db", database, "--port", str(self.port), "--connections", str(connections)]
         self.process = subprocess.Popen(words, stdout=subprocess.PIPE, stderr=stderr, env=environment)
         self.line = self.process.stdout.readline()

@@ -1,0 +1,38 @@
+# Completion of the words of life for bash. Made by docs/make-words from the help of the program.
+# To use it: source this file, or put it as 'life' where bash-completion looks.
+
+_life() {
+  local word=${COMP_WORDS[COMP_CWORD]} before=${COMP_WORDS[COMP_CWORD - 1]} words=
+  COMPREPLY=()
+  # '--db=F' comes in three parts.
+  if [ "$word" = = ]; then word=; elif [ "$before" = = ]; then before=${COMP_WORDS[COMP_CWORD - 2]}; fi
+  case $before in
+    --connections)
+      return ;;
+    --db)
+      compopt -o filenames 2> /dev/null
+      mapfile -t COMPREPLY < <(compgen -f -- "$word")
+      return ;;
+    --port)
+      return ;;
+    '<')
+      compopt -o filenames 2> /dev/null
+      mapfile -t COMPREPLY < <(compgen -f -- "$word")
+      return ;;
+  esac
+  if [ "$COMP_CWORD" = 1 ]; then
+    words='generation kind object census deposit serve help -h --help'
+  else
+    case ${COMP_WORDS[1]} in
+      generation) words='-h --help' ;;
+      kind) words='-h --help' ;;
+      object) words='-h --help' ;;
+      census) words='-h --help' ;;
+      deposit) words='--db -h --help' ;;
+      serve) words='--db --port --connections -h --help' ;;
+      help) [ "$COMP_CWORD" != 2 ] || words='generation kind object census deposit serve' ;;
+    esac
+  fi
+  mapfile -t COMPREPLY < <(compgen -W "$words" -- "$word")
+}
+complete -F _life life

@@ -13,7 +13,7 @@ use Rattle.life_core.specs.Rule.{RuleSets}
 abbrev pub row_cells : ℤ → List ℕ → List Cell
 row_cells y ws = map (λ p. cell_at (pos p, y)) (filter (λ p. nat_eq (place ws p) 1) (range_with_len 0 (64 * length ws)))
 
--- the cells of three rows, of which the middle one is row 0
+-- the cells of three rows of the plane: the middle one at height 0, one above it and one below
 abbrev pub cells_of_rows : List ℕ → List ℕ → List ℕ → Cells
 cells_of_rows above here below = set.from_list (row_cells (negsuc 0) above ++ (row_cells (pos 0) here ++ row_cells (pos 1) below))
 

@@ -113,7 +113,7 @@ impl<A: Allocator> Pattern<A> {
         requires { IsWithin PLANE (image (moved_cell dx dy) self.now) }
         ensures { IfOk result (λ X. X ≡ image (moved_cell dx dy) self.now) }
     {
-        Ok(Pattern::from_sorted(moved_cells(alloc, &self.cells, dx, dy)?))
+        Ok(self.copy(alloc)?.into_moved(dx, dy))
     }
 
     /// The set turned about the origin.
@@ -136,10 +136,31 @@ impl<A: Allocator> Pattern<A> {
         requires { IsWithin 500_000_000 self.now }
         ensures { IfOk result (λ X. X ≡ normal self.now) }
     {
+        Ok(self.copy(alloc)?.into_normal())
+    }
+
+    /// The set moved so that its least column and its least row are 0, in the memory that it has.
+    pub fn into_normal(self) -> Pattern<A>
+        requires { IsWithin 500_000_000 self }
+        ensures { result ≡ normal self }
+    {
         match self.bounds() {
-            None => self.copy(alloc),
-            Some(bounds) => self.moved(alloc, -bounds.left, -bounds.top),
+            None => self,
+            Some(bounds) => self.into_moved(-bounds.left, -bounds.top),
         }
+    }
+
+    /// The set moved `dx` columns to the right and `dy` rows down, in the memory that it has.
+    fn into_moved(self, dx: i64, dy: i64) -> Pattern<A>
+        requires { IsWithin PLANE (image (moved_cell dx dy) self) }
+        ensures { result ≡ image (moved_cell dx dy) self }
+    {
+        if dx == 0 && dy == 0 {
+            return self;
+        }
+        let Pattern { mut cells } = self;
+        move_cells(&mut cells, dx, dy);
+        Pattern::from_sorted(cells)
     }
 
     /// Whether the sets are equal.
@@ -193,18 +214,15 @@ fn all_within(cells: &[Cell], k: u32) -> bool
     cells.iter().all(|c| c.is_within(k))
 }
 
-/// The cells moved `dx` columns to the right and `dy` rows down.
-fn moved_cells<A: Allocator>(
-    alloc: A,
-    cells: &[Cell],
-    dx: i64,
-    dy: i64,
-) -> Result<Vec<Cell, A>, AllocError>
-    requires here { All (IsCellWithin PLANE) cells.now }
-    requires there { All (λ c. IsCellWithin PLANE (moved_cell dx dy c)) cells.now }
-    ensures { IfOk result (λ v. v.items ≡ map (moved_cell dx dy) cells.now) }
+/// Moves the cells `dx` columns to the right and `dy` rows down.
+fn move_cells(cells: &mut [Cell], dx: i64, dy: i64)
+    requires here { All (IsCellWithin PLANE) cells.old }
+    requires there { All (λ c. IsCellWithin PLANE (moved_cell dx dy c)) cells.old }
+    ensures { cells.new ≡ map (moved_cell dx dy) cells.old }
 {
-    cells.iter().map(|c| c.moved(dx, dy)).collect(alloc)
+    for cell in cells.iter_mut() {
+        *cell = cell.moved(dx, dy);
+    }
 }
 
 /// The cells turned about the origin.

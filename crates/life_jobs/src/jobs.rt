@@ -17,7 +17,8 @@ use life_census::{csv, tally};
 use life_code::{CodeFault, Kind, PERIOD_LIMIT, code_of_kind, kind, open_code};
 use life_core::{Fault, GENERATION_LIMIT, Pattern, Rule, generation};
 use life_rle::{
-    Inlet, Outlet, ReadFault, Record, RleFault, WriteFault, plain, put_all, read_from, write_to,
+    Inlet, Outlet, ReadFault, Record, RleFault, WriteFault, into_plain, put_all, read_from,
+    write_to,
 };
 use std::alloc::{AllocError, Global};
 
@@ -43,7 +44,7 @@ fn later(alloc: Global, record: &Record, n: u32) -> Result<Record, Fault>
     ensures { IfOk result (λ r. r ≡ later n «record».now) }
 {
     let cells = generation(alloc, &record.rule, &record.cells, n)?;
-    Ok(plain(alloc, record.rule, &cells)?)
+    Ok(into_plain(alloc, record.rule, cells))
 }
 
 /// The words of a kind with a code.
@@ -314,7 +315,7 @@ fn object(alloc: Global, rule: &Rule, code: &[u8], limit: u32) -> Result<Record,
     ensures no_code { IfErr result (λ fault. fault ≢ CodeFault.Memory → (X : Cells) → code_of rule.now X limit ≢ Some code.now) }
 {
     let pattern = open_code(alloc, rule, code, limit)?;
-    Ok(plain(alloc, *rule, &pattern)?)
+    Ok(into_plain(alloc, *rule, pattern))
 }
 
 /// The stop for a code that is not opened.

@@ -59,7 +59,3 @@ run_suc column row (suc n) = let e : column + suc n ≡ (column + 1) + n = omega
 
 pub run_more : (column row n : ℕ) → run column row (n + 1) ≡ run column row n ++ (column + n, row) ∷ []
 run_more column row n = let e : n + 1 ≡ suc n = omega arith in rw e (run_suc column row n)
-
-pub run_push : (xs ys zs : List (ℕ × ℕ)) (column row n : ℕ) → ys ≡ xs ++ run column row n → zs ≡ ys ++ (column + n, row) ∷ [] → zs ≡ xs ++ run column row (n + 1)
-run_push xs ys zs column row n h k =
-    k ∙ ap (λ s. s ++ (column + n, row) ∷ []) h ∙ append_assoc xs (run column row n) ((column + n, row) ∷ []) ∙ ap (λ s. xs ++ s) (sym (run_more column row n))

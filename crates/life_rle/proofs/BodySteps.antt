@@ -1,5 +1,7 @@
 -- What the function of a step answered, and where it goes on.
-use Rattle.std.proofs.Common.{◌≡◌, ℕ, List, ◌∷◌, refl, ap, ◌∙◌, sym, Result, Ok, Err, Bool, true, false, subst}
+use Rattle.std.proofs.Common.{◌≡◌, ℕ, ◌+◌, ◌<◌, suc, List, ◌∷◌, length, drop, get_or, refl, ap, ◌∙◌, sym, Result, Ok, Err, Bool, true, false, not, cond, subst, arith}
+use Rattle.std.proofs.Math.Seq.{drop-cons}
+use Rattle.life_core.specs.RuleText.{is_blank, without_blanks}
 use Rattle.life_rle.specs.declared.fault.RleFault.{RleFault}
 use Rattle.life_rle.specs.declared.fault.RleFault.TheVariants.{Memory}
 use Rattle.life_rle.specs.BodyState.{Place, Step, goes, ends, fails, step, going, Took, body_from}
@@ -37,3 +39,20 @@ pub took_fault : (s : Step) (new : Place) (next : Place → Result (List (ℕ ×
 took_fault (goes q) new next r fault other h e = let memory = subst (λ x. Took (goes q) new x) e h in absurd (other memory)
 took_fault (ends cells) new next r fault other h e = absurd (err_is_ok (sym e ∙ h.0))
 took_fault (fails f) new next r fault other h e = same_fault (sym e ∙ h)
+
+-- ---- the bytes of a line
+
+bytes_by : (line : List ℕ) (i : ℕ) (t : Bool) → i < length line → is_blank (get_or line i 0) ≡ t
+    → without_blanks (drop i line) ≡ cond (not t) (get_or line i 0 ∷ without_blanks (drop (i + 1) line)) (without_blanks (drop (i + 1) line))
+bytes_by line i t h e =
+    let next : suc i ≡ i + 1 = omega arith in
+    ap without_blanks (drop-cons line i 0 h)
+    ∙ ap (λ n. cond (not (is_blank (get_or line i 0))) (get_or line i 0 ∷ without_blanks (drop n line)) (without_blanks (drop n line))) next
+    ∙ ap (λ t. cond (not t) (get_or line i 0 ∷ without_blanks (drop (i + 1) line)) (without_blanks (drop (i + 1) line))) e
+
+-- a blank is nothing
+pub blank_on : (line : List ℕ) (i : ℕ) → i < length line → is_blank (get_or line i 0) ≡ true → without_blanks (drop i line) ≡ without_blanks (drop (i + 1) line)
+blank_on line i h e = bytes_by line i true h e
+
+pub byte_on : (line : List ℕ) (i : ℕ) → i < length line → is_blank (get_or line i 0) ≡ false → without_blanks (drop i line) ≡ get_or line i 0 ∷ without_blanks (drop (i + 1) line)
+byte_on line i h e = bytes_by line i false h e

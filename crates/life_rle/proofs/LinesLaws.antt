@@ -1,7 +1,7 @@
--- A text without the blanks at its ends has none.
-use Rattle.std.proofs.Common.{◌≡◌, ℕ, Bool, true, false, cond, eqb, List, [], ◌∷◌, ◌++◌, reverse, refl, ap, ◌∙◌, sym, subst}
+-- A text without the blanks at its ends has none, and bytes up to a line end are a line.
+use Rattle.std.proofs.Common.{◌≡◌, ℕ, suc, ◌<◌, Bool, true, false, cond, eqb, List, [], ◌∷◌, ◌++◌, reverse, length, get_or, refl, ap, ◌∙◌, sym, subst, arith}
 use Rattle.std.specs.List.{AllByRecursion}
-use Rattle.std.proofs.lemmas.List.{reverse-append, reverse-reverse}
+use Rattle.std.proofs.lemmas.List.{reverse-append, reverse-reverse, append_assoc, append-nil}
 use Rattle.life_core.specs.RuleText.{is_blank}
 use Rattle.life_rle.specs.Lines.{trim_start, trim_end, trim, lines_after}
 use Rattle.life_rle.specs.Record.{HasNoLineEnd}
@@ -62,3 +62,28 @@ pub lines_no_end : (bytes line : List ℕ) → HasNoLineEnd line → AllByRecurs
 unfolding lines_after
 lines_no_end [] line p = (p, tt)
 lines_no_end (b ∷ bytes) line p = lines_by (eqb b 10) b line bytes refl p (lines_no_end bytes [] tt) (λ h. lines_no_end bytes (line ++ b ∷ []) (no_end_push line b p h))
+
+-- ---- bytes without a line end
+
+-- bytes without one stay in the line that has begun
+pub lines_on : (bytes line more : List ℕ) → HasNoLineEnd bytes → lines_after line (bytes ++ more) ≡ lines_after (line ++ bytes) more
+unfolding lines_after
+lines_on [] line more p = ap (λ l. lines_after l more) (sym (append-nil line))
+lines_on (b ∷ bytes) line more p =
+    ap (λ t. cond t (line ∷ lines_after [] (bytes ++ more)) (lines_after (line ++ b ∷ []) (bytes ++ more))) p.0
+    ∙ lines_on bytes (line ++ b ∷ []) more p.1
+    ∙ ap (λ l. lines_after l more) (append_assoc line (b ∷ []) bytes)
+
+-- a line end behind them ends that line
+pub lines_cut : (bytes line more : List ℕ) → HasNoLineEnd bytes → lines_after line (bytes ++ 10 ∷ more) ≡ (line ++ bytes) ∷ lines_after [] more
+unfolding lines_after
+lines_cut bytes line more p = lines_on bytes line (10 ∷ more) p
+
+never_true : (t : Bool) → (t ≡ true → ⊥) → t ≡ false
+never_true true h = absurd (h refl)
+never_true false h = refl
+
+-- bytes of which none is a line end
+pub no_end_at : (bytes : List ℕ) → ((k : ℕ) → k < length bytes → eqb (get_or bytes k 0) 10 ≡ true → ⊥) → HasNoLineEnd bytes
+no_end_at [] h = tt
+no_end_at (b ∷ bytes) h = (never_true (eqb b 10) (h 0 (omega arith)), no_end_at bytes (λ k lt. h (suc k) (omega arith)))

@@ -2,6 +2,7 @@
 use Rattle.std.proofs.Common.{◌≡◌, ℕ, suc, ◌+◌, Bool, true, false, not, cond, List, [], ◌∷◌, take, drop, map, refl, ap, ◌∙◌, sym, subst, arith, Result, Ok, Err, Option, inl, inr}
 use Rattle.std.specs.List.{All, flat_map, position_or_len}
 use Rattle.std.specs.FinSet as set
+use Rattle.life_core.specs.declared.cell.Cell.{Cell}
 use Rattle.life_core.specs.Rule.{RuleSets}
 use Rattle.life_core.specs.Pattern.{Cells, normal}
 use Rattle.life_core.specs.RuleText.{without_blanks}
@@ -17,13 +18,15 @@ use Rattle.life_rle.specs.Lines.{line_kind, header}
 use Rattle.life_rle.specs.LinesState.{kind_of}
 use Rattle.life_rle.specs.Notes.{Notes, notes_of, with_line, is_header, is_header_kind, is_past_limit, notes}
 use Rattle.life_rle.specs.Header.{header_rule}
-use Rattle.life_rle.specs.Body.{body_cells, IsPairInside}
+use Rattle.life_rle.specs.Body.{body_cells, IsPlaced}
 use Rattle.life_rle.specs.BodyState.{outcome, start, body_from}
 use Rattle.life_rle.specs.Record.{Contents, IsRecord, IsInside}
 use Rattle.life_rle.specs.File.{cell_of, contents, chosen_rule, body_part, after_front, read_lines}
 use Rattle.life_rle.specs.ReaderState.{front_rule, resumed, resumed_at}
+use Rattle.life_rle.specs.Writer.{coordinates}
 use Rattle.life_rle.proofs.BodyLaws.{body_from_start}
 use Rattle.life_rle.proofs.RecordCells.{normal_inside}
+use Rattle.life_rle.proofs.RecordPairs.{placed_back}
 
 by_place : Notes → List (List ℕ) → ℕ → Result Contents RleFault
 by_place before lines n = cond (is_past_limit (notes_of before (take n lines))) (Err TextLimit) (after_front (notes_of before (take n lines)) (drop n lines))
@@ -101,12 +104,11 @@ body_end r cells body read =
     ap (λ s. resumed_at s r []) body ∙ ap (λ a. a >>= λ cells. Ok (contents (notes r.notes) r.rule cells)) read
 
 -- the record of the cells that the code made
-pub is_record_with : (n : Notes) (rule : RuleSets) (pairs cells : List (ℕ × ℕ)) (X : Cells) → cells ≡ pairs → X ≡ normal (set.from_list (map cell_of cells)) → IsRecord (contents n rule pairs) →
+pub is_record_with : (n : Notes) (rule : RuleSets) (pairs : List (ℕ × ℕ)) (X : Cells) → X ≡ normal (set.from_list (map cell_of pairs)) → IsRecord (contents n rule pairs) →
     IsRecord (record { name = n.name; author = n.author; comments = n.comments; rule = rule; cells = X })
-is_record_with n rule pairs cells X same is h =
-    subst (λ (Y : Cells). IsRecord (record { name = n.name; author = n.author; comments = n.comments; rule = rule; cells = Y }))
-    (sym (is ∙ ap (λ ps. normal (set.from_list (map cell_of ps))) same)) h
+is_record_with n rule pairs X is h =
+    subst (λ (Y : Cells). IsRecord (record { name = n.name; author = n.author; comments = n.comments; rule = rule; cells = Y })) (sym is) h
 
-pub is_inside_with : (pairs cells : List (ℕ × ℕ)) (X : Cells) → cells ≡ pairs → X ≡ normal (set.from_list (map cell_of cells)) → All IsPairInside pairs → IsInside 1024 X
-is_inside_with pairs cells X same is all =
-    subst (λ (Y : Cells). IsInside 1024 Y) (sym (is ∙ ap (λ ps. normal (set.from_list (map cell_of ps))) same)) (normal_inside pairs all)
+pub is_inside_with : (cs : List Cell) (X : Cells) → X ≡ normal (set.from_list (map cell_of (map coordinates cs))) → All IsPlaced cs → IsInside 1024 X
+is_inside_with cs X is all =
+    subst (λ (Y : Cells). IsInside 1024 Y) (sym (is ∙ ap (λ ds. normal (set.from_list ds)) (placed_back cs all))) (normal_inside cs all)

@@ -1,8 +1,8 @@
 -- Normal sets: their coordinates begin at 0, they are their own normal, and the cells that a body places fit their box.
-use Rattle.std.proofs.Common.{◌≡◌, ℕ, ◌<◌, ℤ, pos, neg_ℤ, ◌≤ℤ◌, true, List, [], ◌∷◌, map, refl, ap, ◌∙◌, sym, subst, arith}
+use Rattle.std.proofs.Common.{◌≡◌, ℕ, ◌<◌, ℤ, pos, neg_ℤ, ◌≤ℤ◌, true, List, [], ◌∷◌, refl, ap, ◌∙◌, sym, subst, arith}
 use Rattle.std.proofs.lemmas.Int.{ints}
 use Rattle.std.specs.List.{All}
-use Rattle.std.proofs.lemmas.List.Elements.{All-contains, All-map, All-weaker}
+use Rattle.std.proofs.lemmas.List.Elements.{All-contains, All-weaker}
 use Rattle.std.proofs.lemmas.Map.Views.{Contains-from_any}
 use Rattle.std.proofs.lemmas.Bool.{or_left}
 use Rattle.std.specs.FinSet as set
@@ -13,9 +13,8 @@ use Rattle.life_core.proofs.GenerationsLaws.{move_back}
 use Rattle.life_core.proofs.PatternMembers.{same_cell, has_cell, same_cell-true, same_cell-self, contains-list, contains-image, cells_by_members, within_from_list}
 use Rattle.life_core.proofs.PatternOrder.{has_cell-in_order, from_list-in_order}
 use Rattle.life_core.proofs.PatternBoxes.{least_by, IsLeast-list, least_is, normal-empty}
-use Rattle.life_rle.specs.Body.{IsPairInside}
+use Rattle.life_rle.specs.Body.{IsPlaced}
 use Rattle.life_rle.specs.Record.{IsInside}
-use Rattle.life_rle.specs.File.{cell_of}
 
 abbrev column_of : Cell → ℤ
 column_of c = c.column
@@ -105,48 +104,35 @@ normal-normal X = normal_by_cells X (in_order X) refl
 
 -- ---- the cells that a body places
 
--- both coordinates lie between 0 and 1023
-record IsPlaced (c : Cell) : Type 0 where
-  row_low : pos 0 ≤ℤ c.row
-  row_high : c.row ≤ℤ pos 1023
-  column_low : pos 0 ≤ℤ c.column
-  column_high : c.column ≤ℤ pos 1023
-
-pair_placed : (p : ℕ × ℕ) → IsPairInside p → IsPlaced (cell_of p)
-pair_placed p h = record { row_low = omega (arith, ints); row_high = omega (arith, ints, h.row); column_low = omega (arith, ints); column_high = omega (arith, ints, h.column) }
-
-placed_cells : (ps : List (ℕ × ℕ)) → All IsPairInside ps → All IsPlaced (map cell_of ps)
-placed_cells ps all = All-map IsPlaced cell_of ps (All-weaker IsPairInside (λ p. IsPlaced (cell_of p)) pair_placed ps all)
-
 placed_within : (k : ℕ) → 1023 < k → (c : Cell) → IsPlaced c → IsCellWithin k c
 placed_within k more c h =
     record { top = omega (arith, ints, h.row_low); bottom = omega (arith, ints, h.row_high); left = omega (arith, ints, h.column_low); right = omega (arith, ints, h.column_high) }
 
 -- they lie in the plane
-pub cells_within : (k : ℕ) → 1023 < k → (ps : List (ℕ × ℕ)) → All IsPairInside ps → All (IsCellWithin k) (map cell_of ps)
-cells_within k more ps all = All-weaker IsPlaced (IsCellWithin k) (placed_within k more) (map cell_of ps) (placed_cells ps all)
+pub cells_within : (k : ℕ) → 1023 < k → (cs : List Cell) → All IsPlaced cs → All (IsCellWithin k) cs
+cells_within k more cs all = All-weaker IsPlaced (IsCellWithin k) (placed_within k more) cs all
 
 -- and so does their set
-pub set_within : (k : ℕ) → 1023 < k → (ps : List (ℕ × ℕ)) → All IsPairInside ps → IsWithin k (set.from_list (map cell_of ps))
-set_within k more ps all = within_from_list k (map cell_of ps) (cells_within k more ps all)
+pub set_within : (k : ℕ) → 1023 < k → (cs : List Cell) → All IsPlaced cs → IsWithin k (set.from_list cs)
+set_within k more cs all = within_from_list k cs (cells_within k more cs all)
 
-member_placed : (ps : List (ℕ × ℕ)) → All IsPairInside ps → (c : Cell) → set.contains (set.from_list {R = cell_cmp} (map cell_of ps)) c ≡ true → IsPlaced c
-member_placed ps all c h = All-contains IsPlaced (map cell_of ps) c (placed_cells ps all) (Contains-from_any same_cell-true c (map cell_of ps) (sym (contains-list (map cell_of ps) c) ∙ h))
+member_placed : (cs : List Cell) → All IsPlaced cs → (c : Cell) → set.contains (set.from_list {R = cell_cmp} cs) c ≡ true → IsPlaced c
+member_placed cs all c h = All-contains IsPlaced cs c all (Contains-from_any same_cell-true c cs (sym (contains-list cs c) ∙ h))
 
 -- the normal of their set fits in a box of 1024 by 1024
-pub normal_inside : (ps : List (ℕ × ℕ)) → All IsPairInside ps → IsInside 1024 (normal (set.from_list (map cell_of ps)))
-normal_inside ps all c h =
-    let X : Cells = set.from_list (map cell_of ps) in
+pub normal_inside : (cs : List Cell) → All IsPlaced cs → IsInside 1024 (normal (set.from_list cs))
+normal_inside cs all c h =
+    let X : Cells = set.from_list cs in
     let in_set : set.contains X (before X c) ≡ true = sym (contains-moved (neg_ℤ (left_of X)) (neg_ℤ (top_of X)) X c) ∙ h in
     let leftmost = (has_least column_of X (before X c) in_set).reached in
     let topmost = (has_least row_of X (before X c) in_set).reached in
     let at_left : leftmost.0.column ≡ left_of X = leftmost.2 in
     let at_top : topmost.0.row ≡ top_of X = topmost.2 in
-    let here = member_placed ps all (before X c) in_set in
+    let here = member_placed cs all (before X c) in_set in
     let low = normal_from_zero X c h in
     record {
       top = omega (arith, ints, low.row);
-      bottom = omega (arith, ints, here.row_high, (member_placed ps all topmost.0 topmost.1).row_low);
+      bottom = omega (arith, ints, here.row_high, (member_placed cs all topmost.0 topmost.1).row_low);
       left = omega (arith, ints, low.column);
-      right = omega (arith, ints, here.column_high, (member_placed ps all leftmost.0 leftmost.1).column_low);
+      right = omega (arith, ints, here.column_high, (member_placed cs all leftmost.0 leftmost.1).column_low);
     }

@@ -9,7 +9,7 @@ use Rattle.std.specs.List.{All, AllByRecursion}
 use Rattle.std.specs.List.Sorted.{IsStrictlySortedBy}
 use Rattle.std.specs.FinSet as set
 use Rattle.std.proofs.lemmas.Cmp.{int_ranked}
-use Rattle.std.proofs.lemmas.List.Elements.{All-head, All-tail, All-same}
+use Rattle.std.proofs.lemmas.List.Elements.{All-head, All-tail, All-same, All-weaker}
 use Rattle.std.proofs.lemmas.Map.Keys.{sorted_head, sorted_tail}
 use Rattle.std.proofs.lemmas.Map.Views.{All-from_any}
 use Rattle.life_core.specs.declared.cell.Cell.{Cell}
@@ -18,6 +18,7 @@ use Rattle.life_core.specs.Cell.{cell_cmp, IsCellWithin}
 use Rattle.life_core.specs.Pattern.{Cells, in_order, IsWithin, normal}
 use Rattle.life_core.proofs.PatternMembers.{same_cell_laws, within_from_list}
 use Rattle.life_core.proofs.PatternOrder.{has_cell-in_order, in_order-sorted, from_list-in_order}
+use Rattle.life_rle.specs.Body.{IsPlaced}
 use Rattle.life_rle.specs.Record.{IsInside}
 use Rattle.life_rle.specs.File.{cell_of}
 use Rattle.life_rle.specs.Writer.{coordinates, pairs_of}
@@ -76,6 +77,13 @@ cells_back (c ∷ cs) all =
     ∙ ap (λ x. (let d : Cell = record { row = c.row; column = x } in d) ∷ map cell_of (map coordinates cs)) (size_back c.column all.0.column)
     ∙ ap (λ ds. c ∷ ds) (cells_back cs all.1)
 
+from_placed : (cs : List Cell) → All IsPlaced cs → AllByRecursion IsFromZero cs
+from_placed cs all = by_recursion IsFromZero cs (All-weaker IsPlaced IsFromZero (λ c h. record { row = h.row_low; column = h.column_low }) cs all)
+
+-- the cells of the pairs of placed cells are these cells
+pub placed_back : (cs : List Cell) → All IsPlaced cs → map cell_of (map coordinates cs) ≡ cs
+placed_back cs all = cells_back cs (from_placed cs all)
+
 -- ---- normal sets
 
 -- what holds of each cell of a set holds of each cell in order
@@ -95,21 +103,21 @@ pairs_in_order X same = cells_in_order (in_order X) (all_from_zero X same) (in_o
 pub pairs_back : (X : Cells) → normal X ≡ X → set.from_list (map cell_of (pairs_of X)) ≡ X
 pairs_back X same = ap (λ cs. set.from_list cs) (cells_back (in_order X) (all_from_zero X same)) ∙ from_list-in_order X
 
-record IsPlaced (c : Cell) : Type 0 where
+record IsSmall (c : Cell) : Type 0 where
   zero : IsFromZero c
   within : IsCellWithin 1023 c
 
 size_small : (a : ℤ) → pos 0 ≤ℤ a → a ≤ℤ pos 1023 → nat_abs a < 1024
 size_small a p h = omega (arith, ints)
 
-placed_inside : (cs : List Cell) → AllByRecursion IsPlaced cs → AllInside (map coordinates cs)
-placed_inside [] all = tt
-placed_inside (c ∷ cs) all =
-    (size_small c.column all.0.zero.column all.0.within.right, size_small c.row all.0.zero.row all.0.within.bottom, placed_inside cs all.1)
+small_inside : (cs : List Cell) → AllByRecursion IsSmall cs → AllInside (map coordinates cs)
+small_inside [] all = tt
+small_inside (c ∷ cs) all =
+    (size_small c.column all.0.zero.column all.0.within.right, size_small c.row all.0.zero.row all.0.within.bottom, small_inside cs all.1)
 
 pub pairs_inside : (X : Cells) → normal X ≡ X → IsInside 1024 X → AllInside (pairs_of X)
 pairs_inside X same inside =
-    placed_inside (in_order X) (by_recursion IsPlaced (in_order X) (cells_all IsPlaced X (λ c h. record { zero = from_zero X same c h; within = inside c h })))
+    small_inside (in_order X) (by_recursion IsSmall (in_order X) (cells_all IsSmall X (λ c h. record { zero = from_zero X same c h; within = inside c h })))
 
 -- ---- the cells of a record
 

@@ -12,7 +12,7 @@ use Rattle.life_rle.specs.Lines.{line_kind, passed, header}
 use Rattle.life_rle.specs.Header.{past_digits, after_number, rule_part, header_form, header_rule, formed}
 use Rattle.life_rle.specs.Record.{HasNoLineEnd}
 use Rattle.life_rle.proofs.RoundItems.{is_digit}
-use Rattle.life_rle.proofs.RoundLines.{digits_plain, plain_kept, plain_parts, AllPlain}
+use Rattle.life_rle.proofs.RoundLines.{digits_plain, plain_kept, plain_no_end}
 
 past_digits_stop : (ds rest : List ℕ) (c : ℕ) → AllDigits 10 ds → is_ascii_digit c ≡ false → past_digits (ds ++ c ∷ rest) ≡ c ∷ rest
 past_digits_stop [] rest c all other = ap (λ t. cond t (past_digits rest) (c ∷ rest)) other
@@ -69,10 +69,6 @@ header_kind width height rule = ap (λ t. cond t passed header) (ne_eqb (length 
 no_end_append : (xs ys : List ℕ) → HasNoLineEnd xs → HasNoLineEnd ys → HasNoLineEnd (xs ++ ys)
 no_end_append [] ys p q = q
 no_end_append (x ∷ xs) ys p q = (p.0, no_end_append xs ys p.1 q)
-
-plain_no_end : (xs : List ℕ) → AllPlain xs → HasNoLineEnd xs
-plain_no_end [] p = tt
-plain_no_end (x ∷ xs) p = ((plain_parts x p.0).line_end, plain_no_end xs p.1)
 
 decimal_no_end : (n : ℕ) → n ≤ 1024 → HasNoLineEnd (decimal n)
 decimal_no_end n small = plain_no_end (decimal n) (digits_plain (decimal n) (decimal_is_IsNumeral n (omega arith)).0.1)

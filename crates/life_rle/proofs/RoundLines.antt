@@ -14,8 +14,10 @@ use Rattle.life_core.specs.RuleText.{is_blank, without_blanks}
 use Rattle.life_rle.specs.Lines.{lines_after, trim_start, is_mark_line}
 use Rattle.life_rle.specs.Body.{body_cells}
 use Rattle.life_rle.specs.File.{body_part}
+use Rattle.life_rle.specs.Record.{HasNoLineEnd}
 use Rattle.life_rle.specs.Writer.{laid, item_text, item_texts}
 use Rattle.life_rle.specs.WriterState.{counted, texts_from, InOrder}
+use Rattle.life_rle.proofs.LinesLaws.{lines_on}
 use Rattle.life_rle.proofs.RecordPairs.{AllInside}
 use Rattle.life_rle.proofs.RoundItems.{joined}
 use Rattle.life_rle.proofs.WriterRuns.{texts_none, texts_same, texts_gap}
@@ -53,13 +55,12 @@ pub plain_back : (xs ys : List ℕ) → AllPlain (xs ++ ys) → AllPlain ys
 plain_back [] ys p = p
 plain_back (x ∷ xs) ys p = plain_back xs ys p.1
 
+pub plain_no_end : (item : List ℕ) → AllPlain item → HasNoLineEnd item
+plain_no_end [] p = tt
+plain_no_end (b ∷ item) p = ((plain_parts b p.0).line_end, plain_no_end item p.1)
+
 pub lines_plain : (item line rest : List ℕ) → AllPlain item → lines_after line (item ++ rest) ≡ lines_after (line ++ item) rest
-unfolding lines_after
-lines_plain [] line rest p = ap (λ l. lines_after l rest) (sym (append-nil line))
-lines_plain (b ∷ item) line rest p =
-    ap (λ t. cond t (line ∷ lines_after [] (item ++ rest)) (lines_after (line ++ b ∷ []) (item ++ rest))) ((plain_parts b p.0).line_end)
-    ∙ lines_plain item (line ++ b ∷ []) rest p.1
-    ∙ ap (λ l. lines_after l rest) (append_assoc line (b ∷ []) item)
+lines_plain item line rest p = lines_on item line rest (plain_no_end item p)
 
 pub plain_kept : (line : List ℕ) → AllPlain line → without_blanks line ≡ line
 plain_kept [] p = refl

@@ -10,7 +10,7 @@ use Rattle.life_core.specs.Pattern.{Cells, normal}
 use Rattle.life_core.proofs.RuleTextLemmas.{read_rule-rule_text, rule_text-one_line, without_blanks-rule_text}
 use Rattle.life_rle.specs.declared.fault.RleFault.TheVariants.{TooLong, TextLimit}
 use Rattle.life_rle.specs.Fault.{in_file, ◌>>=◌}
-use Rattle.life_rle.specs.Lines.{Line, passed, named, authored, comment, line_kind, marked, lines_after, lines_of, trim}
+use Rattle.life_rle.specs.Lines.{Line, passed, named, authored, comment, line_kind, marked, lines_of, trim}
 use Rattle.life_rle.specs.Notes.{Notes, no_notes, with_line, is_header_kind, is_past_limit, is_long, is_long_text}
 use Rattle.life_rle.specs.Header.{header_rule}
 use Rattle.life_rle.specs.Body.{body_cells}
@@ -19,22 +19,15 @@ use Rattle.life_rle.specs.File.{contents, chosen_rule, body_part, read_lines, ke
 use Rattle.life_rle.specs.ReaderState.{front_rule}
 use Rattle.life_rle.specs.Writer.{text_line, optional_line, comment_line, header_line, width_of, height_of, laid, item_texts, pairs_of, text}
 use Rattle.life_rle.specs.Laws.{IsReadAgain, IsFileAgain}
+use Rattle.life_rle.proofs.LinesLaws.{lines_cut}
 use Rattle.life_rle.proofs.ReaderLaws.{read_lines_front, read_lines_header}
 use Rattle.life_rle.proofs.RecordPairs.{AllInside, pairs_in_order, pairs_back, pairs_inside}
 use Rattle.life_rle.proofs.RoundLines.{body_lines_round}
 use Rattle.life_rle.proofs.RoundHeader.{header_text, header_round, header_kind, header_no_end}
 
 -- a line and its end
-line_on : (bytes line rest : List ℕ) → HasNoLineEnd bytes → lines_after line (bytes ++ 10 ∷ rest) ≡ (line ++ bytes) ∷ lines_after [] rest
-unfolding lines_after
-line_on [] line rest p = ap (λ l. l ∷ lines_after [] rest) (sym (append-nil line))
-line_on (b ∷ bytes) line rest p =
-    ap (λ t. cond t (line ∷ lines_after [] (bytes ++ 10 ∷ rest)) (lines_after (line ++ b ∷ []) (bytes ++ 10 ∷ rest))) p.0
-    ∙ line_on bytes (line ++ b ∷ []) rest p.1
-    ∙ ap (λ l. l ∷ lines_after [] rest) (append_assoc line (b ∷ []) bytes)
-
 line_cut : (line rest : List ℕ) → HasNoLineEnd line → lines_of ((line ++ 10 ∷ []) ++ rest) ≡ line ∷ lines_of rest
-line_cut line rest p = ap lines_of (append_assoc line (10 ∷ []) rest) ∙ line_on line [] rest p
+line_cut line rest p = ap lines_of (append_assoc line (10 ∷ []) rest) ∙ lines_cut line [] rest p
 
 -- what the marked lines are
 mark_kind : (bytes : List ℕ) → line_kind (35 ∷ bytes) ≡ cond (starts_with nat_eq (35 ∷ bytes) (codes "#CXRLE")) passed (marked (slice_index (35 ∷ bytes) 1) (trim (drop 2 (35 ∷ bytes))))

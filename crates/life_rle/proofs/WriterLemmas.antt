@@ -1,42 +1,37 @@
 -- One more item laid into lines, and one more cell written.
 use Rattle.std.proofs.Common.{◌≡◌, ℕ, ◌<◌, ◌≤◌, ◌+◌, ◌-◌, cond, eqb, List, [], ◌∷◌, ◌++◌, length, refl, ap, ◌∙◌, sym, arith}
-use Rattle.std.proofs.lemmas.List.{append_assoc, length-append}
-use Rattle.std.proofs.lemmas.Bool.{eq-eqb, le-leb, lt-leb}
+use Rattle.std.proofs.lemmas.List.{append_assoc}
+use Rattle.std.specs.Fmt.{decimal}
+use Rattle.std.proofs.lemmas.Bool.{eq-eqb, ne_eqb, le-leb, lt-leb}
+use Rattle.std.proofs.lemmas.Fmt.{decimal_digit}
 use Rattle.life_rle.specs.declared.writer.ItemLines.{ItemLines}
-use Rattle.life_rle.specs.Writer.{laid}
+use Rattle.life_rle.specs.Writer.{laid, item_text}
 use Rattle.life_rle.specs.WriterState.{counted, texts_from}
 use Rattle.life_rle.specs.ItemLinesState.{written}
 use Rattle.life_rle.proofs.WriterRuns.{texts_same, texts_gap}
 
 -- ---- items
 
-pub laid_fits : (out new item : List ℕ) (used : ℕ) (items : List (List ℕ)) → used + length item ≤ 70 → new ≡ out ++ item → new ++ laid (used + length item) items ≡ out ++ laid used (item ∷ items)
+-- an item that fits into the line, and one that does not
+pub laid_fits : (out item : List ℕ) (used n : ℕ) (items : List (List ℕ)) → length item ≡ n → used + n ≤ 70 → out ++ (item ++ laid (used + n) items) ≡ out ++ laid used (item ∷ items)
 unfolding laid
-laid_fits out new item used items fits e =
-    ap (λ s. s ++ laid (used + length item) items) e ∙ append_assoc out item (laid (used + length item) items)
-    ∙ ap (λ t. out ++ cond t (item ++ laid (used + length item) items) (10 ∷ item ++ laid (length item) items)) (sym (le-leb (used + length item) 70 fits))
+laid_fits out item used n items long fits =
+    ap (λ k. out ++ (item ++ laid (used + k) items)) (sym long)
+    ∙ ap (λ t. out ++ cond t (item ++ laid (used + length item) items) (10 ∷ item ++ laid (length item) items)) (sym (le-leb (used + length item) 70 (omega arith)))
 
-pub laid_next : (out next new item : List ℕ) (used : ℕ) (items : List (List ℕ)) → 70 < used + length item → next ≡ out ++ 10 ∷ [] → new ≡ next ++ item → new ++ laid (length item) items ≡ out ++ laid used (item ∷ items)
+pub laid_next : (out next item : List ℕ) (used n : ℕ) (items : List (List ℕ)) → length item ≡ n → 70 < used + n → next ≡ out ++ 10 ∷ [] → next ++ (item ++ laid n items) ≡ out ++ laid used (item ∷ items)
 unfolding laid
-laid_next out next new item used items past e f =
-    ap (λ s. s ++ laid (length item) items) (f ∙ ap (λ s. s ++ item) e ∙ append_assoc out (10 ∷ []) item)
-    ∙ append_assoc out (10 ∷ item) (laid (length item) items)
-    ∙ ap (λ t. out ++ cond t (item ++ laid (used + length item) items) (10 ∷ item ++ laid (length item) items)) (sym (lt-leb (used + length item) 70 past))
+laid_next out next item used n items long past e =
+    ap (λ s. s ++ (item ++ laid n items)) e ∙ append_assoc out (10 ∷ []) (item ++ laid n items)
+    ∙ ap (λ k. out ++ (10 ∷ item ++ laid k items)) (sym long)
+    ∙ ap (λ t. out ++ cond t (item ++ laid (used + length item) items) (10 ∷ item ++ laid (length item) items)) (sym (lt-leb (used + length item) 70 (omega arith)))
 
--- the same for an item of digits and a tag
-pub item_fits : (out half new digits : List ℕ) (tag used : ℕ) (items : List (List ℕ)) → used + length digits < 70 → half ≡ out ++ digits → new ≡ half ++ tag ∷ []
-    → new ++ laid (used + (length digits + 1)) items ≡ out ++ laid used ((digits ++ tag ∷ []) ∷ items)
-item_fits out half new digits tag used items fits e f =
-    let long : length (digits ++ tag ∷ []) ≡ length digits + 1 = length-append digits (tag ∷ []) in
-    ap (λ k. new ++ laid (used + k) items) (sym long)
-    ∙ laid_fits out new (digits ++ tag ∷ []) used items (omega (arith, long)) (f ∙ ap (λ s. s ++ tag ∷ []) e ∙ append_assoc out digits (tag ∷ []))
-
-pub item_next : (out next half new digits : List ℕ) (tag used : ℕ) (items : List (List ℕ)) → 70 ≤ used + length digits → next ≡ out ++ 10 ∷ [] → half ≡ next ++ digits → new ≡ half ++ tag ∷ []
-    → new ++ laid (length digits + 1) items ≡ out ++ laid used ((digits ++ tag ∷ []) ∷ items)
-item_next out next half new digits tag used items past d e f =
-    let long : length (digits ++ tag ∷ []) ≡ length digits + 1 = length-append digits (tag ∷ []) in
-    ap (λ k. new ++ laid k items) (sym long)
-    ∙ laid_next out next new (digits ++ tag ∷ []) used items (omega (arith, long)) d (f ∙ ap (λ s. s ++ tag ∷ []) e ∙ append_assoc next digits (tag ∷ []))
+-- the item of a count of one digit
+pub counted_digit : (count tag : ℕ) → (count ≡ 0 → ⊥) → (count ≡ 1 → ⊥) → count < 10 → counted count tag ≡ ((48 + count) ∷ tag ∷ []) ∷ []
+counted_digit count tag some more small =
+    ap (λ t. cond t [] (item_text (count, tag) ∷ [])) (ne_eqb count 0 some)
+    ∙ ap (λ t. (cond t [] (decimal count) ++ tag ∷ []) ∷ []) (ne_eqb count 1 more)
+    ∙ ap (λ digits. (digits ++ tag ∷ []) ∷ []) (decimal_digit count small)
 
 -- ---- cells
 

@@ -1,8 +1,9 @@
 -- The items of a body, where they stand, the cells that they place, and the first that is faulty (LifeWiki, "Run Length Encoded").
-use Rattle.std.specs.Prelude.{ℕ, zero, suc, Bool, true, false, not, ◌&&◌, ◌||◌, List, [], ◌∷◌, ◌++◌, ◌+◌, ◌<◌, ◌==◌, nat_lt, if◌then◌else◌, Option, Some, None, Result, Ok, Err}
+use Rattle.std.specs.Prelude.{ℕ, pos, ◌≤ℤ◌, zero, suc, Bool, true, false, not, ◌&&◌, ◌||◌, List, [], ◌∷◌, ◌++◌, ◌+◌, ◌==◌, nat_lt, if◌then◌else◌, Option, Some, None, Result, Ok, Err}
 use Rattle.std.specs.List.{sum_by, filter, after_last}
 use Rattle.std.specs.Char.{is_ascii_digit}
 use Rattle.std.specs.Str.Parse.{digits_value}
+use Rattle.life_core.specs.declared.cell.Cell.{Cell}
 use Rattle.life_rle.specs.declared.fault.RleFault.{RleFault}
 use Rattle.life_rle.specs.declared.fault.RleFault.TheVariants.{OtherTag, BadCount, TooWide, NoEnd}
 
@@ -131,6 +132,8 @@ unfoldable pub body_cells : List ℕ → Result (List (ℕ × ℕ)) RleFault
 body_cells body = place (judged_after [] (items_of body))
 
 -- a cell in the columns and rows 0 to 1023
-pub record IsPairInside (cell : ℕ × ℕ) : Type 0 where
-  pub column : cell.0 < 1024
-  pub row : cell.1 < 1024
+pub record IsPlaced (c : Cell) : Type 0 where
+  pub row_low : pos 0 ≤ℤ c.row
+  pub row_high : c.row ≤ℤ pos 1023
+  pub column_low : pos 0 ≤ℤ c.column
+  pub column_high : c.column ≤ℤ pos 1023

@@ -1,5 +1,5 @@
 -- Reading a body byte by byte: where the next item stands, and what the body is read as, if these bytes are what is left.
-use Rattle.std.specs.Prelude.{◌≡◌, ℕ, ◌+◌, ◌*◌, ◌-◌, min, Bool, true, false, not, ◌||◌, ◌==◌, nat_lt, if◌then◌else◌, List, [], ◌∷◌, ◌++◌, Option, Some, None, is_some, unwrap_or, Result, Ok, Err, MatchResult}
+use Rattle.std.specs.Prelude.{◌≡◌, map, ℕ, ◌+◌, ◌*◌, ◌-◌, min, Bool, true, false, not, ◌||◌, ◌==◌, nat_lt, if◌then◌else◌, List, [], ◌∷◌, ◌++◌, Option, Some, None, is_some, unwrap_or, Result, Ok, Err, MatchResult}
 use Rattle.std.specs.Char.{is_ascii_digit}
 use Rattle.life_rle.specs.declared.fault.RleFault.{RleFault}
 use Rattle.life_rle.specs.declared.fault.RleFault.TheVariants.{OtherTag, BadCount, TooWide, NoEnd, Memory}
@@ -8,6 +8,7 @@ use Rattle.life_rle.specs.declared.body.Progress.{Progress}
 use Rattle.life_rle.specs.declared.body.Progress.TheVariants.{More, Ended, Failed}
 use Rattle.life_rle.specs.declared.body.BodyReader.{BodyReader}
 use Rattle.life_rle.specs.Body.{run, is_bad_number}
+use Rattle.life_rle.specs.Writer.{coordinates}
 
 -- where the next item stands, the count so far, and the cells placed so far. A row or a column past 1023 is 1024, and a count over 1,000,000 is 1,000,001.
 pub record Place : Type 0 where
@@ -89,7 +90,7 @@ body_from p (b ∷ bytes) = going (step p b) (λ q. body_from q bytes)
 
 -- what a body so far means
 abbrev pub place : {A : Type 0} → Body A → Place
-place b = record { row = b.row; column = b.column; count = b.count; cells = b.cells.items }
+place b = record { row = b.row; column = b.column; count = b.count; cells = map coordinates b.cells.items }
 
 -- the cells or the fault by how far the body has come, if these bytes are what is left
 abbrev pub outcome_at : Progress → Place → List ℕ → Result (List (ℕ × ℕ)) RleFault

@@ -1,10 +1,13 @@
 //! The items of a body, byte by byte.
-ghost use Rattle.std.specs.Prelude.{◌≡◌, ◌++◌, ◌<◌, ◌≤◌, ◌+◌, ◌^◌, OnOk, IfErr, IfOk, unwrap_or, Some};
+ghost use Rattle.std.specs.Prelude.{◌≡◌, ◌++◌, ◌<◌, ◌≤◌, ◌+◌, map, OnOk, IfErr, IfOk, unwrap_or, Some};
 ghost use Rattle.std.specs.List.{All};
-ghost use Rattle.life_rle.specs.Body.{run, IsPairInside};
+ghost use Rattle.life_rle.specs.Body.{run, IsPlaced};
+ghost use Rattle.life_rle.specs.File.{cell_of};
+ghost use Rattle.life_rle.specs.Writer.{coordinates};
 
 use crate::fault::RleFault;
 use crate::lines::is_blank;
+use life_core::Cell;
 use std::alloc::{AllocError, Allocator};
 
 /// The greatest count of an item.
@@ -12,22 +15,32 @@ const MOST: u32 = 1_000_000;
 /// How many columns and rows hold live cells.
 const SIDE: u32 = 1024;
 
+/// The cell in this column and row.
+fn cell_of(column: u32, row: u32) -> Cell
+    ensures { result ≡ cell_of (column, row) }
+{
+    Cell {
+        row: i64::from(row),
+        column: i64::from(column),
+    }
+}
+
 /// Places `count` cells of a row from a column on.
 #[tactic(auto, using(crate::proofs::BodyPositions::run_more))]
 fn push_run<A: Allocator>(
-    cells: &mut Vec<(u32, u32), A>,
+    cells: &mut Vec<Cell, A>,
     column: u32,
     row: u32,
     count: u32,
 ) -> Result<(), AllocError>
     requires columns { column + count ≤ 1024 }
     requires row { row < 1024 }
-    requires inside { All IsPairInside cells.old.items }
-    ensures run { OnOk result (cells.new.items ≡ cells.old.items ++ run column row count) }
-    ensures inside { All IsPairInside cells.new.items }
+    requires inside { All IsPlaced cells.old.items }
+    ensures run { OnOk result (map coordinates cells.new.items ≡ map coordinates cells.old.items ++ run column row count) }
+    ensures inside { All IsPlaced cells.new.items }
 {
     for k in 0..count {
-        cells.push((column + k, row))?;
+        cells.push(cell_of(column + k, row))?;
     }
     Ok(())
 }
@@ -38,15 +51,18 @@ pub(crate) struct Body<A: Allocator> {
     row: u32,
     column: u32,
     count: Option<u32>,
-    cells: Vec<(u32, u32), A>,
-    ghost inside: { All IsPairInside cells.items },
+    cells: Vec<Cell, A>,
+    ghost inside: { All IsPlaced cells.items },
     ghost row_in: { row ≤ 1024 },
     ghost column_in: { column ≤ 1024 },
     ghost count_in: { unwrap_or count 0 ≤ 1000001 },
 }
 
 impl<A: Allocator> Body<A> {
-    ghost use Rattle.life_rle.specs.BodyState.{Took, Acts, step, item_step, next_count, start, place};
+    ghost use Rattle.std.specs.Prelude.{List, ℕ, MatchResult};
+    ghost use Rattle.life_core.specs.RuleText.{without_blanks};
+    ghost use Rattle.life_rle.specs.BodyState.{Took, Acts, step, item_step, next_count, start, place, body_from, outcome_at};
+    ghost use Rattle.life_rle.specs.declared.fault.RleFault.TheVariants.{Memory};
 
     /// The start of a body.
     fn new(alloc: A) -> Body<A>
@@ -120,6 +136,25 @@ impl<A: Allocator> Body<A> {
         self.count = None;
         Ok(())
     }
+
+    /// Reads the next bytes; says how far the body has come with them.
+    fn line(&mut self, line: &[u8]) -> Result<Progress, RleFault>
+        ensures { MatchResult result (λ progress. (rest : List ℕ) → outcome_at progress (place self.new) rest ≡ body_from (place self.old) (without_blanks line.now ++ rest)) (λ e. e ≡ Memory) }
+    {
+        for byte in line {
+            if !is_blank(*byte) {
+                match self.take(*byte) {
+                    Ok(false) => {}
+                    Ok(true) => return Ok(Progress::Ended),
+                    Err(fault) => match fault {
+                        RleFault::Memory => return Err(RleFault::Memory),
+                        _ => return Ok(Progress::Failed(fault)),
+                    },
+                }
+            }
+        }
+        Ok(Progress::More)
+    }
 }
 
 /// Whether a body has come to its end.
@@ -152,40 +187,21 @@ impl<A: Allocator> BodyReader<A> {
         }
     }
 
-    /// Reads the next byte.
-    fn take(&mut self, byte: u8) -> Result<(), RleFault>
-        ensures { MatchResult result (λ _. (rest : List ℕ) → outcome self.new rest ≡ outcome self.old (byte ∷ rest)) (λ e. e ≡ Memory) }
-    {
-        if let Progress::More = self.progress {
-            match self.body.take(byte) {
-                Ok(false) => {}
-                Ok(true) => self.progress = Progress::Ended,
-                Err(fault) => match fault {
-                    RleFault::Memory => return Err(RleFault::Memory),
-                    _ => self.progress = Progress::Failed(fault),
-                },
-            }
-        }
-        Ok(())
-    }
-
-    /// Reads the next line, whose blanks are nothing.
+    /// Reads the next line.
     pub(crate) fn line(&mut self, line: &[u8]) -> Result<(), RleFault>
         ensures { MatchResult result (λ _. (rest : List ℕ) → outcome self.new rest ≡ outcome self.old (without_blanks line.now ++ rest)) (λ e. e ≡ Memory) }
     {
-        for byte in line {
-            if !is_blank(*byte) {
-                self.take(*byte)?;
-            }
+        if let Progress::More = self.progress {
+            self.progress = self.body.line(line)?;
         }
         Ok(())
     }
 
     /// The cells, or the first fault, where nothing is left.
     #[tactic(auto, unfolding(crate::specs::BodyState::body_from))]
-    pub(crate) fn finish(self) -> Result<Vec<(u32, u32), A>, RleFault>
-        ensures cells { MatchResult result (λ cells. outcome self [] ≡ Ok cells.items) (λ e. outcome self [] ≡ Err e) }
-        ensures inside { IfOk result (λ cells. All IsPairInside cells.items) }
+    pub(crate) fn finish(self) -> Result<Vec<Cell, A>, RleFault>
+        ensures cells { MatchResult result (λ cells. outcome self [] ≡ Ok (map coordinates cells.items)) (λ e. outcome self [] ≡ Err e) }
+        ensures inside { IfOk result (λ cells. All IsPlaced cells.items) }
     {
         match self.progress {
             Progress::More if self.body.count.is_some() => Err(RleFault::BadCount),

@@ -23,7 +23,7 @@ pub use machine::{ReadFault, read, read_from, read_kept};
 pub use memory::{MemoryOutlet, SliceInlet};
 pub use pieces::{PieceInlet, PieceOutlet};
 pub use putting::{WriteFault, write_to};
-pub use record::{Record, plain};
+pub use record::{Record, into_plain, plain};
 pub use stream::{Failed, FromRead, FromWrite, Inlet, Outlet, put_all};
 pub use text::{Text, Texts};
 pub use writer::write;

@@ -1,17 +1,18 @@
 //! Reading a file byte by byte.
-ghost use Rattle.std.specs.Prelude.{◌≡◌, ℕ, ◌++◌, ◌∷◌, [], List, IfOk, OnOk, MatchResult, Err};
+ghost use Rattle.std.specs.Prelude.{◌≡◌, ℕ, ◌++◌, ◌∷◌, [], List, IfOk, OnOk, MatchOption, MatchResult, Err};
 ghost use Rattle.life_rle.specs.declared.fault.RleFault.TheVariants.{Memory};
 ghost use Rattle.life_rle.specs.Fault.{Gives};
 ghost use Rattle.life_rle.specs.File.{kept, file};
 ghost use Rattle.life_rle.specs.Machine.{ReadsTold, Hears};
 ghost use Rattle.life_rle.specs.MachineState.{IsSound, Followed, FollowGives};
-ghost use Rattle.life_rle.specs.Record.{IsInside};
+ghost use Rattle.life_rle.specs.Record.{HasNoLineEnd, IsInside};
 ghost use Rattle.life_rle.specs.Stream.{LosesUpTo, FailedBetween};
 
 use crate::fault::RleFault;
 use crate::reader::Reader;
 use crate::record::Record;
 use crate::stream::Inlet;
+use memchr::memchr;
 use std::alloc::Allocator;
 
 /// The most bytes of a file.
@@ -27,8 +28,18 @@ pub(crate) struct Machine<A: Allocator> {
     line: Vec<u8, A>,
 }
 
+/// The bytes before the first line end and those after it.
+fn cut_line(bytes: &[u8]) -> Option<(&[u8], &[u8])>
+    ensures { MatchOption result (HasNoLineEnd bytes.now) (λ cut. HasNoLineEnd cut.0.now × (bytes.now ≡ cut.0.now ++ 10 ∷ cut.1.now)) }
+{
+    let end = memchr(b'\n', bytes)?;
+    Some((&bytes[..end], &bytes[end + 1..]))
+}
+
 impl<A: Allocator + Copy> Machine<A> {
+    ghost use Rattle.life_rle.specs.Lines.{lines_after};
     ghost use Rattle.life_rle.specs.MachineState.{awaited};
+    ghost use Rattle.life_rle.specs.ReaderState.{resumed};
 
     #[tactic(auto, unfolding(crate::specs::File::kept))]
     fn new(alloc: A) -> Machine<A>
@@ -40,17 +51,17 @@ impl<A: Allocator + Copy> Machine<A> {
         }
     }
 
-    /// Reads the next byte.
+    /// Reads the line that these bytes end.
     #[tactic(auto, unfolding(crate::specs::Lines::lines_after))]
-    fn take(&mut self, alloc: A, byte: u8) -> Result<(), RleFault>
-        ensures { MatchResult result (λ _. (bytes : List ℕ) → awaited self.new bytes ≡ awaited self.old (byte ∷ bytes)) (λ e. e ≡ Memory) }
+    fn end_line(&mut self, alloc: A, bytes: &[u8]) -> Result<(), RleFault>
+        ensures { MatchResult result (λ _. (more : List ℕ) → awaited self.new more ≡ resumed self.old.reader ((self.old.line.items ++ bytes.now) ∷ lines_after [] more)) (λ e. e ≡ Memory) }
     {
-        if byte == b'\n' {
-            self.reader.line(alloc, &self.line)?;
-            self.line.clear();
-        } else {
-            self.line.push(byte)?;
+        if self.line.is_empty() {
+            return self.reader.line(alloc, bytes);
         }
+        self.line.extend_from_slice(bytes)?;
+        self.reader.line(alloc, &self.line)?;
+        self.line.clear();
         Ok(())
     }
 
@@ -58,9 +69,12 @@ impl<A: Allocator + Copy> Machine<A> {
     fn take_all(&mut self, alloc: A, piece: &[u8]) -> Result<(), RleFault>
         ensures { MatchResult result (λ _. (bytes : List ℕ) → awaited self.new bytes ≡ awaited self.old (piece.now ++ bytes)) (λ e. e ≡ Memory) }
     {
-        for byte in piece {
-            self.take(alloc, *byte)?;
+        let mut rest = piece;
+        while let Some((line, after)) = cut_line(rest) {
+            self.end_line(alloc, line)?;
+            rest = after;
         }
+        self.line.extend_from_slice(rest)?;
         Ok(())
     }
 
@@ -73,7 +87,7 @@ impl<A: Allocator + Copy> Machine<A> {
     {
         let Machine { mut reader, line } = self;
         reader.line(alloc, &line)?;
-        reader.finish(alloc)
+        reader.finish()
     }
 }
 

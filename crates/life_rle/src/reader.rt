@@ -5,9 +5,10 @@ ghost use Rattle.std.specs.List.{All};
 ghost use Rattle.life_core.specs.Pattern.{normal};
 ghost use Rattle.life_core.specs.RuleText.{without_blanks};
 ghost use Rattle.life_rle.specs.declared.fault.RleFault.TheVariants.{Memory};
-ghost use Rattle.life_rle.specs.Body.{IsPairInside};
+ghost use Rattle.life_rle.specs.Body.{IsPlaced};
 ghost use Rattle.life_rle.specs.Fault.{Gives};
 ghost use Rattle.life_rle.specs.File.{cell_of};
+ghost use Rattle.life_rle.specs.Writer.{coordinates};
 
 use crate::body::BodyReader;
 use crate::fault::RleFault;
@@ -15,7 +16,7 @@ use crate::header::header_rule;
 use crate::lines::{LineKind, is_blank, is_mark_line, line_kind};
 use crate::notes::Notes;
 use crate::record::Record;
-use life_core::{Cell, Fault, Pattern, Rule};
+use life_core::{Cell, Pattern, Rule};
 use std::alloc::{AllocError, Allocator};
 
 /// How far a file has come.
@@ -156,7 +157,7 @@ impl<A: Allocator + Copy> Reader<A> {
 
     /// What the file is read as, where no line is left.
     #[tactic(auto, unfolding(crate::specs::File::read_lines, crate::specs::File::after_front))]
-    pub(crate) fn finish(self, alloc: A) -> Result<Record<A>, RleFault>
+    pub(crate) fn finish(self) -> Result<Record<A>, RleFault>
         requires { (r : Contents) → resumed self [] ≡ Ok r → IsRecord r }
         ensures gives { Gives result (resumed self []) }
         ensures inside { IfOk result (λ r. IsInside 1024 r.cells) }
@@ -177,7 +178,7 @@ impl<A: Allocator + Copy> Reader<A> {
                 }
             }
             Stage::Body => {
-                let cells = normal_of(alloc, &body.finish()?)?;
+                let cells = normal_of(body.finish()?);
                 let Notes {
                     name,
                     author,
@@ -196,23 +197,10 @@ impl<A: Allocator + Copy> Reader<A> {
     }
 }
 
-/// The set of the cells of the pairs (column, row), moved so that its least column and row are 0.
-fn normal_of<A: Allocator + Copy>(alloc: A, pairs: &[(u32, u32)]) -> Result<Pattern<A>, Fault>
-    requires { All IsPairInside pairs.now }
-    ensures { IfOk result (λ X. X ≡ normal (set.from_list (map cell_of pairs.now))) }
+/// The set of the cells, moved so that its least column and row are 0.
+fn normal_of<A: Allocator>(cells: Vec<Cell, A>) -> Pattern<A>
+    requires { All IsPlaced cells.items }
+    ensures { result ≡ normal (set.from_list (map cell_of (map coordinates cells.items))) }
 {
-    Pattern::from_list(cells_of(alloc, pairs)?).normal(alloc)
-}
-
-/// The cells of the pairs (column, row).
-fn cells_of<A: Allocator>(alloc: A, pairs: &[(u32, u32)]) -> Result<Vec<Cell, A>, AllocError>
-    ensures { IfOk result (λ v. v.items ≡ map cell_of pairs.now) }
-{
-    pairs
-        .iter()
-        .map(|pair| Cell {
-            row: i64::from(pair.1),
-            column: i64::from(pair.0),
-        })
-        .collect(alloc)
+    Pattern::from_list(cells).into_normal()
 }

@@ -41,11 +41,19 @@ pub fn plain<A: Allocator + Copy>(
     requires { IsWithin 500_000_000 pattern.now }
     ensures { IfOk result (λ r. r ≡ plain rule pattern.now) }
 {
-    Ok(Record {
+    Ok(into_plain(alloc, rule, pattern.copy(alloc)?))
+}
+
+/// The same of a pattern that is given away, in the memory that it has.
+pub fn into_plain<A: Allocator>(alloc: A, rule: Rule, pattern: Pattern<A>) -> Record<A>
+    requires { IsWithin 500_000_000 pattern }
+    ensures { result ≡ plain rule pattern }
+{
+    Record {
         name: None,
         author: None,
         comments: Texts::new(alloc),
         rule,
-        cells: pattern.normal(alloc)?,
-    })
+        cells: pattern.into_normal(),
+    }
 }

@@ -33,21 +33,47 @@ impl<A: Allocator + Copy> ItemLines<A> {
         ItemLines { out, used: 0 }
     }
 
-    /// Lays one item: the digits of its count, if it is given, and its tag.
+    /// Begins a new line where an item of so many bytes does not fit into this one.
+    fn make_room(&mut self, len: usize) -> Result<(), AllocError>
+        requires { len ≤ 70 }
+        ensures { OnOk result ((item : List ℕ) (items : List (List ℕ)) → length item ≡ len → self.new.out.items ++ (item ++ laid self.new.used items) ≡ written self.old (item ∷ items)) }
+    {
+        if self.used + len <= WIDTH {
+            self.used += len;
+        } else {
+            self.out.push(b'\n')?;
+            self.used = len;
+        }
+        Ok(())
+    }
+
+    /// Lays the item that is a tag alone.
+    fn put_tag(&mut self, tag: u8) -> Result<(), AllocError>
+        ensures { OnOk result ((items : List (List ℕ)) → written self.new items ≡ written self.old ((tag ∷ []) ∷ items)) }
+    {
+        self.make_room(1)?;
+        self.out.push(tag)?;
+        Ok(())
+    }
+
+    /// Lays the item of one digit and its tag.
+    fn put_digit(&mut self, digit: u8, tag: u8) -> Result<(), AllocError>
+        ensures { OnOk result ((items : List (List ℕ)) → written self.new items ≡ written self.old ((digit ∷ tag ∷ []) ∷ items)) }
+    {
+        self.make_room(2)?;
+        self.out.push(digit)?;
+        self.out.push(tag)?;
+        Ok(())
+    }
+
+    /// Lays the item of these digits and its tag.
     fn put(&mut self, digits: &[u8], tag: u8) -> Result<(), AllocError>
         requires { length digits.now < 70 }
         ensures { OnOk result ((items : List (List ℕ)) → written self.new items ≡ written self.old ((digits.now ++ tag ∷ []) ∷ items)) }
     {
-        if self.used + digits.len() < WIDTH {
-            self.out.extend_from_slice(digits)?;
-            self.out.push(tag)?;
-            self.used += digits.len() + 1;
-        } else {
-            self.out.push(b'\n')?;
-            self.out.extend_from_slice(digits)?;
-            self.out.push(tag)?;
-            self.used = digits.len() + 1;
-        }
+        self.make_room(digits.len() + 1)?;
+        self.out.extend_from_slice(digits)?;
+        self.out.push(tag)?;
         Ok(())
     }
 
@@ -55,10 +81,14 @@ impl<A: Allocator + Copy> ItemLines<A> {
     fn item(&mut self, count: u64, tag: u8) -> Result<(), AllocError>
         ensures { OnOk result ((items : List (List ℕ)) → written self.new items ≡ written self.old (counted count tag ++ items)) }
     {
-        match count {
-            0 => Ok(()),
-            1 => self.put(b"", tag),
-            _ => self.put(Buffer::new().format(count).as_bytes(), tag),
+        if count == 0 {
+            Ok(())
+        } else if count == 1 {
+            self.put_tag(tag)
+        } else if count < 10 {
+            self.put_digit(b'0' + count as u8, tag)
+        } else {
+            self.put(Buffer::new().format(count).as_bytes(), tag)
         }
     }
 }
@@ -133,7 +163,7 @@ fn write_body<A: Allocator + Copy>(
         body.cell(pair_of(*cell))?;
     }
     body.lines.item(body.live, b'o')?;
-    body.lines.put(b"", b'!')?;
+    body.lines.put_tag(b'!')?;
     body.lines.out.push(b'\n')?;
     Ok(body.lines.out)
 }

@@ -1,5 +1,5 @@
 //! A plane of rows of packed words.
-ghost use Rattle.std.specs.Prelude.{◌≡◌, ◌⊎◌, ℕ, pos, ◌+◌, ◌-◌, ◌*◌, ◌/◌, ◌<◌, ◌≤◌, ◌+ℤ◌, IfOk, IsTrue, IsFalse, length, slice_index_or};
+ghost use Rattle.std.specs.Prelude.{◌≡◌, ◌↔◌, ◌⊎◌, ℕ, pos, ◌+◌, ◌-◌, ◌*◌, ◌/◌, ◌<◌, ◌≤◌, ◌+ℤ◌, IfOk, IsTrue, IsFalse, length, slice_index_or};
 ghost use Rattle.life_core.specs.Generations.{next};
 ghost use Rattle.life_core.specs.PackedBlocksState.{flat_next};
 ghost use Rattle.life_core.specs.PackedFrameState.{framed, IsFrame};
@@ -173,7 +173,7 @@ fn keep_marks<A: Allocator>(marks: &mut Marks<A>, frame: Frame)
 
 /// Whether both hold.
 fn both(a: bool, b: bool) -> bool
-    ensures { IsTrue result → IsTrue a × IsTrue b }
+    ensures { IsTrue result ↔ (IsTrue a × IsTrue b) }
 {
     a & b
 }

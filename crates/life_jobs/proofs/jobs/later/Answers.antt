@@ -4,7 +4,7 @@ use Rattle.life_core.proofs.GenerationsLaws.{within_more}
 use Rattle.life_rle.specs.Record.{Contents}
 use Rattle.life_jobs.proofs.jobs.later.Goals as goal
 
-pub plain-requires : goal.plain-requires
-plain-requires c =
+pub into_plain-requires : goal.into_plain-requires
+into_plain-requires c =
     let inside = subst (λ (X : Cells). IsWithin (1024 - 1) X) (sym (ap (λ (r : Contents). r.cells) c.record.view_is)) c.requires.inside in
     within_more ((1024 - 1) + c.args.n) 500000000 _ (omega (arith, c.requires.few)) (c.in_ok-cells.ensures.grown (1024 - 1) inside)

@@ -1,6 +1,9 @@
-use Rattle.std.proofs.Common.{◌≡◌, ◌++◌, ℕ, List, drop}
+use Rattle.std.proofs.Common.{◌≡◌, ◌++◌, ℕ, List, length}
 use Rattle.life_rle.specs.MachineState.{awaited}
 use Rattle.life_rle.proofs.machine.Machine.take_all.Given as goal
 
-abbrev pub invariant-loop-byte : goal.invariant-loop-byte
-invariant-loop-byte g l = (bytes : List ℕ) → awaited l.self (drop l.byte-index l.piece ++ bytes) ≡ awaited l.initial.self (l.piece ++ bytes)
+abbrev pub invariant-loop-line : goal.invariant-loop-line
+invariant-loop-line g l = (bytes : List ℕ) → awaited l.self (l.rest ++ bytes) ≡ awaited l.initial.self (l.piece ++ bytes)
+
+abbrev pub decreases-loop-line : goal.decreases-loop-line
+decreases-loop-line g l = length l.rest

@@ -19,12 +19,13 @@ use Rattle.life_core.specs.Pattern.{Cells, image}
 use Rattle.life_core.specs.Rule.{RuleSets}
 use Rattle.life_core.proofs.Placements.{len-placed, image-placed}
 use Rattle.life_core.proofs.PatternCorners.{has_cell_of, one_move}
-use Rattle.life_code.specs.declared.kinds.Kind.TheVariants.{Empty, Still, Oscillator, Ship}
-use Rattle.life_code.specs.Period.{Returns, HasPeriod, returns, period_of, kind_of_period, kind_at, kind_of}
+use Rattle.life_code.specs.declared.kinds.Kind.{Kind}
+use Rattle.life_code.specs.declared.kinds.Kind.TheVariants.{Empty, Still, Oscillator, Ship, Unresolved}
+use Rattle.life_code.specs.Period.{Returns, HasPeriod, HasKind, returns, period_of, kind_of_period, kind_at, kind_of}
 use Rattle.life_code.specs.Codes.{text_cmp, candidates, least_text, with_prefix, code_by_kind, code_of, IsPeriodic, Same}
-use Rattle.life_code.specs.Laws.{SameIsEquivalence, CodeIsInvariant, CodeIsComplete}
+use Rattle.life_code.specs.Laws.{SameIsEquivalence, CodeIsInvariant, CodeIsComplete, CodeStays}
 use Rattle.life_code.proofs.PeriodLemmas.{Taken, return_alike, return_of_placed, return_of_phase, taken_itself, taken_on, taken_back, taken_below, period_taken}
-use Rattle.life_code.proofs.PeriodKinds.{find_from, move_at, move_at-Returns, no_return, some_len}
+use Rattle.life_code.proofs.PeriodKinds.{find_from, move_at, move_at-Returns, no_return, some_len, kind_is, kind_one}
 use Rattle.life_code.proofs.TextLists.{In, least_is}
 use Rattle.life_code.proofs.CandidateLemmas.{in_candidates}
 use Rattle.life_code.proofs.WechslerTexts.{text_one}
@@ -263,3 +264,24 @@ code_is_complete r X Y limit other s t e h = (
   (λ same. same_codes r X Y limit other t (e ∙ ap (λ z. Some z) same) h),
   (λ same. sym (code_limits r Y other limit t s h (sym (code_same r X Y same limit) ∙ e))),
 )
+
+-- ---- greater limits
+
+-- a kind but `Unresolved` is the kind under each greater limit
+kind_stays : (r : RuleSets) (X : Cells) (limit other : ℕ) → limit ≤ other → (k : Kind) → k ≢ Unresolved → kind_of r X limit ≡ k → kind_of r X other ≡ k
+kind_stays r X limit other more k resolved is = kind_one r X other k (on k resolved (subst (HasKind r X limit) is (kind_is r X limit)))
+  where
+    within : (p : ℕ) → p ≤ limit → p ≤ other
+    within p below = omega (arith, more, below)
+
+    on : (k : Kind) → k ≢ Unresolved → HasKind r X limit k → HasKind r X other k
+    on Empty resolved h = h
+    on Still resolved (some, below, is) = (some, within 1 below, is)
+    on (Oscillator p) resolved (some, below, from, is) = (some, within p below, from, is)
+    on (Ship p dx dy) resolved (some, below, goes, is) = (some, within p below, goes, is)
+    on Unresolved resolved h = absurd (resolved refl)
+
+pub code_stays : CodeStays
+unfolding code_of
+code_stays r X limit other text more is =
+    ap (code_by_kind r X) (kind_stays r X limit other more (kind_of r X limit) (λ e. none_some text (sym (ap (code_by_kind r X) e) ∙ is)) refl) ∙ is

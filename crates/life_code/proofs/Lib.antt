@@ -6,6 +6,7 @@ pub mod PeriodKinds
 pub mod PeriodSteps
 pub mod WechslerReading
 pub mod WechslerTexts
+pub mod WechslerColumns
 pub mod WechslerGrid
 pub mod WechslerLengths
 pub mod CodesSteps

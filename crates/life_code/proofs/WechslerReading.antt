@@ -31,7 +31,7 @@ read_y : (k c : ℕ) (text : List ℕ) (x y : ℕ) → spells_cell k false (121 
 unfolding spells_cell
 read_y k c text x y = refl
 
-value-char : (n : ℕ) → n < 36 → value_of (character n) ≡ n
+pub value-char : (n : ℕ) → n < 36 → value_of (character n) ≡ n
 value-char n h = grind (arith, nat_tests)
 
 -- the character of a column that is not zero
@@ -41,7 +41,7 @@ char_range v from below = ⊎_elim
     (λ h. inr (let e : character v ≡ 87 + v = cond-false (nat_lt v 10) (48 + v) (87 + v) (le-ltb v 10 h) in (omega arith, omega arith)))
     (cases_lt v 10)
 
-not_char : (v d : ℕ) → 1 ≤ v → v < 32 → (d ≡ 48) ⊎ (119 ≤ d) → nat_eq (character v) d ≡ false
+pub not_char : (v d : ℕ) → 1 ≤ v → v < 32 → (d ≡ 48) ⊎ (119 ≤ d) → nat_eq (character v) d ≡ false
 not_char v d from below which = ne_eqb (character v) d (λ e. ⊎_elim (λ r. ⊎_elim (λ q. omega arith) (λ q. omega arith) which) (λ r. ⊎_elim (λ q. omega arith) (λ q. omega arith) which) (char_range v from below))
 
 read_column : (k v : ℕ) (text : List ℕ) (x y : ℕ) → 1 ≤ v → v < 32 → spells_cell k false (character v ∷ text) x y ≡ cond (nat_eq k x && nat_lt y 5) (has_bit y v) (spells_cell (k + 1) false text x y)

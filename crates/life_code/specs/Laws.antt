@@ -1,5 +1,6 @@
 -- What makes the definitions of kinds and codes believable, and what a code is good for.
-use Rattle.std.specs.Prelude.{◌≡◌, ◌↔◌, ℕ, ◌<◌, ◌≤◌, ◌%◌, MatchOption, ℤ, true, false, Some, List}
+use Rattle.std.specs.Prelude.{◌≡◌, ◌≢◌, ◌↔◌, ℕ, ◌+◌, ◌-◌, ◌<◌, ◌≤◌, ◌%◌, nat_lt, ◌==◌, if◌then◌else◌, MatchOption, ℤ, Bool, true, false, None, Some, List, [], ◌∷◌, ◌++◌, map, replicate}
+use Rattle.std.specs.List.{range_with_len, last_or}
 use Rattle.std.specs.Ordering.{is_gt}
 use Rattle.life_core.specs.declared.orientation.Orientation.{Orientation}
 use Rattle.life_core.specs.Cell.{moved_cell}
@@ -8,7 +9,7 @@ use Rattle.life_core.specs.Rule.{RuleSets}
 use Rattle.life_core.specs.Generations.{generation_of}
 use Rattle.life_code.specs.declared.kinds.Kind.{Kind}
 use Rattle.life_code.specs.Period.{HasPeriod, HasKind, kind_of}
-use Rattle.life_code.specs.Wechsler.{width, height, wechsler}
+use Rattle.life_code.specs.Wechsler.{width, height, column_value, strip, wechsler}
 use Rattle.life_code.specs.Codes.{fits, shape, candidates, text_cmp, least_text, code_of, IsPeriodic, Same}
 use Rattle.life_code.specs.Open.{Spells}
 
@@ -27,6 +28,26 @@ PhasesDiffer = (r : RuleSets) (X : Cells) (p : ℕ) (dx dy : ℤ) → HasPeriod 
 -- The columns and rows of a normal set's text are those of its box.
 abbrev pub BoxesHaveOneSize : Type 0
 BoxesHaveOneSize = (X : Cells) (left top : ℤ) (columns rows : ℕ) → normal X ≡ X → IsBox X left top columns rows → (width X ≡ columns) × (height X ≡ rows)
+
+-- the columns that the text of a strip stands for: `0`, `w` and `x` for one, two and three of zero, `y` and a character for four more than
+-- it says, and another character for a column of its value; the flag says that the character before was `y`
+unfoldable pub columns_of : Bool → List ℕ → List ℕ
+columns_of behind_y [] = []
+columns_of true (c ∷ text) = replicate (4 + (if nat_lt c 58 then c - 48 else c - 87)) 0 ++ columns_of false text
+columns_of false (c ∷ text) =
+    if c == 48 then replicate 1 0 ++ columns_of false text
+    else if c == 119 then replicate 2 0 ++ columns_of false text
+    else if c == 120 then replicate 3 0 ++ columns_of false text
+    else if c == 121 then columns_of true text
+    else (if nat_lt c 58 then c - 48 else c - 87) ∷ columns_of false text
+
+-- The text of a strip, spelled out, is its columns up to the last that is not zero.
+abbrev pub StripsAreTheirColumns : Type 0
+StripsAreTheirColumns =
+    (X : Cells) (s : ℕ) → width X ≤ 40 →
+    (n : ℕ)
+    × (columns_of false (strip X s) ++ replicate n 0 ≡ map (column_value X s) (range_with_len 0 (width X)))
+    × (last_or None (columns_of false (strip X s)) ≢ Some 0)
 
 -- Two normal sets of at most 40 by 40 have two texts.
 abbrev pub TextsTellApart : Type 0
@@ -59,3 +80,7 @@ CodeSpells = (r : RuleSets) (X : Cells) (limit : ℕ) (text : List ℕ) → limi
 -- A text spells one set at most.
 abbrev pub SpellsOne : Type 0
 SpellsOne = (text : List ℕ) (X Y : Cells) → Spells text X → Spells text Y → X ≡ Y
+
+-- A code under a limit of the period is the code under each greater one.
+abbrev pub CodeStays : Type 0
+CodeStays = (r : RuleSets) (X : Cells) (limit other : ℕ) (text : List ℕ) → limit ≤ other → code_of r X limit ≡ Some text → code_of r X other ≡ Some text

@@ -1,6 +1,6 @@
 //! What holds of all kinds and codes.
 ghost use Rattle.std.specs.Prelude.{◌≡◌};
-ghost use Rattle.life_code.specs.Laws.{BoxesHaveOneSize, OneKind, PhasesComeAgain, PhasesDiffer, TextsTellApart, LeastIsLeast, SameIsEquivalence, CodeIsInvariant, CodeIsComplete, CodeSpells, SpellsOne};
+ghost use Rattle.life_code.specs.Laws.{BoxesHaveOneSize, OneKind, PhasesComeAgain, PhasesDiffer, StripsAreTheirColumns, TextsTellApart, LeastIsLeast, SameIsEquivalence, CodeIsInvariant, CodeIsComplete, CodeSpells, SpellsOne, CodeStays};
 
 use crate::period::PERIOD_LIMIT;
 
@@ -12,6 +12,7 @@ pub fn laws_of_codes()
     ensures one_kind { OneKind }
     ensures phases_come_again { PhasesComeAgain }
     ensures phases_differ { PhasesDiffer }
+    ensures columns { StripsAreTheirColumns }
     ensures texts_tell_apart { TextsTellApart }
     ensures least { LeastIsLeast }
     ensures equivalence { SameIsEquivalence }
@@ -19,4 +20,5 @@ pub fn laws_of_codes()
     ensures complete { CodeIsComplete }
     ensures spells { CodeSpells }
     ensures spells_one { SpellsOne }
+    ensures stays { CodeStays }
 {}

@@ -2,9 +2,10 @@ use Rattle.std.proofs.Common.{sym}
 use Rattle.life_code.proofs.PeriodKinds.{one_kind}
 use Rattle.life_code.proofs.CodesSteps.{width_of_box, height_of_box}
 use Rattle.life_code.proofs.PeriodLemmas.{phases_come_again, phases_differ}
+use Rattle.life_code.proofs.WechslerColumns.{strips_are_their_columns}
 use Rattle.life_code.proofs.WechslerTexts.{texts_tell_apart}
 use Rattle.life_code.proofs.CandidateLemmas.{least_is_least}
-use Rattle.life_code.proofs.CodesLaws.{same_is_equivalence, code_is_invariant, code_is_complete}
+use Rattle.life_code.proofs.CodesLaws.{same_is_equivalence, code_is_invariant, code_is_complete, code_stays}
 use Rattle.life_code.proofs.OpenLaws.{codes_spell, spells_one}
 use Rattle.life_code.proofs.laws.laws_of_codes.Goals as goal
 
@@ -40,3 +41,9 @@ returns-clause-spells_one c = spells_one
 
 pub returns-clause-one_size : goal.returns-clause-one_size
 returns-clause-one_size c = λ X left top columns rows same box. (sym (width_of_box X left top columns rows same box), sym (height_of_box X left top columns rows same box))
+
+pub returns-clause-columns : goal.returns-clause-columns
+returns-clause-columns c = strips_are_their_columns
+
+pub returns-clause-stays : goal.returns-clause-stays
+returns-clause-stays c = code_stays

@@ -1,9 +1,9 @@
 //! Serving an archive over the streams of a connection.
 ghost use Rattle.std.specs.Prelude.{◌≡◌, Err, OnOk, IfSome};
-ghost use Rattle.life_rle.specs.Stream.{FailedBetween};
+ghost use Rattle.life_rle.specs.Stream.{FailedBetween, LosesUpTo};
 ghost use Rattle.life_desk.specs.Run.{Step};
 ghost use Rattle.life_pages.specs.Message.{AnswersMessage, Starts};
-ghost use Rattle.life_pages.specs.Serving.{Served, Broke, Paused, Cut, LosesAtLeast};
+ghost use Rattle.life_pages.specs.Serving.{Served, Broke, Paused, Cut, LosesAtLeast, HearsTakes, HearsPuts};
 ghost use Rattle.life_pages.specs.Archive.{ByArchive};
 
 use life_pages::{IoFault, serve};
@@ -34,6 +34,11 @@ pub fn run_serve<S: Alter, I: Inlet, O: Outlet>(
     ensures cut { result ≡ Err IoFault.Write →
         ByArchive (λ A B. Cut (AnswersMessage Step) (λ ms. IfSome (I.to_come input.old) (λ stream. Starts stream ms)) A B (O.already output.old) (O.already output.new)) archive.old archive.new }
     ensures memory { result ≡ Err IoFault.Memory → (archive.new ≡ archive.old) × (input.new ≡ input.old) × (output.new ≡ output.old) }
+    // At most 1,048,576 takes are made, of at most 4,096 bytes each.
+    ensures most { LosesUpTo 4_294_967_296 (I.to_come input.old) (I.to_come input.new) }
+    // A failed take is told at once, a failed put is told, and nothing else is.
+    ensures heard { HearsTakes (I.failures input.old) (I.failures input.new) result }
+    ensures puts { HearsPuts (O.failures output.old) (O.failures output.new) result }
     ensures read { result ≡ Err IoFault.Read → FailedBetween (I.failures input.old) (I.failures input.new) }
     ensures write { result ≡ Err IoFault.Write → FailedBetween (O.failures output.old) (O.failures output.new) }
 {

@@ -13,7 +13,7 @@ use Rattle.life_census.specs.Rows.{Counts}
 use Rattle.life_store.specs.declared.kept.KeptCensus.{KeptCensus}
 use Rattle.life_store.specs.declared.kept.FoundCensus.{FoundCensus}
 use Rattle.life_store.specs.Kept.{Tallied, tallied_from, found_census, is_census_of, kept_census}
-use Rattle.life_desk.specs.Means.{Means, EachHasDeposit, tallied, kept_of}
+use Rattle.life_desk.specs.Means.{Means, NewIsEmpty, EachHasDeposit, tallied, kept_of}
 use Rattle.life_desk.specs.LookingState.{TellsOf, MeansStill}
 
 slice_get_longer : {X : Type 0} → (xs ys : List X) (i : ℕ) → IsSome (slice_get xs i) → slice_get (xs ++ ys) i ≡ slice_get xs i
@@ -108,14 +108,6 @@ shares_of ds rule code (c ∷ cs) = sum_by-cons (share ds rule code) (tallied ds
 pub total_of-kept_of : (A : Archive) (rule : RuleSets) (code : List ℕ) → total_of (kept_of A) rule code ≡ clusters_with A rule code
 total_of-kept_of A rule code = shares_of A.deposits rule code A.censuses
 
--- a census read as its numbers and its rows is that census with its tally
-pub whole : (A : Archive) (kept : KeptCensus) (rows : List (List ℕ × ℕ)) (o : Option Census) → Some kept ≡ option_map kept_census (option_map (tallied A.deposits) o)
-    → IfSome (option_map (tallied A.deposits) o) (λ t. rows ≡ t.tally.rows)
-    → ◌≡◌ {A = Option (Census × Counts)} (Some (kept.census, record { rows = rows; unresolved = kept.unresolved; total = kept.total }))
-    (option_map (λ c. (c, tally_at A.deposits c)) o)
-whole A kept rows None is are = cc
-whole A kept rows (Some c) is are = let k : kept ≡ kept_census (tallied A.deposits c) = cc in rw (k, are) refl
-
 flag_is : (ds : List Deposit) (o : Option Census) → option_map (λ (t : Tallied). t.steady) (option_map (tallied ds) o) ≡ option_map (steady_at ds) o
 flag_is ds None = refl
 flag_is ds (Some c) = refl
@@ -162,3 +154,7 @@ census_ok old new c t b (Err e) goes adds = tt
 pub err_still : {E : Type 0} (old new : Shelf) (r : Result ℕ E) → Goes old new → OnErr r (Keeps old.tables new.tables) → OnErr r (MeansStill old new)
 err_still old new (Ok n) goes keeps = tt
 err_still old new (Err e) goes keeps = λ A sure m. means_same old new A goes keeps sure m
+
+pub new_is_empty : NewIsEmpty
+unfolding Means
+new_is_empty t holds = record { capacity = refl; each = tt; holds = holds }

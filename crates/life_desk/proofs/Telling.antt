@@ -1,5 +1,5 @@
 -- What the replies of a run say of sets of live cells.
-use Rattle.std.proofs.Common.{◌≡◌, ◌≢◌, ◌↔◌, ℕ, List, Bool, true, false, Option, None, Some, IsSome, IsTrue, Result, Ok, Err, IfOk, refl, sym, ◌∙◌, ap, subst, if◌then◌else◌}
+use Rattle.std.proofs.Common.{inl, inr, ◌≡◌, ◌≢◌, ◌↔◌, ℕ, List, Bool, true, false, Option, None, Some, IsSome, IsTrue, Result, Ok, Err, IfOk, refl, sym, ◌∙◌, ap, subst, if◌then◌else◌}
 use Rattle.life_core.specs.Rule.{RuleSets}
 use Rattle.life_core.specs.Pattern.{Cells}
 use Rattle.life_core.specs.Generations.{generation_of}
@@ -26,10 +26,10 @@ use Rattle.life_desk.specs.Archive.{Archive, tally_at, tally_for, tally_of_cells
 use Rattle.life_desk.specs.Judging.{is_generation, is_limit}
 use Rattle.life_desk.specs.Replies.{IsReply, IsReplyBy, after, at_reply, kind_reply, shown_reply}
 use Rattle.life_desk.specs.Means.{EachHasDeposit}
-use Rattle.life_store.specs.Tables.{Shelf}
+use Rattle.life_store.specs.Tables.{Shelf, Goes, Lasts}
 use Rattle.life_desk.specs.Run.{Run, IsAnswered, IsLater, Answered}
 use Rattle.life_desk.specs.Laws.{FlagTellsSteady}
-use Rattle.life_desk.specs.Headline.{CountsEachOnce, HeadlineHolds, IsTheArchive}
+use Rattle.life_desk.specs.Headline.{CountsEachOnce, HeadlineHolds, IsTheArchive, IsTheArchiveOrFaults, IsTheArchiveInMemory}
 use Rattle.life_desk.proofs.Meaning.{each_of}
 use Rattle.life_desk.proofs.Later.{later_later, deposit_stays, census_stays}
 use Rattle.life_desk.proofs.Steps.{moment, step_answers, step_later, run_later, census_has}
@@ -159,3 +159,21 @@ pub all_told_by : {X E : Type 0} → HeadlineHolds → (old new : Shelf) (qs : L
     → IfOk r (λ x. IsTheArchive old new qs (replies x))
 all_told_by holds old new qs replies (Ok x) done = told_by holds old new qs (replies x) done
 all_told_by holds old new qs replies (Err e) done = tt
+
+lasting_by : (old new : Shelf) (qs : List Request) (rs : List Reply) → Goes old new → IsTheArchive old new qs rs → IsTheArchiveOrFaults old new qs rs
+unfolding Lasts
+lasting_by old new qs rs goes told A sure m = elim (goes.lasts.is_sure sure) [
+  | inl still ↦ inl (still, told A still m)
+  | inr more ↦ inr more
+]
+
+pub all_lasting_by : {X E : Type 0} → HeadlineHolds → (old new : Shelf) (qs : List Request) (replies : X → List Reply) (r : Result X E) → IfOk r (λ x. Answered old new qs (replies x))
+    → IfOk r (λ x. IsTheArchiveOrFaults old new qs (replies x))
+all_lasting_by holds old new qs replies (Ok x) done = lasting_by old new qs (replies x) done.goes (told_by holds old new qs (replies x) done)
+all_lasting_by holds old new qs replies (Err e) done = tt
+
+-- where the database is sure at the end in any case
+pub all_sure_by : {X E : Type 0} → (old new : Shelf) (qs : List Request) (replies : X → List Reply) (r : Result X E) → IsTrue new.tables.is_sure → IfOk r (λ x. IsTheArchive old new qs (replies x))
+    → IfOk r (λ x. IsTheArchiveInMemory old new qs (replies x))
+all_sure_by old new qs replies (Ok x) sure told = λ A m. told A sure m
+all_sure_by old new qs replies (Err e) sure told = tt

@@ -1,5 +1,5 @@
 -- The archive in its own words: what the replies of a run say of sets of live cells.
-use Rattle.std.specs.Prelude.{◌≡◌, ◌↔◌, ◌+◌, ◌≤◌, ℕ, true, List, Some, Ok, IsTrue, length, sum_by, count_by, is_none}
+use Rattle.std.specs.Prelude.{◌≡◌, ◌↔◌, ◌+◌, ◌≤◌, ◌⊎◌, ℕ, true, List, Some, Ok, IsTrue, length, sum_by, count_by, is_none}
 use Rattle.std.specs.List.{Contains, filter_map}
 use Rattle.std.specs.FinSet as set
 use Rattle.life_core.specs.declared.cell.Cell.{Cell}
@@ -17,7 +17,7 @@ use Rattle.life_census.specs.Rows.{Counts}
 use Rattle.life_store.specs.declared.kept.Deposit.{Deposit}
 use Rattle.life_store.specs.declared.kept.Census.{Census}
 use Rattle.life_store.specs.Kept.{numbered}
-use Rattle.life_store.specs.Tables.{Shelf}
+use Rattle.life_store.specs.Tables.{Shelf, HasFailed}
 use Rattle.life_desk.specs.declared.request.Request.{Request}
 use Rattle.life_desk.specs.declared.request.Request.TheVariants as ask
 use Rattle.life_desk.specs.declared.request.Reply.{Reply}
@@ -62,7 +62,19 @@ pub record Headline (A : Archive) (qs : List Request) (rs : List Reply) (B : Arc
 abbrev pub HeadlineHolds : Type 0
 HeadlineHolds = (A B : Archive) (qs : List Request) (rs : List Reply) → EachHasDeposit A.deposits A.censuses → Run A qs rs B → Headline A qs rs B
 
--- Where the database is sure at the end: each archive that the tables meant was taken by a run to one that they mean, and these
--- replies say so of it.
+-- A was taken by a run to an archive that the tables mean, and these replies say so of it.
+abbrev pub IsTaken : Archive → Shelf → List Request → List Reply → Type 0
+IsTaken A new qs rs = (B : Archive) × Run A qs rs B × Means new B × Headline A qs rs B
+
+-- Where the database is sure at the end: so each archive that the tables meant was taken.
 abbrev pub IsTheArchive : Shelf → Shelf → List Request → List Reply → Type 0
-IsTheArchive old new qs rs = (A : Archive) → IsTrue new.tables.is_sure → Means old A → (B : Archive) × Run A qs rs B × Means new B × Headline A qs rs B
+IsTheArchive old new qs rs = (A : Archive) → IsTrue new.tables.is_sure → Means old A → IsTaken A new qs rs
+
+-- Where the database is sure at the start: so it is at the end, and A was taken; or the disk failed in the call.
+abbrev pub IsTheArchiveOrFaults : Shelf → Shelf → List Request → List Reply → Type 0
+IsTheArchiveOrFaults old new qs rs = (A : Archive) → IsTrue old.tables.is_sure → Means old A
+    → (IsTrue new.tables.is_sure × IsTaken A new qs rs) ⊎ HasFailed old.tables new.tables
+
+-- Where the database is in memory: A was taken, with no premise.
+abbrev pub IsTheArchiveInMemory : Shelf → Shelf → List Request → List Reply → Type 0
+IsTheArchiveInMemory old new qs rs = (A : Archive) → Means old A → IsTaken A new qs rs

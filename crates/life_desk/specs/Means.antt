@@ -1,10 +1,11 @@
 -- When the tables of a store mean an archive: their rows stand for its deposits and its censuses, each census with the tally of its
 -- own generation of its own deposit, and with whether that generation is steady. The archive itself keeps no tallies and no flags.
-use Rattle.std.specs.Prelude.{◌≡◌, List, map, IsSome}
+use Rattle.std.specs.Prelude.{◌≡◌, List, [], map, IsSome}
 use Rattle.std.specs.List.{AllByRecursion}
 use Rattle.life_store.specs.declared.kept.Deposit.{Deposit}
 use Rattle.life_store.specs.declared.kept.Census.{Census}
 use Rattle.life_store.specs.Kept.{Kept, Tallied, numbered}
+use Rattle.life_store.specs.Opening.{nothing_kept}
 use Rattle.life_store.specs.Tables.{Shelf, Holds}
 use Rattle.life_desk.specs.Archive.{Archive, tally_at, steady_at}
 
@@ -27,3 +28,7 @@ pub record IsMeant (t : Shelf) (A : Archive) : Type 0 where
 -- the tables mean the archive
 unfoldable pub Means : Shelf → Archive → Type 0
 Means t A = IsMeant t A
+
+-- An archive that is new has no deposit and no census.
+abbrev pub NewIsEmpty : Type 0
+NewIsEmpty = (t : Shelf) → Holds t.tables nothing_kept → Means t (record { deposits = []; censuses = []; capacity = t.capacity })

@@ -12,7 +12,7 @@ ghost use Rattle.life_desk.specs.Content.{same_contents};
 ghost use Rattle.life_desk.specs.Judging.{judged};
 ghost use Rattle.life_desk.specs.JudgingState.{IsGood};
 ghost use Rattle.life_desk.specs.DeskState.{Acts, ActsWhere};
-ghost use Rattle.life_desk.specs.Headline.{IsTheArchive};
+ghost use Rattle.life_desk.specs.Headline.{IsTheArchive, IsTheArchiveOrFaults, IsTheArchiveInMemory};
 ghost use Rattle.life_desk.specs.Run.{Answered};
 ghost use Rattle.life_desk.specs.Archive.{census_by, tally_for, tally_at, tally_of_cells, steady_for};
 ghost use Rattle.life_rle.specs.Writer as writer;
@@ -32,9 +32,9 @@ use crate::request::{Judged, Reply, Request, Shown};
 use life_census::{Tally, csv, laws_of_tallies, steady, tally};
 use life_code::{CodeFault, PERIOD_LIMIT, code, kind, open_code};
 use life_core::{Fault, GENERATION_LIMIT, Pattern, Rule, generation};
-use life_rle::{Record, RleFault, Text, plain, read, write};
+use life_rle::{Record, RleFault, Text, into_plain, read, write};
 use life_store::{Archive, Census, Deposit, FoundCensus, FoundDeposit, Unavailable};
-use sqlite::Alter;
+use sqlite::{Alter, MemStore};
 use std::alloc::Global;
 
 /// The reply to a deposit whose token is kept.
@@ -155,7 +155,7 @@ fn file_at(alloc: Global, deposit: &Deposit, n: u32) -> Result<Reply, Unavailabl
 {
     let rule = deposit.content.rule;
     let later = generation(alloc, &rule, &deposit.content.cells, n)?;
-    let content = plain(alloc, rule, &later)?;
+    let content = into_plain(alloc, rule, later);
     file_of(alloc, &content)
 }
 
@@ -487,8 +487,24 @@ pub fn answer_all<S: Alter>(
     ensures ok { IfOk result (λ replies. Answered archive.old archive.new requests.items replies.items) }
     // .. which says of sets of live cells what it should.
     ensures headline { IfOk result (λ replies. IsTheArchive archive.old archive.new requests.items replies.items) }
+    // A database that is sure before the call is sure after it, unless its disk failed in the call.
+    ensures lasting { IfOk result (λ replies. IsTheArchiveOrFaults archive.old archive.new requests.items replies.items) }
     ensures err { OnErr result (archive.new ≡ archive.old) }
 {
     law_of_the_archive();
     answer_each(archive, alloc, requests)
+}
+
+/// As [`answer_all`], of an archive in memory: no disk can fail there, so the replies and the archive are those of a run in any case.
+pub fn answer_all_in_memory(
+    archive: &mut Archive<MemStore>,
+    alloc: Global,
+    requests: Vec<Request>,
+) -> Result<Vec<Reply>, Fault>
+    ensures headline { IfOk result (λ replies. IsTheArchiveInMemory archive.old archive.new requests.items replies.items) }
+    ensures err { OnErr result (archive.new ≡ archive.old) }
+{
+    let replies = answer_all(archive, alloc, requests);
+    archive.law_of_memory();
+    replies
 }

@@ -1,5 +1,6 @@
 //! The archive in its own words.
 ghost use Rattle.life_desk.specs.Headline.{HeadlineHolds};
+ghost use Rattle.life_desk.specs.Means.{NewIsEmpty};
 
 use life_census::{laws_of_clusters, laws_of_tallies};
 use life_code::laws_of_codes;
@@ -15,3 +16,8 @@ pub fn law_of_the_archive()
     laws_of_tallies();
     laws_of_codes();
 }
+
+/// The tables of a new archive mean the archive without a deposit and without a census. A law: calling it does nothing.
+pub fn law_of_new_archives()
+    ensures { NewIsEmpty }
+{}

@@ -99,10 +99,14 @@ fn census_of<S: Alter>(
 }
 
 /// The rows of the tally of the census of the number.
-fn rows_of<S: Alter>(archive: &mut Archive<S>, alloc: Global, id: u64) -> Result<Rows, Unavailable>
+fn rows_of<S: Alter>(
+    archive: &mut Archive<S>,
+    alloc: Global,
+    id: u64,
+) -> Result<Option<Rows>, Unavailable>
     ensures goes { Goes archive.old archive.new }
     ensures same { MeansStill archive.old archive.new }
-    ensures value { TellsOf archive.old archive.new (λ A. IfOk result (λ rows. IfSome (option_map (tallied A.deposits) (numbered A.censuses id)) (λ t. rows ≡ t.tally.rows))) }
+    ensures value { TellsOf archive.old archive.new (λ A. IfOk result (λ rows. rows ≡ option_map (λ t. t.tally.rows) (option_map (tallied A.deposits) (numbered A.censuses id)))) }
 {
     archive.rows_of(alloc, id)
 }
@@ -120,17 +124,17 @@ pub(crate) fn kept_tally<S: Alter>(
 {
     match census_of(archive, alloc, id)? {
         None => Ok(None),
-        Some(kept) => {
-            let rows = rows_of(archive, alloc, id)?;
-            Ok(Some((
+        Some(kept) => match rows_of(archive, alloc, id)? {
+            None => Err(Unavailable),
+            Some(rows) => Ok(Some((
                 kept.census,
                 Tally {
                     rows,
                     unresolved: kept.unresolved,
                     total: kept.total,
                 },
-            )))
-        }
+            ))),
+        },
     }
 }
 

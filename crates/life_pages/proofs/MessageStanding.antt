@@ -1,15 +1,16 @@
 -- What stands at the front of held bytes, by what the head reader says of their first 8,192.
-use Rattle.std.proofs.Common.{◌≡◌, ℕ, ◌+◌, ◌-◌, ◌<◌, ◌≤◌, ◌==◌, ◌||◌, ◌&&◌, nat_le, nat_lt, map, codes, Bool, true, false, List, [], ◌∷◌, ◌++◌, length, take, drop, Option, None, Some, option_map, if◌then◌else◌, min, refl, sym, ◌∙◌, ap, subst, inr, append_assoc, append-nil, length-append, length-drop, length-take-le, arith}
+use Rattle.std.proofs.Common.{◌≡◌, ℕ, ◌+◌, ◌-◌, ◌<◌, ◌≤◌, ◌==◌, ◌||◌, ◌&&◌, nat_le, nat_lt, map, codes, Bool, true, false, List, [], ◌∷◌, ◌++◌, length, take, drop, Option, None, Some, option_map, if◌then◌else◌, min, refl, sym, ◌∙◌, ap, subst, inl, inr, append_assoc, append-nil, length-append, length-drop, length-take-le, arith}
 use Rattle.std.proofs.lemmas.List.{take-append-drop, take_at, drop_at, take-append-le, drop-drop}
 use Rattle.std.proofs.lemmas.Bool.{leb-true}
+use Rattle.std.proofs.lemmas.Grind.{common_steps}
 use Rattle.std.specs.List.{list_all}
-use Rattle.httparse.specs.Grammar.{RequestHead, ReadsRequest, HasNoRequest, print_request, print_blank, print_version, print_end, print_section}
+use Rattle.httparse.specs.Grammar.{RequestHead, ReadsRequest, HasNoRequest, MayBecomeRequest, print_request, print_blank, print_version, print_end, print_section}
 use Rattle.httparse.proofs.GrammarLemmas.{request_unique, ReadsRequest-append, print_request-append}
 use Rattle.httparse.specs.Spans.{name_and_value}
 use Rattle.life_pages.specs.Head.{Head, head_of, said_by, head_with, has_some, values_of, Line, line_limit, body_length, within_limit, number_of, body_limit}
 use Rattle.life_pages.specs.HeadState.{BeginsWith, NeverBegins, said}
 use Rattle.life_pages.specs.declared.head.GoodHead.{GoodHead}
-use Rattle.life_pages.specs.Message.{Stands, HasNone, is_blank, head_limit}
+use Rattle.life_pages.specs.Message.{Stands, HasNone, HasHeadAlone, is_blank, head_limit}
 use Rattle.life_pages.specs.MessageState.{NeverHas, held_limit, IsWanting, WantsUntil}
 
 -- a front that is no longer than another front of the same list is its front
@@ -39,6 +40,15 @@ never_within held n full none more said body rest s =
 pub none_yet : (held : List ℕ) → HasNoRequest held → HasNone held
 none_yet held none said body rest s = none s.head (body ++ rest) (s.is_head, s.bytes_are)
 
+-- a head may come, and there is room for it
+pub wants_head : (held : List ℕ) (n : ℕ) → n ≡ min (length held) head_limit → length held < head_limit → HasNoRequest (take n held) → MayBecomeRequest (take n held)
+    → IsWanting held
+wants_head held n e short none may =
+    let all : n ≡ length held = omega arith in
+    let same : take n held ≡ held = ap (λ (k : ℕ). take k held) all ∙ grind (arith, common_steps) in
+    let none_here = subst HasNoRequest same none in
+    (none_yet held none_here, inr (omega arith), inr (inl (none_here, subst MayBecomeRequest same may, short)))
+
 -- how long a head is that a reading found
 pub head_length : (p : List ℕ) (h : RequestHead) (len : ℕ) → len ≤ length p → p ≡ print_request h ++ drop len p → length (print_request h) ≡ len
 head_length p h len within e =
@@ -67,6 +77,25 @@ body_short held n g within begins less said2 body rest s =
     let head_is : length (print_request begins.head) ≡ length (print_request s.head) = ap (λ (h : RequestHead). length (print_request h)) same.0 in
     let whole = s.whole in
     absurd (omega arith)
+
+-- a good head stands, and its body has not come
+pub body_alone : (held : List ℕ) (n : ℕ) (g : GoodHead) → g.len ≤ length (take n held) → length (take n held) ≤ head_limit
+    → BeginsWith (take n held) (said g) (drop g.len (take n held)) → length held - g.len < g.body → HasHeadAlone held
+body_alone held n g within limit begins less =
+    let len = head_length (take n held) begins.head g.len within begins.reads.1 in
+    let inside = head_in held n g.len begins.head begins.reads in
+    let rest : List ℕ = drop g.len (take n held) ++ drop n held in
+    let all : length held ≡ length (print_request begins.head) + length rest = ap length inside.1 ∙ length-append (print_request begins.head) rest in
+    record {
+      head = begins.head;
+      is_head = begins.reads.0;
+      short = omega arith;
+      said = said g;
+      says = begins.says;
+      rest = rest;
+      bytes_are = inside.1;
+      part = omega arith;
+    }
 
 -- the whole message has come
 pub body_whole : (held : List ℕ) (n : ℕ) (g : GoodHead) → g.len ≤ length (take n held) → length (take n held) ≤ head_limit
@@ -191,9 +220,13 @@ wants_until held n g wanted fits within limit begins at_most = λ more less.
     let same : take n (held ++ more) ≡ take n held = take-append-le n held more fits in
     let long = length-append held more in
     let short = length-take-le n held fits in
-    let left : length (held ++ more) - g.len < g.body = omega (arith, less, long, short, within, at_most, fits) in (
-      body_short (held ++ more) n g (subst (λ (p : List ℕ). g.len ≤ length p) (sym same) within) (subst (λ (p : List ℕ). BeginsWith p (said g) (drop g.len p)) (sym same) begins) left,
+    let left : length (held ++ more) - g.len < g.body = omega (arith, less, long, short, within, at_most, fits) in
+    let inside = subst (λ (p : List ℕ). g.len ≤ length p) (sym same) within in
+    let short_head = subst (λ (p : List ℕ). length p ≤ head_limit) (sym same) limit in
+    let front = subst (λ (p : List ℕ). BeginsWith p (said g) (drop g.len p)) (sym same) begins in (
+      body_short (held ++ more) n g inside front left,
       inr (has_room (held ++ more) (take n held) g within limit begins left),
+      inr (inr (body_alone (held ++ more) n g inside short_head front left)),
     )
 
 -- no head stands behind as many blank bytes as a head may have

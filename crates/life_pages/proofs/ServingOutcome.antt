@@ -52,9 +52,9 @@ module _ {D : Type 0} (answers : D → Head → List ℕ → List ℕ → D → 
   outcome_blank (Err faults.Write) stream left next held taken takes old new x y z r blank never many fits (rest, some) =
       other_cut answers stream left held old new x y z r never rest some
   outcome_blank (Err faults.Read) stream left next held taken takes old new x y z r blank never many fits (passed, same) =
-      rw same (passed_paused answers stream left next held 0 old new x y r never passed)
+      rw same (passed_paused answers stream left next held 0 old new x y r blank never passed)
   outcome_blank (Err faults.TooManyReads) stream left next held taken takes old new x y z r blank never many fits (passed, same) =
-      rw same (passed_paused answers stream left next held takes old new x y r never passed, many_passed stream left next taken takes most_takes many passed fits)
+      rw same (passed_paused answers stream left next held takes old new x y r blank never passed, many_passed stream left next taken takes most_takes many passed fits)
   outcome_blank (Err faults.Memory) stream left next held taken takes old new x y z r blank never many fits e = absurd e
 
   -- what an outcome says, whatever the result is

@@ -1,16 +1,17 @@
 -- CR and LF bytes, passed over.
-use Rattle.std.proofs.Common.{◌≡◌, ◌≢◌, ℕ, ◌+◌, ◌<◌, ◌≤◌, ◌&&◌, Bool, true, false, List, [], ◌∷◌, ◌++◌, length, take, Option, None, Some, Ok, IfSome, refl, sym, ◌∙◌, ap, append_assoc, append-nil, length-append, length-take-le, arith}
+use Rattle.std.proofs.Common.{◌≡◌, ◌≢◌, ℕ, ◌+◌, ◌-◌, ◌*◌, ◌<◌, ◌≤◌, ◌&&◌, Bool, true, false, List, [], ◌∷◌, ◌++◌, length, take, Option, None, Some, Ok, IfSome, inl, refl, sym, ◌∙◌, ap, append_assoc, append-nil, length-append, length-take-le, arith}
+use Rattle.std.proofs.lemmas.Grind.{common_steps}
 use Rattle.std.proofs.lemmas.List.Folds.{list_all-append}
-use Rattle.life_rle.specs.Stream.{Loses, IsEnded}
+use Rattle.life_rle.specs.Stream.{Loses, LosesUpTo, IsEnded}
 use Rattle.life_rle.specs.declared.stream.Failed.{Failed}
 use Rattle.life_rle.specs.Stream.{Gains, GainsSome}
-use Rattle.life_rle.proofs.StreamLemmas.{gains_more, gains_none}
+use Rattle.life_rle.proofs.StreamLemmas.{gains_more, gains_none, loses_on}
 use Rattle.life_pages.specs.Head.{Head}
 use Rattle.life_pages.specs.Reply.{bad_bytes}
 use Rattle.life_pages.specs.Message.{Message, bad, Starts, is_blank}
 use Rattle.life_pages.specs.MessageState.{NeverHas}
 use Rattle.life_pages.specs.Serving.{Fronts, Served, Broke, Cut, Paused, LosesAtLeast}
-use Rattle.life_pages.specs.ServingState.{Feeds, PassesBlank, IsBlankRest}
+use Rattle.life_pages.specs.ServingState.{Feeds, PassesBlank, IsBlankRest, most_takes, most_taken}
 use Rattle.life_pages.proofs.ServingRunning.{front_messages, front_starts, run_then, then_cut}
 use Rattle.life_pages.proofs.ServingReading.{Reading, reading_more, reading_broke, bad_end, paused}
 
@@ -63,6 +64,42 @@ many_fed a b c n k held all (x, first, p) f some =
     let l = length-append x f.0 in
     let m = f.4 in
     (x ++ f.0, omega (arith, l, first, m, some), loses_then a b c x f.0 p f.1)
+
+-- ---- how much is taken at most
+
+-- so many takes of a piece each, and one more
+pub most_passed : (old mid new : Option (List ℕ)) (n k : ℕ) (place : List ℕ) → LosesUpTo (n * most_taken) old mid → Loses mid new (take k place) → length place ≡ most_taken
+    → LosesUpTo ((n + 1) * most_taken) old new
+most_passed old mid new n k place before more short =
+    loses_on old mid new (n * most_taken) most_taken ((n + 1) * most_taken) (take k place) before more (let l = length-take-most k place in omega arith) (omega arith)
+  where
+    length-take-most : (k : ℕ) (place : List ℕ) → length (take k place) ≤ length place
+    length-take-most k place = grind (arith, common_steps)
+
+-- and that was not the last
+pub most_taken_more : (old mid new : Option (List ℕ)) (n k takes : ℕ) (place : List ℕ) → LosesUpTo (n * most_taken) old mid → Loses mid new (take k place) → length place ≡ most_taken
+    → n < takes → LosesUpTo (takes * most_taken) old new
+most_taken_more old mid new n k takes place before more short few =
+    let (bytes, less, lost) = most_passed old mid new n k place before more short in
+    (bytes, omega (arith, less, few), lost)
+
+pub most_fed : (a b c : Option (List ℕ)) (n k : ℕ) (held all : List ℕ) → LosesUpTo (n * most_taken) a b → Feeds {E = Failed} b c held all (Ok k) → k ≤ most_taken
+    → LosesUpTo ((n + 1) * most_taken) a c
+most_fed a b c n k held all before f short =
+    loses_on a b c (n * most_taken) most_taken ((n + 1) * most_taken) f.0 before f.1 (let l = f.4 in omega arith) (omega arith)
+
+-- of at most as many takes as there may be
+pub most_weaker : (old new : Option (List ℕ)) (n : ℕ) → n ≤ most_takes → LosesUpTo (n * most_taken) old new → LosesUpTo (most_takes * most_taken) old new
+most_weaker old new n few (bytes, short, lost) = (bytes, omega arith, lost)
+
+-- and then no byte, or those of the takes that are left
+pub most_none : (a b c : Option (List ℕ)) (n : ℕ) → n ≤ most_takes → LosesUpTo (n * most_taken) a b → Loses b c [] → LosesUpTo (most_takes * most_taken) a c
+most_none a b c n few before none = loses_on a b c (n * most_taken) 0 (most_takes * most_taken) [] before none (omega arith) (omega arith)
+
+pub most_blank : (a b c : Option (List ℕ)) (n : ℕ) → n ≤ most_takes → LosesUpTo (n * most_taken) a b → LosesUpTo ((most_takes - n) * most_taken) b c
+    → LosesUpTo (most_takes * most_taken) a c
+most_blank a b c n few before (piece, short, lost) =
+    loses_on a b c (n * most_taken) ((most_takes - n) * most_taken) (most_takes * most_taken) piece before lost short (omega arith)
 
 -- ---- what became of a stream behind long blank bytes
 
@@ -142,6 +179,7 @@ module _ {D : Type 0} (answers : D → Head → List ℕ → List ℕ → D → 
       })
 
   pub passed_paused : (stream left next : Option (List ℕ)) (held : List ℕ) (n : ℕ) (old new : D) (x y : Option (List ℕ)) → Reading answers stream left held old new x y
-      → NeverHas held → PassesBlank n left next → Paused answers stream next old new x y
-  passed_paused stream left next held n old new x y r never (bytes, many, blank, lost) =
+      → is_blank held ≡ true → NeverHas held → PassesBlank n left next → Paused answers stream next old new x y
+  passed_paused stream left next held n old new x y r held_blank never (bytes, many, blank, lost) =
       paused answers stream next (held ++ bytes) old new x y (reading_more answers stream left next held bytes (held ++ bytes) old new x y r lost refl) (never bytes)
+      (inl (blank_both held bytes held_blank blank))

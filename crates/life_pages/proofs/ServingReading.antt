@@ -5,7 +5,7 @@ use Rattle.life_rle.specs.Stream.{Gains, GainsSome, Loses, IsEnded}
 use Rattle.life_rle.proofs.StreamLemmas.{gains_more, gains_none}
 use Rattle.life_rle.specs.declared.stream.Failed.{Failed}
 use Rattle.life_pages.specs.Reply.{bad_bytes}
-use Rattle.life_pages.specs.Message.{Message, bad, Messages, Front, Starts, Run, HasNone, is_blank}
+use Rattle.life_pages.specs.Message.{Message, bad, Messages, Front, Starts, Run, HasNone, IsAwaited, is_blank}
 use Rattle.life_pages.specs.Serving.{Broke, Served, Fronts, Paused, Cut}
 use Rattle.life_pages.specs.ServingState.{Went, Ended, Feeds}
 use Rattle.life_pages.proofs.ServingRunning.{front_then, front_append, front_messages, front_starts, run_then, some_more, then_cut}
@@ -137,9 +137,9 @@ fed_end left next held all k f z = (f.2 ∙ ap (λ (l : List ℕ). held ++ l) (f
 
 module _ {D : Type 0} (answers : D → Head → List ℕ → List ℕ → D → Type 0) where
   pub paused : (stream left : Option (List ℕ)) (held : List ℕ) (old new : D) (x y : Option (List ℕ)) → Reading answers stream left held old new x y → HasNone held
-      → Paused answers stream left old new x y
-  paused stream left held old new x y r n =
-      record { done = r.done; bytes = r.bytes; held = held; front = r.front; none = n; run = r.run; put = r.put }
+      → IsAwaited held → Paused answers stream left old new x y
+  paused stream left held old new x y r n a =
+      record { done = r.done; bytes = r.bytes; held = held; front = r.front; none = n; awaited = a; run = r.run; put = r.put }
 
 -- a take that failed left the stream as it was
 pub reading_failed : {D : Type 0} (answers : D → Head → List ℕ → List ℕ → D → Type 0) (stream left next : Option (List ℕ)) (held all : List ℕ) (old new : D) (x y : Option (List ℕ))

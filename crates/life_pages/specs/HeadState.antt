@@ -1,6 +1,6 @@
 -- What the private calls that read a head answer.
 use Rattle.std.specs.Prelude.{◌≡◌, ℕ, ◌≤◌, List, ◌++◌, length, Option, None, Some, drop}
-use Rattle.httparse.specs.Grammar.{RequestHead, ReadsRequest, HasNoRequest}
+use Rattle.httparse.specs.Grammar.{RequestHead, ReadsRequest, HasNoRequest, MayBecomeRequest}
 use Rattle.life_pages.specs.declared.head.GoodHead.{GoodHead}
 use Rattle.life_pages.specs.declared.head.HeadRead.{HeadRead}
 use Rattle.life_pages.specs.declared.head.HeadRead.TheVariants.{More, Bad, Whole}
@@ -39,6 +39,6 @@ Judges len says (Whole g) = (g.len ≡ len) × (says ≡ Some (said g))
 
 -- a reading of bytes: more are wanted, they are no beginning of a good head, or a good head stands at the front
 abbrev pub ReadsHead : List ℕ → HeadRead → Type 0
-ReadsHead bytes More = HasNoRequest bytes
+ReadsHead bytes More = HasNoRequest bytes × MayBecomeRequest bytes
 ReadsHead bytes Bad = NeverBegins bytes
 ReadsHead bytes (Whole g) = (g.len ≤ length bytes) × BeginsWith bytes (said g) (drop g.len bytes)

@@ -5,6 +5,7 @@ pub mod Asked
 pub mod Json
 pub mod Reply
 pub mod Message
+pub mod Laws
 pub mod Serving
 pub mod Archive
 pub mod HeadState

@@ -1,7 +1,7 @@
 -- The messages of a stream, and a run over them (RFC 9112).
-use Rattle.std.specs.Prelude.{◌≡◌, ◌⊎◌, ℕ, ◌≤◌, ◌==◌, ◌||◌, Bool, true, false, List, [], ◌∷◌, ◌++◌, length, Result, Ok, Err, Some}
+use Rattle.std.specs.Prelude.{◌≡◌, ◌⊎◌, ℕ, ◌<◌, ◌≤◌, ◌==◌, ◌||◌, Bool, true, false, List, [], ◌∷◌, ◌++◌, length, Result, Ok, Err, Some}
 use Rattle.std.specs.List.{list_all}
-use Rattle.httparse.specs.Grammar.{RequestHead, IsRequestHead, print_request}
+use Rattle.httparse.specs.Grammar.{RequestHead, IsRequestHead, HasNoRequest, MayBecomeRequest, print_request}
 use Rattle.life_desk.specs.declared.request.Request.{Request}
 use Rattle.life_desk.specs.declared.request.Reply.{Reply}
 use Rattle.life_pages.specs.declared.asked.PageRefusal.{PageRefusal}
@@ -34,6 +34,25 @@ pub record Stands (bytes : List ℕ) (said : Head) (body rest : List ℕ) : Type
 -- no good message stands at the front
 abbrev pub HasNone : List ℕ → Type 0
 HasNone bytes = (said : Head) (body rest : List ℕ) → ¬ (Stands bytes said body rest)
+
+-- a good head stands whole at the front, and its body has not come whole
+pub record HasHeadAlone (bytes : List ℕ) : Type 0 where
+  pub head : RequestHead
+  pub is_head : IsRequestHead head
+  pub short : length (print_request head) ≤ head_limit
+  pub said : Head
+  pub says : head_of head ≡ Some said
+  pub rest : List ℕ
+  pub bytes_are : bytes ≡ print_request head ++ rest
+  pub part : length rest < said.body
+
+-- no whole head stands at the front, but one may come, and there is room for it
+abbrev pub BeginsHead : List ℕ → Type 0
+BeginsHead bytes = HasNoRequest bytes × MayBecomeRequest bytes × (length bytes < head_limit)
+
+-- nothing is wrong with the bytes as far as they have come: they are CR and LF alone, the beginning of a head, or a good head without its body
+abbrev pub IsAwaited : List ℕ → Type 0
+IsAwaited bytes = (is_blank bytes ≡ true) ⊎ (BeginsHead bytes ⊎ HasHeadAlone bytes)
 
 -- the messages of a list of bytes: nothing follows a closing or a bad one
 abbrev pub Messages : List ℕ → List Message → Type 0

@@ -3,7 +3,7 @@ use Rattle.std.specs.Prelude.{◌≡◌, ◌⊎◌, ℕ, ◌+◌, ◌<◌, ◌�
 use Rattle.life_pages.specs.declared.message.Next.{Next}
 use Rattle.life_pages.specs.declared.message.Next.TheVariants.{More, Bad, Whole}
 use Rattle.life_pages.specs.HeadState.{said}
-use Rattle.life_pages.specs.Message.{Stands, HasNone, is_blank}
+use Rattle.life_pages.specs.Message.{Stands, HasNone, IsAwaited, is_blank}
 
 -- none will, whatever follows
 abbrev pub NeverHas : List ℕ → Type 0
@@ -13,9 +13,9 @@ NeverHas bytes = (more : List ℕ) → HasNone (bytes ++ more)
 abbrev pub held_limit : ℕ
 held_limit = 1056768
 
--- no good message stands at the front, and there is room for more bytes, or all are CR and LF
+-- no good message stands at the front, nothing is wrong so far, and there is room for more bytes, or all are CR and LF
 abbrev pub IsWanting : List ℕ → Type 0
-IsWanting held = HasNone held × ((is_blank held ≡ true) ⊎ (length held < held_limit))
+IsWanting held = HasNone held × ((is_blank held ≡ true) ⊎ (length held < held_limit)) × IsAwaited held
 
 -- so it is until as many bytes are held as are wanted
 abbrev pub WantsUntil : ℕ → List ℕ → Type 0

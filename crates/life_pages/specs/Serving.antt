@@ -1,8 +1,10 @@
 -- What serving a stream does.
-use Rattle.std.specs.Prelude.{ℕ, ◌≤◌, List, [], ◌∷◌, ◌++◌, length, Option, None, Some}
+use Rattle.std.specs.Prelude.{◌≡◌, ℕ, ◌≤◌, List, [], ◌∷◌, ◌++◌, length, Option, None, Some, Result, Ok, Err}
 use Rattle.life_pages.specs.Head.{Head}
-use Rattle.life_rle.specs.Stream.{Loses, Gains, GainsSome}
-use Rattle.life_pages.specs.Message.{Message, Messages, Front, Run, HasNone}
+use Rattle.life_rle.specs.Stream.{raised, FailedBetween, Loses, Gains, GainsSome}
+use Rattle.life_pages.specs.Message.{Message, Messages, Front, Run, HasNone, IsAwaited}
+use Rattle.life_pages.specs.declared.serving.IoFault.{IoFault}
+use Rattle.life_pages.specs.declared.serving.IoFault.TheVariants.{Read, Write, TooManyReads, Memory}
 
 module _ {D : Type 0} (answers : D → Head → List ℕ → List ℕ → D → Type 0) where
   -- messages were answered: the replies to all but the last were put whole, and of the last a beginning
@@ -41,16 +43,33 @@ Fronts (Some stream) done held None = ⊥
 Fronts (Some stream) done held (Some left) = Front stream done (held ++ left)
 
 module _ {D : Type 0} (answers : D → Head → List ℕ → List ℕ → D → Type 0) where
-  -- all the messages that were taken whole were answered, their replies were put, and no good message is held
+  -- all the messages that were taken whole were answered, good or bad, and their replies were put
   pub record Paused (stream left : Option (List ℕ)) (old new : D) (before after : Option (List ℕ)) : Type 0 where
     pub done : List Message
     pub bytes : List ℕ
     pub held : List ℕ
     pub front : Fronts stream done held left
     pub none : HasNone held
+    pub awaited : IsAwaited held
     pub run : Run answers old done bytes new
     pub put : Gains before after bytes
 
 -- told bytes lost at least so many
 abbrev pub LosesAtLeast : ℕ → Option (List ℕ) → Option (List ℕ) → Type 0
 LosesAtLeast least old new = (bytes : List ℕ) × (least ≤ length bytes) × Loses old new bytes
+
+-- a take that failed is told at once, and nothing else is
+abbrev pub HearsTakes : ℕ → ℕ → Result (Unit {0}) IoFault → Type 0
+HearsTakes old new (Ok u) = new ≡ old
+HearsTakes old new (Err Read) = new ≡ raised old
+HearsTakes old new (Err Write) = new ≡ old
+HearsTakes old new (Err TooManyReads) = new ≡ old
+HearsTakes old new (Err Memory) = new ≡ old
+
+-- a put that failed is told, and nothing else is
+abbrev pub HearsPuts : ℕ → ℕ → Result (Unit {0}) IoFault → Type 0
+HearsPuts old new (Ok u) = new ≡ old
+HearsPuts old new (Err Read) = new ≡ old
+HearsPuts old new (Err Write) = FailedBetween old new
+HearsPuts old new (Err TooManyReads) = new ≡ old
+HearsPuts old new (Err Memory) = new ≡ old

@@ -1,6 +1,6 @@
 -- What the private calls that serve a stream do, one after the other.
 use Rattle.std.specs.Prelude.{◌≡◌, ◌⊎◌, ℕ, ◌<◌, ◌≤◌, Bool, true, false, List, [], ◌++◌, length, Option, None, Some, Result, Ok, Err, IfSome}
-use Rattle.life_rle.specs.Stream.{Loses, Gains, GainsSome, IsEnded}
+use Rattle.life_rle.specs.Stream.{raised, Loses, Gains, GainsSome, IsEnded}
 use Rattle.life_pages.specs.declared.serving.IoFault.{IoFault}
 use Rattle.life_pages.specs.declared.serving.IoFault.TheVariants as faults
 use Rattle.life_pages.specs.declared.serving.Step.{Step}
@@ -16,6 +16,10 @@ use Rattle.life_pages.specs.Serving.{Cut, Served, Broke, Paused, LosesAtLeast}
 -- the most takes of one call
 abbrev pub most_takes : ℕ
 most_takes = 1048576
+
+-- the most bytes of one
+abbrev pub most_taken : ℕ
+most_taken = 4096
 
 -- a take of more bytes behind those that are held
 abbrev pub Feeds : {E : Type 0} → Option (List ℕ) → Option (List ℕ) → List ℕ → List ℕ → Result ℕ E → Type 0
@@ -88,6 +92,13 @@ IsPassed passed.Ended takes old new = IsBlankRest old true
 IsPassed passed.Other takes old new = IsBlankRest old false
 IsPassed passed.Failed takes old new = PassesBlank 0 old new
 IsPassed passed.TooMany takes old new = PassesBlank takes old new
+
+-- a take that failed ends the passing, and nothing else is a failure
+abbrev pub HearsPassed : ℕ → ℕ → Passed → Type 0
+HearsPassed old new passed.Ended = new ≡ old
+HearsPassed old new passed.Other = new ≡ old
+HearsPassed old new passed.Failed = new ≡ raised old
+HearsPassed old new passed.TooMany = new ≡ old
 
 -- what became of a stream behind as many of them as a head may have, in at most so many takes
 abbrev pub IsBlankEnd : Result (Unit {0}) IoFault → ℕ → Option (List ℕ) → Option (List ℕ) → Option (List ℕ) → Option (List ℕ) → Type 0

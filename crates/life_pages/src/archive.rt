@@ -1,17 +1,17 @@
 //! Serving the messages of a stream by an archive.
-ghost use Rattle.std.specs.Prelude.{◌≡◌, Err, OnOk, IfSome};
-ghost use Rattle.life_rle.specs.Stream.{FailedBetween};
+ghost use Rattle.std.specs.Prelude.{◌≡◌, ◌*◌, Err, OnOk, IfSome};
+ghost use Rattle.life_rle.specs.Stream.{FailedBetween, LosesUpTo};
 ghost use Rattle.life_desk.specs.Run.{Step};
 ghost use Rattle.life_pages.specs.Message.{AnswersMessage, Starts};
-ghost use Rattle.life_pages.specs.Serving.{Served, Broke, Paused, Cut, LosesAtLeast};
-ghost use Rattle.life_pages.specs.Archive.{ByArchive};
+ghost use Rattle.life_pages.specs.Serving.{Served, Broke, Paused, Cut, LosesAtLeast, HearsTakes, HearsPuts};
+ghost use Rattle.life_pages.specs.Archive.{ByArchive, InMemory};
 
 use crate::desk::Desk;
-use crate::serving::{IoFault, TAKES, serve_desk};
+use crate::serving::{IoFault, MOST_TAKEN, TAKES, serve_desk};
 use life_desk::{Reply, Request, answer};
 use life_rle::{Inlet, Outlet};
 use life_store::Archive;
-use sqlite::Alter;
+use sqlite::{Alter, MemStore};
 use std::alloc::Global;
 
 impl<S: Alter> Desk for Archive<S> {
@@ -52,8 +52,36 @@ pub fn serve<S: Alter, I: Inlet, O: Outlet>(
     ensures cut { result ≡ Err IoFault.Write →
         ByArchive (λ A B. Cut (AnswersMessage Step) (λ ms. IfSome (I.to_come input.old) (λ stream. Starts stream ms)) A B (O.already output.old) (O.already output.new)) archive.old archive.new }
     ensures memory { result ≡ Err IoFault.Memory → (archive.new ≡ archive.old) × (input.new ≡ input.old) × (output.new ≡ output.old) }
+    // At most 1,048,576 takes are made, of at most 4,096 bytes each.
+    ensures most { LosesUpTo (TAKES * MOST_TAKEN) (I.to_come input.old) (I.to_come input.new) }
+    // A failed take is told at once, a failed put is told, and nothing else is.
+    ensures heard { HearsTakes (I.failures input.old) (I.failures input.new) result }
+    ensures puts { HearsPuts (O.failures output.old) (O.failures output.new) result }
     ensures read { result ≡ Err IoFault.Read → FailedBetween (I.failures input.old) (I.failures input.new) }
     ensures write { result ≡ Err IoFault.Write → FailedBetween (O.failures output.old) (O.failures output.new) }
 {
     serve_desk(alloc, archive, input, output)
+}
+
+/// As [`serve`], of an archive in memory: no disk can fail there, so it went through the run in any case.
+pub fn serve_in_memory<I: Inlet, O: Outlet>(
+    alloc: Global,
+    archive: &mut Archive<MemStore>,
+    input: &mut I,
+    output: &mut O,
+) -> Result<(), IoFault>
+    ensures told { OnOk result (IfSome (I.to_come input.old) (λ stream.
+        InMemory (λ A B. Served (AnswersMessage Step) stream A B (O.already output.old) (O.already output.new)) archive.old archive.new)) }
+    ensures some { InMemory (λ A B. Broke (AnswersMessage Step) A B (O.already output.old) (O.already output.new)) archive.old archive.new }
+    ensures paused { result ≡ Err IoFault.Read →
+        InMemory (λ A B. Paused (AnswersMessage Step) (I.to_come input.old) (I.to_come input.new) A B (O.already output.old) (O.already output.new)) archive.old archive.new }
+    ensures full { result ≡ Err IoFault.TooManyReads →
+        InMemory (λ A B. Paused (AnswersMessage Step) (I.to_come input.old) (I.to_come input.new) A B (O.already output.old) (O.already output.new)) archive.old archive.new }
+    ensures cut { result ≡ Err IoFault.Write →
+        InMemory (λ A B. Cut (AnswersMessage Step) (λ ms. IfSome (I.to_come input.old) (λ stream. Starts stream ms)) A B (O.already output.old) (O.already output.new)) archive.old archive.new }
+    ensures memory { result ≡ Err IoFault.Memory → (archive.new ≡ archive.old) × (input.new ≡ input.old) × (output.new ≡ output.old) }
+{
+    let served = serve(alloc, archive, input, output);
+    archive.law_of_memory();
+    served
 }

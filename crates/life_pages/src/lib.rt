@@ -7,12 +7,14 @@ mod asked;
 mod desk;
 mod head;
 mod json;
+mod laws;
 mod message;
 mod path;
 mod reply;
 mod route;
 mod serving;
 
-pub use archive::serve;
+pub use archive::{serve, serve_in_memory};
 pub use asked::PageRefusal;
+pub use laws::laws_of_messages;
 pub use serving::IoFault;

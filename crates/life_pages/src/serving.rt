@@ -1,6 +1,6 @@
 //! Serving the messages of a stream.
-ghost use Rattle.std.specs.Prelude.{◌⊎◌, ◌≡◌, ℕ, ◌+◌, ◌-◌, ◌<◌, ◌≤◌, List, [], ◌∷◌, ◌++◌, length, drop, true, false, vec_len, vec_capacity, Err, OnOk, OnErr, IfOk, IfSome};
-ghost use Rattle.life_rle.specs.Stream.{counted, FailedBetween, Gains, GainsSome};
+ghost use Rattle.std.specs.Prelude.{◌⊎◌, ◌≡◌, ℕ, ◌+◌, ◌-◌, ◌*◌, ◌<◌, ◌≤◌, List, [], ◌∷◌, ◌++◌, length, drop, true, false, vec_len, vec_capacity, Err, OnOk, OnErr, IfOk, IfSome};
+ghost use Rattle.life_rle.specs.Stream.{counted, raised, FailedBetween, LosesUpTo, Gains, GainsSome};
 ghost use Rattle.life_pages.specs.Head.{Head};
 ghost use Rattle.life_pages.specs.HeadState.{said};
 ghost use Rattle.life_pages.specs.Route.{page_rows};
@@ -8,8 +8,8 @@ ghost use Rattle.life_pages.specs.Reply.{bad_bytes};
 ghost use Rattle.life_pages.specs.Message.{is_blank, Stands, HasNone, Starts, AnswersMessage};
 ghost use Rattle.life_pages.specs.MessageState.{held_limit, NeverHas, IsWanting, WantsUntil};
 ghost use Rattle.life_pages.specs.AnswerState.{HasRoom};
-ghost use Rattle.life_pages.specs.Serving.{Paused, Cut, Served, Broke, LosesAtLeast};
-ghost use Rattle.life_pages.specs.ServingState.{AtEnd, IsStep, IsServed, IsOutcome, Feeds, IsPassed, IsBlankEnd};
+ghost use Rattle.life_pages.specs.Serving.{Paused, Cut, Served, Broke, LosesAtLeast, HearsTakes, HearsPuts};
+ghost use Rattle.life_pages.specs.ServingState.{AtEnd, IsStep, IsServed, IsOutcome, Feeds, IsPassed, HearsPassed, IsBlankEnd};
 
 use crate::answer::{Draft, answer_message};
 use crate::asked::PageRefusal;
@@ -28,7 +28,7 @@ const HELD_LIMIT: usize = 1_056_768;
 pub(crate) const TAKES: u64 = 1_048_576;
 
 /// The most bytes of one take.
-const MOST_TAKEN: usize = 4096;
+pub(crate) const MOST_TAKEN: usize = 4096;
 
 /// Why serving a stream stopped before its end.
 #[derive(Clone, Copy, Debug, PartialEq, Eq)]
@@ -172,6 +172,7 @@ fn take_into<I: Inlet>(input: &mut I, place: &mut [u8], held: &mut Vec<u8>) -> R
     requires some { 0 < length place.old }
     requires fits { vec_len held.old + length place.old ≤ vec_capacity held.old }
     ensures taken { Feeds (I.to_come input.old) (I.to_come input.new) held.old.items held.new.items result }
+    ensures most { IfOk result (λ k. k ≤ length place.old) }
     ensures room { vec_capacity held.old ≤ vec_capacity held.new }
     ensures count { I.failures input.new ≡ counted (I.failures input.old) result }
 {
@@ -190,6 +191,7 @@ fn take_more<I: Inlet>(input: &mut I, held: &mut Vec<u8>) -> Result<usize, Faile
     requires space { vec_len held.old < HELD_LIMIT }
     requires room { HELD_LIMIT ≤ vec_capacity held.old }
     ensures taken { Feeds (I.to_come input.old) (I.to_come input.new) held.old.items held.new.items result }
+    ensures most { IfOk result (λ k. k ≤ MOST_TAKEN) }
     ensures room { vec_capacity held.old ≤ vec_capacity held.new }
     ensures count { I.failures input.new ≡ counted (I.failures input.old) result }
 {
@@ -214,7 +216,8 @@ pub(crate) enum Passed {
 /// Takes bytes as long as they are CR and LF, and keeps none.
 fn pass_blank<I: Inlet>(input: &mut I, takes: u64) -> Passed
     ensures passed { IsPassed result takes (I.to_come input.old) (I.to_come input.new) }
-    ensures failed { result ≡ Passed.Failed → FailedBetween (I.failures input.old) (I.failures input.new) }
+    ensures most { LosesUpTo (takes * MOST_TAKEN) (I.to_come input.old) (I.to_come input.new) }
+    ensures heard { HearsPassed (I.failures input.old) (I.failures input.new) result }
 {
     let mut place = [0u8; MOST_TAKEN];
     'passed: for _i in 0..takes {
@@ -247,8 +250,9 @@ fn serve_blank<I: Inlet, O: Outlet>(
     takes: u64,
 ) -> Result<(), IoFault>
     ensures end { IsBlankEnd result takes (I.to_come input.old) (I.to_come input.new) (O.already output.old) (O.already output.new) }
-    ensures read { result ≡ Err IoFault.Read → FailedBetween (I.failures input.old) (I.failures input.new) }
-    ensures write { result ≡ Err IoFault.Write → FailedBetween (O.failures output.old) (O.failures output.new) }
+    ensures most { LosesUpTo (takes * MOST_TAKEN) (I.to_come input.old) (I.to_come input.new) }
+    ensures heard { HearsTakes (I.failures input.old) (I.failures input.new) result }
+    ensures puts { HearsPuts (O.failures output.old) (O.failures output.new) result }
 {
     match pass_blank(input, takes) {
         Passed::Ended => Ok(()),
@@ -265,7 +269,7 @@ fn serve_blank<I: Inlet, O: Outlet>(
 fn finish<O: Outlet, D: Desk>(desk: &D, output: &mut O, held: &[u8]) -> Result<(), IoFault>
     requires { HasNone held.now }
     ensures end { AtEnd (AnswersMessage D.answers) result held.now desk.now (O.already output.old) (O.already output.new) }
-    ensures write { result ≡ Err IoFault.Write → FailedBetween (O.failures output.old) (O.failures output.new) }
+    ensures puts { HearsPuts (O.failures output.old) (O.failures output.new) result }
 {
     if are_blank(held) {
         return Ok(());
@@ -321,8 +325,9 @@ fn serve_stream<I: Inlet, O: Outlet, D: Desk>(
     requires draft { HasRoom ready.old.draft }
     requires below { WantsUntil ready.old.wanted ready.old.held.items }
     ensures outcome { IsOutcome (AnswersMessage D.answers) result (I.to_come input.old) (I.to_come input.new) desk.old desk.new (O.already output.old) (O.already output.new) }
-    ensures read { result ≡ Err IoFault.Read → FailedBetween (I.failures input.old) (I.failures input.new) }
-    ensures write { result ≡ Err IoFault.Write → FailedBetween (O.failures output.old) (O.failures output.new) }
+    ensures most { LosesUpTo (TAKES * MOST_TAKEN) (I.to_come input.old) (I.to_come input.new) }
+    ensures heard { HearsTakes (I.failures input.old) (I.failures input.new) result }
+    ensures puts { HearsPuts (O.failures output.old) (O.failures output.new) result }
 {
     let mut taken = 0;
     'takes: loop {
@@ -376,6 +381,11 @@ pub(crate) fn serve_desk<I: Inlet, O: Outlet, D: Desk>(
     ensures cut { result ≡ Err IoFault.Write → Cut (AnswersMessage D.answers) (λ ms. IfSome (I.to_come input.old) (λ stream. Starts stream ms))
         desk.old desk.new (O.already output.old) (O.already output.new) }
     ensures memory { result ≡ Err IoFault.Memory → (desk.new ≡ desk.old) × (input.new ≡ input.old) × (output.new ≡ output.old) }
+    // At most 1,048,576 takes are made, of at most 4,096 bytes each.
+    ensures most { LosesUpTo (TAKES * MOST_TAKEN) (I.to_come input.old) (I.to_come input.new) }
+    // A failed take is told at once, a failed put is told, and nothing else is.
+    ensures heard { HearsTakes (I.failures input.old) (I.failures input.new) result }
+    ensures puts { HearsPuts (O.failures output.old) (O.failures output.new) result }
     ensures read { result ≡ Err IoFault.Read → FailedBetween (I.failures input.old) (I.failures input.new) }
     ensures write { result ≡ Err IoFault.Write → FailedBetween (O.failures output.old) (O.failures output.new) }
 {

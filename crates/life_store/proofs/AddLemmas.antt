@@ -74,6 +74,7 @@ adds old new k d id count is few filed holds h =
     rw (holds.deposits, cast_null, cast_int id, cast_int (set.len d.content.cells)) (put_at_end deposit_cells k.deposits 1 id d is) in
     record {
       schema = it.schema;
+      committed = w.shown.mode ∙ holds.committed;
       layout = it.step.tables.0 (λ e. cc) ∙ holds.layout;
       deposits = it.step.rows ∙ edit;
       censuses = it.step.tables.1.1.0 (λ e. cc) ∙ holds.censuses;

@@ -230,13 +230,14 @@ first_parts k = record { layout = version_1; deposits = k.deposits; censuses = k
 pub first_stands : (s : State) (k : Kept) → HoldsFirst (tables_of s) k → StandsFirst s.now (first_parts k)
 first_stands s k h = record { schema = h.schema; layout = h.layout; deposits = h.deposits; censuses = h.censuses; census_rows = h.census_rows }
 
-pub carried_holds : (old new : State) (k : Kept) → HoldsFirst (tables_of old) k → IsCarried (first_parts k) new.now → CarriedOver (tables_of new) k
-carried_holds old new k h it = record {
+pub carried_holds : (old new : State) (k : Kept) → new.in_transaction ≡ false → HoldsFirst (tables_of old) k → IsCarried (first_parts k) new.now → CarriedOver (tables_of new) k
+carried_holds old new k none h it = record {
   censuses = it.done;
   same = it.same;
   flagged = it.flagged;
   holds = record {
     schema = it.stands.schema;
+    committed = none;
     layout = it.stands.layout;
     deposits = it.stands.deposits;
     censuses = it.stands.censuses ∙ same_cells 1 it.done k.censuses it.same;
@@ -259,4 +260,5 @@ pub seen_rolled_back : (old last new : State) → (IsTrue old.is_open → old.no
 seen_rolled_back old last new settled kept back = record {
   was_open = λ up. kept.was_open (back.was_open up);
   now_is = λ up. let was = back.was_open up in (back.undone up).0 ∙ kept.committed was ∙ sym (settled (kept.was_open was));
+  mode = λ none. back.autocommit;
 }

@@ -102,8 +102,8 @@ open_before sql params old new count up h = elim (cases_Bool (shows_rows false h
 -- ---- what is undone outside a transaction is seen again
 
 pub seen_undone : (old new : State) → (IsTrue old.is_open → old.now ≡ old.committed) → IsUndone old new → IsSeenAgain old new
-seen_undone old new settled (inl same) = record { was_open = λ up. same.0.was_open; now_is = λ up. same.0.now_is }
-seen_undone old new settled (inr back) = record { was_open = back.was_open; now_is = λ up. (back.undone up).0 ∙ sym (settled (back.was_open up)) }
+seen_undone old new settled (inl same) = record { was_open = λ up. same.0.was_open; now_is = λ up. same.0.now_is; mode = λ none. same.0.mode ∙ none }
+seen_undone old new settled (inr back) = record { was_open = back.was_open; now_is = λ up. (back.undone up).0 ∙ sym (settled (back.was_open up)); mode = λ none. back.autocommit }
 
 abbrev pub Answered : Type 0
 Answered = Result (Vec (List Value) Global) Error
@@ -144,9 +144,10 @@ pub sure_from : (s : State) → HasCleanDisk s → IsTrue s.is_open → IsTrue (
 sure_from s clean up = ap₂ ◌&&◌ (is_clean s.is_clean clean) up
 
 -- whether the database is sure plays no part in what its tables hold
-pub held_as : (b c : Bool) (db : Database) (k : Kept) → Holds (tables_in b db) k → Holds (tables_in c db) k
-held_as b c db k h = record {
+pub held_as : (b c : Bool) (m n : ℕ) (was is : Bool) (db : Database) (k : Kept) → (was ≡ false → is ≡ false) → Holds (tables_in b m was db) k → Holds (tables_in c n is db) k
+held_as b c m n was is db k none h = record {
   schema = h.schema;
+  committed = none h.committed;
   layout = h.layout;
   deposits = h.deposits;
   censuses = h.censuses;
@@ -158,12 +159,14 @@ held_as b c db k h = record {
   few_censuses = h.few_censuses;
 }
 
-pub held_again : (old new : State) (k : Kept) → new.now ≡ old.now → Holds (tables_of old) k → Holds (tables_of new) k
-held_again old new k same h = subst (λ (d : Database). Holds (tables_in (tables_of new).is_sure d) k) (sym same) (held_as (tables_of old).is_sure (tables_of new).is_sure old.now k h)
+pub held_again : (old new : State) (k : Kept) → (old.in_transaction ≡ false → new.in_transaction ≡ false) → new.now ≡ old.now → Holds (tables_of old) k → Holds (tables_of new) k
+held_again old new k none same h =
+    subst (λ (d : Database). Holds (tables_in (tables_of new).is_sure (tables_of new).faults new.in_transaction d) k) (sym same)
+    (held_as (tables_of old).is_sure (tables_of new).is_sure (tables_of old).faults (tables_of new).faults old.in_transaction new.in_transaction old.now k none h)
 
 -- the same of the tables of layout 1
-pub first_held_as : (b c : Bool) (db : Database) (k : Kept) → HoldsFirst (tables_in b db) k → HoldsFirst (tables_in c db) k
-first_held_as b c db k h = record {
+pub first_held_as : (b c : Bool) (m n : ℕ) (was is : Bool) (db : Database) (k : Kept) → HoldsFirst (tables_in b m was db) k → HoldsFirst (tables_in c n is db) k
+first_held_as b c m n was is db k h = record {
   schema = h.schema;
   layout = h.layout;
   deposits = h.deposits;
@@ -176,7 +179,9 @@ first_held_as b c db k h = record {
 }
 
 pub first_held_again : (old new : State) (k : Kept) → new.now ≡ old.now → HoldsFirst (tables_of old) k → HoldsFirst (tables_of new) k
-first_held_again old new k same h = subst (λ (d : Database). HoldsFirst (tables_in (tables_of new).is_sure d) k) (sym same) (first_held_as (tables_of old).is_sure (tables_of new).is_sure old.now k h)
+first_held_again old new k same h =
+    subst (λ (d : Database). HoldsFirst (tables_in (tables_of new).is_sure (tables_of new).faults new.in_transaction d) k) (sym same)
+    (first_held_as (tables_of old).is_sure (tables_of new).is_sure (tables_of old).faults (tables_of new).faults old.in_transaction new.in_transaction old.now k h)
 
 -- a query leaves what it saw
 pub seen_same : (sql : List ℕ) (params : Row) (schema : Schema) (old new : State) → IsPlain (understood schema sql) → (r : Answered) → (HasCleanDisk new → IfOk r (λ rows. Shown sql params old new rows.items)) → (HasCleanDisk new → OnErr r (IsSeenAgain old new))
@@ -193,7 +198,7 @@ module _ (old new : State) (clean : doubt old.is_clean ≤ doubt new.is_clean) w
       sure_from old still (was now.0 now.1)
 
   pub keeps_seen : (HasCleanDisk new → IsSeenAgain old new) → Keeps (tables_of old) (tables_of new)
-  keeps_seen seen k sure holds = let now = sure_is new sure in held_again old new k ((seen now.0).now_is now.1) holds
+  keeps_seen seen k sure holds = let now = sure_is new sure in held_again old new k (seen now.0).mode ((seen now.0).now_is now.1) holds
 
   -- what a query of the archive does, and what it tells of what the tables hold
   pub record HasAsked (r : Answered) (Q : Kept → List Row → Type 0) : Type 0 where
@@ -210,6 +215,10 @@ module _ (old new : State) (clean : doubt old.is_clean ≤ doubt new.is_clean) w
     same_now (Ok rows) k holds shown seen up = (shown_unchanged sql params old new rows.items (subst (λ s. IsPlain (understood s sql)) (sym holds.schema) plain) shown).0.now_is
     same_now (Err e) k holds shown seen up = seen.now_is up
 
+    same_mode : (r : Answered) (k : Kept) → Holds (tables_of old) k → IfOk r (λ rows. Shown sql params old new rows.items) → OnErr r (IsSeenAgain old new) → old.in_transaction ≡ false → new.in_transaction ≡ false
+    same_mode (Ok rows) k holds shown seen none = (shown_unchanged sql params old new rows.items (subst (λ s. IsPlain (understood s sql)) (sym holds.schema) plain) shown).0.mode ∙ none
+    same_mode (Err e) k holds shown seen none = seen.mode none
+
     answers : (Q : Kept → List Row → Type 0) → ((k : Kept) (rows : List Row) → Holds (tables_of old) k → Shown sql params old new rows → Q k rows) → (r : Answered) (k : Kept) → Holds (tables_of old) k
         → IfOk r (λ rows. Shown sql params old new rows.items) → IfOk r (λ rows. Q k rows.items)
     answers Q tells (Ok rows) k holds shown = tells k rows.items holds shown
@@ -219,7 +228,7 @@ module _ (old new : State) (clean : doubt old.is_clean ≤ doubt new.is_clean) w
         → (HasCleanDisk new → IfOk r (λ rows. Shown sql params old new rows.items)) → (HasCleanDisk new → OnErr r (IsSeenAgain old new)) → HasAsked r Q
     asked Q tells r shown seen = record {
       lost = stays_lost (λ now up. was_up r (shown now) (seen now) up);
-      keeps = λ k sure holds. let now = sure_is new sure in held_again old new k (same_now r k holds (shown now.0) (seen now.0) now.1) holds;
+      keeps = λ k sure holds. let now = sure_is new sure in held_again old new k (same_mode r k holds (shown now.0) (seen now.0)) (same_now r k holds (shown now.0) (seen now.0) now.1) holds;
       tells = λ k sure holds. answers Q tells r k holds (shown (sure_is new sure).0);
     }
 

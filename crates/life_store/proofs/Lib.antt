@@ -1,5 +1,6 @@
 pub mod Texts
 pub mod KeepLemmas
+pub mod LastingLemmas
 pub mod QueryLemmas
 pub mod InsertLemmas
 pub mod RowLemmas

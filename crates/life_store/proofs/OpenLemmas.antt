@@ -91,9 +91,10 @@ pub none_stands : has_some no_schema ≡ false
 unfolding same_name everything
 none_stands = refl
 
-pub new_holds : (s : State) → IsNewArchive s.now → Holds (tables_of s) nothing_kept
-new_holds s new = record {
+pub new_holds : (s : State) → s.in_transaction ≡ false → IsNewArchive s.now → Holds (tables_of s) nothing_kept
+new_holds s none new = record {
   schema = new.laid.is;
+  committed = none;
   layout = new.version;
   deposits = new.laid.none.0;
   censuses = new.laid.none.1.0;

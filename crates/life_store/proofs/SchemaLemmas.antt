@@ -100,11 +100,13 @@ finds_tables new image schema db none opened found held sound =
 -- and so finds their rows
 pub finds_held : (new : State) (image : Image) (k : Kept) → Opens new × IsLive new → ((db : Trees) → HoldsDatabase image db → new.committed.trees ≡ db) → FilesHold image k → Holds (tables_of new) k
 finds_held new image k opened found files =
-    held_as true (tables_of new).is_sure new.now k (subst (λ (d : Database). Holds (tables_in true d) k) (sym (finds_tables new image archive_schema files.trees refl opened found files.held files.sound)) files.holds)
+    held_as true (tables_of new).is_sure 0 (tables_of new).faults false new.in_transaction new.now k (λ none. opened.0.autocommit)
+    (subst (λ (d : Database). Holds (tables_in true 0 false d) k) (sym (finds_tables new image archive_schema files.trees refl opened found files.held files.sound)) files.holds)
 
 pub finds_first : (new : State) (image : Image) (k : Kept) → Opens new × IsLive new → ((db : Trees) → HoldsDatabase image db → new.committed.trees ≡ db) → FilesHoldFirst image k → HoldsFirst (tables_of new) k
 finds_first new image k opened found files =
-    first_held_as true (tables_of new).is_sure new.now k (subst (λ (d : Database). HoldsFirst (tables_in true d) k) (sym (finds_tables new image first_schema files.trees refl opened found files.held files.sound)) files.holds)
+    first_held_as true (tables_of new).is_sure 0 (tables_of new).faults false new.in_transaction new.now k
+    (subst (λ (d : Database). HoldsFirst (tables_in true 0 false d) k) (sym (finds_tables new image first_schema files.trees refl opened found files.held files.sound)) files.holds)
 
 no_views : (schema : Schema) (own : List Value) → IsLayout schema own → schema.views ≡ []
 no_views schema own (inl second) = ap (λ (s : Schema). s.views) second.0
@@ -129,7 +131,13 @@ held_closed old image k up live settled held holds =
     let sound : IsSound archive_schema old.committed.trees = subst (λ s. IsSound s old.committed.trees) (ap (λ (d : Database). d.schema) (sym settled) ∙ holds.schema) (live up).1 in
     let is : old.now ≡ record { schema = archive_schema; trees = old.committed.trees } =
     ap₂ (λ (s : _) (t : Trees). let d : Database = record { schema = s; trees = t } in d) holds.schema (ap (λ (d : Database). d.trees) settled) in
-    record { trees = old.committed.trees; held = held; sound = sound; holds = held_as (tables_of old).is_sure true (record { schema = archive_schema; trees = old.committed.trees }) k (subst (λ (d : Database). Holds (tables_in (tables_of old).is_sure d) k) is holds) }
+    record {
+      trees = old.committed.trees;
+      held = held;
+      sound = sound;
+      holds = held_as (tables_of old).is_sure true (tables_of old).faults 0 old.in_transaction false (record { schema = archive_schema; trees = old.committed.trees }) k (λ none. refl)
+          (subst (λ (d : Database). Holds (tables_in (tables_of old).is_sure (tables_of old).faults old.in_transaction d) k) is holds);
+    }
 
 -- ---- what an archive over files holds, once its tables were seen to
 

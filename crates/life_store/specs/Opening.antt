@@ -1,5 +1,5 @@
 -- What files hold before they are opened, and after they are closed. What a database is in files: SQLite's "Database File Format".
-use Rattle.std.specs.Prelude.{◌≡◌, ◌⊎◌, ◌&&◌, ℕ, Bool, true, nat_le, pos, List, [], ◌∷◌, map}
+use Rattle.std.specs.Prelude.{◌≡◌, ◌⊎◌, ◌&&◌, ℕ, Bool, true, false, nat_le, pos, List, [], ◌∷◌, map}
 use Rattle.sqlite_value.specs.declared.value.Value.{Value}
 use Rattle.sqlite_value.specs.declared.value.Value.TheVariants.{Int}
 use Rattle.sqlite_value.specs.Order.{Row, column}
@@ -30,14 +30,14 @@ pub record FilesHold (image : Image) (k : Kept) : Type 0 where
   pub trees : Trees
   pub held : ∥ HoldsDatabase image trees ∥₁
   pub sound : IsSound archive_schema trees
-  pub holds : Holds (tables_in true (record { schema = archive_schema; trees = trees })) k
+  pub holds : Holds (tables_in true 0 false (record { schema = archive_schema; trees = trees })) k
 
 -- The files hold a database that obeys the tables of layout 1, with rows that stand for these.
 pub record FilesHoldFirst (image : Image) (k : Kept) : Type 0 where
   pub trees : Trees
   pub held : ∥ HoldsDatabase image trees ∥₁
   pub sound : IsSound first_schema trees
-  pub holds : HoldsFirst (tables_in true (record { schema = first_schema; trees = trees })) k
+  pub holds : HoldsFirst (tables_in true 0 false (record { schema = first_schema; trees = trees })) k
 
 -- Whatever the files are found to hold lists no table. So it is of two files with no byte: a law says it.
 abbrev pub ListNothing : Image → Type 0

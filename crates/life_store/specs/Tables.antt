@@ -1,9 +1,11 @@
 -- What contracts see of an archive: its tables as they are, and what their rows stand for (the tables of docs/FORMATS.md).
 -- What a table is, its rows with their ids and its schema: the kit's `sqlite`, after SQLite's "Database File Format" and "CREATE TABLE".
-use Rattle.std.specs.Prelude.{◌≡◌, ◌<◌, ◌^◌, ◌&&◌, ◌++◌, ℕ, pos, Bool, List, [], ◌∷◌, length, map, IsTrue, refl}
+use Rattle.std.specs.Prelude.{◌≡◌, ◌<◌, ◌≤◌, ◌+◌, ◌^◌, ◌⊎◌, ◌&&◌, ◌++◌, ℕ, pos, Bool, false, List, [], ◌∷◌, length, map, IsTrue, refl}
 use Rattle.std.specs.Coded.{Coded, code_by, coded×, coded_ℕ, coded_bool, coded_list}
 use Rattle.std.specs.List.{AllByRecursion}
 use Rattle.std.specs.List.Sorted.{IsStrictlySortedBy}
+use Rattle.sqlite_disk.specs.Disk.{MoreFaults}
+use Rattle.sqlite_trees.specs.View.{doubt}
 use Rattle.sqlite_value.specs.contracts.value.Value as value
 use Rattle.sqlite_value.specs.declared.value.Value.TheVariants.{Int}
 use Rattle.sqlite_value.specs.Order.{Row}
@@ -22,6 +24,10 @@ use Rattle.life_store.specs.Stored.{IsFiled, rows_by, deposit_cells, census_cell
 pub record Tables : Type 0 where
   -- The database is open, and its disk has returned what was written. Where it is false, the rest says nothing.
   pub is_sure : Bool
+  -- how often the disk has failed or refused so far, and once more where it has returned other than what was written
+  pub faults : ℕ
+  -- A transaction is open: the rows are as it sees them. Where none is, they are committed.
+  pub in_transaction : Bool
   pub schema : Schema
   pub layout : List Row
   pub deposits : List Row
@@ -40,19 +46,42 @@ coded_rows = coded_list (coded_list value.the_row.coded)
 -- a shelf is stored as the pairs of its parts
 abbrev pub coded_shelf : Coded Shelf
 coded_shelf =
-    code_by (Bool × (Schema × (List Row × (List Row × (List Row × (List Row × (List Row × ℕ)))))))
-    (coded× coded_bool (coded× the_row.coded (coded× coded_rows (coded× coded_rows (coded× coded_rows (coded× coded_rows (coded× coded_rows coded_ℕ)))))))
-    (λ s. (s.tables.is_sure, (s.tables.schema, (s.tables.layout, (s.tables.deposits, (s.tables.censuses, (s.tables.census_rows, (s.tables.census_flags, s.capacity))))))))
-    (λ p. record { tables = record { is_sure = p.0; schema = p.1.0; layout = p.1.1.0; deposits = p.1.1.1.0; censuses = p.1.1.1.1.0; census_rows = p.1.1.1.1.1.0; census_flags = p.1.1.1.1.1.1.0 }; capacity = p.1.1.1.1.1.1.1 })
+    code_by (Bool × (ℕ × (Bool × (Schema × (List Row × (List Row × (List Row × (List Row × (List Row × ℕ)))))))))
+    (coded× coded_bool (coded× coded_ℕ (coded× coded_bool (coded× the_row.coded (coded× coded_rows (coded× coded_rows (coded× coded_rows (coded× coded_rows (coded× coded_rows coded_ℕ)))))))))
+    (λ s. (s.tables.is_sure, (s.tables.faults, (s.tables.in_transaction, (s.tables.schema, (s.tables.layout, (s.tables.deposits, (s.tables.censuses, (s.tables.census_rows, (s.tables.census_flags, s.capacity))))))))))
+    (λ p. record {
+      tables = record {
+        is_sure = p.0;
+        faults = p.1.0;
+        in_transaction = p.1.1.0;
+        schema = p.1.1.1.0;
+        layout = p.1.1.1.1.0;
+        deposits = p.1.1.1.1.1.0;
+        censuses = p.1.1.1.1.1.1.0;
+        census_rows = p.1.1.1.1.1.1.1.0;
+        census_flags = p.1.1.1.1.1.1.1.1.0;
+      };
+      capacity = p.1.1.1.1.1.1.1.1.1;
+    })
     (λ _. refl)
 
 -- The tables have these numbers. A UNIQUE or PRIMARY KEY of two columns has an index, which takes the number after its table's.
-abbrev pub tables_in : Bool → Database → Tables
-tables_in is_sure db = record { is_sure = is_sure; schema = db.schema; layout = db.trees 0; deposits = db.trees 1; censuses = db.trees 3; census_rows = db.trees 5; census_flags = db.trees 7 }
+abbrev pub tables_in : Bool → ℕ → Bool → Database → Tables
+tables_in is_sure faults in_transaction db = record {
+  is_sure = is_sure;
+  faults = faults;
+  in_transaction = in_transaction;
+  schema = db.schema;
+  layout = db.trees 0;
+  deposits = db.trees 1;
+  censuses = db.trees 3;
+  census_rows = db.trees 5;
+  census_flags = db.trees 7;
+}
 
 -- the tables that a connection sees
 abbrev pub tables_of : State → Tables
-tables_of s = tables_in (s.is_clean && s.is_open) s.now
+tables_of s = tables_in (s.is_clean && s.is_open) (s.faults + doubt s.is_clean) s.in_transaction s.now
 
 -- the one row of `layout`, whose id is 1: version 2
 abbrev pub version_2 : List Row
@@ -63,10 +92,11 @@ abbrev pub HasOrder : Counts → Type 0
 HasOrder t = IsStrictlySortedBy row_cmp (map (λ (row : List ℕ × ℕ). row.0) t.rows)
 
 -- The tables stand for these deposits and these censuses, each with its tally and its flag, and for no others:
--- the schema is the archive's, `layout` names version 2,
+-- the schema is the archive's, no transaction is open, `layout` names version 2,
 -- and the rows of `deposits`, `censuses`, `census_rows` and `census_flags` are theirs, in this order, under the ids 1, 2, 3 and so on.
 pub record Holds (t : Tables) (k : Kept) : Type 0 where
   pub schema : t.schema ≡ archive_schema
+  pub committed : t.in_transaction ≡ false
   pub layout : t.layout ≡ version_2
   pub deposits : t.deposits ≡ rows_by deposit_cells 1 k.deposits
   pub censuses : t.censuses ≡ rows_by census_cells 1 k.censuses
@@ -86,6 +116,19 @@ pub record Holds (t : Tables) (k : Kept) : Type 0 where
 abbrev pub StaysLost : Tables → Tables → Type 0
 StaysLost old new = IsTrue new.is_sure → IsTrue old.is_sure
 
+-- the disk has failed in the call: the count rose
+abbrev pub HasFailed : Tables → Tables → Type 0
+HasFailed old new = MoreFaults old.faults new.faults
+
+-- A database that is sure stays sure, or the disk has failed in the call. No failure is forgotten.
+pub record IsLasting (old new : Tables) : Type 0 where
+  pub faults : old.faults ≤ new.faults
+  pub is_sure : IsTrue old.is_sure → IsTrue new.is_sure ⊎ HasFailed old new
+
+-- the same, as calls pass it on
+unfoldable pub Lasts : Tables → Tables → Type 0
+Lasts old new = IsLasting old new
+
 -- the tables stand for what they stood for
 abbrev pub Keeps : Tables → Tables → Type 0
 Keeps old new = (k : Kept) → IsTrue new.is_sure → Holds old k → Holds new k
@@ -102,7 +145,9 @@ AddsDeposit old new d = (k : Kept) → IsTrue new.is_sure → Holds old k → Ho
 abbrev pub AddsCensus : Tables → Tables → Tallied → Type 0
 AddsCensus old new t = (k : Kept) → IsTrue new.is_sure → Holds old k → Holds new (record k { censuses = k.censuses ++ t ∷ [] })
 
--- what each call keeps: a database that is sure after it was sure before it, and the capacity is the one chosen at opening
+-- what each call keeps: a database that is sure after it was sure before it, one that was sure before it is sure after it unless the disk
+-- failed in the call, and the capacity is the one chosen at opening
 pub record Goes (old new : Shelf) : Type 0 where
   pub was_sure : StaysLost old.tables new.tables
+  pub lasts : Lasts old.tables new.tables
   pub capacity : new.capacity ≡ old.capacity

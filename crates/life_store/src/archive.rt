@@ -1,6 +1,6 @@
 //! The archive, over any store.
 
-ghost use Rattle.std.specs.Prelude.{◌≡◌, ◌+◌, length, option_map, IfOk, IfSome, OnOk, OnErr};
+ghost use Rattle.std.specs.Prelude.{◌≡◌, ◌+◌, length, option_map, IsTrue, IfOk, IfSome, OnOk, OnErr};
 ghost use Rattle.sqlite.specs.Held.{state};
 ghost use Rattle.life_rle.specs.Record.{IsInside};
 ghost use Rattle.life_store.specs.Kept.{numbered, deposit_by, lines_after, kept_census, census_by, total_of};
@@ -14,7 +14,7 @@ use crate::reading::{
 use crate::{censuses, deposits, flags};
 use life_census::{Rows, Tally};
 use life_core::Rule;
-use sqlite::{Alter, Connection};
+use sqlite::{Alter, Connection, MemStore};
 use std::alloc::Global;
 use std::marker::Model;
 
@@ -216,9 +216,8 @@ impl<S: Alter> Archive<S> {
         Ok(id)
     }
 
-    /// The rows of the tally of the census of the number, in byte order of their codes. Nothing is said of a number that
-    /// is not kept.
-    pub fn rows_of(&mut self, alloc: Global, id: u64) -> Result<Rows, Unavailable>
+    /// The rows of the tally of a census that is kept, in byte order of their codes.
+    fn rows_kept(&mut self, alloc: Global, id: u64) -> Result<Rows, Unavailable>
         ensures goes { Goes self.old self.new }
         ensures same { Keeps self.old.tables self.new.tables }
         ensures value { Tells self.old.tables self.new.tables (λ k. IfOk result (λ rows. IfSome (numbered k.censuses id) (λ t. rows ≡ t.tally.rows))) }
@@ -228,6 +227,22 @@ impl<S: Alter> Archive<S> {
         };
         let rows = censuses::rows_of(&mut self.conn, place)?;
         all_rows(alloc, rows.as_slice())
+    }
+
+    /// The rows of the tally of the census of the number, in byte order of their codes, or none. A tally without rows is
+    /// kept by its census alone, so its flag is asked for first.
+    pub fn rows_of(&mut self, alloc: Global, id: u64) -> Result<Option<Rows>, Unavailable>
+        ensures goes { Goes self.old self.new }
+        ensures same { Keeps self.old.tables self.new.tables }
+        ensures value { Tells self.old.tables self.new.tables (λ k. IfOk result (λ rows. rows ≡ option_map (λ t. t.tally.rows) (numbered k.censuses id))) }
+    {
+        match self.flag_of(id)? {
+            None => Ok(None),
+            Some(_) => {
+                let rows = self.rows_kept(alloc, id)?;
+                Ok(Some(rows))
+            }
+        }
     }
 
     /// The flag of the census of the number, or none: whether the generation that it counted is steady.
@@ -252,5 +267,16 @@ impl<S: Alter> Archive<S> {
         let text = rule.text(alloc)?;
         let rows = censuses::total(&mut self.conn, text.as_bytes(), code)?;
         total_in(rows.as_slice())
+    }
+}
+
+impl Archive<MemStore> {
+    /// An archive in memory is sure, whatever was refused: no call finds its disk failed. So what the calls say of a database
+    /// that is sure after them holds of it outright. A law: calling it does nothing.
+    pub fn law_of_memory(&self)
+        ensures sure { IsTrue self.now.tables.is_sure }
+        ensures faults { self.now.tables.faults ≡ 0 }
+    {
+        let _ = &self.conn;
     }
 }

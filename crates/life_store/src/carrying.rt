@@ -234,6 +234,7 @@ fn carry_at_once<S: Alter>(alloc: Global, conn: &mut Connection<S>) -> Result<()
     requires { conn.old.in_transaction ≡ false }
     ensures carried { HasCleanDisk (state S.Store conn.new) → (p : Parts) → AllByRecursion IsFiled p.deposits → StandsFirst (state S.Store conn.old).now p → p.layout ≡ version_1 → OnOk result (IsCarried p (state S.Store conn.new).now) }
     ensures undone { HasCleanDisk (state S.Store conn.new) → (IsTrue (state S.Store conn.old).is_open → (state S.Store conn.old).now ≡ (state S.Store conn.old).committed) → OnErr result (IsSeenAgain (state S.Store conn.old) (state S.Store conn.new)) }
+    ensures ended { OnOk result (conn.new.in_transaction ≡ false) }
     ensures was_open { HasCleanDisk (state S.Store conn.new) → IsTrue (state S.Store conn.new).is_open → IsTrue (state S.Store conn.old).is_open }
     ensures clean { doubt (state S.Store conn.old).is_clean ≤ doubt (state S.Store conn.new).is_clean }
 {
@@ -254,6 +255,7 @@ pub(crate) fn carry_over<S: Alter>(
 ) -> Result<(), Unavailable>
     ensures carried { HasCleanDisk (state S.Store conn.new) → (p : Parts) → AllByRecursion IsFiled p.deposits → StandsFirst (state S.Store conn.old).now p → p.layout ≡ version_1 → OnOk result (IsCarried p (state S.Store conn.new).now) }
     ensures undone { HasCleanDisk (state S.Store conn.new) → OnErr result (IsSeenAgain (state S.Store conn.old) (state S.Store conn.new)) }
+    ensures ended { OnOk result (conn.new.in_transaction ≡ false) }
     ensures was_open { HasCleanDisk (state S.Store conn.new) → IsTrue (state S.Store conn.new).is_open → IsTrue (state S.Store conn.old).is_open }
     ensures clean { doubt (state S.Store conn.old).is_clean ≤ doubt (state S.Store conn.new).is_clean }
 {

@@ -11,7 +11,7 @@ ghost use Rattle.life_store.specs.ReadingState.{newest_rows, ShowsCensus, ShowsT
 ghost use Rattle.life_store.specs.Kept.{Kept, Tallied, numbered, tallied_from, total_of};
 ghost use Rattle.life_store.specs.CensusesState.{Parts, Stands, Means, with_census, with_flag};
 ghost use Rattle.life_store.specs.Stored.{tagged};
-ghost use Rattle.life_store.specs.Tables.{tables_of, HasOrder, Holds, StaysLost, Keeps, Tells};
+ghost use Rattle.life_store.specs.Tables.{tables_of, HasOrder, Holds, StaysLost, Lasts, Keeps, Tells};
 
 use crate::asking::{ask, text, whole};
 use crate::fault::Unavailable;
@@ -23,6 +23,7 @@ use sqlite::{Alter, Connection, Error, Row, Transaction};
 /// The greatest number.
 pub(crate) fn newest<S: Alter>(conn: &mut Connection<S>) -> Result<Vec<Row>, Error>
     ensures lost { StaysLost (tables_of (state S.Store conn.old)) (tables_of (state S.Store conn.new)) }
+    ensures lasts { Lasts (tables_of (state S.Store conn.old)) (tables_of (state S.Store conn.new)) }
     ensures keeps { Keeps (tables_of (state S.Store conn.old)) (tables_of (state S.Store conn.new)) }
     ensures tells { Tells (tables_of (state S.Store conn.old)) (tables_of (state S.Store conn.new)) (λ k. IfOk result (λ rows. rows.items ≡ newest_rows (length k.censuses))) }
 {
@@ -36,6 +37,7 @@ pub(crate) fn newest<S: Alter>(conn: &mut Connection<S>) -> Result<Vec<Row>, Err
 /// The census of the number.
 pub(crate) fn show<S: Alter>(conn: &mut Connection<S>, id: i64) -> Result<Vec<Row>, Error>
     ensures lost { StaysLost (tables_of (state S.Store conn.old)) (tables_of (state S.Store conn.new)) }
+    ensures lasts { Lasts (tables_of (state S.Store conn.old)) (tables_of (state S.Store conn.new)) }
     ensures keeps { Keeps (tables_of (state S.Store conn.old)) (tables_of (state S.Store conn.new)) }
     ensures tells { (n : ℕ) → id ≡ pos n → Tells (tables_of (state S.Store conn.old)) (tables_of (state S.Store conn.new)) (λ k. IfOk result (λ rows. ShowsCensus (option_map (λ t. (n, t)) (numbered k.censuses n)) rows.items)) }
 {
@@ -53,6 +55,7 @@ pub(crate) fn find<'a, S: Alter>(
     token: &'a [u8],
 ) -> Result<Vec<Row>, Error>
     ensures lost { StaysLost (tables_of (state S.Store conn.old)) (tables_of (state S.Store conn.new)) }
+    ensures lasts { Lasts (tables_of (state S.Store conn.old)) (tables_of (state S.Store conn.new)) }
     ensures keeps { Keeps (tables_of (state S.Store conn.old)) (tables_of (state S.Store conn.new)) }
     ensures tells { Tells (tables_of (state S.Store conn.old)) (tables_of (state S.Store conn.new)) (λ k. IfOk result (λ rows. ShowsCensus (tallied_from 1 member.now token.now k.censuses) rows.items)) }
 {
@@ -66,6 +69,7 @@ pub(crate) fn find<'a, S: Alter>(
 /// The rows of the tally of the census of the number.
 pub(crate) fn rows_of<S: Alter>(conn: &mut Connection<S>, id: i64) -> Result<Vec<Row>, Error>
     ensures lost { StaysLost (tables_of (state S.Store conn.old)) (tables_of (state S.Store conn.new)) }
+    ensures lasts { Lasts (tables_of (state S.Store conn.old)) (tables_of (state S.Store conn.new)) }
     ensures keeps { Keeps (tables_of (state S.Store conn.old)) (tables_of (state S.Store conn.new)) }
     ensures tells { (n : ℕ) → id ≡ pos n → Tells (tables_of (state S.Store conn.old)) (tables_of (state S.Store conn.new)) (λ k. IfOk result (λ rows. IfSome (numbered k.censuses n) (λ t. rows.items ≡ map row_shown t.tally.rows))) }
 {
@@ -89,6 +93,7 @@ fn insert_census<S: Alter>(
     ensures inside { HasCleanDisk (state S.Store tx.new.conn.now) → IsTrue tx.old.conn.now.in_transaction → OnOk result (IsTrue tx.new.conn.now.in_transaction) }
     ensures kept { HasCleanDisk (state S.Store tx.new.conn.now) → IsTrue tx.old.conn.now.in_transaction → KeepsCommit (state S.Store tx.old.conn.now) (state S.Store tx.new.conn.now) }
     ensures clean { doubt (state S.Store tx.old.conn.now).is_clean ≤ doubt (state S.Store tx.new.conn.now).is_clean }
+    ensures lasts { Lasts (tables_of (state S.Store tx.old.conn.now)) (tables_of (state S.Store tx.new.conn.now)) }
     ensures few { OnOk result (id < 2 ^ 63) }
 {
     let (Ok(id), Ok(deposit), Ok(total), Ok(unresolved)) = (
@@ -127,6 +132,7 @@ fn insert_row<S: Alter>(
     ensures inside { HasCleanDisk (state S.Store tx.new.conn.now) → IsTrue tx.old.conn.now.in_transaction → OnOk result (IsTrue tx.new.conn.now.in_transaction) }
     ensures kept { HasCleanDisk (state S.Store tx.new.conn.now) → IsTrue tx.old.conn.now.in_transaction → KeepsCommit (state S.Store tx.old.conn.now) (state S.Store tx.new.conn.now) }
     ensures clean { doubt (state S.Store tx.old.conn.now).is_clean ≤ doubt (state S.Store tx.new.conn.now).is_clean }
+    ensures lasts { Lasts (tables_of (state S.Store tx.old.conn.now)) (tables_of (state S.Store tx.new.conn.now)) }
 {
     let (Ok(id), Ok(count)) = (i64::try_from(id), i64::try_from(row.count)) else {
         return Err(Unavailable);
@@ -150,6 +156,7 @@ fn insert_rows<S: Alter>(
     ensures inside { HasCleanDisk (state S.Store tx.new.conn.now) → IsTrue tx.old.conn.now.in_transaction → OnOk result (IsTrue tx.new.conn.now.in_transaction) }
     ensures kept { HasCleanDisk (state S.Store tx.new.conn.now) → IsTrue tx.old.conn.now.in_transaction → KeepsCommit (state S.Store tx.old.conn.now) (state S.Store tx.new.conn.now) }
     ensures clean { doubt (state S.Store tx.old.conn.now).is_clean ≤ doubt (state S.Store tx.new.conn.now).is_clean }
+    ensures lasts { Lasts (tables_of (state S.Store tx.old.conn.now)) (tables_of (state S.Store tx.new.conn.now)) }
 {
     for row in rows {
         insert_row(tx, id, row)?;
@@ -169,6 +176,7 @@ fn insert_tally<S: Alter>(
     ensures inside { HasCleanDisk (state S.Store tx.new.conn.now) → IsTrue tx.old.conn.now.in_transaction → OnOk result (IsTrue tx.new.conn.now.in_transaction) }
     ensures kept { HasCleanDisk (state S.Store tx.new.conn.now) → IsTrue tx.old.conn.now.in_transaction → KeepsCommit (state S.Store tx.old.conn.now) (state S.Store tx.new.conn.now) }
     ensures clean { doubt (state S.Store tx.old.conn.now).is_clean ≤ doubt (state S.Store tx.new.conn.now).is_clean }
+    ensures lasts { Lasts (tables_of (state S.Store tx.old.conn.now)) (tables_of (state S.Store tx.new.conn.now)) }
 {
     insert_rows(tx, id, tally.rows.as_slice())
 }
@@ -187,6 +195,7 @@ fn insert_with_rows<S: Alter>(
     ensures inside { HasCleanDisk (state S.Store tx.new.conn.now) → IsTrue tx.old.conn.now.in_transaction → OnOk result (IsTrue tx.new.conn.now.in_transaction) }
     ensures kept { HasCleanDisk (state S.Store tx.new.conn.now) → IsTrue tx.old.conn.now.in_transaction → KeepsCommit (state S.Store tx.old.conn.now) (state S.Store tx.new.conn.now) }
     ensures clean { doubt (state S.Store tx.old.conn.now).is_clean ≤ doubt (state S.Store tx.new.conn.now).is_clean }
+    ensures lasts { Lasts (tables_of (state S.Store tx.old.conn.now)) (tables_of (state S.Store tx.new.conn.now)) }
     ensures few { OnOk result (id < 2 ^ 63) }
 {
     insert_census(tx, id, census, tally)?;
@@ -208,6 +217,7 @@ fn insert_with_flag<S: Alter>(
     ensures inside { HasCleanDisk (state S.Store tx.new.conn.now) → IsTrue tx.old.conn.now.in_transaction → OnOk result (IsTrue tx.new.conn.now.in_transaction) }
     ensures kept { HasCleanDisk (state S.Store tx.new.conn.now) → IsTrue tx.old.conn.now.in_transaction → KeepsCommit (state S.Store tx.old.conn.now) (state S.Store tx.new.conn.now) }
     ensures clean { doubt (state S.Store tx.old.conn.now).is_clean ≤ doubt (state S.Store tx.new.conn.now).is_clean }
+    ensures lasts { Lasts (tables_of (state S.Store tx.old.conn.now)) (tables_of (state S.Store tx.new.conn.now)) }
     ensures few { OnOk result (id < 2 ^ 63) }
 {
     insert_with_rows(tx, id, census, tally)?;
@@ -229,6 +239,7 @@ fn insert_all<S: Alter>(
     ensures few { OnOk result (id < 2 ^ 63) }
     ensures was_open { HasCleanDisk (state S.Store conn.new) → IsTrue (state S.Store conn.new).is_open → IsTrue (state S.Store conn.old).is_open }
     ensures clean { doubt (state S.Store conn.old).is_clean ≤ doubt (state S.Store conn.new).is_clean }
+    ensures lasts { Lasts (tables_of (state S.Store conn.old)) (tables_of (state S.Store conn.new)) }
 {
     let mut tx = conn.transaction();
     match insert_with_flag(&mut tx, id, census, tally, steady) {
@@ -250,6 +261,7 @@ pub(crate) fn insert<S: Alter>(
 ) -> Result<(), Unavailable>
     requires { HasOrder tally.now }
     ensures lost { StaysLost (tables_of (state S.Store conn.old)) (tables_of (state S.Store conn.new)) }
+    ensures lasts { Lasts (tables_of (state S.Store conn.old)) (tables_of (state S.Store conn.new)) }
     ensures ok { OnOk result ((k : Kept) → IsTrue (tables_of (state S.Store conn.new)).is_sure → Holds (tables_of (state S.Store conn.old)) k → id ≡ length k.censuses + 1 → Holds (tables_of (state S.Store conn.new)) (record k { censuses = k.censuses ++ record { census = census.now; tally = tally.now; steady = steady } ∷ [] })) }
     ensures err { OnErr result (Keeps (tables_of (state S.Store conn.old)) (tables_of (state S.Store conn.new))) }
 {
@@ -266,6 +278,7 @@ pub(crate) fn total<'a, S: Alter>(
     code: &'a [u8],
 ) -> Result<Vec<Row>, Error>
     ensures lost { StaysLost (tables_of (state S.Store conn.old)) (tables_of (state S.Store conn.new)) }
+    ensures lasts { Lasts (tables_of (state S.Store conn.old)) (tables_of (state S.Store conn.new)) }
     ensures keeps { Keeps (tables_of (state S.Store conn.old)) (tables_of (state S.Store conn.new)) }
     ensures tells { (r : RuleSets) → IsRule r → rule.now ≡ rule_text r → Tells (tables_of (state S.Store conn.old)) (tables_of (state S.Store conn.new)) (λ k. IfOk result (λ rows. ShowsTotal (total_of k r code.now) rows.items)) }
 {

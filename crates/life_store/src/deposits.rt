@@ -7,7 +7,7 @@ ghost use Rattle.life_rle.specs.Record.{IsInside};
 ghost use Rattle.life_store.specs.ReadingState.{newest_rows, ShowsDeposit, line_shown};
 ghost use Rattle.life_store.specs.Kept.{Kept, numbered, deposit_by, lines_after};
 ghost use Rattle.life_store.specs.DepositsState.{AreValuesOf};
-ghost use Rattle.life_store.specs.Tables.{tables_of, Holds, StaysLost, Keeps, Tells};
+ghost use Rattle.life_store.specs.Tables.{tables_of, Holds, StaysLost, Lasts, Keeps, Tells};
 
 use crate::asking::{ask, blob, text, whole, write};
 use crate::fault::Unavailable;
@@ -18,6 +18,7 @@ use std::alloc::Global;
 /// The greatest number.
 pub(crate) fn newest<S: Alter>(conn: &mut Connection<S>) -> Result<Vec<Row>, Error>
     ensures lost { StaysLost (tables_of (state S.Store conn.old)) (tables_of (state S.Store conn.new)) }
+    ensures lasts { Lasts (tables_of (state S.Store conn.old)) (tables_of (state S.Store conn.new)) }
     ensures keeps { Keeps (tables_of (state S.Store conn.old)) (tables_of (state S.Store conn.new)) }
     ensures tells { Tells (tables_of (state S.Store conn.old)) (tables_of (state S.Store conn.new)) (λ k. IfOk result (λ rows. rows.items ≡ newest_rows (length k.deposits))) }
 {
@@ -31,6 +32,7 @@ pub(crate) fn newest<S: Alter>(conn: &mut Connection<S>) -> Result<Vec<Row>, Err
 /// The deposit of the number.
 pub(crate) fn show<S: Alter>(conn: &mut Connection<S>, id: i64) -> Result<Vec<Row>, Error>
     ensures lost { StaysLost (tables_of (state S.Store conn.old)) (tables_of (state S.Store conn.new)) }
+    ensures lasts { Lasts (tables_of (state S.Store conn.old)) (tables_of (state S.Store conn.new)) }
     ensures keeps { Keeps (tables_of (state S.Store conn.old)) (tables_of (state S.Store conn.new)) }
     ensures tells { (n : ℕ) → id ≡ pos n → Tells (tables_of (state S.Store conn.old)) (tables_of (state S.Store conn.new)) (λ k. IfOk result (λ rows. ShowsDeposit (option_map (λ d. record { id = n; deposit = d }) (numbered k.deposits n)) rows.items)) }
 {
@@ -48,6 +50,7 @@ pub(crate) fn find<'a, S: Alter>(
     token: &'a [u8],
 ) -> Result<Vec<Row>, Error>
     ensures lost { StaysLost (tables_of (state S.Store conn.old)) (tables_of (state S.Store conn.new)) }
+    ensures lasts { Lasts (tables_of (state S.Store conn.old)) (tables_of (state S.Store conn.new)) }
     ensures keeps { Keeps (tables_of (state S.Store conn.old)) (tables_of (state S.Store conn.new)) }
     ensures tells { Tells (tables_of (state S.Store conn.old)) (tables_of (state S.Store conn.new)) (λ k. IfOk result (λ rows. ShowsDeposit (deposit_by member.now token.now k.deposits) rows.items)) }
 {
@@ -61,6 +64,7 @@ pub(crate) fn find<'a, S: Alter>(
 /// The first hundred deposits with a greater number.
 pub(crate) fn list_after<S: Alter>(conn: &mut Connection<S>, id: i64) -> Result<Vec<Row>, Error>
     ensures lost { StaysLost (tables_of (state S.Store conn.old)) (tables_of (state S.Store conn.new)) }
+    ensures lasts { Lasts (tables_of (state S.Store conn.old)) (tables_of (state S.Store conn.new)) }
     ensures keeps { Keeps (tables_of (state S.Store conn.old)) (tables_of (state S.Store conn.new)) }
     ensures tells { (n : ℕ) → id ≡ pos n → Tells (tables_of (state S.Store conn.old)) (tables_of (state S.Store conn.new)) (λ k. IfOk result (λ rows. rows.items ≡ map line_shown (lines_after n k.deposits))) }
 {
@@ -107,6 +111,7 @@ fn insert<S: Alter>(
 ) -> Result<usize, Error>
     requires { AreValuesOf deposit.now rule.now population file.now }
     ensures lost { StaysLost (tables_of (state S.Store conn.old)) (tables_of (state S.Store conn.new)) }
+    ensures lasts { Lasts (tables_of (state S.Store conn.old)) (tables_of (state S.Store conn.new)) }
     ensures ok { OnOk result ((k : Kept) → IsTrue (tables_of (state S.Store conn.new)).is_sure → Holds (tables_of (state S.Store conn.old)) k → id ≡ pos (length k.deposits + 1) → Holds (tables_of (state S.Store conn.new)) (record k { deposits = k.deposits ++ deposit.now ∷ [] })) }
     ensures err { OnErr result (Keeps (tables_of (state S.Store conn.old)) (tables_of (state S.Store conn.new))) }
 {
@@ -133,6 +138,7 @@ pub(crate) fn add<S: Alter>(
 ) -> Result<(), Unavailable>
     requires { IsInside 1024 deposit.now.content.cells }
     ensures lost { StaysLost (tables_of (state S.Store conn.old)) (tables_of (state S.Store conn.new)) }
+    ensures lasts { Lasts (tables_of (state S.Store conn.old)) (tables_of (state S.Store conn.new)) }
     ensures ok { OnOk result ((k : Kept) → IsTrue (tables_of (state S.Store conn.new)).is_sure → Holds (tables_of (state S.Store conn.old)) k → id ≡ pos (length k.deposits + 1) → Holds (tables_of (state S.Store conn.new)) (record k { deposits = k.deposits ++ deposit.now ∷ [] })) }
     ensures err { OnErr result (Keeps (tables_of (state S.Store conn.old)) (tables_of (state S.Store conn.new))) }
 {

@@ -1,7 +1,10 @@
-use Rattle.std.proofs.Common.{arith}
+use Rattle.std.proofs.Common.{arith, rules}
 use Rattle.std.proofs.lemmas.Grind.{common_steps}
-use Rattle.life_desk.proofs.Runs.{answered_append}
+use Rattle.life_desk.proofs.Runs.{answered_none, answered_append}
 use Rattle.life_desk.proofs.desk.answer_each.Goals as goal
+
+pub loop-request-init : goal.loop-request-init
+loop-request-init g c = record { can = tt; ends = tt; answered = rw c.in-Ok.ensures.items (answered_none _); room = search rules; count = search rules }
 
 pub loop-request-preserved : goal.loop-request-preserved
 loop-request-preserved g c = record {

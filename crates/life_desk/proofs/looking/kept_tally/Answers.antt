@@ -1,9 +1,11 @@
-use Rattle.std.proofs.Common.{sym, ◌∙◌}
-use Rattle.life_desk.proofs.Meaning.{whole}
+use Rattle.life_store.proofs.LastingLemmas.{goes_then}
 use Rattle.life_desk.proofs.looking.kept_tally.Goals as goal
 
-pub returns-in_ok-rows-in-Some-clause-value : goal.returns-in_ok-rows-in-Some-clause-value
-returns-in_ok-rows-in-Some-clause-value g c = λ A sure m.
-    let read = c.in_ok-rows-in-Some.ensures in
-    let s1 = read.goes.was_sure sure in
-    whole A _ _ _ (sym c.in-Some.is ∙ c.in_ok-census_of.ensures.value A s1 m) (read.value A sure (c.in_ok-census_of.ensures.same A s1 m))
+pub returns-in_err-rows_of-in-Some-clause-goes : goal.returns-in_err-rows_of-in-Some-clause-goes
+returns-in_err-rows_of-in-Some-clause-goes g c = goes_then _ _ _ c.census_of.ensures.goes c.rows_of.ensures.goes
+
+pub returns-in-None-2-clause-goes : goal.returns-in-None-2-clause-goes
+returns-in-None-2-clause-goes g c = goes_then _ _ _ c.census_of.ensures.goes c.rows_of.ensures.goes
+
+pub returns-in-Some-2-clause-goes : goal.returns-in-Some-2-clause-goes
+returns-in-Some-2-clause-goes g c = goes_then _ _ _ c.census_of.ensures.goes c.rows_of.ensures.goes

@@ -2,7 +2,7 @@ use Rattle.std.proofs.Common.{◌∙◌}
 use Rattle.life_pages.specs.MessageState.{held_limit}
 use Rattle.life_pages.proofs.MessageStanding.{wants_more}
 use Rattle.life_pages.proofs.ServingReading.{reading_went, reading_fed, fed_end, paused, reading_failed, reading_cut}
-use Rattle.life_pages.proofs.ServingPassing.{many_fed}
+use Rattle.life_pages.proofs.ServingPassing.{many_fed, most_fed, most_weaker, most_none, most_blank}
 use Rattle.life_pages.proofs.ServingOutcome.{outcome_ended, outcome_end, outcome_blank, one_more, rest_fits, below_same, still_room}
 use Rattle.life_pages.proofs.serving.serve_stream.Goals as goal
 
@@ -18,7 +18,7 @@ pub returns-then-taken-eq-TAKES-clause-outcome : goal.returns-then-taken-eq-TAKE
 returns-then-taken-eq-TAKES-clause-outcome g c =
     let s = rw c.in-Ok-false.field-0-test at c.in-Ok-false.ensures.served in
     let r = reading_went _ _ _ _ _ _ _ _ _ _ _ c.takes.invariant.reading s.0 in
-    (paused _ _ _ _ _ _ _ _ r s.1.0, rw c.if-taken-eq-TAKES.true at c.takes.invariant.many)
+    (paused _ _ _ _ _ _ _ _ r s.1.0 s.1.2, rw c.if-taken-eq-TAKES.true at c.takes.invariant.many)
 
 pub returns-then-is_long_blank-clause-outcome : goal.returns-then-is_long_blank-clause-outcome
 returns-then-is_long_blank-clause-outcome g c =
@@ -27,6 +27,9 @@ returns-then-is_long_blank-clause-outcome g c =
     let blank = rw c.deref.ensures.value at (c.is_long_blank.ensures.blank c.if-is_long_blank.true) in
     let never = rw c.deref.ensures.value at (c.is_long_blank.ensures.never c.if-is_long_blank.true) in
     outcome_blank _ _ _ _ _ _ _ _ _ _ _ _ _ r blank never c.takes.invariant.many (rest_fits _ c.takes.invariant.few) c.serve_blank.ensures.end
+
+pub returns-then-is_long_blank-clause-most : goal.returns-then-is_long_blank-clause-most
+returns-then-is_long_blank-clause-most g c = most_blank _ _ _ _ c.takes.invariant.few c.takes.invariant.most c.serve_blank.ensures.most
 
 pub take_more-requires-clause-space : goal.take_more-requires-clause-space
 take_more-requires-clause-space g c =
@@ -51,7 +54,7 @@ pub returns-in-Err-take_more-clause-outcome : goal.returns-in-Err-take_more-clau
 returns-in-Err-take_more-clause-outcome g c =
     let s = rw c.in-Ok-false.field-0-test at c.in-Ok-false.ensures.served in
     let r = reading_went _ _ _ _ _ _ _ _ _ _ _ c.takes.invariant.reading s.0 in
-    paused _ _ _ _ _ _ _ _ (reading_failed _ _ _ _ _ c.serve_held.new.held.items _ _ _ _ r c.in-Err-take_more.ensures.taken.0) s.1.0
+    paused _ _ _ _ _ _ _ _ (reading_failed _ _ _ _ _ c.serve_held.new.held.items _ _ _ _ r c.in-Err-take_more.ensures.taken.0) s.1.0 s.1.2
 
 pub takes-preserved : goal.takes-preserved
 takes-preserved g c =
@@ -60,6 +63,7 @@ takes-preserved g c =
     record {
       reading = reading_fed _ _ _ _ _ _ _ _ _ _ _ r c.in-Ok.ensures.taken;
       many = many_fed _ _ _ _ _ _ _ c.takes.invariant.many c.in-Ok.ensures.taken c.in-Ok.field-0-test.1;
+      most = most_fed _ _ _ _ _ _ _ c.takes.invariant.most c.in-Ok.ensures.taken c.in-Ok.ensures.most;
       few = one_more _ c.takes.invariant.few c.if-taken-eq-TAKES.false;
       routes = c.takes.invariant.routes;
       room = still_room _ _ _ c.takes.invariant.room c.serve_held.ensures.room c.take_more.ensures.room;

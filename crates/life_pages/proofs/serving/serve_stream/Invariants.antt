@@ -1,16 +1,18 @@
-use Rattle.std.proofs.Common.{◌≡◌, ◌-◌, ◌≤◌, vec_capacity}
+use Rattle.std.proofs.Common.{◌≡◌, ◌-◌, ◌*◌, ◌≤◌, vec_capacity}
 use Rattle.life_pages.specs.Route.{page_rows}
 use Rattle.life_pages.specs.Message.{AnswersMessage}
 use Rattle.life_pages.specs.MessageState.{held_limit, WantsUntil}
 use Rattle.life_pages.specs.AnswerState.{HasRoom}
 use Rattle.life_pages.specs.Serving.{LosesAtLeast}
-use Rattle.life_pages.specs.ServingState.{most_takes}
+use Rattle.life_pages.specs.ServingState.{most_takes, most_taken}
+use Rattle.life_rle.specs.Stream.{LosesUpTo}
 use Rattle.life_pages.proofs.ServingReading.{Reading}
 use Rattle.life_pages.proofs.serving.serve_stream.Given as goal
 
-pub record Going (r m f p h d i o b : Type 0) : Type 0 where
+pub record Going (r m t f p h d i o b : Type 0) : Type 0 where
   pub reading : r
   pub many : m
+  pub most : t
   pub few : f
   pub routes : p
   pub room : h
@@ -23,6 +25,7 @@ abbrev pub invariant-takes : goal.invariant-takes
 invariant-takes g l = Going
     (Reading (AnswersMessage g.D.Desk.answers) (g.I.Inlet.to_come l.fn.input) (g.I.Inlet.to_come l.input) l.ready.held.items l.fn.desk l.desk (g.O.Outlet.already l.fn.output) (g.O.Outlet.already l.output))
     (LosesAtLeast l.taken (g.I.Inlet.to_come l.fn.input) (g.I.Inlet.to_come l.input))
+    (LosesUpTo (l.taken * most_taken) (g.I.Inlet.to_come l.fn.input) (g.I.Inlet.to_come l.input))
     (l.taken ≤ most_takes)
     (l.ready.routes ≡ page_rows)
     (held_limit ≤ vec_capacity l.ready.held)

@@ -4,6 +4,7 @@ use Rattle.sqlite.specs.Held.{state}
 use Rattle.life_store.specs.Kept.{Tallied}
 use Rattle.life_store.specs.CensusesState.{Stands, with_census}
 use Rattle.life_store.proofs.CensusLemmas.{keeps_then}
+use Rattle.life_store.proofs.LastingLemmas.{lasts_then}
 use Rattle.life_store.proofs.censuses.insert_with_flag.Goals as goal
 
 pub returns-clause-added : goal.returns-clause-added
@@ -21,3 +22,6 @@ returns-clause-kept g c clean inside =
     let middle = state g.S.Store c.insert_with_rows.new.tx.conn.now in
     let clean_2 : HasCleanDisk middle = omega (arith, c.insert.ensures.clean, clean) in
     keeps_then (state g.S.Store c.args.tx.now.conn.now) middle (state g.S.Store c.insert.new.tx.conn.now) (c.insert_with_rows.ensures.kept clean_2 inside) (c.insert.ensures.kept clean (c.in_ok-insert_with_rows.ensures.inside clean_2 inside))
+
+pub returns-clause-lasts : goal.returns-clause-lasts
+returns-clause-lasts g c = lasts_then _ _ _ c.insert_with_rows.ensures.lasts c.insert.ensures.lasts

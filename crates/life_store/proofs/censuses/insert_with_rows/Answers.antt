@@ -4,6 +4,7 @@ use Rattle.sqlite.specs.Held.{state}
 use Rattle.life_store.specs.Kept.{Tallied}
 use Rattle.life_store.specs.CensusesState.{Stands}
 use Rattle.life_store.proofs.CensusLemmas.{keeps_then}
+use Rattle.life_store.proofs.LastingLemmas.{lasts_then}
 use Rattle.life_store.proofs.censuses.insert_with_rows.Goals as goal
 
 pub returns-clause-added : goal.returns-clause-added
@@ -20,3 +21,6 @@ returns-clause-kept g c clean inside =
     let middle = state g.S.Store c.insert_census.new.tx.conn.now in
     let clean_2 : HasCleanDisk middle = omega (arith, c.insert_tally.ensures.clean, clean) in
     keeps_then (state g.S.Store c.args.tx.now.conn.now) middle (state g.S.Store c.insert_tally.new.tx.conn.now) (c.insert_census.ensures.kept clean_2 inside) (c.insert_tally.ensures.kept clean (c.in_ok-insert_census.ensures.inside clean_2 inside))
+
+pub returns-clause-lasts : goal.returns-clause-lasts
+returns-clause-lasts g c = lasts_then _ _ _ c.insert_census.ensures.lasts c.insert_tally.ensures.lasts

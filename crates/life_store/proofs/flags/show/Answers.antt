@@ -19,6 +19,7 @@ returns g c =
     let it = asked old new c.ask.ensures.clean flag_text _ flag_is.plain (λ k rows. ⊤) (λ k rows holds shown. tt) c.ask.result c.ask.ensures.shown c.ask.ensures.refused in
     record {
       lost = it.lost;
+      lasts = c.ask.ensures.lasts;
       keeps = it.keeps;
       tells = λ n is. (asked_of old new c.ask.ensures.clean flag_text c.args.id n is flag_is.plain (λ k rows. ShowsFlag (option_map (λ t. t.steady) (numbered k.censuses n)) rows) (λ k rows holds. shows_flag old new k rows holds n) c.ask.result (λ clean. rw id at (c.ask.ensures.shown clean)) c.ask.ensures.refused).tells;
     }

@@ -18,7 +18,7 @@ pub returns-in-Ok-clause-fresh : goal.returns-in-Ok-clause-fresh
 returns-in-Ok-clause-fresh g c clean laid =
     let new = state g.S.Store c.lay_out.new.conn in
     let made = c.in-Ok.ensures.laid clean laid in
-    (sure_from new clean made.0, new_holds new made.1)
+    (sure_from new clean made.0, new_holds new made.3 made.1)
 
 pub returns-in-Ok-clause-clean : goal.returns-in-Ok-clause-clean
 returns-in-Ok-clause-clean g c = c.lay_out.ensures.clean

@@ -11,7 +11,7 @@ use Rattle.life_store.proofs.opening.take_up.Goals as goal
 
 pub returns-in-Ok-Second-clause-keeps : goal.returns-in-Ok-Second-clause-keeps
 returns-in-Ok-Second-clause-keeps g c k sure holds =
-    held_again (state g.S.Store c.args.conn.now) (state g.S.Store c.version_of.new.conn) k (c.in-Ok-Second.ensures.same archive_schema second_own (inl (refl, refl)) sure holds.schema) holds
+    held_again (state g.S.Store c.args.conn.now) (state g.S.Store c.version_of.new.conn) k c.version_of.ensures.mode (c.in-Ok-Second.ensures.same archive_schema second_own (inl (refl, refl)) sure holds.schema) holds
 
 pub returns-in-Ok-Second-clause-carries : goal.returns-in-Ok-Second-clause-carries
 returns-in-Ok-Second-clause-carries g c k sure holds =
@@ -34,7 +34,7 @@ returns-in-Ok-clause-carries g c k sure holds =
     let clean : HasCleanDisk middle = omega (arith, c.carry_over.ensures.clean, now.0) in
     let was = sure_from middle clean (c.carry_over.ensures.was_open now.0 now.1) in
     let stands = first_held_again old middle k (c.in-Ok-First.ensures.same first_schema first_own (inr (refl, refl)) was holds.schema) holds in
-    carried_holds middle new k stands (c.in-Ok.ensures.carried now.0 (first_parts k) holds.filed (first_stands middle k stands) refl)
+    carried_holds middle new k c.in-Ok.ensures.ended stands (c.in-Ok.ensures.carried now.0 (first_parts k) holds.filed (first_stands middle k stands) refl)
 
 pub returns-in-Ok-clause-known : goal.returns-in-Ok-clause-known
 returns-in-Ok-clause-known g c schema own versions known sure have =

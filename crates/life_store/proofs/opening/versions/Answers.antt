@@ -16,4 +16,5 @@ returns g c =
       tells = λ schema own versions known sure have.
           told new version_text [] old (λ rows. (rows ≡ column_of own) ↔ (versions ≡ own)) c.ask.result (λ rows. finds_own old new schema own versions rows known have) c.ask.ensures.shown sure;
       clean = c.ask.ensures.clean;
+      mode = c.ask.ensures.mode;
     }

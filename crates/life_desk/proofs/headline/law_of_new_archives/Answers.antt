@@ -1,0 +1,5 @@
+use Rattle.life_desk.proofs.Meaning.{new_is_empty}
+use Rattle.life_desk.proofs.headline.law_of_new_archives.Goals as goal
+
+pub returns : goal.returns
+returns c = new_is_empty

@@ -1,0 +1,79 @@
+-- How long a database that is sure stays sure.
+use Rattle.std.proofs.Common.{arith, ◌≡◌, ◌≤◌, ◌+◌, ◌-◌, ◌^◌, ◌⊎◌, inl, inr, ℕ, Bool, true, false, refl, sym, subst, ◌∙◌, min}
+use Rattle.std.specs.Prelude.{IsTrue}
+use Rattle.std.proofs.lemmas.Bool.{cases_Bool}
+use Rattle.sqlite_trees.specs.Tree.{Trees}
+use Rattle.sqlite_trees.specs.View.{doubt}
+use Rattle.sqlite.specs.State.{State, HasCleanDisk, Survives}
+use Rattle.sqlite_trees.specs.declared.store.Store.{Ghosts}
+use Rattle.sqlite.specs.Held.{Held, state}
+use Rattle.life_store.specs.Tables.{Tables, Shelf, tables_of, Lasts, Goes}
+use Rattle.life_store.proofs.KeepLemmas.{sure_is, sure_from}
+
+lasts_same : (old new : Tables) → new.faults ≡ old.faults → new.is_sure ≡ old.is_sure → Lasts old new
+unfolding Lasts
+lasts_same old new faults same = record { faults = omega (arith, faults); is_sure = λ sure. inl (same ∙ sure) }
+
+pub lasts_none : (t : Tables) → Lasts t t
+lasts_none t = lasts_same t t refl refl
+
+more_later : (a b c top : ℕ) → min (a + 1) top ≤ b → b ≤ c → min (a + 1) top ≤ c
+more_later a b c top more later = omega (arith, more, later)
+
+more_before : (a b c top : ℕ) → a ≤ b → min (b + 1) top ≤ c → min (a + 1) top ≤ c
+more_before a b c top later more = omega (arith, more, later)
+
+pub lasts_then : (a b c : Tables) → Lasts a b → Lasts b c → Lasts a c
+unfolding Lasts
+lasts_then a b c first second = record {
+  faults = omega (arith, first.faults, second.faults);
+  is_sure = λ sure. elim (first.is_sure sure) [
+    | inl still ↦ elim (second.is_sure still) [
+      | inl last ↦ inl last
+      | inr more ↦ inr (more_before a.faults b.faults c.faults (2 ^ 64 - 1) first.faults more)
+    ]
+    | inr more ↦ inr (more_later a.faults b.faults c.faults (2 ^ 64 - 1) more second.faults)
+  ];
+}
+
+clean_or_not : (b : Bool) → (doubt b ≡ 0) ⊎ (doubt b ≡ 1)
+unfolding doubt
+clean_or_not true = inl refl
+clean_or_not false = inr refl
+
+count_in_doubt : (a b m n top : ℕ) → a ≤ b → m ≡ 0 → n ≡ 1 → min (a + m + 1) top ≤ b + n
+count_in_doubt a b m n top later was is = omega (arith, later, was, is)
+
+count_clean : (a b m n top : ℕ) → min (a + 1) top ≤ b → m ≡ 0 → n ≡ 0 → min (a + m + 1) top ≤ b + n
+count_clean a b m n top more was is = omega (arith, more, was, is)
+
+pub lasts_by : (old new : State) (Commits : Trees → Type 0) → Survives old new Commits → Lasts (tables_of old) (tables_of new)
+unfolding Lasts
+lasts_by old new Commits it = record {
+  faults = omega (arith, it.counts, it.clean);
+  is_sure = λ sure.
+      let was = sure_is old sure in
+      elim (clean_or_not new.is_clean) [
+        | inl clean ↦ elim (it.closes clean was.1) [
+          | inl up ↦ inl (sure_from new clean up)
+          | inr more ↦ inr (count_clean old.faults new.faults (doubt old.is_clean) (doubt new.is_clean) (2 ^ 64 - 1) more was.0 clean)
+        ]
+        | inr dirty ↦ inr (count_in_doubt old.faults new.faults (doubt old.is_clean) (doubt new.is_clean) (2 ^ 64 - 1) it.counts was.0 dirty)
+      ];
+}
+
+-- a transaction that begins
+pub lasts_begun : {S : Type 0} (g : Ghosts S) (old new : Held S) → new ≡ record old { in_transaction = true } → Lasts (tables_of (state g old)) (tables_of (state g new))
+lasts_begun {S} g old new is =
+    subst (λ (h : Held S). Lasts (tables_of (state g old)) (tables_of (state g h))) (sym is)
+    (lasts_same (tables_of (state g old)) (tables_of (state g (record old { in_transaction = true }))) refl refl)
+
+pub goes_none : (s : Shelf) → Goes s s
+goes_none s = record { was_sure = λ sure. sure; lasts = lasts_none s.tables; capacity = refl }
+
+pub goes_then : (a b c : Shelf) → Goes a b → Goes b c → Goes a c
+goes_then a b c first second = record {
+  was_sure = λ sure. first.was_sure (second.was_sure sure);
+  lasts = lasts_then a.tables b.tables c.tables first.lasts second.lasts;
+  capacity = second.capacity ∙ first.capacity;
+}

@@ -1,0 +1,28 @@
+use Rattle.std.proofs.Common.{◌≡◌, ◌∙◌, ℕ, Bool, List, Option, None, Some, option_map, IfSome, sym, ap, refl}
+use Rattle.life_store.specs.Kept.{Tallied}
+use Rattle.life_store.proofs.LastingLemmas.{goes_then}
+use Rattle.life_store.proofs.archive.Archive.rows_of.Goals as goal
+
+no_rows : (o : Option Tallied) → None ≡ option_map (λ (t : Tallied). t.steady) o → None ≡ option_map (λ (t : Tallied). t.tally.rows) o
+no_rows None e = refl
+no_rows (Some t) e = absurd cc
+
+all_rows : (o : Option Tallied) (b : Bool) (rows : List (List ℕ × ℕ)) → Some b ≡ option_map (λ (t : Tallied). t.steady) o → IfSome o (λ (t : Tallied). rows ≡ t.tally.rows)
+    → Some rows ≡ option_map (λ (t : Tallied). t.tally.rows) o
+all_rows None b rows e is = absurd cc
+all_rows (Some t) b rows e is = ap Some is
+
+pub returns-in-None-clause-value : goal.returns-in-None-clause-value
+returns-in-None-clause-value g c k sure holds = no_rows _ (sym c.in-None.is ∙ c.in_ok-flag_of.ensures.value k sure holds)
+
+pub returns-in_err-rows-in-Some-clause-goes : goal.returns-in_err-rows-in-Some-clause-goes
+returns-in_err-rows-in-Some-clause-goes g c = goes_then _ _ _ c.flag_of.ensures.goes c.rows_kept.ensures.goes
+
+pub returns-in_ok-rows-in-Some-clause-goes : goal.returns-in_ok-rows-in-Some-clause-goes
+returns-in_ok-rows-in-Some-clause-goes g c = goes_then _ _ _ c.in_ok-flag_of.ensures.goes c.in_ok-rows-in-Some.ensures.goes
+
+pub returns-in_ok-rows-in-Some-clause-value : goal.returns-in_ok-rows-in-Some-clause-value
+returns-in_ok-rows-in-Some-clause-value g c k sure holds =
+    let read = c.in_ok-rows-in-Some.ensures in
+    let before = read.goes.was_sure sure in
+    all_rows _ _ _ (sym c.in-Some.is ∙ c.in_ok-flag_of.ensures.value k before holds) (read.value k sure (c.in_ok-flag_of.ensures.same k before holds))

@@ -1,0 +1,155 @@
+// Asks the archive over its routes (docs/FORMATS.md, Messages). What is read is asked again where no reply came; a deposit is sent
+// again with its token; a census is not, since it may be what the archive is held by.
+
+import { Refused, refusalOf } from './refusals.js';
+import { readFile } from './rle.js';
+import { rulePart } from './rule.js';
+
+const TOGETHER = 4;
+const PAUSES = [500, 1000, 2000];
+const SEND_PAUSES = [1000, 2000, 4000];
+const PAGE = 100;
+
+export const LAST_GENERATION = 2048;
+
+const pause = (time, signal) => new Promise((resolve, reject) => {
+  const stopped = () => reject(signal.reason);
+  if (signal?.aborted) stopped();
+  setTimeout(() => {
+    signal?.removeEventListener('abort', stopped);
+    resolve();
+  }, time);
+  signal?.addEventListener('abort', stopped, { once: true });
+});
+
+/** Lets a few requests go at once, the others in their order. */
+const line = { going: 0, waiting: [] };
+
+async function inLine(act, signal) {
+  if (line.going >= TOGETHER) await new Promise((resolve) => line.waiting.push(resolve));
+  else line.going += 1;
+  try {
+    signal?.throwIfAborted();
+    return await act();
+  } finally {
+    const next = line.waiting.shift();
+    if (next) next();
+    else line.going -= 1;
+  }
+}
+
+/** One request: the bytes of a good reply, or what it refuses by; `no-reply` where none came. */
+async function askOnce(path, options) {
+  let reply;
+  let bytes;
+  try {
+    reply = await fetch(path, options);
+    bytes = new Uint8Array(await reply.arrayBuffer());
+  } catch (error) {
+    if (options.signal?.aborted) throw options.signal.reason;
+    throw new Refused('no-reply');
+  }
+  if (reply.status === 200 || reply.status === 201) return bytes;
+  const refused = refusalOf(reply.status, new TextDecoder().decode(bytes));
+  refused.wait = Number(reply.headers.get('retry-after') ?? 0) * 1000;
+  throw refused;
+}
+
+/** Asks, and after each pause again where nothing was asked of the archive, or nothing came of it. */
+async function askAgain(path, options, pauses, said = () => {}) {
+  for (let tries = 0; ; tries += 1) {
+    try {
+      return await askOnce(path, options);
+    } catch (error) {
+      const again = ['no-reply', 'too-many-requests', 'unavailable'].includes(error.name);
+      if (!again || tries === pauses.length) throw error;
+      said(error);
+      await pause(Math.max(pauses[tries], error.name === 'too-many-requests' ? error.wait : 0), options.signal);
+    }
+  }
+}
+
+const read = (path, signal) => inLine(() => askAgain(path, { signal }, PAUSES), signal);
+
+function parsed(bytes, key) {
+  try {
+    const value = JSON.parse(new TextDecoder().decode(bytes));
+    if (key in value) return value;
+  } catch {
+    // As below.
+  }
+  throw new Refused('unknown');
+}
+
+function recordOf(bytes) {
+  try {
+    return readFile(bytes, { ours: true });
+  } catch {
+    throw new Refused('unknown');
+  }
+}
+
+/** The file of a deposit as bytes, and its record. */
+export async function deposit(number, signal) {
+  const bytes = await read(`/deposits/${number}`, signal);
+  return { bytes, record: recordOf(bytes) };
+}
+
+/** A generation of a deposit, likewise. */
+export async function generation(number, at, signal) {
+  const bytes = await read(`/deposits/${number}/at/${at}`, signal);
+  return { bytes, record: recordOf(bytes) };
+}
+
+/** The deposits with a greater number, at most 100 of them, by number. */
+export async function depositsAfter(number, signal) {
+  return parsed(await read(`/deposits/after/${number}`, signal), 'deposits').deposits;
+}
+
+export async function kind(number, limit, signal) {
+  return parsed(await read(`/deposits/${number}/kind/${limit}`, signal), 'kind');
+}
+
+export async function census(number, signal) {
+  return parsed(await read(`/censuses/${number}`, signal), 'rows');
+}
+
+/** How often an object occurs in all censuses of its rule. */
+export async function total(rule, code, limit, signal) {
+  return parsed(await read(`/objects/${rulePart(rule)}/${encodeURIComponent(code)}/${limit}`, signal), 'total').total;
+}
+
+// The greatest number of a deposit that was seen: numbers are never given back.
+let seen = 0;
+
+/** The greatest number of a deposit, 0 where there is none. No route tells it, so it is searched by lists, from one that was seen. */
+export async function lastDeposit(signal) {
+  let low = seen;
+  let step = PAGE;
+  let high = Infinity;
+  while (low < high) {
+    const middle = high === Infinity ? low + step - PAGE : Math.floor((low + high) / 2);
+    const rows = await depositsAfter(middle, signal);
+    if (rows.length === 0) {
+      high = middle;
+    } else {
+      low = rows.at(-1).id;
+      high = rows.length < PAGE ? low : high;
+      step *= 2;
+    }
+  }
+  seen = low;
+  return low;
+}
+
+const sent = (member, token, body, signal) => ({ method: 'POST', headers: { 'x-member': member, 'x-token': token }, body, signal });
+
+/** Deposits a file, and answers its number. Where no reply comes it is sent again, always with the same token; `said` hears of it. */
+export async function sendDeposit(member, token, bytes, said, signal) {
+  return parsed(await askAgain('/deposits', sent(member, token, bytes, signal), SEND_PAUSES, said), 'deposit').deposit;
+}
+
+/** Asks for a census once, and answers its number. */
+export async function sendCensus(member, token, number, at, limit, signal) {
+  return parsed(await askAgain(`/deposits/${number}/censuses/${at}/${limit}`, sent(member, token, null, signal), []), 'census').census;
+}

@@ -1,0 +1,63 @@
+// A census: its table, with bars, whether its field is steady, and its CSV.
+
+import { census, deposit } from './archive.js';
+import { objectNames, patternOf } from './code.js';
+import { copyButton, counted, make, many } from './dom.js';
+import { thumbnail } from './draw.js';
+import { ruleAddress, ruleText } from './rule.js';
+
+const SIDE = 48;
+
+/** The bar of a count beside the greatest one. */
+function barOf(count, most, more = '') {
+  const bar = make('span', { class: `bar ${more}`, 'aria-hidden': 'true', hidden: count === 0 });
+  bar.style.inlineSize = `${100 * count / most}%`;
+  return make('td', { class: 'bars' }, bar);
+}
+
+/** A row of the table: an object, its name where it is a known one, how often it is there, and a bar of that. */
+function objectRow({ code, count }, most, rule, names) {
+  const pattern = patternOf(code);
+  const name = rule === 'B3/S23' ? names.get(code) : null;
+  return make('tr', {}, make('td', { class: 'drawn' }, pattern ? thumbnail(pattern, SIDE, SIDE) : null),
+    make('th', { scope: 'row' }, make('a', { href: `#code/${code}/${ruleAddress(rule)}` }, make('code', {}, code)), name ? make('small', {}, name) : null),
+    make('td', { class: 'number' }, counted(count)), barOf(count, most));
+}
+
+function unresolvedRow(count, most) {
+  return make('tr', {}, make('td', { class: 'drawn' }), make('th', { scope: 'row' }, 'unresolved', make('small', {}, 'no code within the limit')),
+    make('td', { class: 'number' }, counted(count)), barOf(count, most, 'none'));
+}
+
+function steadyText(found) {
+  return found.steady
+    ? 'Steady: all clusters are still lifes and oscillators that never come near each other, so each later generation is theirs, each run alone.'
+    : 'Not steady: a cluster moves, does not come back within the limit, or comes near another.';
+}
+
+export async function censusPage(page, given) {
+  const number = Number(given);
+  page.title(`Census ${number}`);
+  const found = await census(number, page.signal);
+  const [{ record }, names] = await Promise.all([deposit(found.deposit, page.signal), objectNames()]);
+  const rule = ruleText(record.rule);
+  // The most frequent first; the archive has them by code.
+  const rows = found.rows.toSorted((one, other) => other.count - one.count);
+  const most = Math.max(1, found.unresolved, ...rows.map((row) => row.count));
+  const url = `${location.origin}/#census/${number}`;
+  const place = `#deposit/${found.deposit}${found.generation === 0 ? '' : `/at/${found.generation}`}`;
+  page.keys['['] = () => { if (number > 1) location.hash = `#census/${number - 1}`; };
+  page.keys[']'] = () => { location.hash = `#census/${number + 1}`; };
+  page.root.append(make('h1', { tabindex: -1 }, `Census ${counted(number)}`),
+    make('p', { class: 'by' }, 'Of ', make('a', { href: place }, `generation ${counted(found.generation)} of deposit ${found.deposit}`),
+      `${record.name ? `, ${record.name}` : ''}, under ${rule}, with periods up to ${counted(found.limit)}.`),
+    make('dl', { class: 'facts' }, [['Clusters', counted(found.clusters)], ['Objects', many(rows.length, 'code')], ['Unresolved', counted(found.unresolved)]]
+      .map(([term, told]) => make('div', {}, make('dt', {}, term), make('dd', {}, told)))),
+    make('p', { class: found.steady ? 'steady yes' : 'steady' }, steadyText(found)),
+    make('table', { class: 'census' }, make('caption', { class: 'aside' }, `Objects of census ${number}, the most frequent first`),
+      make('thead', {}, make('tr', {}, make('td', {}), make('th', { scope: 'col' }, 'Code'), make('th', { scope: 'col', class: 'number' }, 'Count'), make('td', {}))),
+      make('tbody', {}, rows.map((row) => objectRow(row, most, rule, names)), unresolvedRow(found.unresolved, most))),
+    make('p', { class: 'row' }, make('a', { class: 'button', href: `/censuses/${number}/csv`, download: `census-${number}.csv` }, 'Download CSV'), make('a', { class: 'address', href: url }, url), copyButton('Copy the address', () => url, page.say)),
+    make('p', { class: 'hint' }, 'A cluster is one object, also where its parts never meet, so these numbers are not those of apgsearch.'));
+  page.say(`Census ${number}: ${many(found.clusters, 'cluster')}, ${many(rows.length, 'code')}, ${found.unresolved} unresolved.`);
+}

@@ -1,0 +1,93 @@
+// Making elements, and what several pages have.
+
+import { nameOf, Refused, sentenceOf } from './refusals.js';
+
+/** An element with attributes (a function is a listener, `true` an attribute without a value) and with what is in it. */
+export function make(tag, attributes = {}, ...inside) {
+  const element = document.createElement(tag);
+  for (const [name, value] of Object.entries(attributes)) {
+    if (typeof value === 'function') element.addEventListener(name, value);
+    else if (value !== false && value !== null && value !== undefined) element.setAttribute(name, value === true ? '' : value);
+  }
+  element.append(...inside.flat().filter((part) => part !== null && part !== undefined && part !== false));
+  return element;
+}
+
+const ICONS = {
+  first: 'M3 3h2v10H3zM13 3v10L6 8z', back: 'M12 2v12L3 8z', less: 'M10 3 5 8l5 5', play: 'M4 2v12l9-6z', more: 'm6 3 5 5-5 5', pause: 'M4 3h3v10H4zM9 3h3v10H9z',
+};
+
+/** A small drawing on a button; the button has its name besides. */
+export function icon(name) {
+  const named = (tag, attributes) => {
+    const element = document.createElementNS('http://www.w3.org/2000/svg', tag);
+    for (const [key, value] of Object.entries(attributes)) element.setAttribute(key, value);
+    return element;
+  };
+  const drawing = named('svg', { viewBox: '0 0 16 16', class: `icon ${name}`, 'aria-hidden': 'true' });
+  drawing.append(named('path', { d: ICONS[name] }));
+  return drawing;
+}
+
+/** A number with its thousands parted. */
+export const counted = (number) => number.toLocaleString('en');
+
+/** `1 cell`, `2 cells`. */
+export const many = (number, one, more = `${one}s`) => `${counted(number)} ${number === 1 ? one : more}`;
+
+/** A field of a form with its label. */
+export function field(label, input, hint) {
+  const said = hint ? make('small', { id: `${input.id}-hint` }, hint) : null;
+  if (said) input.setAttribute('aria-describedby', said.id);
+  return make('p', { class: 'field' }, make('label', { for: input.id }, label), input, said);
+}
+
+/** Why something is refused, and what to do; a line of the file where it is known. */
+export function refusal(error, more) {
+  if (!(error instanceof Refused)) throw error;
+  return make('div', { class: 'refusal', role: 'alert' }, make('p', {}, sentenceOf(error)), more ? make('p', {}, more) : null,
+    make('p', { class: 'name' }, make('code', {}, nameOf(error))));
+}
+
+/** A button that copies a text, also on pages that did not come over TLS, where a browser has no clipboard. */
+export function copyButton(label, text, say) {
+  const copy = async () => {
+    const value = text();
+    try {
+      await navigator.clipboard.writeText(value);
+    } catch {
+      const room = make('textarea', { class: 'aside', 'aria-hidden': 'true' });
+      room.value = value;
+      document.body.append(room);
+      room.select();
+      document.execCommand('copy');
+      room.remove();
+    }
+    say('Copied.');
+  };
+  return make('button', { type: 'button', click: copy }, label);
+}
+
+/** A field for a member's name, with the one that was used last, which this browser alone keeps, if it keeps anything. */
+export function memberInput(id) {
+  const input = make('input', { id, name: 'member', required: true, maxlength: 32, autocomplete: 'username', autocapitalize: 'none', spellcheck: 'false' });
+  try {
+    input.value = localStorage.getItem('member') ?? '';
+  } catch {
+    input.value = '';
+  }
+  return input;
+}
+
+export function rememberMember(name) {
+  try {
+    localStorage.setItem('member', name);
+  } catch {
+    // Then it is typed again.
+  }
+}
+
+const MEMBER = /^[a-z0-9-]{1,32}$/;
+const TOKEN = /^[A-Za-z0-9-]{1,64}$/;
+export const isMember = (text) => MEMBER.test(text);
+export const isToken = (text) => TOKEN.test(text);

@@ -1,0 +1,56 @@
+// Finding a deposit or a census by its number, and an object by its code: how often all censuses have it.
+
+import { total } from './archive.js';
+import { limitOf, objectNames, patternOf } from './code.js';
+import { copyButton, field, make, many } from './dom.js';
+import { thumbnail } from './draw.js';
+import { rulePart, ruleAddress, ruleOfAddress } from './rule.js';
+
+function numberForm(id, label, page) {
+  const input = make('input', { id, type: 'number', min: 1, required: true, inputmode: 'numeric' });
+  const submit = (event) => {
+    event.preventDefault();
+    location.hash = `#${page}/${Math.trunc(Number(input.value))}`;
+  };
+  return make('form', { submit }, field(label, input), make('button', {}, 'Show'));
+}
+
+function codeForm(code = '', rule = 'B3/S23') {
+  const codeInput = make('input', { id: 'code', required: true, autocapitalize: 'none', autocomplete: 'off', spellcheck: 'false', placeholder: 'xq4_153' });
+  const ruleInput = make('input', { id: 'rule', required: true, autocapitalize: 'none', autocomplete: 'off', spellcheck: 'false' });
+  codeInput.value = code;
+  ruleInput.value = rule;
+  const submit = (event) => {
+    event.preventDefault();
+    location.hash = `#code/${encodeURIComponent(codeInput.value.trim())}/${ruleAddress(ruleInput.value.trim())}`;
+  };
+  return make('form', { class: 'code', submit }, field('Code of an object', codeInput), field('Rule', ruleInput), make('button', { class: 'main' }, 'Look up'));
+}
+
+export function findPage(page) {
+  page.title('Find');
+  page.root.append(make('h1', { tabindex: -1 }, 'Find'), make('div', { class: 'forms' }, numberForm('deposit-number', 'Deposit', 'deposit'), numberForm('census-number', 'Census', 'census')),
+    make('h2', {}, 'An object'), codeForm(),
+    make('p', { class: 'hint' }, 'A code names one object of a rule: a still life (xs), an oscillator (xp) or a spaceship (xq), wherever it stands and however it is turned.'));
+}
+
+/** An object by its code: the archive tells the total of a code that it can open, and refuses any other. */
+export async function codePage(page, givenCode, givenRule) {
+  const code = decodeURIComponent(givenCode);
+  const rule = ruleOfAddress(decodeURIComponent(givenRule));
+  page.title(code);
+  page.root.append(make('h1', { tabindex: -1 }, make('code', {}, code)), codeForm(code, rule));
+  const limit = limitOf(code);
+  const count = await total(rule, code, limit, page.signal);
+  const plain = rulePart(rule).replace('S', '/S');
+  const name = plain === 'B3/S23' ? (await objectNames()).get(code) : null;
+  if (name) page.root.querySelector('h1').append(make('small', {}, ` ${name}`));
+  const url = `${location.origin}/#code/${code}/${ruleAddress(plain)}`;
+  const command = `life object ${plain} ${code} ${limit}`;
+  page.root.append(thumbnail(patternOf(code), 320, 200, `The object ${code}`),
+    make('p', { class: 'total' }, make('strong', {}, many(count, 'time')), ` in all censuses of deposits under ${plain}.`),
+    make('section', {}, make('h2', {}, 'Cite'), make('p', { class: 'row' }, make('a', { class: 'address', href: url }, url), copyButton('Copy the address', () => url, page.say))),
+    make('section', {}, make('h2', {}, 'As a pattern file'), make('p', {}, 'The program prints the object that the code names:'),
+      make('p', { class: 'row' }, make('code', { class: 'command' }, command), copyButton('Copy', () => command, page.say))));
+  page.say(`${code}: ${many(count, 'time')} in all censuses.`);
+}

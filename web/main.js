@@ -1,0 +1,142 @@
+// Which page the address names, and the keys. An address names what is shown: `#deposit/7/at/30`, `#census/3`, `#code/xq4_153/B3-S23`.
+
+import { censusPage } from './census.js';
+import { depositPage } from './deposit.js';
+import { make, refusal } from './dom.js';
+import { codePage, findPage } from './find.js';
+import { deposits, depositsOf } from './list.js';
+import { bring, depositForm } from './new.js';
+import { Refused } from './refusals.js';
+
+const PAGES = [
+  [/^(?:deposits)?$/, 'deposits', (page) => deposits(page)],
+  [/^deposits\/after\/([0-9]{1,15})$/, 'deposits', deposits],
+  [/^deposits\/of\/([a-z0-9-]{1,32})(?:\/before\/([0-9]{1,15}))?$/, 'deposits', depositsOf],
+  [/^deposit\/([0-9]{1,15})(?:\/at\/([0-9]{1,15}))?$/, 'deposits', depositPage],
+  [/^new$/, 'new', depositForm],
+  [/^find$/, 'find', findPage],
+  [/^census\/([0-9]{1,15})$/, 'find', censusPage],
+  [/^code\/([^/]+)\/([^/]+)$/, 'find', codePage],
+];
+
+const main = document.getElementById('main');
+const status = document.getElementById('status');
+const keysDialog = document.getElementById('keys');
+let current = null;
+
+/** What a page gets: where it writes, what ends it, how it says something, and the keys that it takes. */
+class Page {
+  root = make('div', { class: 'page' });
+  keys = {};
+  #end = new AbortController();
+
+  get signal() {
+    return this.#end.signal;
+  }
+
+  end() {
+    this.#end.abort(new DOMException('another page', 'AbortError'));
+  }
+
+  title(text) {
+    document.title = `${text} · Life archive`;
+  }
+
+  say(text) {
+    status.textContent = text;
+  }
+}
+
+function fail(page, error) {
+  if (page.signal.aborted) return;
+  const refused = error instanceof Refused ? error : new Refused('unknown');
+  if (refused !== error) console.error(error);
+  if (!page.root.querySelector('h1')) page.root.append(make('h1', { tabindex: -1 }, 'Not found'));
+  page.root.append(refusal(refused), make('p', {}, make('a', { href: '#deposits' }, 'The newest deposits')));
+}
+
+async function show() {
+  const address = location.hash.slice(1);
+  current?.end();
+  const page = current = new Page();
+  main.replaceChildren(page.root);
+  main.setAttribute('aria-busy', 'true');
+  const [form, part, begin] = PAGES.find(([form]) => form.test(address)) ?? [];
+  for (const link of document.querySelectorAll('nav [data-page]')) {
+    if (link.dataset.page === part) link.setAttribute('aria-current', 'page');
+    else link.removeAttribute('aria-current');
+  }
+  try {
+    if (!form) throw new Refused('no-such-page');
+    await begin(page, ...form.exec(address).slice(1));
+  } catch (error) {
+    fail(page, error);
+  }
+  if (current !== page) return;
+  main.removeAttribute('aria-busy');
+  page.root.querySelector('h1')?.focus({ preventScroll: true });
+}
+
+// ---- keys
+
+const GLOBAL = {
+  l: () => { location.hash = '#deposits'; },
+  n: () => { location.hash = '#new'; },
+  f: () => { location.hash = '#find'; },
+  '?': () => keysDialog.showModal(),
+};
+
+/** Whether a key is the business of what has the focus: of a field each, of a button or link those that press it. */
+function isTaken(event) {
+  const at = event.target;
+  if (event.ctrlKey || event.metaKey || event.altKey || keysDialog.open) return true;
+  if (at.matches('input[type=range]')) return event.key.startsWith('Arrow') || ['Home', 'End'].includes(event.key);
+  if (at.matches('input, textarea, select')) return true;
+  return at.matches('button, summary, a') && [' ', 'Enter'].includes(event.key);
+}
+
+document.addEventListener('keydown', (event) => {
+  if (isTaken(event)) return;
+  const name = event.shiftKey && event.key.startsWith('Arrow') ? `shift ${event.key}` : event.key;
+  const act = current?.keys[name] ?? GLOBAL[name];
+  if (!act) return;
+  event.preventDefault();
+  act();
+});
+
+// ---- files that come on any page
+
+function take(file) {
+  if (current?.taken) {
+    current.taken(file);
+  } else {
+    bring(file);
+    location.hash = '#new';
+  }
+}
+
+const hasFile = (event) => [...event.dataTransfer.types].includes('Files');
+document.addEventListener('dragover', (event) => {
+  if (!hasFile(event)) return;
+  event.preventDefault();
+  document.body.classList.add('dragging');
+});
+document.addEventListener('dragleave', (event) => { if (!event.relatedTarget) document.body.classList.remove('dragging'); });
+document.addEventListener('drop', (event) => {
+  if (!hasFile(event)) return;
+  event.preventDefault();
+  document.body.classList.remove('dragging');
+  if (event.dataTransfer.files[0]) take(event.dataTransfer.files[0]);
+});
+document.addEventListener('paste', (event) => {
+  if (event.target.matches?.('input, textarea')) return;
+  const file = event.clipboardData.files[0];
+  const text = event.clipboardData.getData('text/plain');
+  if (file) take(file);
+  else if (/^\s*(#|x\s*=)/i.test(text)) take(new Blob([text]));
+});
+
+document.getElementById('keys-button').addEventListener('click', () => keysDialog.showModal());
+document.getElementById('skip').addEventListener('click', () => main.focus());
+addEventListener('hashchange', show);
+show();

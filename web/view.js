@@ -1,0 +1,158 @@
+// The large drawing of a deposit: where it is looked at, how large, and by which hands: wheel, fingers, buttons, keys.
+
+import { paint, SIZES, sizeFor } from './draw.js';
+
+const LARGEST_AT_FIRST = 16;
+
+export class View {
+  #pattern = { width: 0, height: 0, population: 0, rows: [] };
+  #place = { column: 0, row: 0 };
+  #left = 0;
+  #top = 0;
+  #size = 1;
+  #asked = false;
+  #pointers = new Map();
+  /** Whether the whole pattern is kept in sight; a hand that moves or zooms ends it. */
+  following = true;
+
+  constructor(canvas, signal) {
+    this.canvas = canvas;
+    canvas.redraw = () => this.#draw();
+    const options = { signal };
+    canvas.addEventListener('wheel', (event) => this.#wheel(event), { ...options, passive: false });
+    canvas.addEventListener('pointerdown', (event) => this.#down(event), options);
+    canvas.addEventListener('pointermove', (event) => this.#move(event), options);
+    for (const name of ['pointerup', 'pointercancel']) canvas.addEventListener(name, (event) => this.#pointers.delete(event.pointerId), options);
+    const watch = new ResizeObserver(() => this.#resize());
+    watch.observe(canvas);
+    signal.addEventListener('abort', () => watch.disconnect());
+    this.#resize();
+  }
+
+  get #scale() {
+    return Math.min(window.devicePixelRatio || 1, 2);
+  }
+
+  #resize() {
+    const width = Math.max(1, Math.round(this.canvas.clientWidth * this.#scale));
+    const height = Math.max(1, Math.round(this.canvas.clientHeight * this.#scale));
+    if (width === this.canvas.width && height === this.canvas.height) return;
+    const middle = this.#middle();
+    this.canvas.width = width;
+    this.canvas.height = height;
+    this.#look(middle);
+    if (this.following) this.fit();
+    else this.#draw();
+  }
+
+  /** The column and row of the plane in the middle. */
+  #middle() {
+    return { column: this.#left + this.canvas.width / this.#size / 2, row: this.#top + this.canvas.height / this.#size / 2 };
+  }
+
+  #look({ column, row }) {
+    this.#left = column - this.canvas.width / this.#size / 2;
+    this.#top = row - this.canvas.height / this.#size / 2;
+  }
+
+  #draw() {
+    if (this.#asked) return;
+    this.#asked = true;
+    requestAnimationFrame(() => {
+      this.#asked = false;
+      paint(this.canvas, this.#pattern, { left: this.#left, top: this.#top, size: this.#size, place: this.#place });
+    });
+  }
+
+  /** Shows a pattern at a place of the plane, or, where it is not known, around the middle of what is seen. */
+  show(pattern, place) {
+    const middle = this.#middle();
+    this.#pattern = pattern;
+    this.#place = place ?? { column: Math.round(middle.column - pattern.width / 2), row: Math.round(middle.row - pattern.height / 2) };
+    if (this.following) this.#follow();
+    this.#draw();
+    return this.#place;
+  }
+
+  /** Moves the view, and makes cells smaller where it must be, so that the whole pattern is seen. */
+  #follow() {
+    const { width, height } = this.#pattern;
+    const { column, row } = this.#place;
+    const [wide, high] = [this.canvas.width / this.#size, this.canvas.height / this.#size];
+    const inside = column >= this.#left && row >= this.#top && column + width <= this.#left + wide && row + height <= this.#top + high;
+    if (width === 0 || inside) return;
+    if (width + 2 > wide || height + 2 > high) this.#size = sizeFor(width + 2, height + 2, this.canvas.width, this.canvas.height, this.#size);
+    this.#look({ column: column + width / 2, row: row + height / 2 });
+  }
+
+  /** Shows the whole pattern, and follows it from now on. */
+  fit() {
+    this.following = true;
+    const { width, height } = this.#pattern;
+    const room = 1.25;
+    this.#size = sizeFor(width * room + 4, height * room + 4, this.canvas.width, this.canvas.height, LARGEST_AT_FIRST * this.#scale);
+    this.#look({ column: this.#place.column + width / 2, row: this.#place.row + height / 2 });
+    this.#draw();
+  }
+
+  /** Makes cells larger or smaller by so many steps, about a point of the canvas or its middle. */
+  zoom(steps, at = { x: this.canvas.width / 2, y: this.canvas.height / 2 }) {
+    this.following = false;
+    const found = SIZES.findIndex((size) => size >= this.#size);
+    const size = SIZES[Math.min(Math.max(found + steps, 0), SIZES.length - 1)];
+    this.#left += at.x / this.#size - at.x / size;
+    this.#top += at.y / this.#size - at.y / size;
+    this.#size = size;
+    this.#draw();
+  }
+
+  /** Moves what is seen by a part of its width and height. */
+  pan(columns, rows) {
+    this.following = false;
+    this.#left += columns * this.canvas.width / this.#size;
+    this.#top += rows * this.canvas.height / this.#size;
+    this.#draw();
+  }
+
+  #point(event) {
+    const box = this.canvas.getBoundingClientRect();
+    return { x: (event.clientX - box.left) * this.#scale, y: (event.clientY - box.top) * this.#scale };
+  }
+
+  #wheel(event) {
+    event.preventDefault();
+    this.zoom(event.deltaY < 0 ? 1 : -1, this.#point(event));
+  }
+
+  #down(event) {
+    this.canvas.setPointerCapture(event.pointerId);
+    this.#pointers.set(event.pointerId, this.#point(event));
+    this.spread = 0;
+  }
+
+  /** One finger moves the plane, two zoom it. */
+  #move(event) {
+    const before = this.#pointers.get(event.pointerId);
+    if (!before) return;
+    const now = this.#point(event);
+    this.#pointers.set(event.pointerId, now);
+    const points = [...this.#pointers.values()];
+    this.following = false;
+    if (points.length === 1) {
+      this.#left -= (now.x - before.x) / this.#size;
+      this.#top -= (now.y - before.y) / this.#size;
+      this.#draw();
+      return;
+    }
+    const spread = Math.hypot(points[0].x - points[1].x, points[0].y - points[1].y);
+    const middle = { x: (points[0].x + points[1].x) / 2, y: (points[0].y + points[1].y) / 2 };
+    this.spread ||= spread;
+    if (spread > this.spread * 1.25) this.#pinched(1, spread, middle);
+    else if (spread < this.spread / 1.25) this.#pinched(-1, spread, middle);
+  }
+
+  #pinched(steps, spread, middle) {
+    this.spread = spread;
+    this.zoom(steps, middle);
+  }
+}

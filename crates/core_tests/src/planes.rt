@@ -1,4 +1,4 @@
-//! Patterns and their generations on both kinds of plane, and each public call on them once.
+//! Patterns and their generations on both kinds of plane.
 use life_core::{
     Bounds, Cell, CellList, Fault, GENERATION_LIMIT, Orientation, PLANE, PackedRows, Pattern,
     Plane, Rule, generation, generation_by, is_packed, laws_of_constants, laws_of_generations,

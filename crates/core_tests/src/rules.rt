@@ -1,4 +1,4 @@
-//! Texts of rules as they are read without a file round them, the messages of their faults, and each public call once.
+//! Texts of rules as they are read without a file round them, and the messages of their faults.
 use life_core::{Rule, RuleFault, laws_of_rule_texts};
 use std::alloc::Global;
 

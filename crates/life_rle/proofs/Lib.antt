@@ -18,5 +18,10 @@ pub mod RoundLines
 pub mod RoundHeader
 pub mod RoundText
 pub mod LawsCuts
+pub mod LawsLaid
+pub mod LawsRuns
+pub mod LawsCanonical
+pub mod LawsOne
+pub mod LawsTexts
 pub mod Vectors
 pub mod PieceLemmas

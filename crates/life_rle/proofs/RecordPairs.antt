@@ -119,6 +119,22 @@ pub pairs_inside : (X : Cells) → normal X ≡ X → IsInside 1024 X → AllIns
 pairs_inside X same inside =
     small_inside (in_order X) (by_recursion IsSmall (in_order X) (cells_all IsSmall X (λ c h. record { zero = from_zero X same c h; within = inside c h })))
 
+size_below : (k : ℕ) (a : ℤ) → pos 0 ≤ℤ a → a ≤ℤ pos k → nat_abs a < k + 1
+size_below k a p h = omega (arith, ints)
+
+record IsFromZeroTo (k : ℕ) (c : Cell) : Type 0 where
+  zero : IsFromZero c
+  within : IsCellWithin k c
+
+below_by : (k : ℕ) (cs : List Cell) → AllByRecursion (IsFromZeroTo k) cs → AllByRecursion (λ (cell : ℕ × ℕ). (cell.0 < k + 1) × (cell.1 < k + 1)) (map coordinates cs)
+below_by k [] all = tt
+below_by k (c ∷ cs) all = ((size_below k c.column all.0.zero.column all.0.within.right, size_below k c.row all.0.zero.row all.0.within.bottom), below_by k cs all.1)
+
+-- the pairs of a normal set within k lie in its first columns and rows
+pub pairs_below : (k : ℕ) (X : Cells) → normal X ≡ X → IsWithin k X → AllByRecursion (λ (cell : ℕ × ℕ). (cell.0 < k + 1) × (cell.1 < k + 1)) (pairs_of X)
+pairs_below k X same within =
+    below_by k (in_order X) (by_recursion (IsFromZeroTo k) (in_order X) (cells_all (IsFromZeroTo k) X (λ c h. record { zero = from_zero X same c h; within = within c h })))
+
 -- ---- the cells of a record
 
 quarter : (X : Cells) → normal X ≡ X → IsWithin PLANE X → (c : Cell) → set.contains X c ≡ true → IsQuarterCell c

@@ -19,7 +19,7 @@ onto_head t [] = (1, [], refl)
 onto_head t (r ∷ rs) = onto_head_by t r.0 r.1 rs (eqb r.1 t)
 
 -- the runs of tags begin with a run of the first
-runs_head : (t : ℕ) (ts : List ℕ) → (n : ℕ) × (rs : List (ℕ × ℕ)) × (runs_of (t ∷ ts) ≡ (n, t) ∷ rs)
+pub runs_head : (t : ℕ) (ts : List ℕ) → (n : ℕ) × (rs : List (ℕ × ℕ)) × (runs_of (t ∷ ts) ≡ (n, t) ∷ rs)
 unfolding runs_of
 runs_head t ts = onto_head t (runs_of ts)
 
@@ -33,7 +33,7 @@ onto_other tag (t ∷ ts) other =
 onto_same : (n tag : ℕ) (rs : List (ℕ × ℕ)) → onto_run tag ((n, tag) ∷ rs) ≡ (n + 1, tag) ∷ rs
 onto_same n tag rs = ap (λ b. cond b ((n + 1, tag) ∷ rs) ((1, tag) ∷ (n, tag) ∷ rs)) (eq-eqb tag tag refl)
 
-runs_replicate : (n tag : ℕ) (ts : List ℕ) → Other tag ts → runs_of (replicate (suc n) tag ++ ts) ≡ (suc n, tag) ∷ runs_of ts
+pub runs_replicate : (n tag : ℕ) (ts : List ℕ) → Other tag ts → runs_of (replicate (suc n) tag ++ ts) ≡ (suc n, tag) ∷ runs_of ts
 unfolding runs_of
 runs_replicate zero tag ts other = onto_other tag ts other
 runs_replicate (suc n) tag ts other = ap (λ rs. onto_run tag rs) (runs_replicate n tag ts other) ∙ onto_same (suc n) tag (runs_of ts) ∙ ap (λ k. (k, tag) ∷ runs_of ts) (add-one (suc n))
@@ -46,10 +46,10 @@ texts_front (suc n) tag ts other =
     ∙ ap (λ b. cond b [] (item_text (suc n, tag) ∷ []) ++ map item_text (runs_of ts)) (sym (ne_eqb (suc n) 0 (λ e. omega arith)))
 
 -- the tags up to a live cell and on
-abbrev tags_gap : ℕ → ℕ → List ℕ → List ℕ
+abbrev pub tags_gap : ℕ → ℕ → List ℕ → List ℕ
 tags_gap down along tags = replicate down 36 ++ replicate along 98 ++ 111 ∷ tags
 
-tags_cell : (row column : ℕ) (cell : ℕ × ℕ) (cells : List (ℕ × ℕ)) → tags_from row column (cell ∷ cells) ≡ tags_gap (cell.1 - row) (cell.0 - cond (eqb cell.1 row) column 0) (tags_from cell.1 (cell.0 + 1) cells)
+pub tags_cell : (row column : ℕ) (cell : ℕ × ℕ) (cells : List (ℕ × ℕ)) → tags_from row column (cell ∷ cells) ≡ tags_gap (cell.1 - row) (cell.0 - cond (eqb cell.1 row) column 0) (tags_from cell.1 (cell.0 + 1) cells)
 unfolding tags_from
 tags_cell row column cell cells = refl
 

@@ -1,14 +1,18 @@
--- What makes the definitions of files believable: whatever is read is a record, and what is written is read as the record again.
-use Rattle.std.specs.Prelude.{◌≡◌, ◌≢◌, ◌≤◌, ◌<◌, ℕ, ℤ, true, false, List, [], ◌∷◌, ◌++◌, length, replicate, Option, Some, None, Ok}
-use Rattle.std.specs.List.{AllByRecursion, flat_map, join_with_byte}
+-- What makes the definitions of files believable: what a canonical body is and what the lines before the header leave, said without the
+-- way in which they are computed; whatever is read is a record, and what is written is read as the record again.
+use Rattle.std.specs.Prelude.{◌≡◌, ◌≢◌, ◌⊎◌, ◌≤◌, ◌<◌, ◌+◌, ◌^◌, ℕ, codes, ℤ, Bool, true, false, ◌||◌, if◌then◌else◌, List, [], ◌∷◌, ◌++◌, length, replicate, map, Option, Some, None, Ok}
+use Rattle.std.specs.List.{AllByRecursion, flat_map, filter, find, join_with_byte}
+use Rattle.std.specs.Option.{option_map}
 use Rattle.std.specs.Char.{is_ascii_digit}
+use Rattle.life_core.specs.declared.cell.TheConstants.{PLANE}
 use Rattle.life_core.specs.Rule.{IsRule}
-use Rattle.life_core.specs.Pattern.{IsBox}
-use Rattle.life_rle.specs.Lines.{lines_of}
-use Rattle.life_rle.specs.Body.{Item, items_of}
+use Rattle.life_core.specs.Pattern.{IsBox, IsWithin}
+use Rattle.life_rle.specs.Lines.{Line, named, authored, comment, ruled, line_kind, lines_of}
+use Rattle.life_rle.specs.Notes.{no_notes, notes_of}
+use Rattle.life_rle.specs.Body.{Item, items_of, placed}
 use Rattle.life_rle.specs.Record.{Contents, HasNoLineEnd, IsRecord, IsInside}
-use Rattle.life_rle.specs.File.{kept, file}
-use Rattle.life_rle.specs.Writer.{runs_of, pairs_of, width_of, height_of, text}
+use Rattle.life_rle.specs.File.{front_lines, kept, file}
+use Rattle.life_rle.specs.Writer.{runs_of, item_text, item_texts, laid, pairs_of, width_of, height_of, text}
 
 -- ---- lines, items, runs and boxes
 
@@ -43,6 +47,114 @@ RunsAreLongest = (tags : List ℕ) → (flat_map (λ (run : ℕ × ℕ). replica
 -- The width and the height that a header gives are those of the box of the record's cells.
 abbrev pub HeadersGiveTheBox : Type 0
 HeadersGiveTheBox = (r : Contents) (left top : ℤ) (width height : ℕ) → IsRecord r → IsBox r.cells left top width height → (width_of (pairs_of r.cells) ≡ width) × (height_of (pairs_of r.cells) ≡ height)
+
+-- ---- canonical bodies
+
+-- the characters of these runs: of each its count, which is left out where it is 1, and its tag
+abbrev pub spelled : List (ℕ × ℕ) → List ℕ
+spelled runs = flat_map item_text runs
+
+-- how many characters the first run has
+abbrev pub first_length : List (ℕ × ℕ) → ℕ
+first_length [] = 0
+first_length (run ∷ runs) = length (item_text run)
+
+-- no line of runs has more than 70 characters, and the first run of the next would not have fitted on it
+abbrev pub AreFull : List (List (ℕ × ℕ)) → Type 0
+AreFull [] = Unit {0}
+AreFull (line ∷ []) = length (spelled line) ≤ 70
+AreFull (line ∷ next ∷ lines) = (length (spelled line) ≤ 70) × (70 < length (spelled line) + first_length next) × AreFull (next ∷ lines)
+
+-- a row end, `$`, a dead cell, `b`, or a live cell, `o`
+abbrev pub IsTag : ℕ → Type 0
+IsTag tag = (tag ≡ 36) ⊎ ((tag ≡ 98) ⊎ (tag ≡ 111))
+
+-- no dead cells stand before row ends, and the last run is of live cells
+abbrev pub EndInLiveCells : List (ℕ × ℕ) → Type 0
+EndInLiveCells [] = Unit {0}
+EndInLiveCells (run ∷ []) = run.1 ≡ 111
+EndInLiveCells (run ∷ next ∷ runs) = (run.1 ≡ 98 → next.1 ≢ 36) × EndInLiveCells (next ∷ runs)
+
+-- a body that is canonical, of these cells
+pub record IsCanonical (cells : List (ℕ × ℕ)) (body : List ℕ) : Type 0 where
+  -- it is lines of runs with `!` behind the last, and each line is as full as it can be
+  pub lines : List (List (ℕ × ℕ))
+  pub runs : List (ℕ × ℕ)
+  pub spells : body ≡ flat_map (λ line. spelled line ++ codes "\n") lines
+  pub ends : flat_map (λ line. line) lines ≡ runs ++ (1, 33) ∷ []
+  pub full : AreFull lines
+  -- the runs are of row ends, dead and live cells, counted in 64 bits; no two neighbours could be one, and none is there in vain
+  pub kinds : AllByRecursion (λ run. IsTag run.1) runs
+  pub counts : AllByRecursion (λ run. run.0 < 2 ^ 64) runs
+  pub apart : AreApart runs
+  pub live_end : EndInLiveCells runs
+  -- read back they place these cells and no other
+  pub cells_back : placed (items_of (spelled runs)) ≡ cells
+
+-- the body with which the text of a record ends
+abbrev pub body_of : Contents → List ℕ
+body_of r = laid 0 (item_texts (pairs_of r.cells))
+
+-- The body of a record's text is canonical ..
+abbrev pub BodiesAreCanonical : Type 0
+BodiesAreCanonical = (r : Contents) → IsRecord r → IsWithin PLANE r.cells → IsCanonical (pairs_of r.cells) (body_of r)
+
+-- .. and cells have one canonical body at most, so that what is said of it here is all of it.
+abbrev pub OneCanonicalBody : Type 0
+OneCanonicalBody = (cells : List (ℕ × ℕ)) (body other : List ℕ) → IsCanonical cells body → IsCanonical cells other → body ≡ other
+
+-- ---- texts
+
+-- whether a line gives a name: `#N` and a text that is not empty
+abbrev pub is_name : Line → Bool
+is_name (named (b ∷ text)) = true
+is_name line = false
+
+-- .. an author: `#O` and such a text
+abbrev pub is_author : Line → Bool
+is_author (authored (b ∷ text)) = true
+is_author line = false
+
+-- .. a rule: `#r` and such a text
+abbrev pub is_rule : Line → Bool
+is_rule (ruled (b ∷ text)) = true
+is_rule line = false
+
+-- .. a comment: `#C` or `#c`
+abbrev pub is_comment : Line → Bool
+is_comment (comment text) = true
+is_comment line = false
+
+-- the text that a line gives
+abbrev pub text_of : Line → List ℕ
+text_of (named text) = text
+text_of (authored text) = text
+text_of (comment text) = text
+text_of (ruled text) = text
+text_of line = []
+
+-- the text of the first line of a kind
+abbrev pub first_text : (Line → Bool) → List Line → Option (List ℕ)
+first_text p lines = option_map text_of (find p lines)
+
+-- the lines without the first of a kind
+abbrev pub without_first : (Line → Bool) → List Line → List Line
+without_first p [] = []
+without_first p (line ∷ lines) = if p line then lines else line ∷ without_first p lines
+
+-- the texts of lines: the first name, the first author, and as comments all other names, authors and comments in their order
+pub record AreTextsOf (lines : List Line) (name author : Option (List ℕ)) (comments : List (List ℕ)) : Type 0 where
+  pub name_first : name ≡ first_text is_name lines
+  pub author_first : author ≡ first_text is_author lines
+  pub others : comments ≡ map text_of (without_first is_name (without_first is_author (filter (λ line. is_name line || is_author line || is_comment line) lines)))
+
+-- What is kept of lines is their texts and the first rule ..
+abbrev pub NotesAreTheLines : Type 0
+NotesAreTheLines = (lines : List (List ℕ)) → let notes = notes_of no_notes lines in let kinds = map line_kind lines in AreTextsOf kinds notes.name notes.author notes.comments × (notes.rule ≡ first_text is_rule kinds)
+
+-- .. and a record that is read has the texts of the lines before its file's header.
+abbrev pub TextsAreTheFile : Type 0
+TextsAreTheFile = (bytes : List ℕ) (r : Contents) → kept bytes ≡ Ok r → AreTextsOf (map line_kind (front_lines (lines_of bytes))) r.name r.author r.comments
 
 -- ---- reading and writing
 

@@ -38,7 +38,7 @@ pub data Line : Type 0 where
 abbrev pub is_mark_line : List ℕ → Bool
 is_mark_line line = slice_index (trim_start line) 0 == 35
 
--- what the letter after `#` makes of the text
+-- what the letter after `#` makes of the text: `N` a name, `O` an author, `C` or `c` a comment, `r` a rule
 abbrev pub marked : ℕ → List ℕ → Line
 marked letter text =
     if letter == 78 then named text

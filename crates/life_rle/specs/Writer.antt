@@ -1,6 +1,6 @@
 -- The one text of a record: its texts, its header, and the longest runs of its cells in lines of at most 70 bytes (LifeWiki, "Run Length
 -- Encoded": "lines should be no more than 70 characters").
-use Rattle.std.specs.Prelude.{ℕ, ◌+◌, ◌-◌, ◌==◌, max, nat_le, if◌then◌else◌, nat_abs, List, [], ◌∷◌, ◌++◌, length, replicate, map, Option, Some, None}
+use Rattle.std.specs.Prelude.{ℕ, codes, ◌+◌, ◌-◌, ◌==◌, max, nat_le, if◌then◌else◌, nat_abs, List, [], ◌∷◌, ◌++◌, length, replicate, map, Option, Some, None}
 use Rattle.std.specs.List.{flat_map, fold}
 use Rattle.std.specs.Fmt.{decimal}
 use Rattle.life_core.specs.declared.cell.Cell.{Cell}
@@ -8,7 +8,7 @@ use Rattle.life_core.specs.Pattern.{Cells, in_order}
 use Rattle.life_core.specs.RuleText.{rule_text}
 use Rattle.life_rle.specs.Record.{Contents}
 
--- one tag for each step that a reader at this row and column takes to the cells, which stand in the order of rows and columns
+-- one tag for each step that a reader at this row and column takes to the cells, which stand in the order of rows and columns: `$`, `b` or `o`
 unfoldable pub tags_from : ℕ → ℕ → List (ℕ × ℕ) → List ℕ
 tags_from row column [] = []
 tags_from row column (cell ∷ cells) =
@@ -30,18 +30,18 @@ item_text run = (if run.0 == 1 then [] else decimal run.0) ++ run.1 ∷ []
 
 -- the items' texts, the last of them `!`
 abbrev pub item_texts : List (ℕ × ℕ) → List (List ℕ)
-item_texts cells = map item_text (runs_of (tags_from 0 0 cells)) ++ (33 ∷ []) ∷ []
+item_texts cells = map item_text (runs_of (tags_from 0 0 cells)) ++ codes "!" ∷ []
 
 -- the items laid into lines, after a line that has this many bytes: a line takes the next item if it then has at most 70
 unfoldable pub laid : ℕ → List (List ℕ) → List ℕ
-laid used [] = 10 ∷ []
+laid used [] = codes "\n"
 laid used (item ∷ items) =
     if nat_le (used + length item) 70 then item ++ laid (used + length item) items
-    else 10 ∷ item ++ laid (length item) items
+    else codes "\n" ++ item ++ laid (length item) items
 
 -- `#N text`
 abbrev pub text_line : ℕ → List ℕ → List ℕ
-text_line letter text = 35 ∷ letter ∷ 32 ∷ text ++ 10 ∷ []
+text_line letter text = codes "#" ++ (letter ∷ codes " ") ++ text ++ codes "\n"
 
 -- the line of a text that may be missing
 abbrev pub optional_line : ℕ → Option (List ℕ) → List ℕ
@@ -50,7 +50,7 @@ optional_line letter (Some text) = text_line letter text
 
 -- `#C text`, or `#C` alone
 abbrev pub comment_line : List ℕ → List ℕ
-comment_line text = if length text == 0 then 35 ∷ 67 ∷ 10 ∷ [] else text_line 67 text
+comment_line text = if length text == 0 then codes "#C\n" else text_line 67 text
 
 -- one past the greatest column, and 0 where there are no cells
 abbrev pub width_of : List (ℕ × ℕ) → ℕ
@@ -63,8 +63,7 @@ height_of cells = fold (λ n cell. max n (cell.1 + 1)) 0 cells
 -- `x = W, y = H, rule = R`
 abbrev pub header_line : ℕ → ℕ → List ℕ → List ℕ
 header_line width height rule =
-    120 ∷ 32 ∷ 61 ∷ 32 ∷ decimal width ++ 44 ∷ 32 ∷ 121 ∷ 32 ∷ 61 ∷ 32 ∷ decimal height
-    ++ 44 ∷ 32 ∷ 114 ∷ 117 ∷ 108 ∷ 101 ∷ 32 ∷ 61 ∷ 32 ∷ rule ++ 10 ∷ []
+    codes "x = " ++ decimal width ++ (codes ", y = " ++ decimal height) ++ (codes ", rule = " ++ rule) ++ codes "\n"
 
 -- a cell of a normal set as a pair (column, row)
 abbrev pub coordinates : Cell → ℕ × ℕ

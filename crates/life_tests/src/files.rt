@@ -1,11 +1,11 @@
-//! Pattern files as they are read and written, whole and in pieces, and each public call once.
+//! Pattern files as they are read and written, whole and in pieces.
 ghost use Rattle.std.specs.Prelude.{◌<◌};
 
 use life_core::{Fault, Pattern, Rule};
 use life_rle::{
     FromRead, FromWrite, Inlet, MemoryOutlet, PieceInlet, ReadFault, Record, RleFault, SliceInlet,
-    Text, Texts, laws_of_files, laws_of_lines_and_runs, plain, put_all, read, read_from, read_kept,
-    write,
+    Text, Texts, laws_of_canonical_bodies, laws_of_files, laws_of_lines_and_runs, laws_of_texts,
+    plain, put_all, read, read_from, read_kept, write,
 };
 use std::alloc::{AllocError, Global};
 use std::io;
@@ -203,8 +203,10 @@ fn cells_are_normal(alloc: Global) -> Result<bool, Fault> {
 
 #[test]
 fn records_are_made(rt: HostRuntime) {
-    laws_of_files();
     laws_of_lines_and_runs();
+    laws_of_canonical_bodies();
+    laws_of_texts();
+    laws_of_files();
     assert!(rt; cells_are_normal(rt.alloc()) == Ok(true));
 }
 

@@ -9,4 +9,6 @@ mod files;
 mod kinds;
 pub mod refusing;
 #[cfg(test)]
+mod streams;
+#[cfg(test)]
 mod tests;

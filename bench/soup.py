@@ -6,6 +6,7 @@ file on every machine: the numbers come from a generator of our own (Marsaglia's
 
 soup.py --long BYTES writes a file of exactly that many bytes with as many items as fit.
 soup.py --sparse SIDE PERCENT SEED writes a square of that side in which so many cells of 100 are live.
+soup.py --grid SIDE SOUP SQUARE SEED writes a square of that side parted into squares, with a soup of SOUP by SOUP, half live, in each.
 soup.py --field OBJECTS SEED writes a field of scattered blocks, blinkers and gliders, each in a square of 6 by 6 of its own.
 """
 import sys
@@ -44,6 +45,16 @@ def sparse(side, percent, seed):
     """Rows of a square in which each cell is live with that chance."""
     source = numbers(seed)
     return ["".join("o" if next(source) % 100 < percent else "b" for _ in range(side)) for _ in range(side)]
+
+
+def grid(side, soup, square, seed):
+    """Rows of a square of that side with a soup in the corner of each of its squares."""
+    source = numbers(seed)
+    rows = []
+    for row in range(side):
+        drawn = row % square < soup
+        rows.append("".join("o" if drawn and column % square < soup and next(source) % 2 else "b" for column in range(side)))
+    return rows
 
 
 OBJECTS = [["oo", "oo"], ["ooo"], ["bo", "bbo", "ooo"]]
@@ -101,6 +112,8 @@ def main():
         return
     if sys.argv[1] == "--field":
         rows = field_of(int(sys.argv[2]), int(sys.argv[3]))
+    elif sys.argv[1] == "--grid":
+        rows = grid(*(int(word) for word in sys.argv[2:6]))
     elif sys.argv[1] == "--sparse":
         rows = sparse(int(sys.argv[2]), int(sys.argv[3]), int(sys.argv[4]))
     else:

@@ -1,5 +1,5 @@
 -- Sets that are taken to one another have the same shapes, and so the same least candidate.
-use Rattle.std.proofs.Common.{◌≡◌, ℕ, ◌+◌, ◌%◌, ◌<◌, ◌≤◌, List, sym, ap, ◌∙◌, arith}
+use Rattle.std.proofs.Common.{◌≡◌, ℕ, ◌+◌, ◌/◌, ◌%◌, ◌<◌, ◌≤◌, List, sym, ap, ◌∙◌, arith}
 use Rattle.life_core.specs.declared.cell.Cell.{Cell}
 use Rattle.life_core.specs.declared.orientation.Orientation.{Orientation}
 use Rattle.life_core.specs.declared.orientation.Orientation.TheVariants.{O0}
@@ -13,7 +13,7 @@ use Rattle.life_core.proofs.PatternCorners.{normal_is, normal-moved, same_normal
 use Rattle.life_code.specs.Period.{Returns}
 use Rattle.life_code.specs.Wechsler.{wechsler}
 use Rattle.life_code.specs.Codes.{fits, shape, candidates, least_text}
-use Rattle.life_code.proofs.PeriodLemmas.{generation-add, phase_mod, back_to_start, Taken, taken_on, taken_back}
+use Rattle.life_code.proofs.PeriodLemmas.{many, generation-add, phase_mod, back_to_start, Taken, taken_on, taken_back}
 use Rattle.life_code.proofs.TextLists.{In, least_same}
 use Rattle.life_code.proofs.CandidateLemmas.{in_candidates, candidates_in}
 
@@ -37,14 +37,14 @@ module _ (r : RuleSets) where
   -- the shapes of a set that is taken are shapes of the other
   shape_taken : (X Y : Cells) (p : ℕ) (v : Cell) → 1 ≤ p → Returns r Y p v.column v.row → Taken r X Y → (j : ℕ) (g : Orientation) → (m : ℕ) × (m < p) × (q : Orientation) × (shape g (generation_of r X j) ≡ shape q (generation_of r Y m))
   shape_taken X Y p v h e (i, o, s, taken) j g =
-      let near = phase_mod r Y p v h e (i + j) in
+      let w = many ((i + j) / p) v in
       let m = (i + j) % p in
-      let there : generation_of r X j ≡ placed (after o O0) (plus (turned_cell o near.0) s) (generation_of r Y m) =
-      ap (λ Z. generation_of r Z j) (sym taken) ∙ generation-placed r o s (generation_of r Y i) j ∙ ap (placed o s) (sym (generation-add r Y i j) ∙ near.1) ∙ placed-placed o s O0 near.0 (generation_of r Y m) in (
+      let there : generation_of r X j ≡ placed (after o O0) (plus (turned_cell o w) s) (generation_of r Y m) =
+      ap (λ Z. generation_of r Z j) (sym taken) ∙ generation-placed r o s (generation_of r Y i) j ∙ ap (placed o s) (sym (generation-add r Y i j) ∙ phase_mod r Y p v h e (i + j)) ∙ placed-placed o s O0 w (generation_of r Y m) in (
         m,
         small (i + j) p h,
         after g (after o O0),
-        ap normal (turned_is g (generation_of r X j) ∙ ap (placed g origin) there ∙ placed-placed g origin (after o O0) (plus (turned_cell o near.0) s) (generation_of r Y m))
+        ap normal (turned_is g (generation_of r X j) ∙ ap (placed g origin) there ∙ placed-placed g origin (after o O0) (plus (turned_cell o w) s) (generation_of r Y m))
             ∙ normal-placed (after g (after o O0)) _ (generation_of r Y m),
       )
 

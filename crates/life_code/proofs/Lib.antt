@@ -4,6 +4,14 @@ pub mod CandidateLemmas
 pub mod PeriodLemmas
 pub mod PeriodKinds
 pub mod PeriodSteps
+pub mod PeriodBirths
+pub mod FramesLemmas
+pub mod ApartNear
+pub mod ApartBlocks
+pub mod ApartUnions
+pub mod ApartMoves
+pub mod ApartOrbits
+pub mod ApartParts
 pub mod WechslerReading
 pub mod WechslerTexts
 pub mod WechslerColumns

@@ -1,7 +1,8 @@
 -- The phases of a set form one cycle up to a move, and periods do not depend on the phase, a move or an orientation.
-use Rattle.std.specs.Prelude.{◌≡◌, ℕ, zero, suc, ◌+◌, ◌-◌, ◌*◌, ◌/◌, ◌%◌, ◌<◌, ◌≤◌, ◌&&◌, true}
+use Rattle.std.specs.Prelude.{◌≡◌, ℕ, zero, suc, ◌+◌, ◌-◌, ◌*◌, ◌/◌, ◌%◌, ◌<◌, ◌≤◌, ◌&&◌, true, pos, ◌*ℤ◌}
 use Rattle.std.proofs.Common.{sym, ap, ◌∙◌, subst, arith, add-zero, add-suc}
 use Rattle.std.proofs.lemmas.Bool.{and_parts}
+use Rattle.std.proofs.Math.IntN.{suc_ℤ-*ℤ, zero-*ℤ}
 use Rattle.std.specs.FinSet as set
 use Rattle.life_core.specs.declared.cell.Cell.{Cell}
 use Rattle.life_core.specs.declared.orientation.Orientation.{Orientation}
@@ -11,6 +12,7 @@ use Rattle.life_core.specs.Generations.{next, generation_of}
 use Rattle.life_core.specs.Orientation.{turned_cell}
 use Rattle.life_core.specs.Pattern.{Cells, corner, normal}
 use Rattle.life_core.specs.Rule.{RuleSets}
+use Rattle.life_core.proofs.CellLemmas.{same_coordinates}
 use Rattle.life_core.proofs.OrientationLemmas.{opposite}
 use Rattle.life_core.proofs.PatternCorners.{normal-moved, same_normal}
 use Rattle.life_core.proofs.PatternMembers.{cell_cmp_total, cells_by_members, same_answer}
@@ -47,6 +49,16 @@ returns-Returns r X p e =
     let same = same_cells-eq (normal X) (normal (generation_of r X p)) e in
     (plus (minus (corner X)) (corner (generation_of r X p)), same_normal X (generation_of r X p) same)
 
+-- n times the move v
+abbrev pub many : ℕ → Cell → Cell
+many n v = record { row = pos n *ℤ v.row; column = pos n *ℤ v.column }
+
+many-zero : (v : Cell) → many 0 v ≡ origin
+many-zero v = same_coordinates _ _ (zero-*ℤ v.row) (zero-*ℤ v.column)
+
+pub many-suc : (n : ℕ) (v : Cell) → many (suc n) v ≡ plus (many n v) v
+many-suc n v = same_coordinates _ _ (suc_ℤ-*ℤ (pos n) v.row) (suc_ℤ-*ℤ (pos n) v.column)
+
 module _ (r : RuleSets) where
   pub generation-moved : (v : Cell) (X : Cells) (k : ℕ) → generation_of r (moved v X) k ≡ moved v (generation_of r X k)
   generation-moved v X k = generation-placed r O0 v X k
@@ -62,25 +74,23 @@ module _ (r : RuleSets) where
   return_of_placed X p w o v e = generation-placed r o v X p ∙ ap (placed o v) e ∙ sym (moved-placed w o v X)
 
   -- each multiple of a return is one
-  pub return_of_multiple : (X : Cells) (p : ℕ) (v : Cell) → Returns r X p v.column v.row → (n : ℕ) → (u : Cell) × Returns r X (n * p) u.column u.row
-  return_of_multiple X p v e zero = (origin, ap (generation_of r X) (times_zero p) ∙ sym (placed_origin X))
+  pub return_of_multiple : (X : Cells) (p : ℕ) (v : Cell) → Returns r X p v.column v.row → (n : ℕ) → Returns r X (n * p) (many n v).column (many n v).row
+  return_of_multiple X p v e zero = ap (generation_of r X) (times_zero p) ∙ sym (placed_origin X) ∙ ap (λ u. moved u X) (sym (many-zero v))
     where
       times_zero : (p : ℕ) → 0 * p ≡ 0
       times_zero p = omega arith
   return_of_multiple X p v e (suc n) =
-      let before = return_of_multiple X p v e n in (
-        plus before.0 v,
-        ap (generation_of r X) (times_suc n p) ∙ generation-add r X p (n * p) ∙ ap (λ Z. generation_of r Z (n * p)) e ∙ generation-moved v X (n * p) ∙ ap (moved v) before.1 ∙ moved-moved v before.0 X,
-      )
+      ap (generation_of r X) (times_suc n p) ∙ generation-add r X p (n * p) ∙ ap (λ Z. generation_of r Z (n * p)) e ∙ generation-moved v X (n * p)
+      ∙ ap (moved v) (return_of_multiple X p v e n) ∙ moved-moved v (many n v) X ∙ ap (λ u. moved u X) (sym (many-suc n v))
     where
       times_suc : (n p : ℕ) → suc n * p ≡ p + n * p
       times_suc n p = omega arith
 
   -- each generation is one of the first p, moved
-  pub phase_mod : (X : Cells) (p : ℕ) (v : Cell) → 1 ≤ p → Returns r X p v.column v.row → (i : ℕ) → (u : Cell) × (generation_of r X i ≡ moved u (generation_of r X (i % p)))
+  pub phase_mod : (X : Cells) (p : ℕ) (v : Cell) → 1 ≤ p → Returns r X p v.column v.row → (i : ℕ) → generation_of r X i ≡ moved (many (i / p) v) (generation_of r X (i % p))
   phase_mod X p v h e i =
-      let many = return_of_multiple X p v e (i / p) in
-      (many.0, ap (generation_of r X) (split i p h) ∙ generation-add r X ((i / p) * p) (i % p) ∙ ap (λ Z. generation_of r Z (i % p)) many.1 ∙ generation-moved many.0 X (i % p))
+      ap (generation_of r X) (split i p h) ∙ generation-add r X ((i / p) * p) (i % p) ∙ ap (λ Z. generation_of r Z (i % p)) (return_of_multiple X p v e (i / p))
+      ∙ generation-moved (many (i / p) v) X (i % p)
     where
       split : (i p : ℕ) → 1 ≤ p → i ≡ (i / p) * p + i % p
       split i p h = omega arith
@@ -88,8 +98,7 @@ module _ (r : RuleSets) where
   -- from each phase the set comes back, moved
   pub back_to_start : (X : Cells) (p : ℕ) (v : Cell) → 1 ≤ p → Returns r X p v.column v.row → (k : ℕ) → (m : ℕ) × (u : Cell) × (generation_of r (generation_of r X k) m ≡ moved u X)
   back_to_start X p v h e k =
-      let many = return_of_multiple X p v e k in
-      (k * p - k, many.0, sym (generation-add r X k (k * p - k)) ∙ ap (generation_of r X) (rest k p h) ∙ many.1)
+      (k * p - k, many k v, sym (generation-add r X k (k * p - k)) ∙ ap (generation_of r X) (rest k p h) ∙ return_of_multiple X p v e k)
     where
       rest : (k p : ℕ) → 1 ≤ p → k + (k * p - k) ≡ k * p
       rest k p h = grind arith
@@ -175,8 +184,8 @@ module _ (r : RuleSets) where
   -- and the phase may be taken from the first p
   pub taken_below : (X Y : Cells) (p : ℕ) (v : Cell) → 1 ≤ p → Returns r Y p v.column v.row → Taken X Y → (t : Taken X Y) × (t.0 < p)
   taken_below X Y p v h e (i, o, s, taken) =
-      let near = phase_mod Y p v h e i in
-      ((i % p, after o O0, plus (turned_cell o near.0) s, sym (placed-placed o s O0 near.0 (generation_of r Y (i % p))) ∙ ap (placed o s) (sym near.1) ∙ taken), small i p h)
+      let there = many (i / p) v in
+      ((i % p, after o O0, plus (turned_cell o there) s, sym (placed-placed o s O0 there (generation_of r Y (i % p))) ∙ ap (placed o s) (sym (phase_mod Y p v h e i)) ∙ taken), small i p h)
     where
       small : (i p : ℕ) → 1 ≤ p → i % p < p
       small i p h = omega arith
@@ -191,8 +200,8 @@ module _ (r : RuleSets) where
 
 pub phases_come_again : PhasesComeAgain
 phases_come_again r X p dx dy (h, e, first) i =
-    let near = phase_mod r X p (cell_at (dx, dy)) h e i in
-    (near.0.column, near.0.row, near.1)
+    let there = many (i / p) (cell_at (dx, dy)) in
+    (there.column, there.row, phase_mod r X p (cell_at (dx, dy)) h e i)
 
 -- phase j is phase i again only where the set comes back in less than its period
 pub phases_differ : PhasesDiffer

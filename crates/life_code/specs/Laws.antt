@@ -1,14 +1,16 @@
 -- What makes the definitions of kinds and codes believable, and what a code is good for.
-use Rattle.std.specs.Prelude.{◌≡◌, ◌≢◌, ◌↔◌, ℕ, ◌+◌, ◌-◌, ◌<◌, ◌≤◌, ◌%◌, nat_lt, ◌==◌, if◌then◌else◌, MatchOption, ℤ, Bool, true, false, None, Some, List, [], ◌∷◌, ◌++◌, map, replicate}
-use Rattle.std.specs.List.{range_with_len, last_or}
+use Rattle.std.specs.Prelude.{◌≡◌, ◌≢◌, ◌↔◌, ℕ, ◌+◌, ◌-◌, ◌<◌, ◌≤◌, ◌%◌, nat_lt, ◌==◌, if◌then◌else◌, MatchOption, ℤ, pos, ◌*ℤ◌, Bool, true, false, None, Some, List, [], ◌∷◌, ◌++◌, map, replicate}
+use Rattle.std.specs.List.{range_with_len, last_or, Contains}
 use Rattle.std.specs.Ordering.{is_gt}
+use Rattle.std.specs.FinSet as set
 use Rattle.life_core.specs.declared.orientation.Orientation.{Orientation}
 use Rattle.life_core.specs.Cell.{moved_cell}
 use Rattle.life_core.specs.Pattern.{Cells, image, IsBox, normal}
 use Rattle.life_core.specs.Rule.{RuleSets}
 use Rattle.life_core.specs.Generations.{generation_of}
 use Rattle.life_code.specs.declared.kinds.Kind.{Kind}
-use Rattle.life_code.specs.Period.{HasPeriod, HasKind, kind_of}
+use Rattle.life_code.specs.Apart.{AreAllApart, union_of}
+use Rattle.life_code.specs.Period.{Returns, HasPeriod, HasKind, kind_of}
 use Rattle.life_code.specs.Wechsler.{width, height, column_value, strip, wechsler}
 use Rattle.life_code.specs.Codes.{fits, shape, candidates, text_cmp, least_text, code_of, IsPeriodic, Same}
 use Rattle.life_code.specs.Open.{Spells}
@@ -24,6 +26,24 @@ PhasesComeAgain = (r : RuleSets) (X : Cells) (p : ℕ) (dx dy : ℤ) → HasPeri
 -- .. and no two of the first p are one but for a move.
 abbrev pub PhasesDiffer : Type 0
 PhasesDiffer = (r : RuleSets) (X : Cells) (p : ℕ) (dx dy : ℤ) → HasPeriod r X p dx dy → (i j : ℕ) → i < j → j < p → (ex ey : ℤ) → ¬ (generation_of r X j ≡ image (moved_cell ex ey) (generation_of r X i))
+
+-- Under a rule with a birth at one neighbour, and none at no neighbour, no set with a cell comes back.
+abbrev pub BirthAtOneNeverReturns : Type 0
+BirthAtOneNeverReturns = (r : RuleSets) (X : Cells) (p : ℕ) (dx dy : ℤ) → set.contains r.birth 0 ≡ false → set.contains r.birth 1 ≡ true → X ≢ set.empty → 1 ≤ p → ¬ Returns r X p dx dy
+
+-- Sets of which no two are ever near at one time go on each as if it were alone ..
+abbrev pub ApartGoOnAlone : Type 0
+ApartGoOnAlone =
+    (r : RuleSets) (Ps : List Cells) → set.contains r.birth 0 ≡ false → ((k : ℕ) → AreAllApart (map (λ P. generation_of r P k) Ps)) →
+    (k : ℕ) → generation_of r (union_of Ps) k ≡ union_of (map (λ P. generation_of r P k) Ps)
+
+-- .. and where two of them come back, one p generations later and one q, but not moved by as much in p * q generations, the whole never comes back.
+abbrev pub PartingNeverReturns : Type 0
+PartingNeverReturns =
+    (r : RuleSets) (Ps : List Cells) → set.contains r.birth 0 ≡ false → ((k : ℕ) → AreAllApart (map (λ P. generation_of r P k) Ps)) →
+    (P Q : Cells) (p q : ℕ) (dx dy ex ey : ℤ) → Contains Ps P → Contains Ps Q → P ≢ set.empty → Q ≢ set.empty → 1 ≤ p → 1 ≤ q →
+    Returns r P p dx dy → Returns r Q q ex ey → ¬ ((pos q *ℤ dx ≡ pos p *ℤ ex) × (pos q *ℤ dy ≡ pos p *ℤ ey)) →
+    (n : ℕ) → 1 ≤ n → (fx fy : ℤ) → ¬ Returns r (union_of Ps) n fx fy
 
 -- The columns and rows of a normal set's text are those of its box.
 abbrev pub BoxesHaveOneSize : Type 0

@@ -1,5 +1,8 @@
 pub mod Period
 pub mod PeriodState
+pub mod Apart
+pub mod FramesState
+pub mod ApartState
 pub mod Wechsler
 pub mod DecodeState
 pub mod Codes

@@ -1,8 +1,10 @@
 //! Kinds and codes of periodic patterns.
 #![tactic(auto)]
 
+mod apart;
 mod codes;
 mod decode;
+mod frames;
 mod kinds;
 mod laws;
 mod object;

@@ -12,7 +12,8 @@ use life_core::{Fault, Pattern, Rule};
 use std::alloc::{Allocator, Global};
 use std::marker::Model;
 
-/// A pattern with the code that it has under a rule and a limit of the period. Only `code` makes one.
+/// A pattern with the code that it has under a rule and a limit of the period. Only `code` and
+/// `code_of_kind` make one.
 #[derive(Debug, Drop)]
 pub struct Coded<A: Allocator = Global> {
     rule: Rule,

@@ -3,12 +3,16 @@ ghost use Rattle.std.specs.Prelude.{◌≡◌, ◌↔◌, ◌≤◌, ◌+◌, �
 ghost use Rattle.life_core.specs.Pattern.{IsWithin};
 ghost use Rattle.life_code.specs.Period.{kind_of, HasKind};
 
+use crate::apart::moves_apart;
 use crate::kinds::{Kind, kind_of_period};
 use life_core::{CellList, Fault, PackedRows, Pattern, Plane, Rule, is_packed};
 use std::alloc::Allocator;
 
 /// The greatest limit of a period that may be asked for.
 pub const PERIOD_LIMIT: u32 = 2048;
+
+/// The greatest period of the parts into which a pattern may fall.
+const ORBIT_LIMIT: u32 = 60;
 
 /// The kind of the pattern under a limit of its period, found on planes of the kind `P`.
 pub fn kind_by<A: Allocator + Copy, P: Plane<A>>(
@@ -25,6 +29,10 @@ pub fn kind_by<A: Allocator + Copy, P: Plane<A>>(
 {
     if pattern.population() == 0 {
         return Ok(Kind::Empty);
+    }
+    // Under a birth at one neighbour each generation reaches further on every side.
+    if rule.is_live_next(false, 1) {
+        return Ok(Kind::Unresolved);
     }
     let start = P::from_pattern(alloc, pattern)?;
     let mut plane = P::from_pattern(alloc, pattern)?;
@@ -44,6 +52,9 @@ pub fn kind_by<A: Allocator + Copy, P: Plane<A>>(
         if period >= 2 * mark {
             let here = plane.to_pattern(alloc)?;
             if here.population() == 0 {
+                return Ok(Kind::Unresolved);
+            }
+            if moves_apart::<A, P>(alloc, rule, &here, (period / 4).min(ORBIT_LIMIT))? {
                 return Ok(Kind::Unresolved);
             }
             kept = P::from_pattern(alloc, &here)?;

@@ -2,6 +2,9 @@ use Rattle.std.proofs.Common.{sym}
 use Rattle.life_code.proofs.PeriodKinds.{one_kind}
 use Rattle.life_code.proofs.CodesSteps.{width_of_box, height_of_box}
 use Rattle.life_code.proofs.PeriodLemmas.{phases_come_again, phases_differ}
+use Rattle.life_code.proofs.PeriodBirths.{birth_at_one_never_returns}
+use Rattle.life_code.proofs.ApartUnions.{apart_go_on_alone}
+use Rattle.life_code.proofs.ApartMoves.{parting_never_returns}
 use Rattle.life_code.proofs.WechslerColumns.{strips_are_their_columns}
 use Rattle.life_code.proofs.WechslerTexts.{texts_tell_apart}
 use Rattle.life_code.proofs.CandidateLemmas.{least_is_least}
@@ -11,6 +14,15 @@ use Rattle.life_code.proofs.laws.laws_of_codes.Goals as goal
 
 pub returns-clause-one_kind : goal.returns-clause-one_kind
 returns-clause-one_kind c = one_kind
+
+pub returns-clause-births : goal.returns-clause-births
+returns-clause-births c = birth_at_one_never_returns
+
+pub returns-clause-alone : goal.returns-clause-alone
+returns-clause-alone c = apart_go_on_alone
+
+pub returns-clause-parting : goal.returns-clause-parting
+returns-clause-parting c = parting_never_returns
 
 pub returns-clause-phases_come_again : goal.returns-clause-phases_come_again
 returns-clause-phases_come_again c = phases_come_again

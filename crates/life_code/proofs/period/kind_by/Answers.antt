@@ -1,15 +1,24 @@
-use Rattle.std.proofs.Common.{rules, ◌≡◌, ◌-◌, ◌+◌, arith, sym, ap, ◌∙◌, SFits, w64, to_z-of_z}
+use Rattle.std.proofs.Common.{rules, IsTrue, ◌≡◌, ◌-◌, ◌+◌, arith, sym, ap, ◌∙◌, SFits, w64, to_z-of_z}
 use Rattle.life_core.specs.Generations.{generation_of}
+use Rattle.life_code.proofs.PeriodBirths.{birth_at_one_never_returns}
 use Rattle.life_code.proofs.PeriodKinds.{kind_one}
-use Rattle.life_code.proofs.PeriodSteps.{room_at, generation_more, none_more, nothing, something, found_at, none_at, none_after, none_of_nothing}
+use Rattle.life_code.proofs.PeriodSteps.{room_at, here_room, never_from_phase, generation_more, none_more, nothing, something, found_at, none_at, none_after, none_of_nothing}
 use Rattle.life_code.proofs.period.kind_by.Goals as goal
-use Rattle.life_code.proofs.period.kind_by.Goals.{then-period-mark+in_ok-here+else-population-eq0-2+in_ok-kept-2, else-period-mark}
+use Rattle.life_code.proofs.period.kind_by.Goals.{then-period-mark+in_ok-here+else-population-eq0-2+in_ok-moves_apart+else-branch+in_ok-kept-2, else-period-mark}
 
 pub returns-then-population-eq0-clause-meaning : goal.returns-then-population-eq0-clause-meaning
 returns-then-population-eq0-clause-meaning g c = nothing c.args.pattern.now _ c.population.ensures c.if-population-eq0.true
 
 pub returns-then-population-eq0-clause-value : goal.returns-then-population-eq0-clause-value
 returns-then-population-eq0-clause-value g c = sym (kind_one _ _ _ _ (returns-then-population-eq0-clause-meaning g c))
+
+pub returns-then-is_live_next-clause-meaning : goal.returns-then-is_live_next-clause-meaning
+returns-then-is_live_next-clause-meaning g c =
+    let some = something c.args.pattern.now _ c.population.ensures c.if-population-eq0.false in
+    (some, λ q from below dx dy. birth_at_one_never_returns c.args.rule.now c.args.pattern.now q dx dy c.is_live_next.ensures.kept.quiet (sym c.is_live_next.ensures.value ∙ c.if-is_live_next.true) some from)
+
+pub returns-then-is_live_next-clause-value : goal.returns-then-is_live_next-clause-value
+returns-then-is_live_next-clause-value g c = sym (kind_one _ _ _ _ (returns-then-is_live_next-clause-meaning g c))
 
 pub step-requires : goal.step-requires
 step-requires g c = room_at c.args.rule.now c.args.pattern.now _ c.requires.room (c.loop-period.period - 1) (omega arith) c.loop-period.invariant.now
@@ -57,6 +66,28 @@ returns-then-population-eq0-2-clause-meaning g c =
 pub returns-then-population-eq0-2-clause-value : goal.returns-then-population-eq0-2-clause-value
 returns-then-population-eq0-2-clause-value g c = sym (kind_one _ _ _ _ (returns-then-population-eq0-2-clause-meaning g c))
 
+pub moves_apart-requires-clause-room : goal.moves_apart-requires-clause-room
+moves_apart-requires-clause-room g c =
+    let rule = c.args.rule.now in
+    let cells = c.args.pattern.now in
+    let now : g.P.Plane.cells c.step.new.self ≡ generation_of rule cells c.loop-period.period =
+    generation_more rule cells (g.P.Plane.cells c.loop-period.plane) (g.P.Plane.cells c.step.new.self) c.loop-period.period c.loop-period.auto.period c.loop-period.invariant.now c.in_ok-step.ensures.ok in
+    here_room rule cells _ c.requires.room c.loop-period.period (omega arith) (c.in_ok-here.ensures ∙ now)
+
+pub returns-then-branch-clause-meaning : goal.returns-then-branch-clause-meaning
+returns-then-branch-clause-meaning g c =
+    let rule = c.args.rule.now in
+    let cells = c.args.pattern.now in
+    let period = c.loop-period.period in
+    let some = something cells _ c.population.ensures c.if-population-eq0.false in
+    let now : g.P.Plane.cells c.step.new.self ≡ generation_of rule cells c.loop-period.period =
+    generation_more rule cells (g.P.Plane.cells c.loop-period.plane) (g.P.Plane.cells c.step.new.self) c.loop-period.period c.loop-period.auto.period c.loop-period.invariant.now c.in_ok-step.ensures.ok in
+    let seen : IsTrue c.in_ok-moves_apart.field-0 = search (c.if-branch.true) in
+    (some, λ q from below dx dy. never_from_phase rule cells _ period (c.in_ok-here.ensures ∙ now) (c.in_ok-moves_apart.ensures seen c.is_live_next.ensures.kept) q from dx dy)
+
+pub returns-then-branch-clause-value : goal.returns-then-branch-clause-value
+returns-then-branch-clause-value g c = sym (kind_one _ _ _ _ (returns-then-branch-clause-meaning g c))
+
 pub loop-period-preserved : goal.loop-period-preserved
 loop-period-preserved g c =
     let rule = c.args.rule.now in
@@ -68,15 +99,15 @@ loop-period-preserved g c =
     let none = none_more rule cells c.loop-period.period c.loop-period.invariant.none (none_at rule cells _ _ c.loop-period.period some c.in_ok-start.ensures now c.in_default.ensures) in
     record {
       now = (elim c.if-period-mark.branch [
-        | then-period-mark+in_ok-here+else-population-eq0-2+in_ok-kept-2 w ↦ ap g.P.Plane.cells w.plane-is ∙ w.trim.ensures ∙ now
+        | then-period-mark+in_ok-here+else-population-eq0-2+in_ok-moves_apart+else-branch+in_ok-kept-2 w ↦ ap g.P.Plane.cells w.plane-is ∙ w.trim.ensures ∙ now
         | else-period-mark w ↦ ap g.P.Plane.cells w.plane-is ∙ now
       ]) ∙ ap (generation_of rule cells) (let e : c.loop-period.period ≡ c.loop-period.period + 1 - 1 = omega arith in e);
       mark = elim c.if-period-mark.branch [
-        | then-period-mark+in_ok-here+else-population-eq0-2+in_ok-kept-2 w ↦ omega (arith, w.mark-is)
+        | then-period-mark+in_ok-here+else-population-eq0-2+in_ok-moves_apart+else-branch+in_ok-kept-2 w ↦ omega (arith, w.mark-is)
         | else-period-mark w ↦ omega (arith, w.mark-is, c.loop-period.invariant.mark)
       ];
       kept = elim c.if-period-mark.branch [
-        | then-period-mark+in_ok-here+else-population-eq0-2+in_ok-kept-2 w ↦ ap g.P.Plane.cells w.kept-is ∙ w.in_ok-kept-2.ensures ∙ w.in_ok-here.ensures ∙ now ∙ ap (generation_of rule cells) (sym w.mark-is)
+        | then-period-mark+in_ok-here+else-population-eq0-2+in_ok-moves_apart+else-branch+in_ok-kept-2 w ↦ ap g.P.Plane.cells w.kept-is ∙ w.in_ok-kept-2.ensures ∙ w.in_ok-here.ensures ∙ now ∙ ap (generation_of rule cells) (sym w.mark-is)
         | else-period-mark w ↦ ap g.P.Plane.cells w.kept-is ∙ c.loop-period.invariant.kept ∙ ap (generation_of rule cells) (sym w.mark-is)
       ];
       none = none;

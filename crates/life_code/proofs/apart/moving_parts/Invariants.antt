@@ -1,0 +1,9 @@
+use Rattle.life_code.specs.ApartState.{AreMoving}
+use Rattle.life_code.proofs.ApartParts.{AreTaken}
+use Rattle.life_code.proofs.apart.moving_parts.Given as goal
+
+abbrev pub invariant-loop-frame : goal.invariant-loop-frame
+invariant-loop-frame g l = record {
+  taken : AreTaken l.pattern l.parts.items l.rest.items;
+  moving : AreMoving l.rule l.parts.items;
+}

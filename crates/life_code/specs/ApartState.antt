@@ -1,0 +1,70 @@
+-- What the search for parts that move apart says of them.
+use Rattle.std.specs.Prelude.{◌≡◌, ◌≢◌, ◌⊎◌, ℕ, ◌<◌, ◌≤◌, ℤ, pos, ◌+ℤ◌, ◌*ℤ◌, ◌<ℤ◌, ◌≤ℤ◌, true, List, map}
+use Rattle.std.specs.List.{All, Contains}
+use Rattle.std.specs.FinSet as set
+use Rattle.life_core.specs.declared.cell.Cell.{Cell}
+use Rattle.life_core.specs.Cell.{cell_cmp}
+use Rattle.life_core.specs.Generations.{generation_of}
+use Rattle.life_core.specs.Pattern.{Cells}
+use Rattle.life_core.specs.Rule.{RuleSets}
+use Rattle.life_code.specs.declared.apart.Orbit.{Orbit}
+use Rattle.life_code.specs.declared.apart.Moving.{Moving}
+use Rattle.life_code.specs.Apart.{AreAllApart}
+use Rattle.life_code.specs.FramesState.{IsInFrame}
+use Rattle.life_code.specs.Period.{Returns}
+
+-- X comes back as the orbit says, and until then all its cells lie in the box
+pub record IsOrbit (r : RuleSets) (X : Cells) (o : Orbit) : Type 0 where
+  pub some : X ≢ set.empty
+  pub from : 1 ≤ o.period
+  pub back : Returns r X o.period o.dx o.dy
+  pub inside : (i : ℕ) (c : Cell) → i < o.period → set.contains (generation_of r X i) c ≡ true → IsInFrame o.frame c
+
+-- what moves by dx in p generations comes no nearer to what moves by ex in q generations, and lies beyond it
+abbrev pub ComesNoNearer : ℕ → ℤ → ℕ → ℤ → Type 0
+ComesNoNearer p dx q ex = ((dx ≤ℤ pos 0) × (pos 0 ≤ℤ ex)) ⊎ ((p ≡ q) × (dx ≤ℤ ex))
+
+-- the first stays more than 2 columns to the left of the second ..
+abbrev pub KeepsLeft : Orbit → Orbit → Type 0
+KeepsLeft o p = ((o.frame.columns.greatest +ℤ pos 2) <ℤ p.frame.columns.least) × ComesNoNearer o.period o.dx p.period p.dx
+
+-- .. or more than 2 rows above it
+abbrev pub KeepsAbove : Orbit → Orbit → Type 0
+KeepsAbove o p = ((o.frame.rows.greatest +ℤ pos 2) <ℤ p.frame.rows.least) × ComesNoNearer o.period o.dy p.period p.dy
+
+-- the one stays beside the other, or above it
+abbrev pub KeepApart : Orbit → Orbit → Type 0
+KeepApart o p = (KeepsLeft o p ⊎ KeepsLeft p o) ⊎ (KeepsAbove o p ⊎ KeepsAbove p o)
+
+-- in as many generations they don't move by as much
+abbrev pub MoveDifferently : Orbit → Orbit → Type 0
+MoveDifferently o p = ¬ (((pos p.period *ℤ o.dx) ≡ (pos o.period *ℤ p.dx)) × ((pos p.period *ℤ o.dy) ≡ (pos o.period *ℤ p.dy)))
+
+-- the part goes its orbit
+abbrev pub IsMoving : {A : Type 0} → RuleSets → Moving A → Type 0
+IsMoving {A} r m = IsOrbit r m.part m.orbit
+
+-- the sets of the parts
+abbrev pub parts_of : {A : Type 0} → List (Moving A) → List Cells
+parts_of {A} parts = map (λ (m : Moving A). m.part) parts
+
+-- each part goes its orbit, and no two are ever near at one time
+pub record AreMoving {A : Type 0} (r : RuleSets) (parts : List (Moving A)) : Type 0 where
+  pub each : All (IsMoving r) parts
+  pub apart : (k : ℕ) → AreAllApart (map (λ P. generation_of r P k) (parts_of parts))
+
+-- the orbit keeps apart from those of all the parts
+abbrev pub KeepsApartFrom : {A : Type 0} → List (Moving A) → Orbit → Type 0
+KeepsApartFrom {A} parts o = All (λ (m : Moving A). KeepApart m.orbit o) parts
+
+-- two of the parts don't move by as much
+pub record PartWays {A : Type 0} (parts : List (Moving A)) : Type 0 where
+  pub m : Moving A
+  pub n : Moving A
+  pub has_m : Contains parts m
+  pub has_n : Contains parts n
+  pub differ : MoveDifferently m.orbit n.orbit
+
+-- the cells are those of the two lists
+abbrev pub AreParted : List Cell → List Cell → List Cell → Type 0
+AreParted cells inside outside = set.from_list {R = cell_cmp} cells ≡ set.union (set.from_list inside) (set.from_list outside)

@@ -10,9 +10,10 @@ use Rattle.std.proofs.lemmas.Bool.{or_cases}
 use Rattle.std.proofs.lemmas.List.Sums.{sum_by-cons}
 use Rattle.std.proofs.lemmas.Cmp.{tied_itself}
 use Rattle.std.specs.FinMap as table
+use Rattle.life_code.proofs.ApartUnions.{IsIn, in_from_contains}
 use Rattle.life_census.specs.Counting.{row_cmp, how_often, counts_of}
 use Rattle.life_census.specs.Laws.{RowsAreCounts, RowsAscend}
-use Rattle.life_census.proofs.PartsLaws.{IsIn, in_from_contains, contains_from_in}
+use Rattle.life_census.proofs.PartsLaws.{contains_from_in}
 use Rattle.life_census.proofs.CountingLaws.{Texts, same_text, same_text_is, row_cmp_total, row_cmp_exact, how_often_none, both_T, less_T, none_below, table_of, get_counted, one_if}
 
 abbrev Rows : Type 0

@@ -1,6 +1,6 @@
 pub mod NearLaws
 pub mod PartsLaws
-pub mod LeftLaws
+pub mod RunsLaws
 pub mod FloodLaws
 pub mod PartsSteps
 pub mod PartsListing
@@ -17,6 +17,5 @@ pub mod SteadyVisits
 pub mod SteadyShapes
 pub mod SteadySweep
 pub mod SteadyLemmas
-pub mod SteadyBlocks
 pub mod SteadyEvolution
 pub mod SteadyDecided

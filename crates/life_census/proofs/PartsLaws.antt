@@ -1,17 +1,19 @@
 -- Laws of parts: two that share a cell are one, and a set has one list of them.
-use Rattle.std.specs.Prelude.{◌≡◌, ℕ, true, List, [], ◌∷◌, ◌++◌, ◌⊎◌, refl}
-use Rattle.std.proofs.Common.{sym, ap, subst, ◌∙◌, ◌<◌, inl, inr, arith}
+use Rattle.std.specs.Prelude.{◌≡◌, ℕ, true, List, [], ◌∷◌, ◌++◌, length, refl}
+use Rattle.std.proofs.Common.{sym, ap, subst, ◌∙◌, inl, inr, arith}
 use Rattle.std.specs.Ordering.{is_lt}
 use Rattle.std.proofs.lemmas.Bool.{false≢true, cases_Bool}
 use Rattle.std.proofs.lemmas.Cmp.{tied_itself}
-use Rattle.std.proofs.lemmas.List.Elements.{All-from_recursion, Contains-append_cases, Contains-append_left, Contains-append_right, Contains-push, Contains-push_cases}
+use Rattle.std.proofs.lemmas.List.Elements.{All-from_recursion, Contains-append_left, Contains-append_right, Contains-push}
 use Rattle.std.specs.List.{All, AllByRecursion, Contains}
 use Rattle.std.specs.FinSet as set
 use Rattle.life_core.specs.declared.cell.Cell.{Cell}
 use Rattle.life_core.specs.Pattern.{Cells, IsWithin}
 use Rattle.life_core.proofs.PatternMembers.{cell_cmp_total, same_answer, cells_by_members}
-use Rattle.life_census.specs.Parts.{near, IsChain, AreJoined, IsPart, IsBefore, AreInOrder, ArePartsOf}
-use Rattle.life_census.proofs.NearLaws.{near_symmetric}
+use Rattle.life_code.proofs.ApartNear.{near_symmetric}
+use Rattle.life_code.proofs.ApartUnions.{IsIn, in_from_contains}
+use Rattle.life_code.specs.Apart.{near}
+use Rattle.life_census.specs.Parts.{IsChain, AreJoined, IsPart, IsBefore, AreInOrder, ArePartsOf}
 
 -- ---- chains
 
@@ -69,20 +71,6 @@ before_itself P p = false≢true (ap is_lt (sym (tied_itself cell_cmp_total p.0)
 
 -- ---- membership, by cases on the list
 
-abbrev pub IsIn : {X : Type 0} → List X → X → Type 0
-IsIn [] P = ⊥
-IsIn (Q ∷ Qs) P = (Q ≡ P) ⊎ IsIn Qs P
-
-nowhere : {X : Type 0} (P : X) → Contains [] P → ⊥
-nowhere P h = let none : h.0 < 0 = h.1 in omega arith
-
-pub in_from_contains : {X : Type 0} (Ps : List X) (P : X) → Contains Ps P → IsIn Ps P
-in_from_contains [] P h = nowhere P h
-in_from_contains (Q ∷ Qs) P h = elim (Contains-append_cases (Q ∷ []) Qs P h) [
-  | inl first ↦ elim (Contains-push_cases [] Q P first) [ inl none ↦ absurd (nowhere P none) | inr same ↦ inl same ]
-  | inr rest ↦ inr (in_from_contains Qs P rest)
-]
-
 pub contains_from_in : {X : Type 0} (Ps : List X) (P : X) → IsIn Ps P → Contains Ps P
 contains_from_in [] P h = absurd h
 contains_from_in (Q ∷ Qs) P h = elim h [
@@ -127,3 +115,18 @@ pub one_list_of_parts : (X : Cells) (Ps Qs : List Cells) → ArePartsOf X Ps →
 one_list_of_parts X Ps Qs p q = one_order Ps Qs p.ascend q.ascend
     (λ P h. in_from_contains Qs P (q.all P (all_in (IsPart X) Ps P p.each h)))
     (λ P h. in_from_contains Ps P (p.all P (all_in (IsPart X) Qs P q.each h)))
+
+-- a set with one part is that part
+pub one_whole : (X : Cells) (Ps : List Cells) → ArePartsOf X Ps → length Ps ≡ 1 → Ps ≡ X ∷ []
+one_whole X [] parts one = absurd (omega arith)
+one_whole X (P ∷ Q ∷ Qs) parts one = absurd (omega arith)
+one_whole X (P ∷ []) parts one = λ i. same i ∷ []
+  where
+    here : (c : Cell) → set.contains X c ≡ true → set.contains P c ≡ true
+    here c h = let found = parts.covers c h in elim (in_from_contains (P ∷ []) found.0 found.1) [
+      | inl same ↦ ap (λ (Q : Cells). set.contains Q c) same ∙ found.2
+      | inr none ↦ absurd none
+    ]
+
+    same : P ≡ X
+    same = cells_by_members P X (λ c. same_answer _ _ (parts.each.0.inside c) (here c))

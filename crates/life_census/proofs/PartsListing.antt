@@ -10,12 +10,14 @@ use Rattle.life_core.specs.declared.cell.Cell.{Cell}
 use Rattle.life_core.specs.Cell.{cell_cmp}
 use Rattle.life_core.specs.Pattern.{Cells, in_order}
 use Rattle.life_core.proofs.PatternMembers.{same_cell, has_cell, same_cell-true, same_cell-self, cell_cmp_total, contains-list, contains-items, passing_cell, passed_by_member}
-use Rattle.life_census.specs.Parts.{near, AreJoined, IsPart, IsBefore, AreInOrder, ArePartsOf}
+use Rattle.life_code.proofs.ApartNear.{near_symmetric}
+use Rattle.life_code.proofs.ApartUnions.{IsIn, in_from_contains}
+use Rattle.life_code.specs.Apart.{near}
+use Rattle.life_census.specs.Parts.{AreJoined, IsPart, IsBefore, AreInOrder, ArePartsOf}
 use Rattle.life_census.specs.Parts.{touches, joined_with, parts_in, parts}
 use Rattle.life_census.specs.Laws.{OnePartEach}
 use Rattle.life_core.proofs.PatternOrder.{in_order-sorted, from_list-in_order}
-use Rattle.life_census.proofs.NearLaws.{near_symmetric}
-use Rattle.life_census.proofs.PartsLaws.{joined_self, joined_then, joined_trans, joined_back, near_stays, one_part, IsIn, in_from_contains, contains_from_in, all_in, all_from_in}
+use Rattle.life_census.proofs.PartsLaws.{joined_self, joined_then, joined_trans, joined_back, near_stays, one_part, contains_from_in, all_in, all_from_in}
 use Rattle.life_census.proofs.PartsSteps.{chain_in_more}
 
 -- ---- what touches

@@ -1,23 +1,25 @@
 -- How the parts come off a set, one after another.
-use Rattle.std.specs.Prelude.{◌≡◌, ℕ, ◌+◌, ◌<◌, ◌≤◌, true, false, List, [], ◌∷◌, ◌++◌, length, refl, ◌⊎◌}
+use Rattle.std.specs.Prelude.{◌≡◌, ℕ, zero, suc, ◌+◌, ◌<◌, ◌≤◌, true, false, List, [], ◌∷◌, ◌++◌, length, refl, ◌⊎◌}
 use Rattle.std.proofs.Common.{sym, ap, subst, ◌∙◌, inl, inr, get_or, arith}
 use Rattle.std.specs.declared.cmp.Ordering.TheVariants.{Less}
-use Rattle.std.proofs.lemmas.Bool.{false≢true, cases_Bool, or_cases, or_left, or_right, cases_lt}
-use Rattle.std.proofs.lemmas.List.Elements.{All-contains}
+use Rattle.std.proofs.lemmas.Bool.{false≢true, cases_Bool, cases_lt}
+use Rattle.std.proofs.lemmas.Int.{ints}
 use Rattle.std.proofs.lemmas.List.{get_or_default}
-use Rattle.std.proofs.lemmas.Map.Keys.{Less-from_sorted}
-use Rattle.std.proofs.lemmas.Map.Views.{Contains-from_any}
-use Rattle.std.specs.List.{AllByRecursion, All}
-use Rattle.std.specs.List.Sorted.{IsStrictlySortedBy}
+use Rattle.std.specs.List.{AllByRecursion}
 use Rattle.std.specs.FinSet as set
 use Rattle.life_core.specs.declared.cell.Cell.{Cell}
 use Rattle.life_core.specs.Cell.{cell_cmp}
 use Rattle.life_core.specs.Pattern.{Cells}
-use Rattle.life_core.proofs.PatternMembers.{has_cell, same_cell-true, contains-list}
-use Rattle.life_census.specs.Parts.{near, IsChain, AreJoined, IsPart, IsBefore, AreInOrder, ArePartsOf}
-use Rattle.life_census.specs.FloodState.{IsClear, IsFlood}
-use Rattle.life_census.proofs.NearLaws.{near_symmetric}
-use Rattle.life_census.proofs.PartsLaws.{joined_trans, joined_back, near_stays, one_part, IsIn, contains_from_in, all_in}
+use Rattle.life_code.proofs.ApartNear.{near_symmetric}
+use Rattle.life_code.proofs.ApartUnions.{IsIn}
+use Rattle.life_code.specs.Apart.{near}
+use Rattle.life_census.specs.declared.runs.Run.{Run}
+use Rattle.life_census.specs.Parts.{IsChain, AreJoined, IsPart, IsBefore, AreInOrder, ArePartsOf}
+use Rattle.life_census.specs.RunsState.{cells_in, first_cell, IsRunBefore, AreRunsInOrder}
+use Rattle.life_census.specs.FloodState.{IsClear, IsFlood, IsKept, AreKept}
+use Rattle.life_census.proofs.PartsLaws.{joined_trans, joined_back, near_stays, one_part, contains_from_in, all_in}
+use Rattle.life_census.proofs.RunsLaws.{IsInRun, in_some, in_any, none_in, comes_first}
+use Rattle.life_census.proofs.FloodLaws.{in_kept}
 
 -- Ps are the first parts of X, and L is what is left of X
 pub record IsParting (X : Cells) (Ps : List Cells) (L : Cells) : Type 0 where
@@ -58,64 +60,51 @@ chain_in_more L X more c d (e ∷ es) h = (more e h.0, h.1, chain_in_more L X mo
 before_fewer : (P L M : Cells) → ((c : Cell) → set.contains M c ≡ true → set.contains L c ≡ true) → IsBefore P L → IsBefore P M
 before_fewer P L M fewer p = (p.0, p.1, λ d h. p.2 d (fewer d h))
 
-module _ (X : Cells) (Ps : List Cells) (L : Cells) (p : IsParting X Ps L) (start : Cell) (cs : List Cell) (M : Cells) (f : IsFlood L start cs M) (clear : All (IsClear M) cs) where
-  taken : (c : Cell) → has_cell cs c ≡ true → set.contains L c ≡ true
-  taken c h = f.split c ∙ or_left _ _ h
-
-  kept : (c : Cell) → set.contains M c ≡ true → set.contains L c ≡ true
-  kept c h = f.split c ∙ or_right _ _ h
-
-  clear_round : (c d : Cell) → has_cell cs c ≡ true → near c d ≡ true → set.contains M d ≡ false
-  clear_round c d h close = All-contains (IsClear M) cs c clear (Contains-from_any same_cell-true c cs h) d close
-
-  from_start : (c : Cell) → has_cell cs c ≡ true → AreJoined X start c
+module _ (X : Cells) (Ps : List Cells) (L : Cells) (p : IsParting X Ps L) (start : Cell) (P M : Cells) (f : IsFlood L start P M) (clear : IsClear P M) where
+  from_start : (c : Cell) → set.contains P c ≡ true → AreJoined X start c
   from_start c h = let j = f.joined c h in (j.0, chain_in_more L X p.inside start c j.0 j.1)
 
-  nobody_near : (c d : Cell) → has_cell cs c ≡ true → set.contains X d ≡ true → has_cell cs d ≡ false → near c d ≡ true → false ≡ true
+  nobody_near : (c d : Cell) → set.contains P c ≡ true → set.contains X d ≡ true → set.contains P d ≡ false → near c d ≡ true → false ≡ true
   nobody_near c d h there other close = elim (p.covers d there) [
     | inl found ↦
-        let back = near_stays X found.0 (all_in (IsPart X) Ps found.0 p.each found.1) d c found.2 (p.inside c (taken c h)) (near_symmetric d c ∙ close) in
-        sym (all_in (λ P. (e : Cell) → set.contains P e ≡ true → set.contains L e ≡ false) Ps found.0 p.fresh found.1 c back) ∙ taken c h
-    | inr live ↦ elim (or_cases (has_cell cs d) (set.contains M d) (sym (f.split d) ∙ live)) [
+        let back = near_stays X found.0 (all_in (IsPart X) Ps found.0 p.each found.1) d c found.2 (p.inside c (f.taken c h)) (near_symmetric d c ∙ close) in
+        sym (all_in (λ P. (e : Cell) → set.contains P e ≡ true → set.contains L e ≡ false) Ps found.0 p.fresh found.1 c back) ∙ f.taken c h
+    | inr live ↦ elim (f.split d live) [
       | inl here ↦ sym other ∙ here
-      | inr there ↦ sym (clear_round c d h close) ∙ there
+      | inr there ↦ sym (clear c d h close) ∙ there
     ]
   ]
 
   -- the cells that were taken are a part
-  pub flood_is_part : IsPart X (set.from_list cs)
+  pub flood_is_part : IsPart X P
   flood_is_part = record {
-    inside = λ c h. p.inside c (taken c (sym (contains-list cs c) ∙ h));
-    cell = (start, contains-list cs start ∙ f.begins);
-    joined = λ c d h k.
-        let in_X = p.inside start (taken start f.begins) in
-        joined_trans X c start d (joined_back X start c in_X (from_start c (sym (contains-list cs c) ∙ h))) (from_start d (sym (contains-list cs d) ∙ k));
+    inside = λ c h. p.inside c (f.taken c h);
+    cell = (start, f.begins);
+    joined = λ c d h k. joined_trans X c start d (joined_back X start c (p.inside start (f.taken start f.begins)) (from_start c h)) (from_start d k);
     apart = λ c d h there other. elim (cases_Bool (near c d)) [
-      | inl close ↦ absurd (false≢true (nobody_near c d (sym (contains-list cs c) ∙ h) there (sym (contains-list cs d) ∙ other) close))
+      | inl close ↦ absurd (false≢true (nobody_near c d h there other close))
       | inr far ↦ far
     ];
   }
 
-  pub parting_goes_on : ((d : Cell) → set.contains M d ≡ true → cell_cmp start d ≡ Less) → IsParting X (Ps ++ set.from_list cs ∷ []) M
-  parting_goes_on least =
-      let Q : Cells = set.from_list cs in
-      record {
-        each = all_push (IsPart X) Ps Q p.each flood_is_part;
-        covers = λ c h. elim (p.covers c h) [
-          | inl found ↦ inl (found.0, in_push Ps Q found.0 found.1, found.2)
-          | inr live ↦ elim (or_cases (has_cell cs c) (set.contains M c) (sym (f.split c) ∙ live)) [
-            | inl here ↦ inl (Q, in_last Ps Q, contains-list cs c ∙ here)
-            | inr there ↦ inr there
-          ]
-        ];
-        inside = λ c h. p.inside c (kept c h);
-        fresh = all_push _ Ps Q (all_weaker _ _ (λ P fresh c h. fewer c (fresh c h)) Ps p.fresh) (λ c h. f.fresh c (sym (contains-list cs c) ∙ h));
-        ascend = order_push Ps Q p.ascend (all_weaker _ _ (λ P before. before_fewer P L Q (λ c h. taken c (sym (contains-list cs c) ∙ h)) before) Ps p.before);
-        before = all_push _ Ps Q (all_weaker _ _ (λ P before. before_fewer P L M kept before) Ps p.before) (start, contains-list cs start ∙ f.begins, least);
-      }
+  pub parting_goes_on : ((d : Cell) → set.contains M d ≡ true → cell_cmp start d ≡ Less) → IsParting X (Ps ++ P ∷ []) M
+  parting_goes_on least = record {
+    each = all_push (IsPart X) Ps P p.each flood_is_part;
+    covers = λ c h. elim (p.covers c h) [
+      | inl found ↦ inl (found.0, in_push Ps P found.0 found.1, found.2)
+      | inr live ↦ elim (f.split c live) [
+        | inl here ↦ inl (P, in_last Ps P, here)
+        | inr there ↦ inr there
+      ]
+    ];
+    inside = λ c h. p.inside c (f.kept c h);
+    fresh = all_push _ Ps P (all_weaker _ _ (λ P fresh c h. fewer c (fresh c h)) Ps p.fresh) f.fresh;
+    ascend = order_push Ps P p.ascend (all_weaker _ _ (λ Q before. before_fewer Q L P f.taken before) Ps p.before);
+    before = all_push _ Ps P (all_weaker _ _ (λ Q before. before_fewer Q L M f.kept before) Ps p.before) (start, f.begins, least);
+  }
     where
       fewer : (c : Cell) → set.contains L c ≡ false → set.contains M c ≡ false
-      fewer c h = elim (cases_Bool (set.contains M c)) [ inl live ↦ absurd (false≢true (sym h ∙ kept c live)) | inr dead ↦ dead ]
+      fewer c h = elim (cases_Bool (set.contains M c)) [ inl live ↦ absurd (false≢true (sym h ∙ f.kept c live)) | inr dead ↦ dead ]
 
 -- nothing is left
 pub parting_ends : (X : Cells) (Ps : List Cells) (L : Cells) → IsParting X Ps L → ((c : Cell) → set.contains L c ≡ false) → ArePartsOf X Ps
@@ -134,43 +123,71 @@ parting_ends X Ps L p none = record {
   ascend = p.ascend;
 }
 
--- what is left of a sorted list comes after its place in the list
-pub left_after : (cs : List Cell) (i : ℕ) (e : Cell) (L M : Cells) → IsStrictlySortedBy cell_cmp cs → i < length cs
-    → ((k : ℕ) (d : Cell) → k < i → set.contains L (get_or cs k d) ≡ false) → ((c : Cell) → set.contains L c ≡ true → set.contains (set.from_list {R = cell_cmp} cs) c ≡ true)
-    → ((c : Cell) → set.contains M c ≡ true → set.contains L c ≡ true) → set.contains M (get_or cs i e) ≡ false
-    → (d : Cell) → set.contains M d ≡ true → cell_cmp (get_or cs i e) d ≡ Less
-left_after cs i e L M sorted low past inside kept none d h =
-    let place = Contains-from_any same_cell-true d cs (sym (contains-list cs d) ∙ inside d (kept d h)) in
-    go place.0 place.1 place.2 (cases_lt place.0 i)
-  where
-    go : (k : ℕ) → k < length cs → get_or cs k d ≡ d → (k < i) ⊎ (i ≤ k) → cell_cmp (get_or cs i e) d ≡ Less
-    go k short at (inl before) = absurd (false≢true (sym (past k d before) ∙ ap (set.contains L) at ∙ kept d h))
-    go k short at (inr after) = by_lt k short at after (cases_lt i k)
-      where
-        by_lt : (k : ℕ) → k < length cs → get_or cs k d ≡ d → i ≤ k → (i < k) ⊎ (k ≤ i) → cell_cmp (get_or cs i e) d ≡ Less
-        by_lt k short at after (inl later) =
-            ap (λ x. cell_cmp x d) (get_or_default cs i e d low) ∙ ap (cell_cmp (get_or cs i d)) (sym at) ∙ Less-from_sorted cell_cmp cs i k d sorted later short
-        by_lt k short at after (inr same) =
-            let one : k ≡ i = omega arith in
-            absurd (false≢true (sym none ∙ ap (set.contains M) (get_or_default cs i e d low ∙ ap (λ n. get_or cs n d) (sym one) ∙ at) ∙ h))
+-- ---- by runs
 
--- no cell is left where none of the list is
-pub none_left : (cs : List Cell) (i : ℕ) (L : Cells) → length cs ≤ i → ((k : ℕ) (d : Cell) → k < i → set.contains L (get_or cs k d) ≡ false)
-    → ((c : Cell) → set.contains L c ≡ true → set.contains (set.from_list {R = cell_cmp} cs) c ≡ true) → (c : Cell) → set.contains L c ≡ false
-none_left cs i L end past inside c = elim (cases_Bool (set.contains L c)) [
-  | inl live ↦
-      let place = Contains-from_any same_cell-true c cs (sym (contains-list cs c) ∙ inside c live) in
-      sym (ap (set.contains L) place.2) ∙ past place.0 c (let short : place.0 < length cs = place.1 in omega arith)
-  | inr dead ↦ dead
-]
+-- what is left behind a run that was taken comes after the run's first cell
+pub left_after : (L M : List Run) (i : ℕ) (e : Run) → AreRunsInOrder L → i < length L → 1 ≤ (get_or L i e).len → ((k : ℕ) (d : Run) → k < i → (get_or L k d).len ≡ 0) → AreKept L M
+    → set.contains (cells_in M) (first_cell (get_or L i e)) ≡ false → (d : Cell) → set.contains (cells_in M) d ≡ true → cell_cmp (first_cell (get_or L i e)) d ≡ Less
+left_after L M i e order low some past kept gone d h = let found = in_some M d h in go found.0 found.1 found.2 found.3 found.4 (cases_lt found.0 i)
+  where
+    r : Run
+    r = get_or L i e
+
+    by_place : (k : ℕ) (s : Run) → k < length M → get_or M k s ≡ s → IsInRun s d → (i < k) ⊎ (k ≤ i) → i ≤ k → cell_cmp (first_cell r) d ≡ Less
+    by_place k s short at in_s (inl behind) after =
+        let high : k < length L = let same = kept.length in omega arith in
+        let in_L : IsInRun (get_or L k s) d = in_kept _ _ d (kept.each k s) (subst (λ (t : Run). IsInRun t d) (sym at) in_s) in
+        let before : IsRunBefore r (get_or L k s) = subst (λ (t : Run). IsRunBefore t (get_or L k s)) (get_or_default L i s e low) (order i k s behind high) in
+        comes_first (first_cell r) d (elim before [
+          | inl above ↦ inl (let row = in_L.row in omega (arith, ints))
+          | inr left ↦ inr (left.0 ∙ sym in_L.row, let p = left.1 in let q = in_L.low in omega (arith, ints))
+        ])
+    by_place k s short at in_s (inr same) after =
+        let one : k ≡ i = omega arith in
+        let kept_i : IsKept r (get_or M i e) = kept.each i e in
+        let in_M : IsInRun (get_or M i e) d = subst (λ (t : Run). IsInRun t d) (sym at ∙ ap (λ n. get_or M n s) one ∙ get_or_default M i s e (let high = short in omega arith)) in_s in
+        let first : IsInRun (get_or M i e) (first_cell r) = record {
+          row = sym kept_i.row;
+          low = let p = kept_i.first in omega (arith, ints);
+          high = let p = kept_i.first in let low = in_M.low in let high = in_M.high in omega (arith, ints);
+        } in
+        absurd (false≢true (sym gone ∙ in_any M i e (first_cell r) (let high = short in omega arith) first))
+
+    go : (k : ℕ) (s : Run) → k < length M → get_or M k s ≡ s → IsInRun s d → (k < i) ⊎ (i ≤ k) → cell_cmp (first_cell r) d ≡ Less
+    go k s short at in_s (inl before) =
+        let none = past k s before in
+        let fewer = (kept.each k s).len in
+        let in_M : IsInRun (get_or M k s) d = subst (λ (t : Run). IsInRun t d) (sym at) in_s in
+        let low = in_M.low in
+        let high = in_M.high in
+        absurd (omega (arith, ints))
+    go k s short at in_s (inr after) = by_place k s short at in_s (cases_lt i k) after
+
+-- where all runs are empty, no cell is left
+pub none_left : (L : List Run) (i : ℕ) → length L ≤ i → ((k : ℕ) (d : Run) → k < i → (get_or L k d).len ≡ 0) → (c : Cell) → set.contains (cells_in L) c ≡ false
+none_left L i end past c = none_in L c (λ k r low at inside.
+    let none : r.len ≡ 0 = ap (λ (s : Run). s.len) (sym at) ∙ past k r (omega arith) in
+    let p = inside.low in
+    let q = inside.high in
+    omega (arith, ints))
 
 -- one more place is past
-pub past_more : (cs : List Cell) (i : ℕ) (e : Cell) (L M : Cells) → i < length cs → ((k : ℕ) (d : Cell) → k < i → set.contains L (get_or cs k d) ≡ false)
-    → ((c : Cell) → set.contains L c ≡ false → set.contains M c ≡ false) → set.contains M (get_or cs i e) ≡ false
-    → (k : ℕ) (d : Cell) → k < i + 1 → set.contains M (get_or cs k d) ≡ false
-past_more cs i e L M low past fewer here k d h = elim (cases_lt k i) [
-  | inl before ↦ fewer (get_or cs k d) (past k d before)
+pub past_more : (L M : List Run) (i : ℕ) (e : Run) → i < length M → ((k : ℕ) (d : Run) → k < i → (get_or L k d).len ≡ 0) → AreKept L M → (get_or M i e).len ≡ 0
+    → (k : ℕ) (d : Run) → k < i + 1 → (get_or M k d).len ≡ 0
+past_more L M i e low past kept here k d h = elim (cases_lt k i) [
+  | inl before ↦ let none = past k d before in let fewer = (kept.each k d).len in omega arith
   | inr after ↦
       let one : k ≡ i = omega arith in
-      ap (λ n. set.contains M (get_or cs n d)) one ∙ ap (set.contains M) (get_or_default cs i d e low) ∙ here
+      ap (λ n. (get_or M n d).len) one ∙ ap (λ (s : Run). s.len) (get_or_default M i d e low) ∙ here
 ]
+
+-- the place of the start is past where its cell is gone
+pub start_gone : (L M : List Run) (i : ℕ) (e : Run) → i < length M → AreKept L M → set.contains (cells_in M) (first_cell (get_or L i e)) ≡ false → (get_or M i e).len ≡ 0
+start_gone L M i e low kept gone = go (get_or M i e).len refl
+  where
+    go : (n : ℕ) → (get_or M i e).len ≡ n → (get_or M i e).len ≡ 0
+    go zero is = is
+    go (suc n) is =
+        let k = kept.each i e in
+        let first = k.first in
+        absurd (false≢true (sym gone ∙ in_any M i e (first_cell (get_or L i e)) low (record { row = sym k.row; low = omega (arith, ints); high = omega (arith, ints) })))

@@ -15,12 +15,14 @@ use Rattle.life_code.specs.declared.kinds.Kind.{Kind}
 use Rattle.life_code.specs.declared.kinds.Kind.TheVariants.{Empty, Still, Oscillator, Ship, Unresolved}
 use Rattle.life_code.specs.Period.{HasKind, kind_of}
 use Rattle.life_code.proofs.PeriodKinds.{kind_is}
+use Rattle.life_code.proofs.ApartNear.{near_symmetric}
+use Rattle.life_code.proofs.ApartUnions.{IsIn, in_from_contains}
+use Rattle.life_code.specs.Apart.{AreApart}
 use Rattle.life_census.specs.Parts.{IsPart, IsBefore, AreInOrder, touches, parts}
-use Rattle.life_census.specs.Steady.{AreApart, IsSteady, is_staying, stays, are_apart, first_generations, keep_apart, all_keep_apart, is_steady}
+use Rattle.life_census.specs.Steady.{IsSteady, is_staying, stays, are_apart, first_generations, keep_apart, all_keep_apart, is_steady}
 use Rattle.life_census.specs.SteadyState.{StaysFor}
 use Rattle.life_census.specs.Laws.{SteadyIsDecided}
-use Rattle.life_census.proofs.NearLaws.{near_symmetric}
-use Rattle.life_census.proofs.PartsLaws.{IsIn, in_from_contains, contains_from_in, before_itself}
+use Rattle.life_census.proofs.PartsLaws.{contains_from_in, before_itself}
 use Rattle.life_census.proofs.PartsListing.{touching, touches_by, parts_are}
 use Rattle.life_census.proofs.SteadyPhases.{still_stays, oscillator_stays, others_go, phase}
 

@@ -1,6 +1,6 @@
 -- How steady fields evolve.
-use Rattle.std.specs.Prelude.{◌≡◌, ℕ, zero, suc, true, false, ◌||◌, List, [], ◌∷◌, map}
-use Rattle.std.proofs.Common.{sym, ap, subst, ◌∙◌, inl, inr, refl}
+use Rattle.std.specs.Prelude.{◌≡◌, ℕ, true, false, ◌||◌, List, [], ◌∷◌, map}
+use Rattle.std.proofs.Common.{sym, ap, subst, ◌∙◌, inl, inr}
 use Rattle.std.proofs.lemmas.Bool.{false≢true, cases_Bool, or_left, or_right, false_from_ne_true}
 use Rattle.std.proofs.lemmas.List.Elements.{All-contains, All-from_recursion}
 use Rattle.std.specs.List.{AllByRecursion, Contains}
@@ -9,47 +9,16 @@ use Rattle.life_core.specs.declared.cell.Cell.{Cell}
 use Rattle.life_core.specs.Cell.{cell_cmp}
 use Rattle.life_core.specs.Pattern.{Cells}
 use Rattle.life_core.specs.Rule.{RuleSets}
-use Rattle.life_core.specs.Generations.{next, generation_of}
+use Rattle.life_core.specs.Generations.{generation_of}
 use Rattle.life_core.proofs.PatternMembers.{cell_cmp_total, same_answer, cells_by_members}
+use Rattle.life_code.proofs.ApartNear.{near_self}
+use Rattle.life_code.proofs.ApartUnions.{IsIn, in_from_contains, generation-union_of}
+use Rattle.life_code.specs.Apart.{AreApart, AreAllApart, union_of}
 use Rattle.life_census.specs.Parts.{IsPart, IsBefore, AreInOrder, ArePartsOf, parts}
-use Rattle.life_census.specs.Steady.{AreApart, IsSteady}
-use Rattle.life_census.specs.Laws.{union_of, SteadyFieldsEvolveByParts, PartsShareNoCell}
-use Rattle.life_census.proofs.NearLaws.{near_self}
-use Rattle.life_census.proofs.PartsLaws.{IsIn, in_from_contains, before_itself}
+use Rattle.life_census.specs.Steady.{IsSteady}
+use Rattle.life_census.specs.Laws.{SteadyFieldsEvolveByParts, PartsShareNoCell}
+use Rattle.life_census.proofs.PartsLaws.{before_itself}
 use Rattle.life_census.proofs.PartsListing.{parts_are}
-use Rattle.life_census.proofs.SteadyBlocks.{next-union, next-empty}
-
--- ---- lists of sets that are apart
-
-abbrev pub AreAllApart : List Cells → Type 0
-AreAllApart [] = Unit {0}
-AreAllApart (P ∷ Ps) = AllByRecursion (AreApart P) Ps × AreAllApart Ps
-
-apart_from_union : (P : Cells) (Ps : List Cells) → AllByRecursion (AreApart P) Ps → AreApart P (union_of Ps)
-apart_from_union P [] all c d h k = absurd (false≢true (sym (set.contains-empty cell_cmp d) ∙ k))
-apart_from_union P (Q ∷ Qs) all c d h k = elim (cases_Bool (set.contains Q d)) [
-  | inl held ↦ all.0 c d h held
-  | inr free ↦ apart_from_union P Qs all.1 c d h (ap (λ b. b || set.contains (union_of Qs) d) (sym free) ∙ sym (set.contains-union cell_cmp_total Q (union_of Qs) d) ∙ k)
-]
-
-pub next-union_of : (r : RuleSets) (Ps : List Cells) → set.contains r.birth 0 ≡ false → AreAllApart Ps → next r (union_of Ps) ≡ union_of (map (next r) Ps)
-next-union_of r [] none apart = next-empty r none
-next-union_of r (P ∷ Ps) none apart = next-union r P (union_of Ps) none (apart_from_union P Ps apart.0) ∙ ap (set.union (next r P)) (next-union_of r Ps none apart.1)
-
-map_next : (r : RuleSets) (k : ℕ) (Ps : List Cells) → map (next r) (map (λ P. generation_of r P k) Ps) ≡ map (λ P. generation_of r P (suc k)) Ps
-map_next r k [] = refl
-map_next r k (P ∷ Ps) = ap (λ (Qs : List Cells). next r (generation_of r P k) ∷ Qs) (map_next r k Ps)
-
-map_none : (r : RuleSets) (Ps : List Cells) → map (λ P. generation_of r P 0) Ps ≡ Ps
-map_none r [] = refl
-map_none r (P ∷ Ps) = ap (λ (Qs : List Cells). P ∷ Qs) (map_none r Ps)
-
--- sets whose generations stay apart evolve each for itself
-pub generation-union_of : (r : RuleSets) (Ps : List Cells) → set.contains r.birth 0 ≡ false → ((k : ℕ) → AreAllApart (map (λ P. generation_of r P k) Ps))
-    → (k : ℕ) → generation_of r (union_of Ps) k ≡ union_of (map (λ P. generation_of r P k) Ps)
-generation-union_of r Ps none apart zero = ap union_of (sym (map_none r Ps))
-generation-union_of r Ps none apart (suc k) =
-    ap (next r) (generation-union_of r Ps none apart k) ∙ next-union_of r (map (λ P. generation_of r P k) Ps) none (apart k) ∙ ap union_of (map_next r k Ps)
 
 -- ---- steady fields
 

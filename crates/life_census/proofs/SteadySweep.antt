@@ -19,10 +19,10 @@ use Rattle.life_core.specs.declared.cell.Cell.{Cell}
 use Rattle.life_core.specs.Cell.{cell_cmp, moved_cell}
 use Rattle.life_core.proofs.CellListStep.{cell_cmp-moved}
 use Rattle.life_core.proofs.PatternMembers.{cell_cmp_total, same_answer}
+use Rattle.life_code.proofs.ApartNear.{near_within, near_symmetric}
+use Rattle.life_code.specs.Apart.{within_two, near}
 use Rattle.life_census.specs.declared.meeting.Visit.{Visit}
-use Rattle.life_census.specs.Parts.{within_two, near}
 use Rattle.life_census.specs.SteadyState.{visit_cmp, ComesBefore, KeepApart, KeepApartUpTo, AreAllApart, AreRowsApart}
-use Rattle.life_census.proofs.NearLaws.{near_within, near_symmetric}
 
 -- ---- the test of two cells
 

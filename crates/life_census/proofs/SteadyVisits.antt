@@ -20,9 +20,10 @@ use Rattle.life_core.proofs.Placements.{moved, undo, undo-place, place-undo, con
 use Rattle.life_code.specs.declared.period.TheConstants.{PERIOD_LIMIT}
 use Rattle.life_code.proofs.PeriodLemmas.{generation-moved}
 use Rattle.life_core.proofs.PatternOrder.{has_cell-in_order}
+use Rattle.life_code.proofs.ApartUnions.{IsIn, in_from_contains}
 use Rattle.life_census.specs.declared.meeting.Visit.{Visit}
 use Rattle.life_census.specs.SteadyState.{visit_of, phases_of, StaysFor, IsInside, AreVisits}
-use Rattle.life_census.proofs.PartsLaws.{IsIn, in_from_contains, contains_from_in}
+use Rattle.life_census.proofs.PartsLaws.{contains_from_in}
 use Rattle.life_census.proofs.SteadyPhases.{phase}
 
 -- ---- the phases of one part

@@ -2,7 +2,7 @@
 use Rattle.std.specs.Prelude.{◌≡◌, ℕ, ◌+◌, ◌<◌, ◌≤◌, List, [], ◌∷◌, length, slice_index_or, Option}
 use Rattle.std.specs.declared.cmp.Ordering.TheVariants.{Less, Equal, Greater}
 use Rattle.std.specs.Ordering.{match_ordering}
-use Rattle.life_core.specs.Pattern.{Cells}
+use Rattle.life_core.specs.Pattern.{Cells, normal}
 use Rattle.life_core.specs.Rule.{RuleSets}
 use Rattle.life_code.specs.Codes.{code_of}
 use Rattle.life_census.specs.declared.rows.Row.{Row}
@@ -30,9 +30,9 @@ IsPlaceFor {A} rows t i = (i ≤ length rows) × (i < length rows → (d : Row A
 abbrev pub IsKnown : {A : Type 0} → RuleSets → ℕ → Known A → Type 0
 IsKnown r limit one = one.code ≡ code_of r one.shape limit
 
--- the shape at place i is X
+-- the shape at place i is X, moved
 abbrev pub HasShapeAt : {A : Type 0} → List (Known A) → Cells → ℕ → Type 0
-HasShapeAt {A} known X i = (i < length known) × ((d : Known A) → (slice_index_or known i d).shape ≡ X)
+HasShapeAt {A} known X i = (i < length known) × ((d : Known A) → normal X ≡ normal (slice_index_or known i d).shape)
 
 -- what is known at place i is this code, or that there is none
 abbrev pub HasCodeAt : {A : Type 0} → List (Known A) → Option (List ℕ) → ℕ → Type 0

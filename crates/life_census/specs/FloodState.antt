@@ -1,25 +1,91 @@
--- A flood: cells that chains join to a start go from a set to a list.
-use Rattle.std.specs.Prelude.{◌≡◌, ◌+◌, true, false, ◌||◌, List, ◌++◌, length}
+-- A flood: the cells that chains join to a start go from a set to another, run by run.
+use Rattle.std.specs.Prelude.{◌≡◌, ◌⊎◌, ℕ, zero, suc, ◌+◌, ◌≤◌, ◌<◌, ℤ, pos, ◌+ℤ◌, ◌≤ℤ◌, ◌<ℤ◌, int_lt, int_le, Bool, true, false, ◌||◌, ◌&&◌, List, [], ◌∷◌, ◌++◌, length, slice_index_or, slice_set}
+use Rattle.std.specs.List.{All, Contains, count_by}
+use Rattle.std.specs.Ordering.{int_eq}
 use Rattle.std.specs.FinSet as set
 use Rattle.life_core.specs.declared.cell.Cell.{Cell}
 use Rattle.life_core.specs.Pattern.{Cells}
-use Rattle.life_core.proofs.PatternMembers.{has_cell}
-use Rattle.life_census.specs.Parts.{near, AreJoined}
+use Rattle.life_code.specs.Apart.{near}
+use Rattle.life_census.specs.declared.runs.Run.{Run}
+use Rattle.life_census.specs.Parts.{AreJoined}
+use Rattle.life_census.specs.RunsState.{cells_in, emptied}
 
--- L has no cell near c
-abbrev pub IsClear : Cells → Cell → Type 0
-IsClear L c = (d : Cell) → near c d ≡ true → set.contains L d ≡ false
+-- ---- sets
 
--- of L, some cells that chains join to the start have gone to the list, and the others are left
-pub record IsFlood (L : Cells) (start : Cell) (cs : List Cell) (left : Cells) : Type 0 where
-  pub begins : has_cell cs start ≡ true
-  pub split : (c : Cell) → set.contains L c ≡ (has_cell cs c || set.contains left c)
-  pub fresh : (c : Cell) → has_cell cs c ≡ true → set.contains left c ≡ false
-  pub joined : (c : Cell) → has_cell cs c ≡ true → AreJoined L start c
+-- no cell of L is near a cell of P
+abbrev pub IsClear : Cells → Cells → Type 0
+IsClear P L = (c d : Cell) → set.contains P c ≡ true → near c d ≡ true → set.contains L d ≡ false
 
--- cells near c have gone from the set to the end of the list
-pub record HasGrown (c : Cell) (L : Cells) (cs : List Cell) (M : Cells) (ds : List Cell) : Type 0 where
-  pub more : (es : List Cell) × (ds ≡ cs ++ es)
-  pub fewer : (d : Cell) → set.contains L d ≡ false → set.contains M d ≡ false
-  pub as_many : set.len M + length ds ≡ set.len L + length cs
-  pub flood : (X : Cells) (start : Cell) → has_cell cs c ≡ true → IsFlood X start cs L → IsFlood X start ds M
+-- of L, the cells of P were taken, which chains join to the start, and the others are left
+pub record IsFlood (L : Cells) (start : Cell) (P left : Cells) : Type 0 where
+  pub begins : set.contains P start ≡ true
+  pub taken : (c : Cell) → set.contains P c ≡ true → set.contains L c ≡ true
+  pub kept : (c : Cell) → set.contains left c ≡ true → set.contains L c ≡ true
+  pub split : (c : Cell) → set.contains L c ≡ true → (set.contains P c ≡ true) ⊎ (set.contains left c ≡ true)
+  pub fresh : (c : Cell) → set.contains P c ≡ true → set.contains left c ≡ false
+  pub joined : (c : Cell) → set.contains P c ≡ true → AreJoined L start c
+
+-- ---- runs
+
+-- whether the number is not 0
+abbrev pub is_some_number : ℕ → Bool
+is_some_number zero = false
+is_some_number (suc n) = true
+
+-- whether the run has a cell
+abbrev pub is_filled : Run → Bool
+is_filled r = is_some_number r.len
+
+-- there is a run at place i, and it has a cell
+abbrev pub IsFilledAt : List Run → ℕ → Type 0
+IsFilledAt rs i = (i < length rs) × ((d : Run) → 1 ≤ (slice_index_or rs i d).len)
+
+-- a run ends before a column of a row, or in a row before it
+abbrev pub IsBehind : Run → ℤ → ℤ → Type 0
+IsBehind r row column = (r.row <ℤ row) ⊎ ((r.row ≡ row) × ((r.first +ℤ pos r.len) ≤ℤ column))
+
+-- c is at most 2 rows and 2 columns from a cell of r, if r has one
+pub record IsRound (r : Run) (c : Cell) : Type 0 where
+  pub rows_up : r.row ≤ℤ (c.row +ℤ pos 2)
+  pub rows_down : c.row ≤ℤ (r.row +ℤ pos 2)
+  pub left : r.first ≤ℤ (c.column +ℤ pos 2)
+  pub right : c.column <ℤ ((r.first +ℤ pos r.len) +ℤ pos 2)
+
+-- s begins where r does, and is no longer
+pub record IsKept (r s : Run) : Type 0 where
+  pub row : s.row ≡ r.row
+  pub first : s.first ≡ r.first
+  pub len : s.len ≤ r.len
+
+-- each run of the second list begins where that of the first does, and is no longer
+pub record AreKept (rs ss : List Run) : Type 0 where
+  pub length : length ss ≡ length rs
+  pub each : (k : ℕ) (d : Run) → IsKept (slice_index_or rs k d) (slice_index_or ss k d)
+
+-- runs near r have gone from the first list to the end of the second
+pub record HasGrown (r : Run) (left cluster after grown : List Run) : Type 0 where
+  pub more : (es : List Run) × (grown ≡ cluster ++ es)
+  pub kept : AreKept left after
+  pub as_many : count_by is_filled after + length grown ≡ count_by is_filled left + length cluster
+  pub filled : All (λ s. 1 ≤ s.len) cluster → All (λ s. 1 ≤ s.len) grown
+  pub flood : (X : Cells) (start : Cell) → 1 ≤ r.len → Contains cluster r → IsFlood X start (cells_in cluster) (cells_in left) → IsFlood X start (cells_in grown) (cells_in after)
+
+-- the run at place i of the first list has gone to the end of the second, unless it has no cell
+abbrev pub IsTaken : Run → ℕ → List Run → List Run → List Run → List Run → Type 0
+IsTaken r i left cluster after grown = ((r.len ≡ 0) × (after ≡ left) × (grown ≡ cluster)) ⊎ ((1 ≤ r.len) × (after ≡ slice_set left i (emptied r)) × (grown ≡ cluster ++ r ∷ []))
+
+-- whether a run ends before a column of a row, or in a row before it
+abbrev pub ends_before : Run → ℤ → ℤ → Bool
+ends_before r row column = int_lt r.row row || (int_eq r.row row && int_le (r.first +ℤ pos r.len) column)
+
+-- a run ends behind the column of the row, or in a row after it
+abbrev pub IsAhead : Run → ℤ → ℤ → Type 0
+IsAhead r row column = (row <ℤ r.row) ⊎ ((r.row ≡ row) × (column <ℤ (r.first +ℤ pos r.len)))
+
+-- a run begins before the column of the row, or in a row before it
+abbrev pub Begins : Run → ℤ → ℤ → Type 0
+Begins r row column = (r.row <ℤ row) ⊎ ((r.row ≡ row) × (r.first <ℤ column))
+
+-- a run begins at the column of the row or behind it, or in a row after it
+abbrev pub IsBeyond : Run → ℤ → ℤ → Type 0
+IsBeyond r row column = (row <ℤ r.row) ⊎ ((r.row ≡ row) × (column ≤ℤ r.first))

@@ -1,5 +1,5 @@
 -- What makes the definitions of parts, tallies and steady fields believable.
-use Rattle.std.specs.Prelude.{◌≡◌, ◌≢◌, ◌↔◌, ◌≤◌, ℕ, ◌+◌, true, false, IsTrue, List, [], ◌∷◌, Option, map, sum_by}
+use Rattle.std.specs.Prelude.{◌≡◌, ◌≢◌, ◌↔◌, ◌≤◌, ℕ, ◌+◌, true, false, IsTrue, List, Option, map, sum_by}
 use Rattle.std.specs.List.{Contains}
 use Rattle.std.specs.List.Sorted.{IsStrictlySortedBy}
 use Rattle.std.specs.FinSet as set
@@ -7,6 +7,7 @@ use Rattle.life_core.specs.declared.cell.Cell.{Cell}
 use Rattle.life_core.specs.Pattern.{Cells}
 use Rattle.life_core.specs.Rule.{RuleSets}
 use Rattle.life_core.specs.Generations.{generation_of}
+use Rattle.life_code.specs.Apart.{union_of}
 use Rattle.life_census.specs.Parts.{ArePartsOf, parts}
 use Rattle.life_census.specs.Steady.{IsSteady, is_steady}
 use Rattle.life_census.specs.Rows.{Counts}
@@ -39,11 +40,6 @@ TalliesAddUp = (code : Cells → Option (List ℕ)) (Ps : List Cells) (t : Count
 -- The function `is_steady` says exactly whether a field is steady: also under a limit of 0, under which no part stays.
 abbrev pub SteadyIsDecided : Type 0
 SteadyIsDecided = (r : RuleSets) (X : Cells) (limit : ℕ) → IsTrue (is_steady r X limit) ↔ IsSteady r X limit
-
--- the union of a list of sets
-abbrev pub union_of : List Cells → Cells
-union_of [] = set.empty
-union_of (P ∷ Ps) = set.union P (union_of Ps)
 
 -- Each generation of a steady field is the union of that generation of its parts, each of them alone ..
 abbrev pub SteadyFieldsEvolveByParts : Type 0

@@ -1,4 +1,5 @@
 pub mod Parts
+pub mod RunsState
 pub mod FloodState
 pub mod CodeText
 pub mod Rows

@@ -1,22 +1,15 @@
 -- Parts of a set of cells: the classes of the chains of near cells. Cells at most 2 apart are taken together, for they can have a neighbour in common
 -- (Life Lexicon, "cluster": each live cell is connected to every other by a path that does not pass through two consecutive dead cells).
-use Rattle.std.specs.Prelude.{◌≡◌, ℤ, pos, ◌+ℤ◌, Bool, true, false, cond, not, ◌&&◌, int_le, List, [], ◌∷◌}
+use Rattle.std.specs.Prelude.{◌≡◌, Bool, true, false, cond, not, List, [], ◌∷◌}
 use Rattle.std.specs.declared.cmp.Ordering.TheVariants.{Less}
 use Rattle.std.specs.List.{AllByRecursion, Contains, list_any, filter}
 use Rattle.std.specs.FinSet as set
 use Rattle.life_core.specs.declared.cell.Cell.{Cell}
 use Rattle.life_core.specs.Cell.{cell_cmp}
 use Rattle.life_core.specs.Pattern.{Cells, in_order}
+use Rattle.life_code.specs.Apart.{near}
 
 -- ---- what a part is
-
--- the numbers differ by at most 2
-abbrev pub within_two : ℤ → ℤ → Bool
-within_two a b = int_le a (b +ℤ pos 2) && int_le b (a +ℤ pos 2)
-
--- the rows and the columns differ by at most 2
-unfoldable pub near : Cell → Cell → Bool
-near c d = within_two c.row d.row && within_two c.column d.column
 
 -- these cells of X, each near to the one before it, lead from c to d
 abbrev pub IsChain : Cells → Cell → List Cell → Cell → Type 0

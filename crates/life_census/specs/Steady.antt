@@ -1,21 +1,17 @@
 -- Fields whose parts never meet: all of them stay where they are, and no two of them ever come near each other.
-use Rattle.std.specs.Prelude.{◌≡◌, ◌≢◌, ℕ, Bool, true, false, not, ◌&&◌, List, [], ◌∷◌, map, ◌⊎◌}
+use Rattle.std.specs.Prelude.{◌≢◌, ℕ, Bool, true, false, not, ◌&&◌, List, [], ◌∷◌, map, ◌⊎◌}
 use Rattle.std.specs.List.{list_any, list_all, range_with_len}
 use Rattle.std.specs.FinSet as set
-use Rattle.life_core.specs.declared.cell.Cell.{Cell}
 use Rattle.life_core.specs.Pattern.{Cells}
 use Rattle.life_core.specs.Rule.{RuleSets}
 use Rattle.life_core.specs.Generations.{generation_of}
 use Rattle.life_code.specs.declared.kinds.Kind.{Kind}
 use Rattle.life_code.specs.declared.kinds.Kind.TheVariants.{Empty, Still, Oscillator, Ship, Unresolved}
 use Rattle.life_code.specs.Period.{HasKind, kind_of}
-use Rattle.life_census.specs.Parts.{near, IsPart, touches, parts}
+use Rattle.life_code.specs.Apart.{AreApart}
+use Rattle.life_census.specs.Parts.{IsPart, touches, parts}
 
 -- ---- what a steady field is
-
--- no cell of Y is near a cell of Z
-abbrev pub AreApart : Cells → Cells → Type 0
-AreApart Y Z = (c d : Cell) → set.contains Y c ≡ true → set.contains Z d ≡ true → near c d ≡ false
 
 -- P is a still life, or an oscillator within the limit of the period
 unfoldable pub Stays : RuleSets → ℕ → Cells → Type 0

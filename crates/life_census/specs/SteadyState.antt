@@ -10,9 +10,9 @@ use Rattle.life_core.specs.Cell.{cell_cmp, IsCellWithin}
 use Rattle.life_core.specs.Pattern.{Cells, in_order, normal, corner}
 use Rattle.life_core.specs.Rule.{RuleSets}
 use Rattle.life_core.specs.Generations.{generation_of}
+use Rattle.life_code.specs.Apart.{near}
 use Rattle.life_census.specs.declared.meeting.Visit.{Visit}
 use Rattle.life_census.specs.declared.shapes.Shape.{Shape}
-use Rattle.life_census.specs.Parts.{near}
 use Rattle.life_census.specs.Steady.{Stays}
 
 -- the order of visits: by their cells, and then by their clusters

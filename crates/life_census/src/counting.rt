@@ -1,26 +1,26 @@
 //! How many clusters there are of each code.
-ghost use Rattle.std.specs.Prelude.{◌≡◌, ℕ, ◌+◌, ◌<◌, ◌≤◌, ◌^◌, ◌++◌, ◌∷◌, [], map, IfOk, IfSome, OnOk, MatchResult};
+ghost use Rattle.std.specs.Prelude.{◌≡◌, ℕ, List, Option, ◌+◌, ◌<◌, ◌≤◌, ◌^◌, ◌++◌, ◌∷◌, [], map, IfOk, IfSome, OnOk, MatchResult};
 ghost use Rattle.std.specs.List.{All};
-ghost use Rattle.life_core.specs.Pattern.{IsWithin};
+ghost use Rattle.life_core.specs.Pattern.{Cells, IsWithin};
 ghost use Rattle.life_code.specs.Codes.{code_of};
 ghost use Rattle.life_census.specs.Parts.{parts};
 ghost use Rattle.life_census.specs.Rows.{row_seen};
 ghost use Rattle.life_census.specs.Counting.{IsTally};
 ghost use Rattle.life_census.specs.CountingState.{IsKnown, HasShapeAt, HasCodeAt, one_more, AreBelow, IsRowOf, IsPlaceFor};
 
+use crate::cluster::Cluster;
 use crate::code_text::CodeText;
-use crate::parts::clusters;
+use crate::parts::parted;
 use crate::rows::{Row, Rows, Tally};
 use life_code::{PERIOD_LIMIT, code};
 use life_core::{Fault, Pattern, Rule};
 use std::alloc::{AllocError, Allocator};
 use std::cmp::Ordering;
 
-/// The normal set of a cluster, and the code of all clusters that are this set moved, if they have
-/// one.
+/// A cluster, and the code of all clusters that are this set moved, if they have one.
 #[derive(Drop)]
 struct Known<A: Allocator> {
-    shape: Pattern<A>,
+    shape: Cluster<A>,
     code: Option<CodeText<A>>,
 }
 
@@ -37,14 +37,54 @@ pub fn tally<A: Allocator + Copy>(
     requires room { IsWithin 400_000_000 pattern.now }
     ensures { IfOk result (IsTally (λ P. code_of rule.now P limit) (parts pattern.now)) }
 {
-    tally_of(alloc, rule, &clusters(alloc, pattern)?, limit)
+    let clusters = parted(alloc, pattern.cells())?;
+    if clusters.len() == 1 {
+        return tally_of_one(alloc, rule, pattern, limit);
+    }
+    tally_of(alloc, rule, &clusters, limit)
 }
 
-/// How many of the patterns have each code, and how many have none.
+/// The tally of a field that is one cluster.
+fn tally_of_one<A: Allocator + Copy>(
+    alloc: A,
+    rule: &Rule,
+    cluster: &Pattern<A>,
+    limit: u32,
+) -> Result<Tally<A>, Fault>
+    requires from_one { 1 ≤ limit }
+    requires few { limit ≤ PERIOD_LIMIT }
+    requires room { IsWithin 400_000_000 cluster.now }
+    ensures { IfOk result (IsTally (λ P. code_of rule.now P limit) (cluster.now ∷ [])) }
+{
+    let code = code_of_cluster(alloc, rule, cluster, limit)?;
+    Ok(counted_once(alloc, &code)?)
+}
+
+/// The tally of one cluster that has this code, or none.
+fn counted_once<A: Allocator + Copy>(
+    alloc: A,
+    code: &Option<CodeText<A>>,
+) -> Result<Tally<A>, AllocError>
+    ensures { IfOk result (λ t. (f : Cells → Option (List ℕ)) (P : Cells) → f P ≡ code.now → IsTally f (P ∷ []) t) }
+{
+    let mut rows = Vec::new(alloc);
+    let mut unresolved = 0;
+    match code {
+        Some(text) => count_code(alloc, &mut rows, text)?,
+        None => unresolved = 1,
+    }
+    Ok(Tally {
+        rows: Rows::of(rows),
+        unresolved,
+        total: 1,
+    })
+}
+
+/// How many of the clusters have each code, and how many have none.
 fn tally_of<A: Allocator + Copy>(
     alloc: A,
     rule: &Rule,
-    clusters: &[Pattern<A>],
+    clusters: &[Cluster<A>],
     limit: u32,
 ) -> Result<Tally<A>, Fault>
     requires from_one { 1 ≤ limit }
@@ -73,7 +113,7 @@ fn tally_of<A: Allocator + Copy>(
 fn known_place<A: Allocator + Copy>(
     alloc: A,
     rule: &Rule,
-    cluster: &Pattern<A>,
+    cluster: &Cluster<A>,
     limit: u32,
     known: &mut Vec<Known<A>, A>,
 ) -> Result<usize, Fault>
@@ -84,22 +124,22 @@ fn known_place<A: Allocator + Copy>(
     ensures known { OnOk result (All (IsKnown rule.now limit) known.new.items) }
     ensures code { IfOk result (λ i. HasCodeAt known.new.items (code_of rule.now cluster.now limit) i) }
 {
-    let shape = cluster.normal(alloc)?;
-    if let Some(i) = place_of_shape(known, &shape) {
+    if let Some(i) = place_of_shape(known, cluster) {
         return Ok(i);
     }
-    let code = code_of_cluster(alloc, rule, cluster, limit)?;
+    let code = code_of_cluster(alloc, rule, &cluster.pattern(alloc)?, limit)?;
+    let shape = cluster.copy(alloc)?;
     let i = known.len();
     learn(known, Known { shape, code })?;
     Ok(i)
 }
 
-/// The place of a shape among those that are known, if it is one of them.
-fn place_of_shape<A: Allocator>(known: &[Known<A>], shape: &Pattern<A>) -> Option<usize>
-    ensures { IfSome result (λ i. HasShapeAt known.now shape.now i) }
+/// The place of a cluster's shape among those that are known, if it is found there.
+fn place_of_shape<A: Allocator + Copy>(known: &[Known<A>], cluster: &Cluster<A>) -> Option<usize>
+    ensures { IfSome result (λ i. HasShapeAt known.now cluster.now i) }
 {
     for (i, one) in known.iter().enumerate() {
-        if one.shape.same(shape) {
+        if one.shape.is_moved_to(cluster) {
             return Some(i);
         }
     }

@@ -1,14 +1,15 @@
 //! The clusters of a pattern, how many of them have each code, and whether they ever meet.
 #![tactic(auto)]
 
+mod cluster;
 mod code_text;
 mod counting;
 mod flood;
 mod laws;
-mod left;
 mod meeting;
 mod parts;
 mod rows;
+mod runs;
 mod shapes;
 mod table;
 

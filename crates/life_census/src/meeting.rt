@@ -7,13 +7,14 @@ ghost use Rattle.life_core.specs.Cell.{moved_cell, IsCellWithin};
 ghost use Rattle.life_core.specs.Pattern.{Cells, IsWithin};
 ghost use Rattle.life_core.specs.Rule.{RuleSets};
 ghost use Rattle.life_core.specs.declared.cell.TheConstants.{PLANE};
+ghost use Rattle.life_code.specs.Apart.{near};
 ghost use Rattle.life_census.specs.declared.meeting.Visit.{Visit as VisitValue};
-ghost use Rattle.life_census.specs.Parts.{near, ArePartsOf};
+ghost use Rattle.life_census.specs.Parts.{ArePartsOf};
 ghost use Rattle.life_census.specs.Steady.{Stays, IsSteady, is_steady};
 ghost use Rattle.life_census.specs.SteadyState.{visit_cmp, visit_of, IsShapeOf, IsInside, AreVisits, ComesBefore, KeepApart, KeepApartUpTo, AreAllApart, AreRowsApart};
 
-use crate::parts::clusters;
-use crate::shapes::{Shape, corner_of, shape_place, way};
+use crate::parts::{parted, patterns_of};
+use crate::shapes::{Shape, corner_of, shape_place, stays, way};
 use life_code::PERIOD_LIMIT;
 use life_core::{Cell, Fault, Pattern, Rule};
 use std::alloc::{AllocError, Allocator};
@@ -41,7 +42,11 @@ pub fn steady<A: Allocator + Copy>(
     ensures steady { IfOk result (λ b. IsTrue b ↔ IsSteady rule.now pattern.now limit) }
     ensures computed { IfOk result (λ b. b ≡ is_steady rule.now pattern.now limit) }
 {
-    never_meet(alloc, rule, &clusters(alloc, pattern)?, limit)
+    let clusters = parted(alloc, pattern.cells())?;
+    if clusters.len() == 1 {
+        return stays(alloc, rule, pattern, limit);
+    }
+    never_meet(alloc, rule, &patterns_of(alloc, &clusters)?, limit)
 }
 
 /// Whether these clusters stay, and never come near each other.

@@ -1,14 +1,17 @@
 //! The clusters of a pattern: the parts of its set of cells.
-ghost use Rattle.std.specs.Prelude.{IfOk};
+ghost use Rattle.std.specs.Prelude.{◌≡◌, IfOk};
 ghost use Rattle.std.specs.List.{All};
 ghost use Rattle.std.specs.List.Sorted.{IsStrictlySortedBy};
 ghost use Rattle.std.specs.FinSet as set;
 ghost use Rattle.life_core.specs.Cell.{cell_cmp, IsCellWithin};
+ghost use Rattle.life_core.specs.Pattern.{IsWithin};
 ghost use Rattle.life_core.specs.declared.cell.TheConstants.{PLANE};
 ghost use Rattle.life_census.specs.Parts.{ArePartsOf};
+ghost use Rattle.life_census.specs.RunsState.{cells_in, AreRunsInOrder};
 
+use crate::cluster::Cluster;
 use crate::flood::flooded;
-use crate::left::Left;
+use crate::runs::{Run, runs_of};
 use life_core::{Cell, Fault, Pattern};
 use std::alloc::{AllocError, Allocator};
 
@@ -21,21 +24,49 @@ pub fn clusters<A: Allocator + Copy>(
 ) -> Result<Vec<Pattern<A>, A>, Fault>
     ensures { IfOk result (λ v. ArePartsOf pattern.now v.items) }
 {
-    Ok(parted(alloc, pattern.cells())?)
+    Ok(patterns_of(alloc, &parted(alloc, pattern.cells())?)?)
 }
 
-/// The clusters of sorted cells.
-fn parted<A: Allocator + Copy>(alloc: A, cells: &[Cell]) -> Result<Vec<Pattern<A>, A>, AllocError>
+/// The clusters as patterns.
+pub fn patterns_of<A: Allocator + Copy>(
+    alloc: A,
+    clusters: &[Cluster<A>],
+) -> Result<Vec<Pattern<A>, A>, AllocError>
+    requires { All (IsWithin PLANE) clusters.now }
+    ensures { IfOk result (λ v. v.items ≡ clusters.now) }
+{
+    let mut patterns = Vec::new(alloc);
+    for cluster in clusters {
+        patterns.push(cluster.pattern(alloc)?)?;
+    }
+    Ok(patterns)
+}
+
+/// The clusters of sorted cells, by runs.
+pub fn parted<A: Allocator + Copy>(
+    alloc: A,
+    cells: &[Cell],
+) -> Result<Vec<Cluster<A>, A>, AllocError>
     requires sorted { IsStrictlySortedBy cell_cmp cells.now }
     requires inside { All (IsCellWithin PLANE) cells.now }
     ensures { IfOk result (λ v. ArePartsOf (set.from_list cells.now) v.items) }
 {
-    let mut left = Left::of(alloc, cells)?;
+    parted_runs(alloc, &mut runs_of(alloc, cells)?)
+}
+
+/// The clusters of the cells of runs, which it takes out.
+fn parted_runs<A: Allocator + Copy>(
+    alloc: A,
+    left: &mut [Run],
+) -> Result<Vec<Cluster<A>, A>, AllocError>
+    requires { AreRunsInOrder left.old }
+    ensures { IfOk result (λ v. ArePartsOf (cells_in left.old) v.items) }
+{
     let mut clusters = Vec::new(alloc);
-    for cell in cells {
-        if left.has(*cell) {
-            let cluster = flooded(alloc, &mut left, *cell)?;
-            clusters.push(Pattern::from_list(cluster))?;
+    for i in 0..left.len() {
+        if left[i].len > 0 {
+            let runs = flooded(alloc, left, i)?;
+            clusters.push(Cluster::of(runs))?;
         }
     }
     Ok(clusters)

@@ -1,5 +1,6 @@
 //! Shapes of clusters that stay, with the cells of their phases.
 ghost use Rattle.std.specs.Prelude.{◌≡◌, ◌≤◌, ◌-ℤ◌, ◌++◌, ◌∷◌, [], IfOk, IfSome, OnOk, MatchOption};
+ghost use Rattle.std.specs.Bool.{MatchBool};
 ghost use Rattle.std.specs.List.{All};
 ghost use Rattle.std.specs.FinSet as set;
 ghost use Rattle.life_core.specs.Cell.{IsCellWithin};
@@ -104,6 +105,24 @@ fn learn<A: Allocator>(shapes: &mut Vec<Shape<A>, A>, shape: Shape<A>) -> Result
 {
     shapes.push(shape)?;
     Ok(())
+}
+
+/// Whether a cluster stays.
+pub fn stays<A: Allocator + Copy>(
+    alloc: A,
+    rule: &Rule,
+    cluster: &Pattern<A>,
+    limit: u32,
+) -> Result<bool, Fault>
+    requires from_one { 1 ≤ limit }
+    requires few { limit ≤ PERIOD_LIMIT }
+    requires room { IsWithin 400_000_000 cluster.now }
+    ensures { IfOk result (λ b. MatchBool b (Stays rule.now limit cluster.now) (Stays rule.now limit cluster.now → ⊥)) }
+{
+    match staying_period(alloc, rule, cluster, limit)? {
+        Some(_) => Ok(true),
+        None => Ok(false),
+    }
 }
 
 /// The period of a cluster, if it stays.

@@ -47,6 +47,47 @@ fn clusters_stand_by_their_least_cells(rt: HostRuntime) {
     laws_of_tallies();
 }
 
+/// Files, and how many clusters their fields are.
+const CLUSTERS: [(&str, usize); 10] = [
+    // Five cells of a row, and one that is two rows below and two columns, and then three, beside the last.
+    ("x = 0, y = 0\n5o2$6bo!", 1),
+    ("x = 0, y = 0\n5o2$7bo!", 2),
+    // The same beside the first.
+    ("x = 0, y = 0\n2b5o2$o!", 1),
+    ("x = 0, y = 0\n3b5o2$o!", 2),
+    // Three rows below.
+    ("x = 0, y = 0\n5o3$2bo!", 2),
+    // In their row.
+    ("x = 0, y = 0\n5obo!", 1),
+    ("x = 0, y = 0\n5o2bo!", 2),
+    // Two columns that a row joins at their ends.
+    ("x = 0, y = 0\no5bo$o5bo$7o!", 1),
+    // Three rows of which none is near another, and the same with a way from each to the next.
+    ("x = 0, y = 0\n9o3$9o3$9o!", 3),
+    ("x = 0, y = 0\n9o$o$o$9o$8bo$8bo$9o!", 1),
+];
+
+/// How many clusters the field of the file is, if it is read.
+fn clusters_of_file(alloc: Global, file: &str) -> Option<usize> {
+    match read(alloc, file.as_bytes()) {
+        Ok(record) => match clusters(alloc, &record.cells) {
+            Ok(parts) => Some(parts.len()),
+            Err(_) => None,
+        },
+        Err(_) => None,
+    }
+}
+
+#[test]
+fn cells_up_to_two_apart_are_one_cluster(rt: HostRuntime) {
+    for (file, expected) in CLUSTERS {
+        assert!(rt;
+            clusters_of_file(rt.alloc(), file) == Some(expected),
+            "{file}"
+        );
+    }
+}
+
 /// Files, limits, and whether the fields are steady under them.
 const STEADY: [(&str, u32, bool); 10] = [
     ("x = 0, y = 0\n!", 1, true),

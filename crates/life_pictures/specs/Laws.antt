@@ -1,0 +1,39 @@
+-- What makes the definitions of pictures believable.
+use Rattle.std.specs.Prelude.{◌≡◌, ◌≢◌, ◌<◌, ◌+◌, ◌-◌, ℕ, Bool, true, false, ◌||◌, List, [], ◌∷◌, ◌++◌, replicate}
+use Rattle.std.specs.List.{All, flat_map}
+use Rattle.life_pictures.specs.declared.runs.Run.{Run}
+use Rattle.life_pictures.specs.Lines.{trimmed}
+use Rattle.life_pictures.specs.Runs.{is_right_of, cells_of_run, runs_of}
+use Rattle.life_pictures.specs.Title.{xml_text}
+
+-- ---- lines
+
+-- What a line leaves out are dead cells at its end ..
+abbrev pub DeadAreLeftOut : Type 0
+DeadAreLeftOut = (all : List (Bool × Bool)) → (n : ℕ) × (trimmed all ++ replicate n (false, false) ≡ all)
+
+-- .. and all of them: where it shows cells, one of the last two is live.
+abbrev pub LinesEndLive : Type 0
+LinesEndLive = (all front : List (Bool × Bool)) (last : Bool × Bool) → trimmed all ≡ front ++ last ∷ [] → (last.0 || last.1) ≡ true
+
+-- ---- paths
+
+-- The cells of the runs of a path, one after the other, are the cells.
+abbrev pub RunsAreTheCells : Type 0
+RunsAreTheCells = (cells : List (ℕ × ℕ)) → flat_map cells_of_run (runs_of cells) ≡ cells
+
+-- each run has a cell, and none begins right of the one before it
+abbrev pub AreApart : List Run → Type 0
+AreApart [] = Unit {0}
+AreApart (run ∷ []) = 0 < run.length
+AreApart (run ∷ next ∷ runs) = (0 < run.length) × (is_right_of (run.column + (run.length - 1), run.row) next ≡ false) × AreApart (next ∷ runs)
+
+-- No two neighbours of the runs could be one run.
+abbrev pub RunsAreLongest : Type 0
+RunsAreLongest = (cells : List (ℕ × ℕ)) → AreApart (runs_of cells)
+
+-- ---- titles
+
+-- No name has a `<` in its XML text, so none ends the title that it stands in.
+abbrev pub NamesStayText : Type 0
+NamesStayText = (name : List ℕ) → All (λ byte. byte ≢ 60) (xml_text name)

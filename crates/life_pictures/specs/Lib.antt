@@ -1,0 +1,9 @@
+pub mod Lines
+pub mod Numbers
+pub mod Runs
+pub mod RunsState
+pub mod Title
+pub mod Document
+pub mod Jobs
+pub mod Words
+pub mod Laws

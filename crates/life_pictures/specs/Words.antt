@@ -1,0 +1,53 @@
+-- The words of the command line of `life-draw`, and the picture that they name.
+-- What a command is, which words it takes and what it reads of them is said by the kit's `clap`; the names of the
+-- subcommands are the program's own.
+use Rattle.std.specs.Prelude.{◌≡◌, true, if◌then◌else◌, List, [], ◌∷◌, Option, None, Some, codes, bytes_eq, Result, Ok, Err}
+use Rattle.clap.specs.Words.{App, Row, Text, Kinds, new_app, with_subcommand, fault_of, subcommand_of}
+use Rattle.clap.specs.Simple.{on_top}
+use Rattle.life_words.specs.declared.words.WordFault.{WordFault}
+use Rattle.life_words.specs.declared.words.WordFault.TheVariants.{BadWords, Memory}
+use Rattle.life_pictures.specs.declared.jobs.Picture.{Picture}
+use Rattle.life_pictures.specs.declared.jobs.Picture.TheVariants as picture
+
+-- `text`
+abbrev pub text : App
+text = new_app (codes "text")
+
+-- `svg`
+abbrev pub svg : App
+svg = new_app (codes "svg")
+
+-- the program's name, which wants one of its subcommands
+abbrev pub draw_alone : App
+draw_alone = on_top (λ top. record top { subcommand_required = true }) (new_app (codes "life-draw"))
+
+-- the whole command, with its subcommands in the order in which help lists them
+abbrev pub draw : App
+draw = with_subcommand (with_subcommand draw_alone text.top) svg.top
+
+-- the picture that a subcommand of this name asks for
+abbrev pub picture_named : Text → Option Picture
+picture_named name =
+    if bytes_eq name (codes "text") then Some picture.Text
+    else (if bytes_eq name (codes "svg") then Some picture.Svg
+    else None)
+
+-- the picture of the subcommand that was met, which comes with its matches
+abbrev pub picture_of : Option (Text × List Row) → Option Picture
+picture_of None = None
+picture_of (Some met) = picture_named met.0
+
+-- no picture, where the words have a fault of one of these kinds
+abbrev pub unless_fault : Kinds → Option Picture → Option Picture
+unless_fault [] picture = picture
+unless_fault (first ∷ others) picture = None
+
+-- the picture that the words name, the program's name first
+unfoldable pub words_picture : List Text → Option Picture
+words_picture words = unless_fault (fault_of draw words) (picture_of (subcommand_of draw words))
+
+-- the answer to words: their picture, or bad words where they name none; want of memory may come with any words
+abbrev pub Answers : List Text → Result Picture WordFault → Type 0
+Answers words (Ok picture) = words_picture words ≡ Some picture
+Answers words (Err (BadWords error)) = words_picture words ≡ None
+Answers words (Err Memory) = Unit {0}

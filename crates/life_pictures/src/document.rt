@@ -1,0 +1,53 @@
+//! A picture as an SVG document.
+ghost use Rattle.std.specs.Prelude.{◌≡◌, ◌<◌, ◌^◌, ◌++◌, IfOk, OnOk};
+ghost use Rattle.life_pictures.specs.Document.{opening, background, svg};
+
+use crate::extent::{Extent, extent_of};
+use crate::numbers::put_numbered;
+use crate::runs::put_path;
+use crate::title::put_title;
+use life_core::Fault;
+use life_rle::Record;
+use std::alloc::{AllocError, Allocator};
+
+/// Writes the beginning of the document, with its view box.
+fn put_opening<A: Allocator>(out: &mut Vec<u8, A>, extent: Extent) -> Result<(), AllocError>
+    requires width { extent.width < 2 ^ 62 }
+    requires height { extent.height < 2 ^ 62 }
+    ensures { OnOk result (out.new.items ≡ out.old.items ++ opening extent.width extent.height) }
+{
+    let beginning = b"<svg xmlns=\"http://www.w3.org/2000/svg\" viewBox=\"-1 -1 ";
+    put_numbered(out, beginning, extent.width + 2)?;
+    put_numbered(out, b" ", extent.height + 2)?;
+    out.extend_from_slice(b"\" shape-rendering=\"crispEdges\">\n")?;
+    Ok(())
+}
+
+/// Writes the rectangle of the view box, on which the cells stand.
+fn put_background<A: Allocator>(out: &mut Vec<u8, A>, extent: Extent) -> Result<(), AllocError>
+    requires width { extent.width < 2 ^ 62 }
+    requires height { extent.height < 2 ^ 62 }
+    ensures { OnOk result (out.new.items ≡ out.old.items ++ background extent.width extent.height) }
+{
+    put_numbered(out, b"<rect x=\"-1\" y=\"-1\" width=\"", extent.width + 2)?;
+    put_numbered(out, b"\" height=\"", extent.height + 2)?;
+    out.extend_from_slice(b"\" fill=\"white\"/>\n")?;
+    Ok(())
+}
+
+/// The picture of a record as an SVG document: its name as the title, and one path of the longest runs of its cells in each row. The
+/// view box is the cells' box with a margin of one cell.
+pub fn svg<A: Allocator + Copy>(alloc: A, record: &Record<A>) -> Result<Vec<u8, A>, Fault>
+    ensures { IfOk result (λ v. v.items ≡ svg «record».now) }
+{
+    let cells = record.cells.cells();
+    let extent = extent_of(cells);
+    let mut out = Vec::new(alloc);
+    put_opening(&mut out, extent)?;
+    put_title(alloc, &mut out, &record.name)?;
+    put_background(&mut out, extent)?;
+    out.extend_from_slice(b"<path d=\"")?;
+    put_path(&mut out, cells)?;
+    out.extend_from_slice(b"\"/>\n</svg>\n")?;
+    Ok(out)
+}

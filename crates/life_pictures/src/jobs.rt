@@ -1,0 +1,95 @@
+//! Drawing the pattern file that comes in.
+ghost use Rattle.std.specs.Prelude.{◌≡◌, ℕ, List, IfOk, IfErr};
+ghost use Rattle.life_rle.specs.Record.{IsInside};
+ghost use Rattle.life_jobs.specs.Jobs.{PutsTold, TakesFile, PutsOnce};
+ghost use Rattle.life_jobs.specs.JobsState.{ReadsTold, IsOfInput, PutsText};
+ghost use Rattle.life_pictures.specs.Jobs.{drawn, picture_text};
+
+use crate::document::svg;
+use crate::lines::text;
+use life_core::Fault;
+use life_jobs::Stop;
+use life_rle::{Inlet, Outlet, ReadFault, Record, RleFault, put_all, read_from};
+use std::alloc::Global;
+
+/// A kind of picture.
+#[derive(Clone, Copy, Debug, PartialEq, Eq)]
+pub enum Picture {
+    /// Lines of half blocks.
+    Text,
+    /// An SVG document.
+    Svg,
+}
+
+/// Reads the pattern file that comes in.
+fn read_input<I: Inlet>(alloc: Global, input: &mut I) -> Result<Record, Stop>
+    ensures told { ReadsTold (I.to_come input.old) result }
+    ensures stops { IfErr result IsOfInput }
+    ensures takes { TakesFile (I.to_come input.old) (I.to_come input.new) (I.failures input.old) (I.failures input.new) result }
+    ensures inside { IfOk result (λ r. IsInside 1024 r.cells) }
+{
+    match read_from(alloc, input) {
+        Ok(record) => Ok(record),
+        Err(ReadFault::Unreadable) => Err(Stop::Unreadable),
+        Err(ReadFault::Rle(RleFault::Memory)) => Err(Stop::Unavailable),
+        Err(ReadFault::Rle(fault)) => Err(Stop::BadPattern(fault)),
+    }
+}
+
+/// The picture of a record.
+fn drawn(alloc: Global, picture: Picture, record: &Record) -> Result<Vec<u8>, Fault>
+    requires inside { IsInside 1024 «record».now.cells }
+    ensures { IfOk result (λ v. v.items ≡ drawn picture «record».now) }
+{
+    match picture {
+        Picture::Text => text(alloc, record),
+        Picture::Svg => svg(alloc, record),
+    }
+}
+
+/// Puts a text whole.
+fn put_text<O: Outlet>(output: &mut O, text: &[u8]) -> Result<(), Stop>
+    ensures puts { PutsText (O.already output.old) (O.already output.new) text.now result }
+    ensures once { PutsOnce output.old output.new (O.failures output.old) (O.failures output.new) result }
+{
+    match put_all(output, text) {
+        Ok(()) => Ok(()),
+        Err(_) => Err(Stop::Unwritable),
+    }
+}
+
+/// Puts the picture of a record.
+fn put_picture<O: Outlet>(
+    alloc: Global,
+    picture: Picture,
+    record: &Record,
+    output: &mut O,
+) -> Result<(), Stop>
+    requires inside { IsInside 1024 «record».now.cells }
+    ensures puts { PutsText (O.already output.old) (O.already output.new) (drawn picture «record».now) result }
+    ensures once { PutsOnce output.old output.new (O.failures output.old) (O.failures output.new) result }
+{
+    match drawn(alloc, picture, record) {
+        Ok(text) => put_text(output, &text),
+        Err(_) => Err(Stop::Unavailable),
+    }
+}
+
+/// Reads a pattern file and puts its picture. The input is taken to its end, or to byte 1,048,577. No picture is larger than a file may
+/// be: of 1024 columns and 1024 rows.
+pub fn run_draw<I: Inlet, O: Outlet>(
+    alloc: Global,
+    picture: Picture,
+    input: &mut I,
+    output: &mut O,
+) -> Result<(), Stop>
+    // Where the bytes that come in are told, what is put is their picture, and a bad pattern is theirs.
+    ensures told { PutsTold (picture_text picture) (I.to_come input.old) (O.already output.old) (O.already output.new) result }
+    ensures takes { TakesFile (I.to_come input.old) (I.to_come input.new) (I.failures input.old) (I.failures input.new) result }
+    ensures once { PutsOnce output.old output.new (O.failures output.old) (O.failures output.new) result }
+{
+    match read_input(alloc, input) {
+        Ok(record) => put_picture(alloc, picture, &record, output),
+        Err(stop) => Err(stop),
+    }
+}

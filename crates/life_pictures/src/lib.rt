@@ -1,0 +1,18 @@
+//! Pictures of patterns: lines of half blocks, and SVG documents.
+#![tactic(auto)]
+
+mod document;
+mod extent;
+mod jobs;
+mod laws;
+mod lines;
+mod numbers;
+mod runs;
+mod title;
+mod words;
+
+pub use document::svg;
+pub use jobs::{Picture, run_draw};
+pub use laws::laws_of_pictures;
+pub use lines::text;
+pub use words::{read_words, words_of};

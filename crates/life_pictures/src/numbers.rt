@@ -1,0 +1,19 @@
+//! Texts with numbers.
+ghost use Rattle.std.specs.Prelude.{◌≡◌, ◌++◌, OnOk};
+ghost use Rattle.life_pictures.specs.Numbers.{numbered};
+
+use itoa::Buffer;
+use std::alloc::{AllocError, Allocator};
+
+/// Writes a text, and a number behind it in decimal digits.
+pub fn put_numbered<A: Allocator>(
+    out: &mut Vec<u8, A>,
+    text: &[u8],
+    n: u64,
+) -> Result<(), AllocError>
+    ensures { OnOk result (out.new.items ≡ out.old.items ++ numbered text.now n) }
+{
+    out.extend_from_slice(text)?;
+    out.extend_from_slice(Buffer::new().format(n).as_bytes())?;
+    Ok(())
+}

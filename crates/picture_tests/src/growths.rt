@@ -1,0 +1,84 @@
+//! Each growth of a picture refused in turn.
+ghost use Rattle.std.specs.Prelude.{◌<◌};
+
+use life_core::Fault;
+use life_pictures::{Picture, svg, text};
+use life_rle::{Record, RleFault, read};
+use life_tests::refusing::Refusing;
+use std::process::Abort;
+
+/// More growths than any picture asks for.
+const MANY: u64 = 1000;
+
+/// A file whose document is longer than a few growths give room for.
+const FILE: &[u8] = b"#N A & B\nx = 9, y = 3\nobobobobo2$bobobobo!\n";
+
+const TEXT: &str = "▀ ▀ ▀ ▀ ▀\n ▀ ▀ ▀ ▀\n";
+
+const SVG: &str = "\
+<svg xmlns=\"http://www.w3.org/2000/svg\" viewBox=\"-1 -1 11 5\" shape-rendering=\"crispEdges\">
+<title>A &amp; B</title>
+<rect x=\"-1\" y=\"-1\" width=\"11\" height=\"5\" fill=\"white\"/>
+<path d=\"M0 0h1v1h-1zM2 0h1v1h-1zM4 0h1v1h-1zM6 0h1v1h-1zM8 0h1v1h-1zM1 2h1v1h-1zM3 2h1v1h-1zM5 2h1v1h-1zM7 2h1v1h-1z\"/>
+</svg>
+";
+
+/// Whether this is the picture of a record.
+fn is_drawn<'a>(
+    alloc: &'a Refusing,
+    picture: Picture,
+    record: &Record<&'a Refusing>,
+) -> Result<bool, Fault> {
+    match picture {
+        Picture::Svg => Ok(svg(alloc, record)?.as_slice() == SVG.as_bytes()),
+        Picture::Text if record.cells.within(1023) => {
+            Ok(text(alloc, record)?.as_slice() == TEXT.as_bytes())
+        }
+        Picture::Text => Ok(false),
+    }
+}
+
+/// Whether the picture of the file is right.
+fn is_right(alloc: &Refusing, picture: Picture) -> Result<bool, Fault> {
+    match read(alloc, FILE) {
+        Ok(record) => is_drawn(alloc, picture, &record),
+        Err(RleFault::Memory) => Err(Fault::Memory),
+        Err(_) => Ok(false),
+    }
+}
+
+/// Refuses this growth of a picture, which is right then or wants memory, and draws it again with memory, when it is right. Whether no
+/// growth was refused, since it asks for fewer.
+fn refuse_growth(rt: &impl Abort, refusing: &Refusing, picture: Picture, growth: u64) -> bool
+    requires { 0 < growth }
+{
+    refusing.refuse(growth);
+    let first = is_right(refusing, picture);
+    let ended = !refusing.has_refused();
+    refusing.refuse(u64::MAX);
+    let again = is_right(refusing, picture);
+    assert!(rt;
+        first == Ok(true) || first.is_err() && !ended,
+        "{picture:?} at growth {growth}"
+    );
+    assert!(rt; again == Ok(true), "{picture:?} after growth {growth}");
+    ended
+}
+
+/// Refuses the first growth of a picture, then the second, and so on until none is left to refuse.
+fn refuse_each_growth(rt: &impl Abort, refusing: &Refusing, picture: Picture) {
+    for growth in 1..MANY {
+        if refuse_growth(rt, refusing, picture, growth) {
+            assert!(rt; growth > 1, "{picture:?} asks for no growth");
+            return;
+        }
+    }
+    panic!(rt; "{picture:?}: a growth is refused each time");
+}
+
+#[test]
+fn pictures_with_each_growth_refused(rt: HostRuntime) {
+    let refusing = Refusing::new(rt.alloc(), u64::MAX);
+    refuse_each_growth(&rt, &refusing, Picture::Text);
+    refuse_each_growth(&rt, &refusing, Picture::Svg);
+}

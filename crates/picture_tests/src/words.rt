@@ -1,0 +1,42 @@
+//! Words of the command line of `life-draw`, and the pictures that they name.
+
+use life_pictures::{Picture, read_words};
+use life_words::WordFault;
+use std::alloc::Global;
+use std::test::Fail;
+
+/// Words, the program's name first, and the picture that they name; none where they are bad words.
+const WORDS: [(&[&str], Option<Picture>); 7] = [
+    (&["life-draw"], None),
+    (&["life-draw", "png"], None),
+    (&["life-draw", "text", "svg"], None),
+    (&["life-draw", "--svg"], None),
+    (&["life-draw", "svg", "--help"], None),
+    (&["life-draw", "text"], Some(Picture::Text)),
+    (&["life-draw", "svg"], Some(Picture::Svg)),
+];
+
+/// Whether the words name the picture, or are bad words where there is none.
+fn name(alloc: Global, words: &[&'static str], picture: Option<Picture>) -> bool {
+    match read_words(alloc, words) {
+        Ok(named) => picture == Some(named),
+        Err(WordFault::BadWords(_)) => picture.is_none(),
+        Err(WordFault::Memory) => false,
+    }
+}
+
+/// The first of these words that name another picture.
+fn other(alloc: Global) -> Option<usize> {
+    for (at, (words, picture)) in WORDS.into_iter().enumerate() {
+        if !name(alloc, words, picture) {
+            return Some(at);
+        }
+    }
+    None
+}
+
+#[test]
+fn words_name_pictures(rt: HostRuntime) -> Result<(), Fail> {
+    assert_eq!(rt; other(rt.alloc()), None);
+    Ok(())
+}

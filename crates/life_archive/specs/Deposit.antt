@@ -2,7 +2,7 @@
 use Rattle.std.specs.Prelude.{◌≡◌, ◌⊎◌, ◌++◌, ℕ, List, [], ◌∷◌, codes, take, Option, None, Some, Result, Ok, Err}
 use Rattle.std.specs.Fmt.{decimal}
 use Rattle.life_rle.specs.Stream.{Gains, GainsSome}
-use Rattle.life_store.specs.Tables.{Shelf}
+use Rattle.life_store.specs.Tables.{ArchiveView}
 use Rattle.life_desk.specs.declared.refusal.Refusal.{Refusal}
 use Rattle.life_desk.specs.declared.refusal.Refusal.TheVariants as refusals
 use Rattle.life_desk.specs.declared.request.Request.TheVariants as ask
@@ -43,7 +43,7 @@ by_streams (Err (Job stop)) = Err stop
 by_streams (Err stop) = Err Unavailable
 
 -- the archive was asked once, to keep the file under the member and the token, and its reply was put
-pub record AsksOnce (old new : Shelf) (member token : List ℕ) (told before after : Option (List ℕ)) (answer : Result (Unit {0}) ArchiveStop) : Type 0 where
+pub record AsksOnce (old new : ArchiveView) (member token : List ℕ) (told before after : Option (List ℕ)) (answer : Result (Unit {0}) ArchiveStop) : Type 0 where
   pub file : List ℕ
   pub reply : Reply
   pub taken : IsTaken told file
@@ -57,6 +57,6 @@ IsUnasked (Err (Job Unavailable)) = Unit {0}
 IsUnasked answer = ⊥
 
 -- what `deposit` answers and does: it stops before the archive is asked, which stays as it is, or asks it once
-abbrev pub Deposits : Shelf → Shelf → List ℕ → List ℕ → Option (List ℕ) → Option (List ℕ) → Option (List ℕ) → Result (Unit {0}) ArchiveStop → Type 0
+abbrev pub Deposits : ArchiveView → ArchiveView → List ℕ → List ℕ → Option (List ℕ) → Option (List ℕ) → Option (List ℕ) → Result (Unit {0}) ArchiveStop → Type 0
 Deposits old new member token told before after answer =
     (IsUnasked answer × (new ≡ old)) ⊎ AsksOnce old new member token told before after answer

@@ -14,7 +14,7 @@ use Rattle.std.proofs.lemmas.List.Folds.{list_any-append}
 use Rattle.std.proofs.lemmas.Cmp.{tied_itself}
 use Rattle.std.specs.FinMap as table
 use Rattle.std.specs.FinMap.{nat_cmp-IsAntisymmetric, slice_cmp-IsAntisymmetric}
-use Rattle.life_census.specs.Counting.{row_cmp, how_often, counts_of}
+use Rattle.life_census.specs.Counting.{row_cmp, how_often, occurrences_of}
 use Rattle.life_census.specs.CountingState.{one_more}
 
 abbrev pub Texts : Type 0
@@ -156,14 +156,14 @@ table_push ts t = table.same_map row_cmp_total row_cmp_exact _ _ (λ q.
         or-false true = refl
         or-false false = refl
 
-pub counts_push : (ts : Texts) (t : List ℕ) → counts_of (ts ++ t ∷ []) ≡ one_more (counts_of ts) t
-unfolding counts_of
+pub counts_push : (ts : Texts) (t : List ℕ) → occurrences_of (ts ++ t ∷ []) ≡ one_more (occurrences_of ts) t
+unfolding occurrences_of
 counts_push ts t =
     ap table.entries (table_push ts t) ∙ table.entries-insert row_cmp_total (table_of ts) t (times (table.entries (table_of ts)) t + 1)
     ∙ one_more_put (table.entries (table_of ts)) t (times (table.entries (table_of ts)) t + 1) (table.entries_sorted (table_of ts)) refl
 
-pub counts_none : counts_of [] ≡ []
-unfolding counts_of
+pub counts_none : occurrences_of [] ≡ []
+unfolding occurrences_of
 counts_none = go (table.entries (table_of [])) (λ q. sym (table.get-entries (table_of []) q) ∙ get_counted [] q)
   where
     go : (es : List (List ℕ × ℕ)) → ((q : List ℕ) → table.find row_cmp q es ≡ None) → es ≡ []

@@ -11,7 +11,7 @@ use Rattle.std.proofs.lemmas.List.Sums.{sum_by-cons}
 use Rattle.std.proofs.lemmas.Cmp.{tied_itself}
 use Rattle.std.specs.FinMap as table
 use Rattle.life_code.proofs.ApartUnions.{IsIn, in_from_contains}
-use Rattle.life_census.specs.Counting.{row_cmp, how_often, counts_of}
+use Rattle.life_census.specs.Counting.{row_cmp, how_often, occurrences_of}
 use Rattle.life_census.specs.Laws.{RowsAreCounts, RowsAscend}
 use Rattle.life_census.proofs.PartsLaws.{contains_from_in}
 use Rattle.life_census.proofs.CountingLaws.{Texts, same_text, same_text_is, row_cmp_total, row_cmp_exact, how_often_none, both_T, less_T, none_below, table_of, get_counted, one_if}
@@ -91,7 +91,7 @@ found_of_count ts t n true some is low = ap Some (sym is)
 found_of_count ts t n false none is low = let nothing = how_often_none ts t none in absurd (omega (arith, is, low, nothing))
 
 pub rows_are_counts : RowsAreCounts
-unfolding counts_of
+unfolding occurrences_of
 rows_are_counts ts t n = (
   λ h. count_of_found ts t n (list_any (same_text t) ts) refl (sym (found_counted ts t) ∙ in_found (table.entries (table_of ts)) t n (table.entries_sorted (table_of ts)) (in_from_contains (table.entries (table_of ts)) (t, n) h)),
   λ h. contains_from_in (table.entries (table_of ts)) (t, n) (found_in (table.entries (table_of ts)) t n (found_counted ts t ∙ found_of_count ts t n (list_any (same_text t) ts) refl h.0 h.1)),
@@ -119,5 +119,5 @@ ascend (e ∷ f ∷ fs) sorted =
     (above e.0 f fs (less_T _ first.0) parts.1, ascend (f ∷ fs) parts.1)
 
 pub rows_ascend : RowsAscend
-unfolding counts_of
+unfolding occurrences_of
 rows_ascend ts = ascend (table.entries (table_of ts)) (table.entries_sorted (table_of ts))

@@ -8,7 +8,7 @@ use Rattle.std.specs.List.{filter_map, cons_option}
 use Rattle.std.proofs.lemmas.List.{take_more, take_all}
 use Rattle.std.proofs.lemmas.List.Sums.{sum_by-cons}
 use Rattle.life_core.specs.Pattern.{Cells}
-use Rattle.life_census.specs.Counting.{row_cmp, counts_of}
+use Rattle.life_census.specs.Counting.{row_cmp, occurrences_of}
 use Rattle.life_census.specs.CountingState.{one_more}
 use Rattle.life_census.specs.Laws.{TalliesAddUp}
 use Rattle.life_census.proofs.CountingLaws.{counts_push, counts_none}
@@ -31,11 +31,11 @@ more_in_all (e ∷ es) t = go (row_cmp t e.0) (more_in_all es t)
         let b = sum_by-cons (λ (x : List ℕ × ℕ). x.1) e es in
         omega (arith, a, b, rest)
 
-all_counted : (ts : List (List ℕ)) (n : ℕ) → n ≤ length ts → all_of (counts_of (take n ts)) ≡ n
+all_counted : (ts : List (List ℕ)) (n : ℕ) → n ≤ length ts → all_of (occurrences_of (take n ts)) ≡ n
 all_counted ts zero low = ap all_of counts_none
 all_counted ts (suc n) low =
     let next : take (suc n) ts ≡ take (n + 1) ts = ap (λ k. take k ts) one_up in
-    ap (λ us. all_of (counts_of us)) (next ∙ take_more ts n [] (omega arith)) ∙ ap all_of (counts_push (take n ts) _) ∙ more_in_all (counts_of (take n ts)) _
+    ap (λ us. all_of (occurrences_of us)) (next ∙ take_more ts n [] (omega arith)) ∙ ap all_of (counts_push (take n ts) _) ∙ more_in_all (occurrences_of (take n ts)) _
     ∙ ap (λ k. k + 1) (all_counted ts n (omega arith)) ∙ sym one_up
   where
     one_up : suc n ≡ n + 1
@@ -58,7 +58,7 @@ named_and_nameless code (P ∷ Ps) = go (code P) (named_and_nameless code Ps) (s
 pub adds_up : TalliesAddUp
 adds_up code Ps t is =
     let ts = filter_map code Ps in
-    let rows : all_of t.rows ≡ length ts = ap all_of is.rows ∙ ap (λ us. all_of (counts_of us)) (sym (take_all (length ts) ts (omega arith))) ∙ all_counted ts (length ts) (omega arith) in
+    let rows : all_of t.rows ≡ length ts = ap all_of is.rows ∙ ap (λ us. all_of (occurrences_of us)) (sym (take_all (length ts) ts (omega arith))) ∙ all_counted ts (length ts) (omega arith) in
     let parts = named_and_nameless code Ps in
     let nameless = is.unresolved in
     let total = is.total in

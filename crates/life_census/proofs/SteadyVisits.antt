@@ -22,7 +22,7 @@ use Rattle.life_code.proofs.PeriodLemmas.{generation-moved}
 use Rattle.life_core.proofs.PatternOrder.{has_cell-in_order}
 use Rattle.life_code.proofs.ApartUnions.{IsIn, in_from_contains}
 use Rattle.life_census.specs.declared.meeting.Visit.{Visit}
-use Rattle.life_census.specs.SteadyState.{visit_of, phases_of, StaysFor, IsInside, AreVisits}
+use Rattle.life_census.specs.SteadyState.{visit_of, phases_of, StaysFor, IsVisitInPlane, AreVisits}
 use Rattle.life_census.proofs.PartsLaws.{contains_from_in}
 use Rattle.life_census.proofs.SteadyPhases.{phase}
 
@@ -111,8 +111,8 @@ visits_go_on r limit Ps n p v X P visits after old at is stay made = record {
 
 -- ---- the cells of visits lie in the plane
 
-pub inside_more : (visits after : List Visit) (cs : List Cell) (number : ℕ) (v : Cell) → after ≡ visits ++ visits_at number v cs → All (λ c. IsCellWithin PLANE (moved_cell v.column v.row c)) cs → All IsInside visits → All IsInside after
-inside_more visits after cs number v made cells old = All-same IsInside _ _ made (All-append IsInside visits (visits_at number v cs) old (All-map IsInside (λ c. visit_of number (moved_cell v.column v.row c)) cs cells))
+pub inside_more : (visits after : List Visit) (cs : List Cell) (number : ℕ) (v : Cell) → after ≡ visits ++ visits_at number v cs → All (λ c. IsCellWithin PLANE (moved_cell v.column v.row c)) cs → All IsVisitInPlane visits → All IsVisitInPlane after
+inside_more visits after cs number v made cells old = All-same IsVisitInPlane _ _ made (All-append IsVisitInPlane visits (visits_at number v cs) old (All-map IsVisitInPlane (λ c. visit_of number (moved_cell v.column v.row c)) cs cells))
 
 -- the phases of a cluster, moved from where they were found
 pub phases_inside : (r : RuleSets) (X P : Cells) (v : Cell) (p : ℕ) (cs : List Cell) → P ≡ moved v X → IsWithin 400000000 P → p ≤ PERIOD_LIMIT → cs ≡ phases_of r X p → All (λ c. IsCellWithin PLANE (moved_cell v.column v.row c)) cs

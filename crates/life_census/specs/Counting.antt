@@ -19,15 +19,15 @@ abbrev pub how_often : List ℕ → List (List ℕ) → ℕ
 how_often t ts = count_by (eq_by_cmp row_cmp t) ts
 
 -- each text of a list with how often it stands there, in the order of rows
-unfoldable pub counts_of : List (List ℕ) → List (List ℕ × ℕ)
-counts_of ts = table.entries (table.from_entries {R = row_cmp} (map (λ t. (t, how_often t ts)) ts))
+unfoldable pub occurrences_of : List (List ℕ) → List (List ℕ × ℕ)
+occurrences_of ts = table.entries (table.from_entries {R = row_cmp} (map (λ t. (t, how_often t ts)) ts))
 
 -- the tally of a list of sets: each code that one of them has, with how many have it; how many have none; and how many there are
 pub record IsTally (code : Cells → Option (List ℕ)) (Ps : List Cells) (t : Counts) : Type 0 where
-  pub rows : t.rows ≡ counts_of (filter_map code Ps)
+  pub rows : t.rows ≡ occurrences_of (filter_map code Ps)
   pub unresolved : t.unresolved ≡ count_by (λ P. is_none (code P)) Ps
   pub total : t.total ≡ length Ps
 
 -- the one tally of a list of sets
 abbrev pub tally_of : (Cells → Option (List ℕ)) → List Cells → Counts
-tally_of code Ps = record { rows = counts_of (filter_map code Ps); unresolved = count_by (λ P. is_none (code P)) Ps; total = length Ps }
+tally_of code Ps = record { rows = occurrences_of (filter_map code Ps); unresolved = count_by (λ P. is_none (code P)) Ps; total = length Ps }

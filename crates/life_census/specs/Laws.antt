@@ -11,7 +11,7 @@ use Rattle.life_code.specs.Apart.{union_of}
 use Rattle.life_census.specs.Parts.{ArePartsOf, parts}
 use Rattle.life_census.specs.Steady.{IsSteady, is_steady}
 use Rattle.life_census.specs.Rows.{Counts}
-use Rattle.life_census.specs.Counting.{row_cmp, how_often, counts_of, IsTally}
+use Rattle.life_census.specs.Counting.{row_cmp, how_often, occurrences_of, IsTally}
 
 -- `parts` lists the parts of each set ..
 abbrev pub PartsAreParts : Type 0
@@ -27,11 +27,11 @@ OnePartEach = (X : Cells) (c : Cell) → set.contains X c ≡ true → (P : Cell
 
 -- The rows of a tally are the codes that some set has, each with how many have it ..
 abbrev pub RowsAreCounts : Type 0
-RowsAreCounts = (codes : List (List ℕ)) (code : List ℕ) (n : ℕ) → Contains (counts_of codes) (code, n) ↔ ((n ≡ how_often code codes) × (1 ≤ n))
+RowsAreCounts = (codes : List (List ℕ)) (code : List ℕ) (n : ℕ) → Contains (occurrences_of codes) (code, n) ↔ ((n ≡ how_often code codes) × (1 ≤ n))
 
 -- .. and their codes ascend, byte by byte.
 abbrev pub RowsAscend : Type 0
-RowsAscend = (codes : List (List ℕ)) → IsStrictlySortedBy row_cmp (map (λ (row : List ℕ × ℕ). row.0) (counts_of codes))
+RowsAscend = (codes : List (List ℕ)) → IsStrictlySortedBy row_cmp (map (λ (row : List ℕ × ℕ). row.0) (occurrences_of codes))
 
 -- The counts of a tally and what is unresolved add up to the total.
 abbrev pub TalliesAddUp : Type 0

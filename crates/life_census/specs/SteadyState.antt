@@ -58,8 +58,8 @@ abbrev pub HasShapeFor : {A : Type 0} → List (Shape A) → Cells → ℕ → T
 HasShapeFor {A} shapes Y i = HasNormalAt shapes (normal Y) i
 
 -- the cell of a visit lies in the plane
-abbrev pub IsInside : Visit → Type 0
-IsInside v = IsCellWithin PLANE v.cell
+abbrev pub IsVisitInPlane : Visit → Type 0
+IsVisitInPlane v = IsCellWithin PLANE v.cell
 
 -- the visits are those of all phases of the first n sets
 pub record AreVisits (r : RuleSets) (Ps : List Cells) (n : ℕ) (visits : List Visit) : Type 0 where

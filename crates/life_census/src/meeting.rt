@@ -11,7 +11,7 @@ ghost use Rattle.life_code.specs.Apart.{near};
 ghost use Rattle.life_census.specs.declared.meeting.Visit.{Visit as VisitValue};
 ghost use Rattle.life_census.specs.Parts.{ArePartsOf};
 ghost use Rattle.life_census.specs.Steady.{Stays, IsSteady, is_steady};
-ghost use Rattle.life_census.specs.SteadyState.{visit_cmp, visit_of, IsShapeOf, IsInside, AreVisits, ComesBefore, KeepApart, KeepApartUpTo, AreAllApart, AreRowsApart};
+ghost use Rattle.life_census.specs.SteadyState.{visit_cmp, visit_of, IsShapeOf, IsVisitInPlane, AreVisits, ComesBefore, KeepApart, KeepApartUpTo, AreAllApart, AreRowsApart};
 
 use crate::parts::{parted, patterns_of};
 use crate::shapes::{Shape, corner_of, shape_place, stays, way};
@@ -80,7 +80,7 @@ fn all_visits<A: Allocator + Copy>(
     requires room { All (IsWithin 400_000_000) clusters.now }
     ensures stay { IfOk result (λ o. MatchOption o (All (Stays rule.now limit) clusters.now → ⊥) (λ v. All (Stays rule.now limit) clusters.now)) }
     ensures visits { IfOk result (λ o. IfSome o (λ v. AreVisits rule.now clusters.now (length clusters.now) v.items)) }
-    ensures inside { IfOk result (λ o. IfSome o (λ v. All IsInside v.items)) }
+    ensures inside { IfOk result (λ o. IfSome o (λ v. All IsVisitInPlane v.items)) }
 {
     let mut shapes = Vec::new(alloc);
     let mut visits = Vec::new(alloc);
@@ -104,7 +104,7 @@ fn visit_cluster<A: Allocator + Copy>(
     requires shape { (r : RuleSets) × (limit : ℕ) × (limit ≤ PERIOD_LIMIT) × IsShapeOf r limit cluster.now shape.now }
     ensures stays { OnOk result ((r : RuleSets) (limit : ℕ) → IsShapeOf r limit cluster.now shape.now → Stays r limit cluster.now) }
     ensures visits { OnOk result ((r : RuleSets) (limit : ℕ) → IsShapeOf r limit cluster.now shape.now → (Ps : List Cells) → ((d : Cells) → slice_index_or Ps number d ≡ cluster.now) → AreVisits r Ps number visits.old.items → AreVisits r Ps (number + 1) visits.new.items) }
-    ensures inside { OnOk result (All IsInside visits.old.items → All IsInside visits.new.items) }
+    ensures inside { OnOk result (All IsVisitInPlane visits.old.items → All IsVisitInPlane visits.new.items) }
 {
     let Some(corner) = corner_of(cluster) else {
         return Ok(());
@@ -136,7 +136,7 @@ fn visit_cells<A: Allocator>(
 /// Whether no two of the sorted cells that belong to two clusters are near each other.
 fn are_apart(visits: &[Visit]) -> bool
     requires sorted { IsSorted visit_cmp visits.now }
-    requires inside { All IsInside visits.now }
+    requires inside { All IsVisitInPlane visits.now }
     ensures { IsTrue result ↔ AreAllApart visits.now }
 {
     if !are_rows_apart(visits, 0) {
@@ -152,7 +152,7 @@ fn are_apart(visits: &[Visit]) -> bool
 /// the next, the place of the first that can be near only moves on.
 fn are_rows_apart(visits: &[Visit], rows: i64) -> bool
     requires sorted { IsSorted visit_cmp visits.now }
-    requires inside { All IsInside visits.now }
+    requires inside { All IsVisitInPlane visits.now }
     requires below { pos 0 ≤ℤ rows }
     requires close { rows ≤ℤ pos 2 }
     ensures { MatchBool result (AreRowsApart rows visits.now) (AreAllApart visits.now → ⊥) }

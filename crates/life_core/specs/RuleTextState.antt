@@ -1,8 +1,8 @@
 -- A text as the function that reads it keeps it.
 use Rattle.std.specs.Prelude.{ℕ, Option, None, Some, List, [], ◌∷◌}
-use Rattle.life_core.specs.RuleText.{plain}
+use Rattle.life_core.specs.RuleText.{normalized_text}
 
--- what is left to read: the next byte of the plain text, and the text from which the bytes after it come
+-- what is left to read: the next byte of the normalized text, and the text from which the bytes after it come
 abbrev pub left_to_read : Option ℕ → List ℕ → List ℕ
 left_to_read None rest = []
-left_to_read (Some b) rest = b ∷ plain rest
+left_to_read (Some b) rest = b ∷ normalized_text rest

@@ -50,23 +50,23 @@ census_stays A B later n c is = ap (λ (cs : List Census). numbered cs n) later.
 -- ---- what a token finds
 
 -- x stands at the place of the number, where the first of the list has the number `first`
-abbrev pub Stands : {X : Type 0} → ℕ → List X → ℕ → X → Type 0
-Stands first xs n x = (i : ℕ) × (n ≡ first + i) × (slice_get xs i ≡ Some x)
+abbrev pub IsAtNumber : {X : Type 0} → ℕ → List X → ℕ → X → Type 0
+IsAtNumber first xs n x = (i : ℕ) × (n ≡ first + i) × (slice_get xs i ≡ Some x)
 
-stands_first : {X : Type 0} → (first : ℕ) (x y : X) (xs : List X) (n : ℕ) → n ≡ first → x ≡ y → Stands first (x ∷ xs) n y
+stands_first : {X : Type 0} → (first : ℕ) (x y : X) (xs : List X) (n : ℕ) → n ≡ first → x ≡ y → IsAtNumber first (x ∷ xs) n y
 stands_first first x y xs n is same = (zero, (omega (arith, is)), ap Some same)
 
-stands_rest : {X : Type 0} → (first : ℕ) (x y : X) (xs : List X) (n : ℕ) → Stands (first + 1) xs n y → Stands first (x ∷ xs) n y
+stands_rest : {X : Type 0} → (first : ℕ) (x y : X) (xs : List X) (n : ℕ) → IsAtNumber (first + 1) xs n y → IsAtNumber first (x ∷ xs) n y
 stands_rest first x y xs n rest = (suc rest.0, (let is = rest.1 in omega (arith, is)), rest.2)
 
-pub stands_numbered : {X : Type 0} → (xs : List X) (n : ℕ) (x : X) → Stands 1 xs n x → numbered xs n ≡ Some x
+pub stands_numbered : {X : Type 0} → (xs : List X) (n : ℕ) (x : X) → IsAtNumber 1 xs n x → numbered xs n ≡ Some x
 stands_numbered xs n x stands =
     let place : n ≡ suc stands.0 = let is = stands.1 in omega (arith, is) in
     ap (λ k. numbered xs k) place ∙ stands.2
 
 -- a deposit that is found has the words, and stands at its number
 pub IsFound : ℕ → List ℕ → List ℕ → List Deposit → FoundDeposit → Type 0
-IsFound first member token ds found = (found.deposit.member ≡ member) × (found.deposit.token ≡ token) × Stands first ds found.id found.deposit
+IsFound first member token ds found = (found.deposit.member ≡ member) × (found.deposit.token ≡ token) × IsAtNumber first ds found.id found.deposit
 
 found_case : (first : ℕ) (member token : List ℕ) (d : Deposit) (ds : List Deposit) (found : FoundDeposit) (b : Bool) → (bytes_eq d.member member && bytes_eq d.token token) ≡ b
     → (deposit_from (first + 1) member token ds ≡ Some found → IsFound (first + 1) member token ds found)
@@ -109,7 +109,7 @@ found_longer first member token (d ∷ ds) more found e =
 -- ---- the same of censuses
 
 pub IsFoundCensus : ℕ → List ℕ → List ℕ → List Census → FoundCensus → Type 0
-IsFoundCensus first member token cs found = (found.census.member ≡ member) × (found.census.token ≡ token) × Stands first cs found.id found.census
+IsFoundCensus first member token cs found = (found.census.member ≡ member) × (found.census.token ≡ token) × IsAtNumber first cs found.id found.census
 
 census_case : (first : ℕ) (member token : List ℕ) (c : Census) (cs : List Census) (found : FoundCensus) (b : Bool) → (bytes_eq c.member member && bytes_eq c.token token) ≡ b
     → (census_from (first + 1) member token cs ≡ Some found → IsFoundCensus (first + 1) member token cs found)

@@ -17,7 +17,7 @@ use Rattle.life_desk.specs.declared.request.Reply.TheVariants as says
 use Rattle.life_desk.specs.Archive.{Archive}
 use Rattle.life_desk.specs.Judging.{judged, judged_rule, is_limit, is_generation, is_member, is_token}
 use Rattle.life_desk.specs.Replies.{IsReplyTo, IsReplyBy}
-use Rattle.life_desk.specs.Run.{Run}
+use Rattle.life_desk.specs.Run.{RequestRun}
 use Rattle.life_desk.specs.Laws.{OneReply, SameReplies}
 use Rattle.life_desk.proofs.Steps.{step_answers}
 use Rattle.life_desk.proofs.Totals.{total_there, total_one}
@@ -121,7 +121,7 @@ same_replies A B C (q ∷ qs) (r ∷ rs) (s ∷ ss) run also all rest =
     let second = step_answers A q s also.0 also.1 rest.0 in
     let reply : r ≡ s = one_by A (judged q) s r second.0 first.0 in
     let mid : run.0 ≡ also.0 = first.1 ∙ sym second.1 in
-    let on = same_replies also.0 B C qs rs ss (subst (λ X. Run X qs rs B) mid run.2) also.2 all.1 rest.1 in
+    let on = same_replies also.0 B C qs rs ss (subst (λ X. RequestRun X qs rs B) mid run.2) also.2 all.1 rest.1 in
     let replies : rs ≡ ss = on.0 in
     (cc, on.1)
 same_replies A B C [] (r ∷ rs) ss run also all rest = absurd run

@@ -17,7 +17,7 @@ use Rattle.life_desk.specs.Archive.{Archive, census_by}
 use Rattle.life_desk.specs.Judging.{judged}
 use Rattle.life_desk.specs.Replies.{Verdict, Refuses, Repeats, Adds, deposit_verdict, with_deposit, is_same_content, census_by_token, census_of_deposit, census_verdict, with_census, IsReply, after, after_by}
 use Rattle.life_desk.specs.Means.{EachHasDeposit}
-use Rattle.life_desk.specs.Run.{Step, answers, gives_up, Run, IsAnswered, IsLater}
+use Rattle.life_desk.specs.Run.{RequestStep, answers, gives_up, RequestRun, IsAnswered, IsLater}
 use Rattle.life_desk.proofs.Meaning.{each_longer, each_push}
 use Rattle.life_desk.proofs.Later.{later_same, later_later}
 use Rattle.life_desk.specs.Laws.{NothingIsLost}
@@ -46,11 +46,11 @@ after_later A (Ok (good.ShowCensus id)) = later_same A
 after_later A (Ok (good.CensusCsv id)) = later_same A
 after_later A (Ok (good.Total rule code limit)) = later_same A
 
-pub step_later : (A : Archive) (q : Request) (r : Reply) (B : Archive) → Step A q r B → IsLater A B
+pub step_later : (A : Archive) (q : Request) (r : Reply) (B : Archive) → RequestStep A q r B → IsLater A B
 step_later A q r B (answers s is) = after_later A (judged q)
 step_later A q r B (gives_up is) = later_same A
 
-pub run_later : (A B : Archive) (qs : List Request) (rs : List Reply) → Run A qs rs B → IsLater A B
+pub run_later : (A B : Archive) (qs : List Request) (rs : List Reply) → RequestRun A qs rs B → IsLater A B
 run_later A B [] [] run = subst (λ X. IsLater A X) (sym run) (later_same A)
 run_later A B (q ∷ qs) (r ∷ rs) run = later_later A run.0 B (step_later A q r run.0 run.1) (run_later run.0 B qs rs run.2)
 run_later A B [] (r ∷ rs) run = absurd run
@@ -93,7 +93,7 @@ after_each A (Ok (good.ShowCensus id)) each = each
 after_each A (Ok (good.CensusCsv id)) each = each
 after_each A (Ok (good.Total rule code limit)) each = each
 
-pub step_each : (A : Archive) (q : Request) (r : Reply) (B : Archive) → Step A q r B → EachHasDeposit A.deposits A.censuses → EachHasDeposit B.deposits B.censuses
+pub step_each : (A : Archive) (q : Request) (r : Reply) (B : Archive) → RequestStep A q r B → EachHasDeposit A.deposits A.censuses → EachHasDeposit B.deposits B.censuses
 step_each A q r B (answers s is) each = after_each A (judged q) each
 step_each A q r B (gives_up is) each = each
 
@@ -113,13 +113,13 @@ pub record Moment (A : Archive) (q : Request) (r : Reply) (B : Archive) : Type 0
   pub before : Archive
   pub behind : Archive
   pub each : EachHasDeposit before.deposits before.censuses
-  pub step : Step before q r behind
+  pub step : RequestStep before q r behind
   pub later : IsLater behind B
 
-here : (A : Archive) (p q : Request) (s r : Reply) (mid : Archive) → p ≡ q → s ≡ r → Step A p s mid → Step A q r mid
-here A p q s r mid asked given step = subst (λ x. Step A q x mid) given (subst (λ x. Step A x s mid) asked step)
+here : (A : Archive) (p q : Request) (s r : Reply) (mid : Archive) → p ≡ q → s ≡ r → RequestStep A p s mid → RequestStep A q r mid
+here A p q s r mid asked given step = subst (λ x. RequestStep A q x mid) given (subst (λ x. RequestStep A x s mid) asked step)
 
-pub moment : (A B : Archive) (qs : List Request) (rs : List Reply) (q : Request) (r : Reply) → EachHasDeposit A.deposits A.censuses → Run A qs rs B → IsAnswered qs rs q r → Moment A q r B
+pub moment : (A B : Archive) (qs : List Request) (rs : List Reply) (q : Request) (r : Reply) → EachHasDeposit A.deposits A.censuses → RequestRun A qs rs B → IsAnswered qs rs q r → Moment A q r B
 moment A B (p ∷ qs) (s ∷ rs) q r each run (inl same) = record {
   before = A;
   behind = run.0;
@@ -134,6 +134,6 @@ moment A B [] rs q r each run answered = absurd answered
 moment A B (p ∷ qs) [] q r each run answered = absurd answered
 
 -- a reply that is not unavailable is the reply, and the archive is the one after it
-pub step_answers : (A : Archive) (q : Request) (r : Reply) (B : Archive) → Step A q r B → r ≢ says.Refused no.Unavailable → IsReply A q r × (B ≡ after A q)
+pub step_answers : (A : Archive) (q : Request) (r : Reply) (B : Archive) → RequestStep A q r B → r ≢ says.Refused no.Unavailable → IsReply A q r × (B ≡ after A q)
 step_answers A q r B (answers s is) other = (is, refl)
 step_answers A q r B (gives_up is) other = absurd (other refl)

@@ -26,8 +26,8 @@ use Rattle.life_desk.specs.Archive.{Archive, tally_at, tally_for, tally_of_cells
 use Rattle.life_desk.specs.Judging.{is_generation, is_limit}
 use Rattle.life_desk.specs.Replies.{IsReply, IsReplyBy, after, at_reply, kind_reply, shown_reply}
 use Rattle.life_desk.specs.Means.{EachHasDeposit}
-use Rattle.life_store.specs.Tables.{Shelf, Goes, Lasts}
-use Rattle.life_desk.specs.Run.{Run, IsAnswered, IsLater, Answered}
+use Rattle.life_store.specs.Tables.{ArchiveView, IsTransition, StaysSure}
+use Rattle.life_desk.specs.Run.{RequestRun, IsAnswered, IsLater, Answered}
 use Rattle.life_desk.specs.Laws.{FlagTellsSteady}
 use Rattle.life_desk.specs.Headline.{CountsEachOnce, HeadlineHolds, IsTheArchive, IsTheArchiveOrFaults, IsTheArchiveInMemory}
 use Rattle.life_desk.proofs.Meaning.{each_of}
@@ -39,7 +39,7 @@ use Rattle.life_desk.proofs.Once.{deposits_stay_lem}
 abbrev At : Archive → Request → Reply → Archive → Type 0
 At A q r B = (M : Archive) × EachHasDeposit M.deposits M.censuses × IsReply M q r × IsLater M B × IsLater (after M q) B
 
-at : (A B : Archive) (qs : List Request) (rs : List Reply) (q : Request) (r : Reply) → EachHasDeposit A.deposits A.censuses → Run A qs rs B → IsAnswered qs rs q r → r ≢ says.Refused no.Unavailable → At A q r B
+at : (A B : Archive) (qs : List Request) (rs : List Reply) (q : Request) (r : Reply) → EachHasDeposit A.deposits A.censuses → RequestRun A qs rs B → IsAnswered qs rs q r → r ≢ says.Refused no.Unavailable → At A q r B
 at A B qs rs q r each run answered other =
     let m = moment A B qs rs q r each run answered in
     let says_so = step_answers m.before q r m.behind m.step other in
@@ -68,7 +68,7 @@ code_case : (limit : ℕ) (k : Kind) (code : List ℕ) (o : Option Deposit) → 
 code_case limit k code None is = absurd cc
 code_case limit k code (Some d) is = (d, refl, cc)
 
-coded : (A B : Archive) (qs : List Request) (rs : List Reply) → EachHasDeposit A.deposits A.censuses → Run A qs rs B → (id limit : ℕ) (k : Kind) (code : List ℕ) (d : Deposit)
+coded : (A B : Archive) (qs : List Request) (rs : List Reply) → EachHasDeposit A.deposits A.censuses → RequestRun A qs rs B → (id limit : ℕ) (k : Kind) (code : List ℕ) (d : Deposit)
     → IsAnswered qs rs (ask.KindOf id limit) (says.Kinded k (Some code)) → numbered B.deposits id ≡ Some d → code_of d.content.rule d.content.cells limit ≡ Some code
 coded A B qs rs each run id limit k code d answered is =
     let m = at A B qs rs (ask.KindOf id limit) (says.Kinded k (Some code)) each run answered (λ e. cc) in
@@ -150,30 +150,30 @@ headline_holds are one rows add complete A B qs rs each run = record {
 }
 
 -- what was answered is what the archive says
-pub told_by : HeadlineHolds → (old new : Shelf) (qs : List Request) (rs : List Reply) → Answered old new qs rs → IsTheArchive old new qs rs
+pub told_by : HeadlineHolds → (old new : ArchiveView) (qs : List Request) (rs : List Reply) → Answered old new qs rs → IsTheArchive old new qs rs
 told_by holds old new qs rs done = λ A sure m.
     let run = done.run sure A m in
     (run.0, run.1, run.2, holds A run.0 qs rs (each_of old A m) run.1)
 
-pub all_told_by : {X E : Type 0} → HeadlineHolds → (old new : Shelf) (qs : List Request) (replies : X → List Reply) (r : Result X E) → IfOk r (λ x. Answered old new qs (replies x))
+pub all_told_by : {X E : Type 0} → HeadlineHolds → (old new : ArchiveView) (qs : List Request) (replies : X → List Reply) (r : Result X E) → IfOk r (λ x. Answered old new qs (replies x))
     → IfOk r (λ x. IsTheArchive old new qs (replies x))
 all_told_by holds old new qs replies (Ok x) done = told_by holds old new qs (replies x) done
 all_told_by holds old new qs replies (Err e) done = tt
 
-lasting_by : (old new : Shelf) (qs : List Request) (rs : List Reply) → Goes old new → IsTheArchive old new qs rs → IsTheArchiveOrFaults old new qs rs
-unfolding Lasts
+lasting_by : (old new : ArchiveView) (qs : List Request) (rs : List Reply) → IsTransition old new → IsTheArchive old new qs rs → IsTheArchiveOrFaults old new qs rs
+unfolding StaysSure
 lasting_by old new qs rs goes told A sure m = elim (goes.lasts.is_sure sure) [
   | inl still ↦ inl (still, told A still m)
   | inr more ↦ inr more
 ]
 
-pub all_lasting_by : {X E : Type 0} → HeadlineHolds → (old new : Shelf) (qs : List Request) (replies : X → List Reply) (r : Result X E) → IfOk r (λ x. Answered old new qs (replies x))
+pub all_lasting_by : {X E : Type 0} → HeadlineHolds → (old new : ArchiveView) (qs : List Request) (replies : X → List Reply) (r : Result X E) → IfOk r (λ x. Answered old new qs (replies x))
     → IfOk r (λ x. IsTheArchiveOrFaults old new qs (replies x))
 all_lasting_by holds old new qs replies (Ok x) done = lasting_by old new qs (replies x) done.goes (told_by holds old new qs (replies x) done)
 all_lasting_by holds old new qs replies (Err e) done = tt
 
 -- where the database is sure at the end in any case
-pub all_sure_by : {X E : Type 0} → (old new : Shelf) (qs : List Request) (replies : X → List Reply) (r : Result X E) → IsTrue new.tables.is_sure → IfOk r (λ x. IsTheArchive old new qs (replies x))
+pub all_sure_by : {X E : Type 0} → (old new : ArchiveView) (qs : List Request) (replies : X → List Reply) (r : Result X E) → IsTrue new.tables.is_sure → IfOk r (λ x. IsTheArchive old new qs (replies x))
     → IfOk r (λ x. IsTheArchiveInMemory old new qs (replies x))
 all_sure_by old new qs replies (Ok x) sure told = λ A m. told A sure m
 all_sure_by old new qs replies (Err e) sure told = tt

@@ -17,7 +17,7 @@ use Rattle.life_census.specs.Rows.{Counts}
 use Rattle.life_store.specs.declared.kept.Deposit.{Deposit}
 use Rattle.life_store.specs.declared.kept.Census.{Census}
 use Rattle.life_store.specs.Kept.{numbered}
-use Rattle.life_store.specs.Tables.{Shelf, HasFailed}
+use Rattle.life_store.specs.Tables.{ArchiveView, HasFailed}
 use Rattle.life_desk.specs.declared.request.Request.{Request}
 use Rattle.life_desk.specs.declared.request.Request.TheVariants as ask
 use Rattle.life_desk.specs.declared.request.Reply.{Reply}
@@ -25,7 +25,7 @@ use Rattle.life_desk.specs.declared.request.Reply.TheVariants as says
 use Rattle.life_desk.specs.declared.request.Shown.{Shown}
 use Rattle.life_desk.specs.Archive.{Archive}
 use Rattle.life_desk.specs.Means.{EachHasDeposit, Means}
-use Rattle.life_desk.specs.Run.{Run, IsAnswered, IsLater}
+use Rattle.life_desk.specs.Run.{RequestRun, IsAnswered, IsLater}
 
 -- The tally counts every cluster of X once, under its code or as unresolved. The clusters are the parts of X, and each live cell is in
 -- exactly one; a row says how many have its code; the rows and what is unresolved add up to how many there are.
@@ -60,21 +60,21 @@ pub record Headline (A : Archive) (qs : List Request) (rs : List Reply) (B : Arc
 
 -- It holds of every run from an archive in which each census is of a deposit.
 abbrev pub HeadlineHolds : Type 0
-HeadlineHolds = (A B : Archive) (qs : List Request) (rs : List Reply) → EachHasDeposit A.deposits A.censuses → Run A qs rs B → Headline A qs rs B
+HeadlineHolds = (A B : Archive) (qs : List Request) (rs : List Reply) → EachHasDeposit A.deposits A.censuses → RequestRun A qs rs B → Headline A qs rs B
 
 -- A was taken by a run to an archive that the tables mean, and these replies say so of it.
-abbrev pub IsTaken : Archive → Shelf → List Request → List Reply → Type 0
-IsTaken A new qs rs = (B : Archive) × Run A qs rs B × Means new B × Headline A qs rs B
+abbrev pub IsTaken : Archive → ArchiveView → List Request → List Reply → Type 0
+IsTaken A new qs rs = (B : Archive) × RequestRun A qs rs B × Means new B × Headline A qs rs B
 
 -- Where the database is sure at the end: so each archive that the tables meant was taken.
-abbrev pub IsTheArchive : Shelf → Shelf → List Request → List Reply → Type 0
+abbrev pub IsTheArchive : ArchiveView → ArchiveView → List Request → List Reply → Type 0
 IsTheArchive old new qs rs = (A : Archive) → IsTrue new.tables.is_sure → Means old A → IsTaken A new qs rs
 
 -- Where the database is sure at the start: so it is at the end, and A was taken; or the disk failed in the call.
-abbrev pub IsTheArchiveOrFaults : Shelf → Shelf → List Request → List Reply → Type 0
+abbrev pub IsTheArchiveOrFaults : ArchiveView → ArchiveView → List Request → List Reply → Type 0
 IsTheArchiveOrFaults old new qs rs = (A : Archive) → IsTrue old.tables.is_sure → Means old A
     → (IsTrue new.tables.is_sure × IsTaken A new qs rs) ⊎ HasFailed old.tables new.tables
 
 -- Where the database is in memory: A was taken, with no premise.
-abbrev pub IsTheArchiveInMemory : Shelf → Shelf → List Request → List Reply → Type 0
+abbrev pub IsTheArchiveInMemory : ArchiveView → ArchiveView → List Request → List Reply → Type 0
 IsTheArchiveInMemory old new qs rs = (A : Archive) → Means old A → IsTaken A new qs rs

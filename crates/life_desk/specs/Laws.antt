@@ -17,7 +17,7 @@ use Rattle.life_desk.specs.declared.request.Shown.{Shown}
 use Rattle.life_desk.specs.Content.{same_contents}
 use Rattle.life_desk.specs.Archive.{Archive}
 use Rattle.life_desk.specs.Replies.{IsReply, after}
-use Rattle.life_desk.specs.Run.{Run, IsLater}
+use Rattle.life_desk.specs.Run.{RequestRun, IsLater}
 
 -- Records are one content exactly where they are equal.
 abbrev pub SameIsEqual : Type 0
@@ -29,7 +29,7 @@ OneReply = (A : Archive) (q : Request) → (r : Reply) × IsReply A q r × ((oth
 
 -- In a run no deposit and no census is lost or changed: what has a number keeps it.
 abbrev pub NothingIsLost : Type 0
-NothingIsLost = (A B : Archive) (qs : List Request) (rs : List Reply) → Run A qs rs B → IsLater A B
+NothingIsLost = (A B : Archive) (qs : List Request) (rs : List Reply) → RequestRun A qs rs B → IsLater A B
 
 -- The number that answers a deposit names it, then and in every later archive: the member, the token, and the record of the file.
 abbrev pub DepositsStay : Type 0
@@ -66,4 +66,4 @@ AllAnswered rs = AllByRecursion (λ r. r ≢ says.Refused no.Unavailable) rs
 
 -- Two runs of the same requests from the same archive, in which nothing was answered unavailable, are one.
 abbrev pub SameReplies : Type 0
-SameReplies = (A B C : Archive) (qs : List Request) (rs ss : List Reply) → Run A qs rs B → Run A qs ss C → AllAnswered rs → AllAnswered ss → (rs ≡ ss) × (B ≡ C)
+SameReplies = (A B C : Archive) (qs : List Request) (rs ss : List Reply) → RequestRun A qs rs B → RequestRun A qs ss C → AllAnswered rs → AllAnswered ss → (rs ≡ ss) × (B ≡ C)

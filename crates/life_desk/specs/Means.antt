@@ -6,7 +6,7 @@ use Rattle.life_store.specs.declared.kept.Deposit.{Deposit}
 use Rattle.life_store.specs.declared.kept.Census.{Census}
 use Rattle.life_store.specs.Kept.{Kept, Tallied, numbered}
 use Rattle.life_store.specs.Opening.{nothing_kept}
-use Rattle.life_store.specs.Tables.{Shelf, Holds}
+use Rattle.life_store.specs.Tables.{ArchiveView, Holds}
 use Rattle.life_desk.specs.Archive.{Archive, tally_at, steady_at}
 
 -- a census with its tally and its flag, computed anew
@@ -20,15 +20,15 @@ kept_of A = record { deposits = A.deposits; censuses = map (tallied A.deposits) 
 abbrev pub EachHasDeposit : List Deposit → List Census → Type 0
 EachHasDeposit ds cs = AllByRecursion (λ c. IsSome (numbered ds c.deposit)) cs
 
-pub record IsMeant (t : Shelf) (A : Archive) : Type 0 where
+pub record IsMeant (t : ArchiveView) (A : Archive) : Type 0 where
   pub capacity : t.capacity ≡ A.capacity
   pub each : EachHasDeposit A.deposits A.censuses
   pub holds : Holds t.tables (kept_of A)
 
 -- the tables mean the archive
-unfoldable pub Means : Shelf → Archive → Type 0
+unfoldable pub Means : ArchiveView → Archive → Type 0
 Means t A = IsMeant t A
 
 -- An archive that is new has no deposit and no census.
 abbrev pub NewIsEmpty : Type 0
-NewIsEmpty = (t : Shelf) → Holds t.tables nothing_kept → Means t (record { deposits = []; censuses = []; capacity = t.capacity })
+NewIsEmpty = (t : ArchiveView) → Holds t.tables nothing_kept → Means t (record { deposits = []; censuses = []; capacity = t.capacity })

@@ -2,7 +2,7 @@
 ghost use Rattle.std.specs.Prelude.{◌≡◌, ◌≤◌, ◌∷◌, [], if◌then◌else◌, None, IfErr, IfOk, IsTrue, OnErr, length, option_map, Some, true};
 ghost use Rattle.life_rle.specs.Record.{IsInside};
 ghost use Rattle.life_store.specs.Kept.{numbered, deposit_by, lines_after};
-ghost use Rattle.life_store.specs.Tables.{Goes, Keeps, HasOrder};
+ghost use Rattle.life_store.specs.Tables.{IsTransition, HoldsTheSame, HasOrder};
 ghost use Rattle.life_desk.specs.declared.request.Reply.TheVariants as says;
 ghost use Rattle.life_desk.specs.declared.refusal.Refusal.TheVariants as refusals;
 ghost use Rattle.life_desk.specs.Replies.{Adds, deposit_by_token, deposit_verdict, deposit_reply, with_deposit, is_same_content, census_by_token, census_verdict, census_reply, with_census, file_reply, at_reply, kind_reply, shown_reply, csv_reply, IsTotal, IsReplyTo, after_all_of, is_shown};
@@ -55,7 +55,7 @@ fn keep_new<S: Alter>(
     deposit: &Deposit,
 ) -> Result<Reply, Unavailable>
     requires { IsInside 1024 deposit.now.content.cells }
-    ensures goes { Goes archive.old archive.new }
+    ensures goes { IsTransition archive.old archive.new }
     ensures acts { Acts archive.old archive.new result
         (λ A r. r ≡ deposit_reply A (deposit_by_token A deposit.now None))
         (λ A. with_deposit A (deposit_by_token A deposit.now None)) }
@@ -73,7 +73,7 @@ fn keep_deposit<S: Alter>(
     deposit: &Deposit,
 ) -> Result<Reply, Unavailable>
     requires { IsInside 1024 deposit.now.content.cells }
-    ensures goes { Goes archive.old archive.new }
+    ensures goes { IsTransition archive.old archive.new }
     ensures acts { Acts archive.old archive.new result
         (λ A r. r ≡ deposit_reply A (deposit_by_token A deposit.now (deposit_by deposit.now.member deposit.now.token A.deposits)))
         (λ A. with_deposit A (deposit_by_token A deposit.now (deposit_by deposit.now.member deposit.now.token A.deposits))) }
@@ -97,7 +97,7 @@ fn deposit<S: Alter>(
     token: Text,
     file: Bytes,
 ) -> Result<Reply, Unavailable>
-    ensures goes { Goes archive.old archive.new }
+    ensures goes { IsTransition archive.old archive.new }
     ensures acts { Acts archive.old archive.new result
         (λ A r. r ≡ deposit_reply A (deposit_verdict A member token file))
         (λ A. with_deposit A (deposit_verdict A member token file)) }
@@ -126,7 +126,7 @@ fn file_of(alloc: Global, content: &Record) -> Result<Reply, Unavailable>
 
 /// Answers with the file of a deposit.
 fn show<S: Alter>(archive: &mut Archive<S>, alloc: Global, id: u64) -> Result<Reply, Unavailable>
-    ensures goes { Goes archive.old archive.new }
+    ensures goes { IsTransition archive.old archive.new }
     ensures acts { Acts archive.old archive.new result (λ A r. r ≡ file_reply (numbered A.deposits id)) (λ A. A) }
 {
     match deposit_of(archive, alloc, id)? {
@@ -141,7 +141,7 @@ fn list_after<S: Alter>(
     alloc: Global,
     id: u64,
 ) -> Result<Reply, Unavailable>
-    ensures goes { Goes archive.old archive.new }
+    ensures goes { IsTransition archive.old archive.new }
     ensures acts { Acts archive.old archive.new result (λ A r. r ≡ says.Deposits (lines_after id A.deposits)) (λ A. A) }
 {
     Ok(Reply::Deposits(deposits_after(archive, alloc, id)?))
@@ -167,7 +167,7 @@ fn show_at<S: Alter>(
     n: u32,
 ) -> Result<Reply, Unavailable>
     requires { n ≤ GENERATION_LIMIT }
-    ensures goes { Goes archive.old archive.new }
+    ensures goes { IsTransition archive.old archive.new }
     ensures acts { Acts archive.old archive.new result (λ A r. r ≡ at_reply n (numbered A.deposits id)) (λ A. A) }
 {
     match deposit_of(archive, alloc, id)? {
@@ -216,7 +216,7 @@ fn name_kind<S: Alter>(
 ) -> Result<Reply, Unavailable>
     requires some { 1 ≤ limit }
     requires few { limit ≤ PERIOD_LIMIT }
-    ensures goes { Goes archive.old archive.new }
+    ensures goes { IsTransition archive.old archive.new }
     ensures acts { Acts archive.old archive.new result (λ A r. r ≡ kind_reply limit (numbered A.deposits id)) (λ A. A) }
 {
     match deposit_of(archive, alloc, id)? {
@@ -271,7 +271,7 @@ fn add_counted<S: Alter>(
     requires few { census.now.generation ≤ GENERATION_LIMIT }
     requires some { 1 ≤ census.now.limit }
     requires short { census.now.limit ≤ PERIOD_LIMIT }
-    ensures goes { Goes archive.old archive.new }
+    ensures goes { IsTransition archive.old archive.new }
     ensures acts { ActsWhere archive.old archive.new result
         (λ A. numbered A.deposits census.now.deposit ≡ Some deposit.now)
         (λ A r. r ≡ census_reply A (Adds census.now))
@@ -292,7 +292,7 @@ fn keep_census<S: Alter>(
     requires few { census.now.generation ≤ GENERATION_LIMIT }
     requires some { 1 ≤ census.now.limit }
     requires short { census.now.limit ≤ PERIOD_LIMIT }
-    ensures goes { Goes archive.old archive.new }
+    ensures goes { IsTransition archive.old archive.new }
     ensures acts { ActsWhere archive.old archive.new result
         (λ A. numbered A.deposits census.now.deposit ≡ Some deposit.now)
         (λ A r. r ≡ census_reply A (census_by_token A census.now (census_by census.now.member census.now.token A.censuses)))
@@ -335,7 +335,7 @@ fn take_census<S: Alter>(
     requires few { census.now.generation ≤ GENERATION_LIMIT }
     requires some { 1 ≤ census.now.limit }
     requires short { census.now.limit ≤ PERIOD_LIMIT }
-    ensures goes { Goes archive.old archive.new }
+    ensures goes { IsTransition archive.old archive.new }
     ensures acts { Acts archive.old archive.new result
         (λ A r. r ≡ census_reply A (census_verdict A census.now))
         (λ A. with_census A (census_verdict A census.now)) }
@@ -352,7 +352,7 @@ fn show_census<S: Alter>(
     alloc: Global,
     id: u64,
 ) -> Result<Reply, Unavailable>
-    ensures goes { Goes archive.old archive.new }
+    ensures goes { IsTransition archive.old archive.new }
     ensures acts { Acts archive.old archive.new result (λ A r. r ≡ shown_reply A.deposits id (numbered A.censuses id)) (λ A. A) }
 {
     match kept_tally(archive, alloc, id)? {
@@ -384,7 +384,7 @@ fn census_csv<S: Alter>(
     alloc: Global,
     id: u64,
 ) -> Result<Reply, Unavailable>
-    ensures goes { Goes archive.old archive.new }
+    ensures goes { IsTransition archive.old archive.new }
     ensures acts { Acts archive.old archive.new result (λ A r. r ≡ csv_reply A.deposits (numbered A.censuses id)) (λ A. A) }
 {
     match kept_tally(archive, alloc, id)? {
@@ -403,7 +403,7 @@ fn total<S: Alter>(
 ) -> Result<Reply, Unavailable>
     requires some { 1 ≤ limit }
     requires few { limit ≤ PERIOD_LIMIT }
-    ensures goes { Goes archive.old archive.new }
+    ensures goes { IsTransition archive.old archive.new }
     ensures acts { Acts archive.old archive.new result (λ A r. IsTotal A rule.now text.now limit r) (λ A. A) }
 {
     match open_code(alloc, rule, text, limit) {
@@ -421,7 +421,7 @@ fn act<S: Alter>(
     judged: Judged,
 ) -> Result<Reply, Unavailable>
     requires { IsGood judged }
-    ensures goes { Goes archive.old archive.new }
+    ensures goes { IsTransition archive.old archive.new }
     ensures acts { Acts archive.old archive.new result (λ A r. IsReplyTo A judged r) (λ A. after_all_of A judged) }
 {
     match judged {

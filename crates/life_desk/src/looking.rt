@@ -2,11 +2,11 @@
 ghost use Rattle.std.specs.Prelude.{◌≡◌, ◌+◌, ◌++◌, ◌∷◌, [], Some, nat_lt, length, option_map, IfOk, IfSome, OnOk, OnErr};
 ghost use Rattle.life_rle.specs.Record.{IsInside};
 ghost use Rattle.life_store.specs.Kept.{numbered, deposit_by, lines_after, kept_census};
-ghost use Rattle.life_store.specs.Tables.{Goes, HasOrder};
+ghost use Rattle.life_store.specs.Tables.{IsTransition, HasOrder};
 ghost use Rattle.life_store.specs.declared.kept.Deposit.{Deposit as Kept};
 ghost use Rattle.life_desk.specs.Archive.{census_by, clusters_with, tally_at, tally_for, steady_at, steady_for};
 ghost use Rattle.life_desk.specs.Means.{Means, tallied};
-ghost use Rattle.life_desk.specs.LookingState.{TellsOf, MeansStill};
+ghost use Rattle.life_desk.specs.LookingState.{ForAllMeant, MeansTheSame};
 
 use life_census::{Rows, Tally};
 use life_core::Rule;
@@ -22,9 +22,9 @@ pub(crate) fn deposit_of<S: Alter>(
     alloc: Global,
     id: u64,
 ) -> Result<Option<Deposit>, Unavailable>
-    ensures goes { Goes archive.old archive.new }
-    ensures same { MeansStill archive.old archive.new }
-    ensures value { TellsOf archive.old archive.new (λ A. IfOk result (λ d. d ≡ numbered A.deposits id)) }
+    ensures goes { IsTransition archive.old archive.new }
+    ensures same { MeansTheSame archive.old archive.new }
+    ensures value { ForAllMeant archive.old archive.new (λ A. IfOk result (λ d. d ≡ numbered A.deposits id)) }
     ensures inside { IfOk result (λ o. IfSome o (λ d. IsInside 1024 d.content.cells)) }
 {
     archive.deposit_of(alloc, id)
@@ -37,9 +37,9 @@ pub(crate) fn find_deposit<S: Alter>(
     member: &[u8],
     token: &[u8],
 ) -> Result<Option<FoundDeposit>, Unavailable>
-    ensures goes { Goes archive.old archive.new }
-    ensures same { MeansStill archive.old archive.new }
-    ensures value { TellsOf archive.old archive.new (λ A. IfOk result (λ o. o ≡ deposit_by member.now token.now A.deposits)) }
+    ensures goes { IsTransition archive.old archive.new }
+    ensures same { MeansTheSame archive.old archive.new }
+    ensures value { ForAllMeant archive.old archive.new (λ A. IfOk result (λ o. o ≡ deposit_by member.now token.now A.deposits)) }
 {
     archive.find_deposit(alloc, member, token)
 }
@@ -50,9 +50,9 @@ pub(crate) fn deposits_after<S: Alter>(
     alloc: Global,
     id: u64,
 ) -> Result<Listing, Unavailable>
-    ensures goes { Goes archive.old archive.new }
-    ensures same { MeansStill archive.old archive.new }
-    ensures value { TellsOf archive.old archive.new (λ A. IfOk result (λ lines. lines ≡ lines_after id A.deposits)) }
+    ensures goes { IsTransition archive.old archive.new }
+    ensures same { MeansTheSame archive.old archive.new }
+    ensures value { ForAllMeant archive.old archive.new (λ A. IfOk result (λ lines. lines ≡ lines_after id A.deposits)) }
 {
     archive.deposits_after(alloc, id)
 }
@@ -64,9 +64,9 @@ pub(crate) fn find_census<S: Alter>(
     member: &[u8],
     token: &[u8],
 ) -> Result<Option<FoundCensus>, Unavailable>
-    ensures goes { Goes archive.old archive.new }
-    ensures same { MeansStill archive.old archive.new }
-    ensures value { TellsOf archive.old archive.new (λ A. IfOk result (λ o. o ≡ census_by member.now token.now A.censuses)) }
+    ensures goes { IsTransition archive.old archive.new }
+    ensures same { MeansTheSame archive.old archive.new }
+    ensures value { ForAllMeant archive.old archive.new (λ A. IfOk result (λ o. o ≡ census_by member.now token.now A.censuses)) }
 {
     archive.find_census(alloc, member, token)
 }
@@ -78,9 +78,9 @@ pub(crate) fn counts_of<S: Alter>(
     rule: &Rule,
     code: &[u8],
 ) -> Result<u64, Unavailable>
-    ensures goes { Goes archive.old archive.new }
-    ensures same { MeansStill archive.old archive.new }
-    ensures value { TellsOf archive.old archive.new (λ A. IfOk result (λ n. n ≡ clusters_with A rule.now code.now)) }
+    ensures goes { IsTransition archive.old archive.new }
+    ensures same { MeansTheSame archive.old archive.new }
+    ensures value { ForAllMeant archive.old archive.new (λ A. IfOk result (λ n. n ≡ clusters_with A rule.now code.now)) }
 {
     archive.counts_of(alloc, rule, code)
 }
@@ -91,9 +91,9 @@ fn census_of<S: Alter>(
     alloc: Global,
     id: u64,
 ) -> Result<Option<KeptCensus>, Unavailable>
-    ensures goes { Goes archive.old archive.new }
-    ensures same { MeansStill archive.old archive.new }
-    ensures value { TellsOf archive.old archive.new (λ A. IfOk result (λ c. c ≡ option_map kept_census (option_map (tallied A.deposits) (numbered A.censuses id)))) }
+    ensures goes { IsTransition archive.old archive.new }
+    ensures same { MeansTheSame archive.old archive.new }
+    ensures value { ForAllMeant archive.old archive.new (λ A. IfOk result (λ c. c ≡ option_map kept_census (option_map (tallied A.deposits) (numbered A.censuses id)))) }
 {
     archive.census_of(alloc, id)
 }
@@ -104,9 +104,9 @@ fn rows_of<S: Alter>(
     alloc: Global,
     id: u64,
 ) -> Result<Option<Rows>, Unavailable>
-    ensures goes { Goes archive.old archive.new }
-    ensures same { MeansStill archive.old archive.new }
-    ensures value { TellsOf archive.old archive.new (λ A. IfOk result (λ rows. rows ≡ option_map (λ t. t.tally.rows) (option_map (tallied A.deposits) (numbered A.censuses id)))) }
+    ensures goes { IsTransition archive.old archive.new }
+    ensures same { MeansTheSame archive.old archive.new }
+    ensures value { ForAllMeant archive.old archive.new (λ A. IfOk result (λ rows. rows ≡ option_map (λ t. t.tally.rows) (option_map (tallied A.deposits) (numbered A.censuses id)))) }
 {
     archive.rows_of(alloc, id)
 }
@@ -117,9 +117,9 @@ pub(crate) fn kept_tally<S: Alter>(
     alloc: Global,
     id: u64,
 ) -> Result<Option<(Census, Tally)>, Unavailable>
-    ensures goes { Goes archive.old archive.new }
-    ensures same { MeansStill archive.old archive.new }
-    ensures value { TellsOf archive.old archive.new (λ A.
+    ensures goes { IsTransition archive.old archive.new }
+    ensures same { MeansTheSame archive.old archive.new }
+    ensures value { ForAllMeant archive.old archive.new (λ A.
         IfOk result (λ o. o ≡ option_map (λ c. record { 0 = c; 1 = tally_at A.deposits c }) (numbered A.censuses id))) }
 {
     match census_of(archive, alloc, id)? {
@@ -143,45 +143,45 @@ pub(crate) fn flag_of<S: Alter>(
     archive: &mut Archive<S>,
     id: u64,
 ) -> Result<Option<bool>, Unavailable>
-    ensures goes { Goes archive.old archive.new }
-    ensures same { MeansStill archive.old archive.new }
-    ensures value { TellsOf archive.old archive.new (λ A. IfOk result (λ b. b ≡ option_map (steady_at A.deposits) (numbered A.censuses id))) }
+    ensures goes { IsTransition archive.old archive.new }
+    ensures same { MeansTheSame archive.old archive.new }
+    ensures value { ForAllMeant archive.old archive.new (λ A. IfOk result (λ b. b ≡ option_map (steady_at A.deposits) (numbered A.censuses id))) }
 {
     archive.flag_of(id)
 }
 
 /// How many deposits there are.
 fn count_deposits<S: Alter>(archive: &mut Archive<S>) -> Result<u64, Unavailable>
-    ensures goes { Goes archive.old archive.new }
-    ensures same { MeansStill archive.old archive.new }
-    ensures value { TellsOf archive.old archive.new (λ A. IfOk result (λ n. n ≡ length A.deposits)) }
+    ensures goes { IsTransition archive.old archive.new }
+    ensures same { MeansTheSame archive.old archive.new }
+    ensures value { ForAllMeant archive.old archive.new (λ A. IfOk result (λ n. n ≡ length A.deposits)) }
 {
     archive.count_deposits()
 }
 
 /// How many censuses there are.
 fn count_censuses<S: Alter>(archive: &mut Archive<S>) -> Result<u64, Unavailable>
-    ensures goes { Goes archive.old archive.new }
-    ensures same { MeansStill archive.old archive.new }
-    ensures value { TellsOf archive.old archive.new (λ A. IfOk result (λ n. n ≡ length A.censuses)) }
+    ensures goes { IsTransition archive.old archive.new }
+    ensures same { MeansTheSame archive.old archive.new }
+    ensures value { ForAllMeant archive.old archive.new (λ A. IfOk result (λ n. n ≡ length A.censuses)) }
 {
     archive.count_censuses()
 }
 
 /// Whether there is room for one more deposit.
 pub(crate) fn has_room<S: Alter>(archive: &mut Archive<S>) -> Result<bool, Unavailable>
-    ensures goes { Goes archive.old archive.new }
-    ensures same { MeansStill archive.old archive.new }
-    ensures value { TellsOf archive.old archive.new (λ A. IfOk result (λ room. room ≡ nat_lt (length A.deposits) A.capacity)) }
+    ensures goes { IsTransition archive.old archive.new }
+    ensures same { MeansTheSame archive.old archive.new }
+    ensures value { ForAllMeant archive.old archive.new (λ A. IfOk result (λ room. room ≡ nat_lt (length A.deposits) A.capacity)) }
 {
     Ok(count_deposits(archive)? < archive.capacity())
 }
 
 /// Whether there is room for one more census.
 pub(crate) fn has_census_room<S: Alter>(archive: &mut Archive<S>) -> Result<bool, Unavailable>
-    ensures goes { Goes archive.old archive.new }
-    ensures same { MeansStill archive.old archive.new }
-    ensures value { TellsOf archive.old archive.new (λ A. IfOk result (λ room. room ≡ nat_lt (length A.censuses) A.capacity)) }
+    ensures goes { IsTransition archive.old archive.new }
+    ensures same { MeansTheSame archive.old archive.new }
+    ensures value { ForAllMeant archive.old archive.new (λ A. IfOk result (λ room. room ≡ nat_lt (length A.censuses) A.capacity)) }
 {
     Ok(count_censuses(archive)? < archive.capacity())
 }
@@ -193,10 +193,10 @@ pub(crate) fn add_deposit<S: Alter>(
     deposit: &Deposit,
 ) -> Result<u64, Unavailable>
     requires { IsInside 1024 deposit.now.content.cells }
-    ensures goes { Goes archive.old archive.new }
-    ensures value { TellsOf archive.old archive.new (λ A. IfOk result (λ n. n ≡ length A.deposits + 1)) }
-    ensures ok { OnOk result (TellsOf archive.old archive.new (λ A. Means archive.new (record A { deposits = A.deposits ++ deposit.now ∷ [] }))) }
-    ensures err { OnErr result (MeansStill archive.old archive.new) }
+    ensures goes { IsTransition archive.old archive.new }
+    ensures value { ForAllMeant archive.old archive.new (λ A. IfOk result (λ n. n ≡ length A.deposits + 1)) }
+    ensures ok { OnOk result (ForAllMeant archive.old archive.new (λ A. Means archive.new (record A { deposits = A.deposits ++ deposit.now ∷ [] }))) }
+    ensures err { OnErr result (MeansTheSame archive.old archive.new) }
 {
     archive.add_deposit(alloc, deposit)
 }
@@ -209,10 +209,10 @@ pub(crate) fn add_census<S: Alter>(
     steady: bool,
 ) -> Result<u64, Unavailable>
     requires { HasOrder tally.now }
-    ensures goes { Goes archive.old archive.new }
-    ensures value { TellsOf archive.old archive.new (λ A. IfOk result (λ n. n ≡ length A.censuses + 1)) }
-    ensures ok { OnOk result (TellsOf archive.old archive.new (λ A. (d : Kept) → numbered A.deposits census.now.deposit ≡ Some d → tally.now ≡ tally_for census.now (Some d) → steady ≡ steady_for census.now (Some d) → Means archive.new (record A { censuses = A.censuses ++ census.now ∷ [] }))) }
-    ensures err { OnErr result (MeansStill archive.old archive.new) }
+    ensures goes { IsTransition archive.old archive.new }
+    ensures value { ForAllMeant archive.old archive.new (λ A. IfOk result (λ n. n ≡ length A.censuses + 1)) }
+    ensures ok { OnOk result (ForAllMeant archive.old archive.new (λ A. (d : Kept) → numbered A.deposits census.now.deposit ≡ Some d → tally.now ≡ tally_for census.now (Some d) → steady ≡ steady_for census.now (Some d) → Means archive.new (record A { censuses = A.censuses ++ census.now ∷ [] }))) }
+    ensures err { OnErr result (MeansTheSame archive.old archive.new) }
 {
     archive.add_census(census, tally, steady)
 }

@@ -130,15 +130,15 @@ PutsTold wanted (Some bytes) old new answer = PutsBytes wanted bytes old new ans
 -- ---- the streams of a job
 
 -- a take that failed is answered Unreadable at once, and nothing else is
-abbrev Hears : {X : Type 0} → ℕ → ℕ → Result X Stop → Type 0
-Hears old new (Ok x) = new ≡ old
-Hears old new (Err Unreadable) = new ≡ raised old
-Hears old new (Err stop) = new ≡ old
+abbrev ReportsFailures : {X : Type 0} → ℕ → ℕ → Result X Stop → Type 0
+ReportsFailures old new (Ok x) = new ≡ old
+ReportsFailures old new (Err Unreadable) = new ≡ raised old
+ReportsFailures old new (Err stop) = new ≡ old
 
 -- what a job does with the stream that comes in, by what it tells and how often it failed before and after: it also takes at most one byte
 -- more than a file may have
 pub record TakesFile {X : Type 0} (told_old told_new : Option (List ℕ)) (failed_old failed_new : ℕ) (answer : Result X Stop) : Type 0 where
-  pub heard : Hears failed_old failed_new answer
+  pub heard : ReportsFailures failed_old failed_new answer
   pub few : LosesUpTo 1048577 told_old told_new
 
 -- after a stop the output is as it was, unless a put failed

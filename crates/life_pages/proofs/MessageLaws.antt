@@ -4,13 +4,13 @@ use Rattle.std.proofs.lemmas.List.{take_at, drop_at}
 use Rattle.httparse.specs.Grammar.{RequestHead, print_request}
 use Rattle.httparse.proofs.GrammarLemmas.{request_unique}
 use Rattle.life_pages.specs.Head.{Head, head_of}
-use Rattle.life_pages.specs.Message.{Message, good, bad, Messages, Stands, is_blank}
+use Rattle.life_pages.specs.Message.{Message, good, bad, Messages, HasMessageInFront, are_line_breaks}
 use Rattle.life_pages.specs.Laws.{OneListOfMessages, NoneWithoutMessages}
 use Rattle.life_pages.proofs.MessageStanding.{not_blank, not_empty}
 
 -- ---- one at most
 
-stands_not_blank : (bytes : List ℕ) (said : Head) (body rest : List ℕ) → Stands bytes said body rest → is_blank bytes ≡ false
+stands_not_blank : (bytes : List ℕ) (said : Head) (body rest : List ℕ) → HasMessageInFront bytes said body rest → are_line_breaks bytes ≡ false
 stands_not_blank bytes said body rest s = not_blank bytes s.head (body ++ rest) s.bytes_are
 
 -- two fronts of one length
@@ -19,7 +19,7 @@ same_fronts a b c d e l =
     (sym (take_at a b (length a) refl) ∙ ap (take (length a)) e ∙ take_at c d (length a) (sym l), sym (drop_at a b (length a) refl) ∙ ap (drop (length a)) e ∙ drop_at c d (length a) (sym l))
 
 -- one message stands at the front
-stands_once : (bytes : List ℕ) (said other : Head) (body content rest more : List ℕ) → Stands bytes said body rest → Stands bytes other content more
+stands_once : (bytes : List ℕ) (said other : Head) (body content rest more : List ℕ) → HasMessageInFront bytes said body rest → HasMessageInFront bytes other content more
     → (said ≡ other) × (body ≡ content) × (rest ≡ more)
 stands_once bytes said other body content rest more s t =
     let same = request_unique bytes s.head t.head (body ++ rest) (content ++ more) (s.is_head, s.bytes_are) (t.is_head, t.bytes_are) in
@@ -50,7 +50,7 @@ one_list bytes (good said body ∷ ms) (good other content ∷ ns) (rest, s, end
 
 -- ---- none is without
 
-shorter : (bytes : List ℕ) (said : Head) (body rest : List ℕ) → Stands bytes said body rest → length rest < length bytes
+shorter : (bytes : List ℕ) (said : Head) (body rest : List ℕ) → HasMessageInFront bytes said body rest → length rest < length bytes
 shorter bytes said body rest s =
     let some = not_empty s.head in
     let all : length bytes ≡ length (print_request s.head) + length (body ++ rest) = ap length s.bytes_are ∙ length-append (print_request s.head) (body ++ rest) in
@@ -58,7 +58,7 @@ shorter bytes said body rest s =
     omega arith
 
 -- without a list of messages, none stands at the front whose rest has one
-none_at : (bytes : List ℕ) → ((ms : List Message) → ¬ Messages bytes ms) → (said : Head) (body rest : List ℕ) → Stands bytes said body rest
+none_at : (bytes : List ℕ) → ((ms : List Message) → ¬ Messages bytes ms) → (said : Head) (body rest : List ℕ) → HasMessageInFront bytes said body rest
     → ¬ ((ms : List Message) → ¬ Messages rest ms) → ⊥
 none_at bytes none said body rest s some = elim said.closes as (λ b. said.closes ≡ b → ⊥) [
   | true ↦ λ e. none (good said body ∷ []) (rest, s, (λ closes. refl), λ goes. absurd (true≢false (sym e ∙ goes)))
@@ -67,7 +67,7 @@ none_at bytes none said body rest s some = elim said.closes as (λ b. said.close
 
 some_of : (n : ℕ) (bytes : List ℕ) → length bytes < n → ¬ ((ms : List Message) → ¬ Messages bytes ms)
 some_of zero bytes less none = absurd (omega arith)
-some_of (suc n) bytes less none = elim (is_blank bytes) as (λ b. is_blank bytes ≡ b → ⊥) [
+some_of (suc n) bytes less none = elim (are_line_breaks bytes) as (λ b. are_line_breaks bytes ≡ b → ⊥) [
   | true ↦ λ e. none [] e
   | false ↦ λ e. none (bad ∷ []) (e, (λ said body rest s. none_at bytes none said body rest s (some_of n rest (let h = shorter bytes said body rest s in omega (arith, less, h)))), refl)
 ] refl

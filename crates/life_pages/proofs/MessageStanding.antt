@@ -7,10 +7,10 @@ use Rattle.std.specs.List.{list_all}
 use Rattle.httparse.specs.Grammar.{RequestHead, ReadsRequest, HasNoRequest, MayBecomeRequest, print_request, print_blank, print_version, print_end, print_section}
 use Rattle.httparse.proofs.GrammarLemmas.{request_unique, ReadsRequest-append, print_request-append}
 use Rattle.httparse.specs.Spans.{name_and_value}
-use Rattle.life_pages.specs.Head.{Head, head_of, said_by, head_with, has_some, values_of, Line, line_limit, body_length, within_limit, number_of, body_limit}
+use Rattle.life_pages.specs.Head.{Head, head_of, said_by, head_with, has_some, values_of, Line, line_limit, body_length, within_limit, parsed_number, body_limit}
 use Rattle.life_pages.specs.HeadState.{BeginsWith, NeverBegins, said}
 use Rattle.life_pages.specs.declared.head.GoodHead.{GoodHead}
-use Rattle.life_pages.specs.Message.{Stands, HasNone, HasHeadAlone, is_blank, head_limit}
+use Rattle.life_pages.specs.Message.{HasMessageInFront, HasNone, HasHeadAlone, are_line_breaks, head_limit}
 use Rattle.life_pages.specs.MessageState.{NeverHas, held_limit, IsWanting, WantsUntil}
 
 -- a front that is no longer than another front of the same list is its front
@@ -100,7 +100,7 @@ body_alone held n g within limit begins less =
 -- the whole message has come
 pub body_whole : (held : List ℕ) (n : ℕ) (g : GoodHead) → g.len ≤ length (take n held) → length (take n held) ≤ head_limit
     → BeginsWith (take n held) (said g) (drop g.len (take n held)) → g.len + g.body ≤ length held
-    → Stands held (said g) (take g.body (drop g.len held)) (drop (g.len + g.body) held)
+    → HasMessageInFront held (said g) (take g.body (drop g.len held)) (drop (g.len + g.body) held)
 body_whole held n g within limit begins fits =
     let len = head_length (take n held) begins.head g.len within begins.reads.1 in
     let inside = head_in held n g.len begins.head begins.reads in
@@ -127,7 +127,7 @@ limit_ok (Some m) n e = limit_test (nat_le m body_limit) m n refl e
 
 length_ok : (vs : List (List ℕ)) (n : ℕ) → body_length vs ≡ Some n → n ≤ body_limit
 length_ok [] n e = let same : 0 ≡ n = cc in omega arith
-length_ok (v ∷ []) n e = limit_ok (number_of v) n e
+length_ok (v ∷ []) n e = limit_ok (parsed_number v) n e
 length_ok (v ∷ w ∷ vs) n e = absurd (cc)
 
 mapped : (o : Option ℕ) (f : ℕ → Head) (g : Head) → option_map f o ≡ Some g → (n : ℕ) × (o ≡ Some n) × (f n ≡ g)
@@ -160,21 +160,21 @@ with_other p [] b x e = rw e refl
 with_other p (y ∷ a) b x e = and_false (p y) (list_all p (a ++ x ∷ b)) (with_other p a b x e)
 
 -- a head has a byte that ends no line
-pub not_blank : (bytes : List ℕ) (h : RequestHead) (rest : List ℕ) → bytes ≡ print_request h ++ rest → is_blank bytes ≡ false
+pub not_blank : (bytes : List ℕ) (h : RequestHead) (rest : List ℕ) → bytes ≡ print_request h ++ rest → are_line_breaks bytes ≡ false
 not_blank bytes h rest e =
     let later : List ℕ = h.target ++ 32 ∷ (print_version h.minor ++ (print_end h.line_end ++ (print_section h.fields h.last ++ rest))) in
     let shape : bytes ≡ (print_blank h.blank ++ h.method) ++ 32 ∷ later =
     e ∙ print_request-append h rest ∙ sym (append_assoc (print_blank h.blank) h.method (32 ∷ later)) in
-    ap is_blank shape ∙ with_other (λ b. b == 13 || b == 10) (print_blank h.blank ++ h.method) later 32 refl
+    ap are_line_breaks shape ∙ with_other (λ b. b == 13 || b == 10) (print_blank h.blank ++ h.method) later 32 refl
 
-empty_blank : (bytes : List ℕ) → is_blank bytes ≡ false → 0 < length bytes
+empty_blank : (bytes : List ℕ) → are_line_breaks bytes ≡ false → 0 < length bytes
 empty_blank [] e = absurd (cc)
 empty_blank (b ∷ bytes) e = omega arith
 
 pub not_empty : (h : RequestHead) → 0 < length (print_request h)
 not_empty h = empty_blank (print_request h) (not_blank (print_request h) h [] (sym (append-nil (print_request h))))
 
-pub blank_none : (held : List ℕ) → is_blank held ≡ true → HasNone held
+pub blank_none : (held : List ℕ) → are_line_breaks held ≡ true → HasNone held
 blank_none held e said body rest s =
     let other = not_blank held s.head (body ++ rest) s.bytes_are in
     let bad : true ≡ false = sym e ∙ other in
@@ -230,7 +230,7 @@ wants_until held n g wanted fits within limit begins at_most = λ more less.
     )
 
 -- no head stands behind as many blank bytes as a head may have
-pub long_blank_never : (held : List ℕ) → is_blank held ≡ true → head_limit ≤ length held → NeverHas held
+pub long_blank_never : (held : List ℕ) → are_line_breaks held ≡ true → head_limit ≤ length held → NeverHas held
 long_blank_never held blank long more said body rest s =
     let short = s.short in
     let inside = front_of (print_request s.head) (body ++ rest) held more (sym s.bytes_are) (omega arith) in

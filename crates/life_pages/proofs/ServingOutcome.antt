@@ -2,9 +2,9 @@
 use Rattle.std.proofs.Common.{◌≡◌, ◌≢◌, ℕ, ◌+◌, ◌-◌, ◌<◌, ◌≤◌, true, List, Option, Result, Ok, Err, IfSome, OnOk, inl, inr, arith}
 use Rattle.life_rle.specs.Stream.{IsEnded}
 use Rattle.life_pages.specs.Head.{Head}
-use Rattle.life_pages.specs.Message.{Starts, is_blank}
+use Rattle.life_pages.specs.Message.{Starts, are_line_breaks}
 use Rattle.life_pages.specs.MessageState.{NeverHas, held_limit}
-use Rattle.life_pages.specs.Serving.{Broke, Served, LosesAtLeast}
+use Rattle.life_pages.specs.Serving.{RepliesCutShort, Served, LosesAtLeast}
 use Rattle.life_pages.specs.declared.serving.IoFault.{IoFault}
 use Rattle.life_pages.specs.declared.serving.IoFault.TheVariants as faults
 use Rattle.life_pages.specs.ServingState.{Ended, AtEnd, IsOutcome, IsBlankEnd, most_takes}
@@ -43,7 +43,7 @@ module _ {D : Type 0} (answers : D → Head → List ℕ → List ℕ → D → 
 
   -- long blank bytes were held
   pub outcome_blank : (result : Result (Unit {0}) IoFault) (stream left next : Option (List ℕ)) (held : List ℕ) (taken takes : ℕ) (old new : D) (x y z : Option (List ℕ))
-      → Reading answers stream left held old new x y → is_blank held ≡ true → NeverHas held → LosesAtLeast taken stream left → most_takes ≤ taken + takes
+      → Reading answers stream left held old new x y → are_line_breaks held ≡ true → NeverHas held → LosesAtLeast taken stream left → most_takes ≤ taken + takes
       → IsBlankEnd result takes left next y z → IsOutcome answers result stream next old new x z
   outcome_blank (Ok u) stream left next held taken takes old new x y z r blank never many fits (inl (rest, same)) =
       rw same (blank_end answers stream left held old new x y r blank rest, reading_stop answers stream left held old new x y r)
@@ -64,7 +64,7 @@ module _ {D : Type 0} (answers : D → Head → List ℕ → List ℕ → D → 
   outcome_told (Err fault) stream left old new x y o = tt
 
   pub outcome_some : (result : Result (Unit {0}) IoFault) (stream left : Option (List ℕ)) (old new : D) (x y : Option (List ℕ))
-      → IsOutcome answers result stream left old new x y → Broke answers old new x y
+      → IsOutcome answers result stream left old new x y → RepliesCutShort answers old new x y
   outcome_some (Ok u) stream left old new x y o = o.1
   outcome_some (Err faults.Read) stream left old new x y o = broke_of answers old new o.done o.bytes x y o.run o.put
   outcome_some (Err faults.TooManyReads) stream left old new x y o = broke_of answers old new o.0.done o.0.bytes x y o.0.run o.0.put

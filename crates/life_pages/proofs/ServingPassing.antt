@@ -8,9 +8,9 @@ use Rattle.life_rle.specs.Stream.{Gains, GainsSome}
 use Rattle.life_rle.proofs.StreamLemmas.{gains_more, gains_none, loses_on}
 use Rattle.life_pages.specs.Head.{Head}
 use Rattle.life_pages.specs.Reply.{bad_bytes}
-use Rattle.life_pages.specs.Message.{Message, bad, Starts, is_blank}
+use Rattle.life_pages.specs.Message.{Message, bad, Starts, are_line_breaks}
 use Rattle.life_pages.specs.MessageState.{NeverHas}
-use Rattle.life_pages.specs.Serving.{Fronts, Served, Broke, Cut, Paused, LosesAtLeast}
+use Rattle.life_pages.specs.Serving.{Fronts, Served, RepliesCutShort, LastReplyCutShort, ServedSoFar, LosesAtLeast}
 use Rattle.life_pages.specs.ServingState.{Feeds, PassesBlank, IsBlankRest, most_takes, most_taken}
 use Rattle.life_pages.proofs.ServingRunning.{front_messages, front_starts, run_then, then_cut}
 use Rattle.life_pages.proofs.ServingReading.{Reading, reading_more, reading_broke, bad_end, paused}
@@ -21,14 +21,14 @@ loses_then (Some a) None c x y p q = absurd p
 loses_then (Some a) (Some b) None x y p q = absurd q
 loses_then (Some a) (Some b) (Some c) x y p q = p ∙ ap (λ (l : List ℕ). x ++ l) q ∙ sym (append_assoc x y c)
 
-pub blank_both : (x y : List ℕ) → is_blank x ≡ true → is_blank y ≡ true → is_blank (x ++ y) ≡ true
+pub blank_both : (x y : List ℕ) → are_line_breaks x ≡ true → are_line_breaks y ≡ true → are_line_breaks (x ++ y) ≡ true
 blank_both x y p q = list_all-append _ x y ∙ rw (p, q) refl
 
 some_length : (k : ℕ) (place : List ℕ) → k ≢ 0 → k ≤ length place → 0 < length (take k place)
 some_length k place some within = rw (length-take-le k place within) (omega (arith, some))
 
 pub passes_more : (old mid new : Option (List ℕ)) (n k : ℕ) (place : List ℕ) → PassesBlank n old mid → Loses mid new (take k place) → k ≢ 0 → k ≤ length place
-    → is_blank (take k place) ≡ true → PassesBlank (n + 1) old new
+    → are_line_breaks (take k place) ≡ true → PassesBlank (n + 1) old new
 passes_more old mid new n k place (bytes, many, blank, lost) more some within white =
     let l = length-append bytes (take k place) in
     let s = some_length k place some within in
@@ -39,14 +39,14 @@ passed_end None mid n p e = tt
 passed_end (Some old) None n (bytes, many, blank, lost) e = absurd lost
 passed_end (Some old) (Some mid) n (bytes, many, blank, lost) e = rw lost (blank_both bytes mid blank (rw e refl))
 
-other_later : (x y z : List ℕ) → is_blank y ≡ false → is_blank (x ++ (y ++ z)) ≡ false
-other_later x y z e = list_all-append _ x (y ++ z) ∙ ap (λ (b : Bool). is_blank x && b) (list_all-append _ y z) ∙ rw e (and_false (is_blank x))
+other_later : (x y z : List ℕ) → are_line_breaks y ≡ false → are_line_breaks (x ++ (y ++ z)) ≡ false
+other_later x y z e = list_all-append _ x (y ++ z) ∙ ap (λ (b : Bool). are_line_breaks x && b) (list_all-append _ y z) ∙ rw e (and_false (are_line_breaks x))
   where
     and_false : (b : Bool) → (b && false) ≡ false
     and_false true = refl
     and_false false = refl
 
-pub passed_other : (old mid new : Option (List ℕ)) (n : ℕ) (y : List ℕ) → PassesBlank n old mid → Loses mid new y → is_blank y ≡ false → IsBlankRest old false
+pub passed_other : (old mid new : Option (List ℕ)) (n : ℕ) (y : List ℕ) → PassesBlank n old mid → Loses mid new y → are_line_breaks y ≡ false → IsBlankRest old false
 passed_other None mid new n y p l e = tt
 passed_other (Some old) None new n y (bytes, many, blank, lost) l e = absurd lost
 passed_other (Some old) (Some mid) None n y p l e = absurd l
@@ -109,7 +109,7 @@ fronts_starts_rest None left ms ns held f m = tt
 fronts_starts_rest (Some stream) None ms ns held f m = absurd f
 fronts_starts_rest (Some stream) (Some left) ms ns held f m = front_starts stream ms ns (held ++ left) f m
 
-blank_not : (x y : List ℕ) → is_blank y ≡ false → is_blank (x ++ y) ≡ false
+blank_not : (x y : List ℕ) → are_line_breaks y ≡ false → are_line_breaks (x ++ y) ≡ false
 blank_not x y e = rw (← append-nil y) (other_later x y [] e)
 
 begins_bad : (left : Option (List ℕ)) (held : List ℕ) → IsBlankRest left false → NeverHas held → IfSome left (λ l. Starts (held ++ l) (bad ∷ []))
@@ -129,7 +129,7 @@ module _ {D : Type 0} (answers : D → Head → List ℕ → List ℕ → D → 
     put = gains_more x y z r.bytes e.bytes r.put e.put;
   }
 
-  rest_blank : (left : Option (List ℕ)) (held : List ℕ) (desk : D) (y : Option (List ℕ)) → is_blank held ≡ true → IsBlankRest left true
+  rest_blank : (left : Option (List ℕ)) (held : List ℕ) (desk : D) (y : Option (List ℕ)) → are_line_breaks held ≡ true → IsBlankRest left true
       → IfSome left (λ l. Served answers (held ++ l) desk desk y y)
   rest_blank None held desk y blank rest = tt
   rest_blank (Some l) held desk y blank rest =
@@ -141,7 +141,7 @@ module _ {D : Type 0} (answers : D → Head → List ℕ → List ℕ → D → 
   rest_other (Some l) held desk y z never rest p = bad_end answers (held ++ l) desk y z (blank_not held l rest) (never l) p
 
   pub blank_end : (stream left : Option (List ℕ)) (held : List ℕ) (old new : D) (x y : Option (List ℕ)) → Reading answers stream left held old new x y
-      → is_blank held ≡ true → IsBlankRest left true → IfSome stream (λ s. Served answers s old new x y)
+      → are_line_breaks held ≡ true → IsBlankRest left true → IfSome stream (λ s. Served answers s old new x y)
   blank_end stream left held old new x y r blank rest = reading_rest stream left held old new new x y y r (rest_blank left held new y blank rest)
 
   pub other_end : (stream left : Option (List ℕ)) (held : List ℕ) (old new : D) (x y z : Option (List ℕ)) → Reading answers stream left held old new x y
@@ -150,17 +150,17 @@ module _ {D : Type 0} (answers : D → Head → List ℕ → List ℕ → D → 
 
   -- the reply to a bad message, or a beginning of it
   pub bad_broke : (stream left : Option (List ℕ)) (held : List ℕ) (old new : D) (x y z : Option (List ℕ)) → Reading answers stream left held old new x y
-      → GainsSome y z bad_bytes → Broke answers old new x z
+      → GainsSome y z bad_bytes → RepliesCutShort answers old new x z
   bad_broke stream left held old new x y z r p =
       reading_broke answers stream left held old new new x y z r
       (record { done = bad ∷ []; bytes = bad_bytes; run = ([], sym (append-nil bad_bytes), (refl, refl)); put = p })
 
   pub bad_put : (stream left : Option (List ℕ)) (held : List ℕ) (old new : D) (x y z : Option (List ℕ)) → Reading answers stream left held old new x y
-      → Gains y z bad_bytes → Broke answers old new x z
+      → Gains y z bad_bytes → RepliesCutShort answers old new x z
   bad_put stream left held old new x y z r p = bad_broke stream left held old new x y z r (bad_bytes, [], sym (append-nil bad_bytes), p)
 
   pub other_cut : (stream left : Option (List ℕ)) (held : List ℕ) (old new : D) (x y z : Option (List ℕ)) → Reading answers stream left held old new x y
-      → NeverHas held → IsBlankRest left false → GainsSome y z bad_bytes → Cut answers (λ ms. IfSome stream (λ s. Starts s ms)) old new x z
+      → NeverHas held → IsBlankRest left false → GainsSome y z bad_bytes → LastReplyCutShort answers (λ ms. IfSome stream (λ s. Starts s ms)) old new x z
   other_cut stream left held old new x y z r never rest p =
       then_cut answers (λ ms. IfSome left (λ l. Starts (held ++ l) ms)) (λ ms. IfSome stream (λ s. Starts s ms)) r.done r.bytes old new new x y z r.run r.put
       (λ ms h. fronts_starts_rest stream left r.done ms held r.front h)
@@ -179,7 +179,7 @@ module _ {D : Type 0} (answers : D → Head → List ℕ → List ℕ → D → 
       })
 
   pub passed_paused : (stream left next : Option (List ℕ)) (held : List ℕ) (n : ℕ) (old new : D) (x y : Option (List ℕ)) → Reading answers stream left held old new x y
-      → is_blank held ≡ true → NeverHas held → PassesBlank n left next → Paused answers stream next old new x y
+      → are_line_breaks held ≡ true → NeverHas held → PassesBlank n left next → ServedSoFar answers stream next old new x y
   passed_paused stream left next held n old new x y r held_blank never (bytes, many, blank, lost) =
       paused answers stream next (held ++ bytes) old new x y (reading_more answers stream left next held bytes (held ++ bytes) old new x y r lost refl) (never bytes)
       (inl (blank_both held bytes held_blank blank))

@@ -5,8 +5,8 @@ use Rattle.life_rle.specs.Stream.{Gains, GainsSome, Loses, IsEnded}
 use Rattle.life_rle.proofs.StreamLemmas.{gains_more, gains_none}
 use Rattle.life_rle.specs.declared.stream.Failed.{Failed}
 use Rattle.life_pages.specs.Reply.{bad_bytes}
-use Rattle.life_pages.specs.Message.{Message, bad, Messages, Front, Starts, Run, HasNone, IsAwaited, is_blank}
-use Rattle.life_pages.specs.Serving.{Broke, Served, Fronts, Paused, Cut}
+use Rattle.life_pages.specs.Message.{Message, bad, Messages, Front, Starts, MessageRun, HasNone, IsAwaited, are_line_breaks}
+use Rattle.life_pages.specs.Serving.{RepliesCutShort, Served, Fronts, ServedSoFar, LastReplyCutShort}
 use Rattle.life_pages.specs.ServingState.{Went, Ended, Feeds}
 use Rattle.life_pages.proofs.ServingRunning.{front_then, front_append, front_messages, front_starts, run_then, some_more, then_cut}
 
@@ -48,7 +48,7 @@ module _ {D : Type 0} (answers : D → Head → List ℕ → List ℕ → D → 
     pub done : List Message
     pub bytes : List ℕ
     pub front : Fronts stream done held left
-    pub run : Run answers old done bytes new
+    pub run : MessageRun answers old done bytes new
     pub put : Gains before after bytes
 
   pub reading_none : (stream : Option (List ℕ)) (old : D) (before : Option (List ℕ)) → Reading stream stream [] old old before before
@@ -75,7 +75,7 @@ module _ {D : Type 0} (answers : D → Head → List ℕ → List ℕ → D → 
   }
 
   pub served_at : (stream : Option (List ℕ)) (ms : List Message) (bytes : List ℕ) (old new : D) (x y : Option (List ℕ)) → IfSome stream (λ s. Messages s ms)
-      → Run answers old ms bytes new → Gains x y bytes → IfSome stream (λ s. Served answers s old new x y)
+      → MessageRun answers old ms bytes new → Gains x y bytes → IfSome stream (λ s. Served answers s old new x y)
   served_at None ms bytes old new x y m r p = tt
   served_at (Some s) ms bytes old new x y m r p = record { done = ms; bytes = bytes; messages = m; run = r; put = p }
 
@@ -92,7 +92,7 @@ module _ {D : Type 0} (answers : D → Head → List ℕ → List ℕ → D → 
       (run_then answers old mid new r.done e.done r.bytes e.bytes r.run e.run) (gains_more x y z r.bytes e.bytes r.put e.put)
 
   pub reading_broke : (stream left : Option (List ℕ)) (held : List ℕ) (old mid new : D) (x y z : Option (List ℕ)) → Reading stream left held old mid x y
-      → Broke answers mid new y z → Broke answers old new x z
+      → RepliesCutShort answers mid new y z → RepliesCutShort answers old new x z
   reading_broke stream left held old mid new x y z r b = record {
     done = r.done ++ b.done;
     bytes = r.bytes ++ b.bytes;
@@ -101,12 +101,12 @@ module _ {D : Type 0} (answers : D → Head → List ℕ → List ℕ → D → 
   }
 
   -- what was answered whole was answered
-  pub broke_of : (old new : D) (ms : List Message) (bytes : List ℕ) (x y : Option (List ℕ)) → Run answers old ms bytes new → Gains x y bytes
-      → Broke answers old new x y
+  pub broke_of : (old new : D) (ms : List Message) (bytes : List ℕ) (x y : Option (List ℕ)) → MessageRun answers old ms bytes new → Gains x y bytes
+      → RepliesCutShort answers old new x y
   broke_of old new ms bytes x y r p = record { done = ms; bytes = bytes; run = r; put = (bytes, [], sym (append-nil bytes), p) }
 
   -- the end of the input in the middle of a message
-  pub bad_end : (held : List ℕ) (desk : D) (x y : Option (List ℕ)) → is_blank held ≡ false → HasNone held → Gains x y bad_bytes
+  pub bad_end : (held : List ℕ) (desk : D) (x y : Option (List ℕ)) → are_line_breaks held ≡ false → HasNone held → Gains x y bad_bytes
       → Served answers held desk desk x y
   bad_end held desk x y b n p = record {
     done = bad ∷ [];
@@ -116,14 +116,14 @@ module _ {D : Type 0} (answers : D → Head → List ℕ → List ℕ → D → 
     put = p;
   }
 
-  pub ended_broke : (held : List ℕ) (old new : D) (x y : Option (List ℕ)) → Ended answers held old new x y → Broke answers old new x y
+  pub ended_broke : (held : List ℕ) (old new : D) (x y : Option (List ℕ)) → Ended answers held old new x y → RepliesCutShort answers old new x y
   ended_broke held old new x y e = broke_of old new e.done e.bytes x y e.run e.put
 
-  pub served_broke : (stream : List ℕ) (old new : D) (x y : Option (List ℕ)) → Served answers stream old new x y → Broke answers old new x y
+  pub served_broke : (stream : List ℕ) (old new : D) (x y : Option (List ℕ)) → Served answers stream old new x y → RepliesCutShort answers old new x y
   served_broke stream old new x y e = broke_of old new e.done e.bytes x y e.run e.put
 
   pub reading_stop : (stream left : Option (List ℕ)) (held : List ℕ) (old new : D) (x y : Option (List ℕ)) → Reading stream left held old new x y
-      → Broke answers old new x y
+      → RepliesCutShort answers old new x y
   reading_stop stream left held old new x y r = broke_of old new r.done r.bytes x y r.run r.put
 
   -- more bytes came
@@ -137,7 +137,7 @@ fed_end left next held all k f z = (f.2 ∙ ap (λ (l : List ℕ). held ++ l) (f
 
 module _ {D : Type 0} (answers : D → Head → List ℕ → List ℕ → D → Type 0) where
   pub paused : (stream left : Option (List ℕ)) (held : List ℕ) (old new : D) (x y : Option (List ℕ)) → Reading answers stream left held old new x y → HasNone held
-      → IsAwaited held → Paused answers stream left old new x y
+      → IsAwaited held → ServedSoFar answers stream left old new x y
   paused stream left held old new x y r n a =
       record { done = r.done; bytes = r.bytes; held = held; front = r.front; none = n; awaited = a; run = r.run; put = r.put }
 
@@ -160,20 +160,20 @@ fronts_starts_end (Some stream) (Some left) ms ns held f e m = front_starts stre
 
 module _ {D : Type 0} (answers : D → Head → List ℕ → List ℕ → D → Type 0) where
   pub reading_cut : (stream left : Option (List ℕ)) (held : List ℕ) (old mid new : D) (x y z : Option (List ℕ)) → Reading answers stream left held old mid x y
-      → Cut answers (λ ms. (more : List ℕ) → Starts (held ++ more) ms) mid new y z → Cut answers (λ ms. IfSome stream (λ s. Starts s ms)) old new x z
+      → LastReplyCutShort answers (λ ms. (more : List ℕ) → Starts (held ++ more) ms) mid new y z → LastReplyCutShort answers (λ ms. IfSome stream (λ s. Starts s ms)) old new x z
   reading_cut stream left held old mid new x y z r c =
       then_cut answers (λ ms. (more : List ℕ) → Starts (held ++ more) ms) (λ ms. IfSome stream (λ s. Starts s ms)) r.done r.bytes old mid new x y z r.run r.put
       (λ ms h. fronts_starts stream left r.done ms held r.front h) c
 
   pub reading_cut_end : (stream left : Option (List ℕ)) (held : List ℕ) (old mid new : D) (x y z : Option (List ℕ)) → Reading answers stream left held old mid x y
-      → IsEnded left → Cut answers (λ ms. Starts held ms) mid new y z → Cut answers (λ ms. IfSome stream (λ s. Starts s ms)) old new x z
+      → IsEnded left → LastReplyCutShort answers (λ ms. Starts held ms) mid new y z → LastReplyCutShort answers (λ ms. IfSome stream (λ s. Starts s ms)) old new x z
   reading_cut_end stream left held old mid new x y z r e c =
       then_cut answers (λ ms. Starts held ms) (λ ms. IfSome stream (λ s. Starts s ms)) r.done r.bytes old mid new x y z r.run r.put
       (λ ms h. fronts_starts_end stream left r.done ms held r.front e h) c
 
   -- the last message, cut short by the end of the input
-  pub bad_cut : (held : List ℕ) (desk : D) (x y : Option (List ℕ)) → is_blank held ≡ false → HasNone held → GainsSome x y bad_bytes
-      → Cut answers (λ ms. Starts held ms) desk desk x y
+  pub bad_cut : (held : List ℕ) (desk : D) (x y : Option (List ℕ)) → are_line_breaks held ≡ false → HasNone held → GainsSome x y bad_bytes
+      → LastReplyCutShort answers (λ ms. Starts held ms) desk desk x y
   bad_cut held desk x y b n p = record {
     done = [];
     last = bad;

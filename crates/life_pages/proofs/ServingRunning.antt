@@ -6,12 +6,12 @@ use Rattle.life_pages.specs.Head.{Head}
 use Rattle.life_rle.specs.Stream.{Gains, GainsSome}
 use Rattle.life_rle.proofs.StreamLemmas.{gains_more, gains_none}
 use Rattle.life_pages.specs.Reply.{bad_bytes}
-use Rattle.life_pages.specs.Message.{Message, good, bad, Messages, Front, Starts, Run, Stands, is_blank}
+use Rattle.life_pages.specs.Message.{Message, good, bad, Messages, Front, Starts, MessageRun, HasMessageInFront, are_line_breaks}
 use Rattle.life_pages.specs.MessageState.{NeverHas}
-use Rattle.life_pages.specs.Serving.{Broke, Cut}
+use Rattle.life_pages.specs.Serving.{RepliesCutShort, LastReplyCutShort}
 use Rattle.life_pages.specs.ServingState.{Went, Ended}
 
-pub stands_append : (bytes : List ℕ) (said : Head) (body rest more : List ℕ) → Stands bytes said body rest → Stands (bytes ++ more) said body (rest ++ more)
+pub stands_append : (bytes : List ℕ) (said : Head) (body rest more : List ℕ) → HasMessageInFront bytes said body rest → HasMessageInFront (bytes ++ more) said body (rest ++ more)
 stands_append bytes said body rest more s =
     let shape : (print_request s.head ++ (body ++ rest)) ++ more ≡ print_request s.head ++ (body ++ (rest ++ more)) =
     append_assoc (print_request s.head) (body ++ rest) more ∙ ap (λ (l : List ℕ). print_request s.head ++ l) (append_assoc body rest more) in
@@ -45,7 +45,7 @@ front_messages a (good said body ∷ ms) ns b f m =
     (f.0, f.1, (λ t. closes_not said.closes _ f.2 t), (λ _. front_messages f.0 ms ns b f.3 m))
 
 module _ {D : Type 0} (answers : D → Head → List ℕ → List ℕ → D → Type 0) where
-  pub run_then : (old mid new : D) (ms ns : List Message) (x y : List ℕ) → Run answers old ms x mid → Run answers mid ns y new → Run answers old (ms ++ ns) (x ++ y) new
+  pub run_then : (old mid new : D) (ms ns : List Message) (x y : List ℕ) → MessageRun answers old ms x mid → MessageRun answers mid ns y new → MessageRun answers old (ms ++ ns) (x ++ y) new
   run_then old mid new [] ns x y r q = rw (r.0) (rw (← r.1) q)
   run_then old mid new (bad ∷ ms) ns x y r q =
       (r.0 ++ y, ap (λ (l : List ℕ). l ++ y) r.1 ∙ append_assoc bad_bytes r.0 y, run_then old mid new ms ns r.0 y r.2 q)
@@ -56,7 +56,7 @@ module _ {D : Type 0} (answers : D → Head → List ℕ → List ℕ → D → 
   went_none held old before = record { done = []; bytes = []; front = refl; run = (refl, refl); put = gains_none before }
 
   pub went_one : (held : List ℕ) (said : Head) (body rest : List ℕ) (old new : D) (reply : List ℕ) (before after : Option (List ℕ))
-      → Stands held said body rest → said.closes ≡ false → answers old said body reply new → Gains before after reply → Went answers held rest old new before after
+      → HasMessageInFront held said body rest → said.closes ≡ false → answers old said body reply new → Gains before after reply → Went answers held rest old new before after
   went_one held said body rest old new reply before after s e a p = record {
     done = good said body ∷ [];
     bytes = reply;
@@ -66,7 +66,7 @@ module _ {D : Type 0} (answers : D → Head → List ℕ → List ℕ → D → 
   }
 
   pub ended_one : (held : List ℕ) (said : Head) (body rest : List ℕ) (old new : D) (reply : List ℕ) (before after : Option (List ℕ))
-      → Stands held said body rest → said.closes ≡ true → answers old said body reply new → Gains before after reply → Ended answers held old new before after
+      → HasMessageInFront held said body rest → said.closes ≡ true → answers old said body reply new → Gains before after reply → Ended answers held old new before after
   ended_one held said body rest old new reply before after s e a p = record {
     done = good said body ∷ [];
     bytes = reply;
@@ -75,19 +75,19 @@ module _ {D : Type 0} (answers : D → Head → List ℕ → List ℕ → D → 
     put = p;
   }
 
-  pub ended_bad : (held : List ℕ) (old : D) (before after : Option (List ℕ)) → NeverHas held → is_blank held ≡ false → Gains before after bad_bytes
+  pub ended_bad : (held : List ℕ) (old : D) (before after : Option (List ℕ)) → NeverHas held → are_line_breaks held ≡ false → Gains before after bad_bytes
       → Ended answers held old old before after
   ended_bad held old before after never not_blank p = record {
     done = bad ∷ [];
     bytes = bad_bytes;
-    messages = λ more. (list_all-append _ held more ∙ ap (λ (b : Bool). b && is_blank more) not_blank, never more, refl);
+    messages = λ more. (list_all-append _ held more ∙ ap (λ (b : Bool). b && are_line_breaks more) not_blank, never more, refl);
     run = ([], sym (append-nil bad_bytes), (refl, refl));
     put = p;
   }
 
   pub cut_one : (held : List ℕ) (said : Head) (body rest : List ℕ) (old new : D) (reply : List ℕ) (before after : Option (List ℕ))
-      → Stands held said body rest → answers old said body reply new → GainsSome before after reply
-      → Cut answers (λ ms. (more : List ℕ) → Starts (held ++ more) ms) old new before after
+      → HasMessageInFront held said body rest → answers old said body reply new → GainsSome before after reply
+      → LastReplyCutShort answers (λ ms. (more : List ℕ) → Starts (held ++ more) ms) old new before after
   cut_one held said body rest old new reply before after s a p = record {
     done = [];
     last = good said body;
@@ -102,8 +102,8 @@ module _ {D : Type 0} (answers : D → Head → List ℕ → List ℕ → D → 
     some = p;
   }
 
-  pub cut_bad : (held : List ℕ) (old : D) (before after : Option (List ℕ)) → NeverHas held → is_blank held ≡ false → GainsSome before after bad_bytes
-      → Cut answers (λ ms. (more : List ℕ) → Starts (held ++ more) ms) old old before after
+  pub cut_bad : (held : List ℕ) (old : D) (before after : Option (List ℕ)) → NeverHas held → are_line_breaks held ≡ false → GainsSome before after bad_bytes
+      → LastReplyCutShort answers (λ ms. (more : List ℕ) → Starts (held ++ more) ms) old old before after
   cut_bad held old before after never not_blank p = record {
     done = [];
     last = bad;
@@ -111,7 +111,7 @@ module _ {D : Type 0} (answers : D → Head → List ℕ → List ℕ → D → 
     reply = bad_bytes;
     mid = old;
     whole = before;
-    begun = λ more. (list_all-append _ held more ∙ ap (λ (b : Bool). b && is_blank more) not_blank, never more, refl);
+    begun = λ more. (list_all-append _ held more ∙ ap (λ (b : Bool). b && are_line_breaks more) not_blank, never more, refl);
     run = (refl, refl);
     step = ([], sym (append-nil bad_bytes), (refl, refl));
     put = gains_none before;
@@ -151,7 +151,7 @@ module _ {D : Type 0} (answers : D → Head → List ℕ → List ℕ → D → 
 
   -- a cut behind messages that were answered whole
   pub then_cut : (P Q : List Message → Type 0) (done : List Message) (bytes : List ℕ) (old mid new : D) (x y z : Option (List ℕ))
-      → Run answers old done bytes mid → Gains x y bytes → ((ms : List Message) → P ms → Q (done ++ ms)) → Cut answers P mid new y z → Cut answers Q old new x z
+      → MessageRun answers old done bytes mid → Gains x y bytes → ((ms : List Message) → P ms → Q (done ++ ms)) → LastReplyCutShort answers P mid new y z → LastReplyCutShort answers Q old new x z
   then_cut P Q done bytes old mid new x y z r g begins c = record {
     done = done ++ c.done;
     last = c.last;
@@ -167,13 +167,13 @@ module _ {D : Type 0} (answers : D → Head → List ℕ → List ℕ → D → 
   }
 
   pub went_cut : (a b : List ℕ) (old mid new : D) (x y z : Option (List ℕ)) → Went answers a b old mid x y
-      → Cut answers (λ ms. (more : List ℕ) → Starts (b ++ more) ms) mid new y z → Cut answers (λ ms. (more : List ℕ) → Starts (a ++ more) ms) old new x z
+      → LastReplyCutShort answers (λ ms. (more : List ℕ) → Starts (b ++ more) ms) mid new y z → LastReplyCutShort answers (λ ms. (more : List ℕ) → Starts (a ++ more) ms) old new x z
   went_cut a b old mid new x y z f c =
       then_cut (λ ms. (more : List ℕ) → Starts (b ++ more) ms) (λ ms. (more : List ℕ) → Starts (a ++ more) ms) f.done f.bytes old mid new x y z f.run f.put
       (λ ms h more. front_starts (a ++ more) f.done ms (b ++ more) (front_append a f.done b more f.front) (h more)) c
 
   -- what a cut put is a beginning of the replies
-  pub cut_broke : (P : List Message → Type 0) (old new : D) (x y : Option (List ℕ)) → Cut answers P old new x y → Broke answers old new x y
+  pub cut_broke : (P : List Message → Type 0) (old new : D) (x y : Option (List ℕ)) → LastReplyCutShort answers P old new x y → RepliesCutShort answers old new x y
   cut_broke P old new x y c = record {
     done = c.done ++ c.last ∷ [];
     bytes = c.bytes ++ c.reply;

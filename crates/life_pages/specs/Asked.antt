@@ -10,7 +10,7 @@ use Rattle.life_pages.specs.declared.asked.Place.{Place}
 use Rattle.life_pages.specs.declared.asked.Place.TheVariants as places
 use Rattle.life_pages.specs.declared.asked.PageRefusal.{PageRefusal}
 use Rattle.life_pages.specs.declared.asked.PageRefusal.TheVariants.{NoSuchPage, BadMethod, BadMessage}
-use Rattle.life_pages.specs.Head.{Head, number_of}
+use Rattle.life_pages.specs.Head.{Head, parsed_number}
 use Rattle.life_pages.specs.Path.{path_of, part}
 use Rattle.life_pages.specs.Route.{page_of}
 
@@ -33,7 +33,7 @@ o >>= f = option_and_then f o
 
 -- the number behind so many slashes of a path, if it is one
 abbrev pub number_at : ℕ → List ℕ → Option ℕ
-number_at slashes path = number_of (part slashes path)
+number_at slashes path = parsed_number (part slashes path)
 
 -- a page with the numbers of the path
 abbrev pub place_in : Page → List ℕ → Option Place

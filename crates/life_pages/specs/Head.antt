@@ -26,8 +26,8 @@ abbrev pub most : ℕ
 most = 2 ^ 64 - 1
 
 -- one or more digits, and the number that they write; a greater one than the greatest is read as that
-abbrev pub number_of : List ℕ → Option ℕ
-number_of text =
+abbrev pub parsed_number : List ℕ → Option ℕ
+parsed_number text =
     if nat_lt 0 (length text) && list_all is_ascii_digit text then Some (min (digits_value 10 text) most) else None
 
 -- the most bytes that a body has
@@ -41,7 +41,7 @@ within_limit (Some n) = if nat_le n body_limit then Some n else None
 -- the bytes of the body, from the content-length lines: none is 0, and two are bad
 abbrev pub body_length : List (List ℕ) → Option ℕ
 body_length [] = Some 0
-body_length (v ∷ []) = within_limit (number_of v)
+body_length (v ∷ []) = within_limit (parsed_number v)
 body_length (v ∷ w ∷ vs) = None
 
 -- the parts between commas

@@ -19,11 +19,11 @@ abbrev pub head_limit : ℕ
 head_limit = 8192
 
 -- only CR and LF bytes are left
-abbrev pub is_blank : List ℕ → Bool
-is_blank bytes = list_all (λ b. b == 13 || b == 10) bytes
+abbrev pub are_line_breaks : List ℕ → Bool
+are_line_breaks bytes = list_all (λ b. b == 13 || b == 10) bytes
 
 -- a good message stands at the front, and the rest follows it
-pub record Stands (bytes : List ℕ) (said : Head) (body rest : List ℕ) : Type 0 where
+pub record HasMessageInFront (bytes : List ℕ) (said : Head) (body rest : List ℕ) : Type 0 where
   pub head : RequestHead
   pub is_head : IsRequestHead head
   pub short : length (print_request head) ≤ head_limit
@@ -33,7 +33,7 @@ pub record Stands (bytes : List ℕ) (said : Head) (body rest : List ℕ) : Type
 
 -- no good message stands at the front
 abbrev pub HasNone : List ℕ → Type 0
-HasNone bytes = (said : Head) (body rest : List ℕ) → ¬ (Stands bytes said body rest)
+HasNone bytes = (said : Head) (body rest : List ℕ) → ¬ (HasMessageInFront bytes said body rest)
 
 -- a good head stands whole at the front, and its body has not come whole
 pub record HasHeadAlone (bytes : List ℕ) : Type 0 where
@@ -52,14 +52,14 @@ BeginsHead bytes = HasNoRequest bytes × MayBecomeRequest bytes × (length bytes
 
 -- nothing is wrong with the bytes as far as they have come: they are CR and LF alone, the beginning of a head, or a good head without its body
 abbrev pub IsAwaited : List ℕ → Type 0
-IsAwaited bytes = (is_blank bytes ≡ true) ⊎ (BeginsHead bytes ⊎ HasHeadAlone bytes)
+IsAwaited bytes = (are_line_breaks bytes ≡ true) ⊎ (BeginsHead bytes ⊎ HasHeadAlone bytes)
 
 -- the messages of a list of bytes: nothing follows a closing or a bad one
 abbrev pub Messages : List ℕ → List Message → Type 0
-Messages bytes [] = is_blank bytes ≡ true
-Messages bytes (bad ∷ ms) = (is_blank bytes ≡ false) × HasNone bytes × (ms ≡ [])
+Messages bytes [] = are_line_breaks bytes ≡ true
+Messages bytes (bad ∷ ms) = (are_line_breaks bytes ≡ false) × HasNone bytes × (ms ≡ [])
 Messages bytes (good said body ∷ ms) =
-    (rest : List ℕ) × Stands bytes said body rest
+    (rest : List ℕ) × HasMessageInFront bytes said body rest
     × (said.closes ≡ true → ms ≡ []) × (said.closes ≡ false → Messages rest ms)
 
 -- these messages stand at the front, none of them closes, and the rest follows
@@ -67,23 +67,23 @@ abbrev pub Front : List ℕ → List Message → List ℕ → Type 0
 Front bytes [] rest = bytes ≡ rest
 Front bytes (bad ∷ ms) rest = ⊥
 Front bytes (good said body ∷ ms) rest =
-    (mid : List ℕ) × Stands bytes said body mid × (said.closes ≡ false) × Front mid ms rest
+    (mid : List ℕ) × HasMessageInFront bytes said body mid × (said.closes ≡ false) × Front mid ms rest
 
 -- these messages stand at the front, of which the last may close or be bad
 abbrev pub Starts : List ℕ → List Message → Type 0
 Starts bytes [] = Unit {0}
-Starts bytes (bad ∷ ms) = (is_blank bytes ≡ false) × HasNone bytes × (ms ≡ [])
+Starts bytes (bad ∷ ms) = (are_line_breaks bytes ≡ false) × HasNone bytes × (ms ≡ [])
 Starts bytes (good said body ∷ ms) =
-    (rest : List ℕ) × Stands bytes said body rest
+    (rest : List ℕ) × HasMessageInFront bytes said body rest
     × (said.closes ≡ true → ms ≡ []) × (said.closes ≡ false → Starts rest ms)
 
 -- a run from old over messages puts these bytes and ends at new
 module _ {D : Type 0} (answers : D → Head → List ℕ → List ℕ → D → Type 0) where
-  abbrev pub Run : D → List Message → List ℕ → D → Type 0
-  Run old [] bytes new = (bytes ≡ []) × (new ≡ old)
-  Run old (bad ∷ ms) bytes new = (later : List ℕ) × (bytes ≡ bad_bytes ++ later) × Run old ms later new
-  Run old (good said body ∷ ms) bytes new =
-      (reply : List ℕ) × (later : List ℕ) × (mid : D) × answers old said body reply mid × (bytes ≡ reply ++ later) × Run mid ms later new
+  abbrev pub MessageRun : D → List Message → List ℕ → D → Type 0
+  MessageRun old [] bytes new = (bytes ≡ []) × (new ≡ old)
+  MessageRun old (bad ∷ ms) bytes new = (later : List ℕ) × (bytes ≡ bad_bytes ++ later) × MessageRun old ms later new
+  MessageRun old (good said body ∷ ms) bytes new =
+      (reply : List ℕ) × (later : List ℕ) × (mid : D) × answers old said body reply mid × (bytes ≡ reply ++ later) × MessageRun mid ms later new
 
 -- how a good message is answered, where requests are answered by these replies
 module _ {D : Type 0} (answers : D → Request → Reply → D → Type 0) where

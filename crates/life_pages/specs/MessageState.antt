@@ -3,7 +3,7 @@ use Rattle.std.specs.Prelude.{◌≡◌, ◌⊎◌, ℕ, ◌+◌, ◌<◌, ◌�
 use Rattle.life_pages.specs.declared.message.Next.{Next}
 use Rattle.life_pages.specs.declared.message.Next.TheVariants.{More, Bad, Whole}
 use Rattle.life_pages.specs.HeadState.{said}
-use Rattle.life_pages.specs.Message.{Stands, HasNone, IsAwaited, is_blank}
+use Rattle.life_pages.specs.Message.{HasMessageInFront, HasNone, IsAwaited, are_line_breaks}
 
 -- none will, whatever follows
 abbrev pub NeverHas : List ℕ → Type 0
@@ -15,7 +15,7 @@ held_limit = 1056768
 
 -- no good message stands at the front, nothing is wrong so far, and there is room for more bytes, or all are CR and LF
 abbrev pub IsWanting : List ℕ → Type 0
-IsWanting held = HasNone held × ((is_blank held ≡ true) ⊎ (length held < held_limit)) × IsAwaited held
+IsWanting held = HasNone held × ((are_line_breaks held ≡ true) ⊎ (length held < held_limit)) × IsAwaited held
 
 -- so it is until as many bytes are held as are wanted
 abbrev pub WantsUntil : ℕ → List ℕ → Type 0
@@ -24,7 +24,7 @@ WantsUntil wanted held = (more : List ℕ) → length (held ++ more) < wanted �
 -- what the held bytes begin with
 abbrev pub IsNext : List ℕ → Next → Type 0
 IsNext held (More wanted) = IsWanting held × WantsUntil wanted held
-IsNext held Bad = NeverHas held × (is_blank held ≡ false)
+IsNext held Bad = NeverHas held × (are_line_breaks held ≡ false)
 IsNext held (Whole head) =
     (head.len + head.body ≤ length held) × (0 < head.len)
-    × Stands held (said head) (take head.body (drop head.len held)) (drop (head.len + head.body) held)
+    × HasMessageInFront held (said head) (take head.body (drop head.len held)) (drop (head.len + head.body) held)

@@ -8,10 +8,10 @@ use Rattle.life_pages.specs.declared.serving.Step.TheVariants.{Wants, Goes, Ends
 use Rattle.life_pages.specs.declared.serving.Passed.{Passed}
 use Rattle.life_pages.specs.declared.serving.Passed.TheVariants as passed
 use Rattle.life_pages.specs.Head.{Head}
-use Rattle.life_pages.specs.Message.{Message, Messages, Front, Starts, Run, is_blank}
+use Rattle.life_pages.specs.Message.{Message, Messages, Front, Starts, MessageRun, are_line_breaks}
 use Rattle.life_pages.specs.MessageState.{IsWanting}
 use Rattle.life_pages.specs.Reply.{bad_bytes}
-use Rattle.life_pages.specs.Serving.{Cut, Served, Broke, Paused, LosesAtLeast}
+use Rattle.life_pages.specs.Serving.{LastReplyCutShort, Served, RepliesCutShort, ServedSoFar, LosesAtLeast}
 
 -- the most takes of one call
 abbrev pub most_takes : ℕ
@@ -33,7 +33,7 @@ module _ {D : Type 0} (answers : D → Head → List ℕ → List ℕ → D → 
     pub done : List Message
     pub bytes : List ℕ
     pub front : Front held done rest
-    pub run : Run answers old done bytes new
+    pub run : MessageRun answers old done bytes new
     pub put : Gains before after bytes
 
   -- messages were answered, the last of which ends the stream, whatever follows
@@ -41,7 +41,7 @@ module _ {D : Type 0} (answers : D → Head → List ℕ → List ℕ → D → 
     pub done : List Message
     pub bytes : List ℕ
     pub messages : (more : List ℕ) → Messages (held ++ more) done
-    pub run : Run answers old done bytes new
+    pub run : MessageRun answers old done bytes new
     pub put : Gains before after bytes
 
   -- one message
@@ -50,19 +50,19 @@ module _ {D : Type 0} (answers : D → Head → List ℕ → List ℕ → D → 
       Went held rest old new before after × IsWanting rest
   IsStep (Ok Goes) held rest old new before after = Went held rest old new before after × (length rest < length held)
   IsStep (Ok Ends) held rest old new before after = Ended held old new before after
-  IsStep (Err e) held rest old new before after = Cut answers (λ ms. (more : List ℕ) → Starts (held ++ more) ms) old new before after
+  IsStep (Err e) held rest old new before after = LastReplyCutShort answers (λ ms. (more : List ℕ) → Starts (held ++ more) ms) old new before after
 
   -- all the messages that are held
   abbrev pub IsServed : {E : Type 0} → Result Bool E → List ℕ → List ℕ → D → D → Option (List ℕ) → Option (List ℕ) → Type 0
   IsServed (Ok false) held rest old new before after =
       Went held rest old new before after × IsWanting rest
   IsServed (Ok true) held rest old new before after = Ended held old new before after
-  IsServed (Err e) held rest old new before after = Cut answers (λ ms. (more : List ℕ) → Starts (held ++ more) ms) old new before after
+  IsServed (Err e) held rest old new before after = LastReplyCutShort answers (λ ms. (more : List ℕ) → Starts (held ++ more) ms) old new before after
 
   -- at the end of the input
   abbrev pub AtEnd : Result (Unit {0}) IoFault → List ℕ → D → Option (List ℕ) → Option (List ℕ) → Type 0
   AtEnd (Ok u) held desk before after = Served answers held desk desk before after
-  AtEnd (Err faults.Write) held desk before after = Cut answers (λ ms. Starts held ms) desk desk before after
+  AtEnd (Err faults.Write) held desk before after = LastReplyCutShort answers (λ ms. Starts held ms) desk desk before after
   AtEnd (Err faults.Read) held desk before after = ⊥
   AtEnd (Err faults.TooManyReads) held desk before after = ⊥
   AtEnd (Err faults.Memory) held desk before after = ⊥
@@ -70,21 +70,21 @@ module _ {D : Type 0} (answers : D → Head → List ℕ → List ℕ → D → 
   -- what became of a stream
   abbrev pub IsOutcome : Result (Unit {0}) IoFault → Option (List ℕ) → Option (List ℕ) → D → D → Option (List ℕ) → Option (List ℕ) → Type 0
   IsOutcome (Ok u) stream left old new before after =
-      IfSome stream (λ bytes. Served answers bytes old new before after) × Broke answers old new before after
-  IsOutcome (Err faults.Read) stream left old new before after = Paused answers stream left old new before after
+      IfSome stream (λ bytes. Served answers bytes old new before after) × RepliesCutShort answers old new before after
+  IsOutcome (Err faults.Read) stream left old new before after = ServedSoFar answers stream left old new before after
   IsOutcome (Err faults.TooManyReads) stream left old new before after =
-      Paused answers stream left old new before after × LosesAtLeast most_takes stream left
-  IsOutcome (Err faults.Write) stream left old new before after = Cut answers (λ ms. IfSome stream (λ bytes. Starts bytes ms)) old new before after
+      ServedSoFar answers stream left old new before after × LosesAtLeast most_takes stream left
+  IsOutcome (Err faults.Write) stream left old new before after = LastReplyCutShort answers (λ ms. IfSome stream (λ bytes. Starts bytes ms)) old new before after
   IsOutcome (Err faults.Memory) stream left old new before after = ⊥
 
 -- at least so many bytes were taken, all of them CR and LF
 abbrev pub PassesBlank : ℕ → Option (List ℕ) → Option (List ℕ) → Type 0
-PassesBlank least old new = (bytes : List ℕ) × (least ≤ length bytes) × (is_blank bytes ≡ true) × Loses old new bytes
+PassesBlank least old new = (bytes : List ℕ) × (least ≤ length bytes) × (are_line_breaks bytes ≡ true) × Loses old new bytes
 
 -- whether what is left of told bytes is CR and LF alone
 abbrev pub IsBlankRest : Option (List ℕ) → Bool → Type 0
 IsBlankRest None blank = Unit {0}
-IsBlankRest (Some left) blank = is_blank left ≡ blank
+IsBlankRest (Some left) blank = are_line_breaks left ≡ blank
 
 -- what became of bytes that were taken as long as they were CR and LF, in at most so many takes
 abbrev pub IsPassed : Passed → ℕ → Option (List ℕ) → Option (List ℕ) → Type 0

@@ -16,24 +16,24 @@ use std::alloc::{AllocError, Global};
 
 /// Where a reply is written, and the body of a short one before it.
 #[derive(Drop)]
-pub(crate) struct Draft {
+pub(crate) struct ReplyBuffers {
     pub(crate) reply: Vec<u8>,
     pub(crate) body: Vec<u8>,
 }
 
-impl Draft {
+impl ReplyBuffers {
     /// A draft with room for each short reply.
-    pub(crate) fn with_room(alloc: Global) -> Result<Draft, AllocError>
+    pub(crate) fn with_room(alloc: Global) -> Result<ReplyBuffers, AllocError>
         ensures { IfOk result (λ d. HasRoom d) }
     {
         let reply = Vec::with_capacity(alloc, REPLY_ROOM)?;
         let body = Vec::with_capacity(alloc, BODY_ROOM)?;
-        Ok(Draft { reply, body })
+        Ok(ReplyBuffers { reply, body })
     }
 }
 
 /// Writes the reply to a request.
-fn answer_request<D: Desk>(alloc: Global, desk: &mut D, request: Request, draft: &mut Draft)
+fn answer_request<D: Desk>(alloc: Global, desk: &mut D, request: Request, draft: &mut ReplyBuffers)
     requires room { HasRoom draft.old }
     ensures answered { AnswersAsked D.answers desk.old (Ok request) draft.new.reply.items desk.new }
     ensures room { HasRoom draft.new }
@@ -49,7 +49,7 @@ pub(crate) fn answer_message<D: Desk>(
     desk: &mut D,
     head: &GoodHead<'_>,
     body: &[u8],
-    draft: &mut Draft,
+    draft: &mut ReplyBuffers,
 )
     requires routes { routes.now ≡ page_rows }
     requires room { HasRoom draft.old }

@@ -1,9 +1,9 @@
 //! Serving the messages of a stream by an archive.
 ghost use Rattle.std.specs.Prelude.{◌≡◌, ◌*◌, Err, OnOk, IfSome};
 ghost use Rattle.life_rle.specs.Stream.{FailedBetween, LosesUpTo};
-ghost use Rattle.life_desk.specs.Run.{Step};
+ghost use Rattle.life_desk.specs.Run.{RequestStep};
 ghost use Rattle.life_pages.specs.Message.{AnswersMessage, Starts};
-ghost use Rattle.life_pages.specs.Serving.{Served, Broke, Paused, Cut, LosesAtLeast, HearsTakes, HearsPuts};
+ghost use Rattle.life_pages.specs.Serving.{Served, RepliesCutShort, ServedSoFar, LastReplyCutShort, LosesAtLeast, ReportsTakeFailures, ReportsPutFailures};
 ghost use Rattle.life_pages.specs.Archive.{ByArchive, InMemory};
 
 use crate::desk::Desk;
@@ -39,24 +39,24 @@ pub fn serve<S: Alter, I: Inlet, O: Outlet>(
 ) -> Result<(), IoFault>
     // Told: the archive went through a run over the messages of the stream, and what was put is the run's bytes.
     ensures told { OnOk result (IfSome (I.to_come input.old) (λ stream.
-        ByArchive (λ A B. Served (AnswersMessage Step) stream A B (O.already output.old) (O.already output.new)) archive.old archive.new)) }
+        ByArchive (λ A B. Served (AnswersMessage RequestStep) stream A B (O.already output.old) (O.already output.new)) archive.old archive.new)) }
     // Told or not: it went through a run over some messages, and no more than its bytes was put.
-    ensures some { ByArchive (λ A B. Broke (AnswersMessage Step) A B (O.already output.old) (O.already output.new)) archive.old archive.new }
+    ensures some { ByArchive (λ A B. RepliesCutShort (AnswersMessage RequestStep) A B (O.already output.old) (O.already output.new)) archive.old archive.new }
     // A failed take: the run is over what was taken whole, and its bytes were put whole.
     ensures paused { result ≡ Err IoFault.Read →
-        ByArchive (λ A B. Paused (AnswersMessage Step) (I.to_come input.old) (I.to_come input.new) A B (O.already output.old) (O.already output.new)) archive.old archive.new }
+        ByArchive (λ A B. ServedSoFar (AnswersMessage RequestStep) (I.to_come input.old) (I.to_come input.new) A B (O.already output.old) (O.already output.new)) archive.old archive.new }
     ensures full { result ≡ Err IoFault.TooManyReads →
-        ByArchive (λ A B. Paused (AnswersMessage Step) (I.to_come input.old) (I.to_come input.new) A B (O.already output.old) (O.already output.new)) archive.old archive.new }
+        ByArchive (λ A B. ServedSoFar (AnswersMessage RequestStep) (I.to_come input.old) (I.to_come input.new) A B (O.already output.old) (O.already output.new)) archive.old archive.new }
     ensures many { result ≡ Err IoFault.TooManyReads → LosesAtLeast TAKES (I.to_come input.old) (I.to_come input.new) }
     // A failed put: of the last reply of the run a beginning was put, and those before it whole.
     ensures cut { result ≡ Err IoFault.Write →
-        ByArchive (λ A B. Cut (AnswersMessage Step) (λ ms. IfSome (I.to_come input.old) (λ stream. Starts stream ms)) A B (O.already output.old) (O.already output.new)) archive.old archive.new }
+        ByArchive (λ A B. LastReplyCutShort (AnswersMessage RequestStep) (λ ms. IfSome (I.to_come input.old) (λ stream. Starts stream ms)) A B (O.already output.old) (O.already output.new)) archive.old archive.new }
     ensures memory { result ≡ Err IoFault.Memory → (archive.new ≡ archive.old) × (input.new ≡ input.old) × (output.new ≡ output.old) }
     // At most 1,048,576 takes are made, of at most 4,096 bytes each.
     ensures most { LosesUpTo (TAKES * MOST_TAKEN) (I.to_come input.old) (I.to_come input.new) }
     // A failed take is told at once, a failed put is told, and nothing else is.
-    ensures heard { HearsTakes (I.failures input.old) (I.failures input.new) result }
-    ensures puts { HearsPuts (O.failures output.old) (O.failures output.new) result }
+    ensures heard { ReportsTakeFailures (I.failures input.old) (I.failures input.new) result }
+    ensures puts { ReportsPutFailures (O.failures output.old) (O.failures output.new) result }
     ensures read { result ≡ Err IoFault.Read → FailedBetween (I.failures input.old) (I.failures input.new) }
     ensures write { result ≡ Err IoFault.Write → FailedBetween (O.failures output.old) (O.failures output.new) }
 {
@@ -71,14 +71,14 @@ pub fn serve_in_memory<I: Inlet, O: Outlet>(
     output: &mut O,
 ) -> Result<(), IoFault>
     ensures told { OnOk result (IfSome (I.to_come input.old) (λ stream.
-        InMemory (λ A B. Served (AnswersMessage Step) stream A B (O.already output.old) (O.already output.new)) archive.old archive.new)) }
-    ensures some { InMemory (λ A B. Broke (AnswersMessage Step) A B (O.already output.old) (O.already output.new)) archive.old archive.new }
+        InMemory (λ A B. Served (AnswersMessage RequestStep) stream A B (O.already output.old) (O.already output.new)) archive.old archive.new)) }
+    ensures some { InMemory (λ A B. RepliesCutShort (AnswersMessage RequestStep) A B (O.already output.old) (O.already output.new)) archive.old archive.new }
     ensures paused { result ≡ Err IoFault.Read →
-        InMemory (λ A B. Paused (AnswersMessage Step) (I.to_come input.old) (I.to_come input.new) A B (O.already output.old) (O.already output.new)) archive.old archive.new }
+        InMemory (λ A B. ServedSoFar (AnswersMessage RequestStep) (I.to_come input.old) (I.to_come input.new) A B (O.already output.old) (O.already output.new)) archive.old archive.new }
     ensures full { result ≡ Err IoFault.TooManyReads →
-        InMemory (λ A B. Paused (AnswersMessage Step) (I.to_come input.old) (I.to_come input.new) A B (O.already output.old) (O.already output.new)) archive.old archive.new }
+        InMemory (λ A B. ServedSoFar (AnswersMessage RequestStep) (I.to_come input.old) (I.to_come input.new) A B (O.already output.old) (O.already output.new)) archive.old archive.new }
     ensures cut { result ≡ Err IoFault.Write →
-        InMemory (λ A B. Cut (AnswersMessage Step) (λ ms. IfSome (I.to_come input.old) (λ stream. Starts stream ms)) A B (O.already output.old) (O.already output.new)) archive.old archive.new }
+        InMemory (λ A B. LastReplyCutShort (AnswersMessage RequestStep) (λ ms. IfSome (I.to_come input.old) (λ stream. Starts stream ms)) A B (O.already output.old) (O.already output.new)) archive.old archive.new }
     ensures memory { result ≡ Err IoFault.Memory → (archive.new ≡ archive.old) × (input.new ≡ input.old) × (output.new ≡ output.old) }
 {
     let served = serve(alloc, archive, input, output);

@@ -1,7 +1,7 @@
 //! What a good message asks for.
 ghost use Rattle.std.specs.Prelude.{◌≡◌};
 ghost use Rattle.std.specs.Option.{option_and_then};
-ghost use Rattle.life_pages.specs.Head.{number_of};
+ghost use Rattle.life_pages.specs.Head.{parsed_number};
 ghost use Rattle.life_pages.specs.HeadState.{said};
 ghost use Rattle.life_pages.specs.Path.{path_of, part};
 ghost use Rattle.life_pages.specs.Route.{page_rows, page_of};
@@ -69,7 +69,7 @@ pub(crate) enum Place {
 
 /// The number that stands behind so many slashes.
 fn number_at(path: &str, slashes: usize) -> Option<u64>
-    ensures { result ≡ number_of (part slashes path.now) }
+    ensures { result ≡ parsed_number (part slashes path.now) }
 {
     number(part(path, slashes).as_bytes())
 }

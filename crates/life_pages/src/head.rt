@@ -6,7 +6,7 @@ ghost use Rattle.std.specs.Str.Parse.{digits_value};
 ghost use Rattle.std.specs.Str.{str_eq_ignore_ascii_case};
 ghost use Rattle.httparse.specs.Borrowed.{header_parts};
 ghost use Rattle.httparse.specs.Grammar.{trim_ows, skip_ows, is_ows};
-ghost use Rattle.life_pages.specs.Head.{line_limit, most, number_of, says_close, values_of, first_of, body_length, has_some, said_by};
+ghost use Rattle.life_pages.specs.Head.{line_limit, most, parsed_number, says_close, values_of, first_of, body_length, has_some, said_by};
 ghost use Rattle.life_pages.specs.HeadState.{Judges, ReadsHead};
 
 use httparse::{EMPTY_HEADER, Header, Request, Status};
@@ -43,7 +43,7 @@ fn value_of(text: &[u8]) -> u64
 
 /// The number that one or more digits write, or the greatest that there is.
 pub(crate) fn number(text: &[u8]) -> Option<u64>
-    ensures { result ≡ number_of text.now }
+    ensures { result ≡ parsed_number text.now }
 {
     if !text.is_empty() && are_digits(text) {
         Some(value_of(text))
@@ -53,7 +53,7 @@ pub(crate) fn number(text: &[u8]) -> Option<u64>
 }
 
 /// A space or a tab.
-fn is_blank(byte: u8) -> bool
+fn is_space_or_tab(byte: u8) -> bool
     ensures { result ≡ is_ows byte }
 {
     byte == b' ' || byte == b'\t'
@@ -64,7 +64,7 @@ fn without_front(bytes: &[u8]) -> &[u8]
     ensures { result.now ≡ skip_ows bytes.now }
 {
     for at in 0..bytes.len() {
-        if !is_blank(bytes[at]) {
+        if !is_space_or_tab(bytes[at]) {
             return &bytes[at..];
         }
     }
@@ -77,7 +77,7 @@ fn without_back(bytes: &[u8]) -> &[u8]
 {
     let mut rest = bytes;
     'back: while let Some((last, sooner)) = rest.split_last() {
-        if !is_blank(*last) {
+        if !is_space_or_tab(*last) {
             return rest;
         }
         rest = sooner;

@@ -1,6 +1,6 @@
 //! The messages of a stream.
 ghost use Rattle.std.specs.Prelude.{◌≡◌, ◌==◌, ◌||◌};
-ghost use Rattle.life_pages.specs.Message.{is_blank};
+ghost use Rattle.life_pages.specs.Message.{are_line_breaks};
 ghost use Rattle.life_pages.specs.MessageState.{IsNext};
 
 use crate::head::{GoodHead, HeadRead, read_head};
@@ -21,7 +21,7 @@ pub(crate) enum Next<'b> {
 
 /// Whether all are CR and LF.
 pub(crate) fn are_blank(held: &[u8]) -> bool
-    ensures { result ≡ is_blank held.now }
+    ensures { result ≡ are_line_breaks held.now }
 {
     held.iter().all(|b| *b == b'\r' || *b == b'\n')
 }

@@ -5,13 +5,13 @@ ghost use Rattle.life_pages.specs.Head.{Head};
 ghost use Rattle.life_pages.specs.HeadState.{said};
 ghost use Rattle.life_pages.specs.Route.{page_rows};
 ghost use Rattle.life_pages.specs.Reply.{bad_bytes};
-ghost use Rattle.life_pages.specs.Message.{is_blank, Stands, HasNone, Starts, AnswersMessage};
+ghost use Rattle.life_pages.specs.Message.{are_line_breaks, HasMessageInFront, HasNone, Starts, AnswersMessage};
 ghost use Rattle.life_pages.specs.MessageState.{held_limit, NeverHas, IsWanting, WantsUntil};
 ghost use Rattle.life_pages.specs.AnswerState.{HasRoom};
-ghost use Rattle.life_pages.specs.Serving.{Paused, Cut, Served, Broke, LosesAtLeast, HearsTakes, HearsPuts};
+ghost use Rattle.life_pages.specs.Serving.{ServedSoFar, LastReplyCutShort, Served, RepliesCutShort, LosesAtLeast, ReportsTakeFailures, ReportsPutFailures};
 ghost use Rattle.life_pages.specs.ServingState.{AtEnd, IsStep, IsServed, IsOutcome, Feeds, IsPassed, HearsPassed, IsBlankEnd};
 
-use crate::answer::{Draft, answer_message};
+use crate::answer::{ReplyBuffers, answer_message};
 use crate::asked::PageRefusal;
 use crate::desk::Desk;
 use crate::message::{HEAD_LIMIT, Next, are_blank, next_message};
@@ -84,7 +84,7 @@ fn serve_one<O: Outlet, D: Desk>(
     output: &mut O,
     held: &mut Vec<u8>,
     wanted: &mut usize,
-    draft: &mut Draft,
+    draft: &mut ReplyBuffers,
 ) -> Result<Step, Failed>
     requires routes { routes.now ≡ page_rows }
     requires draft { HasRoom draft.old }
@@ -135,7 +135,7 @@ fn serve_held<O: Outlet, D: Desk>(
     output: &mut O,
     held: &mut Vec<u8>,
     wanted: &mut usize,
-    draft: &mut Draft,
+    draft: &mut ReplyBuffers,
 ) -> Result<bool, Failed>
     requires routes { routes.now ≡ page_rows }
     requires draft { HasRoom draft.old }
@@ -236,7 +236,7 @@ fn pass_blank<I: Inlet>(input: &mut I, takes: u64) -> Passed
 
 /// Whether as many CR and LF bytes are held as a head may have, and no others: a message that begins so never comes.
 fn is_long_blank(held: &[u8]) -> bool
-    ensures blank { result ≡ true → is_blank held.now ≡ true }
+    ensures blank { result ≡ true → are_line_breaks held.now ≡ true }
     ensures never { result ≡ true → NeverHas held.now }
     ensures room { result ≡ false → IsWanting held.now → length held.now < HELD_LIMIT }
 {
@@ -251,8 +251,8 @@ fn serve_blank<I: Inlet, O: Outlet>(
 ) -> Result<(), IoFault>
     ensures end { IsBlankEnd result takes (I.to_come input.old) (I.to_come input.new) (O.already output.old) (O.already output.new) }
     ensures most { LosesUpTo (takes * MOST_TAKEN) (I.to_come input.old) (I.to_come input.new) }
-    ensures heard { HearsTakes (I.failures input.old) (I.failures input.new) result }
-    ensures puts { HearsPuts (O.failures output.old) (O.failures output.new) result }
+    ensures heard { ReportsTakeFailures (I.failures input.old) (I.failures input.new) result }
+    ensures puts { ReportsPutFailures (O.failures output.old) (O.failures output.new) result }
 {
     match pass_blank(input, takes) {
         Passed::Ended => Ok(()),
@@ -269,7 +269,7 @@ fn serve_blank<I: Inlet, O: Outlet>(
 fn finish<O: Outlet, D: Desk>(desk: &D, output: &mut O, held: &[u8]) -> Result<(), IoFault>
     requires { HasNone held.now }
     ensures end { AtEnd (AnswersMessage D.answers) result held.now desk.now (O.already output.old) (O.already output.new) }
-    ensures puts { HearsPuts (O.failures output.old) (O.failures output.new) result }
+    ensures puts { ReportsPutFailures (O.failures output.old) (O.failures output.new) result }
 {
     if are_blank(held) {
         return Ok(());
@@ -287,7 +287,7 @@ struct Ready {
     held: Vec<u8>,
     /// No message is whole before so many bytes are held.
     wanted: usize,
-    draft: Draft,
+    draft: ReplyBuffers,
 }
 
 /// The routes, the buffer and the reserve for a reply.
@@ -298,7 +298,7 @@ fn prepared(alloc: Global) -> Result<Ready, AllocError>
     ensures below { IfOk result (λ p. WantsUntil p.wanted p.held.items) }
     ensures draft { IfOk result (λ p. HasRoom p.draft) }
 {
-    let draft = Draft::with_room(alloc)?;
+    let draft = ReplyBuffers::with_room(alloc)?;
     let held = Vec::with_capacity(alloc, HELD_LIMIT)?;
     match page_routes(alloc) {
         Ok(routes) => Ok(Ready {
@@ -326,8 +326,8 @@ fn serve_stream<I: Inlet, O: Outlet, D: Desk>(
     requires below { WantsUntil ready.old.wanted ready.old.held.items }
     ensures outcome { IsOutcome (AnswersMessage D.answers) result (I.to_come input.old) (I.to_come input.new) desk.old desk.new (O.already output.old) (O.already output.new) }
     ensures most { LosesUpTo (TAKES * MOST_TAKEN) (I.to_come input.old) (I.to_come input.new) }
-    ensures heard { HearsTakes (I.failures input.old) (I.failures input.new) result }
-    ensures puts { HearsPuts (O.failures output.old) (O.failures output.new) result }
+    ensures heard { ReportsTakeFailures (I.failures input.old) (I.failures input.new) result }
+    ensures puts { ReportsPutFailures (O.failures output.old) (O.failures output.new) result }
 {
     let mut taken = 0;
     'takes: loop {
@@ -370,22 +370,22 @@ pub(crate) fn serve_desk<I: Inlet, O: Outlet, D: Desk>(
     ensures told { OnOk result (IfSome (I.to_come input.old) (λ stream.
         Served (AnswersMessage D.answers) stream desk.old desk.new (O.already output.old) (O.already output.new))) }
     // Told or not: some messages were answered, and no more than their replies was put.
-    ensures some { Broke (AnswersMessage D.answers) desk.old desk.new (O.already output.old) (O.already output.new) }
+    ensures some { RepliesCutShort (AnswersMessage D.answers) desk.old desk.new (O.already output.old) (O.already output.new) }
     // A failed take: what was taken whole was answered, and the replies were put whole.
-    ensures paused { result ≡ Err IoFault.Read → Paused (AnswersMessage D.answers) (I.to_come input.old) (I.to_come input.new)
+    ensures paused { result ≡ Err IoFault.Read → ServedSoFar (AnswersMessage D.answers) (I.to_come input.old) (I.to_come input.new)
         desk.old desk.new (O.already output.old) (O.already output.new) }
-    ensures full { result ≡ Err IoFault.TooManyReads → Paused (AnswersMessage D.answers) (I.to_come input.old) (I.to_come input.new)
+    ensures full { result ≡ Err IoFault.TooManyReads → ServedSoFar (AnswersMessage D.answers) (I.to_come input.old) (I.to_come input.new)
         desk.old desk.new (O.already output.old) (O.already output.new) }
     ensures many { result ≡ Err IoFault.TooManyReads → LosesAtLeast TAKES (I.to_come input.old) (I.to_come input.new) }
     // A failed put: the replies to all answered messages but the last were put whole, and of the last a beginning.
-    ensures cut { result ≡ Err IoFault.Write → Cut (AnswersMessage D.answers) (λ ms. IfSome (I.to_come input.old) (λ stream. Starts stream ms))
+    ensures cut { result ≡ Err IoFault.Write → LastReplyCutShort (AnswersMessage D.answers) (λ ms. IfSome (I.to_come input.old) (λ stream. Starts stream ms))
         desk.old desk.new (O.already output.old) (O.already output.new) }
     ensures memory { result ≡ Err IoFault.Memory → (desk.new ≡ desk.old) × (input.new ≡ input.old) × (output.new ≡ output.old) }
     // At most 1,048,576 takes are made, of at most 4,096 bytes each.
     ensures most { LosesUpTo (TAKES * MOST_TAKEN) (I.to_come input.old) (I.to_come input.new) }
     // A failed take is told at once, a failed put is told, and nothing else is.
-    ensures heard { HearsTakes (I.failures input.old) (I.failures input.new) result }
-    ensures puts { HearsPuts (O.failures output.old) (O.failures output.new) result }
+    ensures heard { ReportsTakeFailures (I.failures input.old) (I.failures input.new) result }
+    ensures puts { ReportsPutFailures (O.failures output.old) (O.failures output.new) result }
     ensures read { result ≡ Err IoFault.Read → FailedBetween (I.failures input.old) (I.failures input.new) }
     ensures write { result ≡ Err IoFault.Write → FailedBetween (O.failures output.old) (O.failures output.new) }
 {

@@ -6,7 +6,7 @@ use Rattle.life_rle.specs.Body.{run}
 use Rattle.life_pictures.specs.declared.runs.Run.{Run}
 use Rattle.life_pictures.specs.Runs.{is_right_of, run_from, before_runs, cells_of_run, runs_of}
 use Rattle.life_pictures.specs.Lines.{before_cells, trimmed}
-use Rattle.life_pictures.specs.Laws.{AreApart, DeadAreLeftOut, LinesEndLive, RunsAreTheCells, RunsAreLongest}
+use Rattle.life_pictures.specs.Laws.{AreMaximalRuns, DeadAreLeftOut, LinesEndLive, RunsAreTheCells, RunsAreLongest}
 
 both : (a b : Bool) → (a && b) ≡ true → (a ≡ true) × (b ≡ true)
 both true true holds = (refl, refl)
@@ -45,7 +45,7 @@ runs_are_the_cells (cell ∷ cells) = cells_before cell (runs_of cells) ∙ ap (
 
 -- ---- the longest
 
-grown : (cell : ℕ × ℕ) (first : Run) (runs : List Run) → is_right_of cell first ≡ true → AreApart (first ∷ runs) → AreApart (run_from cell (first.length + 1) ∷ runs)
+grown : (cell : ℕ × ℕ) (first : Run) (runs : List Run) → is_right_of cell first ≡ true → AreMaximalRuns (first ∷ runs) → AreMaximalRuns (run_from cell (first.length + 1) ∷ runs)
 grown cell first [] is apart = omega arith
 grown cell first (next ∷ runs) is apart =
     let place = right_of cell first is in
@@ -56,14 +56,14 @@ grown cell first (next ∷ runs) is apart =
       apart.2,
     )
 
-apart_before : (cell : ℕ × ℕ) (runs : List Run) → AreApart runs → AreApart (before_runs cell runs)
+apart_before : (cell : ℕ × ℕ) (runs : List Run) → AreMaximalRuns runs → AreMaximalRuns (before_runs cell runs)
 apart_before cell [] apart = omega arith
 apart_before cell (first ∷ runs) apart = go (is_right_of cell first) refl
   where
-    go : (b : Bool) → is_right_of cell first ≡ b → AreApart (before_runs cell (first ∷ runs))
-    go true is = subst (λ b. AreApart (cond b (run_from cell (first.length + 1) ∷ runs) (run_from cell 1 ∷ first ∷ runs))) (sym is) (grown cell first runs is apart)
+    go : (b : Bool) → is_right_of cell first ≡ b → AreMaximalRuns (before_runs cell (first ∷ runs))
+    go true is = subst (λ b. AreMaximalRuns (cond b (run_from cell (first.length + 1) ∷ runs) (run_from cell 1 ∷ first ∷ runs))) (sym is) (grown cell first runs is apart)
     go false is =
-        subst (λ b. AreApart (cond b (run_from cell (first.length + 1) ∷ runs) (run_from cell 1 ∷ first ∷ runs))) (sym is)
+        subst (λ b. AreMaximalRuns (cond b (run_from cell (first.length + 1) ∷ runs) (run_from cell 1 ∷ first ∷ runs))) (sym is)
         (omega arith, ap (λ x. is_right_of (x, cell.1) first) (omega arith) ∙ is, apart)
 
 pub runs_are_longest : RunsAreLongest

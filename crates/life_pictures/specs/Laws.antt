@@ -23,14 +23,14 @@ abbrev pub RunsAreTheCells : Type 0
 RunsAreTheCells = (cells : List (ℕ × ℕ)) → flat_map cells_of_run (runs_of cells) ≡ cells
 
 -- each run has a cell, and none begins right of the one before it
-abbrev pub AreApart : List Run → Type 0
-AreApart [] = Unit {0}
-AreApart (run ∷ []) = 0 < run.length
-AreApart (run ∷ next ∷ runs) = (0 < run.length) × (is_right_of (run.column + (run.length - 1), run.row) next ≡ false) × AreApart (next ∷ runs)
+abbrev pub AreMaximalRuns : List Run → Type 0
+AreMaximalRuns [] = Unit {0}
+AreMaximalRuns (run ∷ []) = 0 < run.length
+AreMaximalRuns (run ∷ next ∷ runs) = (0 < run.length) × (is_right_of (run.column + (run.length - 1), run.row) next ≡ false) × AreMaximalRuns (next ∷ runs)
 
 -- No two neighbours of the runs could be one run.
 abbrev pub RunsAreLongest : Type 0
-RunsAreLongest = (cells : List (ℕ × ℕ)) → AreApart (runs_of cells)
+RunsAreLongest = (cells : List (ℕ × ℕ)) → AreMaximalRuns (runs_of cells)
 
 -- ---- titles
 

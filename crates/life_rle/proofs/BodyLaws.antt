@@ -5,7 +5,7 @@ use Rattle.std.proofs.lemmas.List.{append-nil}
 use Rattle.std.proofs.lemmas.Bool.{cases_eq, cases_lt, ne_eqb, lt-ltb, le-ltb, ltb-false}
 use Rattle.life_rle.specs.declared.fault.RleFault.{RleFault}
 use Rattle.life_rle.specs.declared.fault.RleFault.TheVariants.{BadCount, TooWide, NoEnd}
-use Rattle.life_rle.specs.Body.{Item, count_of, is_bad_number, is_end, row_after, column_after, run, placed_after, placed, items_after, fault_at, fault_at_tag, unless_faulty, judged_after, place, body_cells}
+use Rattle.life_rle.specs.Body.{Item, count_of, is_bad_number, is_end, row_after, column_after, run, placed_after, placed, items_after, fault_at, fault_at_tag, unless_faulty, judged_after, placed_unless_faulty, body_cells}
 use Rattle.life_rle.specs.BodyState.{Place, start, Step, goes, ends, fails, next_count, is_bad_count, moved, down, live, item_step, step, going, body_from}
 use Rattle.life_rle.proofs.BodyCounts.{so_far, so_far_push, bad_so_far, count_so_far, count_above}
 use Rattle.life_rle.proofs.BodyPositions.{row_after_push, column_after_row_end, column_after_push, placed_push}
@@ -77,13 +77,13 @@ judged_is before items item = refl
 
 -- what follows an item that is read
 abbrev Agrees : List ℕ → Type 0
-Agrees bytes = (before : List Item) (digits : List ℕ) → body_from (stands before digits) bytes ≡ place (judged_after before (items_after digits bytes))
+Agrees bytes = (before : List Item) (digits : List ℕ) → body_from (stands before digits) bytes ≡ placed_unless_faulty (judged_after before (items_after digits bytes))
 
 abbrev onward : List ℕ → Step → Result (List (ℕ × ℕ)) RleFault
 onward bytes s = going s (λ q. body_from q bytes)
 
 abbrev answer : List Item → List Item → Item → Option RleFault → Result (List (ℕ × ℕ)) RleFault
-answer before items item fault = place (unless_faulty fault (cond (is_end item) (Ok before) (judged_after (before ++ item ∷ []) items)))
+answer before items item fault = placed_unless_faulty (unless_faulty fault (cond (is_end item) (Ok before) (judged_after (before ++ item ∷ []) items)))
 
 -- the item with this byte is read as its items say
 abbrev AtItem : List ℕ → List Item → List ℕ → ℕ → Type 0
@@ -154,10 +154,10 @@ at_byte_by bytes agrees before digits b h false good =
     ∙ at_item bytes agrees before digits b good
     ∙ sym (ap (λ f. answer before (items_after [] bytes) (item_of digits b) f) (fault_good before digits b good))
 
-at_file_end : (before : List Item) (digits : List ℕ) → body_from (stands before digits) [] ≡ place (judged_after before (items_after digits []))
+at_file_end : (before : List Item) (digits : List ℕ) → body_from (stands before digits) [] ≡ placed_unless_faulty (judged_after before (items_after digits []))
 unfolding body_from items_after judged_after
 at_file_end before [] = refl
-at_file_end before (d ∷ ds) = elim (is_bad_number (count_of (d ∷ ds))) as (λ t. Err BadCount ≡ place (unless_faulty (cond t (Some BadCount) (Some BadCount)) (Err NoEnd))) [ true ↦ refl | false ↦ refl ]
+at_file_end before (d ∷ ds) = elim (is_bad_number (count_of (d ∷ ds))) as (λ t. Err BadCount ≡ placed_unless_faulty (unless_faulty (cond t (Some BadCount) (Some BadCount)) (Err NoEnd))) [ true ↦ refl | false ↦ refl ]
 
 pub body_next : (p : Place) (b : ℕ) (bytes : List ℕ) → body_from p (b ∷ bytes) ≡ onward bytes (step p b)
 unfolding body_from
@@ -172,19 +172,19 @@ unfolding items_after
 items_byte digits b bytes h = rw h refl
 
 by_digit : (bytes : List ℕ) → Agrees bytes → (before : List Item) (digits : List ℕ) (b : ℕ) → (t : Bool) → is_ascii_digit b ≡ t →
-    onward bytes (step (stands before digits) b) ≡ place (judged_after before (items_after digits (b ∷ bytes)))
+    onward bytes (step (stands before digits) b) ≡ placed_unless_faulty (judged_after before (items_after digits (b ∷ bytes)))
 by_digit bytes agrees before digits b true h =
     ap (λ s. onward bytes s) (step_digit (stands before digits) b h)
     ∙ ap (λ c. body_from (let p : Place = record { row = min (row_after before) 1024; column = min (column_after before) 1024; count = c; cells = placed before } in p) bytes) (so_far_push digits b h)
     ∙ agrees before (digits ++ b ∷ [])
-    ∙ sym (ap (λ items. place (judged_after before items)) (items_digit digits b bytes h))
+    ∙ sym (ap (λ items. placed_unless_faulty (judged_after before items)) (items_digit digits b bytes h))
 by_digit bytes agrees before digits b false h =
     at_byte_by bytes agrees before digits b h _ refl
-    ∙ sym (ap place (judged_is before (items_after [] bytes) (item_of digits b)))
-    ∙ sym (ap (λ items. place (judged_after before items)) (items_byte digits b bytes h))
+    ∙ sym (ap placed_unless_faulty (judged_is before (items_after [] bytes) (item_of digits b)))
+    ∙ sym (ap (λ items. placed_unless_faulty (judged_after before items)) (items_byte digits b bytes h))
 
 -- Reading on from where an item stands is judging the items that are left.
-pub agrees_all : (bytes : List ℕ) (before : List Item) (digits : List ℕ) → body_from (stands before digits) bytes ≡ place (judged_after before (items_after digits bytes))
+pub agrees_all : (bytes : List ℕ) (before : List Item) (digits : List ℕ) → body_from (stands before digits) bytes ≡ placed_unless_faulty (judged_after before (items_after digits bytes))
 agrees_all [] before digits = at_file_end before digits
 agrees_all (b ∷ bytes) before digits = body_next (stands before digits) b bytes ∙ by_digit bytes (agrees_all bytes) before digits b _ refl
 

@@ -5,7 +5,7 @@ use Rattle.std.proofs.lemmas.List.{map-append}
 use Rattle.life_core.specs.declared.cell.TheConstants.{PLANE}
 use Rattle.life_rle.specs.WriterState.{InOrder}
 use Rattle.life_rle.specs.Writer.{tags_from, runs_of, item_text, item_texts, laid, pairs_of}
-use Rattle.life_rle.specs.Laws.{AreApart, IsCanonical, BodiesAreCanonical}
+use Rattle.life_rle.specs.Laws.{AreMaximalRuns, IsCanonical, BodiesAreCanonical}
 use Rattle.life_rle.proofs.LawsCuts.{runs_are_longest}
 use Rattle.life_rle.proofs.LawsLaid.{Fits, fits_by, in_lines}
 use Rattle.life_rle.proofs.LawsRuns.{HaveTags, CountsTo, IsRun, Stays, are_tags, have_tags, tags_end, runs_end, AllBelow, walk, walk_tags, stays_tags, counts_to, spelled_out, runs_placed}
@@ -19,7 +19,7 @@ small_counts : (k : ℕ) (runs : List (ℕ × ℕ)) → k < 2 ^ 64 → CountsTo 
 small_counts k [] small counts = tt
 small_counts k (run ∷ runs) small counts = (omega (arith, counts.0), small_counts k runs small counts.1)
 
-pub are_runs : (runs : List (ℕ × ℕ)) → AreApart runs → AreSmall runs → HaveTags runs → AllByRecursion IsRun runs
+pub are_runs : (runs : List (ℕ × ℕ)) → AreMaximalRuns runs → AreSmall runs → HaveTags runs → AllByRecursion IsRun runs
 are_runs [] apart counts kinds = tt
 are_runs (run ∷ []) apart counts kinds = (record { some = apart; small = counts.0; kind = kinds.0 }, tt)
 are_runs (run ∷ next ∷ runs) apart counts kinds = (record { some = apart.0; small = counts.0; kind = kinds.0 }, are_runs (next ∷ runs) apart.2 counts.1 kinds.1)

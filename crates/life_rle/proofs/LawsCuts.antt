@@ -13,7 +13,7 @@ use Rattle.life_core.proofs.PatternMembers.{has_cell, contains-items}
 use Rattle.life_core.proofs.PatternOrder.{has_cell-in_order}
 use Rattle.life_rle.specs.Body.{Item, items_after, items_of}
 use Rattle.life_rle.specs.Lines.{lines_after, lines_of}
-use Rattle.life_rle.specs.Laws.{tag_bytes, IsCut, AreApart}
+use Rattle.life_rle.specs.Laws.{tag_bytes, IsCut, AreMaximalRuns}
 use Rattle.life_rle.specs.Record.{Contents, HasNoLineEnd, IsRecord}
 use Rattle.life_rle.specs.Writer.{onto_run, runs_of, coordinates, pairs_of, width_of, height_of}
 use Rattle.life_rle.proofs.LinesLaws.{lines_no_end}
@@ -96,13 +96,13 @@ abbrev spelled_out : List (ℕ × ℕ) → List ℕ
 spelled_out runs = flat_map (λ (run : ℕ × ℕ). replicate run.0 run.1) runs
 
 abbrev AreRuns : List ℕ → List (ℕ × ℕ) → Type 0
-AreRuns tags runs = (spelled_out runs ≡ tags) × AreApart runs
+AreRuns tags runs = (spelled_out runs ≡ tags) × AreMaximalRuns runs
 
 -- one more tag in a run
 one_more : (n tag : ℕ) → replicate (n + 1) tag ≡ tag ∷ replicate n tag
 one_more n tag = ap (λ k. replicate k tag) (add-one n)
 
-apart_longer : (n k tag : ℕ) (runs : List (ℕ × ℕ)) → 0 < k → AreApart ((n, tag) ∷ runs) → AreApart ((k, tag) ∷ runs)
+apart_longer : (n k tag : ℕ) (runs : List (ℕ × ℕ)) → 0 < k → AreMaximalRuns ((n, tag) ∷ runs) → AreMaximalRuns ((k, tag) ∷ runs)
 apart_longer n k tag [] some apart = some
 apart_longer n k tag (run ∷ runs) some apart = (some, apart.1, apart.2)
 
@@ -114,7 +114,7 @@ onto_by true tag tags n other runs h are =
           ∙ ap (λ (front : List ℕ). front ++ spelled_out runs) (one_more n tag)
           ∙ ap (λ k. tag ∷ (replicate n k ++ spelled_out runs)) (sym same)
           ∙ ap (λ (rest : List ℕ). tag ∷ rest) (sym (flat_map-cons (λ (run : ℕ × ℕ). replicate run.0 run.1) (n, other) runs) ∙ are.0),
-      apart_longer n (n + 1) tag runs (omega arith) (subst (λ k. AreApart ((n, k) ∷ runs)) same are.1),
+      apart_longer n (n + 1) tag runs (omega arith) (subst (λ k. AreMaximalRuns ((n, k) ∷ runs)) same are.1),
     )
 onto_by false tag tags n other runs h are = (
   flat_map-cons (λ (run : ℕ × ℕ). replicate run.0 run.1) (1, tag) ((n, other) ∷ runs) ∙ ap (λ (rest : List ℕ). tag ∷ rest) are.0,

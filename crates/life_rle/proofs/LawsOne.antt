@@ -5,7 +5,7 @@ use Rattle.std.proofs.lemmas.List.{append_assoc, append-nil, length-append}
 use Rattle.std.proofs.lemmas.List.Concat.{flat_map-append}
 use Rattle.std.proofs.lemmas.Bool.{ne_eqb, eq-eqb}
 use Rattle.life_rle.specs.Writer.{tags_from, runs_of, item_text, item_texts, laid}
-use Rattle.life_rle.specs.Laws.{IsTag, AreApart, EndInLiveCells, AreFull, spelled, IsCanonical, OneCanonicalBody}
+use Rattle.life_rle.specs.Laws.{IsTag, AreMaximalRuns, EndInLiveCells, AreFull, spelled, IsCanonical, OneCanonicalBody}
 use Rattle.life_rle.proofs.LawsLaid.{ended, used, laid_here, laid_below, laid_none}
 use Rattle.life_rle.proofs.LawsRuns.{HaveTags, EndLive, gap, no_tags, no_runs, are_tags_by, walk, spelled_out, runs_placed}
 use Rattle.life_rle.proofs.LawsCanonical.{are_runs, texts_of}
@@ -60,12 +60,12 @@ other_by : (n tag other : ℕ) (tags : List ℕ) → 0 < n → other ≢ tag →
 other_by zero tag other tags some differ = absurd (omega arith)
 other_by (suc n) tag other tags some differ = differ
 
-other_tags : (n tag : ℕ) (runs : List (ℕ × ℕ)) → AreApart ((n, tag) ∷ runs) → Other tag (spelled_out runs)
+other_tags : (n tag : ℕ) (runs : List (ℕ × ℕ)) → AreMaximalRuns ((n, tag) ∷ runs) → Other tag (spelled_out runs)
 other_tags n tag [] apart = tt
 other_tags n tag (next ∷ []) apart = other_by next.0 tag next.1 [] apart.2 (λ e. apart.1 (sym e))
 other_tags n tag (next ∷ more ∷ runs) apart = other_by next.0 tag next.1 (spelled_out (more ∷ runs)) apart.2.0 (λ e. apart.1 (sym e))
 
-apart_behind : (run : ℕ × ℕ) (runs : List (ℕ × ℕ)) → AreApart (run ∷ runs) → (0 < run.0) × AreApart runs
+apart_behind : (run : ℕ × ℕ) (runs : List (ℕ × ℕ)) → AreMaximalRuns (run ∷ runs) → (0 < run.0) × AreMaximalRuns runs
 apart_behind run [] apart = (apart, tt)
 apart_behind run (next ∷ runs) apart = (apart.0, apart.2)
 
@@ -74,7 +74,7 @@ one_run_more zero tag tags some other = absurd (omega arith)
 one_run_more (suc n) tag tags some other = runs_replicate n tag tags other
 
 -- runs that are apart are those of their tags
-runs_again : (runs : List (ℕ × ℕ)) → AreApart runs → runs_of (spelled_out runs) ≡ runs
+runs_again : (runs : List (ℕ × ℕ)) → AreMaximalRuns runs → runs_of (spelled_out runs) ≡ runs
 runs_again [] apart = no_runs
 runs_again (run ∷ runs) apart =
     let parts = apart_behind run runs apart in
@@ -105,7 +105,7 @@ end_before : (n m tag next : ℕ) (tags : List ℕ) → 0 < m → (tag ≡ 98 �
 end_before n zero tag next tags some other h = absurd (omega arith)
 end_before n (suc m) tag next tags some other h = end_first n tag next (replicate m next ++ tags) other h
 
-tags_end_live : (runs : List (ℕ × ℕ)) → AreApart runs → EndInLiveCells runs → EndLive (spelled_out runs)
+tags_end_live : (runs : List (ℕ × ℕ)) → AreMaximalRuns runs → EndInLiveCells runs → EndLive (spelled_out runs)
 tags_end_live [] apart ends = tt
 tags_end_live (run ∷ []) apart ends = end_last run.0 run.1 ends
 tags_end_live (run ∷ next ∷ runs) apart ends =

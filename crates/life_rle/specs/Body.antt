@@ -123,13 +123,13 @@ judged_after before (item ∷ items) =
     unless_faulty (fault_at before item) (if is_end item then Ok before else judged_after (before ++ item ∷ []) items)
 
 -- the cells of items that have no fault
-abbrev pub place : Result (List Item) RleFault → Result (List (ℕ × ℕ)) RleFault
-place (Ok items) = Ok (placed items)
-place (Err fault) = Err fault
+abbrev pub placed_unless_faulty : Result (List Item) RleFault → Result (List (ℕ × ℕ)) RleFault
+placed_unless_faulty (Ok items) = Ok (placed items)
+placed_unless_faulty (Err fault) = Err fault
 
 -- the cells that a body places, or its first fault
 unfoldable pub body_cells : List ℕ → Result (List (ℕ × ℕ)) RleFault
-body_cells body = place (judged_after [] (items_of body))
+body_cells body = placed_unless_faulty (judged_after [] (items_of body))
 
 -- a cell in the columns and rows 0 to 1023
 pub record IsPlaced (c : Cell) : Type 0 where

@@ -89,8 +89,8 @@ body_from p [] = if is_some p.count then Err BadCount else Err NoEnd
 body_from p (b ∷ bytes) = going (step p b) (λ q. body_from q bytes)
 
 -- what a body so far means
-abbrev pub place : {A : Type 0} → Body A → Place
-place b = record { row = b.row; column = b.column; count = b.count; cells = map coordinates b.cells.items }
+abbrev pub place_reached : {A : Type 0} → Body A → Place
+place_reached b = record { row = b.row; column = b.column; count = b.count; cells = map coordinates b.cells.items }
 
 -- the cells or the fault by how far the body has come, if these bytes are what is left
 abbrev pub outcome_at : Progress → Place → List ℕ → Result (List (ℕ × ℕ)) RleFault
@@ -100,4 +100,4 @@ outcome_at (Failed fault) p rest = Err fault
 
 -- the cells or the fault, if these bytes are what is left
 abbrev pub outcome : {A : Type 0} → BodyReader A → List ℕ → Result (List (ℕ × ℕ)) RleFault
-outcome r rest = outcome_at r.progress (place r.body) rest
+outcome r rest = outcome_at r.progress (place_reached r.body) rest

@@ -35,14 +35,14 @@ abbrev pub ItemsAreTheBody : Type 0
 ItemsAreTheBody = (body : List ℕ) → (flat_map (λ (i : Item). i.digits ++ tag_bytes i.tag) (items_of body) ≡ body) × AllByRecursion IsCut (items_of body)
 
 -- each run has a tag, and neighbours have different ones
-abbrev pub AreApart : List (ℕ × ℕ) → Type 0
-AreApart [] = Unit {0}
-AreApart (run ∷ []) = 0 < run.0
-AreApart (run ∷ next ∷ runs) = (0 < run.0) × (run.1 ≢ next.1) × AreApart (next ∷ runs)
+abbrev pub AreMaximalRuns : List (ℕ × ℕ) → Type 0
+AreMaximalRuns [] = Unit {0}
+AreMaximalRuns (run ∷ []) = 0 < run.0
+AreMaximalRuns (run ∷ next ∷ runs) = (0 < run.0) × (run.1 ≢ next.1) × AreMaximalRuns (next ∷ runs)
 
 -- The runs of tags, spelled out, are the tags, and no two neighbours could be one run.
 abbrev pub RunsAreLongest : Type 0
-RunsAreLongest = (tags : List ℕ) → (flat_map (λ (run : ℕ × ℕ). replicate run.0 run.1) (runs_of tags) ≡ tags) × AreApart (runs_of tags)
+RunsAreLongest = (tags : List ℕ) → (flat_map (λ (run : ℕ × ℕ). replicate run.0 run.1) (runs_of tags) ≡ tags) × AreMaximalRuns (runs_of tags)
 
 -- The width and the height that a header gives are those of the box of the record's cells.
 abbrev pub HeadersGiveTheBox : Type 0
@@ -86,7 +86,7 @@ pub record IsCanonical (cells : List (ℕ × ℕ)) (body : List ℕ) : Type 0 wh
   -- the runs are of row ends, dead and live cells, counted in 64 bits; no two neighbours could be one, and none is there in vain
   pub kinds : AllByRecursion (λ run. IsTag run.1) runs
   pub counts : AllByRecursion (λ run. run.0 < 2 ^ 64) runs
-  pub apart : AreApart runs
+  pub apart : AreMaximalRuns runs
   pub live_end : EndInLiveCells runs
   -- read back they place these cells and no other
   pub cells_back : placed (items_of (spelled runs)) ≡ cells

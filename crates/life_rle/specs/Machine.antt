@@ -8,10 +8,10 @@ use Rattle.life_rle.specs.Record.{Contents}
 use Rattle.life_rle.specs.File.{file}
 
 -- where no take failed, the count of failures is as it was; Unreadable is answered where one failed, and then alone
-abbrev pub Hears : {X : Type 0} → ℕ → ℕ → Result X ReadFault → Type 0
-Hears old new (Ok x) = new ≡ old
-Hears old new (Err (Rle fault)) = new ≡ old
-Hears old new (Err Unreadable) = new ≡ raised old
+abbrev pub ReportsFailures : {X : Type 0} → ℕ → ℕ → Result X ReadFault → Type 0
+ReportsFailures old new (Ok x) = new ≡ old
+ReportsFailures old new (Err (Rle fault)) = new ≡ old
+ReportsFailures old new (Err Unreadable) = new ≡ raised old
 
 -- the answer is what the bytes are read as, unless memory ran out or a take failed
 abbrev pub ReadsBytes : List ℕ → Result Contents ReadFault → Type 0

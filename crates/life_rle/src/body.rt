@@ -61,12 +61,12 @@ pub(crate) struct Body<A: Allocator> {
 impl<A: Allocator> Body<A> {
     ghost use Rattle.std.specs.Prelude.{List, ℕ, MatchResult};
     ghost use Rattle.life_core.specs.RuleText.{without_blanks};
-    ghost use Rattle.life_rle.specs.BodyState.{Took, Acts, step, item_step, next_count, start, place, body_from, outcome_at};
+    ghost use Rattle.life_rle.specs.BodyState.{Took, Acts, step, item_step, next_count, start, place_reached, body_from, outcome_at};
     ghost use Rattle.life_rle.specs.declared.fault.RleFault.TheVariants.{Memory};
 
     /// The start of a body.
     fn new(alloc: A) -> Body<A>
-        ensures { place result ≡ start }
+        ensures { place_reached result ≡ start }
     {
         Body {
             row: 0,
@@ -80,7 +80,7 @@ impl<A: Allocator> Body<A> {
     fn digit(&mut self, byte: u8)
         requires low { 48 ≤ byte }
         requires high { byte ≤ 57 }
-        ensures { place self.new ≡ record (place self.old) { count = Some (next_count self.old.count byte) } }
+        ensures { place_reached self.new ≡ record (place_reached self.old) { count = Some (next_count self.old.count byte) } }
     {
         let value = self.count.unwrap_or(0) * 10 + u32::from(byte - b'0');
         self.count = Some(value.min(MOST + 1));
@@ -89,7 +89,7 @@ impl<A: Allocator> Body<A> {
     /// Reads the next byte; says whether it ended the body.
     #[tactic(auto, unfolding(crate::specs::BodyState::step))]
     fn take(&mut self, byte: u8) -> Result<bool, RleFault>
-        ensures { Took (step (place self.old) byte) (place self.new) result }
+        ensures { Took (step (place_reached self.old) byte) (place_reached self.new) result }
     {
         if byte.is_ascii_digit() {
             self.digit(byte);
@@ -116,7 +116,7 @@ impl<A: Allocator> Body<A> {
     /// Takes the item of this count and byte.
     fn item(&mut self, count: u32, tag: u8) -> Result<(), RleFault>
         requires { count ≤ 1000000 }
-        ensures { Acts (item_step (place self.old) count tag) (place self.new) result }
+        ensures { Acts (item_step (place_reached self.old) count tag) (place_reached self.new) result }
     {
         match tag {
             b'b' => self.column = (self.column + count).min(SIDE),
@@ -139,7 +139,7 @@ impl<A: Allocator> Body<A> {
 
     /// Reads the next bytes; says how far the body has come with them.
     fn line(&mut self, line: &[u8]) -> Result<Progress, RleFault>
-        ensures { MatchResult result (λ progress. (rest : List ℕ) → outcome_at progress (place self.new) rest ≡ body_from (place self.old) (without_blanks line.now ++ rest)) (λ e. e ≡ Memory) }
+        ensures { MatchResult result (λ progress. (rest : List ℕ) → outcome_at progress (place_reached self.new) rest ≡ body_from (place_reached self.old) (without_blanks line.now ++ rest)) (λ e. e ≡ Memory) }
     {
         for byte in line {
             if !is_blank(*byte) {

@@ -3,7 +3,7 @@ ghost use Rattle.std.specs.Prelude.{◌≡◌, ℕ, ◌++◌, ◌∷◌, [], Lis
 ghost use Rattle.life_rle.specs.declared.fault.RleFault.TheVariants.{Memory};
 ghost use Rattle.life_rle.specs.Fault.{Gives};
 ghost use Rattle.life_rle.specs.File.{kept, file};
-ghost use Rattle.life_rle.specs.Machine.{ReadsTold, Hears};
+ghost use Rattle.life_rle.specs.Machine.{ReadsTold, ReportsFailures};
 ghost use Rattle.life_rle.specs.MachineState.{IsSound, Followed, FollowGives};
 ghost use Rattle.life_rle.specs.Record.{HasNoLineEnd, IsInside};
 ghost use Rattle.life_rle.specs.Stream.{LosesUpTo, FailedBetween};
@@ -132,7 +132,7 @@ fn follow<A: Allocator + Copy, I: Inlet>(
     requires sound { IsSound machine.old }
     ensures follows { FollowGives (I.to_come inlet.old) (I.failures inlet.old) (I.failures inlet.new) machine.new result }
     ensures sound { OnOk result (IsSound machine.new) }
-    ensures heard { Hears (I.failures inlet.old) (I.failures inlet.new) result }
+    ensures heard { ReportsFailures (I.failures inlet.old) (I.failures inlet.new) result }
     ensures few { LosesUpTo MOST_TAKEN (I.to_come inlet.old) (I.to_come inlet.new) }
 {
     let mut buffer = [0u8; 4096];
@@ -166,7 +166,7 @@ pub fn read_from<A: Allocator + Copy, I: Inlet>(
     // Unreadable comes only where a take failed.
     ensures unreadable { result ≡ Err ReadFault.Unreadable → FailedBetween (I.failures inlet.old) (I.failures inlet.new) }
     // A take that failed is answered Unreadable at once, and nothing else is.
-    ensures heard { Hears (I.failures inlet.old) (I.failures inlet.new) result }
+    ensures heard { ReportsFailures (I.failures inlet.old) (I.failures inlet.new) result }
     // At most 1,048,577 bytes are taken.
     ensures few { LosesUpTo MOST_TAKEN (I.to_come inlet.old) (I.to_come inlet.new) }
     ensures inside { IfOk result (λ r. IsInside 1024 r.cells) }

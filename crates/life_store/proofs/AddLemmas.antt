@@ -31,7 +31,7 @@ use Rattle.life_store.specs.Layout.{archive_schema, deposits_table}
 use Rattle.life_store.specs.StatementsState.{add_deposit_text, deposit_terms}
 use Rattle.life_store.specs.Stored.{IsFiled, rows_by, deposit_cells}
 use Rattle.life_store.specs.DepositsState.{AreValuesOf}
-use Rattle.life_store.specs.Tables.{tables_of, Holds, StaysLost, Keeps}
+use Rattle.life_store.specs.Tables.{tables_of, Holds, WasSure, HoldsTheSame}
 use Rattle.life_store.proofs.Texts.{add_deposit_is}
 use Rattle.life_store.proofs.KeepLemmas.{sure_is, stays_lost, keeps_seen, open_before}
 use Rattle.life_store.proofs.InsertLemmas.{inserted}
@@ -101,7 +101,7 @@ module _ (old new : State) (clean : doubt old.is_clean ≤ doubt new.is_clean) (
       (subst (λ r. Executes add_deposit_text (given (pos n) d r population file) old new (Ok count)) are.rule (subst (λ i. Executes add_deposit_text (given i d rule population file) old new (Ok count)) is h))) in
       adds old new k d n count (omega (arith, next)) (fits_as n is) are.filed holds ran
 
-  pub lost : (r : Result ℕ Error) → Ran r → (HasCleanDisk new → OnErr r (IsSeenAgain old new)) → StaysLost (tables_of old) (tables_of new)
+  pub lost : (r : Result ℕ Error) → Ran r → (HasCleanDisk new → OnErr r (IsSeenAgain old new)) → WasSure (tables_of old) (tables_of new)
   lost (Ok count) ran seen = stays_lost old new clean (λ now up. open_before add_deposit_text _ old new count up (ran now))
   lost (Err e) ran seen = stays_lost old new clean (λ now up. (seen now).was_open up)
 
@@ -109,6 +109,6 @@ module _ (old new : State) (clean : doubt old.is_clean ≤ doubt new.is_clean) (
   ok (Ok count) ran = λ k sure holds is. added count k (length k.deposits + 1) is refl holds (ran (sure_is new sure).0)
   ok (Err e) ran = tt
 
-  pub err : (r : Result ℕ Error) → (HasCleanDisk new → OnErr r (IsSeenAgain old new)) → OnErr r (Keeps (tables_of old) (tables_of new))
+  pub err : (r : Result ℕ Error) → (HasCleanDisk new → OnErr r (IsSeenAgain old new)) → OnErr r (HoldsTheSame (tables_of old) (tables_of new))
   err (Ok count) seen = tt
   err (Err e) seen = keeps_seen old new clean seen

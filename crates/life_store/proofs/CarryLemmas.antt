@@ -22,8 +22,8 @@ use Rattle.sqlite.specs.declared.error.Error.{Error}
 use Rattle.sqlite.proofs.Callers.{IsPlain}
 use Rattle.life_store.specs.AskingState.{IsUndone, IsSeenAgain}
 use Rattle.life_store.specs.Carrying.{IsFlagged, unflagged, generation_in, version_1, HoldsFirst, CarriedOver}
-use Rattle.life_store.specs.CarryingState.{StandsFirst, IsFlaggedUpTo, IsCarried}
-use Rattle.life_store.specs.CensusesState.{Parts, Stands, with_flag}
+use Rattle.life_store.specs.CarryingState.{HoldsFirstParts, IsFlaggedUpTo, IsCarried}
+use Rattle.life_store.specs.CensusesState.{Parts, HoldsParts, with_flag}
 use Rattle.life_store.specs.Kept.{Kept, Tallied, numbered}
 use Rattle.life_store.specs.Layout.{archive_schema, first_schema, census_flags_table}
 use Rattle.life_store.specs.LayingState.{census_flags_text}
@@ -63,20 +63,20 @@ module _ (sql : List ℕ) (params : Row) (old new : State) (r : Answered) (shown
       go (Err e) s f = refused_keeps sql params old new e f
 
 -- what an answer over the archive's tables tells, and that they are as they were
-pub tells_inside : (sql : List ℕ) (params : Row) (old new : State) (r : List Row) (p : Parts) (Q : List Row → Type 0) → IsPlain (understood archive_schema sql) → Stands old.now p → Shown sql params old new r → (Shown sql params old new r → Q r)
-    → Q r × Stands new.now p
+pub tells_inside : (sql : List ℕ) (params : Row) (old new : State) (r : List Row) (p : Parts) (Q : List Row → Type 0) → IsPlain (understood archive_schema sql) → HoldsParts old.now p → Shown sql params old new r → (Shown sql params old new r → Q r)
+    → Q r × HoldsParts new.now p
 tells_inside sql params old new r p Q plain stands shown tells =
     let same = (shown_unchanged sql params old new r (subst (λ s. IsPlain (understood s sql)) (sym stands.schema) plain) shown).0.now_is in
-    (tells shown, subst (λ (d : Database). Stands d p) (sym same) stands)
+    (tells shown, subst (λ (d : Database). HoldsParts d p) (sym same) stands)
 
-pub answers_inside : {E : Type 0} (sql : List ℕ) (params : Row) (old new : State) (r : Result (Vec (List Value) Global) E) (p : Parts) (Q : List Row → Type 0) → IsPlain (understood archive_schema sql) → Stands old.now p
-    → IfOk r (λ rows. Shown sql params old new rows.items) → ((rows : List Row) → Shown sql params old new rows → Q rows) → IfOk r (λ rows. Q rows.items × Stands new.now p)
+pub answers_inside : {E : Type 0} (sql : List ℕ) (params : Row) (old new : State) (r : Result (Vec (List Value) Global) E) (p : Parts) (Q : List Row → Type 0) → IsPlain (understood archive_schema sql) → HoldsParts old.now p
+    → IfOk r (λ rows. Shown sql params old new rows.items) → ((rows : List Row) → Shown sql params old new rows → Q rows) → IfOk r (λ rows. Q rows.items × HoldsParts new.now p)
 answers_inside sql params old new (Ok rows) p Q plain stands shown tells = tells_inside sql params old new rows.items p Q plain stands shown (tells rows.items)
 answers_inside sql params old new (Err e) p Q plain stands shown tells = tt
 
 -- ---- the table of flags is made
 
-pub makes_flags : (old new : State) (count : ℕ) (p : Parts) → StandsFirst old.now p → Executes census_flags_text [] old new (Ok count) → Stands new.now (record p { flagged = [] })
+pub makes_flags : (old new : State) (count : ℕ) (p : Parts) → HoldsFirstParts old.now p → Executes census_flags_text [] old new (Ok count) → HoldsParts new.now (record p { flagged = [] })
 unfolding everything
 makes_flags old new count p first h =
     let it = creates first_schema census_flags_text census_flags_table old new count makes_census_flags first.schema h in
@@ -91,8 +91,8 @@ makes_flags old new count p first h =
 
 -- ---- a flag for each census
 
-pub begins_flagged : (p : Parts) (db : Database) → Stands db p → p.flagged ≡ [] → IsFlaggedUpTo p 0 db
-begins_flagged p db stands none = record { done = []; same = refl; flagged = tt; stands = subst (λ f. Stands db (record p { flagged = f })) none stands }
+pub begins_flagged : (p : Parts) (db : Database) → HoldsParts db p → p.flagged ≡ [] → IsFlaggedUpTo p 0 db
+begins_flagged p db stands none = record { done = []; same = refl; flagged = tt; stands = subst (λ f. HoldsParts db (record p { flagged = f })) none stands }
 
 one_more : {X : Type 0} (xs : List X) (n : ℕ) (x : X) → slice_get xs n ≡ Some x → take (suc n) xs ≡ take n xs ++ x ∷ []
 one_more [] n x there = absurd cc
@@ -130,7 +130,7 @@ pub flags_so_far : (p : Parts) (n : ℕ) (db : Database) (u : IsFlaggedUpTo p n 
 flags_so_far p n db u low = long unflagged unflagged u.done (take n p.censuses) u.same ∙ taken n p.censuses low
 
 pub flags_more : (p : Parts) (n : ℕ) (old new : Database) (u : IsFlaggedUpTo p n old) (t : Tallied) → slice_get p.censuses n ≡ Some t
-    → (b : Bool) × IsFlagged p.deposits (record t { steady = b }) × Stands new (with_flag (record t { steady = b }) (record p { flagged = u.done })) → IsFlaggedUpTo p (n + 1) new
+    → (b : Bool) × IsFlagged p.deposits (record t { steady = b }) × HoldsParts new (with_flag (record t { steady = b }) (record p { flagged = u.done })) → IsFlaggedUpTo p (n + 1) new
 flags_more p n old new u t there it =
     let one = record t { steady = it.0 } in
     record {
@@ -142,7 +142,7 @@ flags_more p n old new u t there it =
     }
 
 pub all_flagged : {E : Type 0} (r : Result (Unit {0}) E) (p : Parts) (n : ℕ) (db after : Database) (u : IsFlaggedUpTo (record p { flagged = [] }) n db) → n ≡ length p.censuses
-    → OnOk r (Stands after (record p { layout = version_2; flagged = u.done })) → OnOk r (IsCarried p after)
+    → OnOk r (HoldsParts after (record p { layout = version_2; flagged = u.done })) → OnOk r (IsCarried p after)
 all_flagged (Ok x) p n db after u is stands = record { done = u.done; same = u.same ∙ ap (map unflagged) (whole n p.censuses is); flagged = u.flagged; stands = stands }
 all_flagged (Err e) p n db after u is stands = tt
 
@@ -160,8 +160,8 @@ flagged_by (Ok b) ds t deposit generation limit d of_deposit of_generation of_li
 )
 flagged_by (Err e) ds t deposit generation limit d of_deposit of_generation of_limit there same q = tt
 
-pub carried_by : {E : Type 0} (r : Result (Unit {0}) E) (P : Type 0) (p : Parts) (t : Tallied) (b : Bool) (new : Database) → IsFlagged p.deposits (record t { steady = b }) → OnOk r (P × Stands new (with_flag (record t { steady = b }) p))
-    → OnOk r ((x : Bool) × IsFlagged p.deposits (record t { steady = x }) × Stands new (with_flag (record t { steady = x }) p))
+pub carried_by : {E : Type 0} (r : Result (Unit {0}) E) (P : Type 0) (p : Parts) (t : Tallied) (b : Bool) (new : Database) → IsFlagged p.deposits (record t { steady = b }) → OnOk r (P × HoldsParts new (with_flag (record t { steady = b }) p))
+    → OnOk r ((x : Bool) × IsFlagged p.deposits (record t { steady = x }) × HoldsParts new (with_flag (record t { steady = x }) p))
 carried_by (Ok u) P p t b new flagged made = (b, flagged, made.1)
 carried_by (Err e) P p t b new flagged made = tt
 
@@ -169,7 +169,7 @@ carried_by (Err e) P p t b new flagged made = tt
 pub record HasCarried (old new : State) (n : ℕ) : Type 0 where
   pub inside : IsTrue new.in_transaction
   pub kept : KeepsCommit old new
-  pub carried : (p : Parts) → AllByRecursion IsFiled p.deposits → Stands old.now p → p.flagged ≡ [] → n ≤ length p.censuses → IsFlaggedUpTo p n new.now
+  pub carried : (p : Parts) → AllByRecursion IsFiled p.deposits → HoldsParts old.now p → p.flagged ≡ [] → n ≤ length p.censuses → IsFlaggedUpTo p n new.now
 
 pub begins_carried : (s : State) → IsTrue s.in_transaction → HasCarried s s 0
 begins_carried s inside = record {
@@ -179,8 +179,8 @@ begins_carried s inside = record {
 }
 
 pub carries_on : (a b c : State) (n : ℕ) → HasCarried a b n → IsTrue c.in_transaction → KeepsCommit b c
-    → ((p : Parts) (t : Tallied) → AllByRecursion IsFiled p.deposits → Stands b.now p → n + 1 ≡ length p.flagged + 1 → numbered p.censuses (n + 1) ≡ Some t
-    → (x : Bool) × IsFlagged p.deposits (record t { steady = x }) × Stands c.now (with_flag (record t { steady = x }) p))
+    → ((p : Parts) (t : Tallied) → AllByRecursion IsFiled p.deposits → HoldsParts b.now p → n + 1 ≡ length p.flagged + 1 → numbered p.censuses (n + 1) ≡ Some t
+    → (x : Bool) × IsFlagged p.deposits (record t { steady = x }) × HoldsParts c.now (with_flag (record t { steady = x }) p))
     → HasCarried a c (n + 1)
 carries_on a b c n before inside kept adds = record {
   inside = inside;
@@ -227,7 +227,7 @@ same_order (x ∷ xs) (y ∷ ys) e all =
 abbrev pub first_parts : Kept → Parts
 first_parts k = record { layout = version_1; deposits = k.deposits; censuses = k.censuses; counts = counts_from 1 k.censuses; flagged = [] }
 
-pub first_stands : (s : State) (k : Kept) → HoldsFirst (tables_of s) k → StandsFirst s.now (first_parts k)
+pub first_stands : (s : State) (k : Kept) → HoldsFirst (tables_of s) k → HoldsFirstParts s.now (first_parts k)
 first_stands s k h = record { schema = h.schema; layout = h.layout; deposits = h.deposits; censuses = h.censuses; census_rows = h.census_rows }
 
 pub carried_holds : (old new : State) (k : Kept) → new.in_transaction ≡ false → HoldsFirst (tables_of old) k → IsCarried (first_parts k) new.now → CarriedOver (tables_of new) k

@@ -22,7 +22,7 @@ use Rattle.life_store.specs.Carrying.{HoldsFirst}
 use Rattle.life_store.specs.Layout.{archive_schema}
 use Rattle.life_store.specs.AskingState.{IsUndone, IsSeenAgain}
 use Rattle.life_store.specs.Kept.{Kept}
-use Rattle.life_store.specs.Tables.{tables_in, tables_of, Holds, StaysLost, Keeps, Tells}
+use Rattle.life_store.specs.Tables.{tables_in, tables_of, Holds, WasSure, HoldsTheSame, ForAllHeld}
 
 not_run : (old new : State) (sql : List ℕ) (params : Row) (e : Error) → IsNotRun old new sql params e → IsUndone old new
 unfolding IsNotRun
@@ -191,20 +191,20 @@ seen_same sql params schema old new plain (Ok rows) shown seen sure is =
 seen_same sql params schema old new plain (Err e) shown seen sure is = let now = sure_is new sure in (seen now.0).now_is now.1
 
 module _ (old new : State) (clean : doubt old.is_clean ≤ doubt new.is_clean) where
-  pub stays_lost : (HasCleanDisk new → IsTrue new.is_open → IsTrue old.is_open) → StaysLost (tables_of old) (tables_of new)
+  pub stays_lost : (HasCleanDisk new → IsTrue new.is_open → IsTrue old.is_open) → WasSure (tables_of old) (tables_of new)
   stays_lost was sure =
       let now = sure_is new sure in
       let still : HasCleanDisk old = omega (arith, clean, now.0) in
       sure_from old still (was now.0 now.1)
 
-  pub keeps_seen : (HasCleanDisk new → IsSeenAgain old new) → Keeps (tables_of old) (tables_of new)
+  pub keeps_seen : (HasCleanDisk new → IsSeenAgain old new) → HoldsTheSame (tables_of old) (tables_of new)
   keeps_seen seen k sure holds = let now = sure_is new sure in held_again old new k (seen now.0).mode ((seen now.0).now_is now.1) holds
 
   -- what a query of the archive does, and what it tells of what the tables hold
   pub record HasAsked (r : Answered) (Q : Kept → List Row → Type 0) : Type 0 where
-    pub lost : StaysLost (tables_of old) (tables_of new)
-    pub keeps : Keeps (tables_of old) (tables_of new)
-    pub tells : Tells (tables_of old) (tables_of new) (λ k. IfOk r (λ rows. Q k rows.items))
+    pub lost : WasSure (tables_of old) (tables_of new)
+    pub keeps : HoldsTheSame (tables_of old) (tables_of new)
+    pub tells : ForAllHeld (tables_of old) (tables_of new) (λ k. IfOk r (λ rows. Q k rows.items))
 
   module _ (sql : List ℕ) (params : Row) (plain : IsPlain (understood archive_schema sql)) where
     was_up : (r : Answered) → IfOk r (λ rows. Shown sql params old new rows.items) → OnErr r (IsSeenAgain old new) → IsTrue new.is_open → IsTrue old.is_open

@@ -7,14 +7,14 @@ use Rattle.sqlite_trees.specs.View.{doubt}
 use Rattle.sqlite.specs.State.{State, HasCleanDisk, Survives}
 use Rattle.sqlite_trees.specs.declared.store.Store.{Ghosts}
 use Rattle.sqlite.specs.Held.{Held, state}
-use Rattle.life_store.specs.Tables.{Tables, Shelf, tables_of, Lasts, Goes}
+use Rattle.life_store.specs.Tables.{Tables, ArchiveView, tables_of, StaysSure, IsTransition}
 use Rattle.life_store.proofs.KeepLemmas.{sure_is, sure_from}
 
-lasts_same : (old new : Tables) → new.faults ≡ old.faults → new.is_sure ≡ old.is_sure → Lasts old new
-unfolding Lasts
+lasts_same : (old new : Tables) → new.faults ≡ old.faults → new.is_sure ≡ old.is_sure → StaysSure old new
+unfolding StaysSure
 lasts_same old new faults same = record { faults = omega (arith, faults); is_sure = λ sure. inl (same ∙ sure) }
 
-pub lasts_none : (t : Tables) → Lasts t t
+pub lasts_none : (t : Tables) → StaysSure t t
 lasts_none t = lasts_same t t refl refl
 
 more_later : (a b c top : ℕ) → min (a + 1) top ≤ b → b ≤ c → min (a + 1) top ≤ c
@@ -23,8 +23,8 @@ more_later a b c top more later = omega (arith, more, later)
 more_before : (a b c top : ℕ) → a ≤ b → min (b + 1) top ≤ c → min (a + 1) top ≤ c
 more_before a b c top later more = omega (arith, more, later)
 
-pub lasts_then : (a b c : Tables) → Lasts a b → Lasts b c → Lasts a c
-unfolding Lasts
+pub lasts_then : (a b c : Tables) → StaysSure a b → StaysSure b c → StaysSure a c
+unfolding StaysSure
 lasts_then a b c first second = record {
   faults = omega (arith, first.faults, second.faults);
   is_sure = λ sure. elim (first.is_sure sure) [
@@ -47,8 +47,8 @@ count_in_doubt a b m n top later was is = omega (arith, later, was, is)
 count_clean : (a b m n top : ℕ) → min (a + 1) top ≤ b → m ≡ 0 → n ≡ 0 → min (a + m + 1) top ≤ b + n
 count_clean a b m n top more was is = omega (arith, more, was, is)
 
-pub lasts_by : (old new : State) (Commits : Trees → Type 0) → Survives old new Commits → Lasts (tables_of old) (tables_of new)
-unfolding Lasts
+pub lasts_by : (old new : State) (Commits : Trees → Type 0) → Survives old new Commits → StaysSure (tables_of old) (tables_of new)
+unfolding StaysSure
 lasts_by old new Commits it = record {
   faults = omega (arith, it.counts, it.clean);
   is_sure = λ sure.
@@ -63,15 +63,15 @@ lasts_by old new Commits it = record {
 }
 
 -- a transaction that begins
-pub lasts_begun : {S : Type 0} (g : Ghosts S) (old new : Held S) → new ≡ record old { in_transaction = true } → Lasts (tables_of (state g old)) (tables_of (state g new))
+pub lasts_begun : {S : Type 0} (g : Ghosts S) (old new : Held S) → new ≡ record old { in_transaction = true } → StaysSure (tables_of (state g old)) (tables_of (state g new))
 lasts_begun {S} g old new is =
-    subst (λ (h : Held S). Lasts (tables_of (state g old)) (tables_of (state g h))) (sym is)
+    subst (λ (h : Held S). StaysSure (tables_of (state g old)) (tables_of (state g h))) (sym is)
     (lasts_same (tables_of (state g old)) (tables_of (state g (record old { in_transaction = true }))) refl refl)
 
-pub goes_none : (s : Shelf) → Goes s s
+pub goes_none : (s : ArchiveView) → IsTransition s s
 goes_none s = record { was_sure = λ sure. sure; lasts = lasts_none s.tables; capacity = refl }
 
-pub goes_then : (a b c : Shelf) → Goes a b → Goes b c → Goes a c
+pub goes_then : (a b c : ArchiveView) → IsTransition a b → IsTransition b c → IsTransition a c
 goes_then a b c first second = record {
   was_sure = λ sure. first.was_sure (second.was_sure sure);
   lasts = lasts_then a.tables b.tables c.tables first.lasts second.lasts;

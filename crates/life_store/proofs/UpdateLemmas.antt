@@ -25,7 +25,7 @@ use Rattle.sqlite.specs.Listing.{understood}
 use Rattle.sqlite.specs.State.{State, mode_of, Executes}
 use Rattle.sqlite.proofs.Callers.{one_step, one_permutation, statement_of, runs_as}
 use Rattle.life_store.specs.Carrying.{version_1}
-use Rattle.life_store.specs.CensusesState.{Parts, Stands}
+use Rattle.life_store.specs.CensusesState.{Parts, HoldsParts}
 use Rattle.life_store.specs.Layout.{archive_schema, layout_table}
 use Rattle.life_store.specs.PickingState.{picked, shows}
 use Rattle.life_store.specs.StatementsState as st
@@ -83,7 +83,7 @@ renamed = (Int (pos 1) ∷ Int (pos 1) ∷ Int (pos 2) ∷ []) ∷ []
 abbrev rename : Program
 rename = record { lets = []; body = st.rename_query }
 
-pub renames : (old new : State) (count : ℕ) (p : Parts) → Stands old.now p → p.layout ≡ version_1 → Executes st.rename_text [] old new (Ok count) → Stands new.now (record p { layout = version_2 })
+pub renames : (old new : State) (count : ℕ) (p : Parts) → HoldsParts old.now p → p.layout ≡ version_1 → Executes st.rename_text [] old new (Ok count) → HoldsParts new.now (record p { layout = version_2 })
 renames old new count p stands first h =
     let layout : old.now.trees 0 ≡ version_1 = stands.layout ∙ first in
     let w = runs_as st.rename_text [] old new archive_schema stands.schema (Update 0 rename) rename_is.command rename_is.plain count h in

@@ -3,14 +3,14 @@ use Rattle.std.specs.Prelude.{◌≡◌, ℕ, List, map, take, IsTrue}
 use Rattle.std.specs.List.{AllByRecursion}
 use Rattle.sqlite.specs.Effect.{Database}
 use Rattle.life_store.specs.Carrying.{IsFlagged, unflagged, HoldsFirst, CarriedOver}
-use Rattle.life_store.specs.CensusesState.{Parts, Stands}
+use Rattle.life_store.specs.CensusesState.{Parts, HoldsParts}
 use Rattle.life_store.specs.Kept.{Kept, Tallied}
 use Rattle.life_store.specs.Layout.{first_schema}
 use Rattle.life_store.specs.Stored.{rows_by, deposit_cells, census_cells, count_cells}
 use Rattle.life_store.specs.Tables.{Tables, version_2}
 
 -- the rows of the tables of layout 1
-pub record StandsFirst (db : Database) (p : Parts) : Type 0 where
+pub record HoldsFirstParts (db : Database) (p : Parts) : Type 0 where
   pub schema : db.schema ≡ first_schema
   pub layout : db.trees 0 ≡ p.layout
   pub deposits : db.trees 1 ≡ rows_by deposit_cells 1 p.deposits
@@ -22,14 +22,14 @@ pub record IsFlaggedUpTo (p : Parts) (n : ℕ) (db : Database) : Type 0 where
   pub done : List Tallied
   pub same : map unflagged done ≡ map unflagged (take n p.censuses)
   pub flagged : AllByRecursion (IsFlagged p.deposits) done
-  pub stands : Stands db (record p { flagged = done })
+  pub stands : HoldsParts db (record p { flagged = done })
 
 -- all of them have, and the layout is the second
 pub record IsCarried (p : Parts) (db : Database) : Type 0 where
   pub done : List Tallied
   pub same : map unflagged done ≡ map unflagged p.censuses
   pub flagged : AllByRecursion (IsFlagged p.deposits) done
-  pub stands : Stands db (record p { layout = version_2; flagged = done })
+  pub stands : HoldsParts db (record p { layout = version_2; flagged = done })
 
 -- what an opening makes of the tables of layout 1
 abbrev pub Carries : Tables → Tables → Type 0

@@ -18,7 +18,7 @@ pub record Parts : Type 0 where
   -- the censuses whose flags are there
   pub flagged : List Tallied
 
-pub record Stands (db : Database) (p : Parts) : Type 0 where
+pub record HoldsParts (db : Database) (p : Parts) : Type 0 where
   pub schema : db.schema ≡ archive_schema
   pub layout : db.trees 0 ≡ p.layout
   pub deposits : db.trees 1 ≡ rows_by deposit_cells 1 p.deposits
@@ -35,14 +35,14 @@ abbrev pub with_flag : Tallied → Parts → Parts
 with_flag t p = record p { flagged = p.flagged ++ t ∷ [] }
 
 -- no transaction is open, and the rows stand for these
-pub record IsMeant (s : State) (p : Parts) : Type 0 where
+pub record HoldsPartsCommitted (s : State) (p : Parts) : Type 0 where
   pub mode : s.in_transaction ≡ false
   pub same : s.now ≡ s.committed
-  pub stands : Stands s.now p
+  pub stands : HoldsParts s.now p
 
 -- a database that is shut says nothing
-abbrev pub Means : State → Parts → Type 0
-Means s p = IsTrue s.is_open → IsMeant s p
+abbrev pub MeansParts : State → Parts → Type 0
+MeansParts s p = IsTrue s.is_open → HoldsPartsCommitted s p
 
 -- what is bound to the parameters of the three INSERTs
 abbrev pub given_census : ℕ → Tallied → Row

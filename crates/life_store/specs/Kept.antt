@@ -64,12 +64,12 @@ abbrev pub census_by : List ℕ → List ℕ → List Tallied → Option FoundCe
 census_by member token ts = option_map found_census (tallied_from 1 member token ts)
 
 -- the line of a deposit: number, member, population, canonical rule text
-abbrev pub line_of : ℕ × Deposit → Listed
-line_of p = record { id = p.0; member = p.1.member; population = set.len p.1.content.cells; rule = rule_text p.1.content.rule }
+abbrev pub listed_as : ℕ × Deposit → Listed
+listed_as p = record { id = p.0; member = p.1.member; population = set.len p.1.content.cells; rule = rule_text p.1.content.rule }
 
 -- the lines of the first 100 deposits with a greater number
 unfoldable pub lines_after : ℕ → List Deposit → List Listed
-lines_after id ds = map line_of (take 100 (filter (λ p. nat_lt id p.0) (numbered_from 1 ds)))
+lines_after id ds = map listed_as (take 100 (filter (λ p. nat_lt id p.0) (numbered_from 1 ds)))
 
 -- a census with the numbers of its tally
 abbrev pub kept_census : Tallied → KeptCensus

@@ -36,7 +36,7 @@ pub record Tables : Type 0 where
   pub census_flags : List Row
 
 -- an archive: its tables, and how many deposits, and how many censuses, it takes
-pub record Shelf : Type 0 where
+pub record ArchiveView : Type 0 where
   pub tables : Tables
   pub capacity : ℕ
 
@@ -44,8 +44,8 @@ abbrev pub coded_rows : Coded (List Row)
 coded_rows = coded_list (coded_list value.the_row.coded)
 
 -- a shelf is stored as the pairs of its parts
-abbrev pub coded_shelf : Coded Shelf
-coded_shelf =
+abbrev pub coded_view : Coded ArchiveView
+coded_view =
     code_by (Bool × (ℕ × (Bool × (Schema × (List Row × (List Row × (List Row × (List Row × (List Row × ℕ)))))))))
     (coded× coded_bool (coded× coded_ℕ (coded× coded_bool (coded× the_row.coded (coded× coded_rows (coded× coded_rows (coded× coded_rows (coded× coded_rows (coded× coded_rows coded_ℕ)))))))))
     (λ s. (s.tables.is_sure, (s.tables.faults, (s.tables.in_transaction, (s.tables.schema, (s.tables.layout, (s.tables.deposits, (s.tables.censuses, (s.tables.census_rows, (s.tables.census_flags, s.capacity))))))))))
@@ -113,29 +113,29 @@ pub record Holds (t : Tables) (k : Kept) : Type 0 where
 -- ---- what a call does
 
 -- a database that is sure was sure
-abbrev pub StaysLost : Tables → Tables → Type 0
-StaysLost old new = IsTrue new.is_sure → IsTrue old.is_sure
+abbrev pub WasSure : Tables → Tables → Type 0
+WasSure old new = IsTrue new.is_sure → IsTrue old.is_sure
 
 -- the disk has failed in the call: the count rose
 abbrev pub HasFailed : Tables → Tables → Type 0
 HasFailed old new = MoreFaults old.faults new.faults
 
 -- A database that is sure stays sure, or the disk has failed in the call. No failure is forgotten.
-pub record IsLasting (old new : Tables) : Type 0 where
+pub record IsStayingSure (old new : Tables) : Type 0 where
   pub faults : old.faults ≤ new.faults
   pub is_sure : IsTrue old.is_sure → IsTrue new.is_sure ⊎ HasFailed old new
 
 -- the same, as calls pass it on
-unfoldable pub Lasts : Tables → Tables → Type 0
-Lasts old new = IsLasting old new
+unfoldable pub StaysSure : Tables → Tables → Type 0
+StaysSure old new = IsStayingSure old new
 
 -- the tables stand for what they stood for
-abbrev pub Keeps : Tables → Tables → Type 0
-Keeps old new = (k : Kept) → IsTrue new.is_sure → Holds old k → Holds new k
+abbrev pub HoldsTheSame : Tables → Tables → Type 0
+HoldsTheSame old new = (k : Kept) → IsTrue new.is_sure → Holds old k → Holds new k
 
 -- a fact of all that the tables stood for before the call, told where the database is sure after it
-abbrev pub Tells : Tables → Tables → (Kept → Type 0) → Type 0
-Tells old new P = (k : Kept) → IsTrue new.is_sure → Holds old k → P k
+abbrev pub ForAllHeld : Tables → Tables → (Kept → Type 0) → Type 0
+ForAllHeld old new P = (k : Kept) → IsTrue new.is_sure → Holds old k → P k
 
 -- the tables stand for one deposit more, the last
 abbrev pub AddsDeposit : Tables → Tables → Deposit → Type 0
@@ -147,7 +147,7 @@ AddsCensus old new t = (k : Kept) → IsTrue new.is_sure → Holds old k → Hol
 
 -- what each call keeps: a database that is sure after it was sure before it, one that was sure before it is sure after it unless the disk
 -- failed in the call, and the capacity is the one chosen at opening
-pub record Goes (old new : Shelf) : Type 0 where
-  pub was_sure : StaysLost old.tables new.tables
-  pub lasts : Lasts old.tables new.tables
+pub record IsTransition (old new : ArchiveView) : Type 0 where
+  pub was_sure : WasSure old.tables new.tables
+  pub lasts : StaysSure old.tables new.tables
   pub capacity : new.capacity ≡ old.capacity

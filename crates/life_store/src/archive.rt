@@ -4,7 +4,7 @@ ghost use Rattle.std.specs.Prelude.{◌≡◌, ◌+◌, length, option_map, IsTr
 ghost use Rattle.sqlite.specs.Held.{state};
 ghost use Rattle.life_rle.specs.Record.{IsInside};
 ghost use Rattle.life_store.specs.Kept.{numbered, deposit_by, lines_after, kept_census, census_by, total_of};
-ghost use Rattle.life_store.specs.Tables.{tables_of, Goes, Keeps, Tells, HasOrder, AddsDeposit, AddsCensus};
+ghost use Rattle.life_store.specs.Tables.{tables_of, IsTransition, HoldsTheSame, ForAllHeld, HasOrder, AddsDeposit, AddsCensus};
 
 use crate::fault::Unavailable;
 use crate::kept::{Census, Deposit, FoundCensus, FoundDeposit, KeptCensus, Listing};
@@ -40,11 +40,11 @@ impl<S: Alter + Drop> Drop for Archive<S> {
 }
 
 impl<S: Alter> Model for Archive<S> {
-    ghost use Rattle.life_store.specs.Tables.{Shelf, coded_shelf};
+    ghost use Rattle.life_store.specs.Tables.{ArchiveView, coded_view};
 
-    ghost Value = { Shelf };
+    ghost Value = { ArchiveView };
 
-    ghost coded = { coded_shelf };
+    ghost coded = { coded_view };
 
     ghost use Rattle.sqlite.specs.Held.{state};
     ghost use Rattle.life_store.specs.Tables.{tables_of};
@@ -71,9 +71,9 @@ impl<S: Alter> Archive<S> {
 
     /// How many deposits there are: the greatest number. No table is walked.
     pub fn count_deposits(&mut self) -> Result<u64, Unavailable>
-        ensures goes { Goes self.old self.new }
-        ensures same { Keeps self.old.tables self.new.tables }
-        ensures value { Tells self.old.tables self.new.tables (λ k. IfOk result (λ n. n ≡ length k.deposits)) }
+        ensures goes { IsTransition self.old self.new }
+        ensures same { HoldsTheSame self.old.tables self.new.tables }
+        ensures value { ForAllHeld self.old.tables self.new.tables (λ k. IfOk result (λ n. n ≡ length k.deposits)) }
     {
         let rows = deposits::newest(&mut self.conn)?;
         count_in(rows.as_slice())
@@ -81,9 +81,9 @@ impl<S: Alter> Archive<S> {
 
     /// The deposit of the number, or none.
     pub fn deposit_of(&mut self, alloc: Global, id: u64) -> Result<Option<Deposit>, Unavailable>
-        ensures goes { Goes self.old self.new }
-        ensures same { Keeps self.old.tables self.new.tables }
-        ensures value { Tells self.old.tables self.new.tables (λ k. IfOk result (λ d. d ≡ numbered k.deposits id)) }
+        ensures goes { IsTransition self.old self.new }
+        ensures same { HoldsTheSame self.old.tables self.new.tables }
+        ensures value { ForAllHeld self.old.tables self.new.tables (λ k. IfOk result (λ d. d ≡ numbered k.deposits id)) }
         ensures inside { IfOk result (λ o. IfSome o (λ d. IsInside 1024 d.content.cells)) }
     {
         let Ok(place) = i64::try_from(id) else {
@@ -103,9 +103,9 @@ impl<S: Alter> Archive<S> {
         member: &[u8],
         token: &[u8],
     ) -> Result<Option<FoundDeposit>, Unavailable>
-        ensures goes { Goes self.old self.new }
-        ensures same { Keeps self.old.tables self.new.tables }
-        ensures value { Tells self.old.tables self.new.tables (λ k. IfOk result (λ d. d ≡ deposit_by member.now token.now k.deposits)) }
+        ensures goes { IsTransition self.old self.new }
+        ensures same { HoldsTheSame self.old.tables self.new.tables }
+        ensures value { ForAllHeld self.old.tables self.new.tables (λ k. IfOk result (λ d. d ≡ deposit_by member.now token.now k.deposits)) }
         ensures inside { IfOk result (λ o. IfSome o (λ d. IsInside 1024 d.deposit.content.cells)) }
     {
         let rows = deposits::find(&mut self.conn, member, token)?;
@@ -114,9 +114,9 @@ impl<S: Alter> Archive<S> {
 
     /// The first hundred deposits with a greater number, a line each. Any number is good.
     pub fn deposits_after(&mut self, alloc: Global, id: u64) -> Result<Listing, Unavailable>
-        ensures goes { Goes self.old self.new }
-        ensures same { Keeps self.old.tables self.new.tables }
-        ensures value { Tells self.old.tables self.new.tables (λ k. IfOk result (λ lines. lines ≡ lines_after id k.deposits)) }
+        ensures goes { IsTransition self.old self.new }
+        ensures same { HoldsTheSame self.old.tables self.new.tables }
+        ensures value { ForAllHeld self.old.tables self.new.tables (λ k. IfOk result (λ lines. lines ≡ lines_after id k.deposits)) }
     {
         let Ok(place) = i64::try_from(id) else {
             return Ok(Listing::of(Vec::new(alloc)));
@@ -129,10 +129,10 @@ impl<S: Alter> Archive<S> {
     /// caller to ask first.
     pub fn add_deposit(&mut self, alloc: Global, deposit: &Deposit) -> Result<u64, Unavailable>
         requires { IsInside 1024 deposit.now.content.cells }
-        ensures goes { Goes self.old self.new }
-        ensures value { Tells self.old.tables self.new.tables (λ k. IfOk result (λ n. n ≡ length k.deposits + 1)) }
+        ensures goes { IsTransition self.old self.new }
+        ensures value { ForAllHeld self.old.tables self.new.tables (λ k. IfOk result (λ n. n ≡ length k.deposits + 1)) }
         ensures ok { OnOk result (AddsDeposit self.old.tables self.new.tables deposit.now) }
-        ensures err { OnErr result (Keeps self.old.tables self.new.tables) }
+        ensures err { OnErr result (HoldsTheSame self.old.tables self.new.tables) }
     {
         let count = self.count_deposits()?;
         let Some(id) = count.checked_add(1) else {
@@ -147,9 +147,9 @@ impl<S: Alter> Archive<S> {
 
     /// How many censuses there are: the greatest number.
     pub fn count_censuses(&mut self) -> Result<u64, Unavailable>
-        ensures goes { Goes self.old self.new }
-        ensures same { Keeps self.old.tables self.new.tables }
-        ensures value { Tells self.old.tables self.new.tables (λ k. IfOk result (λ n. n ≡ length k.censuses)) }
+        ensures goes { IsTransition self.old self.new }
+        ensures same { HoldsTheSame self.old.tables self.new.tables }
+        ensures value { ForAllHeld self.old.tables self.new.tables (λ k. IfOk result (λ n. n ≡ length k.censuses)) }
     {
         let rows = censuses::newest(&mut self.conn)?;
         count_in(rows.as_slice())
@@ -157,9 +157,9 @@ impl<S: Alter> Archive<S> {
 
     /// The census of the number, or none.
     pub fn census_of(&mut self, alloc: Global, id: u64) -> Result<Option<KeptCensus>, Unavailable>
-        ensures goes { Goes self.old self.new }
-        ensures same { Keeps self.old.tables self.new.tables }
-        ensures value { Tells self.old.tables self.new.tables (λ k. IfOk result (λ c. c ≡ option_map kept_census (numbered k.censuses id))) }
+        ensures goes { IsTransition self.old self.new }
+        ensures same { HoldsTheSame self.old.tables self.new.tables }
+        ensures value { ForAllHeld self.old.tables self.new.tables (λ k. IfOk result (λ c. c ≡ option_map kept_census (numbered k.censuses id))) }
     {
         let Ok(place) = i64::try_from(id) else {
             return Ok(None);
@@ -178,9 +178,9 @@ impl<S: Alter> Archive<S> {
         member: &[u8],
         token: &[u8],
     ) -> Result<Option<FoundCensus>, Unavailable>
-        ensures goes { Goes self.old self.new }
-        ensures same { Keeps self.old.tables self.new.tables }
-        ensures value { Tells self.old.tables self.new.tables (λ k. IfOk result (λ c. c ≡ census_by member.now token.now k.censuses)) }
+        ensures goes { IsTransition self.old self.new }
+        ensures same { HoldsTheSame self.old.tables self.new.tables }
+        ensures value { ForAllHeld self.old.tables self.new.tables (λ k. IfOk result (λ c. c ≡ census_by member.now token.now k.censuses)) }
     {
         let rows = censuses::find(&mut self.conn, member, token)?;
         match first_census(alloc, rows.as_slice())? {
@@ -203,10 +203,10 @@ impl<S: Alter> Archive<S> {
     ) -> Result<u64, Unavailable>
         // The codes of a tally that `tally` made ascend.
         requires { HasOrder tally.now }
-        ensures goes { Goes self.old self.new }
-        ensures value { Tells self.old.tables self.new.tables (λ k. IfOk result (λ n. n ≡ length k.censuses + 1)) }
+        ensures goes { IsTransition self.old self.new }
+        ensures value { ForAllHeld self.old.tables self.new.tables (λ k. IfOk result (λ n. n ≡ length k.censuses + 1)) }
         ensures ok { OnOk result (AddsCensus self.old.tables self.new.tables (record { census = census.now; tally = tally.now; steady = steady })) }
-        ensures err { OnErr result (Keeps self.old.tables self.new.tables) }
+        ensures err { OnErr result (HoldsTheSame self.old.tables self.new.tables) }
     {
         let count = self.count_censuses()?;
         let Some(id) = count.checked_add(1) else {
@@ -218,9 +218,9 @@ impl<S: Alter> Archive<S> {
 
     /// The rows of the tally of a census that is kept, in byte order of their codes.
     fn rows_kept(&mut self, alloc: Global, id: u64) -> Result<Rows, Unavailable>
-        ensures goes { Goes self.old self.new }
-        ensures same { Keeps self.old.tables self.new.tables }
-        ensures value { Tells self.old.tables self.new.tables (λ k. IfOk result (λ rows. IfSome (numbered k.censuses id) (λ t. rows ≡ t.tally.rows))) }
+        ensures goes { IsTransition self.old self.new }
+        ensures same { HoldsTheSame self.old.tables self.new.tables }
+        ensures value { ForAllHeld self.old.tables self.new.tables (λ k. IfOk result (λ rows. IfSome (numbered k.censuses id) (λ t. rows ≡ t.tally.rows))) }
     {
         let Ok(place) = i64::try_from(id) else {
             return Err(Unavailable);
@@ -232,9 +232,9 @@ impl<S: Alter> Archive<S> {
     /// The rows of the tally of the census of the number, in byte order of their codes, or none. A tally without rows is
     /// kept by its census alone, so its flag is asked for first.
     pub fn rows_of(&mut self, alloc: Global, id: u64) -> Result<Option<Rows>, Unavailable>
-        ensures goes { Goes self.old self.new }
-        ensures same { Keeps self.old.tables self.new.tables }
-        ensures value { Tells self.old.tables self.new.tables (λ k. IfOk result (λ rows. rows ≡ option_map (λ t. t.tally.rows) (numbered k.censuses id))) }
+        ensures goes { IsTransition self.old self.new }
+        ensures same { HoldsTheSame self.old.tables self.new.tables }
+        ensures value { ForAllHeld self.old.tables self.new.tables (λ k. IfOk result (λ rows. rows ≡ option_map (λ t. t.tally.rows) (numbered k.censuses id))) }
     {
         match self.flag_of(id)? {
             None => Ok(None),
@@ -247,9 +247,9 @@ impl<S: Alter> Archive<S> {
 
     /// The flag of the census of the number, or none: whether the generation that it counted is steady.
     pub fn flag_of(&mut self, id: u64) -> Result<Option<bool>, Unavailable>
-        ensures goes { Goes self.old self.new }
-        ensures same { Keeps self.old.tables self.new.tables }
-        ensures value { Tells self.old.tables self.new.tables (λ k. IfOk result (λ b. b ≡ option_map (λ t. t.steady) (numbered k.censuses id))) }
+        ensures goes { IsTransition self.old self.new }
+        ensures same { HoldsTheSame self.old.tables self.new.tables }
+        ensures value { ForAllHeld self.old.tables self.new.tables (λ k. IfOk result (λ b. b ≡ option_map (λ t. t.steady) (numbered k.censuses id))) }
     {
         let Ok(place) = i64::try_from(id) else {
             return Ok(None);
@@ -260,9 +260,9 @@ impl<S: Alter> Archive<S> {
 
     /// How many clusters with the code there are in all censuses of deposits of the rule.
     pub fn counts_of(&mut self, alloc: Global, rule: &Rule, code: &[u8]) -> Result<u64, Unavailable>
-        ensures goes { Goes self.old self.new }
-        ensures same { Keeps self.old.tables self.new.tables }
-        ensures value { Tells self.old.tables self.new.tables (λ k. IfOk result (λ n. n ≡ total_of k rule.now code.now)) }
+        ensures goes { IsTransition self.old self.new }
+        ensures same { HoldsTheSame self.old.tables self.new.tables }
+        ensures value { ForAllHeld self.old.tables self.new.tables (λ k. IfOk result (λ n. n ≡ total_of k rule.now code.now)) }
     {
         let text = rule.text(alloc)?;
         let rows = censuses::total(&mut self.conn, text.as_bytes(), code)?;

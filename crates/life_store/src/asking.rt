@@ -9,7 +9,7 @@ ghost use Rattle.sqlite.specs.Held.{state};
 ghost use Rattle.sqlite.specs.Values.{bound};
 ghost use Rattle.life_store.specs.AskingState.{IsSeenAgain};
 ghost use Rattle.life_store.specs.Stored.{flag_number};
-ghost use Rattle.life_store.specs.Tables.{tables_of, Lasts};
+ghost use Rattle.life_store.specs.Tables.{tables_of, StaysSure};
 
 use crate::fault::Unavailable;
 use sqlite::types::ValueRef;
@@ -57,7 +57,7 @@ pub(crate) fn ask<S: Alter>(
     ensures refused { HasCleanDisk (state S.Store conn.new) → OnErr result (IsSeenAgain (state S.Store conn.old) (state S.Store conn.new)) }
     ensures clean { doubt (state S.Store conn.old).is_clean ≤ doubt (state S.Store conn.new).is_clean }
     ensures mode { conn.old.in_transaction ≡ false → conn.new.in_transaction ≡ false }
-    ensures lasts { Lasts (tables_of (state S.Store conn.old)) (tables_of (state S.Store conn.new)) }
+    ensures lasts { StaysSure (tables_of (state S.Store conn.old)) (tables_of (state S.Store conn.new)) }
 {
     if !conn.is_autocommit() {
         return Err(Error::SqliteFailure(ErrorCode::TransactionState));
@@ -74,7 +74,7 @@ pub(crate) fn write<S: Alter>(
     ensures ran { HasCleanDisk (state S.Store conn.new) → IfOk result (λ count. Executes sql.now (bound params.now) (state S.Store conn.old) (state S.Store conn.new) (Ok count)) }
     ensures refused { HasCleanDisk (state S.Store conn.new) → OnErr result (IsSeenAgain (state S.Store conn.old) (state S.Store conn.new)) }
     ensures clean { doubt (state S.Store conn.old).is_clean ≤ doubt (state S.Store conn.new).is_clean }
-    ensures lasts { Lasts (tables_of (state S.Store conn.old)) (tables_of (state S.Store conn.new)) }
+    ensures lasts { StaysSure (tables_of (state S.Store conn.old)) (tables_of (state S.Store conn.new)) }
 {
     if !conn.is_autocommit() {
         return Err(Error::SqliteFailure(ErrorCode::TransactionState));

@@ -9,8 +9,8 @@ ghost use Rattle.life_rle.specs.Record.{IsInside};
 ghost use Rattle.life_census.specs.Steady.{IsSteady};
 ghost use Rattle.life_store.specs.AskingState.{IsSeenAgain};
 ghost use Rattle.life_store.specs.Carrying.{version_1, generation_in, IsFlagged};
-ghost use Rattle.life_store.specs.CarryingState.{StandsFirst, IsFlaggedUpTo, IsCarried};
-ghost use Rattle.life_store.specs.CensusesState.{Parts, Stands, with_flag};
+ghost use Rattle.life_store.specs.CarryingState.{HoldsFirstParts, IsFlaggedUpTo, IsCarried};
+ghost use Rattle.life_store.specs.CensusesState.{Parts, HoldsParts, with_flag};
 ghost use Rattle.life_store.specs.Kept.{Tallied, numbered};
 ghost use Rattle.life_store.specs.ReadingState.{newest_rows, ShowsDeposit, ShowsCensus};
 ghost use Rattle.life_store.specs.Stored.{IsFiled};
@@ -48,7 +48,7 @@ fn is_steady(alloc: Global, content: &Record, number: u32, limit: u32) -> Result
 /// The greatest number of a census.
 fn newest_census<S: Alter>(tx: &mut Transaction<'_, S>) -> Result<Vec<Row>, Unavailable>
     ensures same_reference { tx.new.conn.ghost_name ≡ tx.old.conn.ghost_name }
-    ensures tells { HasCleanDisk (state S.Store tx.new.conn.now) → (p : Parts) → Stands (state S.Store tx.old.conn.now).now p → IfOk result (λ rows. (rows.items ≡ newest_rows (length p.censuses)) × Stands (state S.Store tx.new.conn.now).now p) }
+    ensures tells { HasCleanDisk (state S.Store tx.new.conn.now) → (p : Parts) → HoldsParts (state S.Store tx.old.conn.now).now p → IfOk result (λ rows. (rows.items ≡ newest_rows (length p.censuses)) × HoldsParts (state S.Store tx.new.conn.now).now p) }
     ensures inside { HasCleanDisk (state S.Store tx.new.conn.now) → IsTrue tx.old.conn.now.in_transaction → OnOk result (IsTrue tx.new.conn.now.in_transaction) }
     ensures kept { HasCleanDisk (state S.Store tx.new.conn.now) → IsTrue tx.old.conn.now.in_transaction → KeepsCommit (state S.Store tx.old.conn.now) (state S.Store tx.new.conn.now) }
     ensures clean { doubt (state S.Store tx.old.conn.now).is_clean ≤ doubt (state S.Store tx.new.conn.now).is_clean }
@@ -59,7 +59,7 @@ fn newest_census<S: Alter>(tx: &mut Transaction<'_, S>) -> Result<Vec<Row>, Unav
 /// The census of the number.
 fn show_census<S: Alter>(tx: &mut Transaction<'_, S>, id: u64) -> Result<Vec<Row>, Unavailable>
     ensures same_reference { tx.new.conn.ghost_name ≡ tx.old.conn.ghost_name }
-    ensures tells { HasCleanDisk (state S.Store tx.new.conn.now) → (p : Parts) → Stands (state S.Store tx.old.conn.now).now p → IfOk result (λ rows. ShowsCensus (option_map (λ t. (id, t)) (numbered p.censuses id)) rows.items × Stands (state S.Store tx.new.conn.now).now p) }
+    ensures tells { HasCleanDisk (state S.Store tx.new.conn.now) → (p : Parts) → HoldsParts (state S.Store tx.old.conn.now).now p → IfOk result (λ rows. ShowsCensus (option_map (λ t. (id, t)) (numbered p.censuses id)) rows.items × HoldsParts (state S.Store tx.new.conn.now).now p) }
     ensures inside { HasCleanDisk (state S.Store tx.new.conn.now) → IsTrue tx.old.conn.now.in_transaction → OnOk result (IsTrue tx.new.conn.now.in_transaction) }
     ensures kept { HasCleanDisk (state S.Store tx.new.conn.now) → IsTrue tx.old.conn.now.in_transaction → KeepsCommit (state S.Store tx.old.conn.now) (state S.Store tx.new.conn.now) }
     ensures clean { doubt (state S.Store tx.old.conn.now).is_clean ≤ doubt (state S.Store tx.new.conn.now).is_clean }
@@ -77,8 +77,8 @@ fn show_census<S: Alter>(tx: &mut Transaction<'_, S>, id: u64) -> Result<Vec<Row
 /// The deposit of the number.
 fn show_deposit<S: Alter>(tx: &mut Transaction<'_, S>, id: u64) -> Result<Vec<Row>, Unavailable>
     ensures same_reference { tx.new.conn.ghost_name ≡ tx.old.conn.ghost_name }
-    ensures tells { HasCleanDisk (state S.Store tx.new.conn.now) → (p : Parts) → AllByRecursion IsFiled p.deposits → Stands (state S.Store tx.old.conn.now).now p
-        → IfOk result (λ rows. ShowsDeposit (option_map (λ d. record { id = id; deposit = d }) (numbered p.deposits id)) rows.items × Stands (state S.Store tx.new.conn.now).now p) }
+    ensures tells { HasCleanDisk (state S.Store tx.new.conn.now) → (p : Parts) → AllByRecursion IsFiled p.deposits → HoldsParts (state S.Store tx.old.conn.now).now p
+        → IfOk result (λ rows. ShowsDeposit (option_map (λ d. record { id = id; deposit = d }) (numbered p.deposits id)) rows.items × HoldsParts (state S.Store tx.new.conn.now).now p) }
     ensures inside { HasCleanDisk (state S.Store tx.new.conn.now) → IsTrue tx.old.conn.now.in_transaction → OnOk result (IsTrue tx.new.conn.now.in_transaction) }
     ensures kept { HasCleanDisk (state S.Store tx.new.conn.now) → IsTrue tx.old.conn.now.in_transaction → KeepsCommit (state S.Store tx.old.conn.now) (state S.Store tx.new.conn.now) }
     ensures clean { doubt (state S.Store tx.old.conn.now).is_clean ≤ doubt (state S.Store tx.new.conn.now).is_clean }
@@ -96,7 +96,7 @@ fn show_deposit<S: Alter>(tx: &mut Transaction<'_, S>, id: u64) -> Result<Vec<Ro
 /// How many censuses there are.
 fn count_censuses<S: Alter>(tx: &mut Transaction<'_, S>) -> Result<u64, Unavailable>
     ensures same_reference { tx.new.conn.ghost_name ≡ tx.old.conn.ghost_name }
-    ensures counted { HasCleanDisk (state S.Store tx.new.conn.now) → (p : Parts) → Stands (state S.Store tx.old.conn.now).now p → IfOk result (λ n. (n ≡ length p.censuses) × Stands (state S.Store tx.new.conn.now).now p) }
+    ensures counted { HasCleanDisk (state S.Store tx.new.conn.now) → (p : Parts) → HoldsParts (state S.Store tx.old.conn.now).now p → IfOk result (λ n. (n ≡ length p.censuses) × HoldsParts (state S.Store tx.new.conn.now).now p) }
     ensures inside { HasCleanDisk (state S.Store tx.new.conn.now) → IsTrue tx.old.conn.now.in_transaction → OnOk result (IsTrue tx.new.conn.now.in_transaction) }
     ensures kept { HasCleanDisk (state S.Store tx.new.conn.now) → IsTrue tx.old.conn.now.in_transaction → KeepsCommit (state S.Store tx.old.conn.now) (state S.Store tx.new.conn.now) }
     ensures clean { doubt (state S.Store tx.old.conn.now).is_clean ≤ doubt (state S.Store tx.new.conn.now).is_clean }
@@ -112,7 +112,7 @@ fn numbers_at<S: Alter>(
     id: u64,
 ) -> Result<(u64, u32, u32), Unavailable>
     ensures same_reference { tx.new.conn.ghost_name ≡ tx.old.conn.ghost_name }
-    ensures found { HasCleanDisk (state S.Store tx.new.conn.now) → (p : Parts) (t : Tallied) → Stands (state S.Store tx.old.conn.now).now p → numbered p.censuses id ≡ Some t → IfOk result (λ n. (n.0 ≡ t.census.deposit) × (n.1 ≡ t.census.generation) × (n.2 ≡ t.census.limit) × Stands (state S.Store tx.new.conn.now).now p) }
+    ensures found { HasCleanDisk (state S.Store tx.new.conn.now) → (p : Parts) (t : Tallied) → HoldsParts (state S.Store tx.old.conn.now).now p → numbered p.censuses id ≡ Some t → IfOk result (λ n. (n.0 ≡ t.census.deposit) × (n.1 ≡ t.census.generation) × (n.2 ≡ t.census.limit) × HoldsParts (state S.Store tx.new.conn.now).now p) }
     ensures inside { HasCleanDisk (state S.Store tx.new.conn.now) → IsTrue tx.old.conn.now.in_transaction → OnOk result (IsTrue tx.new.conn.now.in_transaction) }
     ensures kept { HasCleanDisk (state S.Store tx.new.conn.now) → IsTrue tx.old.conn.now.in_transaction → KeepsCommit (state S.Store tx.old.conn.now) (state S.Store tx.new.conn.now) }
     ensures clean { doubt (state S.Store tx.old.conn.now).is_clean ≤ doubt (state S.Store tx.new.conn.now).is_clean }
@@ -135,7 +135,7 @@ fn deposit_at<S: Alter>(
     id: u64,
 ) -> Result<Deposit, Unavailable>
     ensures same_reference { tx.new.conn.ghost_name ≡ tx.old.conn.ghost_name }
-    ensures found { HasCleanDisk (state S.Store tx.new.conn.now) → (p : Parts) → AllByRecursion IsFiled p.deposits → Stands (state S.Store tx.old.conn.now).now p → IfOk result (λ d. (numbered p.deposits id ≡ Some d) × Stands (state S.Store tx.new.conn.now).now p) }
+    ensures found { HasCleanDisk (state S.Store tx.new.conn.now) → (p : Parts) → AllByRecursion IsFiled p.deposits → HoldsParts (state S.Store tx.old.conn.now).now p → IfOk result (λ d. (numbered p.deposits id ≡ Some d) × HoldsParts (state S.Store tx.new.conn.now).now p) }
     ensures inside { HasCleanDisk (state S.Store tx.new.conn.now) → IsTrue tx.old.conn.now.in_transaction → OnOk result (IsTrue tx.new.conn.now.in_transaction) }
     ensures kept { HasCleanDisk (state S.Store tx.new.conn.now) → IsTrue tx.old.conn.now.in_transaction → KeepsCommit (state S.Store tx.old.conn.now) (state S.Store tx.new.conn.now) }
     ensures clean { doubt (state S.Store tx.old.conn.now).is_clean ≤ doubt (state S.Store tx.new.conn.now).is_clean }
@@ -155,8 +155,8 @@ fn flag_at<S: Alter>(
     id: u64,
 ) -> Result<bool, Unavailable>
     ensures same_reference { tx.new.conn.ghost_name ≡ tx.old.conn.ghost_name }
-    ensures computed { HasCleanDisk (state S.Store tx.new.conn.now) → (p : Parts) (t : Tallied) → AllByRecursion IsFiled p.deposits → Stands (state S.Store tx.old.conn.now).now p → numbered p.censuses id ≡ Some t
-        → IfOk result (λ b. IsFlagged p.deposits (record t { steady = b }) × Stands (state S.Store tx.new.conn.now).now p) }
+    ensures computed { HasCleanDisk (state S.Store tx.new.conn.now) → (p : Parts) (t : Tallied) → AllByRecursion IsFiled p.deposits → HoldsParts (state S.Store tx.old.conn.now).now p → numbered p.censuses id ≡ Some t
+        → IfOk result (λ b. IsFlagged p.deposits (record t { steady = b }) × HoldsParts (state S.Store tx.new.conn.now).now p) }
     ensures inside { HasCleanDisk (state S.Store tx.new.conn.now) → IsTrue tx.old.conn.now.in_transaction → OnOk result (IsTrue tx.new.conn.now.in_transaction) }
     ensures kept { HasCleanDisk (state S.Store tx.new.conn.now) → IsTrue tx.old.conn.now.in_transaction → KeepsCommit (state S.Store tx.old.conn.now) (state S.Store tx.new.conn.now) }
     ensures clean { doubt (state S.Store tx.old.conn.now).is_clean ≤ doubt (state S.Store tx.new.conn.now).is_clean }
@@ -173,8 +173,8 @@ fn carry_one<S: Alter>(
     id: u64,
 ) -> Result<(), Unavailable>
     ensures same_reference { tx.new.conn.ghost_name ≡ tx.old.conn.ghost_name }
-    ensures carried { HasCleanDisk (state S.Store tx.new.conn.now) → IsTrue tx.old.conn.now.in_transaction → (p : Parts) (t : Tallied) → AllByRecursion IsFiled p.deposits → Stands (state S.Store tx.old.conn.now).now p → id ≡ length p.flagged + 1 → numbered p.censuses id ≡ Some t
-        → OnOk result ((b : Bool) × IsFlagged p.deposits (record t { steady = b }) × Stands (state S.Store tx.new.conn.now).now (with_flag (record t { steady = b }) p)) }
+    ensures carried { HasCleanDisk (state S.Store tx.new.conn.now) → IsTrue tx.old.conn.now.in_transaction → (p : Parts) (t : Tallied) → AllByRecursion IsFiled p.deposits → HoldsParts (state S.Store tx.old.conn.now).now p → id ≡ length p.flagged + 1 → numbered p.censuses id ≡ Some t
+        → OnOk result ((b : Bool) × IsFlagged p.deposits (record t { steady = b }) × HoldsParts (state S.Store tx.new.conn.now).now (with_flag (record t { steady = b }) p)) }
     ensures inside { HasCleanDisk (state S.Store tx.new.conn.now) → IsTrue tx.old.conn.now.in_transaction → OnOk result (IsTrue tx.new.conn.now.in_transaction) }
     ensures kept { HasCleanDisk (state S.Store tx.new.conn.now) → IsTrue tx.old.conn.now.in_transaction → KeepsCommit (state S.Store tx.old.conn.now) (state S.Store tx.new.conn.now) }
     ensures clean { doubt (state S.Store tx.old.conn.now).is_clean ≤ doubt (state S.Store tx.new.conn.now).is_clean }
@@ -190,7 +190,7 @@ fn carry_each<S: Alter>(
     count: u64,
 ) -> Result<(), Unavailable>
     ensures same_reference { tx.new.conn.ghost_name ≡ tx.old.conn.ghost_name }
-    ensures carried { HasCleanDisk (state S.Store tx.new.conn.now) → IsTrue tx.old.conn.now.in_transaction → (p : Parts) → AllByRecursion IsFiled p.deposits → Stands (state S.Store tx.old.conn.now).now p → p.flagged ≡ [] → count ≡ length p.censuses
+    ensures carried { HasCleanDisk (state S.Store tx.new.conn.now) → IsTrue tx.old.conn.now.in_transaction → (p : Parts) → AllByRecursion IsFiled p.deposits → HoldsParts (state S.Store tx.old.conn.now).now p → p.flagged ≡ [] → count ≡ length p.censuses
         → OnOk result (IsFlaggedUpTo p count (state S.Store tx.new.conn.now).now) }
     ensures inside { HasCleanDisk (state S.Store tx.new.conn.now) → IsTrue tx.old.conn.now.in_transaction → OnOk result (IsTrue tx.new.conn.now.in_transaction) }
     ensures kept { HasCleanDisk (state S.Store tx.new.conn.now) → IsTrue tx.old.conn.now.in_transaction → KeepsCommit (state S.Store tx.old.conn.now) (state S.Store tx.new.conn.now) }
@@ -205,7 +205,7 @@ fn carry_each<S: Alter>(
 /// Names layout 2 in the one row of `layout`.
 fn name_version<S: Alter>(tx: &mut Transaction<'_, S>) -> Result<(), Unavailable>
     ensures same_reference { tx.new.conn.ghost_name ≡ tx.old.conn.ghost_name }
-    ensures named { HasCleanDisk (state S.Store tx.new.conn.now) → IsTrue tx.old.conn.now.in_transaction → (p : Parts) → Stands (state S.Store tx.old.conn.now).now p → p.layout ≡ version_1 → OnOk result (Stands (state S.Store tx.new.conn.now).now (record p { layout = version_2 })) }
+    ensures named { HasCleanDisk (state S.Store tx.new.conn.now) → IsTrue tx.old.conn.now.in_transaction → (p : Parts) → HoldsParts (state S.Store tx.old.conn.now).now p → p.layout ≡ version_1 → OnOk result (HoldsParts (state S.Store tx.new.conn.now).now (record p { layout = version_2 })) }
     ensures inside { HasCleanDisk (state S.Store tx.new.conn.now) → IsTrue tx.old.conn.now.in_transaction → OnOk result (IsTrue tx.new.conn.now.in_transaction) }
     ensures kept { HasCleanDisk (state S.Store tx.new.conn.now) → IsTrue tx.old.conn.now.in_transaction → KeepsCommit (state S.Store tx.old.conn.now) (state S.Store tx.new.conn.now) }
     ensures clean { doubt (state S.Store tx.old.conn.now).is_clean ≤ doubt (state S.Store tx.new.conn.now).is_clean }
@@ -217,7 +217,7 @@ fn name_version<S: Alter>(tx: &mut Transaction<'_, S>) -> Result<(), Unavailable
 /// Makes the table of flags, fills it, and names the layout.
 fn carry_all<S: Alter>(alloc: Global, tx: &mut Transaction<'_, S>) -> Result<(), Unavailable>
     ensures same_reference { tx.new.conn.ghost_name ≡ tx.old.conn.ghost_name }
-    ensures carried { HasCleanDisk (state S.Store tx.new.conn.now) → IsTrue tx.old.conn.now.in_transaction → (p : Parts) → AllByRecursion IsFiled p.deposits → StandsFirst (state S.Store tx.old.conn.now).now p → p.layout ≡ version_1
+    ensures carried { HasCleanDisk (state S.Store tx.new.conn.now) → IsTrue tx.old.conn.now.in_transaction → (p : Parts) → AllByRecursion IsFiled p.deposits → HoldsFirstParts (state S.Store tx.old.conn.now).now p → p.layout ≡ version_1
         → OnOk result (IsCarried p (state S.Store tx.new.conn.now).now) }
     ensures inside { HasCleanDisk (state S.Store tx.new.conn.now) → IsTrue tx.old.conn.now.in_transaction → OnOk result (IsTrue tx.new.conn.now.in_transaction) }
     ensures kept { HasCleanDisk (state S.Store tx.new.conn.now) → IsTrue tx.old.conn.now.in_transaction → KeepsCommit (state S.Store tx.old.conn.now) (state S.Store tx.new.conn.now) }
@@ -232,7 +232,7 @@ fn carry_all<S: Alter>(alloc: Global, tx: &mut Transaction<'_, S>) -> Result<(),
 /// The same in one transaction, which is rolled back where it fails.
 fn carry_at_once<S: Alter>(alloc: Global, conn: &mut Connection<S>) -> Result<(), Unavailable>
     requires { conn.old.in_transaction ≡ false }
-    ensures carried { HasCleanDisk (state S.Store conn.new) → (p : Parts) → AllByRecursion IsFiled p.deposits → StandsFirst (state S.Store conn.old).now p → p.layout ≡ version_1 → OnOk result (IsCarried p (state S.Store conn.new).now) }
+    ensures carried { HasCleanDisk (state S.Store conn.new) → (p : Parts) → AllByRecursion IsFiled p.deposits → HoldsFirstParts (state S.Store conn.old).now p → p.layout ≡ version_1 → OnOk result (IsCarried p (state S.Store conn.new).now) }
     ensures undone { HasCleanDisk (state S.Store conn.new) → (IsTrue (state S.Store conn.old).is_open → (state S.Store conn.old).now ≡ (state S.Store conn.old).committed) → OnErr result (IsSeenAgain (state S.Store conn.old) (state S.Store conn.new)) }
     ensures ended { OnOk result (conn.new.in_transaction ≡ false) }
     ensures was_open { HasCleanDisk (state S.Store conn.new) → IsTrue (state S.Store conn.new).is_open → IsTrue (state S.Store conn.old).is_open }
@@ -253,7 +253,7 @@ pub(crate) fn carry_over<S: Alter>(
     alloc: Global,
     conn: &mut Connection<S>,
 ) -> Result<(), Unavailable>
-    ensures carried { HasCleanDisk (state S.Store conn.new) → (p : Parts) → AllByRecursion IsFiled p.deposits → StandsFirst (state S.Store conn.old).now p → p.layout ≡ version_1 → OnOk result (IsCarried p (state S.Store conn.new).now) }
+    ensures carried { HasCleanDisk (state S.Store conn.new) → (p : Parts) → AllByRecursion IsFiled p.deposits → HoldsFirstParts (state S.Store conn.old).now p → p.layout ≡ version_1 → OnOk result (IsCarried p (state S.Store conn.new).now) }
     ensures undone { HasCleanDisk (state S.Store conn.new) → OnErr result (IsSeenAgain (state S.Store conn.old) (state S.Store conn.new)) }
     ensures ended { OnOk result (conn.new.in_transaction ≡ false) }
     ensures was_open { HasCleanDisk (state S.Store conn.new) → IsTrue (state S.Store conn.new).is_open → IsTrue (state S.Store conn.old).is_open }

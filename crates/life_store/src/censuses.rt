@@ -9,9 +9,9 @@ ghost use Rattle.life_core.specs.RuleText.{rule_text};
 ghost use Rattle.life_census.specs.Rows.{row_seen};
 ghost use Rattle.life_store.specs.ReadingState.{newest_rows, ShowsCensus, ShowsTotal, row_shown};
 ghost use Rattle.life_store.specs.Kept.{Kept, Tallied, numbered, tallied_from, total_of};
-ghost use Rattle.life_store.specs.CensusesState.{Parts, Stands, Means, with_census, with_flag};
+ghost use Rattle.life_store.specs.CensusesState.{Parts, HoldsParts, MeansParts, with_census, with_flag};
 ghost use Rattle.life_store.specs.Stored.{tagged};
-ghost use Rattle.life_store.specs.Tables.{tables_of, HasOrder, Holds, StaysLost, Lasts, Keeps, Tells};
+ghost use Rattle.life_store.specs.Tables.{tables_of, HasOrder, Holds, WasSure, StaysSure, HoldsTheSame, ForAllHeld};
 
 use crate::asking::{ask, text, whole};
 use crate::fault::Unavailable;
@@ -22,10 +22,10 @@ use sqlite::{Alter, Connection, Error, Row, Transaction};
 
 /// The greatest number.
 pub(crate) fn newest<S: Alter>(conn: &mut Connection<S>) -> Result<Vec<Row>, Error>
-    ensures lost { StaysLost (tables_of (state S.Store conn.old)) (tables_of (state S.Store conn.new)) }
-    ensures lasts { Lasts (tables_of (state S.Store conn.old)) (tables_of (state S.Store conn.new)) }
-    ensures keeps { Keeps (tables_of (state S.Store conn.old)) (tables_of (state S.Store conn.new)) }
-    ensures tells { Tells (tables_of (state S.Store conn.old)) (tables_of (state S.Store conn.new)) (λ k. IfOk result (λ rows. rows.items ≡ newest_rows (length k.censuses))) }
+    ensures lost { WasSure (tables_of (state S.Store conn.old)) (tables_of (state S.Store conn.new)) }
+    ensures lasts { StaysSure (tables_of (state S.Store conn.old)) (tables_of (state S.Store conn.new)) }
+    ensures keeps { HoldsTheSame (tables_of (state S.Store conn.old)) (tables_of (state S.Store conn.new)) }
+    ensures tells { ForAllHeld (tables_of (state S.Store conn.old)) (tables_of (state S.Store conn.new)) (λ k. IfOk result (λ rows. rows.items ≡ newest_rows (length k.censuses))) }
 {
     ask(
         conn,
@@ -36,10 +36,10 @@ pub(crate) fn newest<S: Alter>(conn: &mut Connection<S>) -> Result<Vec<Row>, Err
 
 /// The census of the number.
 pub(crate) fn show<S: Alter>(conn: &mut Connection<S>, id: i64) -> Result<Vec<Row>, Error>
-    ensures lost { StaysLost (tables_of (state S.Store conn.old)) (tables_of (state S.Store conn.new)) }
-    ensures lasts { Lasts (tables_of (state S.Store conn.old)) (tables_of (state S.Store conn.new)) }
-    ensures keeps { Keeps (tables_of (state S.Store conn.old)) (tables_of (state S.Store conn.new)) }
-    ensures tells { (n : ℕ) → id ≡ pos n → Tells (tables_of (state S.Store conn.old)) (tables_of (state S.Store conn.new)) (λ k. IfOk result (λ rows. ShowsCensus (option_map (λ t. (n, t)) (numbered k.censuses n)) rows.items)) }
+    ensures lost { WasSure (tables_of (state S.Store conn.old)) (tables_of (state S.Store conn.new)) }
+    ensures lasts { StaysSure (tables_of (state S.Store conn.old)) (tables_of (state S.Store conn.new)) }
+    ensures keeps { HoldsTheSame (tables_of (state S.Store conn.old)) (tables_of (state S.Store conn.new)) }
+    ensures tells { (n : ℕ) → id ≡ pos n → ForAllHeld (tables_of (state S.Store conn.old)) (tables_of (state S.Store conn.new)) (λ k. IfOk result (λ rows. ShowsCensus (option_map (λ t. (n, t)) (numbered k.censuses n)) rows.items)) }
 {
     ask(
         conn,
@@ -54,10 +54,10 @@ pub(crate) fn find<'a, S: Alter>(
     member: &'a [u8],
     token: &'a [u8],
 ) -> Result<Vec<Row>, Error>
-    ensures lost { StaysLost (tables_of (state S.Store conn.old)) (tables_of (state S.Store conn.new)) }
-    ensures lasts { Lasts (tables_of (state S.Store conn.old)) (tables_of (state S.Store conn.new)) }
-    ensures keeps { Keeps (tables_of (state S.Store conn.old)) (tables_of (state S.Store conn.new)) }
-    ensures tells { Tells (tables_of (state S.Store conn.old)) (tables_of (state S.Store conn.new)) (λ k. IfOk result (λ rows. ShowsCensus (tallied_from 1 member.now token.now k.censuses) rows.items)) }
+    ensures lost { WasSure (tables_of (state S.Store conn.old)) (tables_of (state S.Store conn.new)) }
+    ensures lasts { StaysSure (tables_of (state S.Store conn.old)) (tables_of (state S.Store conn.new)) }
+    ensures keeps { HoldsTheSame (tables_of (state S.Store conn.old)) (tables_of (state S.Store conn.new)) }
+    ensures tells { ForAllHeld (tables_of (state S.Store conn.old)) (tables_of (state S.Store conn.new)) (λ k. IfOk result (λ rows. ShowsCensus (tallied_from 1 member.now token.now k.censuses) rows.items)) }
 {
     ask(
         conn,
@@ -68,10 +68,10 @@ pub(crate) fn find<'a, S: Alter>(
 
 /// The rows of the tally of the census of the number.
 pub(crate) fn rows_of<S: Alter>(conn: &mut Connection<S>, id: i64) -> Result<Vec<Row>, Error>
-    ensures lost { StaysLost (tables_of (state S.Store conn.old)) (tables_of (state S.Store conn.new)) }
-    ensures lasts { Lasts (tables_of (state S.Store conn.old)) (tables_of (state S.Store conn.new)) }
-    ensures keeps { Keeps (tables_of (state S.Store conn.old)) (tables_of (state S.Store conn.new)) }
-    ensures tells { (n : ℕ) → id ≡ pos n → Tells (tables_of (state S.Store conn.old)) (tables_of (state S.Store conn.new)) (λ k. IfOk result (λ rows. IfSome (numbered k.censuses n) (λ t. rows.items ≡ map row_shown t.tally.rows))) }
+    ensures lost { WasSure (tables_of (state S.Store conn.old)) (tables_of (state S.Store conn.new)) }
+    ensures lasts { StaysSure (tables_of (state S.Store conn.old)) (tables_of (state S.Store conn.new)) }
+    ensures keeps { HoldsTheSame (tables_of (state S.Store conn.old)) (tables_of (state S.Store conn.new)) }
+    ensures tells { (n : ℕ) → id ≡ pos n → ForAllHeld (tables_of (state S.Store conn.old)) (tables_of (state S.Store conn.new)) (λ k. IfOk result (λ rows. IfSome (numbered k.censuses n) (λ t. rows.items ≡ map row_shown t.tally.rows))) }
 {
     ask(
         conn,
@@ -89,11 +89,11 @@ fn insert_census<S: Alter>(
 ) -> Result<(), Unavailable>
     ensures same_reference { tx.new.conn.ghost_name ≡ tx.old.conn.ghost_name }
     ensures added { HasCleanDisk (state S.Store tx.new.conn.now) → IsTrue tx.old.conn.now.in_transaction
-        → (p : Parts) (steady : Bool) → Stands (state S.Store tx.old.conn.now).now p → id ≡ length p.censuses + 1 → OnOk result (IsTrue tx.new.conn.now.in_transaction × Stands (state S.Store tx.new.conn.now).now (record p { censuses = p.censuses ++ record { census = census.now; tally = tally.now; steady = steady } ∷ [] })) }
+        → (p : Parts) (steady : Bool) → HoldsParts (state S.Store tx.old.conn.now).now p → id ≡ length p.censuses + 1 → OnOk result (IsTrue tx.new.conn.now.in_transaction × HoldsParts (state S.Store tx.new.conn.now).now (record p { censuses = p.censuses ++ record { census = census.now; tally = tally.now; steady = steady } ∷ [] })) }
     ensures inside { HasCleanDisk (state S.Store tx.new.conn.now) → IsTrue tx.old.conn.now.in_transaction → OnOk result (IsTrue tx.new.conn.now.in_transaction) }
     ensures kept { HasCleanDisk (state S.Store tx.new.conn.now) → IsTrue tx.old.conn.now.in_transaction → KeepsCommit (state S.Store tx.old.conn.now) (state S.Store tx.new.conn.now) }
     ensures clean { doubt (state S.Store tx.old.conn.now).is_clean ≤ doubt (state S.Store tx.new.conn.now).is_clean }
-    ensures lasts { Lasts (tables_of (state S.Store tx.old.conn.now)) (tables_of (state S.Store tx.new.conn.now)) }
+    ensures lasts { StaysSure (tables_of (state S.Store tx.old.conn.now)) (tables_of (state S.Store tx.new.conn.now)) }
     ensures few { OnOk result (id < 2 ^ 63) }
 {
     let (Ok(id), Ok(deposit), Ok(total), Ok(unresolved)) = (
@@ -128,11 +128,11 @@ fn insert_row<S: Alter>(
 ) -> Result<(), Unavailable>
     ensures same_reference { tx.new.conn.ghost_name ≡ tx.old.conn.ghost_name }
     ensures added { HasCleanDisk (state S.Store tx.new.conn.now) → IsTrue tx.old.conn.now.in_transaction
-        → (p : Parts) → Stands (state S.Store tx.old.conn.now).now p → OnOk result (IsTrue tx.new.conn.now.in_transaction × Stands (state S.Store tx.new.conn.now).now (record p { counts = p.counts ++ (id, row_seen row.now) ∷ [] })) }
+        → (p : Parts) → HoldsParts (state S.Store tx.old.conn.now).now p → OnOk result (IsTrue tx.new.conn.now.in_transaction × HoldsParts (state S.Store tx.new.conn.now).now (record p { counts = p.counts ++ (id, row_seen row.now) ∷ [] })) }
     ensures inside { HasCleanDisk (state S.Store tx.new.conn.now) → IsTrue tx.old.conn.now.in_transaction → OnOk result (IsTrue tx.new.conn.now.in_transaction) }
     ensures kept { HasCleanDisk (state S.Store tx.new.conn.now) → IsTrue tx.old.conn.now.in_transaction → KeepsCommit (state S.Store tx.old.conn.now) (state S.Store tx.new.conn.now) }
     ensures clean { doubt (state S.Store tx.old.conn.now).is_clean ≤ doubt (state S.Store tx.new.conn.now).is_clean }
-    ensures lasts { Lasts (tables_of (state S.Store tx.old.conn.now)) (tables_of (state S.Store tx.new.conn.now)) }
+    ensures lasts { StaysSure (tables_of (state S.Store tx.old.conn.now)) (tables_of (state S.Store tx.new.conn.now)) }
 {
     let (Ok(id), Ok(count)) = (i64::try_from(id), i64::try_from(row.count)) else {
         return Err(Unavailable);
@@ -152,11 +152,11 @@ fn insert_rows<S: Alter>(
 ) -> Result<(), Unavailable>
     ensures same_reference { tx.new.conn.ghost_name ≡ tx.old.conn.ghost_name }
     ensures added { HasCleanDisk (state S.Store tx.new.conn.now) → IsTrue tx.old.conn.now.in_transaction
-        → (p : Parts) → Stands (state S.Store tx.old.conn.now).now p → OnOk result (IsTrue tx.new.conn.now.in_transaction × Stands (state S.Store tx.new.conn.now).now (record p { counts = p.counts ++ tagged id (map row_seen rows.now) })) }
+        → (p : Parts) → HoldsParts (state S.Store tx.old.conn.now).now p → OnOk result (IsTrue tx.new.conn.now.in_transaction × HoldsParts (state S.Store tx.new.conn.now).now (record p { counts = p.counts ++ tagged id (map row_seen rows.now) })) }
     ensures inside { HasCleanDisk (state S.Store tx.new.conn.now) → IsTrue tx.old.conn.now.in_transaction → OnOk result (IsTrue tx.new.conn.now.in_transaction) }
     ensures kept { HasCleanDisk (state S.Store tx.new.conn.now) → IsTrue tx.old.conn.now.in_transaction → KeepsCommit (state S.Store tx.old.conn.now) (state S.Store tx.new.conn.now) }
     ensures clean { doubt (state S.Store tx.old.conn.now).is_clean ≤ doubt (state S.Store tx.new.conn.now).is_clean }
-    ensures lasts { Lasts (tables_of (state S.Store tx.old.conn.now)) (tables_of (state S.Store tx.new.conn.now)) }
+    ensures lasts { StaysSure (tables_of (state S.Store tx.old.conn.now)) (tables_of (state S.Store tx.new.conn.now)) }
 {
     for row in rows {
         insert_row(tx, id, row)?;
@@ -172,11 +172,11 @@ fn insert_tally<S: Alter>(
 ) -> Result<(), Unavailable>
     ensures same_reference { tx.new.conn.ghost_name ≡ tx.old.conn.ghost_name }
     ensures added { HasCleanDisk (state S.Store tx.new.conn.now) → IsTrue tx.old.conn.now.in_transaction
-        → (p : Parts) → Stands (state S.Store tx.old.conn.now).now p → OnOk result (IsTrue tx.new.conn.now.in_transaction × Stands (state S.Store tx.new.conn.now).now (record p { counts = p.counts ++ tagged id tally.now.rows })) }
+        → (p : Parts) → HoldsParts (state S.Store tx.old.conn.now).now p → OnOk result (IsTrue tx.new.conn.now.in_transaction × HoldsParts (state S.Store tx.new.conn.now).now (record p { counts = p.counts ++ tagged id tally.now.rows })) }
     ensures inside { HasCleanDisk (state S.Store tx.new.conn.now) → IsTrue tx.old.conn.now.in_transaction → OnOk result (IsTrue tx.new.conn.now.in_transaction) }
     ensures kept { HasCleanDisk (state S.Store tx.new.conn.now) → IsTrue tx.old.conn.now.in_transaction → KeepsCommit (state S.Store tx.old.conn.now) (state S.Store tx.new.conn.now) }
     ensures clean { doubt (state S.Store tx.old.conn.now).is_clean ≤ doubt (state S.Store tx.new.conn.now).is_clean }
-    ensures lasts { Lasts (tables_of (state S.Store tx.old.conn.now)) (tables_of (state S.Store tx.new.conn.now)) }
+    ensures lasts { StaysSure (tables_of (state S.Store tx.old.conn.now)) (tables_of (state S.Store tx.new.conn.now)) }
 {
     insert_rows(tx, id, tally.rows.as_slice())
 }
@@ -190,12 +190,12 @@ fn insert_with_rows<S: Alter>(
 ) -> Result<(), Unavailable>
     ensures same_reference { tx.new.conn.ghost_name ≡ tx.old.conn.ghost_name }
     ensures added { HasCleanDisk (state S.Store tx.new.conn.now) → IsTrue tx.old.conn.now.in_transaction
-        → (p : Parts) (steady : Bool) → Stands (state S.Store tx.old.conn.now).now p → id ≡ length p.censuses + 1
-        → OnOk result (IsTrue tx.new.conn.now.in_transaction × Stands (state S.Store tx.new.conn.now).now (with_census id (record { census = census.now; tally = tally.now; steady = steady }) p)) }
+        → (p : Parts) (steady : Bool) → HoldsParts (state S.Store tx.old.conn.now).now p → id ≡ length p.censuses + 1
+        → OnOk result (IsTrue tx.new.conn.now.in_transaction × HoldsParts (state S.Store tx.new.conn.now).now (with_census id (record { census = census.now; tally = tally.now; steady = steady }) p)) }
     ensures inside { HasCleanDisk (state S.Store tx.new.conn.now) → IsTrue tx.old.conn.now.in_transaction → OnOk result (IsTrue tx.new.conn.now.in_transaction) }
     ensures kept { HasCleanDisk (state S.Store tx.new.conn.now) → IsTrue tx.old.conn.now.in_transaction → KeepsCommit (state S.Store tx.old.conn.now) (state S.Store tx.new.conn.now) }
     ensures clean { doubt (state S.Store tx.old.conn.now).is_clean ≤ doubt (state S.Store tx.new.conn.now).is_clean }
-    ensures lasts { Lasts (tables_of (state S.Store tx.old.conn.now)) (tables_of (state S.Store tx.new.conn.now)) }
+    ensures lasts { StaysSure (tables_of (state S.Store tx.old.conn.now)) (tables_of (state S.Store tx.new.conn.now)) }
     ensures few { OnOk result (id < 2 ^ 63) }
 {
     insert_census(tx, id, census, tally)?;
@@ -212,12 +212,12 @@ fn insert_with_flag<S: Alter>(
 ) -> Result<(), Unavailable>
     ensures same_reference { tx.new.conn.ghost_name ≡ tx.old.conn.ghost_name }
     ensures added { HasCleanDisk (state S.Store tx.new.conn.now) → IsTrue tx.old.conn.now.in_transaction
-        → (p : Parts) (t : Tallied) → t ≡ record { census = census.now; tally = tally.now; steady = steady } → Stands (state S.Store tx.old.conn.now).now p → id ≡ length p.censuses + 1 → id ≡ length p.flagged + 1
-        → OnOk result (IsTrue tx.new.conn.now.in_transaction × Stands (state S.Store tx.new.conn.now).now (with_flag t (with_census id t p))) }
+        → (p : Parts) (t : Tallied) → t ≡ record { census = census.now; tally = tally.now; steady = steady } → HoldsParts (state S.Store tx.old.conn.now).now p → id ≡ length p.censuses + 1 → id ≡ length p.flagged + 1
+        → OnOk result (IsTrue tx.new.conn.now.in_transaction × HoldsParts (state S.Store tx.new.conn.now).now (with_flag t (with_census id t p))) }
     ensures inside { HasCleanDisk (state S.Store tx.new.conn.now) → IsTrue tx.old.conn.now.in_transaction → OnOk result (IsTrue tx.new.conn.now.in_transaction) }
     ensures kept { HasCleanDisk (state S.Store tx.new.conn.now) → IsTrue tx.old.conn.now.in_transaction → KeepsCommit (state S.Store tx.old.conn.now) (state S.Store tx.new.conn.now) }
     ensures clean { doubt (state S.Store tx.old.conn.now).is_clean ≤ doubt (state S.Store tx.new.conn.now).is_clean }
-    ensures lasts { Lasts (tables_of (state S.Store tx.old.conn.now)) (tables_of (state S.Store tx.new.conn.now)) }
+    ensures lasts { StaysSure (tables_of (state S.Store tx.old.conn.now)) (tables_of (state S.Store tx.new.conn.now)) }
     ensures few { OnOk result (id < 2 ^ 63) }
 {
     insert_with_rows(tx, id, census, tally)?;
@@ -233,13 +233,13 @@ fn insert_all<S: Alter>(
     steady: bool,
 ) -> Result<(), Unavailable>
     requires { conn.old.in_transaction ≡ false }
-    ensures added { HasCleanDisk (state S.Store conn.new) → (p : Parts) (t : Tallied) → t ≡ record { census = census.now; tally = tally.now; steady = steady } → Means (state S.Store conn.old) p → id ≡ length p.censuses + 1 → id ≡ length p.flagged + 1
-        → OnOk result (Means (state S.Store conn.new) (with_flag t (with_census id t p))) }
-    ensures undone { HasCleanDisk (state S.Store conn.new) → (p : Parts) → Means (state S.Store conn.old) p → OnErr result (Means (state S.Store conn.new) p) }
+    ensures added { HasCleanDisk (state S.Store conn.new) → (p : Parts) (t : Tallied) → t ≡ record { census = census.now; tally = tally.now; steady = steady } → MeansParts (state S.Store conn.old) p → id ≡ length p.censuses + 1 → id ≡ length p.flagged + 1
+        → OnOk result (MeansParts (state S.Store conn.new) (with_flag t (with_census id t p))) }
+    ensures undone { HasCleanDisk (state S.Store conn.new) → (p : Parts) → MeansParts (state S.Store conn.old) p → OnErr result (MeansParts (state S.Store conn.new) p) }
     ensures few { OnOk result (id < 2 ^ 63) }
     ensures was_open { HasCleanDisk (state S.Store conn.new) → IsTrue (state S.Store conn.new).is_open → IsTrue (state S.Store conn.old).is_open }
     ensures clean { doubt (state S.Store conn.old).is_clean ≤ doubt (state S.Store conn.new).is_clean }
-    ensures lasts { Lasts (tables_of (state S.Store conn.old)) (tables_of (state S.Store conn.new)) }
+    ensures lasts { StaysSure (tables_of (state S.Store conn.old)) (tables_of (state S.Store conn.new)) }
 {
     let mut tx = conn.transaction();
     match insert_with_flag(&mut tx, id, census, tally, steady) {
@@ -260,10 +260,10 @@ pub(crate) fn insert<S: Alter>(
     steady: bool,
 ) -> Result<(), Unavailable>
     requires { HasOrder tally.now }
-    ensures lost { StaysLost (tables_of (state S.Store conn.old)) (tables_of (state S.Store conn.new)) }
-    ensures lasts { Lasts (tables_of (state S.Store conn.old)) (tables_of (state S.Store conn.new)) }
+    ensures lost { WasSure (tables_of (state S.Store conn.old)) (tables_of (state S.Store conn.new)) }
+    ensures lasts { StaysSure (tables_of (state S.Store conn.old)) (tables_of (state S.Store conn.new)) }
     ensures ok { OnOk result ((k : Kept) → IsTrue (tables_of (state S.Store conn.new)).is_sure → Holds (tables_of (state S.Store conn.old)) k → id ≡ length k.censuses + 1 → Holds (tables_of (state S.Store conn.new)) (record k { censuses = k.censuses ++ record { census = census.now; tally = tally.now; steady = steady } ∷ [] })) }
-    ensures err { OnErr result (Keeps (tables_of (state S.Store conn.old)) (tables_of (state S.Store conn.new))) }
+    ensures err { OnErr result (HoldsTheSame (tables_of (state S.Store conn.old)) (tables_of (state S.Store conn.new))) }
 {
     if !conn.is_autocommit() {
         return Err(Unavailable);
@@ -277,10 +277,10 @@ pub(crate) fn total<'a, S: Alter>(
     rule: &'a [u8],
     code: &'a [u8],
 ) -> Result<Vec<Row>, Error>
-    ensures lost { StaysLost (tables_of (state S.Store conn.old)) (tables_of (state S.Store conn.new)) }
-    ensures lasts { Lasts (tables_of (state S.Store conn.old)) (tables_of (state S.Store conn.new)) }
-    ensures keeps { Keeps (tables_of (state S.Store conn.old)) (tables_of (state S.Store conn.new)) }
-    ensures tells { (r : RuleSets) → IsRule r → rule.now ≡ rule_text r → Tells (tables_of (state S.Store conn.old)) (tables_of (state S.Store conn.new)) (λ k. IfOk result (λ rows. ShowsTotal (total_of k r code.now) rows.items)) }
+    ensures lost { WasSure (tables_of (state S.Store conn.old)) (tables_of (state S.Store conn.new)) }
+    ensures lasts { StaysSure (tables_of (state S.Store conn.old)) (tables_of (state S.Store conn.new)) }
+    ensures keeps { HoldsTheSame (tables_of (state S.Store conn.old)) (tables_of (state S.Store conn.new)) }
+    ensures tells { (r : RuleSets) → IsRule r → rule.now ≡ rule_text r → ForAllHeld (tables_of (state S.Store conn.old)) (tables_of (state S.Store conn.new)) (λ k. IfOk result (λ rows. ShowsTotal (total_of k r code.now) rows.items)) }
 {
     ask(
         conn,

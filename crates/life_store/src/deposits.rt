@@ -7,7 +7,7 @@ ghost use Rattle.life_rle.specs.Record.{IsInside};
 ghost use Rattle.life_store.specs.ReadingState.{newest_rows, ShowsDeposit, line_shown};
 ghost use Rattle.life_store.specs.Kept.{Kept, numbered, deposit_by, lines_after};
 ghost use Rattle.life_store.specs.DepositsState.{AreValuesOf};
-ghost use Rattle.life_store.specs.Tables.{tables_of, Holds, StaysLost, Lasts, Keeps, Tells};
+ghost use Rattle.life_store.specs.Tables.{tables_of, Holds, WasSure, StaysSure, HoldsTheSame, ForAllHeld};
 
 use crate::asking::{ask, blob, text, whole, write};
 use crate::fault::Unavailable;
@@ -17,10 +17,10 @@ use std::alloc::Global;
 
 /// The greatest number.
 pub(crate) fn newest<S: Alter>(conn: &mut Connection<S>) -> Result<Vec<Row>, Error>
-    ensures lost { StaysLost (tables_of (state S.Store conn.old)) (tables_of (state S.Store conn.new)) }
-    ensures lasts { Lasts (tables_of (state S.Store conn.old)) (tables_of (state S.Store conn.new)) }
-    ensures keeps { Keeps (tables_of (state S.Store conn.old)) (tables_of (state S.Store conn.new)) }
-    ensures tells { Tells (tables_of (state S.Store conn.old)) (tables_of (state S.Store conn.new)) (λ k. IfOk result (λ rows. rows.items ≡ newest_rows (length k.deposits))) }
+    ensures lost { WasSure (tables_of (state S.Store conn.old)) (tables_of (state S.Store conn.new)) }
+    ensures lasts { StaysSure (tables_of (state S.Store conn.old)) (tables_of (state S.Store conn.new)) }
+    ensures keeps { HoldsTheSame (tables_of (state S.Store conn.old)) (tables_of (state S.Store conn.new)) }
+    ensures tells { ForAllHeld (tables_of (state S.Store conn.old)) (tables_of (state S.Store conn.new)) (λ k. IfOk result (λ rows. rows.items ≡ newest_rows (length k.deposits))) }
 {
     ask(
         conn,
@@ -31,10 +31,10 @@ pub(crate) fn newest<S: Alter>(conn: &mut Connection<S>) -> Result<Vec<Row>, Err
 
 /// The deposit of the number.
 pub(crate) fn show<S: Alter>(conn: &mut Connection<S>, id: i64) -> Result<Vec<Row>, Error>
-    ensures lost { StaysLost (tables_of (state S.Store conn.old)) (tables_of (state S.Store conn.new)) }
-    ensures lasts { Lasts (tables_of (state S.Store conn.old)) (tables_of (state S.Store conn.new)) }
-    ensures keeps { Keeps (tables_of (state S.Store conn.old)) (tables_of (state S.Store conn.new)) }
-    ensures tells { (n : ℕ) → id ≡ pos n → Tells (tables_of (state S.Store conn.old)) (tables_of (state S.Store conn.new)) (λ k. IfOk result (λ rows. ShowsDeposit (option_map (λ d. record { id = n; deposit = d }) (numbered k.deposits n)) rows.items)) }
+    ensures lost { WasSure (tables_of (state S.Store conn.old)) (tables_of (state S.Store conn.new)) }
+    ensures lasts { StaysSure (tables_of (state S.Store conn.old)) (tables_of (state S.Store conn.new)) }
+    ensures keeps { HoldsTheSame (tables_of (state S.Store conn.old)) (tables_of (state S.Store conn.new)) }
+    ensures tells { (n : ℕ) → id ≡ pos n → ForAllHeld (tables_of (state S.Store conn.old)) (tables_of (state S.Store conn.new)) (λ k. IfOk result (λ rows. ShowsDeposit (option_map (λ d. record { id = n; deposit = d }) (numbered k.deposits n)) rows.items)) }
 {
     ask(
         conn,
@@ -49,10 +49,10 @@ pub(crate) fn find<'a, S: Alter>(
     member: &'a [u8],
     token: &'a [u8],
 ) -> Result<Vec<Row>, Error>
-    ensures lost { StaysLost (tables_of (state S.Store conn.old)) (tables_of (state S.Store conn.new)) }
-    ensures lasts { Lasts (tables_of (state S.Store conn.old)) (tables_of (state S.Store conn.new)) }
-    ensures keeps { Keeps (tables_of (state S.Store conn.old)) (tables_of (state S.Store conn.new)) }
-    ensures tells { Tells (tables_of (state S.Store conn.old)) (tables_of (state S.Store conn.new)) (λ k. IfOk result (λ rows. ShowsDeposit (deposit_by member.now token.now k.deposits) rows.items)) }
+    ensures lost { WasSure (tables_of (state S.Store conn.old)) (tables_of (state S.Store conn.new)) }
+    ensures lasts { StaysSure (tables_of (state S.Store conn.old)) (tables_of (state S.Store conn.new)) }
+    ensures keeps { HoldsTheSame (tables_of (state S.Store conn.old)) (tables_of (state S.Store conn.new)) }
+    ensures tells { ForAllHeld (tables_of (state S.Store conn.old)) (tables_of (state S.Store conn.new)) (λ k. IfOk result (λ rows. ShowsDeposit (deposit_by member.now token.now k.deposits) rows.items)) }
 {
     ask(
         conn,
@@ -63,10 +63,10 @@ pub(crate) fn find<'a, S: Alter>(
 
 /// The first hundred deposits with a greater number.
 pub(crate) fn list_after<S: Alter>(conn: &mut Connection<S>, id: i64) -> Result<Vec<Row>, Error>
-    ensures lost { StaysLost (tables_of (state S.Store conn.old)) (tables_of (state S.Store conn.new)) }
-    ensures lasts { Lasts (tables_of (state S.Store conn.old)) (tables_of (state S.Store conn.new)) }
-    ensures keeps { Keeps (tables_of (state S.Store conn.old)) (tables_of (state S.Store conn.new)) }
-    ensures tells { (n : ℕ) → id ≡ pos n → Tells (tables_of (state S.Store conn.old)) (tables_of (state S.Store conn.new)) (λ k. IfOk result (λ rows. rows.items ≡ map line_shown (lines_after n k.deposits))) }
+    ensures lost { WasSure (tables_of (state S.Store conn.old)) (tables_of (state S.Store conn.new)) }
+    ensures lasts { StaysSure (tables_of (state S.Store conn.old)) (tables_of (state S.Store conn.new)) }
+    ensures keeps { HoldsTheSame (tables_of (state S.Store conn.old)) (tables_of (state S.Store conn.new)) }
+    ensures tells { (n : ℕ) → id ≡ pos n → ForAllHeld (tables_of (state S.Store conn.old)) (tables_of (state S.Store conn.new)) (λ k. IfOk result (λ rows. rows.items ≡ map line_shown (lines_after n k.deposits))) }
 {
     ask(
         conn,
@@ -110,10 +110,10 @@ fn insert<S: Alter>(
     file: &[u8],
 ) -> Result<usize, Error>
     requires { AreValuesOf deposit.now rule.now population file.now }
-    ensures lost { StaysLost (tables_of (state S.Store conn.old)) (tables_of (state S.Store conn.new)) }
-    ensures lasts { Lasts (tables_of (state S.Store conn.old)) (tables_of (state S.Store conn.new)) }
+    ensures lost { WasSure (tables_of (state S.Store conn.old)) (tables_of (state S.Store conn.new)) }
+    ensures lasts { StaysSure (tables_of (state S.Store conn.old)) (tables_of (state S.Store conn.new)) }
     ensures ok { OnOk result ((k : Kept) → IsTrue (tables_of (state S.Store conn.new)).is_sure → Holds (tables_of (state S.Store conn.old)) k → id ≡ pos (length k.deposits + 1) → Holds (tables_of (state S.Store conn.new)) (record k { deposits = k.deposits ++ deposit.now ∷ [] })) }
-    ensures err { OnErr result (Keeps (tables_of (state S.Store conn.old)) (tables_of (state S.Store conn.new))) }
+    ensures err { OnErr result (HoldsTheSame (tables_of (state S.Store conn.old)) (tables_of (state S.Store conn.new))) }
 {
     write(
         conn,
@@ -137,10 +137,10 @@ pub(crate) fn add<S: Alter>(
     deposit: &Deposit,
 ) -> Result<(), Unavailable>
     requires { IsInside 1024 deposit.now.content.cells }
-    ensures lost { StaysLost (tables_of (state S.Store conn.old)) (tables_of (state S.Store conn.new)) }
-    ensures lasts { Lasts (tables_of (state S.Store conn.old)) (tables_of (state S.Store conn.new)) }
+    ensures lost { WasSure (tables_of (state S.Store conn.old)) (tables_of (state S.Store conn.new)) }
+    ensures lasts { StaysSure (tables_of (state S.Store conn.old)) (tables_of (state S.Store conn.new)) }
     ensures ok { OnOk result ((k : Kept) → IsTrue (tables_of (state S.Store conn.new)).is_sure → Holds (tables_of (state S.Store conn.old)) k → id ≡ pos (length k.deposits + 1) → Holds (tables_of (state S.Store conn.new)) (record k { deposits = k.deposits ++ deposit.now ∷ [] })) }
-    ensures err { OnErr result (Keeps (tables_of (state S.Store conn.old)) (tables_of (state S.Store conn.new))) }
+    ensures err { OnErr result (HoldsTheSame (tables_of (state S.Store conn.old)) (tables_of (state S.Store conn.new))) }
 {
     let values = values_of(alloc, deposit)?;
     match insert(

@@ -4,10 +4,10 @@ ghost use Rattle.std.specs.Prelude.{◌≡◌, ◌≤◌, ◌+◌, ℕ, pos, len
 ghost use Rattle.sqlite_trees.specs.View.{doubt};
 ghost use Rattle.sqlite.specs.State.{HasCleanDisk, KeepsCommit};
 ghost use Rattle.sqlite.specs.Held.{state};
-ghost use Rattle.life_store.specs.CensusesState.{Parts, Stands, with_flag};
+ghost use Rattle.life_store.specs.CensusesState.{Parts, HoldsParts, with_flag};
 ghost use Rattle.life_store.specs.Kept.{Tallied, numbered};
 ghost use Rattle.life_store.specs.ReadingState.{ShowsFlag};
-ghost use Rattle.life_store.specs.Tables.{tables_of, StaysLost, Lasts, Keeps, Tells};
+ghost use Rattle.life_store.specs.Tables.{tables_of, WasSure, StaysSure, HoldsTheSame, ForAllHeld};
 
 use crate::asking::{ask, flag, whole};
 use crate::fault::Unavailable;
@@ -15,10 +15,10 @@ use sqlite::{Alter, Connection, Error, Row, Transaction};
 
 /// The flag of the census of the number.
 pub(crate) fn show<S: Alter>(conn: &mut Connection<S>, id: i64) -> Result<Vec<Row>, Error>
-    ensures lost { StaysLost (tables_of (state S.Store conn.old)) (tables_of (state S.Store conn.new)) }
-    ensures lasts { Lasts (tables_of (state S.Store conn.old)) (tables_of (state S.Store conn.new)) }
-    ensures keeps { Keeps (tables_of (state S.Store conn.old)) (tables_of (state S.Store conn.new)) }
-    ensures tells { (n : ℕ) → id ≡ pos n → Tells (tables_of (state S.Store conn.old)) (tables_of (state S.Store conn.new)) (λ k. IfOk result (λ rows. ShowsFlag (option_map (λ t. t.steady) (numbered k.censuses n)) rows.items)) }
+    ensures lost { WasSure (tables_of (state S.Store conn.old)) (tables_of (state S.Store conn.new)) }
+    ensures lasts { StaysSure (tables_of (state S.Store conn.old)) (tables_of (state S.Store conn.new)) }
+    ensures keeps { HoldsTheSame (tables_of (state S.Store conn.old)) (tables_of (state S.Store conn.new)) }
+    ensures tells { (n : ℕ) → id ≡ pos n → ForAllHeld (tables_of (state S.Store conn.old)) (tables_of (state S.Store conn.new)) (λ k. IfOk result (λ rows. ShowsFlag (option_map (λ t. t.steady) (numbered k.censuses n)) rows.items)) }
 {
     ask(
         conn,
@@ -35,11 +35,11 @@ pub(crate) fn insert<S: Alter>(
 ) -> Result<(), Unavailable>
     ensures same_reference { tx.new.conn.ghost_name ≡ tx.old.conn.ghost_name }
     ensures added { HasCleanDisk (state S.Store tx.new.conn.now) → IsTrue tx.old.conn.now.in_transaction
-        → (p : Parts) (t : Tallied) → Stands (state S.Store tx.old.conn.now).now p → t.steady ≡ steady → id ≡ length p.flagged + 1 → OnOk result (IsTrue tx.new.conn.now.in_transaction × Stands (state S.Store tx.new.conn.now).now (with_flag t p)) }
+        → (p : Parts) (t : Tallied) → HoldsParts (state S.Store tx.old.conn.now).now p → t.steady ≡ steady → id ≡ length p.flagged + 1 → OnOk result (IsTrue tx.new.conn.now.in_transaction × HoldsParts (state S.Store tx.new.conn.now).now (with_flag t p)) }
     ensures inside { HasCleanDisk (state S.Store tx.new.conn.now) → IsTrue tx.old.conn.now.in_transaction → OnOk result (IsTrue tx.new.conn.now.in_transaction) }
     ensures kept { HasCleanDisk (state S.Store tx.new.conn.now) → IsTrue tx.old.conn.now.in_transaction → KeepsCommit (state S.Store tx.old.conn.now) (state S.Store tx.new.conn.now) }
     ensures clean { doubt (state S.Store tx.old.conn.now).is_clean ≤ doubt (state S.Store tx.new.conn.now).is_clean }
-    ensures lasts { Lasts (tables_of (state S.Store tx.old.conn.now)) (tables_of (state S.Store tx.new.conn.now)) }
+    ensures lasts { StaysSure (tables_of (state S.Store tx.old.conn.now)) (tables_of (state S.Store tx.new.conn.now)) }
 {
     let Ok(id) = i64::try_from(id) else {
         return Err(Unavailable);

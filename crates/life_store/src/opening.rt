@@ -19,7 +19,7 @@ ghost use Rattle.life_store.specs.LayingState.{IsLaid};
 ghost use Rattle.life_store.specs.Layout.{no_schema};
 ghost use Rattle.life_store.specs.Opening.{is_capacity, nothing_kept, without_log, IsLayout, FilesHaveVersions, FilesHold, FilesHoldFirst, ListNothing};
 ghost use Rattle.life_store.specs.OpeningState.{HaveVersions, has_table, has_view, has_name, has_some, column_of, version_shown, version_with, rows_of_version, schema_of};
-ghost use Rattle.life_store.specs.Tables.{tables_of, Holds, Keeps};
+ghost use Rattle.life_store.specs.Tables.{tables_of, Holds, HoldsTheSame};
 
 use crate::archive::Archive;
 use crate::asking::ask;
@@ -159,7 +159,7 @@ fn version_of<S: Alter>(conn: &mut Connection<S>) -> Result<Version, OpenFault>
 
 /// Sees that the tables, some of which stand, are those of an archive, and carries those of layout 1 over.
 fn take_up<S: Alter>(alloc: Global, conn: &mut Connection<S>) -> Result<(), OpenFault>
-    ensures keeps { OnOk result (Keeps (tables_of (state S.Store conn.old)) (tables_of (state S.Store conn.new))) }
+    ensures keeps { OnOk result (HoldsTheSame (tables_of (state S.Store conn.old)) (tables_of (state S.Store conn.new))) }
     ensures carries { OnOk result (Carries (tables_of (state S.Store conn.old)) (tables_of (state S.Store conn.new))) }
     ensures known { OnOk result ((schema : SchemaValue) (own versions : List Value) → IsLayout schema own → IsTrue (tables_of (state S.Store conn.new)).is_sure → HaveVersions schema (tables_of (state S.Store conn.old)) versions → versions ≡ own) }
     ensures ours { (schema : SchemaValue) (own : List Value) → IsLayout schema own → IsTrue (tables_of (state S.Store conn.new)).is_sure → HaveVersions schema (tables_of (state S.Store conn.old)) own → result ≢ Err OpenFault.NotOurs }
@@ -178,7 +178,7 @@ fn take_up<S: Alter>(alloc: Global, conn: &mut Connection<S>) -> Result<(), Open
 
 /// Sees that the tables are those of an archive; where none of them stands, makes them.
 fn prepare<S: Alter>(alloc: Global, conn: &mut Connection<S>) -> Result<(), OpenFault>
-    ensures keeps { OnOk result (Keeps (tables_of (state S.Store conn.old)) (tables_of (state S.Store conn.new))) }
+    ensures keeps { OnOk result (HoldsTheSame (tables_of (state S.Store conn.old)) (tables_of (state S.Store conn.new))) }
     ensures carries { OnOk result (Carries (tables_of (state S.Store conn.old)) (tables_of (state S.Store conn.new))) }
     ensures fresh { HasCleanDisk (state S.Store conn.new) → IsLaid no_schema [] (state S.Store conn.old).now → OnOk result (IsTrue (tables_of (state S.Store conn.new)).is_sure × Holds (tables_of (state S.Store conn.new)) nothing_kept) }
     ensures known { OnOk result ((schema : SchemaValue) (own versions : List Value) → IsLayout schema own → IsTrue (tables_of (state S.Store conn.new)).is_sure → HaveVersions schema (tables_of (state S.Store conn.old)) versions → versions ≡ own) }

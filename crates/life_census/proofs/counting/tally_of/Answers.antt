@@ -7,7 +7,7 @@ use Rattle.life_core.specs.Pattern.{Cells, IsWithin}
 use Rattle.life_code.specs.Codes.{code_of}
 use Rattle.life_census.specs.declared.rows.Row.{Row}
 use Rattle.life_census.specs.Rows.{row_seen}
-use Rattle.life_census.specs.Counting.{counts_of}
+use Rattle.life_census.specs.Counting.{occurrences_of}
 use Rattle.life_census.specs.CountingState.{one_more}
 use Rattle.life_census.proofs.CountingLaws.{counts_none}
 use Rattle.life_census.proofs.CountingSteps.{with_code, without_code, resolved, unresolved}
@@ -97,7 +97,7 @@ returns g c =
     let code : Cells → Option (List ℕ) = λ P. code_of c.args.rule.now P c.args.limit in
     let whole = take_all c.loop-cluster.cluster-index c.args.clusters.now c.loop-cluster-test.false in
     record {
-      rows = c.of.ensures ∙ c.loop-cluster.invariant.rows ∙ ap (λ Ps. counts_of (filter_map code Ps)) whole;
+      rows = c.of.ensures ∙ c.loop-cluster.invariant.rows ∙ ap (λ Ps. occurrences_of (filter_map code Ps)) whole;
       unresolved = c.loop-cluster.invariant.unresolved ∙ ap (λ Ps. count_by (λ P. is_none (code P)) Ps) whole;
       total = refl;
     }

@@ -1,7 +1,7 @@
 use Rattle.std.proofs.Common.{take}
 use Rattle.std.specs.List.{All}
 use Rattle.life_census.specs.Steady.{Stays}
-use Rattle.life_census.specs.SteadyState.{IsShape, AreVisits, IsInside}
+use Rattle.life_census.specs.SteadyState.{IsShape, AreVisits, IsVisitInPlane}
 use Rattle.life_census.proofs.meeting.all_visits.Given as goal
 
 abbrev pub invariant-loop-number : goal.invariant-loop-number
@@ -9,5 +9,5 @@ invariant-loop-number g l = record {
   shapes : All (IsShape l.rule l.limit) l.shapes.items;
   stay : All (Stays l.rule l.limit) (take l.number l.clusters);
   visits : AreVisits l.rule l.clusters l.number l.visits.items;
-  inside : All IsInside l.visits.items;
+  inside : All IsVisitInPlane l.visits.items;
 }

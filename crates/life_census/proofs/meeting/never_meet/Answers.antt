@@ -3,7 +3,7 @@ use Rattle.std.proofs.lemmas.Result.{IfOk-from_err}
 use Rattle.std.proofs.lemmas.List.Elements.{All-same}
 use Rattle.std.proofs.lemmas.List.Sorted.{All-permutation}
 use Rattle.std.specs.List.Sorted.{IsSorted, IsPermutation}
-use Rattle.life_census.specs.SteadyState.{visit_cmp, IsInside}
+use Rattle.life_census.specs.SteadyState.{visit_cmp, IsVisitInPlane}
 use Rattle.life_census.proofs.SteadyLemmas.{not_steady, steady_if_apart}
 use Rattle.life_census.proofs.meeting.never_meet.Goals as goal
 
@@ -30,7 +30,7 @@ are_apart-requires-clause-sorted g c = subst (IsSorted visit_cmp) (sym c.deref.e
 pub are_apart-requires-clause-inside : goal.are_apart-requires-clause-inside
 are_apart-requires-clause-inside g c =
     let inside = rw c.in-Some.is at c.in_ok-visits.ensures.inside in
-    All-same IsInside _ _ c.deref.ensures.value (All-permutation IsInside _ _ c.sort_unstable.ensures.permutation inside)
+    All-same IsVisitInPlane _ _ c.deref.ensures.value (All-permutation IsVisitInPlane _ _ c.sort_unstable.ensures.permutation inside)
 
 pub returns : goal.returns
 returns g c X parts =

@@ -2,7 +2,7 @@ use Rattle.std.proofs.Common.{rules, arith}
 use Rattle.std.specs.Prelude.{IsTrue}
 use Rattle.sqlite.specs.State.{HasCleanDisk}
 use Rattle.sqlite.specs.Held.{state}
-use Rattle.life_store.specs.CarryingState.{StandsFirst, IsCarried}
+use Rattle.life_store.specs.CarryingState.{HoldsFirstParts, IsCarried}
 use Rattle.life_store.proofs.CarryLemmas.{carried_committed}
 use Rattle.life_store.proofs.carrying.carry_at_once.Goals as goal
 
@@ -15,7 +15,7 @@ returns-in-Ok-commit-clause-carried g c clean p filed first named =
     let clean_2 : HasCleanDisk last = omega (arith, c.commit.ensures.survives.clean, clean_3) in
     let inside : IsTrue c.transaction-tx.result.conn.now.in_transaction = search (rules, begun) in
     let shows = (c.in-Ok-commit.ensures.ok clean_3).1 in
-    let stands : StandsFirst start.now p = search (rules, begun, first) in
+    let stands : HoldsFirstParts start.now p = search (rules, begun, first) in
     let it : IsCarried p last.now = c.in-Ok.ensures.carried clean_2 inside p filed stands named in
     let done = carried_committed last (state g.S.Store c.commit.new.self.0) p shows it in
     search (rules, done)

@@ -2,8 +2,8 @@ use Rattle.std.proofs.Common.{rules, arith}
 use Rattle.std.specs.Prelude.{IsTrue}
 use Rattle.sqlite.specs.State.{HasCleanDisk}
 use Rattle.sqlite.specs.Held.{state}
-use Rattle.life_store.specs.CensusesState.{Stands, with_census, with_flag}
-use Rattle.life_store.specs.Tables.{tables_of, Lasts}
+use Rattle.life_store.specs.CensusesState.{HoldsParts, with_census, with_flag}
+use Rattle.life_store.specs.Tables.{tables_of, StaysSure}
 use Rattle.life_store.proofs.CensusLemmas.{committed}
 use Rattle.life_store.proofs.LastingLemmas.{lasts_begun, lasts_then, lasts_by}
 use Rattle.life_store.proofs.censuses.insert_all.Goals as goal
@@ -21,8 +21,8 @@ returns-in-Ok-commit-clause-added g c clean p t made means is is_flag up =
     let up_1 : IsTrue first.is_open = (c.insert_with_flag.ensures.kept clean_2 inside).was_open shows.was_open in
     let up_0 : IsTrue (state g.S.Store c.args.conn.now).is_open = search (rules, begun, up_1) in
     let stands_0 = (means up_0).stands in
-    let stands_1 : Stands first.now p = search (rules, begun, stands_0) in
-    let stands_2 : Stands last.now more = (c.in-Ok.ensures.added clean_2 inside p t made stands_1 is is_flag).1 in
+    let stands_1 : HoldsParts first.now p = search (rules, begun, stands_0) in
+    let stands_2 : HoldsParts last.now more = (c.in-Ok.ensures.added clean_2 inside p t made stands_1 is is_flag).1 in
     let done = committed last (state g.S.Store c.commit.new.self.0) more shows stands_2 in
     search (rules, done)
 
@@ -30,19 +30,19 @@ pub returns-in-Ok-commit-clause-lasts : goal.returns-in-Ok-commit-clause-lasts
 returns-in-Ok-commit-clause-lasts g c =
     let begun = lasts_begun g.S.Store c.args.conn.now c.transaction-tx.result.conn.now c.transaction-tx.ensures.begun in
     let ended = lasts_by (state g.S.Store c.insert_with_flag.new.tx.conn.now) (state g.S.Store c.commit.new.self.0) _ c.commit.ensures.survives in
-    let done : Lasts (tables_of (state g.S.Store c.args.conn.now)) (tables_of (state g.S.Store c.commit.new.self.0)) = lasts_then _ _ _ begun (lasts_then _ _ _ c.insert_with_flag.ensures.lasts ended) in
+    let done : StaysSure (tables_of (state g.S.Store c.args.conn.now)) (tables_of (state g.S.Store c.commit.new.self.0)) = lasts_then _ _ _ begun (lasts_then _ _ _ c.insert_with_flag.ensures.lasts ended) in
     search (rules, done)
 
 pub returns-in-Err-commit-clause-lasts : goal.returns-in-Err-commit-clause-lasts
 returns-in-Err-commit-clause-lasts g c =
     let begun = lasts_begun g.S.Store c.args.conn.now c.transaction-tx.result.conn.now c.transaction-tx.ensures.begun in
     let ended = lasts_by (state g.S.Store c.insert_with_flag.new.tx.conn.now) (state g.S.Store c.commit.new.self.0) _ c.commit.ensures.survives in
-    let done : Lasts (tables_of (state g.S.Store c.args.conn.now)) (tables_of (state g.S.Store c.commit.new.self.0)) = lasts_then _ _ _ begun (lasts_then _ _ _ c.insert_with_flag.ensures.lasts ended) in
+    let done : StaysSure (tables_of (state g.S.Store c.args.conn.now)) (tables_of (state g.S.Store c.commit.new.self.0)) = lasts_then _ _ _ begun (lasts_then _ _ _ c.insert_with_flag.ensures.lasts ended) in
     search (rules, done)
 
 pub returns-in-Err-clause-lasts : goal.returns-in-Err-clause-lasts
 returns-in-Err-clause-lasts g c =
     let begun = lasts_begun g.S.Store c.args.conn.now c.transaction-tx.result.conn.now c.transaction-tx.ensures.begun in
     let ended = lasts_by (state g.S.Store c.insert_with_flag.new.tx.conn.now) (state g.S.Store c.drop-tx.new.self.0) _ c.drop-tx.ensures.survives in
-    let done : Lasts (tables_of (state g.S.Store c.args.conn.now)) (tables_of (state g.S.Store c.drop-tx.new.self.0)) = lasts_then _ _ _ begun (lasts_then _ _ _ c.insert_with_flag.ensures.lasts ended) in
+    let done : StaysSure (tables_of (state g.S.Store c.args.conn.now)) (tables_of (state g.S.Store c.drop-tx.new.self.0)) = lasts_then _ _ _ begun (lasts_then _ _ _ c.insert_with_flag.ensures.lasts ended) in
     search (rules, done)

@@ -2,7 +2,7 @@ use Rattle.std.proofs.Common.{arith, sym, subst, ap}
 use Rattle.sqlite.specs.State.{HasCleanDisk}
 use Rattle.sqlite.specs.Held.{state}
 use Rattle.life_store.specs.Kept.{Tallied}
-use Rattle.life_store.specs.CensusesState.{Stands, with_census}
+use Rattle.life_store.specs.CensusesState.{HoldsParts, with_census}
 use Rattle.life_store.proofs.CensusLemmas.{keeps_then}
 use Rattle.life_store.proofs.LastingLemmas.{lasts_then}
 use Rattle.life_store.proofs.censuses.insert_with_flag.Goals as goal
@@ -13,8 +13,8 @@ returns-clause-added g c clean inside p t made stands is is_flag =
     let middle = state g.S.Store c.insert_with_rows.new.tx.conn.now in
     let clean_2 : HasCleanDisk middle = omega (arith, c.insert.ensures.clean, clean) in
     let inside_2 = c.in_ok-insert_with_rows.ensures.inside clean_2 inside in
-    let stands_2 : Stands middle.now (with_census c.args.id given p) = (c.in_ok-insert_with_rows.ensures.added clean_2 inside p c.args.steady stands is).1 in
-    let stands_3 : Stands middle.now (with_census c.args.id t p) = subst (λ (x : Tallied). Stands middle.now (with_census c.args.id x p)) (sym made) stands_2 in
+    let stands_2 : HoldsParts middle.now (with_census c.args.id given p) = (c.in_ok-insert_with_rows.ensures.added clean_2 inside p c.args.steady stands is).1 in
+    let stands_3 : HoldsParts middle.now (with_census c.args.id t p) = subst (λ (x : Tallied). HoldsParts middle.now (with_census c.args.id x p)) (sym made) stands_2 in
     c.insert.ensures.added clean inside_2 (with_census c.args.id t p) t stands_3 (ap (λ (x : Tallied). x.steady) made) is_flag
 
 pub returns-clause-kept : goal.returns-clause-kept

@@ -2,7 +2,7 @@ use Rattle.std.proofs.Common.{◌++◌, ◌∷◌, [], arith}
 use Rattle.sqlite.specs.State.{HasCleanDisk}
 use Rattle.sqlite.specs.Held.{state}
 use Rattle.life_store.specs.Kept.{Tallied}
-use Rattle.life_store.specs.CensusesState.{Stands}
+use Rattle.life_store.specs.CensusesState.{HoldsParts}
 use Rattle.life_store.proofs.CensusLemmas.{keeps_then}
 use Rattle.life_store.proofs.LastingLemmas.{lasts_then}
 use Rattle.life_store.proofs.censuses.insert_with_rows.Goals as goal
@@ -13,7 +13,7 @@ returns-clause-added g c clean inside p steady stands is =
     let middle = state g.S.Store c.insert_census.new.tx.conn.now in
     let clean_2 : HasCleanDisk middle = omega (arith, c.insert_tally.ensures.clean, clean) in
     let inside_2 = c.in_ok-insert_census.ensures.inside clean_2 inside in
-    let stands_2 : Stands middle.now (record p { censuses = p.censuses ++ t ∷ [] }) = (c.in_ok-insert_census.ensures.added clean_2 inside p steady stands is).1 in
+    let stands_2 : HoldsParts middle.now (record p { censuses = p.censuses ++ t ∷ [] }) = (c.in_ok-insert_census.ensures.added clean_2 inside p steady stands is).1 in
     c.insert_tally.ensures.added clean inside_2 (record p { censuses = p.censuses ++ t ∷ [] }) stands_2
 
 pub returns-clause-kept : goal.returns-clause-kept

@@ -1,6 +1,7 @@
 -- What `deposit` does to an archive, and what it puts.
 use Rattle.std.specs.Prelude.{◌≡◌, ◌⊎◌, ◌++◌, ℕ, List, [], ◌∷◌, codes, take, Option, None, Some, Result, Ok, Err}
 use Rattle.std.specs.Fmt.{decimal}
+use Rattle.sqlite_trees.specs.declared.store.Store.{Ghosts}
 use Rattle.life_rle.specs.Stream.{Gains, GainsSome}
 use Rattle.life_store.specs.Tables.{ArchiveView}
 use Rattle.life_desk.specs.declared.refusal.Refusal.{Refusal}
@@ -43,11 +44,11 @@ by_streams (Err (Job stop)) = Err stop
 by_streams (Err stop) = Err Unavailable
 
 -- the archive was asked once, to keep the file under the member and the token, and its reply was put
-pub record AsksOnce (old new : ArchiveView) (member token : List ℕ) (told before after : Option (List ℕ)) (answer : Result (Unit {0}) ArchiveStop) : Type 0 where
+pub record AsksOnce {S : Type 0} (g : Ghosts S) (old new : ArchiveView S) (member token : List ℕ) (told before after : Option (List ℕ)) (answer : Result (Unit {0}) ArchiveStop) : Type 0 where
   pub file : List ℕ
   pub reply : Reply
   pub taken : IsTaken told file
-  pub answered : Answered old new (ask.Deposit member token file ∷ []) (reply ∷ [])
+  pub answered : Answered g old new (ask.Deposit member token file ∷ []) (reply ∷ [])
   pub puts : PutsReply reply before after answer
 
 -- the stop comes of the input or of memory, before the archive is asked
@@ -57,6 +58,6 @@ IsUnasked (Err (Job Unavailable)) = Unit {0}
 IsUnasked answer = ⊥
 
 -- what `deposit` answers and does: it stops before the archive is asked, which stays as it is, or asks it once
-abbrev pub Deposits : ArchiveView → ArchiveView → List ℕ → List ℕ → Option (List ℕ) → Option (List ℕ) → Option (List ℕ) → Result (Unit {0}) ArchiveStop → Type 0
-Deposits old new member token told before after answer =
-    (IsUnasked answer × (new ≡ old)) ⊎ AsksOnce old new member token told before after answer
+abbrev pub Deposits : {S : Type 0} → Ghosts S → ArchiveView S → ArchiveView S → List ℕ → List ℕ → Option (List ℕ) → Option (List ℕ) → Option (List ℕ) → Result (Unit {0}) ArchiveStop → Type 0
+Deposits g old new member token told before after answer =
+    (IsUnasked answer × (new ≡ old)) ⊎ AsksOnce g old new member token told before after answer

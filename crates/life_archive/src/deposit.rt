@@ -120,7 +120,7 @@ fn put_reply<O: Outlet>(output: &mut O, reply: Reply) -> Result<(), ArchiveStop>
 
 /// What the archive replies to the request.
 fn reply_of<S: Alter>(alloc: Global, archive: &mut Archive<S>, request: Request) -> Reply
-    ensures { Answered archive.old archive.new (request ∷ []) (result ∷ []) }
+    ensures { Answered S.Store archive.old archive.new (request ∷ []) (result ∷ []) }
 {
     answer(archive, alloc, request)
 }
@@ -136,7 +136,7 @@ pub fn run_deposit<S: Alter, I: Inlet, O: Outlet>(
     output: &mut O,
 ) -> Result<(), ArchiveStop>
     // The archive is as it was, or was asked once, and its answer is told: where it was asked, it was for the file that came in.
-    ensures deposits { Deposits archive.old archive.new member.now token.now (I.to_come input.old) (O.already output.old) (O.already output.new) result }
+    ensures deposits { Deposits S.Store archive.old archive.new member.now token.now (I.to_come input.old) (O.already output.old) (O.already output.new) result }
     ensures takes { TakesFile (I.to_come input.old) (I.to_come input.new) (I.failures input.old) (I.failures input.new) (by_streams result) }
     ensures once { PutsOnce output.old output.new (O.failures output.old) (O.failures output.new) (by_streams result) }
 {

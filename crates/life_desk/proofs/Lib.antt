@@ -8,4 +8,5 @@ pub mod Steps
 pub mod Totals
 pub mod OneReply
 pub mod Looks
+pub mod Crashes
 pub mod Telling

@@ -19,10 +19,10 @@ use Rattle.life_desk.specs.Replies.{Repeats, Refuses, deposit_by_token, deposit_
 -- ---- deposits
 
 -- the reply and the archive, by what is kept under the token
-abbrev pub Leaves : Archive → ArchiveView → Deposit → Option FoundDeposit → Reply → Type 0
+abbrev pub Leaves : {S : Type 0} → Archive → ArchiveView S → Deposit → Option FoundDeposit → Reply → Type 0
 Leaves A new d o r = (r ≡ deposit_reply A (deposit_by_token A d o)) × Means new (with_deposit A (deposit_by_token A d o))
 
-again_if : (A : Archive) (new : ArchiveView) (id : ℕ) (same : Bool) (r : Reply) → r ≡ (if same then says.Deposited id else says.Refused no.TokenReused) → Means new A
+again_if : {S : Type 0} (A : Archive) (new : ArchiveView S) (id : ℕ) (same : Bool) (r : Reply) → r ≡ (if same then says.Deposited id else says.Refused no.TokenReused) → Means new A
     → (r ≡ deposit_reply A (if same then Repeats id else Refuses no.TokenReused)) × Means new (with_deposit A (if same then Repeats id else Refuses no.TokenReused))
 again_if A new id true r is m = (is, m)
 again_if A new id false r is m = (is, m)
@@ -31,12 +31,12 @@ pub kept_by : (A : Archive) (d : Deposit) (found : Option FoundDeposit) (member 
     → found ≡ deposit_by d.member d.token A.deposits
 kept_by A d found member token one other is = is ∙ ap (λ w. deposit_by w token A.deposits) one ∙ ap (λ w. deposit_by d.member w A.deposits) other
 
-pub deposit_again : (A : Archive) (new : ArchiveView) (d : Deposit) (found o : Option FoundDeposit) (f : FoundDeposit) (r : Reply) → found ≡ Some f → found ≡ o
+pub deposit_again : {S : Type 0} (A : Archive) (new : ArchiveView S) (d : Deposit) (found o : Option FoundDeposit) (f : FoundDeposit) (r : Reply) → found ≡ Some f → found ≡ o
     → r ≡ (if same_contents f.deposit.content d.content then says.Deposited f.id else says.Refused no.TokenReused) → Means new A → Leaves A new d o r
 deposit_again A new d found o f r is tells told m =
     subst (λ o. Leaves A new d o r) (sym is ∙ tells) (again_if A new f.id (same_contents f.deposit.content d.content) r told m)
 
-pub deposit_new : {E : Type 0} → (A : Archive) (new : ArchiveView) (d : Deposit) (found o : Option FoundDeposit) (r : Result Reply E) → found ≡ None → found ≡ o
+pub deposit_new : {E S : Type 0} → (A : Archive) (new : ArchiveView S) (d : Deposit) (found o : Option FoundDeposit) (r : Result Reply E) → found ≡ None → found ≡ o
     → MatchResult r (λ x. Leaves A new d None x) (λ _. Means new A) → MatchResult r (λ x. Leaves A new d o x) (λ _. Means new A)
 deposit_new A new d found o r is tells done = subst (λ o. MatchResult r (λ x. Leaves A new d o x) (λ _. Means new A)) (sym is ∙ tells) done
 

@@ -1,19 +1,21 @@
 -- What stays of a meaning as an archive grows, and what its tables tell.
-use Rattle.std.proofs.Common.{◌≡◌, nat_lt, ℕ, zero, suc, List, [], ◌∷◌, ◌++◌, ◌+◌, length, Option, None, Some, option_map, Result, Ok, Err, OnOk, OnErr, map, sum_by, IsTrue, IsSome, IfSome, Bool, false, if◌then◌else◌, refl, sym, ◌∙◌, ap, subst, true}
+use Rattle.std.proofs.Common.{◌≡◌, nat_lt, ℕ, zero, suc, List, [], ◌∷◌, ◌++◌, ◌+◌, length, Option, None, Some, option_map, Result, Ok, Err, OnOk, OnErr, map, sum_by, IsTrue, IsSome, Bool, false, if◌then◌else◌, refl, sym, ◌∙◌, ap, subst, true}
 use Rattle.std.specs.List.{slice_get}
 use Rattle.std.proofs.lemmas.Option.{slice_get-map}
 use Rattle.std.proofs.lemmas.List.Sums.{sum_by-cons}
 use Rattle.life_core.specs.Rule.{RuleSets}
+use Rattle.sqlite_trees.specs.declared.store.Store.{Ghosts}
+use Rattle.sqlite_trees.specs.Tree.{Trees}
 use Rattle.life_store.specs.declared.kept.Deposit.{Deposit}
 use Rattle.life_store.specs.declared.kept.Census.{Census}
 use Rattle.life_store.specs.Kept.{numbered, share, total_of}
-use Rattle.life_store.specs.Tables.{ArchiveView, Holds, IsTransition, HoldsTheSame, AddsDeposit, AddsCensus}
+use Rattle.life_store.specs.Tables.{ArchiveView, Holds, TreesHold, HoldChanged, IsTransition, HoldsTheSame, AddsDeposit, AddsCensus}
 use Rattle.life_desk.specs.Archive.{Archive, census_from, tally_at, tally_for, steady_at, steady_for, clusters_in, clusters_with}
 use Rattle.life_census.specs.Rows.{Counts}
-use Rattle.life_store.specs.declared.kept.KeptCensus.{KeptCensus}
 use Rattle.life_store.specs.declared.kept.FoundCensus.{FoundCensus}
-use Rattle.life_store.specs.Kept.{Tallied, tallied_from, found_census, is_census_of, kept_census}
+use Rattle.life_store.specs.Kept.{Tallied, tallied_from, found_census, is_census_of}
 use Rattle.life_desk.specs.Means.{Means, NewIsEmpty, EachHasDeposit, tallied, kept_of}
+use Rattle.life_desk.specs.DeskState.{MeanChanged, MeanChangedWhere}
 use Rattle.life_desk.specs.LookingState.{ForAllMeant, MeansTheSame}
 
 slice_get_longer : {X : Type 0} → (xs ys : List X) (i : ℕ) → IsSome (slice_get xs i) → slice_get (xs ++ ys) i ≡ slice_get xs i
@@ -38,25 +40,25 @@ tallied_longer ds d (c ∷ cs) each =
     cc
 
 -- what the tables hold, and how many they may
-pub holds_of : (t : ArchiveView) (A : Archive) → Means t A → Holds t.tables (kept_of A)
+pub holds_of : {S : Type 0} (t : ArchiveView S) (A : Archive) → Means t A → Holds t.tables (kept_of A)
 unfolding Means
 holds_of t A m = m.holds
 
-pub capacity_of : (t : ArchiveView) (A : Archive) → Means t A → t.capacity ≡ A.capacity
+pub capacity_of : {S : Type 0} (t : ArchiveView S) (A : Archive) → Means t A → t.capacity ≡ A.capacity
 unfolding Means
 capacity_of t A m = m.capacity
 
-pub each_of : (t : ArchiveView) (A : Archive) → Means t A → EachHasDeposit A.deposits A.censuses
+pub each_of : {S : Type 0} (t : ArchiveView S) (A : Archive) → Means t A → EachHasDeposit A.deposits A.censuses
 unfolding Means
 each_of t A m = m.each
 
 -- nothing changed
-pub means_same : (old new : ArchiveView) (A : Archive) → IsTransition old new → HoldsTheSame old.tables new.tables → IsTrue new.tables.is_sure → Means old A → Means new A
+pub means_same : {S : Type 0} {g : Ghosts S} {More : Trees → Type 0} (old new : ArchiveView S) (A : Archive) → IsTransition g More old new → HoldsTheSame old.tables new.tables → IsTrue new.tables.is_sure → Means old A → Means new A
 unfolding Means
 means_same old new A goes keeps sure m = record { capacity = goes.capacity ∙ m.capacity; each = m.each; holds = keeps (kept_of A) sure m.holds }
 
 -- one deposit more
-pub means_deposit : (old new : ArchiveView) (A : Archive) (d : Deposit) → IsTransition old new → AddsDeposit old.tables new.tables d → IsTrue new.tables.is_sure → Means old A
+pub means_deposit : {S : Type 0} {g : Ghosts S} {More : Trees → Type 0} (old new : ArchiveView S) (A : Archive) (d : Deposit) → IsTransition g More old new → AddsDeposit old.tables new.tables d → IsTrue new.tables.is_sure → Means old A
     → Means new (record A { deposits = A.deposits ++ d ∷ [] })
 unfolding Means
 means_deposit old new A d goes adds sure m = record {
@@ -74,7 +76,7 @@ tallied_push ds [] c = refl
 tallied_push ds (x ∷ cs) c = ap (λ ts. tallied ds x ∷ ts) (tallied_push ds cs c)
 
 -- one census more, with the tally and the flag of its own deposit
-pub means_census : (old new : ArchiveView) (A : Archive) (c : Census) → IsTransition old new → AddsCensus old.tables new.tables (tallied A.deposits c) → IsSome (numbered A.deposits c.deposit)
+pub means_census : {S : Type 0} {g : Ghosts S} {More : Trees → Type 0} (old new : ArchiveView S) (A : Archive) (c : Census) → IsTransition g More old new → AddsCensus old.tables new.tables (tallied A.deposits c) → IsSome (numbered A.deposits c.deposit)
     → IsTrue new.tables.is_sure → Means old A → Means new (record A { censuses = A.censuses ++ c ∷ [] })
 unfolding Means
 means_census old new A c goes adds some sure m = record {
@@ -117,7 +119,7 @@ pub flags_of : (ds : List Deposit) (cs : List Census) (id : ℕ) → option_map 
 flags_of ds cs id = ap (λ o. option_map (λ (t : Tallied). t.steady) o) (numbered_tallied ds cs id) ∙ flag_is ds (numbered cs id)
 
 -- one census more, with the tally and the flag of the deposit that is there
-pub means_counted : (old new : ArchiveView) (A : Archive) (c : Census) (t : Counts) (b : Bool) (d : Deposit) → IsTransition old new
+pub means_counted : {S : Type 0} {g : Ghosts S} {More : Trees → Type 0} (old new : ArchiveView S) (A : Archive) (c : Census) (t : Counts) (b : Bool) (d : Deposit) → IsTransition g More old new
     → AddsCensus old.tables new.tables (record { census = c; tally = t; steady = b })
     → numbered A.deposits c.deposit ≡ Some d → t ≡ tally_for c (Some d) → b ≡ steady_for c (Some d)
     → IsTrue new.tables.is_sure → Means old A → Means new (record A { censuses = A.censuses ++ c ∷ [] })
@@ -137,24 +139,43 @@ pub length_tallied : (ds : List Deposit) (cs : List Census) → length (map (tal
 length_tallied ds [] = refl
 length_tallied ds (c ∷ cs) = ap suc (length_tallied ds cs)
 
+-- what a crash may leave of a deposit that is added
+pub trees_deposit : {S : Type 0} (old : ArchiveView S) (d : Deposit) (db : Trees) → HoldChanged old.tables (λ k. record k { deposits = k.deposits ++ d ∷ [] }) db → MeanChanged old (λ A. record A { deposits = A.deposits ++ d ∷ [] }) db
+trees_deposit old d db h = (h.0, λ A m. subst (λ cs. TreesHold db (record { deposits = A.deposits ++ d ∷ []; censuses = cs })) (tallied_longer A.deposits d A.censuses (each_of old A m)) (h.1 (kept_of A) (holds_of old A m)))
+
+-- and of a census, with the tally and the flag of the deposit that is there
+pub trees_census : {S : Type 0} (old : ArchiveView S) (c : Census) (t : Counts) (b : Bool) (db : Trees)
+    → HoldChanged old.tables (λ k. record k { censuses = k.censuses ++ record { census = c; tally = t; steady = b } ∷ [] }) db
+    → (d : Deposit) → t ≡ tally_for c (Some d) → b ≡ steady_for c (Some d)
+    → MeanChangedWhere old (λ A. numbered A.deposits c.deposit ≡ Some d) (λ A. record A { censuses = A.censuses ++ c ∷ [] }) db
+trees_census old c t b db h d is flag = (
+  h.0,
+  λ A m there.
+      let same : t ≡ tally_at A.deposits c = is ∙ ap (λ o. tally_for c o) (sym there) in
+      let also : b ≡ steady_at A.deposits c = flag ∙ ap (λ o. steady_for c o) (sym there) in
+      let held = h.1 (kept_of A) (holds_of old A m) in
+      let counted = subst (λ x. TreesHold db (record { deposits = A.deposits; censuses = map (tallied A.deposits) A.censuses ++ record { census = c; tally = x; steady = b } ∷ [] })) same held in
+      let flagged = subst (λ x. TreesHold db (record { deposits = A.deposits; censuses = map (tallied A.deposits) A.censuses ++ record { census = c; tally = tally_at A.deposits c; steady = x } ∷ [] })) also counted in
+      subst (λ cs. TreesHold db (record { deposits = A.deposits; censuses = cs })) (tallied_push A.deposits A.censuses c) flagged,
+)
+
 -- what an added deposit leaves
-pub deposit_ok : {E : Type 0} (old new : ArchiveView) (d : Deposit) (r : Result ℕ E) → IsTransition old new → OnOk r (AddsDeposit old.tables new.tables d)
+pub deposit_ok : {E S : Type 0} {g : Ghosts S} {More : Trees → Type 0} (old new : ArchiveView S) (d : Deposit) (r : Result ℕ E) → IsTransition g More old new → OnOk r (AddsDeposit old.tables new.tables d)
     → OnOk r (ForAllMeant old new (λ A. Means new (record A { deposits = A.deposits ++ d ∷ [] })))
 deposit_ok old new d (Ok n) goes adds = λ A sure m. means_deposit old new A d goes adds sure m
 deposit_ok old new d (Err e) goes adds = tt
 
 -- what an added census leaves
-pub census_ok : {E : Type 0} (old new : ArchiveView) (c : Census) (t : Counts) (b : Bool) (r : Result ℕ E) → IsTransition old new
+pub census_ok : {E S : Type 0} {g : Ghosts S} {More : Trees → Type 0} (old new : ArchiveView S) (c : Census) (t : Counts) (b : Bool) (r : Result ℕ E) → IsTransition g More old new
     → OnOk r (AddsCensus old.tables new.tables (record { census = c; tally = t; steady = b }))
     → OnOk r (ForAllMeant old new (λ A. (d : Deposit) → numbered A.deposits c.deposit ≡ Some d → t ≡ tally_for c (Some d) → b ≡ steady_for c (Some d) → Means new (record A { censuses = A.censuses ++ c ∷ [] })))
 census_ok old new c t b (Ok n) goes adds = λ A sure m d there is flag. means_counted old new A c t b d goes adds there is flag sure m
 census_ok old new c t b (Err e) goes adds = tt
 
 -- what a call that gave up leaves
-pub err_still : {E : Type 0} (old new : ArchiveView) (r : Result ℕ E) → IsTransition old new → OnErr r (HoldsTheSame old.tables new.tables) → OnErr r (MeansTheSame old new)
+pub err_still : {E S : Type 0} {g : Ghosts S} {More : Trees → Type 0} (old new : ArchiveView S) (r : Result ℕ E) → IsTransition g More old new → OnErr r (HoldsTheSame old.tables new.tables) → OnErr r (MeansTheSame old new)
 err_still old new (Ok n) goes keeps = tt
 err_still old new (Err e) goes keeps = λ A sure m. means_same old new A goes keeps sure m
 
 pub new_is_empty : NewIsEmpty
-unfolding Means
-new_is_empty t holds = record { capacity = refl; each = tt; holds = holds }
+new_is_empty t capacity holds = record { capacity = refl; each = tt; holds = holds }

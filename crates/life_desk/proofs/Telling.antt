@@ -12,6 +12,8 @@ use Rattle.life_census.specs.Parts.{parts}
 use Rattle.life_census.specs.Rows.{Counts}
 use Rattle.life_census.specs.Steady.{IsSteady}
 use Rattle.life_census.specs.Laws.{PartsAreParts, OnePartEach, RowsAreCounts, TalliesAddUp, SteadyIsDecided}
+use Rattle.sqlite_trees.specs.declared.store.Store.{Ghosts}
+use Rattle.sqlite_trees.specs.Tree.{Trees}
 use Rattle.life_store.specs.declared.kept.Deposit.{Deposit}
 use Rattle.life_store.specs.declared.kept.Census.{Census}
 use Rattle.life_store.specs.Kept.{numbered}
@@ -150,30 +152,30 @@ headline_holds are one rows add complete A B qs rs each run = record {
 }
 
 -- what was answered is what the archive says
-pub told_by : HeadlineHolds → (old new : ArchiveView) (qs : List Request) (rs : List Reply) → Answered old new qs rs → IsTheArchive old new qs rs
+pub told_by : {S : Type 0} {g : Ghosts S} → HeadlineHolds → (old new : ArchiveView S) (qs : List Request) (rs : List Reply) → Answered g old new qs rs → IsTheArchive old new qs rs
 told_by holds old new qs rs done = λ A sure m.
     let run = done.run sure A m in
     (run.0, run.1, run.2, holds A run.0 qs rs (each_of old A m) run.1)
 
-pub all_told_by : {X E : Type 0} → HeadlineHolds → (old new : ArchiveView) (qs : List Request) (replies : X → List Reply) (r : Result X E) → IfOk r (λ x. Answered old new qs (replies x))
+pub all_told_by : {X E S : Type 0} → (g : Ghosts S) → HeadlineHolds → (old new : ArchiveView S) (qs : List Request) (replies : X → List Reply) (r : Result X E) → IfOk r (λ x. Answered g old new qs (replies x))
     → IfOk r (λ x. IsTheArchive old new qs (replies x))
-all_told_by holds old new qs replies (Ok x) done = told_by holds old new qs (replies x) done
-all_told_by holds old new qs replies (Err e) done = tt
+all_told_by g holds old new qs replies (Ok x) done = told_by holds old new qs (replies x) done
+all_told_by g holds old new qs replies (Err e) done = tt
 
-lasting_by : (old new : ArchiveView) (qs : List Request) (rs : List Reply) → IsTransition old new → IsTheArchive old new qs rs → IsTheArchiveOrFaults old new qs rs
+lasting_by : {S : Type 0} {g : Ghosts S} {More : Trees → Type 0} (old new : ArchiveView S) (qs : List Request) (rs : List Reply) → IsTransition g More old new → IsTheArchive old new qs rs → IsTheArchiveOrFaults old new qs rs
 unfolding StaysSure
 lasting_by old new qs rs goes told A sure m = elim (goes.lasts.is_sure sure) [
   | inl still ↦ inl (still, told A still m)
   | inr more ↦ inr more
 ]
 
-pub all_lasting_by : {X E : Type 0} → HeadlineHolds → (old new : ArchiveView) (qs : List Request) (replies : X → List Reply) (r : Result X E) → IfOk r (λ x. Answered old new qs (replies x))
+pub all_lasting_by : {X E S : Type 0} → (g : Ghosts S) → HeadlineHolds → (old new : ArchiveView S) (qs : List Request) (replies : X → List Reply) (r : Result X E) → IfOk r (λ x. Answered g old new qs (replies x))
     → IfOk r (λ x. IsTheArchiveOrFaults old new qs (replies x))
-all_lasting_by holds old new qs replies (Ok x) done = lasting_by old new qs (replies x) done.goes (told_by holds old new qs (replies x) done)
-all_lasting_by holds old new qs replies (Err e) done = tt
+all_lasting_by g holds old new qs replies (Ok x) done = lasting_by old new qs (replies x) done.goes (told_by holds old new qs (replies x) done)
+all_lasting_by g holds old new qs replies (Err e) done = tt
 
 -- where the database is sure at the end in any case
-pub all_sure_by : {X E : Type 0} → (old new : ArchiveView) (qs : List Request) (replies : X → List Reply) (r : Result X E) → IsTrue new.tables.is_sure → IfOk r (λ x. IsTheArchive old new qs (replies x))
+pub all_sure_by : {X E S : Type 0} → (old new : ArchiveView S) (qs : List Request) (replies : X → List Reply) (r : Result X E) → IsTrue new.tables.is_sure → IfOk r (λ x. IsTheArchive old new qs (replies x))
     → IfOk r (λ x. IsTheArchiveInMemory old new qs (replies x))
 all_sure_by old new qs replies (Ok x) sure told = λ A m. told A sure m
 all_sure_by old new qs replies (Err e) sure told = tt

@@ -1,18 +1,36 @@
 -- What the private calls that answer one kind of request leave.
-use Rattle.std.specs.Prelude.{Result, IsTrue, MatchResult}
+use Rattle.std.specs.Prelude.{◌≡◌, true, Result, IfOk, IsTrue, MatchResult}
+use Rattle.sqlite_trees.specs.declared.store.Store.{Ghosts}
+use Rattle.sqlite_trees.specs.Tree.{Trees}
+use Rattle.sqlite_trees.specs.View.{IsClean}
 use Rattle.life_store.specs.Tables.{ArchiveView}
 use Rattle.life_store.specs.declared.fault.Unavailable.{Unavailable}
 use Rattle.life_desk.specs.declared.request.Reply.{Reply}
 use Rattle.life_desk.specs.Archive.{Archive}
-use Rattle.life_desk.specs.Means.{Means}
+use Rattle.life_desk.specs.Means.{Means, TreesMean}
+use Rattle.life_desk.specs.Replies.{acknowledges}
 
 -- what a call leaves, where the database is sure after it and the tables meant an archive:
 -- this reply and this archive, or Err and the same archive
-abbrev pub Acts : ArchiveView → ArchiveView → Result Reply Unavailable → (Archive → Reply → Type 0) → (Archive → Archive) → Type 0
+abbrev pub Acts : {S : Type 0} → ArchiveView S → ArchiveView S → Result Reply Unavailable → (Archive → Reply → Type 0) → (Archive → Archive) → Type 0
 Acts old new result gives leaves =
     (A : Archive) → IsTrue new.tables.is_sure → Means old A → MatchResult result (λ r. gives A r × Means new (leaves A)) (λ _. Means new A)
 
 -- the same, where this holds of the archive
-abbrev pub ActsWhere : ArchiveView → ArchiveView → Result Reply Unavailable → (Archive → Type 0) → (Archive → Reply → Type 0) → (Archive → Archive) → Type 0
+abbrev pub ActsWhere : {S : Type 0} → ArchiveView S → ArchiveView S → Result Reply Unavailable → (Archive → Type 0) → (Archive → Reply → Type 0) → (Archive → Archive) → Type 0
 ActsWhere old new result where_this gives leaves =
     (A : Archive) → IsTrue new.tables.is_sure → Means old A → where_this A → MatchResult result (λ r. gives A r × Means new (leaves A)) (λ _. Means new A)
+
+-- ---- what a crash may leave of such a call
+
+-- the database was sure, and whatever archive its tables meant, the trees mean what the change makes of it
+abbrev pub MeanChanged : {S : Type 0} → ArchiveView S → (Archive → Archive) → Trees → Type 0
+MeanChanged old change db = IsTrue old.tables.is_sure × ((A : Archive) → Means old A → TreesMean db (change A))
+
+-- the same, where this holds of the archive
+abbrev pub MeanChangedWhere : {S : Type 0} → ArchiveView S → (Archive → Type 0) → (Archive → Archive) → Trees → Type 0
+MeanChangedWhere old where_this change db = IsTrue old.tables.is_sure × ((A : Archive) → Means old A → where_this A → TreesMean db (change A))
+
+-- what is acknowledged was done by a database that is sure, unless its disk has lied
+abbrev pub Promises : {S : Type 0} → Ghosts S → ArchiveView S → Result Reply Unavailable → Type 0
+Promises g new result = IfOk result (λ r. acknowledges r ≡ true → IsClean (g.view new.store) → IsTrue new.tables.is_sure)

@@ -63,18 +63,18 @@ abbrev pub HeadlineHolds : Type 0
 HeadlineHolds = (A B : Archive) (qs : List Request) (rs : List Reply) → EachHasDeposit A.deposits A.censuses → RequestRun A qs rs B → Headline A qs rs B
 
 -- A was taken by a run to an archive that the tables mean, and these replies say so of it.
-abbrev pub IsTaken : Archive → ArchiveView → List Request → List Reply → Type 0
+abbrev pub IsTaken : {S : Type 0} → Archive → ArchiveView S → List Request → List Reply → Type 0
 IsTaken A new qs rs = (B : Archive) × RequestRun A qs rs B × Means new B × Headline A qs rs B
 
 -- Where the database is sure at the end: so each archive that the tables meant was taken.
-abbrev pub IsTheArchive : ArchiveView → ArchiveView → List Request → List Reply → Type 0
+abbrev pub IsTheArchive : {S : Type 0} → ArchiveView S → ArchiveView S → List Request → List Reply → Type 0
 IsTheArchive old new qs rs = (A : Archive) → IsTrue new.tables.is_sure → Means old A → IsTaken A new qs rs
 
 -- Where the database is sure at the start: so it is at the end, and A was taken; or the disk failed in the call.
-abbrev pub IsTheArchiveOrFaults : ArchiveView → ArchiveView → List Request → List Reply → Type 0
+abbrev pub IsTheArchiveOrFaults : {S : Type 0} → ArchiveView S → ArchiveView S → List Request → List Reply → Type 0
 IsTheArchiveOrFaults old new qs rs = (A : Archive) → IsTrue old.tables.is_sure → Means old A
     → (IsTrue new.tables.is_sure × IsTaken A new qs rs) ⊎ HasFailed old.tables new.tables
 
 -- Where the database is in memory: A was taken, with no premise.
-abbrev pub IsTheArchiveInMemory : ArchiveView → ArchiveView → List Request → List Reply → Type 0
+abbrev pub IsTheArchiveInMemory : {S : Type 0} → ArchiveView S → ArchiveView S → List Request → List Reply → Type 0
 IsTheArchiveInMemory old new qs rs = (A : Archive) → Means old A → IsTaken A new qs rs

@@ -7,6 +7,6 @@ pub mod Means
 pub mod JudgingState
 pub mod LookingState
 pub mod DeskState
-pub mod RequestRun
+pub mod Run
 pub mod Laws
 pub mod Headline

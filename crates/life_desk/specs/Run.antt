@@ -1,6 +1,10 @@
 -- Runs: lists of requests with their replies, and the archive after them. A run is the life of an archive: `answer` makes one
 -- step of it, `answer_all` a list of steps.
-use Rattle.std.specs.Prelude.{◌≡◌, ◌∷◌, [], ◌++◌, ◌⊎◌, List, IsOk, IsTrue}
+use Rattle.std.specs.Prelude.{◌≡◌, ◌∷◌, [], ◌++◌, ◌⊎◌, false, List, IsOk, IsTrue, ⊤}
+use Rattle.std.specs.List.{AllByRecursion}
+use Rattle.sqlite_trees.specs.declared.store.Store.{Ghosts}
+use Rattle.sqlite_trees.specs.Tree.{Trees}
+use Rattle.sqlite_trees.specs.View.{IsClean}
 use Rattle.life_store.specs.declared.kept.Deposit.{Deposit}
 use Rattle.life_store.specs.declared.kept.Census.{Census}
 use Rattle.life_store.specs.Tables.{ArchiveView, IsTransition}
@@ -10,8 +14,8 @@ use Rattle.life_desk.specs.declared.request.Reply.{Reply}
 use Rattle.life_desk.specs.declared.request.Reply.TheVariants as says
 use Rattle.life_desk.specs.Archive.{Archive}
 use Rattle.life_desk.specs.Judging.{judged}
-use Rattle.life_desk.specs.Replies.{IsReply, after}
-use Rattle.life_desk.specs.Means.{Means}
+use Rattle.life_desk.specs.Replies.{IsReply, after, acknowledges}
+use Rattle.life_desk.specs.Means.{Means, TreesMean}
 
 -- one request: its reply and its change; or else, where its own words are good, it is unavailable and nothing changes
 pub data RequestStep (A : Archive) (q : Request) : Reply → Archive → Type 0 where
@@ -39,8 +43,45 @@ pub record IsLater (A B : Archive) : Type 0 where
   pub censuses : B.censuses ≡ A.censuses ++ new_censuses
   pub capacity : B.capacity ≡ A.capacity
 
+-- no reply says that something is kept
+abbrev pub PromiseNothing : List Reply → Type 0
+PromiseNothing rs = AllByRecursion (λ r. acknowledges r ≡ false) rs
+
+-- The trees mean the archive after the first requests of a run from A, or after the one that follows as well; and no reply but those to the
+-- first says that something is kept.
+pub record IsCrashOf (A : Archive) (qs : List Request) (rs : List Reply) (db : Trees) : Type 0 where
+  pub front : List Request
+  pub back : List Request
+  pub given : List Reply
+  pub rest : List Reply
+  pub requests : qs ≡ front ++ back
+  pub replies : rs ≡ given ++ rest
+  pub mid : Archive
+  pub run : RequestRun A front given mid
+  pub left : TreesMean db mid ⊎ ((next : Request) × (more : List Request) × (back ≡ next ∷ more) × TreesMean db (after mid next))
+  pub unpromised : PromiseNothing rest
+
+-- What a crash may leave of requests: what it might have left before them, where no reply says that something is kept; or the database was
+-- sure, and of whatever archive its tables meant the trees are what a crash leaves of a run.
+abbrev pub MayBeLeft : {S : Type 0} → Ghosts S → ArchiveView S → List Request → List Reply → Trees → Type 0
+MayBeLeft g old qs rs db = (g.recovers old.store db × PromiseNothing rs) ⊎ (IsTrue old.tables.is_sure × ((A : Archive) → Means old A → IsCrashOf A qs rs db))
+
 -- The requests were answered by the store. The premise stands here and in no other place: where the database is
 -- sure at the end, so it was at the start, and each archive that the tables meant was taken by a run to one that they mean.
-pub record Answered (old new : ArchiveView) (qs : List Request) (rs : List Reply) : Type 0 where
-  pub goes : IsTransition old new
+-- Of what a crash leaves the last clause speaks.
+pub record Answered {S : Type 0} (g : Ghosts S) (old new : ArchiveView S) (qs : List Request) (rs : List Reply) : Type 0 where
+  pub goes : IsTransition g (λ db. ⊤) old new
   pub run : IsTrue new.tables.is_sure → (A : Archive) → Means old A → (B : Archive) × RequestRun A qs rs B × Means new B
+  pub left : IsClean (g.view new.store) → (db : Trees) → g.recovers new.store db → MayBeLeft g old qs rs db
+
+-- ---- crashes
+
+module _ {S : Type 0} (g : Ghosts S) where
+  -- Where the database was sure and its disk has returned what was written, a crash in the middle of the call leaves the archive after
+  -- a beginning of the requests, or after the one that follows as well; and whatever was said to be kept is there.
+  abbrev pub IsCrashSafe : ArchiveView S → ArchiveView S → List Request → List Reply → Type 0
+  IsCrashSafe old new qs rs = (A : Archive) → IsTrue old.tables.is_sure → Means old A → IsClean (g.view new.store) → (db : Trees) → g.recovers new.store db → IsCrashOf A qs rs db
+
+  -- Where the database is sure, a crash leaves the archive that the tables mean, and nothing else.
+  abbrev pub IsDurable : ArchiveView S → Type 0
+  IsDurable new = (B : Archive) → IsTrue new.tables.is_sure → Means new B → (db : Trees) → g.recovers new.store db → TreesMean db B

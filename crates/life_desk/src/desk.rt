@@ -2,6 +2,7 @@
 ghost use Rattle.std.specs.Prelude.{◌≡◌, ◌≤◌, ◌∷◌, [], if◌then◌else◌, None, IfErr, IfOk, IsTrue, OnErr, length, option_map, Some, true};
 ghost use Rattle.life_rle.specs.Record.{IsInside};
 ghost use Rattle.life_store.specs.Kept.{numbered, deposit_by, lines_after};
+ghost use Rattle.life_store.specs.Crash.{NoMore};
 ghost use Rattle.life_store.specs.Tables.{IsTransition, HoldsTheSame, HasOrder};
 ghost use Rattle.life_desk.specs.declared.request.Reply.TheVariants as says;
 ghost use Rattle.life_desk.specs.declared.refusal.Refusal.TheVariants as refusals;
@@ -11,9 +12,9 @@ ghost use Rattle.life_code.specs.Codes as codes;
 ghost use Rattle.life_desk.specs.Content.{same_contents};
 ghost use Rattle.life_desk.specs.Judging.{judged};
 ghost use Rattle.life_desk.specs.JudgingState.{IsGood};
-ghost use Rattle.life_desk.specs.DeskState.{Acts, ActsWhere};
+ghost use Rattle.life_desk.specs.DeskState.{Acts, ActsWhere, MeanChanged, MeanChangedWhere, Promises};
 ghost use Rattle.life_desk.specs.Headline.{IsTheArchive, IsTheArchiveOrFaults, IsTheArchiveInMemory};
-ghost use Rattle.life_desk.specs.Run.{Answered};
+ghost use Rattle.life_desk.specs.Run.{Answered, IsCrashSafe, IsDurable};
 ghost use Rattle.life_desk.specs.Archive.{census_by, tally_for, tally_at, tally_of_cells, steady_for};
 ghost use Rattle.life_rle.specs.Writer as writer;
 ghost use Rattle.life_census.specs.Steady.{is_steady};
@@ -55,7 +56,8 @@ fn keep_new<S: Alter>(
     deposit: &Deposit,
 ) -> Result<Reply, Unavailable>
     requires { IsInside 1024 deposit.now.content.cells }
-    ensures goes { IsTransition archive.old archive.new }
+    ensures goes { IsTransition S.Store (MeanChanged archive.old (λ A. with_deposit A (deposit_by_token A deposit.now None))) archive.old archive.new }
+    ensures told { Promises S.Store archive.new result }
     ensures acts { Acts archive.old archive.new result
         (λ A r. r ≡ deposit_reply A (deposit_by_token A deposit.now None))
         (λ A. with_deposit A (deposit_by_token A deposit.now None)) }
@@ -73,7 +75,8 @@ fn keep_deposit<S: Alter>(
     deposit: &Deposit,
 ) -> Result<Reply, Unavailable>
     requires { IsInside 1024 deposit.now.content.cells }
-    ensures goes { IsTransition archive.old archive.new }
+    ensures goes { IsTransition S.Store (MeanChanged archive.old (λ A. with_deposit A (deposit_by_token A deposit.now (deposit_by deposit.now.member deposit.now.token A.deposits)))) archive.old archive.new }
+    ensures told { Promises S.Store archive.new result }
     ensures acts { Acts archive.old archive.new result
         (λ A r. r ≡ deposit_reply A (deposit_by_token A deposit.now (deposit_by deposit.now.member deposit.now.token A.deposits)))
         (λ A. with_deposit A (deposit_by_token A deposit.now (deposit_by deposit.now.member deposit.now.token A.deposits))) }
@@ -97,7 +100,8 @@ fn deposit<S: Alter>(
     token: Text,
     file: Bytes,
 ) -> Result<Reply, Unavailable>
-    ensures goes { IsTransition archive.old archive.new }
+    ensures goes { IsTransition S.Store (MeanChanged archive.old (λ A. with_deposit A (deposit_verdict A member token file))) archive.old archive.new }
+    ensures told { Promises S.Store archive.new result }
     ensures acts { Acts archive.old archive.new result
         (λ A r. r ≡ deposit_reply A (deposit_verdict A member token file))
         (λ A. with_deposit A (deposit_verdict A member token file)) }
@@ -126,7 +130,8 @@ fn file_of(alloc: Global, content: &Record) -> Result<Reply, Unavailable>
 
 /// Answers with the file of a deposit.
 fn show<S: Alter>(archive: &mut Archive<S>, alloc: Global, id: u64) -> Result<Reply, Unavailable>
-    ensures goes { IsTransition archive.old archive.new }
+    ensures goes { IsTransition S.Store NoMore archive.old archive.new }
+    ensures told { Promises S.Store archive.new result }
     ensures acts { Acts archive.old archive.new result (λ A r. r ≡ file_reply (numbered A.deposits id)) (λ A. A) }
 {
     match deposit_of(archive, alloc, id)? {
@@ -141,7 +146,8 @@ fn list_after<S: Alter>(
     alloc: Global,
     id: u64,
 ) -> Result<Reply, Unavailable>
-    ensures goes { IsTransition archive.old archive.new }
+    ensures goes { IsTransition S.Store NoMore archive.old archive.new }
+    ensures told { Promises S.Store archive.new result }
     ensures acts { Acts archive.old archive.new result (λ A r. r ≡ says.Deposits (lines_after id A.deposits)) (λ A. A) }
 {
     Ok(Reply::Deposits(deposits_after(archive, alloc, id)?))
@@ -167,7 +173,8 @@ fn show_at<S: Alter>(
     n: u32,
 ) -> Result<Reply, Unavailable>
     requires { n ≤ GENERATION_LIMIT }
-    ensures goes { IsTransition archive.old archive.new }
+    ensures goes { IsTransition S.Store NoMore archive.old archive.new }
+    ensures told { Promises S.Store archive.new result }
     ensures acts { Acts archive.old archive.new result (λ A r. r ≡ at_reply n (numbered A.deposits id)) (λ A. A) }
 {
     match deposit_of(archive, alloc, id)? {
@@ -216,7 +223,8 @@ fn name_kind<S: Alter>(
 ) -> Result<Reply, Unavailable>
     requires some { 1 ≤ limit }
     requires few { limit ≤ PERIOD_LIMIT }
-    ensures goes { IsTransition archive.old archive.new }
+    ensures goes { IsTransition S.Store NoMore archive.old archive.new }
+    ensures told { Promises S.Store archive.new result }
     ensures acts { Acts archive.old archive.new result (λ A r. r ≡ kind_reply limit (numbered A.deposits id)) (λ A. A) }
 {
     match deposit_of(archive, alloc, id)? {
@@ -271,7 +279,8 @@ fn add_counted<S: Alter>(
     requires few { census.now.generation ≤ GENERATION_LIMIT }
     requires some { 1 ≤ census.now.limit }
     requires short { census.now.limit ≤ PERIOD_LIMIT }
-    ensures goes { IsTransition archive.old archive.new }
+    ensures goes { IsTransition S.Store (MeanChangedWhere archive.old (λ A. numbered A.deposits census.now.deposit ≡ Some deposit.now) (λ A. with_census A (Adds census.now))) archive.old archive.new }
+    ensures told { Promises S.Store archive.new result }
     ensures acts { ActsWhere archive.old archive.new result
         (λ A. numbered A.deposits census.now.deposit ≡ Some deposit.now)
         (λ A r. r ≡ census_reply A (Adds census.now))
@@ -292,7 +301,8 @@ fn keep_census<S: Alter>(
     requires few { census.now.generation ≤ GENERATION_LIMIT }
     requires some { 1 ≤ census.now.limit }
     requires short { census.now.limit ≤ PERIOD_LIMIT }
-    ensures goes { IsTransition archive.old archive.new }
+    ensures goes { IsTransition S.Store (MeanChangedWhere archive.old (λ A. numbered A.deposits census.now.deposit ≡ Some deposit.now) (λ A. with_census A (census_by_token A census.now (census_by census.now.member census.now.token A.censuses)))) archive.old archive.new }
+    ensures told { Promises S.Store archive.new result }
     ensures acts { ActsWhere archive.old archive.new result
         (λ A. numbered A.deposits census.now.deposit ≡ Some deposit.now)
         (λ A r. r ≡ census_reply A (census_by_token A census.now (census_by census.now.member census.now.token A.censuses)))
@@ -335,7 +345,8 @@ fn take_census<S: Alter>(
     requires few { census.now.generation ≤ GENERATION_LIMIT }
     requires some { 1 ≤ census.now.limit }
     requires short { census.now.limit ≤ PERIOD_LIMIT }
-    ensures goes { IsTransition archive.old archive.new }
+    ensures goes { IsTransition S.Store (MeanChanged archive.old (λ A. with_census A (census_verdict A census.now))) archive.old archive.new }
+    ensures told { Promises S.Store archive.new result }
     ensures acts { Acts archive.old archive.new result
         (λ A r. r ≡ census_reply A (census_verdict A census.now))
         (λ A. with_census A (census_verdict A census.now)) }
@@ -352,7 +363,8 @@ fn show_census<S: Alter>(
     alloc: Global,
     id: u64,
 ) -> Result<Reply, Unavailable>
-    ensures goes { IsTransition archive.old archive.new }
+    ensures goes { IsTransition S.Store NoMore archive.old archive.new }
+    ensures told { Promises S.Store archive.new result }
     ensures acts { Acts archive.old archive.new result (λ A r. r ≡ shown_reply A.deposits id (numbered A.censuses id)) (λ A. A) }
 {
     match kept_tally(archive, alloc, id)? {
@@ -384,7 +396,8 @@ fn census_csv<S: Alter>(
     alloc: Global,
     id: u64,
 ) -> Result<Reply, Unavailable>
-    ensures goes { IsTransition archive.old archive.new }
+    ensures goes { IsTransition S.Store NoMore archive.old archive.new }
+    ensures told { Promises S.Store archive.new result }
     ensures acts { Acts archive.old archive.new result (λ A r. r ≡ csv_reply A.deposits (numbered A.censuses id)) (λ A. A) }
 {
     match kept_tally(archive, alloc, id)? {
@@ -403,7 +416,8 @@ fn total<S: Alter>(
 ) -> Result<Reply, Unavailable>
     requires some { 1 ≤ limit }
     requires few { limit ≤ PERIOD_LIMIT }
-    ensures goes { IsTransition archive.old archive.new }
+    ensures goes { IsTransition S.Store NoMore archive.old archive.new }
+    ensures told { Promises S.Store archive.new result }
     ensures acts { Acts archive.old archive.new result (λ A r. IsTotal A rule.now text.now limit r) (λ A. A) }
 {
     match open_code(alloc, rule, text, limit) {
@@ -421,7 +435,8 @@ fn act<S: Alter>(
     judged: Judged,
 ) -> Result<Reply, Unavailable>
     requires { IsGood judged }
-    ensures goes { IsTransition archive.old archive.new }
+    ensures goes { IsTransition S.Store (MeanChanged archive.old (λ A. after_all_of A judged)) archive.old archive.new }
+    ensures told { Promises S.Store archive.new result }
     ensures acts { Acts archive.old archive.new result (λ A r. IsReplyTo A judged r) (λ A. after_all_of A judged) }
 {
     match judged {
@@ -442,18 +457,26 @@ fn act<S: Alter>(
 /// words alone ([`Refusal::BadMember`], `BadToken`, `OutOfLimit` and `BadRule`) is answered with no growth and no look into
 /// the store, so unavailable never comes in its place.
 pub fn answer<S: Alter>(archive: &mut Archive<S>, alloc: Global, request: Request) -> Reply
-    ensures answered { Answered archive.old archive.new (request ∷ []) (result ∷ []) }
+    ensures answered { Answered S.Store archive.old archive.new (request ∷ []) (result ∷ []) }
     // Where the reply shows what is kept, nothing has changed, and it might have been withheld.
-    ensures withheld { is_shown result ≡ true → Answered archive.old archive.new (request ∷ []) (says.Refused refusals.Unavailable ∷ []) }
+    ensures withheld { is_shown result ≡ true → Answered S.Store archive.old archive.new (request ∷ []) (says.Refused refusals.Unavailable ∷ []) }
+    // A crash in the middle of the call leaves the archive before the request or the one after it; a crash after it, the one after it.
+    ensures crash { IsCrashSafe S.Store archive.old archive.new (request ∷ []) (result ∷ []) }
+    ensures durable { IsDurable S.Store archive.new }
     // What a request's own words are refused for comes whatever the store does.
     ensures firm { IfErr (judged request) (λ refusal. (result ≡ says.Refused refusal) × (archive.new ≡ archive.old)) }
 {
+    archive.law_of_crashes();
     match judge(request) {
         Err(refusal) => Reply::Refused(refusal),
-        Ok(judged) => match act(archive, alloc, judged) {
-            Ok(reply) => reply,
-            Err(_) => Reply::Refused(Refusal::Unavailable),
-        },
+        Ok(judged) => {
+            let acted = act(archive, alloc, judged);
+            archive.law_of_crashes();
+            match acted {
+                Ok(reply) => reply,
+                Err(_) => Reply::Refused(Refusal::Unavailable),
+            }
+        }
     }
 }
 
@@ -463,7 +486,7 @@ fn answer_each<S: Alter>(
     alloc: Global,
     requests: Vec<Request>,
 ) -> Result<Vec<Reply>, Fault>
-    ensures ok { IfOk result (λ replies. Answered archive.old archive.new requests.items replies.items) }
+    ensures ok { IfOk result (λ replies. Answered S.Store archive.old archive.new requests.items replies.items) }
     ensures err { OnErr result (archive.new ≡ archive.old) }
 {
     let mut replies = match Vec::with_capacity(alloc, requests.len()) {
@@ -484,15 +507,22 @@ pub fn answer_all<S: Alter>(
     requests: Vec<Request>,
 ) -> Result<Vec<Reply>, Fault>
     // The replies and the archive are those of a run ..
-    ensures ok { IfOk result (λ replies. Answered archive.old archive.new requests.items replies.items) }
+    ensures ok { IfOk result (λ replies. Answered S.Store archive.old archive.new requests.items replies.items) }
     // .. which says of sets of live cells what it should.
     ensures headline { IfOk result (λ replies. IsTheArchive archive.old archive.new requests.items replies.items) }
     // A database that is sure before the call is sure after it, unless its disk failed in the call.
     ensures lasting { IfOk result (λ replies. IsTheArchiveOrFaults archive.old archive.new requests.items replies.items) }
+    // A crash in the middle of the call leaves the archive after the requests that were answered, or after the one that was being answered as
+    // well; a crash after it, the archive after all.
+    ensures crash { IfOk result (λ replies. IsCrashSafe S.Store archive.old archive.new requests.items replies.items) }
+    ensures durable { IsDurable S.Store archive.new }
     ensures err { OnErr result (archive.new ≡ archive.old) }
 {
     law_of_the_archive();
-    answer_each(archive, alloc, requests)
+    archive.law_of_crashes();
+    let replies = answer_each(archive, alloc, requests);
+    archive.law_of_crashes();
+    replies
 }
 
 /// As [`answer_all`], of an archive in memory: no disk can fail there, so the replies and the archive are those of a run in any case.

@@ -1,11 +1,14 @@
 //! What an archive tells, as the desk asks it.
-ghost use Rattle.std.specs.Prelude.{◌≡◌, ◌+◌, ◌++◌, ◌∷◌, [], Some, nat_lt, length, option_map, IfOk, IfSome, OnOk, OnErr};
+ghost use Rattle.std.specs.Prelude.{◌≡◌, ◌+◌, ◌++◌, ◌∷◌, [], Some, nat_lt, length, option_map, IfOk, IfSome, IsTrue, OnOk, OnErr};
+ghost use Rattle.sqlite_trees.specs.View.{IsClean};
 ghost use Rattle.life_rle.specs.Record.{IsInside};
 ghost use Rattle.life_store.specs.Kept.{numbered, deposit_by, lines_after, kept_census};
+ghost use Rattle.life_store.specs.Crash.{NoMore};
 ghost use Rattle.life_store.specs.Tables.{IsTransition, HasOrder};
 ghost use Rattle.life_store.specs.declared.kept.Deposit.{Deposit as Kept};
 ghost use Rattle.life_desk.specs.Archive.{census_by, clusters_with, tally_at, tally_for, steady_at, steady_for};
 ghost use Rattle.life_desk.specs.Means.{Means, tallied};
+ghost use Rattle.life_desk.specs.DeskState.{MeanChanged, MeanChangedWhere};
 ghost use Rattle.life_desk.specs.LookingState.{ForAllMeant, MeansTheSame};
 
 use life_census::{Rows, Tally};
@@ -22,7 +25,7 @@ pub(crate) fn deposit_of<S: Alter>(
     alloc: Global,
     id: u64,
 ) -> Result<Option<Deposit>, Unavailable>
-    ensures goes { IsTransition archive.old archive.new }
+    ensures goes { IsTransition S.Store NoMore archive.old archive.new }
     ensures same { MeansTheSame archive.old archive.new }
     ensures value { ForAllMeant archive.old archive.new (λ A. IfOk result (λ d. d ≡ numbered A.deposits id)) }
     ensures inside { IfOk result (λ o. IfSome o (λ d. IsInside 1024 d.content.cells)) }
@@ -37,7 +40,8 @@ pub(crate) fn find_deposit<S: Alter>(
     member: &[u8],
     token: &[u8],
 ) -> Result<Option<FoundDeposit>, Unavailable>
-    ensures goes { IsTransition archive.old archive.new }
+    ensures goes { IsTransition S.Store NoMore archive.old archive.new }
+    ensures sure { OnOk result (IsClean (S.Store.view archive.new.store) → IsTrue archive.new.tables.is_sure) }
     ensures same { MeansTheSame archive.old archive.new }
     ensures value { ForAllMeant archive.old archive.new (λ A. IfOk result (λ o. o ≡ deposit_by member.now token.now A.deposits)) }
 {
@@ -50,7 +54,7 @@ pub(crate) fn deposits_after<S: Alter>(
     alloc: Global,
     id: u64,
 ) -> Result<Listing, Unavailable>
-    ensures goes { IsTransition archive.old archive.new }
+    ensures goes { IsTransition S.Store NoMore archive.old archive.new }
     ensures same { MeansTheSame archive.old archive.new }
     ensures value { ForAllMeant archive.old archive.new (λ A. IfOk result (λ lines. lines ≡ lines_after id A.deposits)) }
 {
@@ -64,7 +68,8 @@ pub(crate) fn find_census<S: Alter>(
     member: &[u8],
     token: &[u8],
 ) -> Result<Option<FoundCensus>, Unavailable>
-    ensures goes { IsTransition archive.old archive.new }
+    ensures goes { IsTransition S.Store NoMore archive.old archive.new }
+    ensures sure { OnOk result (IsClean (S.Store.view archive.new.store) → IsTrue archive.new.tables.is_sure) }
     ensures same { MeansTheSame archive.old archive.new }
     ensures value { ForAllMeant archive.old archive.new (λ A. IfOk result (λ o. o ≡ census_by member.now token.now A.censuses)) }
 {
@@ -78,7 +83,7 @@ pub(crate) fn counts_of<S: Alter>(
     rule: &Rule,
     code: &[u8],
 ) -> Result<u64, Unavailable>
-    ensures goes { IsTransition archive.old archive.new }
+    ensures goes { IsTransition S.Store NoMore archive.old archive.new }
     ensures same { MeansTheSame archive.old archive.new }
     ensures value { ForAllMeant archive.old archive.new (λ A. IfOk result (λ n. n ≡ clusters_with A rule.now code.now)) }
 {
@@ -91,7 +96,7 @@ fn census_of<S: Alter>(
     alloc: Global,
     id: u64,
 ) -> Result<Option<KeptCensus>, Unavailable>
-    ensures goes { IsTransition archive.old archive.new }
+    ensures goes { IsTransition S.Store NoMore archive.old archive.new }
     ensures same { MeansTheSame archive.old archive.new }
     ensures value { ForAllMeant archive.old archive.new (λ A. IfOk result (λ c. c ≡ option_map kept_census (option_map (tallied A.deposits) (numbered A.censuses id)))) }
 {
@@ -104,7 +109,7 @@ fn rows_of<S: Alter>(
     alloc: Global,
     id: u64,
 ) -> Result<Option<Rows>, Unavailable>
-    ensures goes { IsTransition archive.old archive.new }
+    ensures goes { IsTransition S.Store NoMore archive.old archive.new }
     ensures same { MeansTheSame archive.old archive.new }
     ensures value { ForAllMeant archive.old archive.new (λ A. IfOk result (λ rows. rows ≡ option_map (λ t. t.tally.rows) (option_map (tallied A.deposits) (numbered A.censuses id)))) }
 {
@@ -117,7 +122,7 @@ pub(crate) fn kept_tally<S: Alter>(
     alloc: Global,
     id: u64,
 ) -> Result<Option<(Census, Tally)>, Unavailable>
-    ensures goes { IsTransition archive.old archive.new }
+    ensures goes { IsTransition S.Store NoMore archive.old archive.new }
     ensures same { MeansTheSame archive.old archive.new }
     ensures value { ForAllMeant archive.old archive.new (λ A.
         IfOk result (λ o. o ≡ option_map (λ c. record { 0 = c; 1 = tally_at A.deposits c }) (numbered A.censuses id))) }
@@ -143,7 +148,7 @@ pub(crate) fn flag_of<S: Alter>(
     archive: &mut Archive<S>,
     id: u64,
 ) -> Result<Option<bool>, Unavailable>
-    ensures goes { IsTransition archive.old archive.new }
+    ensures goes { IsTransition S.Store NoMore archive.old archive.new }
     ensures same { MeansTheSame archive.old archive.new }
     ensures value { ForAllMeant archive.old archive.new (λ A. IfOk result (λ b. b ≡ option_map (steady_at A.deposits) (numbered A.censuses id))) }
 {
@@ -152,7 +157,8 @@ pub(crate) fn flag_of<S: Alter>(
 
 /// How many deposits there are.
 fn count_deposits<S: Alter>(archive: &mut Archive<S>) -> Result<u64, Unavailable>
-    ensures goes { IsTransition archive.old archive.new }
+    ensures goes { IsTransition S.Store NoMore archive.old archive.new }
+    ensures sure { OnOk result (IsClean (S.Store.view archive.new.store) → IsTrue archive.new.tables.is_sure) }
     ensures same { MeansTheSame archive.old archive.new }
     ensures value { ForAllMeant archive.old archive.new (λ A. IfOk result (λ n. n ≡ length A.deposits)) }
 {
@@ -161,7 +167,8 @@ fn count_deposits<S: Alter>(archive: &mut Archive<S>) -> Result<u64, Unavailable
 
 /// How many censuses there are.
 fn count_censuses<S: Alter>(archive: &mut Archive<S>) -> Result<u64, Unavailable>
-    ensures goes { IsTransition archive.old archive.new }
+    ensures goes { IsTransition S.Store NoMore archive.old archive.new }
+    ensures sure { OnOk result (IsClean (S.Store.view archive.new.store) → IsTrue archive.new.tables.is_sure) }
     ensures same { MeansTheSame archive.old archive.new }
     ensures value { ForAllMeant archive.old archive.new (λ A. IfOk result (λ n. n ≡ length A.censuses)) }
 {
@@ -170,7 +177,8 @@ fn count_censuses<S: Alter>(archive: &mut Archive<S>) -> Result<u64, Unavailable
 
 /// Whether there is room for one more deposit.
 pub(crate) fn has_room<S: Alter>(archive: &mut Archive<S>) -> Result<bool, Unavailable>
-    ensures goes { IsTransition archive.old archive.new }
+    ensures goes { IsTransition S.Store NoMore archive.old archive.new }
+    ensures sure { OnOk result (IsClean (S.Store.view archive.new.store) → IsTrue archive.new.tables.is_sure) }
     ensures same { MeansTheSame archive.old archive.new }
     ensures value { ForAllMeant archive.old archive.new (λ A. IfOk result (λ room. room ≡ nat_lt (length A.deposits) A.capacity)) }
 {
@@ -179,7 +187,7 @@ pub(crate) fn has_room<S: Alter>(archive: &mut Archive<S>) -> Result<bool, Unava
 
 /// Whether there is room for one more census.
 pub(crate) fn has_census_room<S: Alter>(archive: &mut Archive<S>) -> Result<bool, Unavailable>
-    ensures goes { IsTransition archive.old archive.new }
+    ensures goes { IsTransition S.Store NoMore archive.old archive.new }
     ensures same { MeansTheSame archive.old archive.new }
     ensures value { ForAllMeant archive.old archive.new (λ A. IfOk result (λ room. room ≡ nat_lt (length A.censuses) A.capacity)) }
 {
@@ -193,7 +201,8 @@ pub(crate) fn add_deposit<S: Alter>(
     deposit: &Deposit,
 ) -> Result<u64, Unavailable>
     requires { IsInside 1024 deposit.now.content.cells }
-    ensures goes { IsTransition archive.old archive.new }
+    ensures goes { IsTransition S.Store (MeanChanged archive.old (λ A. record A { deposits = A.deposits ++ deposit.now ∷ [] })) archive.old archive.new }
+    ensures sure { OnOk result (IsClean (S.Store.view archive.new.store) → IsTrue archive.new.tables.is_sure) }
     ensures value { ForAllMeant archive.old archive.new (λ A. IfOk result (λ n. n ≡ length A.deposits + 1)) }
     ensures ok { OnOk result (ForAllMeant archive.old archive.new (λ A. Means archive.new (record A { deposits = A.deposits ++ deposit.now ∷ [] }))) }
     ensures err { OnErr result (MeansTheSame archive.old archive.new) }
@@ -209,7 +218,8 @@ pub(crate) fn add_census<S: Alter>(
     steady: bool,
 ) -> Result<u64, Unavailable>
     requires { HasOrder tally.now }
-    ensures goes { IsTransition archive.old archive.new }
+    ensures goes { IsTransition S.Store (λ db. (d : Kept) → tally.now ≡ tally_for census.now (Some d) → steady ≡ steady_for census.now (Some d) → MeanChangedWhere archive.old (λ A. numbered A.deposits census.now.deposit ≡ Some d) (λ A. record A { censuses = A.censuses ++ census.now ∷ [] }) db) archive.old archive.new }
+    ensures sure { OnOk result (IsClean (S.Store.view archive.new.store) → IsTrue archive.new.tables.is_sure) }
     ensures value { ForAllMeant archive.old archive.new (λ A. IfOk result (λ n. n ≡ length A.censuses + 1)) }
     ensures ok { OnOk result (ForAllMeant archive.old archive.new (λ A. (d : Kept) → numbered A.deposits census.now.deposit ≡ Some d → tally.now ≡ tally_for census.now (Some d) → steady ≡ steady_for census.now (Some d) → Means archive.new (record A { censuses = A.censuses ++ census.now ∷ [] }))) }
     ensures err { OnErr result (MeansTheSame archive.old archive.new) }

@@ -1,10 +1,10 @@
 //! Serving the messages of a stream by an archive.
 ghost use Rattle.std.specs.Prelude.{◌≡◌, ◌*◌, Err, OnOk, IfSome};
 ghost use Rattle.life_rle.specs.Stream.{FailedBetween, LosesUpTo};
-ghost use Rattle.life_desk.specs.Run.{RequestStep};
+ghost use Rattle.life_desk.specs.Run.{RequestStep, IsDurable};
 ghost use Rattle.life_pages.specs.Message.{AnswersMessage, Starts};
 ghost use Rattle.life_pages.specs.Serving.{Served, RepliesCutShort, ServedSoFar, LastReplyCutShort, LosesAtLeast, ReportsTakeFailures, ReportsPutFailures};
-ghost use Rattle.life_pages.specs.Archive.{ByArchive, InMemory};
+ghost use Rattle.life_pages.specs.Archive.{ByArchive, InMemory, IsServedSafely};
 
 use crate::desk::Desk;
 use crate::serving::{IoFault, MOST_TAKEN, TAKES, serve_desk};
@@ -17,7 +17,7 @@ use std::alloc::Global;
 impl<S: Alter> Desk for Archive<S> {
     ghost use Rattle.life_pages.specs.Archive.{StoreAnswers};
 
-    ghost answers = { StoreAnswers };
+    ghost answers = { StoreAnswers S.Store };
 
     #[tactic(auto, unfolding(crate::specs::Archive::StoreAnswers))]
     fn answer(&mut self, alloc: Global, request: Request) -> Reply {
@@ -39,18 +39,22 @@ pub fn serve<S: Alter, I: Inlet, O: Outlet>(
 ) -> Result<(), IoFault>
     // Told: the archive went through a run over the messages of the stream, and what was put is the run's bytes.
     ensures told { OnOk result (IfSome (I.to_come input.old) (λ stream.
-        ByArchive (λ A B. Served (AnswersMessage RequestStep) stream A B (O.already output.old) (O.already output.new)) archive.old archive.new)) }
+        ByArchive S.Store (λ A B. Served (AnswersMessage RequestStep) stream A B (O.already output.old) (O.already output.new)) archive.old archive.new)) }
     // Told or not: it went through a run over some messages, and no more than its bytes was put.
-    ensures some { ByArchive (λ A B. RepliesCutShort (AnswersMessage RequestStep) A B (O.already output.old) (O.already output.new)) archive.old archive.new }
+    ensures some { ByArchive S.Store (λ A B. RepliesCutShort (AnswersMessage RequestStep) A B (O.already output.old) (O.already output.new)) archive.old archive.new }
     // A failed take: the run is over what was taken whole, and its bytes were put whole.
     ensures paused { result ≡ Err IoFault.Read →
-        ByArchive (λ A B. ServedSoFar (AnswersMessage RequestStep) (I.to_come input.old) (I.to_come input.new) A B (O.already output.old) (O.already output.new)) archive.old archive.new }
+        ByArchive S.Store (λ A B. ServedSoFar (AnswersMessage RequestStep) (I.to_come input.old) (I.to_come input.new) A B (O.already output.old) (O.already output.new)) archive.old archive.new }
     ensures full { result ≡ Err IoFault.TooManyReads →
-        ByArchive (λ A B. ServedSoFar (AnswersMessage RequestStep) (I.to_come input.old) (I.to_come input.new) A B (O.already output.old) (O.already output.new)) archive.old archive.new }
+        ByArchive S.Store (λ A B. ServedSoFar (AnswersMessage RequestStep) (I.to_come input.old) (I.to_come input.new) A B (O.already output.old) (O.already output.new)) archive.old archive.new }
     ensures many { result ≡ Err IoFault.TooManyReads → LosesAtLeast TAKES (I.to_come input.old) (I.to_come input.new) }
     // A failed put: of the last reply of the run a beginning was put, and those before it whole.
     ensures cut { result ≡ Err IoFault.Write →
-        ByArchive (λ A B. LastReplyCutShort (AnswersMessage RequestStep) (λ ms. IfSome (I.to_come input.old) (λ stream. Starts stream ms)) A B (O.already output.old) (O.already output.new)) archive.old archive.new }
+        ByArchive S.Store (λ A B. LastReplyCutShort (AnswersMessage RequestStep) (λ ms. IfSome (I.to_come input.old) (λ stream. Starts stream ms)) A B (O.already output.old) (O.already output.new)) archive.old archive.new }
+    // A crash in the middle of it leaves the archive after the messages that were answered, or after the one that was being answered as well;
+    // a crash after it, the archive after all.
+    ensures crash { IsServedSafely S.Store archive.old archive.new (O.already output.old) (O.already output.new) }
+    ensures durable { IsDurable S.Store archive.new }
     ensures memory { result ≡ Err IoFault.Memory → (archive.new ≡ archive.old) × (input.new ≡ input.old) × (output.new ≡ output.old) }
     // At most 1,048,576 takes are made, of at most 4,096 bytes each.
     ensures most { LosesUpTo (TAKES * MOST_TAKEN) (I.to_come input.old) (I.to_come input.new) }
@@ -60,7 +64,10 @@ pub fn serve<S: Alter, I: Inlet, O: Outlet>(
     ensures read { result ≡ Err IoFault.Read → FailedBetween (I.failures input.old) (I.failures input.new) }
     ensures write { result ≡ Err IoFault.Write → FailedBetween (O.failures output.old) (O.failures output.new) }
 {
-    serve_desk(alloc, archive, input, output)
+    archive.law_of_crashes();
+    let served = serve_desk(alloc, archive, input, output);
+    archive.law_of_crashes();
+    served
 }
 
 /// As [`serve`], of an archive in memory: no disk can fail there, so it went through the run in any case.

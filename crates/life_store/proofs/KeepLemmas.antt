@@ -1,6 +1,6 @@
 -- What each statement leaves, whatever its text is.
 use Rattle.std.proofs.Common.{arith, ap₂, ℤ, pos, [], ◌∷◌, ◌≡◌, inl, inr, List, Bool, true, false, Ok, Err, Result, Option, None, Some, refl, sym, subst, ◌∙◌}
-use Rattle.std.specs.Prelude.{IsTrue, ℕ, Vec, IfOk, IfErr, OnErr, ◌≤◌, ◌&&◌}
+use Rattle.std.specs.Prelude.{IsTrue, ℕ, Vec, IfOk, IfErr, OnOk, OnErr, ◌≤◌, ◌&&◌}
 use Rattle.std.specs.declared.alloc.Global.{Global}
 use Rattle.sqlite_value.specs.declared.value.Value.{Value}
 use Rattle.sqlite_value.specs.declared.value.Value.TheVariants.{Int}
@@ -13,7 +13,8 @@ use Rattle.sqlite_schema.specs.declared.command.Command.TheVariants.{Select, Ins
 use Rattle.sqlite_resolve.specs.declared.compiled.Compiled.{Compiled}
 use Rattle.sqlite.specs.declared.error.Error.{Error}
 use Rattle.sqlite.specs.Clock.{timed}
-use Rattle.sqlite.specs.Effect.{Database}
+use Rattle.sqlite_catalog.specs.Listing.{IsSound}
+use Rattle.sqlite.specs.Effect.{Database, IsDatabase}
 use Rattle.sqlite.specs.Listing.{understood}
 use Rattle.sqlite.specs.State.{State, HasCleanDisk, IsUnchanged, IsNotRun, RunsCommand, Runs, ReleasesAt, text_of, Executes, ExecutesIn, shows_rows, FailsToQuery, FailsToShow, Shown, ShowsRows}
 use Rattle.sqlite.proofs.Callers.{IsPlain}
@@ -22,7 +23,7 @@ use Rattle.life_store.specs.Carrying.{HoldsFirst}
 use Rattle.life_store.specs.Layout.{archive_schema}
 use Rattle.life_store.specs.AskingState.{IsUndone, IsSeenAgain}
 use Rattle.life_store.specs.Kept.{Kept}
-use Rattle.life_store.specs.Tables.{tables_in, tables_of, Holds, WasSure, HoldsTheSame, ForAllHeld}
+use Rattle.life_store.specs.Tables.{tables_in, tables_of, Holds, TreesHold, WasSure, HoldsTheSame, ForAllHeld}
 
 not_run : (old new : State) (sql : List ℕ) (params : Row) (e : Error) → IsNotRun old new sql params e → IsUndone old new
 unfolding IsNotRun
@@ -57,6 +58,19 @@ was_open old new sql c params rows (Some what) h = h.1.shown.was_open
 pub open_if_shown : (sql : List ℕ) (params : Row) (old new : State) (rows : List Row) → Shown sql params old new rows → IsTrue old.is_open
 unfolding Shown
 open_if_shown sql params old new rows h = was_open old new sql h.0 (timed params h.0.formats h.1.now) rows h.0.returning h.2
+
+abbrev pub Answered : Type 0
+Answered = Result (Vec (List Value) Global) Error
+
+is_open : (old new : State) (sql : List ℕ) (c : Compiled) (params : Row) (rows : List Row) (r : Option Returning) → ShowsRows old new sql c params rows r → IsTrue new.is_open
+is_open old new sql c params rows None h = h.3.0.is_open
+is_open old new sql c params rows (Some what) h = h.1.shown.is_open
+
+-- a connection that has answered is open
+pub open_when_shown : (sql : List ℕ) (params : Row) (old new : State) (r : Answered) → IfOk r (λ rows. Shown sql params old new rows.items) → OnOk r (IsTrue new.is_open)
+unfolding Shown
+open_when_shown sql params old new (Ok rows) h = is_open old new sql h.0 (timed params h.0.formats h.1.now) rows.items h.0.returning h.2
+open_when_shown sql params old new (Err e) h = tt
 
 pub shown_unchanged : (sql : List ℕ) (params : Row) (old new : State) (rows : List Row) → IsPlain (understood old.now.schema sql) → Shown sql params old new rows → IsUnchanged old new
 unfolding Shown
@@ -99,14 +113,46 @@ open_before sql params old new count up h = elim (cases_Bool (shows_rows false h
   | inr runs ↦ run_open old new h.0.command (text_of sql h.0) (timed params h.0.formats h.1.now) h.0.returning count up (rw runs at h.2)
 ]
 
+-- a statement that ran outside a transaction leaves the connection open
+run_stays_open : (old new : State) (command : Command) (text : List ℕ) (params : Row) (returning : Option Returning) (count : ℕ) → old.in_transaction ≡ false → Runs old new returning command text params count
+    → IsTrue new.is_open
+run_stays_open old new (Select q names) text params returning count none h = absurd h
+run_stays_open old new (Insert at from) text params returning count none h = h.shown.is_open
+run_stays_open old new (InsertOr at how from clauses) text params returning count none h = h.shown.is_open
+run_stays_open old new (Update at q) text params returning count none h = h.shown.is_open
+run_stays_open old new (Delete at q) text params returning count none h = h.shown.is_open
+run_stays_open old new CreateTable text params returning count none h = h.shown.is_open
+run_stays_open old new (CreateIndex at) text params returning count none h = h.shown.is_open
+run_stays_open old new CreateView text params returning count none h = h.shown.is_open
+run_stays_open old new (DropTable at) text params returning count none h = h.shown.is_open
+run_stays_open old new (DropIndex at) text params returning count none h = h.shown.is_open
+run_stays_open old new (DropView at) text params returning count none h = h.shown.is_open
+run_stays_open old new (Rows values width names) text params returning count none h = h.0.0.is_open
+run_stays_open old new Begin text params returning count none h = h.1.is_open
+run_stays_open old new Commit text params returning count none h = h.1.is_open
+run_stays_open old new Rollback text params returning count none h = absurd (let inside = h.0 in cc)
+run_stays_open old new (Savepoint name) text params returning count none h = h.0.0.is_open
+run_stays_open old new (Release name) text params returning count none h = released h.2
+  where
+    released : ReleasesAt old new h.0 → IsTrue new.is_open
+    released (inl ends) = ends.1.0.is_open
+    released (inr drops) = drops.1.0.is_open
+run_stays_open old new (RollbackTo name) text params returning count none h = h.2.2.is_open
+run_stays_open old new Nothing text params returning count none h = h.0.0.is_open
+
+pub open_when_run : (sql : List ℕ) (params : Row) (old new : State) (r : Result ℕ Error) → old.in_transaction ≡ false → Executes sql params old new r → OnOk r (IsTrue new.is_open)
+unfolding ExecutesIn
+open_when_run sql params old new (Err e) none h = tt
+open_when_run sql params old new (Ok count) none h = elim (cases_Bool (shows_rows false h.0)) [
+  | inl shows ↦ absurd (let e = (rw shows at h.2).0 in cc)
+  | inr runs ↦ run_stays_open old new h.0.command (text_of sql h.0) (timed params h.0.formats h.1.now) h.0.returning count none (rw runs at h.2)
+]
+
 -- ---- what is undone outside a transaction is seen again
 
 pub seen_undone : (old new : State) → (IsTrue old.is_open → old.now ≡ old.committed) → IsUndone old new → IsSeenAgain old new
 seen_undone old new settled (inl same) = record { was_open = λ up. same.0.was_open; now_is = λ up. same.0.now_is; mode = λ none. same.0.mode ∙ none }
 seen_undone old new settled (inr back) = record { was_open = back.was_open; now_is = λ up. (back.undone up).0 ∙ sym (settled (back.was_open up)); mode = λ none. back.autocommit }
-
-abbrev pub Answered : Type 0
-Answered = Result (Vec (List Value) Global) Error
 
 pub seen_unasked : (sql : List ℕ) (params : Row) (old new : State) (r : Answered) → (IsTrue old.is_open → old.now ≡ old.committed) → IfErr r (FailsToQuery sql params old new) → OnErr r (IsSeenAgain old new)
 seen_unasked sql params old new (Ok rows) settled h = tt
@@ -163,6 +209,25 @@ pub held_again : (old new : State) (k : Kept) → (old.in_transaction ≡ false 
 held_again old new k none same h =
     subst (λ (d : Database). Holds (tables_in (tables_of new).is_sure (tables_of new).faults new.in_transaction d) k) (sym same)
     (held_as (tables_of old).is_sure (tables_of new).is_sure (tables_of old).faults (tables_of new).faults old.in_transaction new.in_transaction old.now k none h)
+
+-- trees that are committed hold what their tables stand for
+pub trees_hold : (db : Database) (k : Kept) → IsDatabase db → Holds (tables_in true 0 false db) k → TreesHold db.trees k
+trees_hold db k sound h = record {
+  sound = subst (λ s. IsSound s db.trees) h.schema sound;
+  holds = record {
+    schema = refl;
+    committed = refl;
+    layout = h.layout;
+    deposits = h.deposits;
+    censuses = h.censuses;
+    census_rows = h.census_rows;
+    census_flags = h.census_flags;
+    filed = h.filed;
+    ordered = h.ordered;
+    few_deposits = h.few_deposits;
+    few_censuses = h.few_censuses;
+  };
+}
 
 -- the same of the tables of layout 1
 pub first_held_as : (b c : Bool) (m n : ℕ) (was is : Bool) (db : Database) (k : Kept) → HoldsFirst (tables_in b m was db) k → HoldsFirst (tables_in c n is db) k

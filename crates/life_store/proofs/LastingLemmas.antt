@@ -1,13 +1,13 @@
 -- How long a database that is sure stays sure.
 use Rattle.std.proofs.Common.{arith, ◌≡◌, ◌≤◌, ◌+◌, ◌-◌, ◌^◌, ◌⊎◌, inl, inr, ℕ, Bool, true, false, refl, sym, subst, ◌∙◌, min}
-use Rattle.std.specs.Prelude.{IsTrue}
-use Rattle.std.proofs.lemmas.Bool.{cases_Bool}
 use Rattle.sqlite_trees.specs.Tree.{Trees}
-use Rattle.sqlite_trees.specs.View.{doubt}
-use Rattle.sqlite.specs.State.{State, HasCleanDisk, Survives}
+use Rattle.sqlite_trees.specs.View.{doubt, IsClean}
+use Rattle.sqlite.specs.State.{State, Survives}
 use Rattle.sqlite_trees.specs.declared.store.Store.{Ghosts}
 use Rattle.sqlite.specs.Held.{Held, state}
+use Rattle.life_store.specs.Crash.{NoMore}
 use Rattle.life_store.specs.Tables.{Tables, ArchiveView, tables_of, StaysSure, IsTransition}
+use Rattle.life_store.proofs.CrashLemmas.{crash_none, crash_both}
 use Rattle.life_store.proofs.KeepLemmas.{sure_is, sure_from}
 
 lasts_same : (old new : Tables) → new.faults ≡ old.faults → new.is_sure ≡ old.is_sure → StaysSure old new
@@ -68,12 +68,31 @@ lasts_begun {S} g old new is =
     subst (λ (h : Held S). StaysSure (tables_of (state g old)) (tables_of (state g h))) (sym is)
     (lasts_same (tables_of (state g old)) (tables_of (state g (record old { in_transaction = true }))) refl refl)
 
-pub goes_none : (s : ArchiveView) → IsTransition s s
-goes_none s = record { was_sure = λ sure. sure; lasts = lasts_none s.tables; capacity = refl }
+pub goes_none : {S : Type 0} {g : Ghosts S} {Adds : Trees → Type 0} → (s : ArchiveView S) → IsTransition g Adds s s
+goes_none s = record { was_sure = λ sure. sure; lasts = lasts_none s.tables; capacity = refl; crash = crash_none s.store }
 
-pub goes_then : (a b c : ArchiveView) → IsTransition a b → IsTransition b c → IsTransition a c
-goes_then a b c first second = record {
+-- what two calls add is said of the tables before the first
+pub goes_both : {S : Type 0} {g : Ghosts S} {First Last Adds : Trees → Type 0} (a b c : ArchiveView S) → ((db : Trees) → First db → Adds db) → (IsClean (g.view b.store) → (db : Trees) → Last db → Adds db)
+    → IsTransition g First a b → IsTransition g Last b c → IsTransition g Adds a c
+goes_both a b c one two first second = record {
   was_sure = λ sure. first.was_sure (second.was_sure sure);
   lasts = lasts_then a.tables b.tables c.tables first.lasts second.lasts;
   capacity = second.capacity ∙ first.capacity;
+  crash = crash_both a.store b.store c.store one two first.crash second.crash;
 }
+
+-- a call that adds nothing, and one that may add
+pub goes_last : {S : Type 0} {g : Ghosts S} {Last Adds : Trees → Type 0} (a b c : ArchiveView S) → (IsClean (g.view b.store) → (db : Trees) → Last db → Adds db) → IsTransition g NoMore a b → IsTransition g Last b c
+    → IsTransition g Adds a c
+goes_last a b c two first second = goes_both a b c (λ db none. absurd none) two first second
+
+pub goes_then : {S : Type 0} {g : Ghosts S} {Adds : Trees → Type 0} (a b c : ArchiveView S) → IsTransition g NoMore a b → IsTransition g Adds b c → IsTransition g Adds a c
+goes_then a b c first second = goes_last a b c (λ clean db more. more) first second
+
+-- what a call adds, said otherwise
+pub goes_as : {S : Type 0} {g : Ghosts S} {Last Adds : Trees → Type 0} (a b : ArchiveView S) → (IsClean (g.view a.store) → (db : Trees) → Last db → Adds db) → IsTransition g Last a b → IsTransition g Adds a b
+goes_as a b says it = goes_last a a b says (goes_none a) it
+
+-- a call that adds nothing adds no more than another may
+pub goes_more : {S : Type 0} {g : Ghosts S} {Adds : Trees → Type 0} (a b : ArchiveView S) → IsTransition g NoMore a b → IsTransition g Adds a b
+goes_more a b it = goes_as a b (λ clean db none. absurd none) it

@@ -1,6 +1,7 @@
 pub mod Texts
 pub mod KeepLemmas
 pub mod LastingLemmas
+pub mod CrashLemmas
 pub mod QueryLemmas
 pub mod InsertLemmas
 pub mod RowLemmas

@@ -141,27 +141,27 @@ held_closed old image k up live settled held holds =
 
 -- ---- what an archive over files holds, once its tables were seen to
 
-abbrev pub IsSureOf : ArchiveView → Type 0
+abbrev pub IsSureOf : {S : Type 0} → ArchiveView S → Type 0
 IsSureOf a = IsTrue a.tables.is_sure
 
-module _ {E : Type 0} (s : State) (image : Image) (opened : HasCleanDisk s → Opens s × IsLive s) where
-  pub opens_held : (r : Result ArchiveView E) → (HasCleanDisk s → (db : Trees) → HoldsDatabase image db → s.committed.trees ≡ db) → IfOk r (λ a. IsSureOf a → HasCleanDisk s)
+module _ {S E : Type 0} (s : State) (image : Image) (opened : HasCleanDisk s → Opens s × IsLive s) where
+  pub opens_held : (r : Result (ArchiveView S) E) → (HasCleanDisk s → (db : Trees) → HoldsDatabase image db → s.committed.trees ≡ db) → IfOk r (λ a. IsSureOf a → HasCleanDisk s)
       → IfOk r (λ a. (k : Kept) → IsSureOf a → Holds (tables_of s) k → Holds a.tables k) → IfOk r (λ a. (k : Kept) → IsSureOf a → FilesHold image k → Holds a.tables k)
   opens_held (Ok a) found was held = λ k sure files. let clean = was sure in held k sure (finds_held s image k (opened clean) (found clean) files)
   opens_held (Err e) found was held = tt
 
-  pub opens_carried : (r : Result ArchiveView E) → (HasCleanDisk s → (db : Trees) → HoldsDatabase image db → s.committed.trees ≡ db) → IfOk r (λ a. IsSureOf a → HasCleanDisk s)
+  pub opens_carried : (r : Result (ArchiveView S) E) → (HasCleanDisk s → (db : Trees) → HoldsDatabase image db → s.committed.trees ≡ db) → IfOk r (λ a. IsSureOf a → HasCleanDisk s)
       → IfOk r (λ a. Carries (tables_of s) a.tables) → IfOk r (λ a. (k : Kept) → IsSureOf a → FilesHoldFirst image k → CarriedOver a.tables k)
   opens_carried (Ok a) found was held = λ k sure files. let clean = was sure in held k sure (finds_first s image k (opened clean) (found clean) files)
   opens_carried (Err e) found was held = tt
 
-  pub opens_known : (r : Result ArchiveView E) → (HasCleanDisk s → (db : Trees) → HoldsDatabase image db → s.committed.trees ≡ db) → IfOk r (λ a. IsSureOf a → HasCleanDisk s)
+  pub opens_known : (r : Result (ArchiveView S) E) → (HasCleanDisk s → (db : Trees) → HoldsDatabase image db → s.committed.trees ≡ db) → IfOk r (λ a. IsSureOf a → HasCleanDisk s)
       → IfOk r (λ a. (schema : Schema) (own versions : List Value) → IsLayout schema own → IsSureOf a → HaveVersions schema (tables_of s) versions → versions ≡ own)
       → IfOk r (λ a. (schema : Schema) (own versions : List Value) → IsLayout schema own → IsSureOf a → FilesHaveVersions schema image versions → versions ≡ own)
   opens_known (Ok a) found was known = λ schema own versions of sure files. let clean = was sure in known schema own versions of sure (finds_versions s image schema own versions of (opened clean) (found clean) files)
   opens_known (Err e) found was known = tt
 
-  pub opens_fresh : (r : Result ArchiveView E) → (HasCleanDisk s → AreFoundIn image s.committed.trees) → IfOk r (λ a. IsSureOf a → HasCleanDisk s)
+  pub opens_fresh : (r : Result (ArchiveView S) E) → (HasCleanDisk s → AreFoundIn image s.committed.trees) → IfOk r (λ a. IsSureOf a → HasCleanDisk s)
       → IfOk r (λ a. IsSureOf a → IsLaid no_schema [] s.now → Holds a.tables nothing_kept) → IfOk r (λ a. IsSureOf a → ListNothing image → Holds a.tables nothing_kept)
   opens_fresh (Ok a) found was held = λ sure none. let clean = was sure in held sure (record { is = finds_none s (opened clean) (none s.committed.trees (found clean)); none = tt })
   opens_fresh (Err e) found was held = tt
@@ -188,7 +188,7 @@ module _ {A F : Type 0} (s : State) (image : Image) (opened : HasCleanDisk s →
   opens_none (Ok a) h reads never = tt
   opens_none (Err e) h reads never = λ clean nothing is. let it = h clean is in never (finds_none s (opened it.0) (nothing s.committed.trees (reads it.0))) is
 
-pub sure_then : {E : Type 0} (s : State) (P : Type 0) (r : Result ArchiveView E) → (HasCleanDisk s → P) → IfOk r (λ a. IsSureOf a → HasCleanDisk s) → IfOk r (λ a. IsSureOf a → P)
+pub sure_then : {S E : Type 0} (s : State) (P : Type 0) (r : Result (ArchiveView S) E) → (HasCleanDisk s → P) → IfOk r (λ a. IsSureOf a → HasCleanDisk s) → IfOk r (λ a. IsSureOf a → P)
 sure_then s P (Ok a) then was = λ sure. then (was sure)
 sure_then s P (Err e) then was = tt
 
@@ -201,7 +201,7 @@ errs_never (Ok a) b fits h = tt
 errs_never (Err e) b fits h = (λ is. absurd (h is), λ is. absurd (let e : true ≡ false = sym fits ∙ is in cc))
 
 -- what an opening with a good capacity says of it
-pub capacity_fits : {E : Type 0} (r : Result ArchiveView E) (n : ℕ) → is_capacity n ≡ true → IfOk r (λ a. a.capacity ≡ n) → IfOk r (λ a. (a.capacity ≡ n) × IsTrue (is_capacity n))
+pub capacity_fits : {S E : Type 0} (r : Result (ArchiveView S) E) (n : ℕ) → is_capacity n ≡ true → IfOk r (λ a. a.capacity ≡ n) → IfOk r (λ a. (a.capacity ≡ n) × IsTrue (is_capacity n))
 capacity_fits (Ok a) n fits is = (is, fits)
 capacity_fits (Err e) n fits is = tt
 
@@ -215,7 +215,7 @@ pub unavailable_not_ours : Unavailable ≢ NotOurs
 unavailable_not_ours is = absurd cc
 
 -- what was closed is found again
-pub found_again : {E : Type 0} (r : Result ArchiveView E) (t : Tables) (image : Image) (Clean : Type 0) → IfOk r (λ a. (k : Kept) → IsSureOf a → FilesHold image k → Holds a.tables k) → IfOk r (λ a. IsSureOf a → Clean)
+pub found_again : {S E : Type 0} (r : Result (ArchiveView S) E) (t : Tables) (image : Image) (Clean : Type 0) → IfOk r (λ a. (k : Kept) → IsSureOf a → FilesHold image k → Holds a.tables k) → IfOk r (λ a. IsSureOf a → Clean)
     → ((k : Kept) → Clean → Holds t k → FilesHold image k) → IfOk r (λ a. (k : Kept) → IsSureOf a → Holds t k → Holds a.tables k)
 found_again (Ok a) t image Clean found honest held = λ k sure holds. found k sure (held k (honest sure) holds)
 found_again (Err e) t image Clean found honest held = tt

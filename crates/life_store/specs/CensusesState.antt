@@ -1,13 +1,15 @@
 -- Words of the code alone: what the rows of the tables stand for (Tables.antt), part by part, as a transaction writes them.
-use Rattle.std.specs.Prelude.{◌≡◌, ℕ, pos, Bool, false, List, [], ◌∷◌, ◌++◌, IsTrue}
+use Rattle.std.specs.Prelude.{◌≡◌, ◌<◌, ◌+◌, ◌^◌, ℕ, pos, Bool, false, List, [], ◌∷◌, ◌++◌, IsTrue, length}
 use Rattle.sqlite_value.specs.declared.value.Value.TheVariants.{Int, Text}
 use Rattle.sqlite_value.specs.Order.{Row}
-use Rattle.sqlite.specs.Effect.{Database}
+use Rattle.sqlite_trees.specs.Tree.{Trees}
+use Rattle.sqlite.specs.Effect.{Database, IsDatabase}
 use Rattle.sqlite.specs.State.{State}
 use Rattle.life_store.specs.declared.kept.Deposit.{Deposit}
-use Rattle.life_store.specs.Kept.{Tallied}
+use Rattle.life_store.specs.Kept.{Kept, Tallied}
 use Rattle.life_store.specs.Layout.{archive_schema}
 use Rattle.life_store.specs.Stored.{rows_by, deposit_cells, census_cells, count_cells, flag_cells, flag_number, tagged}
+use Rattle.life_store.specs.Tables.{Tables, Holds, TreesHold}
 
 -- the rows of `layout`, and what the rows of the other tables stand for, each for a list of its own
 pub record Parts : Type 0 where
@@ -55,3 +57,20 @@ given_row id row = Int (pos id) ∷ Text row.0 ∷ Int (pos row.1) ∷ []
 
 abbrev pub given_flag : ℕ → Bool → Row
 given_flag id steady = Int (pos id) ∷ Int (pos (flag_number steady)) ∷ []
+
+-- ---- what a crash may leave
+
+-- the trees are a database whose rows stand for these
+pub record TreesHoldParts (db : Trees) (p : Parts) : Type 0 where
+  pub after : Database
+  pub trees : db ≡ after.trees
+  pub sound : IsDatabase after
+  pub holds : HoldsParts after p
+
+-- the number is an integer of SQL, and the trees hold the rows of before and those of one census more, if it has the next number
+abbrev pub HoldNewParts : Database → ℕ → Tallied → Trees → Type 0
+HoldNewParts before id t db = (id < 2 ^ 63) × ((p : Parts) → HoldsParts before p → id ≡ length p.censuses + 1 → id ≡ length p.flagged + 1 → TreesHoldParts db (with_flag t (with_census id t p)))
+
+-- the trees stand for the censuses of the tables and for this one, if it has the next number
+abbrev pub HoldNewCensus : Tables → ℕ → Tallied → Trees → Type 0
+HoldNewCensus old id t db = (k : Kept) → Holds old k → id ≡ length k.censuses + 1 → TreesHold db (record k { censuses = k.censuses ++ t ∷ [] })

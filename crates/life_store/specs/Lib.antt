@@ -6,6 +6,7 @@ pub mod Kept
 pub mod Fault
 pub mod Stored
 pub mod DepositsState
+pub mod Crash
 pub mod Tables
 pub mod CensusesState
 pub mod AskingState

@@ -1,20 +1,24 @@
 -- What contracts see of an archive: its tables as they are, and what their rows stand for (the tables of docs/FORMATS.md).
 -- What a table is, its rows with their ids and its schema: the kit's `sqlite`, after SQLite's "Database File Format" and "CREATE TABLE".
-use Rattle.std.specs.Prelude.{◌≡◌, ◌<◌, ◌≤◌, ◌+◌, ◌^◌, ◌⊎◌, ◌&&◌, ◌++◌, ℕ, pos, Bool, false, List, [], ◌∷◌, length, map, IsTrue, refl}
+use Rattle.std.specs.Prelude.{◌≡◌, ◌<◌, ◌≤◌, ◌+◌, ◌^◌, ◌⊎◌, ◌&&◌, ◌++◌, ℕ, pos, Bool, true, false, List, [], ◌∷◌, length, map, IsTrue, refl}
 use Rattle.std.specs.Coded.{Coded, code_by, coded×, coded_ℕ, coded_bool, coded_list}
 use Rattle.std.specs.List.{AllByRecursion}
 use Rattle.std.specs.List.Sorted.{IsStrictlySortedBy}
 use Rattle.sqlite_disk.specs.Disk.{MoreFaults}
+use Rattle.sqlite_trees.specs.declared.store.Store.{Ghosts}
+use Rattle.sqlite_trees.specs.Tree.{Trees}
 use Rattle.sqlite_trees.specs.View.{doubt}
 use Rattle.sqlite_value.specs.contracts.value.Value as value
 use Rattle.sqlite_value.specs.declared.value.Value.TheVariants.{Int}
 use Rattle.sqlite_value.specs.Order.{Row}
+use Rattle.sqlite_catalog.specs.Listing.{IsSound}
 use Rattle.sqlite_schema.specs.declared.schema.Schema.{Schema}
 use Rattle.sqlite_schema.specs.contracts.schema.Schema.{the_row}
 use Rattle.sqlite.specs.Effect.{Database}
 use Rattle.sqlite.specs.State.{State}
 use Rattle.life_census.specs.Counting.{row_cmp}
 use Rattle.life_census.specs.Rows.{Counts}
+use Rattle.life_store.specs.Crash.{CrashLeaves}
 use Rattle.life_store.specs.declared.kept.Deposit.{Deposit}
 use Rattle.life_store.specs.Kept.{Kept, Tallied}
 use Rattle.life_store.specs.Layout.{archive_schema}
@@ -35,20 +39,21 @@ pub record Tables : Type 0 where
   pub census_rows : List Row
   pub census_flags : List Row
 
--- an archive: its tables, and how many deposits, and how many censuses, it takes
-pub record ArchiveView : Type 0 where
+-- an archive: its tables, how many deposits, and how many censuses, it takes, and its store, of which the clauses on crashes speak
+pub record ArchiveView (S : Type 0) : Type 0 where
   pub tables : Tables
   pub capacity : ℕ
+  pub store : S
 
 abbrev pub coded_rows : Coded (List Row)
 coded_rows = coded_list (coded_list value.the_row.coded)
 
--- a shelf is stored as the pairs of its parts
-abbrev pub coded_view : Coded ArchiveView
-coded_view =
-    code_by (Bool × (ℕ × (Bool × (Schema × (List Row × (List Row × (List Row × (List Row × (List Row × ℕ)))))))))
-    (coded× coded_bool (coded× coded_ℕ (coded× coded_bool (coded× the_row.coded (coded× coded_rows (coded× coded_rows (coded× coded_rows (coded× coded_rows (coded× coded_rows coded_ℕ)))))))))
-    (λ s. (s.tables.is_sure, (s.tables.faults, (s.tables.in_transaction, (s.tables.schema, (s.tables.layout, (s.tables.deposits, (s.tables.censuses, (s.tables.census_rows, (s.tables.census_flags, s.capacity))))))))))
+-- a view is stored as the pairs of its parts
+abbrev pub coded_view : {S : Type 0} → Coded S → Coded (ArchiveView S)
+coded_view {S} store =
+    code_by (Bool × (ℕ × (Bool × (Schema × (List Row × (List Row × (List Row × (List Row × (List Row × (ℕ × S))))))))))
+    (coded× coded_bool (coded× coded_ℕ (coded× coded_bool (coded× the_row.coded (coded× coded_rows (coded× coded_rows (coded× coded_rows (coded× coded_rows (coded× coded_rows (coded× coded_ℕ store))))))))))
+    (λ s. (s.tables.is_sure, (s.tables.faults, (s.tables.in_transaction, (s.tables.schema, (s.tables.layout, (s.tables.deposits, (s.tables.censuses, (s.tables.census_rows, (s.tables.census_flags, (s.capacity, s.store)))))))))))
     (λ p. record {
       tables = record {
         is_sure = p.0;
@@ -61,7 +66,8 @@ coded_view =
         census_rows = p.1.1.1.1.1.1.1.0;
         census_flags = p.1.1.1.1.1.1.1.1.0;
       };
-      capacity = p.1.1.1.1.1.1.1.1.1;
+      capacity = p.1.1.1.1.1.1.1.1.1.0;
+      store = p.1.1.1.1.1.1.1.1.1.1;
     })
     (λ _. refl)
 
@@ -110,6 +116,11 @@ pub record Holds (t : Tables) (k : Kept) : Type 0 where
   pub few_deposits : length k.deposits < 2 ^ 63
   pub few_censuses : length k.censuses < 2 ^ 63
 
+-- The trees obey the archive's tables, with rows that stand for these.
+pub record TreesHold (db : Trees) (k : Kept) : Type 0 where
+  pub sound : IsSound archive_schema db
+  pub holds : Holds (tables_in true 0 false (record { schema = archive_schema; trees = db })) k
+
 -- ---- what a call does
 
 -- a database that is sure was sure
@@ -145,9 +156,14 @@ AddsDeposit old new d = (k : Kept) → IsTrue new.is_sure → Holds old k → Ho
 abbrev pub AddsCensus : Tables → Tables → Tallied → Type 0
 AddsCensus old new t = (k : Kept) → IsTrue new.is_sure → Holds old k → Holds new (record k { censuses = k.censuses ++ t ∷ [] })
 
--- what each call keeps: a database that is sure after it was sure before it, one that was sure before it is sure after it unless the disk
--- failed in the call, and the capacity is the one chosen at opening
-pub record IsTransition (old new : ArchiveView) : Type 0 where
+-- The database was sure, and whatever its tables stood for, the trees stand for what the change makes of it.
+abbrev pub HoldChanged : Tables → (Kept → Kept) → Trees → Type 0
+HoldChanged old change db = IsTrue old.is_sure × ((k : Kept) → Holds old k → TreesHold db (change k))
+
+-- What each call keeps: a database that is sure after it was sure before it; one that was sure before it is sure after it unless the disk
+-- failed in the call; the capacity is the one chosen at opening; and a crash leaves what it might have left before, or what `Adds` says.
+pub record IsTransition {S : Type 0} (g : Ghosts S) (Adds : Trees → Type 0) (old new : ArchiveView S) : Type 0 where
   pub was_sure : WasSure old.tables new.tables
   pub lasts : StaysSure old.tables new.tables
   pub capacity : new.capacity ≡ old.capacity
+  pub crash : CrashLeaves g Adds old.store new.store

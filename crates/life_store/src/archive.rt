@@ -1,10 +1,13 @@
 //! The archive, over any store.
 
-ghost use Rattle.std.specs.Prelude.{◌≡◌, ◌+◌, length, option_map, IsTrue, IfOk, IfSome, OnOk, OnErr};
+ghost use Rattle.std.specs.Prelude.{◌≡◌, ◌+◌, ◌++◌, ◌∷◌, [], length, option_map, IsTrue, IfOk, IfSome, OnOk, OnErr};
+ghost use Rattle.sqlite_trees.specs.Tree.{Trees};
+ghost use Rattle.sqlite_trees.specs.View.{IsClean};
 ghost use Rattle.sqlite.specs.Held.{state};
 ghost use Rattle.life_rle.specs.Record.{IsInside};
-ghost use Rattle.life_store.specs.Kept.{numbered, deposit_by, lines_after, kept_census, census_by, total_of};
-ghost use Rattle.life_store.specs.Tables.{tables_of, IsTransition, HoldsTheSame, ForAllHeld, HasOrder, AddsDeposit, AddsCensus};
+ghost use Rattle.life_store.specs.Kept.{Kept, numbered, deposit_by, lines_after, kept_census, census_by, total_of};
+ghost use Rattle.life_store.specs.Crash.{NoMore};
+ghost use Rattle.life_store.specs.Tables.{tables_of, IsTransition, HoldsTheSame, ForAllHeld, HasOrder, AddsDeposit, AddsCensus, HoldChanged, TreesHold, Holds};
 
 use crate::fault::Unavailable;
 use crate::kept::{Census, Deposit, FoundCensus, FoundDeposit, KeptCensus, Listing};
@@ -42,14 +45,14 @@ impl<S: Alter + Drop> Drop for Archive<S> {
 impl<S: Alter> Model for Archive<S> {
     ghost use Rattle.life_store.specs.Tables.{ArchiveView, coded_view};
 
-    ghost Value = { ArchiveView };
+    ghost Value = { ArchiveView S };
 
-    ghost coded = { coded_view };
+    ghost coded = { coded_view S.code };
 
     ghost use Rattle.sqlite.specs.Held.{state};
     ghost use Rattle.life_store.specs.Tables.{tables_of};
 
-    ghost view = { λ a. record { tables = tables_of (state S.Store a.conn); capacity = a.capacity } };
+    ghost view = { λ a. record { tables = tables_of (state S.Store a.conn); capacity = a.capacity; store = a.conn.store } };
 }
 
 impl<S: Alter> Archive<S> {
@@ -59,6 +62,15 @@ impl<S: Alter> Archive<S> {
     {
         let Archive { conn, capacity: _ } = self;
         conn
+    }
+
+    /// While an archive is sure, a crash leaves what it holds and nothing else: what was answered is committed. A law: calling
+    /// it does nothing.
+    pub fn law_of_crashes(&self)
+        ensures { IsTrue self.now.tables.is_sure → (k : Kept) → Holds self.now.tables k → (db : Trees) → S.Store.recovers self.now.store db → TreesHold db k }
+    {
+        let _obeyed = self.conn.schema();
+        let _settled = self.conn.is_autocommit();
     }
 
     /// How many deposits, and how many censuses, are to be taken at most. No call here counts against it: that is for
@@ -71,7 +83,8 @@ impl<S: Alter> Archive<S> {
 
     /// How many deposits there are: the greatest number. No table is walked.
     pub fn count_deposits(&mut self) -> Result<u64, Unavailable>
-        ensures goes { IsTransition self.old self.new }
+        ensures goes { IsTransition S.Store NoMore self.old self.new }
+        ensures sure { OnOk result (IsClean (S.Store.view self.new.store) → IsTrue self.new.tables.is_sure) }
         ensures same { HoldsTheSame self.old.tables self.new.tables }
         ensures value { ForAllHeld self.old.tables self.new.tables (λ k. IfOk result (λ n. n ≡ length k.deposits)) }
     {
@@ -81,7 +94,7 @@ impl<S: Alter> Archive<S> {
 
     /// The deposit of the number, or none.
     pub fn deposit_of(&mut self, alloc: Global, id: u64) -> Result<Option<Deposit>, Unavailable>
-        ensures goes { IsTransition self.old self.new }
+        ensures goes { IsTransition S.Store NoMore self.old self.new }
         ensures same { HoldsTheSame self.old.tables self.new.tables }
         ensures value { ForAllHeld self.old.tables self.new.tables (λ k. IfOk result (λ d. d ≡ numbered k.deposits id)) }
         ensures inside { IfOk result (λ o. IfSome o (λ d. IsInside 1024 d.content.cells)) }
@@ -103,7 +116,8 @@ impl<S: Alter> Archive<S> {
         member: &[u8],
         token: &[u8],
     ) -> Result<Option<FoundDeposit>, Unavailable>
-        ensures goes { IsTransition self.old self.new }
+        ensures goes { IsTransition S.Store NoMore self.old self.new }
+        ensures sure { OnOk result (IsClean (S.Store.view self.new.store) → IsTrue self.new.tables.is_sure) }
         ensures same { HoldsTheSame self.old.tables self.new.tables }
         ensures value { ForAllHeld self.old.tables self.new.tables (λ k. IfOk result (λ d. d ≡ deposit_by member.now token.now k.deposits)) }
         ensures inside { IfOk result (λ o. IfSome o (λ d. IsInside 1024 d.deposit.content.cells)) }
@@ -114,7 +128,7 @@ impl<S: Alter> Archive<S> {
 
     /// The first hundred deposits with a greater number, a line each. Any number is good.
     pub fn deposits_after(&mut self, alloc: Global, id: u64) -> Result<Listing, Unavailable>
-        ensures goes { IsTransition self.old self.new }
+        ensures goes { IsTransition S.Store NoMore self.old self.new }
         ensures same { HoldsTheSame self.old.tables self.new.tables }
         ensures value { ForAllHeld self.old.tables self.new.tables (λ k. IfOk result (λ lines. lines ≡ lines_after id k.deposits)) }
     {
@@ -129,7 +143,8 @@ impl<S: Alter> Archive<S> {
     /// caller to ask first.
     pub fn add_deposit(&mut self, alloc: Global, deposit: &Deposit) -> Result<u64, Unavailable>
         requires { IsInside 1024 deposit.now.content.cells }
-        ensures goes { IsTransition self.old self.new }
+        ensures goes { IsTransition S.Store (HoldChanged self.old.tables (λ k. record k { deposits = k.deposits ++ deposit.now ∷ [] })) self.old self.new }
+        ensures sure { OnOk result (IsClean (S.Store.view self.new.store) → IsTrue self.new.tables.is_sure) }
         ensures value { ForAllHeld self.old.tables self.new.tables (λ k. IfOk result (λ n. n ≡ length k.deposits + 1)) }
         ensures ok { OnOk result (AddsDeposit self.old.tables self.new.tables deposit.now) }
         ensures err { OnErr result (HoldsTheSame self.old.tables self.new.tables) }
@@ -147,7 +162,8 @@ impl<S: Alter> Archive<S> {
 
     /// How many censuses there are: the greatest number.
     pub fn count_censuses(&mut self) -> Result<u64, Unavailable>
-        ensures goes { IsTransition self.old self.new }
+        ensures goes { IsTransition S.Store NoMore self.old self.new }
+        ensures sure { OnOk result (IsClean (S.Store.view self.new.store) → IsTrue self.new.tables.is_sure) }
         ensures same { HoldsTheSame self.old.tables self.new.tables }
         ensures value { ForAllHeld self.old.tables self.new.tables (λ k. IfOk result (λ n. n ≡ length k.censuses)) }
     {
@@ -157,7 +173,7 @@ impl<S: Alter> Archive<S> {
 
     /// The census of the number, or none.
     pub fn census_of(&mut self, alloc: Global, id: u64) -> Result<Option<KeptCensus>, Unavailable>
-        ensures goes { IsTransition self.old self.new }
+        ensures goes { IsTransition S.Store NoMore self.old self.new }
         ensures same { HoldsTheSame self.old.tables self.new.tables }
         ensures value { ForAllHeld self.old.tables self.new.tables (λ k. IfOk result (λ c. c ≡ option_map kept_census (numbered k.censuses id))) }
     {
@@ -178,7 +194,8 @@ impl<S: Alter> Archive<S> {
         member: &[u8],
         token: &[u8],
     ) -> Result<Option<FoundCensus>, Unavailable>
-        ensures goes { IsTransition self.old self.new }
+        ensures goes { IsTransition S.Store NoMore self.old self.new }
+        ensures sure { OnOk result (IsClean (S.Store.view self.new.store) → IsTrue self.new.tables.is_sure) }
         ensures same { HoldsTheSame self.old.tables self.new.tables }
         ensures value { ForAllHeld self.old.tables self.new.tables (λ k. IfOk result (λ c. c ≡ census_by member.now token.now k.censuses)) }
     {
@@ -203,7 +220,8 @@ impl<S: Alter> Archive<S> {
     ) -> Result<u64, Unavailable>
         // The codes of a tally that `tally` made ascend.
         requires { HasOrder tally.now }
-        ensures goes { IsTransition self.old self.new }
+        ensures goes { IsTransition S.Store (HoldChanged self.old.tables (λ k. record k { censuses = k.censuses ++ record { census = census.now; tally = tally.now; steady = steady } ∷ [] })) self.old self.new }
+        ensures sure { OnOk result (IsClean (S.Store.view self.new.store) → IsTrue self.new.tables.is_sure) }
         ensures value { ForAllHeld self.old.tables self.new.tables (λ k. IfOk result (λ n. n ≡ length k.censuses + 1)) }
         ensures ok { OnOk result (AddsCensus self.old.tables self.new.tables (record { census = census.now; tally = tally.now; steady = steady })) }
         ensures err { OnErr result (HoldsTheSame self.old.tables self.new.tables) }
@@ -218,7 +236,7 @@ impl<S: Alter> Archive<S> {
 
     /// The rows of the tally of a census that is kept, in byte order of their codes.
     fn rows_kept(&mut self, alloc: Global, id: u64) -> Result<Rows, Unavailable>
-        ensures goes { IsTransition self.old self.new }
+        ensures goes { IsTransition S.Store NoMore self.old self.new }
         ensures same { HoldsTheSame self.old.tables self.new.tables }
         ensures value { ForAllHeld self.old.tables self.new.tables (λ k. IfOk result (λ rows. IfSome (numbered k.censuses id) (λ t. rows ≡ t.tally.rows))) }
     {
@@ -232,7 +250,7 @@ impl<S: Alter> Archive<S> {
     /// The rows of the tally of the census of the number, in byte order of their codes, or none. A tally without rows is
     /// kept by its census alone, so its flag is asked for first.
     pub fn rows_of(&mut self, alloc: Global, id: u64) -> Result<Option<Rows>, Unavailable>
-        ensures goes { IsTransition self.old self.new }
+        ensures goes { IsTransition S.Store NoMore self.old self.new }
         ensures same { HoldsTheSame self.old.tables self.new.tables }
         ensures value { ForAllHeld self.old.tables self.new.tables (λ k. IfOk result (λ rows. rows ≡ option_map (λ t. t.tally.rows) (numbered k.censuses id))) }
     {
@@ -247,7 +265,7 @@ impl<S: Alter> Archive<S> {
 
     /// The flag of the census of the number, or none: whether the generation that it counted is steady.
     pub fn flag_of(&mut self, id: u64) -> Result<Option<bool>, Unavailable>
-        ensures goes { IsTransition self.old self.new }
+        ensures goes { IsTransition S.Store NoMore self.old self.new }
         ensures same { HoldsTheSame self.old.tables self.new.tables }
         ensures value { ForAllHeld self.old.tables self.new.tables (λ k. IfOk result (λ b. b ≡ option_map (λ t. t.steady) (numbered k.censuses id))) }
     {
@@ -260,7 +278,7 @@ impl<S: Alter> Archive<S> {
 
     /// How many clusters with the code there are in all censuses of deposits of the rule.
     pub fn counts_of(&mut self, alloc: Global, rule: &Rule, code: &[u8]) -> Result<u64, Unavailable>
-        ensures goes { IsTransition self.old self.new }
+        ensures goes { IsTransition S.Store NoMore self.old self.new }
         ensures same { HoldsTheSame self.old.tables self.new.tables }
         ensures value { ForAllHeld self.old.tables self.new.tables (λ k. IfOk result (λ n. n ≡ total_of k rule.now code.now)) }
     {

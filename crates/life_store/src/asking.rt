@@ -4,10 +4,11 @@ ghost use Rattle.std.specs.Prelude.{◌≡◌, ◌≤◌, pos, false, Ok, IsTrue
 ghost use Rattle.sqlite_value.specs.declared.value.Value.TheVariants.{Int, Text, Blob};
 ghost use Rattle.sqlite_value.specs.Value.{owned};
 ghost use Rattle.sqlite_trees.specs.View.{doubt};
-ghost use Rattle.sqlite.specs.State.{HasCleanDisk, Shown, Executes, KeepsCommit};
+ghost use Rattle.sqlite.specs.State.{HasCleanDisk, Shown, Executes, KeepsCommit, CommitsShowing, CommitsBy};
 ghost use Rattle.sqlite.specs.Held.{state};
 ghost use Rattle.sqlite.specs.Values.{bound};
 ghost use Rattle.life_store.specs.AskingState.{IsSeenAgain};
+ghost use Rattle.life_store.specs.Crash.{CrashLeaves};
 ghost use Rattle.life_store.specs.Stored.{flag_number};
 ghost use Rattle.life_store.specs.Tables.{tables_of, StaysSure};
 
@@ -58,6 +59,7 @@ pub(crate) fn ask<S: Alter>(
     ensures clean { doubt (state S.Store conn.old).is_clean ≤ doubt (state S.Store conn.new).is_clean }
     ensures mode { conn.old.in_transaction ≡ false → conn.new.in_transaction ≡ false }
     ensures lasts { StaysSure (tables_of (state S.Store conn.old)) (tables_of (state S.Store conn.new)) }
+    ensures crash { CrashLeaves S.Store (CommitsShowing sql.now (bound params.now) (state S.Store conn.old)) conn.old.store conn.new.store }
 {
     if !conn.is_autocommit() {
         return Err(Error::SqliteFailure(ErrorCode::TransactionState));
@@ -75,6 +77,8 @@ pub(crate) fn write<S: Alter>(
     ensures refused { HasCleanDisk (state S.Store conn.new) → OnErr result (IsSeenAgain (state S.Store conn.old) (state S.Store conn.new)) }
     ensures clean { doubt (state S.Store conn.old).is_clean ≤ doubt (state S.Store conn.new).is_clean }
     ensures lasts { StaysSure (tables_of (state S.Store conn.old)) (tables_of (state S.Store conn.new)) }
+    ensures crash { CrashLeaves S.Store (CommitsBy sql.now (bound params.now) (state S.Store conn.old)) conn.old.store conn.new.store }
+    ensures up { HasCleanDisk (state S.Store conn.new) → OnOk result (IsTrue (state S.Store conn.new).is_open) }
 {
     if !conn.is_autocommit() {
         return Err(Error::SqliteFailure(ErrorCode::TransactionState));

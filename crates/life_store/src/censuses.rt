@@ -2,6 +2,7 @@
 
 ghost use Rattle.std.specs.Prelude.{◌≡◌, ◌<◌, ◌≤◌, ◌+◌, ◌^◌, ◌++◌, ℕ, pos, Bool, false, [], ◌∷◌, length, map, option_map, IsTrue, IfOk, IfSome, OnOk, OnErr};
 ghost use Rattle.sqlite_trees.specs.View.{doubt};
+ghost use Rattle.sqlite.specs.Effect.{IsDatabase};
 ghost use Rattle.sqlite.specs.State.{HasCleanDisk, KeepsCommit};
 ghost use Rattle.sqlite.specs.Held.{state};
 ghost use Rattle.life_core.specs.Rule.{RuleSets, IsRule};
@@ -9,7 +10,8 @@ ghost use Rattle.life_core.specs.RuleText.{rule_text};
 ghost use Rattle.life_census.specs.Rows.{row_seen};
 ghost use Rattle.life_store.specs.ReadingState.{newest_rows, ShowsCensus, ShowsTotal, row_shown};
 ghost use Rattle.life_store.specs.Kept.{Kept, Tallied, numbered, tallied_from, total_of};
-ghost use Rattle.life_store.specs.CensusesState.{Parts, HoldsParts, MeansParts, with_census, with_flag};
+ghost use Rattle.life_store.specs.Crash.{NoMore, CrashLeaves};
+ghost use Rattle.life_store.specs.CensusesState.{Parts, HoldsParts, MeansParts, with_census, with_flag, HoldNewParts, HoldNewCensus};
 ghost use Rattle.life_store.specs.Stored.{tagged};
 ghost use Rattle.life_store.specs.Tables.{tables_of, HasOrder, Holds, WasSure, StaysSure, HoldsTheSame, ForAllHeld};
 
@@ -24,8 +26,10 @@ use sqlite::{Alter, Connection, Error, Row, Transaction};
 pub(crate) fn newest<S: Alter>(conn: &mut Connection<S>) -> Result<Vec<Row>, Error>
     ensures lost { WasSure (tables_of (state S.Store conn.old)) (tables_of (state S.Store conn.new)) }
     ensures lasts { StaysSure (tables_of (state S.Store conn.old)) (tables_of (state S.Store conn.new)) }
+    ensures crash { CrashLeaves S.Store NoMore conn.old.store conn.new.store }
     ensures keeps { HoldsTheSame (tables_of (state S.Store conn.old)) (tables_of (state S.Store conn.new)) }
     ensures tells { ForAllHeld (tables_of (state S.Store conn.old)) (tables_of (state S.Store conn.new)) (λ k. IfOk result (λ rows. rows.items ≡ newest_rows (length k.censuses))) }
+    ensures up { HasCleanDisk (state S.Store conn.new) → OnOk result (IsTrue (state S.Store conn.new).is_open) }
 {
     ask(
         conn,
@@ -38,6 +42,7 @@ pub(crate) fn newest<S: Alter>(conn: &mut Connection<S>) -> Result<Vec<Row>, Err
 pub(crate) fn show<S: Alter>(conn: &mut Connection<S>, id: i64) -> Result<Vec<Row>, Error>
     ensures lost { WasSure (tables_of (state S.Store conn.old)) (tables_of (state S.Store conn.new)) }
     ensures lasts { StaysSure (tables_of (state S.Store conn.old)) (tables_of (state S.Store conn.new)) }
+    ensures crash { CrashLeaves S.Store NoMore conn.old.store conn.new.store }
     ensures keeps { HoldsTheSame (tables_of (state S.Store conn.old)) (tables_of (state S.Store conn.new)) }
     ensures tells { (n : ℕ) → id ≡ pos n → ForAllHeld (tables_of (state S.Store conn.old)) (tables_of (state S.Store conn.new)) (λ k. IfOk result (λ rows. ShowsCensus (option_map (λ t. (n, t)) (numbered k.censuses n)) rows.items)) }
 {
@@ -56,6 +61,8 @@ pub(crate) fn find<'a, S: Alter>(
 ) -> Result<Vec<Row>, Error>
     ensures lost { WasSure (tables_of (state S.Store conn.old)) (tables_of (state S.Store conn.new)) }
     ensures lasts { StaysSure (tables_of (state S.Store conn.old)) (tables_of (state S.Store conn.new)) }
+    ensures crash { CrashLeaves S.Store NoMore conn.old.store conn.new.store }
+    ensures up { HasCleanDisk (state S.Store conn.new) → OnOk result (IsTrue (state S.Store conn.new).is_open) }
     ensures keeps { HoldsTheSame (tables_of (state S.Store conn.old)) (tables_of (state S.Store conn.new)) }
     ensures tells { ForAllHeld (tables_of (state S.Store conn.old)) (tables_of (state S.Store conn.new)) (λ k. IfOk result (λ rows. ShowsCensus (tallied_from 1 member.now token.now k.censuses) rows.items)) }
 {
@@ -70,6 +77,7 @@ pub(crate) fn find<'a, S: Alter>(
 pub(crate) fn rows_of<S: Alter>(conn: &mut Connection<S>, id: i64) -> Result<Vec<Row>, Error>
     ensures lost { WasSure (tables_of (state S.Store conn.old)) (tables_of (state S.Store conn.new)) }
     ensures lasts { StaysSure (tables_of (state S.Store conn.old)) (tables_of (state S.Store conn.new)) }
+    ensures crash { CrashLeaves S.Store NoMore conn.old.store conn.new.store }
     ensures keeps { HoldsTheSame (tables_of (state S.Store conn.old)) (tables_of (state S.Store conn.new)) }
     ensures tells { (n : ℕ) → id ≡ pos n → ForAllHeld (tables_of (state S.Store conn.old)) (tables_of (state S.Store conn.new)) (λ k. IfOk result (λ rows. IfSome (numbered k.censuses n) (λ t. rows.items ≡ map row_shown t.tally.rows))) }
 {
@@ -94,6 +102,7 @@ fn insert_census<S: Alter>(
     ensures kept { HasCleanDisk (state S.Store tx.new.conn.now) → IsTrue tx.old.conn.now.in_transaction → KeepsCommit (state S.Store tx.old.conn.now) (state S.Store tx.new.conn.now) }
     ensures clean { doubt (state S.Store tx.old.conn.now).is_clean ≤ doubt (state S.Store tx.new.conn.now).is_clean }
     ensures lasts { StaysSure (tables_of (state S.Store tx.old.conn.now)) (tables_of (state S.Store tx.new.conn.now)) }
+    ensures crash { CrashLeaves S.Store NoMore tx.old.conn.now.store tx.new.conn.now.store }
     ensures few { OnOk result (id < 2 ^ 63) }
 {
     let (Ok(id), Ok(deposit), Ok(total), Ok(unresolved)) = (
@@ -133,6 +142,7 @@ fn insert_row<S: Alter>(
     ensures kept { HasCleanDisk (state S.Store tx.new.conn.now) → IsTrue tx.old.conn.now.in_transaction → KeepsCommit (state S.Store tx.old.conn.now) (state S.Store tx.new.conn.now) }
     ensures clean { doubt (state S.Store tx.old.conn.now).is_clean ≤ doubt (state S.Store tx.new.conn.now).is_clean }
     ensures lasts { StaysSure (tables_of (state S.Store tx.old.conn.now)) (tables_of (state S.Store tx.new.conn.now)) }
+    ensures crash { CrashLeaves S.Store NoMore tx.old.conn.now.store tx.new.conn.now.store }
 {
     let (Ok(id), Ok(count)) = (i64::try_from(id), i64::try_from(row.count)) else {
         return Err(Unavailable);
@@ -157,6 +167,7 @@ fn insert_rows<S: Alter>(
     ensures kept { HasCleanDisk (state S.Store tx.new.conn.now) → IsTrue tx.old.conn.now.in_transaction → KeepsCommit (state S.Store tx.old.conn.now) (state S.Store tx.new.conn.now) }
     ensures clean { doubt (state S.Store tx.old.conn.now).is_clean ≤ doubt (state S.Store tx.new.conn.now).is_clean }
     ensures lasts { StaysSure (tables_of (state S.Store tx.old.conn.now)) (tables_of (state S.Store tx.new.conn.now)) }
+    ensures crash { CrashLeaves S.Store NoMore tx.old.conn.now.store tx.new.conn.now.store }
 {
     for row in rows {
         insert_row(tx, id, row)?;
@@ -177,6 +188,7 @@ fn insert_tally<S: Alter>(
     ensures kept { HasCleanDisk (state S.Store tx.new.conn.now) → IsTrue tx.old.conn.now.in_transaction → KeepsCommit (state S.Store tx.old.conn.now) (state S.Store tx.new.conn.now) }
     ensures clean { doubt (state S.Store tx.old.conn.now).is_clean ≤ doubt (state S.Store tx.new.conn.now).is_clean }
     ensures lasts { StaysSure (tables_of (state S.Store tx.old.conn.now)) (tables_of (state S.Store tx.new.conn.now)) }
+    ensures crash { CrashLeaves S.Store NoMore tx.old.conn.now.store tx.new.conn.now.store }
 {
     insert_rows(tx, id, tally.rows.as_slice())
 }
@@ -196,6 +208,7 @@ fn insert_with_rows<S: Alter>(
     ensures kept { HasCleanDisk (state S.Store tx.new.conn.now) → IsTrue tx.old.conn.now.in_transaction → KeepsCommit (state S.Store tx.old.conn.now) (state S.Store tx.new.conn.now) }
     ensures clean { doubt (state S.Store tx.old.conn.now).is_clean ≤ doubt (state S.Store tx.new.conn.now).is_clean }
     ensures lasts { StaysSure (tables_of (state S.Store tx.old.conn.now)) (tables_of (state S.Store tx.new.conn.now)) }
+    ensures crash { CrashLeaves S.Store NoMore tx.old.conn.now.store tx.new.conn.now.store }
     ensures few { OnOk result (id < 2 ^ 63) }
 {
     insert_census(tx, id, census, tally)?;
@@ -214,10 +227,12 @@ fn insert_with_flag<S: Alter>(
     ensures added { HasCleanDisk (state S.Store tx.new.conn.now) → IsTrue tx.old.conn.now.in_transaction
         → (p : Parts) (t : Tallied) → t ≡ record { census = census.now; tally = tally.now; steady = steady } → HoldsParts (state S.Store tx.old.conn.now).now p → id ≡ length p.censuses + 1 → id ≡ length p.flagged + 1
         → OnOk result (IsTrue tx.new.conn.now.in_transaction × HoldsParts (state S.Store tx.new.conn.now).now (with_flag t (with_census id t p))) }
+    ensures sound { HasCleanDisk (state S.Store tx.new.conn.now) → IsTrue tx.old.conn.now.in_transaction → (p : Parts) → HoldsParts (state S.Store tx.old.conn.now).now p → id ≡ length p.censuses + 1 → OnOk result (IsDatabase (state S.Store tx.new.conn.now).now) }
     ensures inside { HasCleanDisk (state S.Store tx.new.conn.now) → IsTrue tx.old.conn.now.in_transaction → OnOk result (IsTrue tx.new.conn.now.in_transaction) }
     ensures kept { HasCleanDisk (state S.Store tx.new.conn.now) → IsTrue tx.old.conn.now.in_transaction → KeepsCommit (state S.Store tx.old.conn.now) (state S.Store tx.new.conn.now) }
     ensures clean { doubt (state S.Store tx.old.conn.now).is_clean ≤ doubt (state S.Store tx.new.conn.now).is_clean }
     ensures lasts { StaysSure (tables_of (state S.Store tx.old.conn.now)) (tables_of (state S.Store tx.new.conn.now)) }
+    ensures crash { CrashLeaves S.Store NoMore tx.old.conn.now.store tx.new.conn.now.store }
     ensures few { OnOk result (id < 2 ^ 63) }
 {
     insert_with_rows(tx, id, census, tally)?;
@@ -240,6 +255,8 @@ fn insert_all<S: Alter>(
     ensures was_open { HasCleanDisk (state S.Store conn.new) → IsTrue (state S.Store conn.new).is_open → IsTrue (state S.Store conn.old).is_open }
     ensures clean { doubt (state S.Store conn.old).is_clean ≤ doubt (state S.Store conn.new).is_clean }
     ensures lasts { StaysSure (tables_of (state S.Store conn.old)) (tables_of (state S.Store conn.new)) }
+    ensures crash { CrashLeaves S.Store (HoldNewParts (state S.Store conn.old).now id (record { census = census.now; tally = tally.now; steady = steady })) conn.old.store conn.new.store }
+    ensures up { HasCleanDisk (state S.Store conn.new) → OnOk result (IsTrue (state S.Store conn.new).is_open) }
 {
     let mut tx = conn.transaction();
     match insert_with_flag(&mut tx, id, census, tally, steady) {
@@ -262,6 +279,8 @@ pub(crate) fn insert<S: Alter>(
     requires { HasOrder tally.now }
     ensures lost { WasSure (tables_of (state S.Store conn.old)) (tables_of (state S.Store conn.new)) }
     ensures lasts { StaysSure (tables_of (state S.Store conn.old)) (tables_of (state S.Store conn.new)) }
+    ensures crash { CrashLeaves S.Store (HoldNewCensus (tables_of (state S.Store conn.old)) id (record { census = census.now; tally = tally.now; steady = steady })) conn.old.store conn.new.store }
+    ensures up { HasCleanDisk (state S.Store conn.new) → OnOk result (IsTrue (state S.Store conn.new).is_open) }
     ensures ok { OnOk result ((k : Kept) → IsTrue (tables_of (state S.Store conn.new)).is_sure → Holds (tables_of (state S.Store conn.old)) k → id ≡ length k.censuses + 1 → Holds (tables_of (state S.Store conn.new)) (record k { censuses = k.censuses ++ record { census = census.now; tally = tally.now; steady = steady } ∷ [] })) }
     ensures err { OnErr result (HoldsTheSame (tables_of (state S.Store conn.old)) (tables_of (state S.Store conn.new))) }
 {
@@ -279,6 +298,7 @@ pub(crate) fn total<'a, S: Alter>(
 ) -> Result<Vec<Row>, Error>
     ensures lost { WasSure (tables_of (state S.Store conn.old)) (tables_of (state S.Store conn.new)) }
     ensures lasts { StaysSure (tables_of (state S.Store conn.old)) (tables_of (state S.Store conn.new)) }
+    ensures crash { CrashLeaves S.Store NoMore conn.old.store conn.new.store }
     ensures keeps { HoldsTheSame (tables_of (state S.Store conn.old)) (tables_of (state S.Store conn.new)) }
     ensures tells { (r : RuleSets) → IsRule r → rule.now ≡ rule_text r → ForAllHeld (tables_of (state S.Store conn.old)) (tables_of (state S.Store conn.new)) (λ k. IfOk result (λ rows. ShowsTotal (total_of k r code.now) rows.items)) }
 {

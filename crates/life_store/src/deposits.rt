@@ -2,11 +2,13 @@
 
 ghost use Rattle.std.specs.Prelude.{◌≡◌, ◌+◌, ◌++◌, ℕ, pos, [], ◌∷◌, length, map, option_map, IsTrue, IfOk, OnErr, OnOk};
 ghost use Rattle.std.specs.String.{string_bytes};
+ghost use Rattle.sqlite.specs.State.{HasCleanDisk};
 ghost use Rattle.sqlite.specs.Held.{state};
 ghost use Rattle.life_rle.specs.Record.{IsInside};
 ghost use Rattle.life_store.specs.ReadingState.{newest_rows, ShowsDeposit, line_shown};
 ghost use Rattle.life_store.specs.Kept.{Kept, numbered, deposit_by, lines_after};
-ghost use Rattle.life_store.specs.DepositsState.{AreValuesOf};
+ghost use Rattle.life_store.specs.Crash.{NoMore, CrashLeaves};
+ghost use Rattle.life_store.specs.DepositsState.{AreValuesOf, HoldNewDeposit};
 ghost use Rattle.life_store.specs.Tables.{tables_of, Holds, WasSure, StaysSure, HoldsTheSame, ForAllHeld};
 
 use crate::asking::{ask, blob, text, whole, write};
@@ -19,8 +21,10 @@ use std::alloc::Global;
 pub(crate) fn newest<S: Alter>(conn: &mut Connection<S>) -> Result<Vec<Row>, Error>
     ensures lost { WasSure (tables_of (state S.Store conn.old)) (tables_of (state S.Store conn.new)) }
     ensures lasts { StaysSure (tables_of (state S.Store conn.old)) (tables_of (state S.Store conn.new)) }
+    ensures crash { CrashLeaves S.Store NoMore conn.old.store conn.new.store }
     ensures keeps { HoldsTheSame (tables_of (state S.Store conn.old)) (tables_of (state S.Store conn.new)) }
     ensures tells { ForAllHeld (tables_of (state S.Store conn.old)) (tables_of (state S.Store conn.new)) (λ k. IfOk result (λ rows. rows.items ≡ newest_rows (length k.deposits))) }
+    ensures up { HasCleanDisk (state S.Store conn.new) → OnOk result (IsTrue (state S.Store conn.new).is_open) }
 {
     ask(
         conn,
@@ -33,6 +37,7 @@ pub(crate) fn newest<S: Alter>(conn: &mut Connection<S>) -> Result<Vec<Row>, Err
 pub(crate) fn show<S: Alter>(conn: &mut Connection<S>, id: i64) -> Result<Vec<Row>, Error>
     ensures lost { WasSure (tables_of (state S.Store conn.old)) (tables_of (state S.Store conn.new)) }
     ensures lasts { StaysSure (tables_of (state S.Store conn.old)) (tables_of (state S.Store conn.new)) }
+    ensures crash { CrashLeaves S.Store NoMore conn.old.store conn.new.store }
     ensures keeps { HoldsTheSame (tables_of (state S.Store conn.old)) (tables_of (state S.Store conn.new)) }
     ensures tells { (n : ℕ) → id ≡ pos n → ForAllHeld (tables_of (state S.Store conn.old)) (tables_of (state S.Store conn.new)) (λ k. IfOk result (λ rows. ShowsDeposit (option_map (λ d. record { id = n; deposit = d }) (numbered k.deposits n)) rows.items)) }
 {
@@ -51,6 +56,8 @@ pub(crate) fn find<'a, S: Alter>(
 ) -> Result<Vec<Row>, Error>
     ensures lost { WasSure (tables_of (state S.Store conn.old)) (tables_of (state S.Store conn.new)) }
     ensures lasts { StaysSure (tables_of (state S.Store conn.old)) (tables_of (state S.Store conn.new)) }
+    ensures crash { CrashLeaves S.Store NoMore conn.old.store conn.new.store }
+    ensures up { HasCleanDisk (state S.Store conn.new) → OnOk result (IsTrue (state S.Store conn.new).is_open) }
     ensures keeps { HoldsTheSame (tables_of (state S.Store conn.old)) (tables_of (state S.Store conn.new)) }
     ensures tells { ForAllHeld (tables_of (state S.Store conn.old)) (tables_of (state S.Store conn.new)) (λ k. IfOk result (λ rows. ShowsDeposit (deposit_by member.now token.now k.deposits) rows.items)) }
 {
@@ -65,6 +72,7 @@ pub(crate) fn find<'a, S: Alter>(
 pub(crate) fn list_after<S: Alter>(conn: &mut Connection<S>, id: i64) -> Result<Vec<Row>, Error>
     ensures lost { WasSure (tables_of (state S.Store conn.old)) (tables_of (state S.Store conn.new)) }
     ensures lasts { StaysSure (tables_of (state S.Store conn.old)) (tables_of (state S.Store conn.new)) }
+    ensures crash { CrashLeaves S.Store NoMore conn.old.store conn.new.store }
     ensures keeps { HoldsTheSame (tables_of (state S.Store conn.old)) (tables_of (state S.Store conn.new)) }
     ensures tells { (n : ℕ) → id ≡ pos n → ForAllHeld (tables_of (state S.Store conn.old)) (tables_of (state S.Store conn.new)) (λ k. IfOk result (λ rows. rows.items ≡ map line_shown (lines_after n k.deposits))) }
 {
@@ -112,6 +120,8 @@ fn insert<S: Alter>(
     requires { AreValuesOf deposit.now rule.now population file.now }
     ensures lost { WasSure (tables_of (state S.Store conn.old)) (tables_of (state S.Store conn.new)) }
     ensures lasts { StaysSure (tables_of (state S.Store conn.old)) (tables_of (state S.Store conn.new)) }
+    ensures crash { CrashLeaves S.Store (HoldNewDeposit (tables_of (state S.Store conn.old)) id deposit.now) conn.old.store conn.new.store }
+    ensures up { HasCleanDisk (state S.Store conn.new) → OnOk result (IsTrue (state S.Store conn.new).is_open) }
     ensures ok { OnOk result ((k : Kept) → IsTrue (tables_of (state S.Store conn.new)).is_sure → Holds (tables_of (state S.Store conn.old)) k → id ≡ pos (length k.deposits + 1) → Holds (tables_of (state S.Store conn.new)) (record k { deposits = k.deposits ++ deposit.now ∷ [] })) }
     ensures err { OnErr result (HoldsTheSame (tables_of (state S.Store conn.old)) (tables_of (state S.Store conn.new))) }
 {
@@ -139,6 +149,8 @@ pub(crate) fn add<S: Alter>(
     requires { IsInside 1024 deposit.now.content.cells }
     ensures lost { WasSure (tables_of (state S.Store conn.old)) (tables_of (state S.Store conn.new)) }
     ensures lasts { StaysSure (tables_of (state S.Store conn.old)) (tables_of (state S.Store conn.new)) }
+    ensures crash { CrashLeaves S.Store (HoldNewDeposit (tables_of (state S.Store conn.old)) id deposit.now) conn.old.store conn.new.store }
+    ensures up { HasCleanDisk (state S.Store conn.new) → OnOk result (IsTrue (state S.Store conn.new).is_open) }
     ensures ok { OnOk result ((k : Kept) → IsTrue (tables_of (state S.Store conn.new)).is_sure → Holds (tables_of (state S.Store conn.old)) k → id ≡ pos (length k.deposits + 1) → Holds (tables_of (state S.Store conn.new)) (record k { deposits = k.deposits ++ deposit.now ∷ [] })) }
     ensures err { OnErr result (HoldsTheSame (tables_of (state S.Store conn.old)) (tables_of (state S.Store conn.new))) }
 {

@@ -6,4 +6,4 @@ pub returns-in-Err-Memory-clause-goes : goal.returns-in-Err-Memory-clause-goes
 returns-in-Err-Memory-clause-goes g c = goes_none _
 
 pub returns : goal.returns
-returns g c = record { goes = goes_none _; acts = search rules }
+returns g c = record { goes = goes_none _; told = λ kept. absurd cc; acts = search rules }

@@ -1,5 +1,6 @@
 use Rattle.std.proofs.Common.{◌≡◌, ◌+◌, subst, IfOk}
-use Rattle.life_desk.proofs.Meaning.{holds_of, length_tallied, census_ok, err_still}
+use Rattle.life_store.proofs.LastingLemmas.{goes_as}
+use Rattle.life_desk.proofs.Meaning.{holds_of, length_tallied, trees_census, census_ok, err_still}
 use Rattle.life_desk.specs.Means.{kept_of}
 use Rattle.life_desk.proofs.looking.add_census.Goals as goal
 
@@ -11,3 +12,6 @@ returns-clause-ok g c = census_ok _ _ c.args.census.now c.args.tally.now c.args.
 
 pub returns-clause-err : goal.returns-clause-err
 returns-clause-err g c = err_still _ _ _ c.add_census.ensures.goes c.add_census.ensures.err
+
+pub returns-clause-goes : goal.returns-clause-goes
+returns-clause-goes g c = goes_as _ _ (λ clean. trees_census c.args.archive.now c.args.census.now c.args.tally.now c.args.steady) c.add_census.ensures.goes

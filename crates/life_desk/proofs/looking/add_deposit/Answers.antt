@@ -1,4 +1,5 @@
-use Rattle.life_desk.proofs.Meaning.{holds_of, deposit_ok, err_still}
+use Rattle.life_store.proofs.LastingLemmas.{goes_as}
+use Rattle.life_desk.proofs.Meaning.{holds_of, trees_deposit, deposit_ok, err_still}
 use Rattle.life_desk.specs.Means.{kept_of}
 use Rattle.life_desk.proofs.looking.add_deposit.Goals as goal
 
@@ -10,3 +11,6 @@ returns-clause-ok g c = deposit_ok _ _ c.args.deposit.now _ c.add_deposit.ensure
 
 pub returns-clause-err : goal.returns-clause-err
 returns-clause-err g c = err_still _ _ _ c.add_deposit.ensures.goes c.add_deposit.ensures.err
+
+pub returns-clause-goes : goal.returns-clause-goes
+returns-clause-goes g c = goes_as _ _ (λ clean. trees_deposit c.args.archive.now c.args.deposit.now) c.add_deposit.ensures.goes

@@ -2,7 +2,7 @@ use Rattle.std.proofs.Common.{◌∙◌}
 use Rattle.life_pages.specs.MessageState.{held_limit}
 use Rattle.life_pages.proofs.MessageStanding.{wants_more}
 use Rattle.life_pages.proofs.ServingReading.{reading_went, reading_fed, fed_end, paused, reading_failed, reading_cut}
-use Rattle.life_pages.proofs.ServingPassing.{many_fed, most_fed, most_weaker, most_none, most_blank}
+use Rattle.life_pages.proofs.ServingPassing.{many_fed, most_fed, most_blank}
 use Rattle.life_pages.proofs.ServingOutcome.{outcome_ended, outcome_end, outcome_blank, one_more, rest_fits, below_same, still_room}
 use Rattle.life_pages.proofs.serving.serve_stream.Goals as goal
 

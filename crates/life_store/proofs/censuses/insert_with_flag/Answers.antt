@@ -4,6 +4,7 @@ use Rattle.sqlite.specs.Held.{state}
 use Rattle.life_store.specs.Kept.{Tallied}
 use Rattle.life_store.specs.CensusesState.{HoldsParts, with_census}
 use Rattle.life_store.proofs.CensusLemmas.{keeps_then}
+use Rattle.life_store.proofs.CrashLemmas.{crash_then}
 use Rattle.life_store.proofs.LastingLemmas.{lasts_then}
 use Rattle.life_store.proofs.censuses.insert_with_flag.Goals as goal
 
@@ -25,3 +26,14 @@ returns-clause-kept g c clean inside =
 
 pub returns-clause-lasts : goal.returns-clause-lasts
 returns-clause-lasts g c = lasts_then _ _ _ c.insert_with_rows.ensures.lasts c.insert.ensures.lasts
+
+pub returns-clause-crash : goal.returns-clause-crash
+returns-clause-crash g c = crash_then _ _ _ c.insert_with_rows.ensures.crash c.insert.ensures.crash
+
+pub returns-clause-sound : goal.returns-clause-sound
+returns-clause-sound g c clean inside p stands is =
+    let t : Tallied = record { census = c.args.census.now; tally = c.args.tally.now; steady = c.args.steady } in
+    let middle = state g.S.Store c.insert_with_rows.new.tx.conn.now in
+    let clean_2 : HasCleanDisk middle = omega (arith, c.insert.ensures.clean, clean) in
+    let stands_2 : HoldsParts middle.now (with_census c.args.id t p) = (c.in_ok-insert_with_rows.ensures.added clean_2 inside p c.args.steady stands is).1 in
+    c.insert.ensures.sound clean (c.in_ok-insert_with_rows.ensures.inside clean_2 inside) (with_census c.args.id t p) stands_2

@@ -4,6 +4,7 @@ use Rattle.sqlite.specs.Held.{state}
 use Rattle.life_store.specs.Kept.{Tallied}
 use Rattle.life_store.specs.CensusesState.{HoldsParts}
 use Rattle.life_store.proofs.CensusLemmas.{keeps_then}
+use Rattle.life_store.proofs.CrashLemmas.{crash_then}
 use Rattle.life_store.proofs.LastingLemmas.{lasts_then}
 use Rattle.life_store.proofs.censuses.insert_with_rows.Goals as goal
 
@@ -24,3 +25,6 @@ returns-clause-kept g c clean inside =
 
 pub returns-clause-lasts : goal.returns-clause-lasts
 returns-clause-lasts g c = lasts_then _ _ _ c.insert_census.ensures.lasts c.insert_tally.ensures.lasts
+
+pub returns-clause-crash : goal.returns-clause-crash
+returns-clause-crash g c = crash_then _ _ _ c.insert_census.ensures.crash c.insert_tally.ensures.crash

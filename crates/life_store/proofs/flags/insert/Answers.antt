@@ -6,7 +6,8 @@ use Rattle.sqlite.specs.Held.{state}
 use Rattle.life_store.specs.CensusesState.{given_flag}
 use Rattle.life_store.specs.StatementsState.{add_flag_text}
 use Rattle.life_store.specs.Stored.{flag_number}
-use Rattle.life_store.proofs.CensusLemmas.{adds_flag}
+use Rattle.life_store.proofs.CensusLemmas.{adds_flag, sound_after}
+use Rattle.life_store.proofs.CrashLemmas.{crash_by, crash_none}
 use Rattle.life_store.proofs.LastingLemmas.{lasts_none, lasts_by}
 use Rattle.life_store.proofs.flags.insert.Goals as goal
 
@@ -24,8 +25,21 @@ returns-clause-added g c clean begun p t stands same is =
 pub returns-in_default-clause-lasts : goal.returns-in_default-clause-lasts
 returns-in_default-clause-lasts g c = lasts_none _
 
+pub returns-in_default-clause-crash : goal.returns-in_default-clause-crash
+returns-in_default-clause-crash g c = crash_none _
+
 pub returns-in_err-execute-clause-lasts : goal.returns-in_err-execute-clause-lasts
 returns-in_err-execute-clause-lasts g c = lasts_by (state g.S.Store c.args.tx.now.conn.now) (state g.S.Store c.execute.new.self.conn.now) _ c.execute.ensures.survives
 
+pub returns-in_err-execute-clause-crash : goal.returns-in_err-execute-clause-crash
+returns-in_err-execute-clause-crash g c = crash_by g.S.Store c.args.tx.now.conn.now c.execute.new.self.conn.now _ c.execute.ensures.survives
+
 pub returns-clause-lasts : goal.returns-clause-lasts
 returns-clause-lasts g c = lasts_by (state g.S.Store c.args.tx.now.conn.now) (state g.S.Store c.execute.new.self.conn.now) _ c.execute.ensures.survives
+
+pub returns-clause-crash : goal.returns-clause-crash
+returns-clause-crash g c = crash_by g.S.Store c.args.tx.now.conn.now c.execute.new.self.conn.now _ c.execute.ensures.survives
+
+pub returns-clause-sound : goal.returns-clause-sound
+returns-clause-sound g c clean begun p stands =
+    sound_after (state g.S.Store c.args.tx.now.conn.now) (state g.S.Store c.execute.new.self.conn.now) p _ (Ok c.in_ok-execute.field-0) stands (c.in_ok-execute.ensures.runs clean begun)

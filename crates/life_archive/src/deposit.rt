@@ -4,7 +4,7 @@ ghost use Rattle.std.specs.Fmt.{decimal};
 ghost use Rattle.life_rle.specs.Stream.{Gains, GainsSome, FailedBetween};
 ghost use Rattle.life_desk.specs.declared.request.Request.TheVariants as ask;
 ghost use Rattle.life_desk.specs.Run.{Answered};
-ghost use Rattle.life_jobs.specs.Jobs.{TakesFile, PutsOnce};
+ghost use Rattle.life_jobs.specs.Streams.{TakesFile, PutsOnce};
 ghost use Rattle.life_jobs.specs.declared.stop.Stop.TheVariants.{Unreadable};
 ghost use Rattle.life_archive.specs.declared.stop.ArchiveStop.TheVariants.{Job};
 ghost use Rattle.life_archive.specs.Deposit.{IsTaken, IsUnasked, deposit_line, desk_stop, by_streams, PutsReply, Deposits};

@@ -24,7 +24,8 @@ use Rattle.life_census.specs.Table.{csv_text}
 use Rattle.life_jobs.specs.declared.stop.Stop.{Stop}
 use Rattle.life_jobs.specs.declared.stop.Stop.TheVariants.{OutOfLimit, BadPattern, BadRule, BadCode, Unreadable, Unavailable, Unwritable}
 use Rattle.life_jobs.specs.Jobs.{IsPeriodLimit, code_or_dash, file_text, census_table, PrintsObject, PutsObject, PutsTold}
-use Rattle.life_jobs.specs.JobsState.{code_stop, ReadsTold, PutsText}
+use Rattle.life_jobs.specs.JobsState.{code_stop}
+use Rattle.life_jobs.specs.Streams.{ReadsTold, PutsText}
 
 -- ---- jobs that print a text for a file
 

@@ -1,5 +1,5 @@
 -- What a job of the program puts for the bytes that come in, or for its words.
-use Rattle.std.specs.Prelude.{◌≡◌, ◌≢◌, ◌≤◌, ℕ, List, [], ◌∷◌, ◌++◌, codes, Option, None, Some, Result, Ok, Err, OnOk}
+use Rattle.std.specs.Prelude.{◌≡◌, ◌≢◌, ◌≤◌, ℕ, List, [], ◌∷◌, ◌++◌, codes, Option, None, Some, Result, Ok, Err}
 use Rattle.std.specs.Fmt.{decimal, signed_decimal}
 use Rattle.life_core.specs.declared.rule_text.RuleFault.{RuleFault}
 use Rattle.life_core.specs.declared.generations.TheConstants.{GENERATION_LIMIT}
@@ -12,7 +12,7 @@ use Rattle.life_rle.specs.Fault.{◌>>=◌}
 use Rattle.life_rle.specs.File.{file}
 use Rattle.life_rle.specs.Record.{Contents, plain}
 use Rattle.life_rle.specs.Writer.{text}
-use Rattle.life_rle.specs.Stream.{Gains, GainsSome, raised, FailedBetween, LosesUpTo}
+use Rattle.life_rle.specs.Stream.{Gains, GainsSome}
 use Rattle.life_code.specs.declared.period.TheConstants.{PERIOD_LIMIT}
 use Rattle.life_code.specs.declared.kinds.Kind.{Kind}
 use Rattle.life_code.specs.declared.kinds.Kind.TheVariants.{Empty, Still, Oscillator, Ship, Unresolved}
@@ -126,30 +126,3 @@ PutsBytes wanted bytes old new (Err stop) = ⊥
 abbrev pub PutsTold : (List ℕ → Result (List ℕ) RleFault) → Option (List ℕ) → Option (List ℕ) → Option (List ℕ) → Result (Unit {0}) Stop → Type 0
 PutsTold wanted None old new answer = Unit {0}
 PutsTold wanted (Some bytes) old new answer = PutsBytes wanted bytes old new answer
-
--- ---- the streams of a job
-
--- a take that failed is answered Unreadable at once, and nothing else is
-abbrev ReportsFailures : {X : Type 0} → ℕ → ℕ → Result X Stop → Type 0
-ReportsFailures old new (Ok x) = new ≡ old
-ReportsFailures old new (Err Unreadable) = new ≡ raised old
-ReportsFailures old new (Err stop) = new ≡ old
-
--- what a job does with the stream that comes in, by what it tells and how often it failed before and after: it also takes at most one byte
--- more than a file may have
-pub record TakesFile {X : Type 0} (told_old told_new : Option (List ℕ)) (failed_old failed_new : ℕ) (answer : Result X Stop) : Type 0 where
-  pub heard : ReportsFailures failed_old failed_new answer
-  pub few : LosesUpTo 1048577 told_old told_new
-
--- after a stop the output is as it was, unless a put failed
-abbrev IsSilent : {O : Type 0} → O → O → Result (Unit {0}) Stop → Type 0
-IsSilent old new (Ok done) = Unit {0}
-IsSilent old new (Err Unwritable) = Unit {0}
-IsSilent old new (Err stop) = new ≡ old
-
--- what a job does with the stream that it puts its text into, by how often it failed before and after: where the job is done, no put failed,
--- and Unwritable is answered only where one did
-pub record PutsOnce {O : Type 0} (old new : O) (failed_old failed_new : ℕ) (answer : Result (Unit {0}) Stop) : Type 0 where
-  pub silent : IsSilent old new answer
-  pub put : OnOk answer (failed_new ≡ failed_old)
-  pub unwritable : answer ≡ Err Unwritable → FailedBetween failed_old failed_new

@@ -1,3 +1,4 @@
 pub mod Stop
+pub mod Streams
 pub mod Jobs
 pub mod JobsState

@@ -3,39 +3,22 @@ ghost use Rattle.std.specs.Prelude.{◌≡◌, ℕ, List, codes, ◌≢◌, ◌<
 ghost use Rattle.std.specs.Option.{SomeIff, MatchOption};
 ghost use Rattle.life_core.specs.Pattern.{Cells, IsWithin};
 ghost use Rattle.life_rle.specs.Record.{IsInside, plain};
-ghost use Rattle.life_rle.specs.Stream.{LosesUpTo, FailedBetween};
 ghost use Rattle.life_rle.specs.Writer.{text};
 ghost use Rattle.life_code.specs.Period.{kind_of};
 ghost use Rattle.life_code.specs.Codes.{code_of};
 ghost use Rattle.life_code.specs.Open.{Spells, Refuses};
 ghost use Rattle.life_jobs.specs.Jobs.{later, generation_text, IsPeriodLimit, code_or_dash, kind_words, kind_line, kind_text, AreCensusNumbers, census_table, census_text};
-ghost use Rattle.life_jobs.specs.Jobs.{RefusesRule, PutsObject, PutsTold, TakesFile, PutsOnce};
-ghost use Rattle.life_jobs.specs.JobsState.{code_stop, IsOfInput, ReadsTold, PutsText, printed, print_text, IsPrint};
+ghost use Rattle.life_jobs.specs.Jobs.{RefusesRule, PutsObject, PutsTold};
+ghost use Rattle.life_jobs.specs.JobsState.{code_stop, printed, print_text, IsPrint};
+ghost use Rattle.life_jobs.specs.Streams.{TakesFile, PutsText, PutsOnce};
 
 use crate::stop::Stop;
+use crate::streams::{put_text, read_input};
 use life_census::{csv, tally};
 use life_code::{CodeFault, Kind, PERIOD_LIMIT, code_of_kind, kind, open_code};
 use life_core::{Fault, GENERATION_LIMIT, Pattern, Rule, generation};
-use life_rle::{
-    Inlet, Outlet, ReadFault, Record, RleFault, WriteFault, into_plain, put_all, read_from,
-    write_to,
-};
+use life_rle::{Inlet, Outlet, Record, WriteFault, into_plain, write_to};
 use std::alloc::{AllocError, Global};
-
-/// Reads the pattern file that comes in.
-fn read_input<I: Inlet>(alloc: Global, input: &mut I) -> Result<Record, Stop>
-    ensures told { ReadsTold (I.to_come input.old) result }
-    ensures stops { IfErr result IsOfInput }
-    ensures takes { TakesFile (I.to_come input.old) (I.to_come input.new) (I.failures input.old) (I.failures input.new) result }
-    ensures inside { IfOk result (λ r. IsInside 1024 r.cells) }
-{
-    match read_from(alloc, input) {
-        Ok(record) => Ok(record),
-        Err(ReadFault::Unreadable) => Err(Stop::Unreadable),
-        Err(ReadFault::Rle(RleFault::Memory)) => Err(Stop::Unavailable),
-        Err(ReadFault::Rle(fault)) => Err(Stop::BadPattern(fault)),
-    }
-}
 
 /// Generation `n` of a record, without its texts and in normal form.
 fn later(alloc: Global, record: &Record, n: u32) -> Result<Record, Fault>
@@ -135,17 +118,6 @@ enum Print {
     Kind(u32),
     /// The census of its generation `n` under this limit of the period.
     Census { n: u32, limit: u32 },
-}
-
-/// Puts a text whole.
-fn put_text<O: Outlet>(output: &mut O, text: &[u8]) -> Result<(), Stop>
-    ensures puts { PutsText (O.already output.old) (O.already output.new) text.now result }
-    ensures once { PutsOnce output.old output.new (O.failures output.old) (O.failures output.new) result }
-{
-    match put_all(output, text) {
-        Ok(()) => Ok(()),
-        Err(_) => Err(Stop::Unwritable),
-    }
 }
 
 /// Puts a record as canonical RLE.

@@ -3,6 +3,8 @@
 
 mod jobs;
 mod stop;
+mod streams;
 
 pub use jobs::{run_census, run_generation, run_kind, run_object};
 pub use stop::Stop;
+pub use streams::{put_text, read_input};

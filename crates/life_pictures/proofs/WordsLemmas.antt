@@ -7,9 +7,9 @@ use Rattle.clap.specs.Words.{App, Row, Text, Kinds, HasKind, HasMatchesOf, kind_
 use Rattle.clap.specs.declared.error.Error.{Error}
 use Rattle.clap.specs.declared.error.kind.ErrorKind.TheVariants.{OutOfMemory}
 use Rattle.clap.specs.declared.parser.matches.ArgMatches.{ArgMatches}
-use Rattle.life_words.specs.declared.words.WordFault.{WordFault}
-use Rattle.life_words.specs.declared.words.WordFault.TheVariants.{BadWords, Memory}
-use Rattle.life_words.specs.Words.{ComesFrom}
+use Rattle.life_words.specs.declared.fault.WordFault.{WordFault}
+use Rattle.life_words.specs.declared.fault.WordFault.TheVariants.{BadWords, Memory}
+use Rattle.life_words.specs.Fault.{ComesFrom}
 use Rattle.life_pictures.specs.declared.jobs.Picture.{Picture}
 use Rattle.life_pictures.specs.Words.{draw, picture_of, unless_fault, words_picture, Answers}
 

@@ -4,8 +4,8 @@
 use Rattle.std.specs.Prelude.{◌≡◌, true, if◌then◌else◌, List, [], ◌∷◌, Option, None, Some, codes, bytes_eq, Result, Ok, Err}
 use Rattle.clap.specs.Words.{App, Row, Text, Kinds, new_app, with_subcommand, fault_of, subcommand_of}
 use Rattle.clap.specs.Simple.{on_top}
-use Rattle.life_words.specs.declared.words.WordFault.{WordFault}
-use Rattle.life_words.specs.declared.words.WordFault.TheVariants.{BadWords, Memory}
+use Rattle.life_words.specs.declared.fault.WordFault.{WordFault}
+use Rattle.life_words.specs.declared.fault.WordFault.TheVariants.{BadWords, Memory}
 use Rattle.life_pictures.specs.declared.jobs.Picture.{Picture}
 use Rattle.life_pictures.specs.declared.jobs.Picture.TheVariants as picture
 

@@ -1,15 +1,15 @@
 //! Drawing the pattern file that comes in.
-ghost use Rattle.std.specs.Prelude.{◌≡◌, ℕ, List, IfOk, IfErr};
+ghost use Rattle.std.specs.Prelude.{◌≡◌, IfOk};
 ghost use Rattle.life_rle.specs.Record.{IsInside};
-ghost use Rattle.life_jobs.specs.Jobs.{PutsTold, TakesFile, PutsOnce};
-ghost use Rattle.life_jobs.specs.JobsState.{ReadsTold, IsOfInput, PutsText};
+ghost use Rattle.life_jobs.specs.Jobs.{PutsTold};
+ghost use Rattle.life_jobs.specs.Streams.{TakesFile, PutsText, PutsOnce};
 ghost use Rattle.life_pictures.specs.Jobs.{drawn, picture_text};
 
 use crate::document::svg;
 use crate::lines::text;
 use life_core::Fault;
-use life_jobs::Stop;
-use life_rle::{Inlet, Outlet, ReadFault, Record, RleFault, put_all, read_from};
+use life_jobs::{Stop, put_text, read_input};
+use life_rle::{Inlet, Outlet, Record};
 use std::alloc::Global;
 
 /// A kind of picture.
@@ -21,21 +21,6 @@ pub enum Picture {
     Svg,
 }
 
-/// Reads the pattern file that comes in.
-fn read_input<I: Inlet>(alloc: Global, input: &mut I) -> Result<Record, Stop>
-    ensures told { ReadsTold (I.to_come input.old) result }
-    ensures stops { IfErr result IsOfInput }
-    ensures takes { TakesFile (I.to_come input.old) (I.to_come input.new) (I.failures input.old) (I.failures input.new) result }
-    ensures inside { IfOk result (λ r. IsInside 1024 r.cells) }
-{
-    match read_from(alloc, input) {
-        Ok(record) => Ok(record),
-        Err(ReadFault::Unreadable) => Err(Stop::Unreadable),
-        Err(ReadFault::Rle(RleFault::Memory)) => Err(Stop::Unavailable),
-        Err(ReadFault::Rle(fault)) => Err(Stop::BadPattern(fault)),
-    }
-}
-
 /// The picture of a record.
 fn drawn(alloc: Global, picture: Picture, record: &Record) -> Result<Vec<u8>, Fault>
     requires inside { IsInside 1024 «record».now.cells }
@@ -44,17 +29,6 @@ fn drawn(alloc: Global, picture: Picture, record: &Record) -> Result<Vec<u8>, Fa
     match picture {
         Picture::Text => text(alloc, record),
         Picture::Svg => svg(alloc, record),
-    }
-}
-
-/// Puts a text whole.
-fn put_text<O: Outlet>(output: &mut O, text: &[u8]) -> Result<(), Stop>
-    ensures puts { PutsText (O.already output.old) (O.already output.new) text.now result }
-    ensures once { PutsOnce output.old output.new (O.failures output.old) (O.failures output.new) result }
-{
-    match put_all(output, text) {
-        Ok(()) => Ok(()),
-        Err(_) => Err(Stop::Unwritable),
     }
 }
 

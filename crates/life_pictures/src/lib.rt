@@ -15,4 +15,4 @@ pub use document::svg;
 pub use jobs::{Picture, run_draw};
 pub use laws::laws_of_pictures;
 pub use lines::text;
-pub use words::{read_words, words_of};
+pub use words::{draw_command, read_words};

@@ -1,17 +1,15 @@
 //! The words of the command line, read by `clap`.
 ghost use Rattle.std.specs.Prelude.{◌≡◌, map, IfOk, false};
 ghost use Rattle.clap.specs.Simple.{App};
-ghost use Rattle.clap.specs.Words.{new_app, app_of, subcommand_rows_of, with_subcommand};
+ghost use Rattle.clap.specs.Words.{app_of, subcommand_rows_of, with_subcommand};
 ghost use Rattle.clap.specs.declared.builder.command.Command.TheViews.{out-Command as fields_of};
 ghost use Rattle.life_pictures.specs.Words.{text, svg, draw_alone, draw, picture_of, Answers};
 
 use crate::jobs::Picture;
-use clap::error::ErrorKind;
 use clap::{ArgMatches, Command};
-use life_words::WordFault;
+use life_words::{WordFault, named_command};
 use std::alloc::{AllocError, Global};
 use std::convert::AsStr;
-use std::{env, io};
 
 // What the help of each command says after its words: what is read, printed and refused, and an example.
 const TEXT_HELP: &str = "\
@@ -32,14 +30,6 @@ const DRAW_HELP: &str = "\
 A refusal is one line 'refused: NAME' on standard error, with status 1.
 Bad words, and a request for help, end with status 2.
 Example: life generation 30 < gun.rle | life-draw text";
-
-// A command of this name, without words, and what help says of it.
-fn named_command<'a>(alloc: Global, name: &'a str, about: &'a str, help: &'a str) -> Command<'a>
-    ensures app { app_of result ≡ new_app name.entry.now }
-    ensures local { (fields_of result).has_globals ≡ false }
-{
-    Command::new(alloc, name).about(about).after_help(help)
-}
 
 fn text_command<'a>(alloc: Global) -> Command<'a>
     ensures app { app_of result ≡ text }
@@ -86,31 +76,12 @@ fn with_command<'a>(
     above?.subcommand(below)
 }
 
-fn draw_command<'a>(alloc: Global) -> Result<Command<'a>, AllocError>
+/// The command of `life-draw`, with its subcommands in the order in which help lists them.
+pub fn draw_command<'a>(alloc: Global) -> Result<Command<'a>, AllocError>
     ensures { IfOk result (λ command. app_of command ≡ draw) }
 {
     let command = with_command(Ok(command_alone(alloc)), text_command(alloc));
     with_command(command, svg_command(alloc))
-}
-
-/// The words of the process, the program's name first. Where one of them is not UTF-8, they are bad
-/// words.
-pub fn words_of(rt: &HostRuntime) -> Result<Vec<String>, WordFault> {
-    let words = match env::args(rt) {
-        Ok(words) => words,
-        Err(error) if error.kind() == io::ErrorKind::InvalidData => return Err(not_text(
-            rt.alloc(),
-        )?),
-        Err(_) => return Err(WordFault::Memory),
-    };
-    Ok(words.collect(rt.alloc())?)
-}
-
-// The fault of words of which one is not UTF-8, in clap's form.
-fn not_text(alloc: Global) -> Result<WordFault, AllocError> {
-    let message = "invalid UTF-8 was found in one or more arguments";
-    let error = draw_command(alloc)?.error(ErrorKind::ValueValidation, message);
-    Ok(WordFault::BadWords(Some(error?)))
 }
 
 fn picture_in(matches: &ArgMatches<'_>) -> Option<Picture>

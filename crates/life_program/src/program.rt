@@ -1,13 +1,11 @@
 //! From the words of the process to its status.
 
+use crate::printing::{print_fault, print_stop};
 use life_jobs::{Stop, run_census, run_generation, run_kind, run_object};
 use life_rle::{FromRead, FromWrite, Inlet, Outlet};
-use life_words::{Job, WordFault, read_words, words_of};
+use life_words::{Job, life_command, read_words, words_of};
 use std::io;
 use std::process::ExitCode;
-
-/// The status for words that name no job.
-const BAD_WORDS: u8 = 2;
 
 /// A job over the archive of a file.
 #[derive(Clone, Copy)]
@@ -29,24 +27,6 @@ pub trait ArchiveJobs {
         input: &mut I,
         output: &mut O,
     ) -> Result<(), &'static str>;
-}
-
-/// Prints the line of a stop, if it has one.
-fn print_stop(rt: &impl Eprint, line: &str) -> io::Result<ExitCode> {
-    if !line.is_empty() {
-        rt.eprintln(line)?;
-    }
-    Ok(ExitCode::FAILURE)
-}
-
-/// Prints why the words name no job: what `clap` says of them, or that memory was refused.
-fn print_fault(rt: &impl Eprint, fault: WordFault) -> io::Result<ExitCode> {
-    match fault {
-        WordFault::BadWords(Some(error)) => eprint!(rt; "{error}")?,
-        WordFault::BadWords(None) => {}
-        WordFault::Memory => return print_stop(rt, Stop::Unavailable.line()),
-    }
-    Ok(ExitCode::from(BAD_WORDS))
 }
 
 /// The line of a stop in place of the stop.
@@ -105,7 +85,7 @@ fn run<J: ArchiveJobs>(rt: &HostRuntime, job: Job<'_>) -> Result<(), &'static st
 /// Does the job that the words of the process name, and gives the status that the process ends with: 0; 1 where the job stopped, with
 /// a line on standard error; 2 where the words name no job, with the text of `clap`.
 pub fn run_program<J: ArchiveJobs>(rt: &HostRuntime) -> io::Result<ExitCode> {
-    let words = match words_of(rt) {
+    let words = match words_of(rt, || life_command(rt.alloc())) {
         Ok(words) => words,
         Err(fault) => return print_fault(rt, fault),
     };

@@ -13,9 +13,10 @@ use Rattle.clap.specs.declared.error.kind.ErrorKind.TheVariants.{OutOfMemory}
 use Rattle.clap.specs.declared.builder.value_parser.ValueParser.TheVariants as vp
 use Rattle.clap.specs.declared.parser.matches.ArgMatches.{ArgMatches}
 use Rattle.life_words.specs.declared.words.Job.{Job}
-use Rattle.life_words.specs.declared.words.WordFault.{WordFault}
-use Rattle.life_words.specs.declared.words.WordFault.TheVariants.{BadWords, Memory}
-use Rattle.life_words.specs.Words.{Asked, asked_by, last_number, life, number_text, job_of, unless_fault, words_job, ComesFrom, Answers}
+use Rattle.life_words.specs.declared.fault.WordFault.{WordFault}
+use Rattle.life_words.specs.declared.fault.WordFault.TheVariants.{BadWords, Memory}
+use Rattle.life_words.specs.Fault.{ComesFrom}
+use Rattle.life_words.specs.Words.{Asked, asked_by, last_number, life, number_text, job_of, unless_fault, words_job, Answers}
 
 -- ---- the number of a word
 

@@ -1,20 +1,18 @@
 -- The words of the command line and the job that they name.
 -- What a command is, which words it takes and what it reads of them is said by the kit's `clap`; the names of the
 -- subcommands and of their words are the program's own.
-use Rattle.std.specs.Prelude.{◌≡◌, ◌≢◌, ℕ, ◌^◌, ◌-◌, true, if◌then◌else◌, List, [], ◌∷◌, fold, Option, None, Some}
+use Rattle.std.specs.Prelude.{◌≡◌, ℕ, ◌^◌, ◌-◌, true, if◌then◌else◌, List, [], ◌∷◌, fold, Option, None, Some}
 use Rattle.std.specs.Prelude.{option_map, option_and_then, codes, bytes_eq, Result, Ok, Err}
 use Rattle.std.specs.Str.Parse.{digits_value, without_leading_plus}
 use Rattle.clap.specs.Words.{App, Row, Rule, Text, Kinds, new_app, new_rule, with_rule, with_subcommand}
-use Rattle.clap.specs.Words.{fault_of, first_of, kind_of, one_of, subcommand_of}
+use Rattle.clap.specs.Words.{fault_of, first_of, one_of, subcommand_of}
 use Rattle.clap.specs.Simple.{on_top}
 use Rattle.clap.specs.ValueTests.{is_unsigned_in}
 use Rattle.clap.specs.declared.builder.value_parser.ValueParser.TheVariants as vp
-use Rattle.clap.specs.declared.error.Error.{Error}
-use Rattle.clap.specs.declared.error.kind.ErrorKind.TheVariants.{OutOfMemory}
 use Rattle.life_words.specs.declared.words.Job.{Job}
 use Rattle.life_words.specs.declared.words.Job.TheVariants.{Generation, Kind, Object, Census, Deposit, Serve}
-use Rattle.life_words.specs.declared.words.WordFault.{WordFault}
-use Rattle.life_words.specs.declared.words.WordFault.TheVariants.{BadWords, Memory}
+use Rattle.life_words.specs.declared.fault.WordFault.{WordFault}
+use Rattle.life_words.specs.declared.fault.WordFault.TheVariants.{BadWords, Memory}
 
 -- ---- the command
 
@@ -152,17 +150,6 @@ unfoldable pub words_job : List Text → Option Asked
 words_job words = unless_fault (fault_of life words) (job_of (subcommand_of life words))
 
 -- ---- the answer
-
--- the number of a fault
-abbrev pub number_of : WordFault → ℕ
-number_of (BadWords error) = 1
-number_of Memory = 2
-
--- the fault that an error of `clap` becomes: it is kept, unless it is want of memory
-abbrev pub ComesFrom : Error → WordFault → Type 0
-ComesFrom error Memory = kind_of error ≡ OutOfMemory
-ComesFrom error (BadWords None) = ⊥
-ComesFrom error (BadWords (Some kept)) = (kept ≡ error) × (kind_of error ≢ OutOfMemory)
 
 -- the answer to words: their job, or bad words where they name none; want of memory may come with any words
 abbrev pub Answers : List Text → Result Job WordFault → Type 0

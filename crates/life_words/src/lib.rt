@@ -1,6 +1,10 @@
-//! The words of the command line of `life`, read by `clap`.
+//! The words of the command line of `life`, read by `clap`, and what the commands of all programs have in common.
 #![tactic(auto)]
 
+mod commands;
+mod fault;
 mod words;
 
-pub use words::{Job, WordFault, read_words, words_of};
+pub use commands::{named_command, words_of};
+pub use fault::WordFault;
+pub use words::{Job, life_command, read_words};

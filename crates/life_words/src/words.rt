@@ -1,17 +1,17 @@
 //! The words of the command line, read by `clap`.
 ghost use Rattle.std.specs.Prelude.{◌≡◌, codes, map, option_map, IfOk, false};
 ghost use Rattle.clap.specs.Simple.{App};
-ghost use Rattle.clap.specs.Words.{Rule, new_app, app_of, rule_of, rows_of, found_of, subcommand_rows_of, with_rule, with_subcommand};
+ghost use Rattle.clap.specs.Words.{Rule, app_of, rule_of, rows_of, found_of, subcommand_rows_of, with_rule, with_subcommand};
 ghost use Rattle.clap.specs.declared.builder.command.Command.TheViews.{out-Command as fields_of};
 ghost use Rattle.life_words.specs.Words.{number_rule, number_rule_in, text_rule, file_rule, generation, kind, object, census, deposit, serve, life_alone, life, asked_by};
-ghost use Rattle.life_words.specs.Words.{AsksGeneration, AsksKind, number_at, text_at, object_of, census_of, deposit_of, serve_of, job_of, number_of, ComesFrom, Answers};
+ghost use Rattle.life_words.specs.Words.{AsksGeneration, AsksKind, number_at, text_at, object_of, census_of, deposit_of, serve_of, job_of, Answers};
 
+use crate::commands::named_command;
+use crate::fault::WordFault;
 use clap::builder::ValueParser;
-use clap::error::ErrorKind;
-use clap::{Arg, ArgMatches, Command, Error};
+use clap::{Arg, ArgMatches, Command};
 use std::alloc::{AllocError, Global};
 use std::convert::AsStr;
-use std::{env, io};
 
 // What the help of each command says after its words: what is read, printed and refused, and an example.
 const GENERATION_HELP: &str = "\
@@ -91,48 +91,6 @@ pub enum Job<'a> {
     },
 }
 
-/// Why words name no job.
-#[derive(Drop)]
-pub enum WordFault {
-    /// The words are not the command's, or ask for help. The error has the text for the user.
-    BadWords(Option<Error>),
-    /// A growth was refused.
-    Memory,
-}
-
-impl WordFault {
-    /// The number of the fault: 1 for bad words, 2 for want of memory.
-    pub fn number(&self) -> u8
-        ensures { result ≡ number_of self.now }
-    {
-        match self {
-            WordFault::BadWords(_) => 1,
-            WordFault::Memory => 2,
-        }
-    }
-}
-
-impl From<AllocError> for WordFault {
-    ghost use Rattle.life_words.specs.declared.words.WordFault.TheVariants.{Memory};
-
-    ghost from_gives = { λ _ fault. fault ≡ Memory };
-
-    fn from(_error: AllocError) -> WordFault {
-        WordFault::Memory
-    }
-}
-
-impl From<Error> for WordFault {
-    ghost from_gives = { ComesFrom };
-
-    fn from(error: Error) -> WordFault {
-        match error.kind() {
-            ErrorKind::OutOfMemory => WordFault::Memory,
-            _ => WordFault::BadWords(Some(error)),
-        }
-    }
-}
-
 // A required word that is a text.
 fn text_arg<'a>(alloc: Global, id: &'a str) -> Arg<'a>
     ensures rule { rule_of result ≡ text_rule id.entry.now }
@@ -155,14 +113,6 @@ fn generation_arg<'a>(alloc: Global) -> Arg<'a>
     ensures local { result.global ≡ false }
 {
     number_arg(alloc, "N").help("The number of the generation, from 0 to 2048")
-}
-
-// A command of this name, without words, and what help says of it.
-fn named_command<'a>(alloc: Global, name: &'a str, about: &'a str, help: &'a str) -> Command<'a>
-    ensures app { app_of result ≡ new_app name.entry.now }
-    ensures local { (fields_of result).has_globals ≡ false }
-{
-    Command::new(alloc, name).about(about).after_help(help)
 }
 
 // The command with one more argument, if the command was made.
@@ -350,7 +300,8 @@ fn command_alone<'a>(alloc: Global) -> Command<'a>
         .subcommand_required(true)
 }
 
-fn life_command<'a>(alloc: Global) -> Result<Command<'a>, AllocError>
+/// The command of `life`, with its subcommands in the order in which help lists them.
+pub fn life_command<'a>(alloc: Global) -> Result<Command<'a>, AllocError>
     ensures { IfOk result (λ command. app_of command ≡ life) }
 {
     let command = with_command(Ok(command_alone(alloc)), generation_command(alloc));
@@ -359,26 +310,6 @@ fn life_command<'a>(alloc: Global) -> Result<Command<'a>, AllocError>
     let command = with_command(command, census_command(alloc));
     let command = with_command(command, deposit_command(alloc));
     with_command(command, serve_command(alloc))
-}
-
-/// The words of the process, the program's name first. Where one of them is not UTF-8, they are bad
-/// words.
-pub fn words_of(rt: &HostRuntime) -> Result<Vec<String>, WordFault> {
-    let words = match env::args(rt) {
-        Ok(words) => words,
-        Err(error) if error.kind() == io::ErrorKind::InvalidData => return Err(not_text(
-            rt.alloc(),
-        )?),
-        Err(_) => return Err(WordFault::Memory),
-    };
-    Ok(words.collect(rt.alloc())?)
-}
-
-// The fault of words of which one is not UTF-8, in clap's form.
-fn not_text(alloc: Global) -> Result<WordFault, AllocError> {
-    let message = "invalid UTF-8 was found in one or more arguments";
-    let error = life_command(alloc)?.error(ErrorKind::ValueValidation, message);
-    Ok(WordFault::BadWords(Some(error?)))
 }
 
 // The number of the word with this id.

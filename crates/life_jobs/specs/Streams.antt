@@ -1,0 +1,63 @@
+-- What a job does with its streams.
+use Rattle.std.specs.Prelude.{◌≡◌, ℕ, List, Option, None, Some, Result, Ok, Err, OnOk}
+use Rattle.life_rle.specs.File.{file}
+use Rattle.life_rle.specs.Record.{Contents}
+use Rattle.life_rle.specs.Stream.{Gains, GainsSome, raised, FailedBetween, LosesUpTo}
+use Rattle.life_jobs.specs.declared.stop.Stop.{Stop}
+use Rattle.life_jobs.specs.declared.stop.Stop.TheVariants.{BadPattern, Unreadable, Unavailable, Unwritable}
+
+-- ---- the stream that comes in
+
+-- the record that the bytes are, or their fault; a stop that comes of the streams or of memory says nothing of them
+abbrev pub ReadsBytes : List ℕ → Result Contents Stop → Type 0
+ReadsBytes bytes (Ok r) = file bytes ≡ Ok r
+ReadsBytes bytes (Err (BadPattern fault)) = file bytes ≡ Err fault
+ReadsBytes bytes (Err Unreadable) = Unit {0}
+ReadsBytes bytes (Err Unavailable) = Unit {0}
+ReadsBytes bytes (Err stop) = ⊥
+
+-- the same, where the bytes that come in are told
+abbrev pub ReadsTold : Option (List ℕ) → Result Contents Stop → Type 0
+ReadsTold None answer = Unit {0}
+ReadsTold (Some bytes) answer = ReadsBytes bytes answer
+
+-- a stop that may come of reading
+abbrev pub IsOfInput : Stop → Type 0
+IsOfInput (BadPattern fault) = Unit {0}
+IsOfInput Unreadable = Unit {0}
+IsOfInput Unavailable = Unit {0}
+IsOfInput stop = ⊥
+
+-- a take that failed is answered Unreadable at once, and nothing else is
+abbrev ReportsFailures : {X : Type 0} → ℕ → ℕ → Result X Stop → Type 0
+ReportsFailures old new (Ok x) = new ≡ old
+ReportsFailures old new (Err Unreadable) = new ≡ raised old
+ReportsFailures old new (Err stop) = new ≡ old
+
+-- what a job does with the stream that comes in, by what it tells and how often it failed before and after: it also takes at most one byte
+-- more than a file may have
+pub record TakesFile {X : Type 0} (told_old told_new : Option (List ℕ)) (failed_old failed_new : ℕ) (answer : Result X Stop) : Type 0 where
+  pub heard : ReportsFailures failed_old failed_new answer
+  pub few : LosesUpTo 1048577 told_old told_new
+
+-- ---- the stream that a text is put into
+
+-- the text was put, or a beginning of it before a put that failed; want of memory says nothing of it
+abbrev pub PutsText : Option (List ℕ) → Option (List ℕ) → List ℕ → Result (Unit {0}) Stop → Type 0
+PutsText old new bytes (Ok done) = Gains old new bytes
+PutsText old new bytes (Err Unwritable) = GainsSome old new bytes
+PutsText old new bytes (Err Unavailable) = Unit {0}
+PutsText old new bytes (Err stop) = ⊥
+
+-- after a stop the output is as it was, unless a put failed
+abbrev IsSilent : {O : Type 0} → O → O → Result (Unit {0}) Stop → Type 0
+IsSilent old new (Ok done) = Unit {0}
+IsSilent old new (Err Unwritable) = Unit {0}
+IsSilent old new (Err stop) = new ≡ old
+
+-- what a job does with the stream that it puts its text into, by how often it failed before and after: where the job is done, no put failed,
+-- and Unwritable is answered only where one did
+pub record PutsOnce {O : Type 0} (old new : O) (failed_old failed_new : ℕ) (answer : Result (Unit {0}) Stop) : Type 0 where
+  pub silent : IsSilent old new answer
+  pub put : OnOk answer (failed_new ≡ failed_old)
+  pub unwritable : answer ≡ Err Unwritable → FailedBetween failed_old failed_new

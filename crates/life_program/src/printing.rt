@@ -1,0 +1,27 @@
+//! What a program prints on standard error where it does no job, and the status that it then ends with.
+
+use life_jobs::Stop;
+use life_words::WordFault;
+use std::io;
+use std::process::ExitCode;
+
+/// The status for words that name no job.
+const BAD_WORDS: u8 = 2;
+
+/// Prints the line of a stop, if it has one, and gives the status 1.
+pub fn print_stop(rt: &impl Eprint, line: &str) -> io::Result<ExitCode> {
+    if !line.is_empty() {
+        rt.eprintln(line)?;
+    }
+    Ok(ExitCode::FAILURE)
+}
+
+/// Prints why the words name no job: what `clap` says of them, with the status 2, or that memory was refused, as a stop.
+pub fn print_fault(rt: &impl Eprint, fault: WordFault) -> io::Result<ExitCode> {
+    match fault {
+        WordFault::BadWords(Some(error)) => eprint!(rt; "{error}")?,
+        WordFault::BadWords(None) => {}
+        WordFault::Memory => return print_stop(rt, Stop::Unavailable.line()),
+    }
+    Ok(ExitCode::from(BAD_WORDS))
+}

@@ -512,8 +512,8 @@ pub fn answer_all<S: Alter>(
     ensures headline { IfOk result (λ replies. IsTheArchive archive.old archive.new requests.items replies.items) }
     // A database that is sure before the call is sure after it, unless its disk failed in the call.
     ensures lasting { IfOk result (λ replies. IsTheArchiveOrFaults archive.old archive.new requests.items replies.items) }
-    // A crash in the middle of the call leaves the archive after the requests that were answered, or after the one that was being answered as
-    // well; a crash after it, the archive after all.
+    // A crash in the middle of the call leaves the archive after a beginning of the requests, or after the one that follows as well, and no
+    // other reply says that something is kept; a crash after it leaves the archive after all.
     ensures crash { IfOk result (λ replies. IsCrashSafe S.Store archive.old archive.new requests.items replies.items) }
     ensures durable { IsDurable S.Store archive.new }
     ensures err { OnErr result (archive.new ≡ archive.old) }

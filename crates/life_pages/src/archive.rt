@@ -51,8 +51,8 @@ pub fn serve<S: Alter, I: Inlet, O: Outlet>(
     // A failed put: of the last reply of the run a beginning was put, and those before it whole.
     ensures cut { result ≡ Err IoFault.Write →
         ByArchive S.Store (λ A B. LastReplyCutShort (AnswersMessage RequestStep) (λ ms. IfSome (I.to_come input.old) (λ stream. Starts stream ms)) A B (O.already output.old) (O.already output.new)) archive.old archive.new }
-    // A crash in the middle of it leaves the archive after the messages that were answered, or after the one that was being answered as well;
-    // a crash after it, the archive after all.
+    // A crash in the middle of it leaves the archive after a beginning of the messages, or after the one that follows as well, and no other reply
+    // says that something is kept; a crash after it leaves the archive after all.
     ensures crash { IsServedSafely S.Store archive.old archive.new (O.already output.old) (O.already output.new) }
     ensures durable { IsDurable S.Store archive.new }
     ensures memory { result ≡ Err IoFault.Memory → (archive.new ≡ archive.old) × (input.new ≡ input.old) × (output.new ≡ output.old) }

@@ -16,9 +16,9 @@ use Rattle.life_archive.specs.declared.stop.ArchiveStop.{ArchiveStop}
 use Rattle.life_archive.specs.declared.stop.ArchiveStop.TheVariants.{Job, Desk}
 
 -- the file is all the bytes that come in; of more than a file may have, one byte too many is taken, and the archive refuses it
-abbrev pub IsTaken : Option (List ℕ) → List ℕ → Type 0
-IsTaken None file = Unit {0}
-IsTaken (Some bytes) file = file ≡ take 1048577 bytes
+abbrev pub IsFileTaken : Option (List ℕ) → List ℕ → Type 0
+IsFileTaken None file = Unit {0}
+IsFileTaken (Some bytes) file = file ≡ take 1048577 bytes
 
 -- the line of a deposit: `deposit` and its number
 abbrev pub deposit_line : ℕ → List ℕ
@@ -35,6 +35,7 @@ abbrev pub PutsReply : Reply → Option (List ℕ) → Option (List ℕ) → Res
 PutsReply (says.Deposited id) old new (Ok done) = Gains old new (deposit_line id)
 PutsReply (says.Deposited id) old new (Err stop) = (stop ≡ Job Unwritable) × GainsSome old new (deposit_line id)
 PutsReply (says.Refused refusal) old new answer = answer ≡ Err (desk_stop refusal)
+-- to a deposit no other reply comes
 PutsReply reply old new answer = answer ≡ Err (Job Unavailable)
 
 -- the answer as the streams of the job see it: what the archive refuses comes of no stream, no more than want of memory does
@@ -47,7 +48,7 @@ by_streams (Err stop) = Err Unavailable
 pub record AsksOnce {S : Type 0} (g : Ghosts S) (old new : ArchiveView S) (member token : List ℕ) (told before after : Option (List ℕ)) (answer : Result (Unit {0}) ArchiveStop) : Type 0 where
   pub file : List ℕ
   pub reply : Reply
-  pub taken : IsTaken told file
+  pub taken : IsFileTaken told file
   pub answered : Answered g old new (ask.Deposit member token file ∷ []) (reply ∷ [])
   pub puts : PutsReply reply before after answer
 

@@ -7,7 +7,7 @@ ghost use Rattle.life_desk.specs.Run.{Answered};
 ghost use Rattle.life_jobs.specs.Streams.{TakesFile, PutsOnce};
 ghost use Rattle.life_jobs.specs.declared.stop.Stop.TheVariants.{Unreadable};
 ghost use Rattle.life_archive.specs.declared.stop.ArchiveStop.TheVariants.{Job};
-ghost use Rattle.life_archive.specs.Deposit.{IsTaken, IsUnasked, deposit_line, desk_stop, by_streams, PutsReply, Deposits};
+ghost use Rattle.life_archive.specs.Deposit.{IsFileTaken, IsUnasked, deposit_line, desk_stop, by_streams, PutsReply, Deposits};
 
 use crate::stop::ArchiveStop;
 use itoa::Buffer;
@@ -23,7 +23,7 @@ const MOST_TAKEN: usize = 1_048_577;
 
 /// The bytes that come in, to their end or to one more than a file may have.
 fn take_file<I: Inlet>(alloc: Global, input: &mut I) -> Result<Vec<u8>, ArchiveStop>
-    ensures taken { IfOk result (λ file. IsTaken (I.to_come input.old) file.items) }
+    ensures taken { IfOk result (λ file. IsFileTaken (I.to_come input.old) file.items) }
     ensures unasked { OnErr result (IsUnasked result) }
     ensures takes { TakesFile (I.to_come input.old) (I.to_come input.new) (I.failures input.old) (I.failures input.new) (by_streams result) }
 {

@@ -6,7 +6,7 @@ use Rattle.std.specs.Cmp.Lexicographic.{slice_cmp}
 use Rattle.std.specs.List.{filter_map}
 use Rattle.std.specs.FinMap as table
 use Rattle.life_core.specs.Pattern.{Cells}
-use Rattle.life_census.specs.Rows.{Counts}
+use Rattle.life_census.specs.Rows.{TallyCounts}
 
 -- ---- the tally
 
@@ -23,11 +23,11 @@ unfoldable pub occurrences_of : List (List ℕ) → List (List ℕ × ℕ)
 occurrences_of ts = table.entries (table.from_entries {R = row_cmp} (map (λ t. (t, how_often t ts)) ts))
 
 -- the tally of a list of sets: each code that one of them has, with how many have it; how many have none; and how many there are
-pub record IsTally (code : Cells → Option (List ℕ)) (Ps : List Cells) (t : Counts) : Type 0 where
+pub record IsTally (code : Cells → Option (List ℕ)) (Ps : List Cells) (t : TallyCounts) : Type 0 where
   pub rows : t.rows ≡ occurrences_of (filter_map code Ps)
   pub unresolved : t.unresolved ≡ count_by (λ P. is_none (code P)) Ps
   pub total : t.total ≡ length Ps
 
 -- the one tally of a list of sets
-abbrev pub tally_of : (Cells → Option (List ℕ)) → List Cells → Counts
+abbrev pub tally_of : (Cells → Option (List ℕ)) → List Cells → TallyCounts
 tally_of code Ps = record { rows = occurrences_of (filter_map code Ps); unresolved = count_by (λ P. is_none (code P)) Ps; total = length Ps }

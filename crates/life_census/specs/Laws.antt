@@ -10,7 +10,7 @@ use Rattle.life_core.specs.Generations.{generation_of}
 use Rattle.life_code.specs.Apart.{union_of}
 use Rattle.life_census.specs.Parts.{ArePartsOf, parts}
 use Rattle.life_census.specs.Steady.{IsSteady, is_steady}
-use Rattle.life_census.specs.Rows.{Counts}
+use Rattle.life_census.specs.Rows.{TallyCounts}
 use Rattle.life_census.specs.Counting.{row_cmp, how_often, occurrences_of, IsTally}
 
 -- `parts` lists the parts of each set ..
@@ -35,7 +35,7 @@ RowsAscend = (codes : List (List ℕ)) → IsStrictlySortedBy row_cmp (map (λ (
 
 -- The counts of a tally and what is unresolved add up to the total.
 abbrev pub TalliesAddUp : Type 0
-TalliesAddUp = (code : Cells → Option (List ℕ)) (Ps : List Cells) (t : Counts) → IsTally code Ps t → sum_by (λ (row : List ℕ × ℕ). row.1) t.rows + t.unresolved ≡ t.total
+TalliesAddUp = (code : Cells → Option (List ℕ)) (Ps : List Cells) (t : TallyCounts) → IsTally code Ps t → sum_by (λ (row : List ℕ × ℕ). row.1) t.rows + t.unresolved ≡ t.total
 
 -- The function `is_steady` says exactly whether a field is steady: also under a limit of 0, under which no part stays.
 abbrev pub SteadyIsDecided : Type 0

@@ -8,13 +8,13 @@ abbrev pub row_seen : {A : Type 0} → Row A → List ℕ × ℕ
 row_seen r = (r.code, r.count)
 
 -- codes with their counts, how many clusters have no code, and how many clusters there are
-pub record Counts : Type 0 where
+pub record TallyCounts : Type 0 where
   pub rows : List (List ℕ × ℕ)
   pub unresolved : ℕ
   pub total : ℕ
 
 -- they are stored as the pairs of their parts
-abbrev pub coded_counts : Coded Counts
+abbrev pub coded_counts : Coded TallyCounts
 coded_counts =
     code_by (List (List ℕ × ℕ) × (ℕ × ℕ))
     (coded× (coded_list (coded× (coded_list coded_ℕ) coded_ℕ)) (coded× coded_ℕ coded_ℕ))

@@ -2,7 +2,7 @@
 use Rattle.std.specs.Prelude.{ℕ, List, [], ◌∷◌, ◌++◌, codes}
 use Rattle.std.specs.Fmt.{decimal}
 use Rattle.std.specs.List.{flat_map}
-use Rattle.life_census.specs.Rows.{Counts}
+use Rattle.life_census.specs.Rows.{TallyCounts}
 
 -- a line: a text, a comma, a number in decimal digits, and a line feed
 abbrev pub line : List ℕ → ℕ → List ℕ
@@ -13,5 +13,5 @@ abbrev pub lines : List (List ℕ × ℕ) → ℕ → List ℕ
 lines rows unresolved = codes "code,count" ++ 10 ∷ flat_map (λ row. line row.0 row.1) rows ++ line (codes "unresolved") unresolved
 
 -- the text of a tally
-abbrev pub csv_text : Counts → List ℕ
+abbrev pub csv_text : TallyCounts → List ℕ
 csv_text t = lines t.rows t.unresolved

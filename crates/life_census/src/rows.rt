@@ -53,9 +53,9 @@ pub struct Tally<A: Allocator = Global> {
 }
 
 impl<A: Allocator> Model for Tally<A> {
-    ghost use Rattle.life_census.specs.Rows.{Counts, coded_counts};
+    ghost use Rattle.life_census.specs.Rows.{TallyCounts, coded_counts};
 
-    ghost Value = { Counts };
+    ghost Value = { TallyCounts };
 
     ghost coded = { coded_counts };
 

@@ -93,7 +93,7 @@ CodeIsInvariant = (r : RuleSets) (X Y : Cells) (limit : ℕ) → Same r X Y → 
 abbrev pub CodeIsComplete : Type 0
 CodeIsComplete = (r : RuleSets) (X Y : Cells) (limit other : ℕ) (s t : List ℕ) → code_of r X limit ≡ Some s → code_of r Y other ≡ Some t → (s ≡ t) ↔ Same r X Y
 
--- A code spells a set, which has that code.
+-- A code spells a set, which has that code. A number in a code has six digits at most (Open.antt), so no longer limit is spoken of.
 abbrev pub CodeSpells : Type 0
 CodeSpells = (r : RuleSets) (X : Cells) (limit : ℕ) (text : List ℕ) → limit ≤ 999999 → code_of r X limit ≡ Some text → (Y : Cells) × Spells text Y × (code_of r Y limit ≡ Some text)
 

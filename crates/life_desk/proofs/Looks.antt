@@ -1,7 +1,7 @@
 -- What the looks at a kept deposit and at a kept tally tell of the reply.
 use Rattle.std.proofs.Common.{◌≡◌, ℕ, List, Bool, true, false, if◌then◌else◌, Option, None, Some, option_map, Result, Ok, Err, IfOk, sym, ◌∙◌, ap, subst}
 use Rattle.std.specs.Result.{MatchResult}
-use Rattle.life_census.specs.Rows.{Counts}
+use Rattle.life_census.specs.Rows.{TallyCounts}
 use Rattle.life_census.specs.Table.{csv_text}
 use Rattle.life_store.specs.declared.kept.Deposit.{Deposit}
 use Rattle.life_store.specs.declared.kept.Census.{Census}
@@ -43,17 +43,17 @@ deposit_new A new d found o r is tells done = subst (λ o. MatchResult r (λ x. 
 -- ---- tallies
 
 abbrev Found : Type 0
-Found = Option (Census × Counts)
+Found = Option (Census × TallyCounts)
 
-tally_told : (ds : List Deposit) (o : Option Census) (c : Census) (t : Counts) (found : Found) → found ≡ Some (c, t) → found ≡ option_map (λ c. (c, tally_at ds c)) o
+tally_told : (ds : List Deposit) (o : Option Census) (c : Census) (t : TallyCounts) (found : Found) → found ≡ Some (c, t) → found ≡ option_map (λ c. (c, tally_at ds c)) o
     → says.Csv (csv_text t) ≡ csv_reply ds o
 tally_told ds None c t found is tells = absurd cc
 tally_told ds (Some x) c t found is tells =
-    let pair : ◌≡◌ {A = Census × Counts} (c, t) (x, tally_at ds x) = cc in
-    ap (λ (p : Census × Counts). says.Csv (csv_text p.1)) pair
+    let pair : ◌≡◌ {A = Census × TallyCounts} (c, t) (x, tally_at ds x) = cc in
+    ap (λ (p : Census × TallyCounts). says.Csv (csv_text p.1)) pair
 
 -- the reply with the tally as CSV
-pub csv_told : {E M : Type 0} → (ds : List Deposit) (o : Option Census) (found : Found) (c : Census) (t : Counts) (r : Result Reply E)
+pub csv_told : {E M : Type 0} → (ds : List Deposit) (o : Option Census) (found : Found) (c : Census) (t : TallyCounts) (r : Result Reply E)
     → found ≡ Some (c, t) → found ≡ option_map (λ c. (c, tally_at ds c)) o → IfOk r (λ reply. reply ≡ says.Csv (csv_text t)) → M
     → MatchResult r (λ reply. (reply ≡ csv_reply ds o) × M) (λ _. M)
 csv_told ds o found c t (Ok reply) is tells told m = (told ∙ tally_told ds o c t found is tells, m)

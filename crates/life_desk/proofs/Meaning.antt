@@ -11,7 +11,7 @@ use Rattle.life_store.specs.declared.kept.Census.{Census}
 use Rattle.life_store.specs.Kept.{numbered, share, total_of}
 use Rattle.life_store.specs.Tables.{ArchiveView, Holds, TreesHold, HoldChanged, IsTransition, HoldsTheSame, AddsDeposit, AddsCensus}
 use Rattle.life_desk.specs.Archive.{Archive, census_from, tally_at, tally_for, steady_at, steady_for, clusters_in, clusters_with}
-use Rattle.life_census.specs.Rows.{Counts}
+use Rattle.life_census.specs.Rows.{TallyCounts}
 use Rattle.life_store.specs.declared.kept.FoundCensus.{FoundCensus}
 use Rattle.life_store.specs.Kept.{Tallied, tallied_from, found_census, is_census_of}
 use Rattle.life_desk.specs.Means.{Means, NewIsEmpty, EachHasDeposit, tallied, kept_of}
@@ -119,7 +119,7 @@ pub flags_of : (ds : List Deposit) (cs : List Census) (id : ℕ) → option_map 
 flags_of ds cs id = ap (λ o. option_map (λ (t : Tallied). t.steady) o) (numbered_tallied ds cs id) ∙ flag_is ds (numbered cs id)
 
 -- one census more, with the tally and the flag of the deposit that is there
-pub means_counted : {S : Type 0} {g : Ghosts S} {More : Trees → Type 0} (old new : ArchiveView S) (A : Archive) (c : Census) (t : Counts) (b : Bool) (d : Deposit) → IsTransition g More old new
+pub means_counted : {S : Type 0} {g : Ghosts S} {More : Trees → Type 0} (old new : ArchiveView S) (A : Archive) (c : Census) (t : TallyCounts) (b : Bool) (d : Deposit) → IsTransition g More old new
     → AddsCensus old.tables new.tables (record { census = c; tally = t; steady = b })
     → numbered A.deposits c.deposit ≡ Some d → t ≡ tally_for c (Some d) → b ≡ steady_for c (Some d)
     → IsTrue new.tables.is_sure → Means old A → Means new (record A { censuses = A.censuses ++ c ∷ [] })
@@ -144,7 +144,7 @@ pub trees_deposit : {S : Type 0} (old : ArchiveView S) (d : Deposit) (db : Trees
 trees_deposit old d db h = (h.0, λ A m. subst (λ cs. TreesHold db (record { deposits = A.deposits ++ d ∷ []; censuses = cs })) (tallied_longer A.deposits d A.censuses (each_of old A m)) (h.1 (kept_of A) (holds_of old A m)))
 
 -- and of a census, with the tally and the flag of the deposit that is there
-pub trees_census : {S : Type 0} (old : ArchiveView S) (c : Census) (t : Counts) (b : Bool) (db : Trees)
+pub trees_census : {S : Type 0} (old : ArchiveView S) (c : Census) (t : TallyCounts) (b : Bool) (db : Trees)
     → HoldChanged old.tables (λ k. record k { censuses = k.censuses ++ record { census = c; tally = t; steady = b } ∷ [] }) db
     → (d : Deposit) → t ≡ tally_for c (Some d) → b ≡ steady_for c (Some d)
     → MeanChangedWhere old (λ A. numbered A.deposits c.deposit ≡ Some d) (λ A. record A { censuses = A.censuses ++ c ∷ [] }) db
@@ -166,7 +166,7 @@ deposit_ok old new d (Ok n) goes adds = λ A sure m. means_deposit old new A d g
 deposit_ok old new d (Err e) goes adds = tt
 
 -- what an added census leaves
-pub census_ok : {E S : Type 0} {g : Ghosts S} {More : Trees → Type 0} (old new : ArchiveView S) (c : Census) (t : Counts) (b : Bool) (r : Result ℕ E) → IsTransition g More old new
+pub census_ok : {E S : Type 0} {g : Ghosts S} {More : Trees → Type 0} (old new : ArchiveView S) (c : Census) (t : TallyCounts) (b : Bool) (r : Result ℕ E) → IsTransition g More old new
     → OnOk r (AddsCensus old.tables new.tables (record { census = c; tally = t; steady = b }))
     → OnOk r (ForAllMeant old new (λ A. (d : Deposit) → numbered A.deposits c.deposit ≡ Some d → t ≡ tally_for c (Some d) → b ≡ steady_for c (Some d) → Means new (record A { censuses = A.censuses ++ c ∷ [] })))
 census_ok old new c t b (Ok n) goes adds = λ A sure m d there is flag. means_counted old new A c t b d goes adds there is flag sure m

@@ -9,7 +9,7 @@ use Rattle.life_code.specs.declared.kinds.Kind.{Kind}
 use Rattle.life_code.specs.Codes.{code_of, Same}
 use Rattle.life_code.specs.Laws.{CodeIsComplete}
 use Rattle.life_census.specs.Parts.{parts}
-use Rattle.life_census.specs.Rows.{Counts}
+use Rattle.life_census.specs.Rows.{TallyCounts}
 use Rattle.life_census.specs.Steady.{IsSteady}
 use Rattle.life_census.specs.Laws.{PartsAreParts, OnePartEach, RowsAreCounts, TalliesAddUp, SteadyIsDecided}
 use Rattle.sqlite_trees.specs.declared.store.Store.{Ghosts}
@@ -146,7 +146,7 @@ headline_holds are one rows add complete A B qs rs each run = record {
         has.0,
         census_stays m.0 B m.3 id found.0 found.1,
         deposit_stays m.0 B m.3 found.0.deposit has.0 has.1,
-        subst (λ (t : Counts). CountsEachOnce has.0.content.rule (generation_of has.0.content.rule has.0.content.cells found.0.generation) found.0.limit t) (sym tally)
+        subst (λ (t : TallyCounts). CountsEachOnce has.0.content.rule (generation_of has.0.content.rule has.0.content.cells found.0.generation) found.0.limit t) (sym tally)
             (counts are one rows add has.0.content.rule (generation_of has.0.content.rule has.0.content.cells found.0.generation) found.0.limit),
       );
 }

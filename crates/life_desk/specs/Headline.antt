@@ -13,7 +13,7 @@ use Rattle.life_code.specs.declared.kinds.Kind.{Kind}
 use Rattle.life_code.specs.Codes.{code_of, Same}
 use Rattle.life_census.specs.Parts.{ArePartsOf, parts}
 use Rattle.life_census.specs.Counting.{how_often}
-use Rattle.life_census.specs.Rows.{Counts}
+use Rattle.life_census.specs.Rows.{TallyCounts}
 use Rattle.life_store.specs.declared.kept.Deposit.{Deposit}
 use Rattle.life_store.specs.declared.kept.Census.{Census}
 use Rattle.life_store.specs.Kept.{numbered}
@@ -29,7 +29,7 @@ use Rattle.life_desk.specs.Run.{RequestRun, IsAnswered, IsLater}
 
 -- The tally counts every cluster of X once, under its code or as unresolved. The clusters are the parts of X, and each live cell is in
 -- exactly one; a row says how many have its code; the rows and what is unresolved add up to how many there are.
-pub record CountsEachOnce (rule : RuleSets) (X : Cells) (limit : ℕ) (tally : Counts) : Type 0 where
+pub record CountsEachOnce (rule : RuleSets) (X : Cells) (limit : ℕ) (tally : TallyCounts) : Type 0 where
   pub clusters : ArePartsOf X (parts X)
   pub one_each : (c : Cell) → set.contains X c ≡ true
       → (P : Cells) × Contains (parts X) P × (set.contains P c ≡ true) × ((Q : Cells) → Contains (parts X) Q → set.contains Q c ≡ true → Q ≡ P)
@@ -63,18 +63,18 @@ abbrev pub HeadlineHolds : Type 0
 HeadlineHolds = (A B : Archive) (qs : List Request) (rs : List Reply) → EachHasDeposit A.deposits A.censuses → RequestRun A qs rs B → Headline A qs rs B
 
 -- A was taken by a run to an archive that the tables mean, and these replies say so of it.
-abbrev pub IsTaken : {S : Type 0} → Archive → ArchiveView S → List Request → List Reply → Type 0
-IsTaken A new qs rs = (B : Archive) × RequestRun A qs rs B × Means new B × Headline A qs rs B
+abbrev pub IsTakenByRun : {S : Type 0} → Archive → ArchiveView S → List Request → List Reply → Type 0
+IsTakenByRun A new qs rs = (B : Archive) × RequestRun A qs rs B × Means new B × Headline A qs rs B
 
 -- Where the database is sure at the end: so each archive that the tables meant was taken.
 abbrev pub IsTheArchive : {S : Type 0} → ArchiveView S → ArchiveView S → List Request → List Reply → Type 0
-IsTheArchive old new qs rs = (A : Archive) → IsTrue new.tables.is_sure → Means old A → IsTaken A new qs rs
+IsTheArchive old new qs rs = (A : Archive) → IsTrue new.tables.is_sure → Means old A → IsTakenByRun A new qs rs
 
 -- Where the database is sure at the start: so it is at the end, and A was taken; or the disk failed in the call.
 abbrev pub IsTheArchiveOrFaults : {S : Type 0} → ArchiveView S → ArchiveView S → List Request → List Reply → Type 0
 IsTheArchiveOrFaults old new qs rs = (A : Archive) → IsTrue old.tables.is_sure → Means old A
-    → (IsTrue new.tables.is_sure × IsTaken A new qs rs) ⊎ HasFailed old.tables new.tables
+    → (IsTrue new.tables.is_sure × IsTakenByRun A new qs rs) ⊎ HasFailed old.tables new.tables
 
 -- Where the database is in memory: A was taken, with no premise.
 abbrev pub IsTheArchiveInMemory : {S : Type 0} → ArchiveView S → ArchiveView S → List Request → List Reply → Type 0
-IsTheArchiveInMemory old new qs rs = (A : Archive) → Means old A → IsTaken A new qs rs
+IsTheArchiveInMemory old new qs rs = (A : Archive) → Means old A → IsTakenByRun A new qs rs

@@ -1,7 +1,7 @@
 //! The desk: a request is judged by its own words, the archive is asked, and a reply is made.
 ghost use Rattle.std.specs.Prelude.{◌≡◌, ◌≤◌, ◌∷◌, [], if◌then◌else◌, None, IfErr, IfOk, IsTrue, OnErr, length, option_map, Some, true};
 ghost use Rattle.life_rle.specs.Record.{IsInside};
-ghost use Rattle.life_store.specs.Kept.{numbered, deposit_by, lines_after};
+ghost use Rattle.life_store.specs.Kept.{numbered, deposit_by, listed_after};
 ghost use Rattle.life_store.specs.Crash.{NoMore};
 ghost use Rattle.life_store.specs.Tables.{IsTransition, HoldsTheSame, HasOrder};
 ghost use Rattle.life_desk.specs.declared.request.Reply.TheVariants as says;
@@ -148,7 +148,7 @@ fn list_after<S: Alter>(
 ) -> Result<Reply, Unavailable>
     ensures goes { IsTransition S.Store NoMore archive.old archive.new }
     ensures told { Promises S.Store archive.new result }
-    ensures acts { Acts archive.old archive.new result (λ A r. r ≡ says.Deposits (lines_after id A.deposits)) (λ A. A) }
+    ensures acts { Acts archive.old archive.new result (λ A r. r ≡ says.Deposits (listed_after id A.deposits)) (λ A. A) }
 {
     Ok(Reply::Deposits(deposits_after(archive, alloc, id)?))
 }

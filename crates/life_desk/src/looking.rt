@@ -2,7 +2,7 @@
 ghost use Rattle.std.specs.Prelude.{◌≡◌, ◌+◌, ◌++◌, ◌∷◌, [], Some, nat_lt, length, option_map, IfOk, IfSome, IsTrue, OnOk, OnErr};
 ghost use Rattle.sqlite_trees.specs.View.{IsClean};
 ghost use Rattle.life_rle.specs.Record.{IsInside};
-ghost use Rattle.life_store.specs.Kept.{numbered, deposit_by, lines_after, kept_census};
+ghost use Rattle.life_store.specs.Kept.{numbered, deposit_by, listed_after, kept_census};
 ghost use Rattle.life_store.specs.Crash.{NoMore};
 ghost use Rattle.life_store.specs.Tables.{IsTransition, HasOrder};
 ghost use Rattle.life_store.specs.declared.kept.Deposit.{Deposit as Kept};
@@ -56,7 +56,7 @@ pub(crate) fn deposits_after<S: Alter>(
 ) -> Result<Listing, Unavailable>
     ensures goes { IsTransition S.Store NoMore archive.old archive.new }
     ensures same { MeansTheSame archive.old archive.new }
-    ensures value { ForAllMeant archive.old archive.new (λ A. IfOk result (λ lines. lines ≡ lines_after id A.deposits)) }
+    ensures value { ForAllMeant archive.old archive.new (λ A. IfOk result (λ lines. lines ≡ listed_after id A.deposits)) }
 {
     archive.deposits_after(alloc, id)
 }

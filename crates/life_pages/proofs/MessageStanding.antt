@@ -7,7 +7,7 @@ use Rattle.std.specs.List.{list_all}
 use Rattle.httparse.specs.Grammar.{RequestHead, ReadsRequest, HasNoRequest, MayBecomeRequest, print_request, print_blank, print_version, print_end, print_section}
 use Rattle.httparse.proofs.GrammarLemmas.{request_unique, ReadsRequest-append, print_request-append}
 use Rattle.httparse.specs.Spans.{name_and_value}
-use Rattle.life_pages.specs.Head.{Head, head_of, said_by, head_with, has_some, values_of, Line, line_limit, body_length, within_limit, parsed_number, body_limit}
+use Rattle.life_pages.specs.Head.{Head, head_of, said_by, head_with, has_some, values_of, HeaderLine, line_limit, body_length, within_limit, parsed_number, body_limit}
 use Rattle.life_pages.specs.HeadState.{BeginsWith, NeverBegins, said}
 use Rattle.life_pages.specs.declared.head.GoodHead.{GoodHead}
 use Rattle.life_pages.specs.Message.{HasMessageInFront, HasNone, HasHeadAlone, are_line_breaks, head_limit}
@@ -141,7 +141,7 @@ other false x g e = e
 -- a body is within its limit
 pub body_within : (h : RequestHead) (g : Head) → head_of h ≡ Some g → g.body ≤ body_limit
 body_within h g e =
-    let lines : List Line = map name_and_value h.fields in
+    let lines : List HeaderLine = map name_and_value h.fields in
     let size : Option ℕ = body_length (values_of (codes "content-length") lines) in
     let head : ℕ → Head = head_with h.method h.target h.minor lines in
     let m : (n : ℕ) × (size ≡ Some n) × (head n ≡ g) =

@@ -9,11 +9,11 @@ use Rattle.httparse.specs.Grammar.{RequestHead, trim_ows}
 use Rattle.httparse.specs.Spans.{name_and_value}
 
 -- a header line: its name, and its value without blanks at the ends
-abbrev pub Line : Type 0
-Line = List ℕ × List ℕ
+abbrev pub HeaderLine : Type 0
+HeaderLine = List ℕ × List ℕ
 
 -- the values of the lines with this name, in any case
-abbrev pub values_of : List ℕ → List Line → List (List ℕ)
+abbrev pub values_of : List ℕ → List HeaderLine → List (List ℕ)
 values_of name lines = map (λ l. l.1) (filter (λ l. str_eq_ignore_ascii_case l.0 name) lines)
 
 -- the first of them
@@ -49,13 +49,13 @@ abbrev pub onto_first : ℕ → List (List ℕ) → List (List ℕ)
 onto_first b [] = (b ∷ []) ∷ []
 onto_first b (p ∷ ps) = (b ∷ p) ∷ ps
 
-abbrev pub parts_of : List ℕ → List (List ℕ)
-parts_of [] = [] ∷ []
-parts_of (b ∷ rest) = if b == comma then [] ∷ parts_of rest else onto_first b (parts_of rest)
+abbrev pub parts_between_commas : List ℕ → List (List ℕ)
+parts_between_commas [] = [] ∷ []
+parts_between_commas (b ∷ rest) = if b == comma then [] ∷ parts_between_commas rest else onto_first b (parts_between_commas rest)
 
 -- one of the parts is the word close
 abbrev pub says_close : List ℕ → Bool
-says_close value = list_any (λ part. str_eq_ignore_ascii_case (trim_ows part) (codes "close")) (parts_of value)
+says_close value = list_any (λ part. str_eq_ignore_ascii_case (trim_ows part) (codes "close")) (parts_between_commas value)
 
 -- what the head of a good message says
 pub record Head : Type 0 where
@@ -71,7 +71,7 @@ has_some [] = false
 has_some (v ∷ vs) = true
 
 -- what a head with these parts says, for a body of n bytes
-abbrev pub head_with : List ℕ → List ℕ → ℕ → List Line → ℕ → Head
+abbrev pub head_with : List ℕ → List ℕ → ℕ → List HeaderLine → ℕ → Head
 head_with method target minor lines n = record {
   method = method;
   target = target;
@@ -82,7 +82,7 @@ head_with method target minor lines n = record {
 }
 
 -- what a head with these parts says, where it is not bad
-abbrev pub said_by : List ℕ → List ℕ → ℕ → List Line → Option Head
+abbrev pub said_by : List ℕ → List ℕ → ℕ → List HeaderLine → Option Head
 said_by method target minor lines =
     if has_some (values_of (codes "transfer-encoding") lines) then None
     else option_map (head_with method target minor lines) (body_length (values_of (codes "content-length") lines))

@@ -43,30 +43,30 @@ fault_part _ = []
 
 -- ---- the replies of the archive
 
-abbrev pub status_of : Reply → ℕ
-status_of (says.Deposited id) = 201
-status_of (says.Counted id) = 201
-status_of (says.Refused refusal) = refusals.status_of refusal
-status_of _ = 200
+abbrev pub reply_status : Reply → ℕ
+reply_status (says.Deposited id) = 201
+reply_status (says.Counted id) = 201
+reply_status (says.Refused refusal) = refusals.status_of refusal
+reply_status _ = 200
 
 abbrev pub type_of : Reply → List ℕ
 type_of (says.File bytes) = codes "text/plain"
 type_of (says.Csv bytes) = codes "text/csv"
 type_of _ = json
 
-abbrev pub body_of : Reply → List ℕ
-body_of (says.Deposited id) = number_body (codes "deposit") id
-body_of (says.Counted id) = number_body (codes "census") id
-body_of (says.Total n) = number_body (codes "total") n
-body_of (says.Refused refusal) = refusal_body (refusals.name_of refusal) (refusals.number_of refusal) (fault_part refusal)
-body_of (says.File bytes) = bytes
-body_of (says.Csv bytes) = bytes
-body_of (says.Deposits lines) = compact_text (list_data lines)
-body_of (says.Kinded kind code) = compact_text (kind_data kind code)
-body_of (says.Shown shown) = compact_text (shown_data shown)
+abbrev pub reply_body : Reply → List ℕ
+reply_body (says.Deposited id) = number_body (codes "deposit") id
+reply_body (says.Counted id) = number_body (codes "census") id
+reply_body (says.Total n) = number_body (codes "total") n
+reply_body (says.Refused refusal) = refusal_body (refusals.name_of refusal) (refusals.number_of refusal) (fault_part refusal)
+reply_body (says.File bytes) = bytes
+reply_body (says.Csv bytes) = bytes
+reply_body (says.Deposits lines) = compact_text (list_data lines)
+reply_body (says.Kinded kind code) = compact_text (kind_data kind code)
+reply_body (says.Shown shown) = compact_text (shown_data shown)
 
 abbrev pub bytes_of : Reply → List ℕ
-bytes_of reply = reply_bytes (status_of reply) (type_of reply) (body_of reply)
+bytes_of reply = reply_bytes (reply_status reply) (type_of reply) (reply_body reply)
 
 -- ---- the replies that the archive is not asked for
 

@@ -3,7 +3,7 @@ ghost use Rattle.std.specs.Prelude.{◌≡◌, ℕ, ◌+◌, ◌≤◌, ◌<◌,
 ghost use Rattle.http.specs.StatusCode.{code_digits, reason_phrase, IsStatusCode};
 ghost use Rattle.life_desk.specs.Refusals as refusals;
 ghost use Rattle.life_desk.specs.Replies.{is_shown};
-ghost use Rattle.life_pages.specs.Reply.{phrase, reply_bytes, json, number_body, refusal_body, fault_part, bytes_of, status_of, type_of, body_of, page_bytes, bad_bytes, unavailable_bytes};
+ghost use Rattle.life_pages.specs.Reply.{phrase, reply_bytes, json, number_body, refusal_body, fault_part, bytes_of, reply_status, type_of, reply_body, page_bytes, bad_bytes, unavailable_bytes};
 ghost use Rattle.life_pages.specs.ReplyState.{Writes};
 
 use crate::asked::PageRefusal;

@@ -2,20 +2,20 @@
 use Rattle.std.specs.Prelude.{ℕ, ◌+◌, List, ◌++◌, codes}
 use Rattle.life_rle.specs.Record.{Contents}
 use Rattle.life_rle.specs.Writer.{pairs_of, width_of, height_of}
-use Rattle.life_pictures.specs.Numbers.{numbered}
+use Rattle.life_pictures.specs.Numbers.{with_number}
 use Rattle.life_pictures.specs.Runs.{path}
 use Rattle.life_pictures.specs.Title.{title}
 
 -- the document's element with its view box: a box of this size and a margin of one cell
 abbrev pub opening : ℕ → ℕ → List ℕ
 opening width height =
-    numbered (codes "<svg xmlns=\"http://www.w3.org/2000/svg\" viewBox=\"-1 -1 ") (width + 2) ++ numbered (codes " ") (height + 2)
+    with_number (codes "<svg xmlns=\"http://www.w3.org/2000/svg\" viewBox=\"-1 -1 ") (width + 2) ++ with_number (codes " ") (height + 2)
     ++ codes "\" shape-rendering=\"crispEdges\">\n"
 
 -- what is dead: the whole view box
 abbrev pub background : ℕ → ℕ → List ℕ
 background width height =
-    numbered (codes "<rect x=\"-1\" y=\"-1\" width=\"") (width + 2) ++ numbered (codes "\" height=\"") (height + 2) ++ codes "\" fill=\"white\"/>\n"
+    with_number (codes "<rect x=\"-1\" y=\"-1\" width=\"") (width + 2) ++ with_number (codes "\" height=\"") (height + 2) ++ codes "\" fill=\"white\"/>\n"
 
 -- the document of a record
 unfoldable pub svg : Contents → List ℕ

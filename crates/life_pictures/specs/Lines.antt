@@ -8,12 +8,12 @@ use Rattle.life_core.specs.Pattern.{Cells}
 use Rattle.life_rle.specs.Writer.{pairs_of, width_of, height_of}
 
 -- whether the cell at this column and row is live
-abbrev pub is_live : Cells → ℕ → ℕ → Bool
-is_live X column row = set.contains X (record { row = pos row; column = pos column })
+abbrev pub is_live_at : Cells → ℕ → ℕ → Bool
+is_live_at X column row = set.contains X (record { row = pos row; column = pos column })
 
 -- the two cells of a column that line i shows: of row 2 i, and of the row below it
 abbrev pub two_cells : Cells → ℕ → ℕ → Bool × Bool
-two_cells X i column = (is_live X column (2 * i), is_live X column (2 * i + 1))
+two_cells X i column = (is_live_at X column (2 * i), is_live_at X column (2 * i + 1))
 
 -- the character of two cells: a full block, its upper or its lower half, or a blank
 abbrev pub half_block : Bool × Bool → ℕ

@@ -5,7 +5,7 @@ use Rattle.life_core.specs.Pattern.{Cells}
 use Rattle.life_rle.specs.Body.{run}
 use Rattle.life_rle.specs.Writer.{pairs_of}
 use Rattle.life_pictures.specs.declared.runs.Run.{Run}
-use Rattle.life_pictures.specs.Numbers.{numbered}
+use Rattle.life_pictures.specs.Numbers.{with_number}
 
 -- whether a run begins right of a cell
 abbrev pub is_right_of : ℕ × ℕ → Run → Bool
@@ -31,7 +31,7 @@ runs_of (cell ∷ cells) = before_runs cell (runs_of cells)
 
 -- the rectangle round a run: from its upper left corner to the right, down, and back
 unfoldable pub run_path : Run → List ℕ
-run_path run = numbered (codes "M") run.column ++ numbered (codes " ") run.row ++ numbered (codes "h") run.length ++ numbered (codes "v1h-") run.length ++ codes "z"
+run_path run = with_number (codes "M") run.column ++ with_number (codes " ") run.row ++ with_number (codes "h") run.length ++ with_number (codes "v1h-") run.length ++ codes "z"
 
 -- the rectangles of all runs of a normal set
 unfoldable pub path : Cells → List ℕ

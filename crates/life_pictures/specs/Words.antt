@@ -10,12 +10,12 @@ use Rattle.life_pictures.specs.declared.jobs.Picture.{Picture}
 use Rattle.life_pictures.specs.declared.jobs.Picture.TheVariants as picture
 
 -- `text`
-abbrev pub text : App
-text = new_app (codes "text")
+abbrev pub text_app : App
+text_app = new_app (codes "text")
 
 -- `svg`
-abbrev pub svg : App
-svg = new_app (codes "svg")
+abbrev pub svg_app : App
+svg_app = new_app (codes "svg")
 
 -- the program's name, which wants one of its subcommands
 abbrev pub draw_alone : App
@@ -23,7 +23,7 @@ draw_alone = on_top (λ top. record top { subcommand_required = true }) (new_app
 
 -- the whole command, with its subcommands in the order in which help lists them
 abbrev pub draw : App
-draw = with_subcommand (with_subcommand draw_alone text.top) svg.top
+draw = with_subcommand (with_subcommand draw_alone text_app.top) svg_app.top
 
 -- the picture that a subcommand of this name asks for
 abbrev pub picture_named : Text → Option Picture

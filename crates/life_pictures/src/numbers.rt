@@ -1,6 +1,6 @@
 //! Texts with numbers.
 ghost use Rattle.std.specs.Prelude.{◌≡◌, ◌++◌, OnOk};
-ghost use Rattle.life_pictures.specs.Numbers.{numbered};
+ghost use Rattle.life_pictures.specs.Numbers.{with_number};
 
 use itoa::Buffer;
 use std::alloc::{AllocError, Allocator};
@@ -11,7 +11,7 @@ pub fn put_numbered<A: Allocator>(
     text: &[u8],
     n: u64,
 ) -> Result<(), AllocError>
-    ensures { OnOk result (out.new.items ≡ out.old.items ++ numbered text.now n) }
+    ensures { OnOk result (out.new.items ≡ out.old.items ++ with_number text.now n) }
 {
     out.extend_from_slice(text)?;
     out.extend_from_slice(Buffer::new().format(n).as_bytes())?;

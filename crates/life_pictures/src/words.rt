@@ -3,7 +3,7 @@ ghost use Rattle.std.specs.Prelude.{◌≡◌, map, IfOk, false};
 ghost use Rattle.clap.specs.Simple.{App};
 ghost use Rattle.clap.specs.Words.{app_of, subcommand_rows_of, with_subcommand};
 ghost use Rattle.clap.specs.declared.builder.command.Command.TheViews.{out-Command as fields_of};
-ghost use Rattle.life_pictures.specs.Words.{text, svg, draw_alone, draw, picture_of, Answers};
+ghost use Rattle.life_pictures.specs.Words.{text_app, svg_app, draw_alone, draw, picture_of, Answers};
 
 use crate::jobs::Picture;
 use clap::{ArgMatches, Command};
@@ -32,7 +32,7 @@ Bad words, and a request for help, end with status 2.
 Example: life generation 30 < gun.rle | life-draw text";
 
 fn text_command<'a>(alloc: Global) -> Command<'a>
-    ensures app { app_of result ≡ text }
+    ensures app { app_of result ≡ text_app }
     ensures local { (fields_of result).has_globals ≡ false }
 {
     named_command(
@@ -44,7 +44,7 @@ fn text_command<'a>(alloc: Global) -> Command<'a>
 }
 
 fn svg_command<'a>(alloc: Global) -> Command<'a>
-    ensures app { app_of result ≡ svg }
+    ensures app { app_of result ≡ svg_app }
     ensures local { (fields_of result).has_globals ≡ false }
 {
     named_command(

@@ -7,11 +7,11 @@ use Rattle.std.proofs.lemmas.List.Concat.{flat_map-append}
 use Rattle.std.proofs.lemmas.Bool.{cases_lt, le-leb, lt-leb}
 use Rattle.std.proofs.lemmas.Fmt.{length-decimal-le}
 use Rattle.life_rle.specs.Writer.{item_text, laid}
-use Rattle.life_rle.specs.Laws.{spelled, AreFull}
+use Rattle.life_rle.specs.Laws.{spelled_runs, AreFull}
 
 -- the characters of a line of runs and its end
 abbrev pub ended : List (ℕ × ℕ) → List ℕ
-ended line = spelled line ++ 10 ∷ []
+ended line = spelled_runs line ++ 10 ∷ []
 
 -- a run's text fits on a line
 abbrev pub Fits : ℕ × ℕ → Type 0
@@ -21,17 +21,17 @@ Fits run = length (item_text run) ≤ 70
 record Laid (line runs : List (ℕ × ℕ)) : Type 0 where
   rest : List (ℕ × ℕ)
   lines : List (List (ℕ × ℕ))
-  spells : laid (length (spelled line)) (map item_text runs) ≡ ended rest ++ flat_map ended lines
+  spells : laid (length (spelled_runs line)) (map item_text runs) ≡ ended rest ++ flat_map ended lines
   all : rest ++ flat_map (λ l. l) lines ≡ runs
   full : AreFull ((line ++ rest) ∷ lines)
 
 abbrev pub used : List (ℕ × ℕ) → ℕ
-used line = length (spelled line)
+used line = length (spelled_runs line)
 
 pub used_push : (line : List (ℕ × ℕ)) (run : ℕ × ℕ) → used (line ++ run ∷ []) ≡ used line + length (item_text run)
 used_push line run =
-    ap length (flat_map-append item_text line (run ∷ []) ∙ ap (λ t. spelled line ++ t) (append-nil (item_text run)))
-    ∙ length-append (spelled line) (item_text run)
+    ap length (flat_map-append item_text line (run ∷ []) ∙ ap (λ t. spelled_runs line ++ t) (append-nil (item_text run)))
+    ∙ length-append (spelled_runs line) (item_text run)
 
 used_one : (run : ℕ × ℕ) → used (run ∷ []) ≡ length (item_text run)
 used_one run = ap length (append-nil (item_text run))
@@ -59,7 +59,7 @@ laid_here_all run runs line fits on = record {
   spells =
       laid_here run line (map item_text runs) fits ∙ ap (λ t. item_text run ++ t) on.spells
       ∙ sym (append_assoc (item_text run) (ended on.rest) (flat_map ended on.lines))
-      ∙ ap (λ t. t ++ flat_map ended on.lines) (sym (append_assoc (item_text run) (spelled on.rest) (10 ∷ [])));
+      ∙ ap (λ t. t ++ flat_map ended on.lines) (sym (append_assoc (item_text run) (spelled_runs on.rest) (10 ∷ [])));
   all = ap (λ rs. run ∷ rs) on.all;
   full = subst (λ first. AreFull (first ∷ on.lines)) (append_assoc line (run ∷ []) on.rest) on.full;
 }
@@ -71,7 +71,7 @@ laid_below_all run runs line fits past on = record {
   spells =
       laid_below run line (map item_text runs) past ∙ ap (λ t. 10 ∷ item_text run ++ t) on.spells
       ∙ ap (λ t. 10 ∷ t) (sym (append_assoc (item_text run) (ended on.rest) (flat_map ended on.lines))
-      ∙ ap (λ t. t ++ flat_map ended on.lines) (sym (append_assoc (item_text run) (spelled on.rest) (10 ∷ []))));
+      ∙ ap (λ t. t ++ flat_map ended on.lines) (sym (append_assoc (item_text run) (spelled_runs on.rest) (10 ∷ []))));
   all = ap (λ rs. run ∷ rs) on.all;
   full = subst (λ first. AreFull (first ∷ (run ∷ on.rest) ∷ on.lines)) (sym (append-nil line)) (fits, past, on.full);
 }

@@ -5,7 +5,7 @@ use Rattle.std.proofs.lemmas.List.{append_assoc, append-nil, length-append}
 use Rattle.std.proofs.lemmas.List.Concat.{flat_map-append}
 use Rattle.std.proofs.lemmas.Bool.{ne_eqb, eq-eqb}
 use Rattle.life_rle.specs.Writer.{tags_from, runs_of, item_text, item_texts, laid}
-use Rattle.life_rle.specs.Laws.{IsTag, AreMaximalRuns, EndInLiveCells, AreFull, spelled, IsCanonical, OneCanonicalBody}
+use Rattle.life_rle.specs.Laws.{IsTag, AreMaximalRuns, EndInLiveCells, AreFull, spelled_runs, IsCanonical, OneCanonicalBody}
 use Rattle.life_rle.proofs.LawsLaid.{ended, used, laid_here, laid_below, laid_none}
 use Rattle.life_rle.proofs.LawsRuns.{HaveTags, EndLive, gap, no_tags, no_runs, are_tags_by, walk, spelled_out, runs_placed}
 use Rattle.life_rle.proofs.LawsCanonical.{are_runs, texts_of}
@@ -27,7 +27,7 @@ AreLaid lines = (front : List (ℕ × ℕ)) → AreFull (front ∷ lines) → la
 run_fits : (front rest : List (ℕ × ℕ)) (run : ℕ × ℕ) → used (front ++ run ∷ rest) ≤ 70 → used front + length (item_text run) ≤ 70
 run_fits front rest run fits =
     let all : used (front ++ run ∷ rest) ≡ used front + (length (item_text run) + used rest) =
-    ap length (flat_map-append item_text front (run ∷ rest)) ∙ length-append (spelled front) (spelled (run ∷ rest)) ∙ ap (λ n. used front + n) (length-append (item_text run) (spelled rest)) in
+    ap length (flat_map-append item_text front (run ∷ rest)) ∙ length-append (spelled_runs front) (spelled_runs (run ∷ rest)) ∙ ap (λ n. used front + n) (length-append (item_text run) (spelled_runs rest)) in
     omega (arith, all, fits)
 
 line_laid : (rest front : List (ℕ × ℕ)) (lines : List (List (ℕ × ℕ))) → AreLaid lines → AreFull ((front ++ rest) ∷ lines) → laid (used front) (map item_text (rest ++ all_runs lines)) ≡ ended rest ++ flat_map ended lines
@@ -36,7 +36,7 @@ line_laid (run ∷ rest) front lines next full =
     laid_here run front (map item_text (rest ++ all_runs lines)) (run_fits front rest run (first_fits (front ++ run ∷ rest) lines full))
     ∙ ap (λ t. item_text run ++ t) (line_laid rest (front ++ run ∷ []) lines next (subst (λ line. AreFull (line ∷ lines)) (sym (append_assoc front (run ∷ []) rest)) full))
     ∙ sym (append_assoc (item_text run) (ended rest) (flat_map ended lines))
-    ∙ ap (λ t. t ++ flat_map ended lines) (sym (append_assoc (item_text run) (spelled rest) (10 ∷ [])))
+    ∙ ap (λ t. t ++ flat_map ended lines) (sym (append_assoc (item_text run) (spelled_runs rest) (10 ∷ [])))
 
 are_laid : (lines : List (List (ℕ × ℕ))) → AreLaid lines
 are_laid [] front full = laid_none (used front)
@@ -45,7 +45,7 @@ are_laid ((run ∷ rest) ∷ lines) front full =
     laid_below run front (map item_text (rest ++ all_runs lines)) full.1
     ∙ ap (λ t. 10 ∷ item_text run ++ t) (line_laid rest (run ∷ []) lines (are_laid lines) full.2)
     ∙ ap (λ t. 10 ∷ t) (sym (append_assoc (item_text run) (ended rest) (flat_map ended lines))
-    ∙ ap (λ t. t ++ flat_map ended lines) (sym (append_assoc (item_text run) (spelled rest) (10 ∷ []))))
+    ∙ ap (λ t. t ++ flat_map ended lines) (sym (append_assoc (item_text run) (spelled_runs rest) (10 ∷ []))))
 
 -- full lines are those into which their runs are laid
 lines_are_laid : (lines : List (List (ℕ × ℕ))) (runs : List (ℕ × ℕ)) (last : ℕ × ℕ) → AreFull lines → all_runs lines ≡ runs ++ last ∷ [] → flat_map ended lines ≡ laid 0 (map item_text (runs ++ last ∷ []))

@@ -8,7 +8,7 @@ use Rattle.std.proofs.lemmas.Fmt.{decimal_is_IsNumeral}
 use Rattle.std.proofs.lemmas.List.{append_assoc, append-nil}
 use Rattle.std.proofs.lemmas.Bool.{cases_eq, ne_eqb, eq-eqb, eqb-true}
 use Rattle.life_rle.specs.Body.{Item, items_after, items_of, count_of, count, run, row_after, column_after, cells_at, placed_after, placed}
-use Rattle.life_rle.specs.Laws.{IsTag, EndInLiveCells, spelled}
+use Rattle.life_rle.specs.Laws.{IsTag, EndInLiveCells, spelled_runs}
 use Rattle.life_rle.specs.Writer.{tags_from, onto_run, runs_of, item_text}
 use Rattle.life_rle.specs.WriterState.{InOrder}
 use Rattle.life_rle.proofs.BodyPositions.{row_after_push, column_after_row_end, column_after_push, placed_after-append}
@@ -302,9 +302,9 @@ no_items : items_after [] [] ≡ nothing
 unfolding items_after
 no_items = refl
 
-cut : (runs : List (ℕ × ℕ)) → AllByRecursion IsRun runs → items_of (spelled runs) ≡ map item_of runs ++ nothing
+cut : (runs : List (ℕ × ℕ)) → AllByRecursion IsRun runs → items_of (spelled_runs runs) ≡ map item_of runs ++ nothing
 cut [] all = no_items
-cut (r ∷ runs) all = one_item r (spelled runs) all.0 ∙ ap (λ items. item_of r ∷ items) (cut runs all.1)
+cut (r ∷ runs) all = one_item r (spelled_runs runs) all.0 ∙ ap (λ items. item_of r ∷ items) (cut runs all.1)
 
 some_count : (ds : List ℕ) → 0 < length ds → count_of ds ≡ digits_value 10 ds
 some_count [] some = absurd (omega arith)
@@ -377,7 +377,7 @@ unfolding row_after column_after
 at_start = (refl, refl)
 
 -- runs that are read back place what a reader places who takes one step a tag
-pub runs_placed : (runs : List (ℕ × ℕ)) → AllByRecursion IsRun runs → placed (items_of (spelled runs)) ≡ walk 0 0 (spelled_out runs)
+pub runs_placed : (runs : List (ℕ × ℕ)) → AllByRecursion IsRun runs → placed (items_of (spelled_runs runs)) ≡ walk 0 0 (spelled_out runs)
 runs_placed runs all =
     ap placed (cut runs all)
     ∙ placed_after-append [] (map item_of runs) nothing

@@ -12,7 +12,7 @@ use Rattle.life_rle.specs.Header.{header_rule}
 use Rattle.life_rle.specs.Body.{body_cells}
 use Rattle.life_rle.specs.Record.{Contents}
 use Rattle.life_rle.specs.File.{front_lines, header_lines, chosen_rule, body_part, contents, after_front, read_lines, kept}
-use Rattle.life_rle.specs.Laws.{is_name, is_author, is_rule, is_comment, text_of, first_text, without_first, NotesAreTheLines, TextsAreTheFile}
+use Rattle.life_rle.specs.Laws.{is_name, is_author, is_rule, is_comment, text_of_line, first_text, without_first, NotesAreTheLines, TextsAreTheFile}
 use Rattle.life_rle.proofs.RecordLaws.{bind_ok}
 
 -- the lines that give a text
@@ -26,7 +26,7 @@ but_first (Some text) p lines = lines
 
 -- the comments that lines leave behind such a name and such an author
 abbrev others : Option (List ℕ) → Option (List ℕ) → List Line → List (List ℕ)
-others name author lines = map text_of (but_first name is_name (but_first author is_author lines))
+others name author lines = map text_of_line (but_first name is_name (but_first author is_author lines))
 
 -- what lines leave, behind those that left other texts
 record After (old new : Notes) (lines : List Line) : Type 0 where

@@ -51,8 +51,8 @@ HeadersGiveTheBox = (r : Contents) (left top : ℤ) (width height : ℕ) → IsR
 -- ---- canonical bodies
 
 -- the characters of these runs: of each its count, which is left out where it is 1, and its tag
-abbrev pub spelled : List (ℕ × ℕ) → List ℕ
-spelled runs = flat_map item_text runs
+abbrev pub spelled_runs : List (ℕ × ℕ) → List ℕ
+spelled_runs runs = flat_map item_text runs
 
 -- how many characters the first run has
 abbrev pub first_length : List (ℕ × ℕ) → ℕ
@@ -62,8 +62,8 @@ first_length (run ∷ runs) = length (item_text run)
 -- no line of runs has more than 70 characters, and the first run of the next would not have fitted on it
 abbrev pub AreFull : List (List (ℕ × ℕ)) → Type 0
 AreFull [] = Unit {0}
-AreFull (line ∷ []) = length (spelled line) ≤ 70
-AreFull (line ∷ next ∷ lines) = (length (spelled line) ≤ 70) × (70 < length (spelled line) + first_length next) × AreFull (next ∷ lines)
+AreFull (line ∷ []) = length (spelled_runs line) ≤ 70
+AreFull (line ∷ next ∷ lines) = (length (spelled_runs line) ≤ 70) × (70 < length (spelled_runs line) + first_length next) × AreFull (next ∷ lines)
 
 -- a row end, `$`, a dead cell, `b`, or a live cell, `o`
 abbrev pub IsTag : ℕ → Type 0
@@ -80,7 +80,7 @@ pub record IsCanonical (cells : List (ℕ × ℕ)) (body : List ℕ) : Type 0 wh
   -- it is lines of runs with `!` behind the last, and each line is as full as it can be
   pub lines : List (List (ℕ × ℕ))
   pub runs : List (ℕ × ℕ)
-  pub spells : body ≡ flat_map (λ line. spelled line ++ codes "\n") lines
+  pub spells : body ≡ flat_map (λ line. spelled_runs line ++ codes "\n") lines
   pub ends : flat_map (λ line. line) lines ≡ runs ++ (1, 33) ∷ []
   pub full : AreFull lines
   -- the runs are of row ends, dead and live cells, counted in 64 bits; no two neighbours could be one, and none is there in vain
@@ -89,15 +89,15 @@ pub record IsCanonical (cells : List (ℕ × ℕ)) (body : List ℕ) : Type 0 wh
   pub apart : AreMaximalRuns runs
   pub live_end : EndInLiveCells runs
   -- read back they place these cells and no other
-  pub cells_back : placed (items_of (spelled runs)) ≡ cells
+  pub cells_back : placed (items_of (spelled_runs runs)) ≡ cells
 
 -- the body with which the text of a record ends
-abbrev pub body_of : Contents → List ℕ
-body_of r = laid 0 (item_texts (pairs_of r.cells))
+abbrev pub body_of_record : Contents → List ℕ
+body_of_record r = laid 0 (item_texts (pairs_of r.cells))
 
 -- The body of a record's text is canonical ..
 abbrev pub BodiesAreCanonical : Type 0
-BodiesAreCanonical = (r : Contents) → IsRecord r → IsWithin PLANE r.cells → IsCanonical (pairs_of r.cells) (body_of r)
+BodiesAreCanonical = (r : Contents) → IsRecord r → IsWithin PLANE r.cells → IsCanonical (pairs_of r.cells) (body_of_record r)
 
 -- .. and cells have one canonical body at most, so that what is said of it here is all of it.
 abbrev pub OneCanonicalBody : Type 0
@@ -126,16 +126,16 @@ is_comment (comment text) = true
 is_comment line = false
 
 -- the text that a line gives
-abbrev pub text_of : Line → List ℕ
-text_of (named text) = text
-text_of (authored text) = text
-text_of (comment text) = text
-text_of (ruled text) = text
-text_of line = []
+abbrev pub text_of_line : Line → List ℕ
+text_of_line (named text) = text
+text_of_line (authored text) = text
+text_of_line (comment text) = text
+text_of_line (ruled text) = text
+text_of_line line = []
 
 -- the text of the first line of a kind
 abbrev pub first_text : (Line → Bool) → List Line → Option (List ℕ)
-first_text p lines = option_map text_of (find p lines)
+first_text p lines = option_map text_of_line (find p lines)
 
 -- the lines without the first of a kind
 abbrev pub without_first : (Line → Bool) → List Line → List Line
@@ -146,7 +146,7 @@ without_first p (line ∷ lines) = if p line then lines else line ∷ without_fi
 pub record AreTextsOf (lines : List Line) (name author : Option (List ℕ)) (comments : List (List ℕ)) : Type 0 where
   pub name_first : name ≡ first_text is_name lines
   pub author_first : author ≡ first_text is_author lines
-  pub others : comments ≡ map text_of (without_first is_name (without_first is_author (filter (λ line. is_name line || is_author line || is_comment line) lines)))
+  pub others : comments ≡ map text_of_line (without_first is_name (without_first is_author (filter (λ line. is_name line || is_author line || is_comment line) lines)))
 
 -- What is kept of lines is their texts and the first rule ..
 abbrev pub NotesAreTheLines : Type 0

@@ -8,7 +8,7 @@ use native.Mathlib.Numerals.{add-one}
 use Rattle.sqlite_value.specs.declared.value.Value.TheVariants.{Int}
 use Rattle.sqlite_value.specs.declared.value.Value.{Value}
 use Rattle.sqlite_value.specs.Order.{Row}
-use Rattle.life_census.specs.Rows.{Counts}
+use Rattle.life_census.specs.Rows.{TallyCounts}
 use Rattle.life_census.specs.Steady.{IsSteady}
 use Rattle.life_store.specs.declared.kept.Census.{Census}
 use Rattle.life_store.specs.declared.kept.Deposit.{Deposit}
@@ -203,7 +203,7 @@ same_cells from (x ∷ xs) [] e = absurd cc
 same_cells from (x ∷ xs) (y ∷ ys) e =
     let first : unflagged x ≡ unflagged y = cc in
     let rest : map unflagged xs ≡ map unflagged ys = cc in
-    let cells : census_cells y ≡ census_cells x = ap (λ (u : Census × Counts). census_cells (record { census = u.0; tally = u.1; steady = true })) (sym first) in
+    let cells : census_cells y ≡ census_cells x = ap (λ (u : Census × TallyCounts). census_cells (record { census = u.0; tally = u.1; steady = true })) (sym first) in
     ap₂ (λ c rows. (Int (pos from) ∷ c) ∷ rows) cells (same_cells (from + 1) xs ys rest)
 
 same_counts : (from : ℕ) (xs ys : List Tallied) → map unflagged xs ≡ map unflagged ys → counts_from from ys ≡ counts_from from xs
@@ -213,7 +213,7 @@ same_counts from (x ∷ xs) [] e = absurd cc
 same_counts from (x ∷ xs) (y ∷ ys) e =
     let first : unflagged x ≡ unflagged y = cc in
     let rest : map unflagged xs ≡ map unflagged ys = cc in
-    ap₂ (λ (u : Census × Counts) more. tagged from u.1.rows ++ more) (sym first) (same_counts (from + 1) xs ys rest)
+    ap₂ (λ (u : Census × TallyCounts) more. tagged from u.1.rows ++ more) (sym first) (same_counts (from + 1) xs ys rest)
 
 same_order : (xs ys : List Tallied) → map unflagged xs ≡ map unflagged ys → AllByRecursion (λ (t : Tallied). HasOrder t.tally) ys → AllByRecursion (λ (t : Tallied). HasOrder t.tally) xs
 same_order [] ys e all = tt
@@ -221,7 +221,7 @@ same_order (x ∷ xs) [] e all = absurd cc
 same_order (x ∷ xs) (y ∷ ys) e all =
     let first : unflagged x ≡ unflagged y = cc in
     let rest : map unflagged xs ≡ map unflagged ys = cc in
-    (subst (λ (u : Census × Counts). HasOrder u.1) (sym first) all.0, same_order xs ys rest all.1)
+    (subst (λ (u : Census × TallyCounts). HasOrder u.1) (sym first) all.0, same_order xs ys rest all.1)
 
 -- the parts of what an archive of layout 1 keeps
 abbrev pub first_parts : Kept → Parts

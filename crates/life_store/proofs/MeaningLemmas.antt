@@ -5,7 +5,7 @@ use Rattle.std.specs.List.{AllByRecursion}
 use Rattle.sqlite_value.specs.Order.{Row}
 use Rattle.life_rle.specs.File.{kept}
 use Rattle.life_rle.specs.Writer.{text}
-use Rattle.life_census.specs.Rows.{Counts}
+use Rattle.life_census.specs.Rows.{TallyCounts}
 use Rattle.life_store.specs.declared.kept.Deposit.{Deposit}
 use Rattle.life_store.specs.declared.kept.Census.{Census}
 use Rattle.life_store.specs.Carrying.{HoldsFirst, unflagged}
@@ -102,8 +102,8 @@ same_unflagged id (s ∷ ss) (t ∷ ts) e c =
     let rest : rows_by census_cells (id + 1) ss ≡ rows_by census_cells (id + 1) ts = cc in
     let it = same_census s t cells in
     let rows = parted id s.tally.rows t.tally.rows (counts_from (id + 1) ss) (counts_from (id + 1) ts) (all_past id (id + 1) (omega arith) ss) (all_past id (id + 1) (omega arith) ts) c in
-    let tally : s.tally ≡ t.tally = ap₂ (λ (r : List Counted) (ut : ℕ × ℕ). let n : Counts = record { rows = r; unresolved = ut.0; total = ut.1 } in n) rows.0 (ap₂ (λ u n. (u, n)) it.1 it.2) in
-    let first : unflagged s ≡ unflagged t = ap₂ (λ (x : Census) (y : Counts). (x, y)) it.0 tally in
+    let tally : s.tally ≡ t.tally = ap₂ (λ (r : List Counted) (ut : ℕ × ℕ). let n : TallyCounts = record { rows = r; unresolved = ut.0; total = ut.1 } in n) rows.0 (ap₂ (λ u n. (u, n)) it.1 it.2) in
+    let first : unflagged s ≡ unflagged t = ap₂ (λ (x : Census) (y : TallyCounts). (x, y)) it.0 tally in
     ap₂ (λ z zs. z ∷ zs) first (same_unflagged (id + 1) ss ts rest rows.1)
 
 same_flags : (id : ℕ) (ss ts : List Tallied) → map unflagged ss ≡ map unflagged ts → rows_by flag_cells id ss ≡ rows_by flag_cells id ts → ss ≡ ts
@@ -115,7 +115,7 @@ same_flags id (s ∷ ss) (t ∷ ts) e f =
     let rest : map unflagged ss ≡ map unflagged ts = cc in
     let flags : rows_by flag_cells (id + 1) ss ≡ rows_by flag_cells (id + 1) ts = cc in
     let number : flag_number s.steady ≡ flag_number t.steady = cc in
-    let first : s ≡ t = ap₂ (λ (u : Census × Counts) (b : Bool). let n : Tallied = record { census = u.0; tally = u.1; steady = b } in n) head (same_flag s.steady t.steady number) in
+    let first : s ≡ t = ap₂ (λ (u : Census × TallyCounts) (b : Bool). let n : Tallied = record { census = u.0; tally = u.1; steady = b } in n) head (same_flag s.steady t.steady number) in
     ap₂ (λ z zs. z ∷ zs) first (same_flags (id + 1) ss ts rest flags)
 
 same_deposits : (a b : List Deposit) → AllByRecursion IsFiled a → AllByRecursion IsFiled b → rows_by deposit_cells 1 a ≡ rows_by deposit_cells 1 b → a ≡ b

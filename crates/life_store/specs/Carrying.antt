@@ -6,7 +6,7 @@ use Rattle.sqlite_value.specs.Order.{Row}
 use Rattle.life_core.specs.Pattern.{Cells}
 use Rattle.life_core.specs.Generations.{generation_of}
 use Rattle.life_rle.specs.Record.{Contents}
-use Rattle.life_census.specs.Rows.{Counts}
+use Rattle.life_census.specs.Rows.{TallyCounts}
 use Rattle.life_census.specs.Steady.{IsSteady}
 use Rattle.life_store.specs.declared.kept.Deposit.{Deposit}
 use Rattle.life_store.specs.declared.kept.Census.{Census}
@@ -43,7 +43,7 @@ pub record IsFlagged (ds : List Deposit) (t : Tallied) : Type 0 where
   pub flag : IsTrue t.steady ↔ IsSteady deposit.content.rule (generation_in deposit.content t.census.generation) t.census.limit
 
 -- a census and its tally, without the flag
-abbrev pub unflagged : Tallied → Census × Counts
+abbrev pub unflagged : Tallied → Census × TallyCounts
 unflagged t = (t.census, t.tally)
 
 -- The tables stand for the same deposits and the same censuses with the same tallies, and each flag is computed from its census's deposit.

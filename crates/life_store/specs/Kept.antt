@@ -4,7 +4,7 @@ use Rattle.std.specs.FinSet as set
 use Rattle.life_core.specs.Rule.{RuleSets}
 use Rattle.life_core.specs.RuleEquality.{same_rule}
 use Rattle.life_core.specs.RuleText.{rule_text}
-use Rattle.life_census.specs.Rows.{Counts}
+use Rattle.life_census.specs.Rows.{TallyCounts}
 use Rattle.life_store.specs.declared.kept.Deposit.{Deposit}
 use Rattle.life_store.specs.declared.kept.Census.{Census}
 use Rattle.life_store.specs.declared.kept.FoundDeposit.{FoundDeposit}
@@ -15,7 +15,7 @@ use Rattle.life_store.specs.declared.kept.Listed.{Listed}
 -- a census with a tally, and whether the generation that it counted is steady
 pub record Tallied : Type 0 where
   pub census : Census
-  pub tally : Counts
+  pub tally : TallyCounts
   pub steady : Bool
 
 -- what an archive keeps, in the order in which it came
@@ -68,8 +68,8 @@ abbrev pub listed_as : ℕ × Deposit → Listed
 listed_as p = record { id = p.0; member = p.1.member; population = set.len p.1.content.cells; rule = rule_text p.1.content.rule }
 
 -- the lines of the first 100 deposits with a greater number
-unfoldable pub lines_after : ℕ → List Deposit → List Listed
-lines_after id ds = map listed_as (take 100 (filter (λ p. nat_lt id p.0) (numbered_from 1 ds)))
+unfoldable pub listed_after : ℕ → List Deposit → List Listed
+listed_after id ds = map listed_as (take 100 (filter (λ p. nat_lt id p.0) (numbered_from 1 ds)))
 
 -- a census with the numbers of its tally
 abbrev pub kept_census : Tallied → KeptCensus

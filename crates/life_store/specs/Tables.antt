@@ -17,7 +17,7 @@ use Rattle.sqlite_schema.specs.contracts.schema.Schema.{the_row}
 use Rattle.sqlite.specs.Effect.{Database}
 use Rattle.sqlite.specs.State.{State}
 use Rattle.life_census.specs.Counting.{row_cmp}
-use Rattle.life_census.specs.Rows.{Counts}
+use Rattle.life_census.specs.Rows.{TallyCounts}
 use Rattle.life_store.specs.Crash.{CrashLeaves}
 use Rattle.life_store.specs.declared.kept.Deposit.{Deposit}
 use Rattle.life_store.specs.Kept.{Kept, Tallied}
@@ -94,7 +94,7 @@ abbrev pub version_2 : List Row
 version_2 = (Int (pos 1) ∷ Int (pos 2) ∷ []) ∷ []
 
 -- the codes of a tally ascend, byte by byte
-abbrev pub HasOrder : Counts → Type 0
+abbrev pub HasOrder : TallyCounts → Type 0
 HasOrder t = IsStrictlySortedBy row_cmp (map (λ (row : List ℕ × ℕ). row.0) t.rows)
 
 -- The tables stand for these deposits and these censuses, each with its tally and its flag, and for no others:

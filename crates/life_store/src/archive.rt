@@ -5,7 +5,7 @@ ghost use Rattle.sqlite_trees.specs.Tree.{Trees};
 ghost use Rattle.sqlite_trees.specs.View.{IsClean};
 ghost use Rattle.sqlite.specs.Held.{state};
 ghost use Rattle.life_rle.specs.Record.{IsInside};
-ghost use Rattle.life_store.specs.Kept.{Kept, numbered, deposit_by, lines_after, kept_census, census_by, total_of};
+ghost use Rattle.life_store.specs.Kept.{Kept, numbered, deposit_by, listed_after, kept_census, census_by, total_of};
 ghost use Rattle.life_store.specs.Crash.{NoMore};
 ghost use Rattle.life_store.specs.Tables.{tables_of, IsTransition, HoldsTheSame, ForAllHeld, HasOrder, AddsDeposit, AddsCensus, HoldChanged, TreesHold, Holds};
 
@@ -130,7 +130,7 @@ impl<S: Alter> Archive<S> {
     pub fn deposits_after(&mut self, alloc: Global, id: u64) -> Result<Listing, Unavailable>
         ensures goes { IsTransition S.Store NoMore self.old self.new }
         ensures same { HoldsTheSame self.old.tables self.new.tables }
-        ensures value { ForAllHeld self.old.tables self.new.tables (λ k. IfOk result (λ lines. lines ≡ lines_after id k.deposits)) }
+        ensures value { ForAllHeld self.old.tables self.new.tables (λ k. IfOk result (λ lines. lines ≡ listed_after id k.deposits)) }
     {
         let Ok(place) = i64::try_from(id) else {
             return Ok(Listing::of(Vec::new(alloc)));

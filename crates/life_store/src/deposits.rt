@@ -6,7 +6,7 @@ ghost use Rattle.sqlite.specs.State.{HasCleanDisk};
 ghost use Rattle.sqlite.specs.Held.{state};
 ghost use Rattle.life_rle.specs.Record.{IsInside};
 ghost use Rattle.life_store.specs.ReadingState.{newest_rows, ShowsDeposit, line_shown};
-ghost use Rattle.life_store.specs.Kept.{Kept, numbered, deposit_by, lines_after};
+ghost use Rattle.life_store.specs.Kept.{Kept, numbered, deposit_by, listed_after};
 ghost use Rattle.life_store.specs.Crash.{NoMore, CrashLeaves};
 ghost use Rattle.life_store.specs.DepositsState.{AreValuesOf, HoldNewDeposit};
 ghost use Rattle.life_store.specs.Tables.{tables_of, Holds, WasSure, StaysSure, HoldsTheSame, ForAllHeld};
@@ -74,7 +74,7 @@ pub(crate) fn list_after<S: Alter>(conn: &mut Connection<S>, id: i64) -> Result<
     ensures lasts { StaysSure (tables_of (state S.Store conn.old)) (tables_of (state S.Store conn.new)) }
     ensures crash { CrashLeaves S.Store NoMore conn.old.store conn.new.store }
     ensures keeps { HoldsTheSame (tables_of (state S.Store conn.old)) (tables_of (state S.Store conn.new)) }
-    ensures tells { (n : ℕ) → id ≡ pos n → ForAllHeld (tables_of (state S.Store conn.old)) (tables_of (state S.Store conn.new)) (λ k. IfOk result (λ rows. rows.items ≡ map line_shown (lines_after n k.deposits))) }
+    ensures tells { (n : ℕ) → id ≡ pos n → ForAllHeld (tables_of (state S.Store conn.old)) (tables_of (state S.Store conn.new)) (λ k. IfOk result (λ rows. rows.items ≡ map line_shown (listed_after n k.deposits))) }
 {
     ask(
         conn,

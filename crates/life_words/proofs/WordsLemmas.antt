@@ -16,7 +16,7 @@ use Rattle.life_words.specs.declared.words.Job.{Job}
 use Rattle.life_words.specs.declared.fault.WordFault.{WordFault}
 use Rattle.life_words.specs.declared.fault.WordFault.TheVariants.{BadWords, Memory}
 use Rattle.life_words.specs.Fault.{ComesFrom}
-use Rattle.life_words.specs.Words.{Asked, asked_by, last_number, life, number_text, job_of, unless_fault, words_job, Answers}
+use Rattle.life_words.specs.Words.{Asked, asked_by, last_number, life_app, number_text, job_of, unless_fault, words_job, Answers}
 
 -- ---- the number of a word
 
@@ -53,11 +53,11 @@ one_number (Some t) (Some n) none value = some_number t n (value t refl).0.0 (va
 
 -- ---- the answer to words
 
-is_life_simple : is_simple life ≡ true
+is_life_simple : is_simple life_app ≡ true
 unfolding clap_on_literals
 is_life_simple = refl
 
-is_life_free : is_simple_and_free life ≡ true
+is_life_free : is_simple_and_free life_app ≡ true
 unfolding clap_on_literals
 is_life_free = refl
 
@@ -73,7 +73,7 @@ faultless [] job none = refl
 faultless (kind ∷ kinds) job none = absurd (cc)
 
 -- the job of the words is that of the subcommand that was met
-words_job-met : (words : List Text) (met : Option (Text × List Row)) → fault_of life words ≡ [] → met ≡ subcommand_of life words
+words_job-met : (words : List Text) (met : Option (Text × List Row)) → fault_of life_app words ≡ [] → met ≡ subcommand_of life_app words
     → words_job words ≡ job_of met
 unfolding words_job
 words_job-met words met none is = faultless _ _ none ∙ ap job_of (sym is)
@@ -84,16 +84,16 @@ answer_by words None r named is = rw is named
 answer_by words (Some job) r named is = rw is named
 
 -- the answer, where `clap` gives matches
-pub answer_to_matches : (app : App) (words : List Text) (m : ArgMatches) (job : Option Job) (r : Result Job WordFault) → app ≡ life
+pub answer_to_matches : (app : App) (words : List Text) (m : ArgMatches) (job : Option Job) (r : Result Job WordFault) → app ≡ life_app
     → (is_simple_and_free app ≡ true → fault_of app words ≡ []) → HasMatchesOf app words m
     → option_map asked_by job ≡ job_of (subcommand_rows_of m) → r ≡ ok_or job (BadWords None) → Answers words r
 answer_to_matches app words m job r is kinds matches named answers =
-    let none : fault_of life words ≡ [] = rw is at (kinds (ap is_simple_and_free is ∙ is_life_free)) in
-    let met : subcommand_rows_of m ≡ subcommand_of life words = rw is at (matches (ap is_simple is ∙ is_life_simple)).1 in
+    let none : fault_of life_app words ≡ [] = rw is at (kinds (ap is_simple_and_free is ∙ is_life_free)) in
+    let met : subcommand_rows_of m ≡ subcommand_of life_app words = rw is at (matches (ap is_simple is ∙ is_life_simple)).1 in
     answer_by words job r (words_job-met words (subcommand_rows_of m) none met ∙ sym named) answers
 
 -- the answer, where `clap` gives an error
-pub answer_to_error : (app : App) (words : List Text) (e : Error) (r : Result Job WordFault) → app ≡ life
+pub answer_to_error : (app : App) (words : List Text) (e : Error) (r : Result Job WordFault) → app ≡ life_app
     → (is_simple_and_free app ≡ true → HasKind (fault_of app words) e) → IsErrAnd r (ComesFrom e) → Answers words r
 unfolding words_job
 answer_to_error app words e (Ok job) is kinds from = absurd from

@@ -69,8 +69,8 @@ abbrev pub life_alone : App
 life_alone = on_top (λ top. record top { subcommand_required = true }) (new_app (codes "life"))
 
 -- the whole command
-abbrev pub life : App
-life = fold (λ command below. with_subcommand command below.top) life_alone subcommands
+abbrev pub life_app : App
+life_app = fold (λ command below. with_subcommand command below.top) life_alone subcommands
 
 -- ---- the job
 
@@ -147,7 +147,7 @@ unless_fault (first ∷ others) job = None
 
 -- the job that the words name, the program's name first
 unfoldable pub words_job : List Text → Option Asked
-words_job words = unless_fault (fault_of life words) (job_of (subcommand_of life words))
+words_job words = unless_fault (fault_of life_app words) (job_of (subcommand_of life_app words))
 
 -- ---- the answer
 

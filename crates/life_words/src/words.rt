@@ -3,7 +3,7 @@ ghost use Rattle.std.specs.Prelude.{◌≡◌, codes, map, option_map, IfOk, fal
 ghost use Rattle.clap.specs.Simple.{App};
 ghost use Rattle.clap.specs.Words.{Rule, app_of, rule_of, rows_of, found_of, subcommand_rows_of, with_rule, with_subcommand};
 ghost use Rattle.clap.specs.declared.builder.command.Command.TheViews.{out-Command as fields_of};
-ghost use Rattle.life_words.specs.Words.{number_rule, number_rule_in, text_rule, file_rule, generation, kind, object, census, deposit, serve, life_alone, life, asked_by};
+ghost use Rattle.life_words.specs.Words.{number_rule, number_rule_in, text_rule, file_rule, generation, kind, object, census, deposit, serve, life_alone, life_app, asked_by};
 ghost use Rattle.life_words.specs.Words.{AsksGeneration, AsksKind, number_at, text_at, object_of, census_of, deposit_of, serve_of, job_of, Answers};
 
 use crate::commands::named_command;
@@ -302,7 +302,7 @@ fn command_alone<'a>(alloc: Global) -> Command<'a>
 
 /// The command of `life`, with its subcommands in the order in which help lists them.
 pub fn life_command<'a>(alloc: Global) -> Result<Command<'a>, AllocError>
-    ensures { IfOk result (λ command. app_of command ≡ life) }
+    ensures { IfOk result (λ command. app_of command ≡ life_app) }
 {
     let command = with_command(Ok(command_alone(alloc)), generation_command(alloc));
     let command = with_command(command, kind_command(alloc));

@@ -1,5 +1,5 @@
 use Rattle.std.specs.Prelude.{codes}
-use Rattle.life_pictures.specs.Numbers.{numbered}
+use Rattle.life_pictures.specs.Numbers.{with_number}
 use Rattle.life_pictures.specs.Runs.{run_path}
 use Rattle.life_pictures.proofs.PartLemmas.{five_parts}
 use Rattle.life_pictures.proofs.runs.put_rectangle.Goals as goal
@@ -8,6 +8,6 @@ pub returns : goal.returns
 unfolding run_path
 returns g c =
     let run = c.args.run in
-    five_parts c.args.out.now.items _ _ _ (numbered (codes "M") run.column) (numbered (codes " ") run.row) (numbered (codes "h") run.length)
+    five_parts c.args.out.now.items _ _ _ (with_number (codes "M") run.column) (with_number (codes " ") run.row) (with_number (codes "h") run.length)
     c.in_ok-put_numbered.ensures c.in_ok-put_numbered-2.ensures c.in_ok-put_numbered-3.ensures
-    _ _ (numbered (codes "v1h-") run.length) (codes "z") c.in_ok-put_numbered-4.ensures c.in_ok-extend_from_slice.ensures.items
+    _ _ (with_number (codes "v1h-") run.length) (codes "z") c.in_ok-put_numbered-4.ensures c.in_ok-extend_from_slice.ensures.items

@@ -11,7 +11,7 @@ use Rattle.life_rle.specs.Writer.{pairs_of, width_of, height_of}
 abbrev pub is_live_at : Cells → ℕ → ℕ → Bool
 is_live_at X column row = set.contains X (record { row = pos row; column = pos column })
 
--- the two cells of a column that line i shows: of row 2 i, and of the row below it
+-- the two cells of a column that line i shows: of the row with twice that number, and of the row below it
 abbrev pub two_cells : Cells → ℕ → ℕ → Bool × Bool
 two_cells X i column = (is_live_at X column (2 * i), is_live_at X column (2 * i + 1))
 

@@ -1,4 +1,4 @@
--- Blocks of two words and sixteen rows, in rows of words one after the other: place q of the list has its neighbours at q - 1 and q + 1, and
+-- Blocks of two or of four words by sixteen rows, in rows of words one after the other: place q of the list has its neighbours at q - 1 and q + 1, and
 -- in the rows above and below, which stand W places before and after.
 use Rattle.std.specs.Prelude.{◌≡◌, ◌⊎◌, ℕ, ◌+◌, ◌-◌, ◌*◌, ◌<◌, ◌≤◌, List, length, nat_eq, slice_index_or}
 use Rattle.life_core.specs.PackedRow.{place, one_if}
@@ -6,6 +6,8 @@ use Rattle.life_core.specs.Rule.{RuleSets, lives_at}
 use Rattle.life_core.specs.PackedLanesState.{digits_at}
 use Rattle.life_core.specs.declared.packed.blocks.RowSums.{RowSums}
 use Rattle.life_core.specs.declared.packed.blocks.Changes.{Changes}
+use Rattle.life_core.specs.declared.packed.wide_blocks.WideSums.{WideSums}
+use Rattle.life_core.specs.declared.packed.wide_blocks.WideChanges.{WideChanges}
 
 -- how many of the eight places round place q are set
 abbrev pub flat_count : List ℕ → ℕ → ℕ → ℕ
@@ -22,26 +24,38 @@ pub record AreSums (rows : List ℕ) (k : ℕ) (s : RowSums) : Type 0 where
   pub sides : (p : ℕ) → p < 128 → digits_at s.sides s.sides2 p ≡ place rows (64 * k + p - 1) + place rows (64 * k + p + 1)
   pub all : (p : ℕ) → p < 128 → digits_at s.all s.all2 p ≡ place rows (64 * k + p - 1) + (place rows (64 * k + p) + place rows (64 * k + p + 1))
 
--- the two words from k on were written: their places are those of N, and where `changed` has none the place stayed
-pub record IsRowStep (N : ℕ → ℕ) (k : ℕ) (old new changed : List ℕ) : Type 0 where
-  pub long : length new ≡ length old
-  pub next : (p : ℕ) → p < 128 → place new (64 * k + p) ≡ N (64 * k + p)
-  pub rest : (j : ℕ) → (j < k) ⊎ (k + 2 ≤ j) → slice_index_or new j 0 ≡ slice_index_or old j 0
-  pub same : (p : ℕ) → p < 128 → place changed p ≡ 0 → place new (64 * k + p) ≡ place old (64 * k + p)
+-- the sums of the four words from k on
+pub record AreWideSums (rows : List ℕ) (k : ℕ) (s : WideSums) : Type 0 where
+  pub here : (p : ℕ) → p < 256 → place s.here p ≡ place rows (64 * k + p)
+  pub sides : (p : ℕ) → p < 256 → digits_at s.sides s.sides2 p ≡ place rows (64 * k + p - 1) + place rows (64 * k + p + 1)
+  pub all : (p : ℕ) → p < 256 → digits_at s.all s.all2 p ≡ place rows (64 * k + p - 1) + (place rows (64 * k + p) + place rows (64 * k + p + 1))
 
--- word j is none of a block's first n rows
-abbrev pub IsOutside : ℕ → ℕ → ℕ → ℕ → Type 0
-IsOutside at words n j = (i : ℕ) → i < n → (j < at + i * words) ⊎ (at + i * words + 2 ≤ j)
-
--- the first n rows of the block whose first word is `at` were written
-pub record IsBlockStep (N : ℕ → ℕ) (at words n : ℕ) (old new changed : List ℕ) : Type 0 where
+-- the n words from k on were written: their places are those of N, and where `changed` has none the place stayed
+pub record IsRowStep (n : ℕ) (N : ℕ → ℕ) (k : ℕ) (old new changed : List ℕ) : Type 0 where
   pub long : length new ≡ length old
-  pub next : (i p : ℕ) → i < n → p < 128 → place new (64 * (at + i * words) + p) ≡ N (64 * (at + i * words) + p)
-  pub rest : (j : ℕ) → IsOutside at words n j → slice_index_or new j 0 ≡ slice_index_or old j 0
-  pub same : (i p : ℕ) → i < n → p < 128 → place changed p ≡ 0 → place new (64 * (at + i * words) + p) ≡ place old (64 * (at + i * words) + p)
+  pub next : (p : ℕ) → p < 64 * n → place new (64 * k + p) ≡ N (64 * k + p)
+  pub rest : (j : ℕ) → (j < k) ⊎ (k + n ≤ j) → slice_index_or new j 0 ≡ slice_index_or old j 0
+  pub same : (p : ℕ) → p < 64 * n → place changed p ≡ 0 → place new (64 * k + p) ≡ place old (64 * k + p)
+
+-- word j is none of the first m rows of a block of n words a row
+abbrev pub IsOutside : ℕ → ℕ → ℕ → ℕ → ℕ → Type 0
+IsOutside n at words m j = (i : ℕ) → i < m → (j < at + i * words) ⊎ (at + i * words + n ≤ j)
+
+-- the first m rows of the block of n words a row whose first word is `at` were written
+pub record IsBlockStep (n : ℕ) (N : ℕ → ℕ) (at words m : ℕ) (old new changed : List ℕ) : Type 0 where
+  pub long : length new ≡ length old
+  pub next : (i p : ℕ) → i < m → p < 64 * n → place new (64 * (at + i * words) + p) ≡ N (64 * (at + i * words) + p)
+  pub rest : (j : ℕ) → IsOutside n at words m j → slice_index_or new j 0 ≡ slice_index_or old j 0
+  pub same : (i p : ℕ) → i < m → p < 64 * n → place changed p ≡ 0 → place new (64 * (at + i * words) + p) ≡ place old (64 * (at + i * words) + p)
 
 -- the block whose first word is `at` was written, and it is told where it changed: anywhere, in its first row, in its last row
 pub record IsBlock (N : ℕ → ℕ) (at words : ℕ) (old new : List ℕ) (c : Changes) : Type 0 where
-  pub all : IsBlockStep N at words 16 old new c.all
+  pub all : IsBlockStep 2 N at words 16 old new c.all
   pub top : (p : ℕ) → p < 128 → place c.top p ≡ 0 → place new (64 * at + p) ≡ place old (64 * at + p)
   pub bottom : (p : ℕ) → p < 128 → place c.bottom p ≡ 0 → place new (64 * (at + 15 * words) + p) ≡ place old (64 * (at + 15 * words) + p)
+
+-- the two neighbouring blocks whose first word is `at` were written, and `c` has a bit for every cell that changed: in any row, in their first row, in their last row
+pub record IsWideBlock (N : ℕ → ℕ) (at words : ℕ) (old new : List ℕ) (c : WideChanges) : Type 0 where
+  pub all : IsBlockStep 4 N at words 16 old new c.all
+  pub top : (p : ℕ) → p < 256 → place c.top p ≡ 0 → place new (64 * at + p) ≡ place old (64 * at + p)
+  pub bottom : (p : ℕ) → p < 256 → place c.bottom p ≡ 0 → place new (64 * (at + 15 * words) + p) ≡ place old (64 * (at + 15 * words) + p)

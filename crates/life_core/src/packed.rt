@@ -12,4 +12,5 @@ pub mod rows;
 mod rule_form;
 mod shifts;
 mod trimming;
+mod wide_blocks;
 mod words;

@@ -39,14 +39,18 @@ pub(crate) fn row_sums(rows: &[u64], k: usize) -> RowSums
     }
 }
 
-/// Puts two words, and gives the places that changed.
+/// Puts `N` words, and gives the places that changed.
 #[inline(always)]
-fn put_lanes(out: &mut [u64], k: usize, new: u64x2) -> u64x2
-    requires { k + 2 ≤ length out.old }
-    ensures put { out.new ≡ put_chunk k out.old new }
-    ensures changed { (p : ℕ) → p < 128 → place result p ≡ 0 → place new p ≡ place out.old (64 * k + p) }
+pub(crate) fn put_lanes<const N: usize>(
+    out: &mut [u64],
+    k: usize,
+    new: Simd<u64, N>,
+) -> Simd<u64, N>
+    requires { k + N ≤ length out.old }
+    ensures put { out.new ≡ put_chunk k out.old new.entry }
+    ensures changed { (p : ℕ) → p < 64 * N → place result p ≡ 0 → place new.entry p ≡ place out.old (64 * k + p) }
 {
-    let old: u64x2 = lanes_at(out, k);
+    let old = lanes_at(out, k);
     new.copy_to_slice(&mut out[k..]);
     old ^ new
 }
@@ -65,7 +69,7 @@ fn block_row<R: LaneRule<2>>(
     requires { k + 2 ≤ length out.old }
     ensures long { length out.new ≡ length out.old }
     ensures rest { (j : ℕ) → (j < k) ⊎ (k + 2 ≤ j) → slice_index_or out.new j 0 ≡ slice_index_or out.old j 0 }
-    ensures row { (r : RuleSets) (rows : List ℕ) (words : ℕ) → R.is_of rule.now r → words + 1 ≤ k → AreSums rows (k - words) above → AreSums rows k here → AreSums rows (k + words) below → IsRowStep (flat_next r rows (64 * words)) k out.old out.new result }
+    ensures row { (r : RuleSets) (rows : List ℕ) (words : ℕ) → R.is_of rule.now r → words + 1 ≤ k → AreSums rows (k - words) above → AreSums rows k here → AreSums rows (k + words) below → IsRowStep 2 (flat_next r rows (64 * words)) k out.old out.new result }
 {
     let new = rule.next_lanes(
         here.here,
@@ -101,7 +105,7 @@ pub(crate) fn block_step<R: LaneRule<2>>(
     requires last { at + 16 * words + 3 ≤ length rows.now }
     requires out { length out.old ≡ length rows.now }
     ensures long { length out.new ≡ length out.old }
-    ensures rest { (j : ℕ) → IsOutside at words 16 j → slice_index_or out.new j 0 ≡ slice_index_or out.old j 0 }
+    ensures rest { (j : ℕ) → IsOutside 2 at words 16 j → slice_index_or out.new j 0 ≡ slice_index_or out.old j 0 }
     ensures block { (r : RuleSets) → R.is_of rule.now r → IsBlock (flat_next r rows.now (64 * words)) at words out.old out.new result }
 {
     let before = row_sums(rows, at - words);

@@ -1,14 +1,15 @@
 //! Lines of blocks, and all lines.
-ghost use Rattle.std.specs.Prelude.{◌≡◌, ◌⊎◌, ℕ, ◌+◌, ◌-◌, ◌*◌, ◌≤◌, ◌<◌, ◌≢◌, length, slice_index_or, false};
+ghost use Rattle.std.specs.Prelude.{◌≡◌, ◌⊎◌, ℕ, ◌+◌, ◌-◌, ◌*◌, ◌≤◌, ◌<◌, ◌≢◌, length, slice_index_or, false, IsTrue};
 ghost use Rattle.life_core.specs.Rule.{RuleSets};
 ghost use Rattle.life_core.specs.PackedBlocksState.{flat_next, IsOutside};
-ghost use Rattle.life_core.specs.PackedMarksState.{KeepsMarks, IsStepped, IsAdvanced, block_at, mark_at};
+ghost use Rattle.life_core.specs.PackedMarksState.{KeepsMarks, IsMarked, IsStepped, IsAdvanced, block_at, mark_at};
 
 use crate::packed::blocks::block_step;
 use crate::packed::lane_rule::LaneRule;
-use crate::packed::marks::wake;
+use crate::packed::marks::wake_round;
+use crate::packed::wide_blocks::{left_half, right_half, wide_step};
 
-/// The block in a line and a column, if it is marked. Its mark is taken away.
+/// Steps the block in a line and a column, if it is marked. Its mark is cleared.
 #[inline(always)]
 fn column_step<R: LaneRule<2>>(
     rule: &R,
@@ -32,7 +33,7 @@ fn column_step<R: LaneRule<2>>(
     ensures next_marks { KeepsMarks next_marks.old next_marks.new }
     ensures next_lines { KeepsMarks next_lines.old next_lines.new }
     ensures others { (j : ℕ) → j ≢ mark_at columns line column → slice_index_or marks.new j false ≡ slice_index_or marks.old j false }
-    ensures rest { (j : ℕ) → IsOutside (block_at columns line column) (2 * columns) 16 j → slice_index_or out.new j 0 ≡ slice_index_or out.old j 0 }
+    ensures rest { (j : ℕ) → IsOutside 2 (block_at columns line column) (2 * columns) 16 j → slice_index_or out.new j 0 ≡ slice_index_or out.old j 0 }
     ensures block { (r : RuleSets) → R.is_of rule.now r → IsStepped (flat_next r rows.now (64 * (2 * columns))) columns line column marks.old out.old out.new next_marks.new next_lines.new }
 {
     let b = 1 + line * columns + column;
@@ -47,20 +48,138 @@ fn column_step<R: LaneRule<2>>(
         16 * line * (2 * columns) + 2 * column,
         out,
     );
-    wake(changes.all, line, b, next_marks, next_lines);
-    wake(changes.top, line - 1, b - columns, next_marks, next_lines);
-    wake(
-        changes.bottom,
-        line + 1,
-        b + columns,
+    wake_round(
+        changes.all.to_array(),
+        changes.top.to_array(),
+        changes.bottom.to_array(),
+        columns,
+        line,
+        b,
         next_marks,
         next_lines,
     );
 }
 
-/// The blocks of a line that are marked.
-fn line_step<R: LaneRule<2>>(
+/// Steps two marked blocks that are neighbours in a line, at once. Their marks are cleared.
+#[inline(always)]
+fn pair_step<W: LaneRule<4>>(
+    wide: &W,
+    columns: usize,
+    line: usize,
+    column: usize,
+    rows: &[u64],
+    marks: &mut [bool],
+    out: &mut [u64],
+    next_marks: &mut [bool],
+    next_lines: &mut [bool],
+)
+    requires column { column + 2 ≤ columns }
+    requires line { (1 ≤ line) × (line + 2 ≤ length next_lines.old) }
+    requires rows { length rows.now ≡ (16 * length next_lines.old) * (2 * columns) }
+    requires out { length out.old ≡ length rows.now }
+    requires marks { length marks.old ≡ length next_lines.old * columns + 2 }
+    requires next_marks { length next_marks.old ≡ length marks.old }
+    requires marked { IsMarked marks.old (mark_at columns line column) × IsMarked marks.old (mark_at columns line (column + 1)) }
+    ensures out { length out.new ≡ length out.old }
+    ensures marks { length marks.new ≡ length marks.old }
+    ensures next_marks { KeepsMarks next_marks.old next_marks.new }
+    ensures next_lines { KeepsMarks next_lines.old next_lines.new }
+    ensures others { (j : ℕ) → j ≢ mark_at columns line column → j ≢ mark_at columns line (column + 1) → slice_index_or marks.new j false ≡ slice_index_or marks.old j false }
+    ensures rest { (j : ℕ) → IsOutside 4 (block_at columns line column) (2 * columns) 16 j → slice_index_or out.new j 0 ≡ slice_index_or out.old j 0 }
+    ensures left { (r : RuleSets) → W.is_of wide.now r → IsStepped (flat_next r rows.now (64 * (2 * columns))) columns line column marks.old out.old out.new next_marks.new next_lines.new }
+    ensures right { (r : RuleSets) → W.is_of wide.now r → IsStepped (flat_next r rows.now (64 * (2 * columns))) columns line (column + 1) marks.old out.old out.new next_marks.new next_lines.new }
+{
+    let b = 1 + line * columns + column;
+    marks[b] = false;
+    marks[b + 1] = false;
+    let changes = wide_step(
+        wide,
+        rows,
+        2 * columns,
+        16 * line * (2 * columns) + 2 * column,
+        out,
+    );
+    wake_round(
+        left_half(changes.all),
+        left_half(changes.top),
+        left_half(changes.bottom),
+        columns,
+        line,
+        b,
+        next_marks,
+        next_lines,
+    );
+    wake_round(
+        right_half(changes.all),
+        right_half(changes.top),
+        right_half(changes.bottom),
+        columns,
+        line,
+        b + 1,
+        next_marks,
+        next_lines,
+    );
+}
+
+/// Whether pairs are wanted, and the block in the column and its right neighbour are both marked.
+#[inline(always)]
+fn are_marked(pairs: bool, columns: usize, line: usize, column: usize, marks: &[bool]) -> bool
+    requires column { column < columns }
+    requires marks { mark_at columns line columns < length marks.now }
+    ensures { IsTrue result → (column + 2 ≤ columns) × (IsMarked marks.now (mark_at columns line column) × IsMarked marks.now (mark_at columns line (column + 1))) }
+{
+    let b = 1 + line * columns + column;
+    pairs && column + 1 < columns && marks[b] && marks[b + 1]
+}
+
+/// Steps the block in a line and a column, together with its right neighbour if both are marked and
+/// pairs are wanted. The result is the column that follows.
+#[inline(always)]
+fn columns_step<R: LaneRule<2>, W: LaneRule<4>>(
     rule: &R,
+    wide: &W,
+    pairs: bool,
+    columns: usize,
+    line: usize,
+    column: usize,
+    rows: &[u64],
+    marks: &mut [bool],
+    out: &mut [u64],
+    next_marks: &mut [bool],
+    next_lines: &mut [bool],
+) -> usize
+    requires column { column < columns }
+    requires line { (1 ≤ line) × (line + 2 ≤ length next_lines.old) }
+    requires rows { length rows.now ≡ (16 * length next_lines.old) * (2 * columns) }
+    requires out { length out.old ≡ length rows.now }
+    requires marks { length marks.old ≡ length next_lines.old * columns + 2 }
+    requires next_marks { length next_marks.old ≡ length marks.old }
+    ensures result { (column < result) × (result ≤ columns) }
+    ensures out { length out.new ≡ length out.old }
+    ensures marks { length marks.new ≡ length marks.old }
+    ensures next_marks { KeepsMarks next_marks.old next_marks.new }
+    ensures next_lines { KeepsMarks next_lines.old next_lines.new }
+    ensures others { (j : ℕ) → mark_at columns line result ≤ j → slice_index_or marks.new j false ≡ slice_index_or marks.old j false }
+    ensures rest { (j : ℕ) → ((c : ℕ) → column ≤ c → c < result → IsOutside 2 (block_at columns line c) (2 * columns) 16 j) → slice_index_or out.new j 0 ≡ slice_index_or out.old j 0 }
+    ensures blocks { (r : RuleSets) (c : ℕ) → R.is_of rule.now r → W.is_of wide.now r → column ≤ c → c < result → IsStepped (flat_next r rows.now (64 * (2 * columns))) columns line c marks.old out.old out.new next_marks.new next_lines.new }
+{
+    if are_marked(pairs, columns, line, column, marks) {
+        pair_step(
+            wide, columns, line, column, rows, marks, out, next_marks, next_lines,
+        );
+        return column + 2;
+    }
+    column_step(
+        rule, columns, line, column, rows, marks, out, next_marks, next_lines,
+    );
+    column + 1
+}
+
+/// The blocks of a line that are marked.
+fn line_step<R: LaneRule<2>, W: LaneRule<4>>(
+    rule: &R,
+    wide: &W,
+    pairs: bool,
     columns: usize,
     line: usize,
     rows: &[u64],
@@ -80,18 +199,21 @@ fn line_step<R: LaneRule<2>>(
     ensures next_lines { KeepsMarks next_lines.old next_lines.new }
     ensures others { (j : ℕ) → mark_at columns (line + 1) 0 ≤ j → slice_index_or marks.new j false ≡ slice_index_or marks.old j false }
     ensures rest { (j : ℕ) → (j < block_at columns line 0) ⊎ (block_at columns (line + 1) 0 ≤ j) → slice_index_or out.new j 0 ≡ slice_index_or out.old j 0 }
-    ensures blocks { (r : RuleSets) (column : ℕ) → R.is_of rule.now r → column < columns → IsStepped (flat_next r rows.now (64 * (2 * columns))) columns line column marks.old out.old out.new next_marks.new next_lines.new }
+    ensures blocks { (r : RuleSets) (column : ℕ) → R.is_of rule.now r → W.is_of wide.now r → column < columns → IsStepped (flat_next r rows.now (64 * (2 * columns))) columns line column marks.old out.old out.new next_marks.new next_lines.new }
 {
-    for column in 0..columns {
-        column_step(
-            rule, columns, line, column, rows, marks, out, next_marks, next_lines,
+    let mut column = 0;
+    while column < columns {
+        column = columns_step(
+            rule, wide, pairs, columns, line, column, rows, marks, out, next_marks, next_lines,
         );
     }
 }
 
 /// The blocks of a line that are marked, if the line is. Its mark is taken away.
-fn marked_line_step<R: LaneRule<2>>(
+fn marked_line_step<R: LaneRule<2>, W: LaneRule<4>>(
     rule: &R,
+    wide: &W,
+    pairs: bool,
     columns: usize,
     line: usize,
     rows: &[u64],
@@ -115,20 +237,22 @@ fn marked_line_step<R: LaneRule<2>>(
     ensures others { (j : ℕ) → mark_at columns (line + 1) 0 ≤ j → slice_index_or marks.new j false ≡ slice_index_or marks.old j false }
     ensures later { (j : ℕ) → line < j → slice_index_or lines.new j false ≡ slice_index_or lines.old j false }
     ensures rest { (j : ℕ) → (j < block_at columns line 0) ⊎ (block_at columns (line + 1) 0 ≤ j) → slice_index_or out.new j 0 ≡ slice_index_or out.old j 0 }
-    ensures blocks { (r : RuleSets) (column : ℕ) → R.is_of rule.now r → column < columns → IsAdvanced (flat_next r rows.now (64 * (2 * columns))) columns line column marks.old lines.old out.old out.new next_marks.new next_lines.new }
+    ensures blocks { (r : RuleSets) (column : ℕ) → R.is_of rule.now r → W.is_of wide.now r → column < columns → IsAdvanced (flat_next r rows.now (64 * (2 * columns))) columns line column marks.old lines.old out.old out.new next_marks.new next_lines.new }
 {
     if !lines[line] {
         return;
     }
     lines[line] = false;
     line_step(
-        rule, columns, line, rows, marks, out, next_marks, next_lines,
+        rule, wide, pairs, columns, line, rows, marks, out, next_marks, next_lines,
     );
 }
 
 /// All lines but the first and the last.
-pub(crate) fn advance_blocks<R: LaneRule<2>>(
+pub(crate) fn advance_blocks<R: LaneRule<2>, W: LaneRule<4>>(
     rule: &R,
+    wide: &W,
+    pairs: bool,
     columns: usize,
     rows: &[u64],
     marks: &mut [bool],
@@ -148,11 +272,11 @@ pub(crate) fn advance_blocks<R: LaneRule<2>>(
     ensures next_marks { KeepsMarks next_marks.old next_marks.new }
     ensures next_lines { KeepsMarks next_lines.old next_lines.new }
     ensures guards { (j : ℕ) → (j < block_at columns 1 0) ⊎ (block_at columns (length lines.old - 1) 0 ≤ j) → slice_index_or out.new j 0 ≡ slice_index_or out.old j 0 }
-    ensures blocks { (r : RuleSets) (line column : ℕ) → R.is_of rule.now r → 1 ≤ line → line + 2 ≤ length lines.old → column < columns → IsAdvanced (flat_next r rows.now (64 * (2 * columns))) columns line column marks.old lines.old out.old out.new next_marks.new next_lines.new }
+    ensures blocks { (r : RuleSets) (line column : ℕ) → R.is_of rule.now r → W.is_of wide.now r → 1 ≤ line → line + 2 ≤ length lines.old → column < columns → IsAdvanced (flat_next r rows.now (64 * (2 * columns))) columns line column marks.old lines.old out.old out.new next_marks.new next_lines.new }
 {
     for line in 1..lines.len() - 1 {
         marked_line_step(
-            rule, columns, line, rows, marks, lines, out, next_marks, next_lines,
+            rule, wide, pairs, columns, line, rows, marks, lines, out, next_marks, next_lines,
         );
     }
 }

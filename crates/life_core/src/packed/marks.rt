@@ -1,34 +1,29 @@
 //! Marks of the blocks that a change reaches.
-ghost use Rattle.std.specs.Prelude.{◌≡◌, ℕ, ◌+◌, ◌-◌, ◌≤◌, ◌<◌, length, slice_index_or, IsTrue, IsFalse, true, false};
+ghost use Rattle.std.specs.Prelude.{◌≡◌, ℕ, ◌+◌, ◌-◌, ◌*◌, ◌≤◌, ◌<◌, length, slice_index_or, IsTrue, IsFalse, true, false};
 ghost use Rattle.life_core.specs.PackedRow.{place};
-ghost use Rattle.life_core.specs.PackedMarksState.{KeepsMarks, IsMarked};
-
-use std::simd::prelude::*;
+ghost use Rattle.life_core.specs.PackedMarksState.{KeepsMarks, IsMarked, IsWoken};
 
 /// Whether any place is set.
 #[inline(always)]
-fn any(words: u64x2) -> bool
+fn any(words: [u64; 2]) -> bool
     ensures { IsFalse result → (p : ℕ) → p < 128 → place words p ≡ 0 }
 {
-    let words = words.to_array();
     words[0] | words[1] != 0
 }
 
 /// Whether the first place is set.
 #[inline(always)]
-fn first(words: u64x2) -> bool
+fn first(words: [u64; 2]) -> bool
     ensures { IsFalse result → place words 0 ≡ 0 }
 {
-    let words = words.to_array();
     words[0] & 1 != 0
 }
 
 /// Whether the last place is set.
 #[inline(always)]
-fn last(words: u64x2) -> bool
+fn last(words: [u64; 2]) -> bool
     ensures { IsFalse result → place words 127 ≡ 0 }
 {
-    let words = words.to_array();
     words[1] >> 63 != 0
 }
 
@@ -39,15 +34,13 @@ fn raise(marks: &mut [bool], j: usize, is_asked: bool)
     ensures kept { KeepsMarks marks.old marks.new }
     ensures raised { IsTrue is_asked → IsMarked marks.new j }
 {
-    if is_asked {
-        marks[j] = true;
-    }
+    marks[j] |= is_asked;
 }
 
 /// Marks, in a line of blocks, the block at `b` and those beside it that the changed places of a row
 /// in its columns reach.
 #[inline(always)]
-pub(crate) fn wake(changed: u64x2, line: usize, b: usize, marks: &mut [bool], lines: &mut [bool])
+fn wake(changed: [u64; 2], line: usize, b: usize, marks: &mut [bool], lines: &mut [bool])
     requires line { line < length lines.old }
     requires first { 1 ≤ b }
     requires last { b + 2 ≤ length marks.old }
@@ -63,4 +56,29 @@ pub(crate) fn wake(changed: u64x2, line: usize, b: usize, marks: &mut [bool], li
     raise(marks, b, is_any);
     raise(marks, b - 1, first(changed));
     raise(marks, b + 1, last(changed));
+}
+
+/// Marks every block that has a neighbour of a changed cell of the block at `b`. The three arguments have the
+/// columns that changed in any row, in the first row and in the last.
+#[inline(always)]
+pub(crate) fn wake_round(
+    all: [u64; 2],
+    top: [u64; 2],
+    bottom: [u64; 2],
+    columns: usize,
+    line: usize,
+    b: usize,
+    marks: &mut [bool],
+    lines: &mut [bool],
+)
+    requires line { (1 ≤ line) × (line + 2 ≤ length lines.old) }
+    requires first { columns + 1 ≤ b }
+    requires last { b + columns + 2 ≤ length marks.old }
+    ensures marks { KeepsMarks marks.old marks.new }
+    ensures lines { KeepsMarks lines.old lines.new }
+    ensures woken { (i p : ℕ) → p < 128 → place all p ≡ 1 → (i ≡ 0 → place top p ≡ 1) → (i ≡ 15 → place bottom p ≡ 1) → IsWoken columns line b i p marks.new lines.new }
+{
+    wake(all, line, b, marks, lines);
+    wake(top, line - 1, b - columns, marks, lines);
+    wake(bottom, line + 1, b + columns, marks, lines);
 }

@@ -232,6 +232,10 @@ fn set_unless(kept: bool, marks: &mut [bool])
     }
 }
 
+/// Whether two neighbouring marked blocks are stepped at once under rules other than Life. It is off:
+/// `x86-64-v2` has too few vector registers for it and loses a tenth, though `x86-64-v3` gains a third.
+const PAIRS_BY_FORM: bool = false;
+
 /// `advance_blocks` under the rule.
 fn rule_blocks(
     rule: &Rule,
@@ -254,6 +258,8 @@ fn rule_blocks(
     if rule.is_life() {
         advance_blocks(
             &ConwayLife,
+            &ConwayLife,
+            true,
             columns,
             rows,
             marks,
@@ -264,8 +270,11 @@ fn rule_blocks(
         );
         return;
     }
+    let form = RuleForm::of(rule);
     advance_blocks(
-        &RuleForm::of(rule),
+        &form,
+        &form,
+        PAIRS_BY_FORM,
         columns,
         rows,
         marks,

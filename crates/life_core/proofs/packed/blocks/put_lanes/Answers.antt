@@ -4,8 +4,8 @@ use Rattle.life_core.proofs.LanePlaces.{place_xor, place-lt, lane_places}
 use Rattle.life_core.proofs.packed.blocks.put_lanes.Goals as goal
 
 pub returns-clause-changed : goal.returns-clause-changed
-returns-clause-changed c p lt blank =
+returns-clause-changed g c p lt blank =
     let old = c.lanes_at-old.result in
     let size : length old ≡ length c.args.new = omega arith in
-    let was : place old p ≡ place c.args.out.now (64 * c.args.k + p) = lane_places old c.args.out.now c.args.k 2 c.lanes_at-old.ensures p lt in
+    let was : place old p ≡ place c.args.out.now (64 * c.args.k + p) = lane_places old c.args.out.now c.args.k g.row.N c.lanes_at-old.ensures p lt in
     omega (arith, place_xor old c.args.new size p, blank, was, place-lt old p, place-lt c.args.new p)

@@ -1,8 +1,8 @@
 -- What a job does with its streams.
-use Rattle.std.specs.Prelude.{◌≡◌, ℕ, List, Option, None, Some, Result, Ok, Err, OnOk}
+use Rattle.std.specs.Prelude.{◌≡◌, Bool, ℕ, List, Option, None, Some, Result, Ok, Err, OnOk}
 use Rattle.life_rle.specs.File.{file}
 use Rattle.life_rle.specs.Record.{Contents}
-use Rattle.life_rle.specs.Stream.{Gains, GainsSome, raised, FailedBetween, LosesUpTo}
+use Rattle.life_rle.specs.Stream.{Gains, GainsSome, raised, FailsLast, EndsLast, LosesUpTo}
 use Rattle.life_jobs.specs.declared.stop.Stop.{Stop}
 use Rattle.life_jobs.specs.declared.stop.Stop.TheVariants.{BadPattern, Unreadable, Unavailable, Unwritable}
 
@@ -34,11 +34,12 @@ ReportsFailures old new (Ok x) = new ≡ old
 ReportsFailures old new (Err Unreadable) = new ≡ raised old
 ReportsFailures old new (Err stop) = new ≡ old
 
--- what a job does with the stream that comes in, by what it tells and how often it failed before and after: it also takes at most one byte
--- more than a file may have
-pub record TakesFile {X : Type 0} (told_old told_new : Option (List ℕ)) (failed_old failed_new : ℕ) (answer : Result X Stop) : Type 0 where
+-- what a job does with the stream that comes in, by its bytes and by how often a take failed and the end was found, before and after: it takes at
+-- most one byte more than a file may have, and nothing after the end
+pub record TakesFile {X : Type 0} (told_old told_new : Option (List ℕ)) (failed_old failed_new : ℕ) (ends_old ends_new last : ℕ) (answer : Result X Stop) : Type 0 where
   pub heard : ReportsFailures failed_old failed_new answer
   pub few : LosesUpTo 1048577 told_old told_new
+  pub ended : EndsLast ends_old ends_new last
 
 -- ---- the stream that a text is put into
 
@@ -55,9 +56,9 @@ IsSilent old new (Ok done) = Unit {0}
 IsSilent old new (Err Unwritable) = Unit {0}
 IsSilent old new (Err stop) = new ≡ old
 
--- what a job does with the stream that it puts its text into, by how often it failed before and after: where the job is done, no put failed,
--- and Unwritable is answered only where one did
-pub record PutsOnce {O : Type 0} (old new : O) (failed_old failed_new : ℕ) (answer : Result (Unit {0}) Stop) : Type 0 where
+-- what a job does with the stream that it puts its text into, by how often it failed before and after, and whether the last put failed: if the
+-- job is done, no put failed; Unwritable is answered only if one did, and nothing was put after it
+pub record PutsOnce {O : Type 0} (old new : O) (failed_old failed_new : ℕ) (last : Bool) (answer : Result (Unit {0}) Stop) : Type 0 where
   pub silent : IsSilent old new answer
   pub put : OnOk answer (failed_new ≡ failed_old)
-  pub unwritable : answer ≡ Err Unwritable → FailedBetween failed_old failed_new
+  pub unwritable : answer ≡ Err Unwritable → FailsLast failed_old failed_new last

@@ -123,7 +123,7 @@ enum Print {
 /// Puts a record as canonical RLE.
 fn put_record<O: Outlet>(alloc: Global, record: &Record, output: &mut O) -> Result<(), Stop>
     ensures puts { PutsText (O.already output.old) (O.already output.new) (text «record».now) result }
-    ensures once { PutsOnce output.old output.new (O.failures output.old) (O.failures output.new) result }
+    ensures once { PutsOnce output.old output.new (O.failures output.old) (O.failures output.new) (O.last_failed output.new) result }
 {
     match write_to(alloc, record, output) {
         Ok(()) => Ok(()),
@@ -135,7 +135,7 @@ fn put_record<O: Outlet>(alloc: Global, record: &Record, output: &mut O) -> Resu
 /// Puts a text that was made, if memory sufficed.
 fn put_made<O: Outlet>(output: &mut O, made: Result<Vec<u8>, Fault>) -> Result<(), Stop>
     ensures puts { (text : List ℕ) → IfOk made (λ v. v.items ≡ text) → PutsText (O.already output.old) (O.already output.new) text result }
-    ensures once { PutsOnce output.old output.new (O.failures output.old) (O.failures output.new) result }
+    ensures once { PutsOnce output.old output.new (O.failures output.old) (O.failures output.new) (O.last_failed output.new) result }
 {
     match made {
         Ok(text) => put_text(output, &text),
@@ -153,7 +153,7 @@ fn put_for<O: Outlet>(
     requires numbers { IsPrint print }
     requires inside { IsInside 1024 «record».now.cells }
     ensures puts { PutsText (O.already output.old) (O.already output.new) (printed print «record».now) result }
-    ensures once { PutsOnce output.old output.new (O.failures output.old) (O.failures output.new) result }
+    ensures once { PutsOnce output.old output.new (O.failures output.old) (O.failures output.new) (O.last_failed output.new) result }
 {
     match print {
         Print::Generation(n) => match later(alloc, record, n) {
@@ -176,8 +176,8 @@ fn print_file<I: Inlet, O: Outlet>(
     requires { IsPrint print }
     ensures limit { result ≢ Err Stop.OutOfLimit }
     ensures told { PutsTold (print_text print) (I.to_come input.old) (O.already output.old) (O.already output.new) result }
-    ensures takes { TakesFile (I.to_come input.old) (I.to_come input.new) (I.failures input.old) (I.failures input.new) result }
-    ensures once { PutsOnce output.old output.new (O.failures output.old) (O.failures output.new) result }
+    ensures takes { TakesFile (I.to_come input.old) (I.to_come input.new) (I.failures input.old) (I.failures input.new) (I.ends input.old) (I.ends input.new) (I.last_take input.new) result }
+    ensures once { PutsOnce output.old output.new (O.failures output.old) (O.failures output.new) (O.last_failed output.new) result }
 {
     match read_input(alloc, input) {
         Ok(record) => put_for(alloc, print, &record, output),
@@ -208,8 +208,8 @@ pub fn run_generation<I: Inlet, O: Outlet>(
     ensures untouched { GENERATION_LIMIT < n → (input.new ≡ input.old) × (output.new ≡ output.old) }
     // Where the bytes that come in are told, what is put is the text of their generation, and a bad pattern is theirs.
     ensures told { n ≤ GENERATION_LIMIT → PutsTold (generation_text n) (I.to_come input.old) (O.already output.old) (O.already output.new) result }
-    ensures takes { TakesFile (I.to_come input.old) (I.to_come input.new) (I.failures input.old) (I.failures input.new) result }
-    ensures once { PutsOnce output.old output.new (O.failures output.old) (O.failures output.new) result }
+    ensures takes { TakesFile (I.to_come input.old) (I.to_come input.new) (I.failures input.old) (I.failures input.new) (I.ends input.old) (I.ends input.new) (I.last_take input.new) result }
+    ensures once { PutsOnce output.old output.new (O.failures output.old) (O.failures output.new) (O.last_failed output.new) result }
 {
     match generation_number(n) {
         Some(n) => print_file(alloc, Print::Generation(n), input, output),
@@ -240,8 +240,8 @@ pub fn run_kind<I: Inlet, O: Outlet>(
     ensures untouched { ¬ IsPeriodLimit limit → (input.new ≡ input.old) × (output.new ≡ output.old) }
     // Where the bytes that come in are told, what is put is the line of their kind, and a bad pattern is theirs.
     ensures told { IsPeriodLimit limit → PutsTold (kind_text limit) (I.to_come input.old) (O.already output.old) (O.already output.new) result }
-    ensures takes { TakesFile (I.to_come input.old) (I.to_come input.new) (I.failures input.old) (I.failures input.new) result }
-    ensures once { PutsOnce output.old output.new (O.failures output.old) (O.failures output.new) result }
+    ensures takes { TakesFile (I.to_come input.old) (I.to_come input.new) (I.failures input.old) (I.failures input.new) (I.ends input.old) (I.ends input.new) (I.last_take input.new) result }
+    ensures once { PutsOnce output.old output.new (O.failures output.old) (O.failures output.new) (O.last_failed output.new) result }
 {
     match period_limit(limit) {
         Some(limit) => print_file(alloc, Print::Kind(limit), input, output),
@@ -270,8 +270,8 @@ pub fn run_census<I: Inlet, O: Outlet>(
     ensures untouched { ¬ AreCensusNumbers n limit → (input.new ≡ input.old) × (output.new ≡ output.old) }
     // Where the bytes that come in are told, what is put is the CSV of their tally, and a bad pattern is theirs.
     ensures told { AreCensusNumbers n limit → PutsTold (census_text n limit) (I.to_come input.old) (O.already output.old) (O.already output.new) result }
-    ensures takes { TakesFile (I.to_come input.old) (I.to_come input.new) (I.failures input.old) (I.failures input.new) result }
-    ensures once { PutsOnce output.old output.new (O.failures output.old) (O.failures output.new) result }
+    ensures takes { TakesFile (I.to_come input.old) (I.to_come input.new) (I.failures input.old) (I.failures input.new) (I.ends input.old) (I.ends input.new) (I.last_take input.new) result }
+    ensures once { PutsOnce output.old output.new (O.failures output.old) (O.failures output.new) (O.last_failed output.new) result }
 {
     match census_numbers(n, limit) {
         Some((n, limit)) => print_file(alloc, Print::Census { n, limit }, input, output),
@@ -312,7 +312,7 @@ pub fn run_object<O: Outlet>(
     ensures limit { (result ≡ Err Stop.OutOfLimit) ↔ ¬ IsPeriodLimit limit }
     ensures rule { (result ≡ Err Stop.BadRule) ↔ IsPeriodLimit limit × RefusesRule rule.now }
     ensures puts { PutsObject rule.now code.now limit (O.already output.old) (O.already output.new) result }
-    ensures once { PutsOnce output.old output.new (O.failures output.old) (O.failures output.new) result }
+    ensures once { PutsOnce output.old output.new (O.failures output.old) (O.failures output.new) (O.last_failed output.new) result }
 {
     let limit = match period_limit(limit) {
         Some(limit) => limit,

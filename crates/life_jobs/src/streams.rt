@@ -11,7 +11,7 @@ use std::alloc::Global;
 pub fn read_input<I: Inlet>(alloc: Global, input: &mut I) -> Result<Record, Stop>
     ensures told { ReadsTold (I.to_come input.old) result }
     ensures stops { IfErr result IsOfInput }
-    ensures takes { TakesFile (I.to_come input.old) (I.to_come input.new) (I.failures input.old) (I.failures input.new) result }
+    ensures takes { TakesFile (I.to_come input.old) (I.to_come input.new) (I.failures input.old) (I.failures input.new) (I.ends input.old) (I.ends input.new) (I.last_take input.new) result }
     ensures inside { IfOk result (λ r. IsInside 1024 r.cells) }
 {
     match read_from(alloc, input) {
@@ -25,7 +25,7 @@ pub fn read_input<I: Inlet>(alloc: Global, input: &mut I) -> Result<Record, Stop
 /// Puts a text whole.
 pub fn put_text<O: Outlet>(output: &mut O, text: &[u8]) -> Result<(), Stop>
     ensures puts { PutsText (O.already output.old) (O.already output.new) text.now result }
-    ensures once { PutsOnce output.old output.new (O.failures output.old) (O.failures output.new) result }
+    ensures once { PutsOnce output.old output.new (O.failures output.old) (O.failures output.new) (O.last_failed output.new) result }
 {
     match put_all(output, text) {
         Ok(()) => Ok(()),

@@ -41,7 +41,7 @@ fn put_picture<O: Outlet>(
 ) -> Result<(), Stop>
     requires inside { IsInside 1024 «record».now.cells }
     ensures puts { PutsText (O.already output.old) (O.already output.new) (drawn picture «record».now) result }
-    ensures once { PutsOnce output.old output.new (O.failures output.old) (O.failures output.new) result }
+    ensures once { PutsOnce output.old output.new (O.failures output.old) (O.failures output.new) (O.last_failed output.new) result }
 {
     match drawn(alloc, picture, record) {
         Ok(text) => put_text(output, &text),
@@ -59,8 +59,8 @@ pub fn run_draw<I: Inlet, O: Outlet>(
 ) -> Result<(), Stop>
     // Where the bytes that come in are told, what is put is their picture, and a bad pattern is theirs.
     ensures told { PutsTold (picture_text picture) (I.to_come input.old) (O.already output.old) (O.already output.new) result }
-    ensures takes { TakesFile (I.to_come input.old) (I.to_come input.new) (I.failures input.old) (I.failures input.new) result }
-    ensures once { PutsOnce output.old output.new (O.failures output.old) (O.failures output.new) result }
+    ensures takes { TakesFile (I.to_come input.old) (I.to_come input.new) (I.failures input.old) (I.failures input.new) (I.ends input.old) (I.ends input.new) (I.last_take input.new) result }
+    ensures once { PutsOnce output.old output.new (O.failures output.old) (O.failures output.new) (O.last_failed output.new) result }
 {
     match read_input(alloc, input) {
         Ok(record) => put_picture(alloc, picture, &record, output),

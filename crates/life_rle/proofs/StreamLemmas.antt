@@ -1,9 +1,9 @@
 -- Bytes taken and put one after another.
-use Rattle.std.proofs.Common.{◌≡◌, ℕ, ◌+◌, List, [], ◌++◌, length, take, drop, Option, None, Some, refl, ◌∙◌, sym, ap, append_assoc, append-nil, ◌-◌, ◌≤◌, arith}
+use Rattle.std.proofs.Common.{◌≡◌, ℕ, ◌+◌, List, [], ◌++◌, length, take, drop, Option, None, Some, refl, ◌∙◌, sym, ap, append_assoc, append-nil, ◌-◌, ◌≤◌, ◌≢◌, zero, suc, inr, Ok, arith}
 use Rattle.std.proofs.lemmas.Grind.{common_steps}
 use Rattle.std.proofs.lemmas.List.{take-append-drop, length-append}
 use Rattle.std.proofs.Math.Seq.{take-add}
-use Rattle.life_rle.specs.Stream.{Loses, LosesUpTo, Gains, GainsSome}
+use Rattle.life_rle.specs.Stream.{Loses, LosesUpTo, Gains, GainsSome, EndsLast, ended}
 
 pub gains_more : (a b c : Option (List ℕ)) (x y : List ℕ) → Gains a b x → Gains b c y → Gains a c (x ++ y)
 gains_more None b c x y p q = tt
@@ -50,3 +50,13 @@ pub loses_on : (old now new : Option (List ℕ)) (n k most : ℕ) (piece : List 
 loses_on old now new n k most piece taken more short few =
     let both : length (taken.0 ++ piece) ≡ length taken.0 + length piece = length-append taken.0 piece in
     (taken.0 ++ piece, omega (arith, taken.1), loses_more old now new taken.0 piece taken.2 more)
+
+-- a take that moved something did not find the end
+pub ended_more : (E : Type 0) (n k : ℕ) → k ≢ 0 → ended {E = E} n (Ok k) ≡ n
+ended_more E n zero some = absurd (some refl)
+ended_more E n (suc k) some = refl
+
+-- a take of no bytes found it, and was the last
+pub ends_now : (E : Type 0) (old now new k last : ℕ) → now ≡ old → k ≡ 0 → new ≡ ended {E = E} now (Ok k) → last ≡ k → EndsLast old new last
+ends_now E old now new zero last same none e gave = inr (rw (← same) e, gave)
+ends_now E old now new (suc k) last same none e gave = absurd (omega (arith, none))

@@ -1,5 +1,5 @@
 -- What a take and a put do to the bytes that a stream tells, and to its count of failures.
-use Rattle.std.specs.Prelude.{◌≡◌, ℕ, ◌+◌, ◌-◌, ◌^◌, ◌<◌, ◌≤◌, ◌⊎◌, min, List, [], ◌++◌, length, take, Option, None, Some, Result, Ok, Err, ⊤}
+use Rattle.std.specs.Prelude.{◌≡◌, ℕ, zero, suc, ◌+◌, ◌-◌, ◌^◌, ◌<◌, ◌≤◌, ◌⊎◌, min, List, [], ◌++◌, length, take, Option, None, Some, Result, Ok, Err, ⊤, Bool, true, false, IsTrue}
 
 -- the greatest count
 abbrev pub last_count : ℕ
@@ -13,6 +13,30 @@ raised n = min (n + 1) last_count
 abbrev pub counted : {E : Type 0} → ℕ → Result ℕ E → ℕ
 counted n (Ok k) = n
 counted n (Err e) = raised n
+
+-- the count of ends that a take leaves: only Ok of no bytes raises it
+abbrev pub ended : {E : Type 0} → ℕ → Result ℕ E → ℕ
+ended n (Ok zero) = raised n
+ended n (Ok (suc k)) = n
+ended n (Err e) = n
+
+-- whether a call failed
+abbrev pub is_err : {E : Type 0} → Result ℕ E → Bool
+is_err (Ok k) = false
+is_err (Err e) = true
+
+-- the end was not found, or was found once, by the last take
+abbrev pub EndsLast : ℕ → ℕ → ℕ → Type 0
+EndsLast old new last = (new ≡ old) ⊎ ((new ≡ raised old) × (last ≡ 0))
+
+-- how many bytes a take moved
+abbrev pub moved : {E : Type 0} → Result ℕ E → ℕ
+moved (Ok k) = k
+moved (Err e) = 0
+
+-- one put failed between these two counts, and it was the last put
+abbrev pub FailsLast : ℕ → ℕ → Bool → Type 0
+FailsLast old new last = (new ≡ raised old) × IsTrue last
 
 -- a call failed between these two counts
 abbrev pub FailedBetween : ℕ → ℕ → Type 0

@@ -1,5 +1,5 @@
 //! Streams in memory.
-ghost use Rattle.std.specs.Prelude.{◌≡◌, [], Some};
+ghost use Rattle.std.specs.Prelude.{◌≡◌, [], Some, false};
 
 use crate::stream::{Failed, Inlet, Outlet};
 use std::alloc::{Allocator, Global};
@@ -8,27 +8,46 @@ use std::alloc::{Allocator, Global};
 #[derive(Drop)]
 pub struct SliceInlet<'a> {
     left: &'a [u8],
+    takes: u64,
+    last_take: usize,
+    ends: u64,
 }
 
 impl<'a> SliceInlet<'a> {
     /// An inlet that these bytes come from.
     pub fn new(bytes: &'a [u8]) -> SliceInlet<'a>
-        ensures { ⟦<SliceInlet<'static> as Inlet>⟧.to_come result ≡ Some bytes.now }
+        ensures to_come { ⟦<SliceInlet<'static> as Inlet>⟧.to_come result ≡ Some bytes.now }
+        ensures none_taken { ⟦<SliceInlet<'static> as Inlet>⟧.takes result ≡ 0 }
+        ensures not_ended { ⟦<SliceInlet<'static> as Inlet>⟧.ends result ≡ 0 }
     {
-        SliceInlet { left: bytes }
+        SliceInlet {
+            left: bytes,
+            takes: 0,
+            last_take: 0,
+            ends: 0,
+        }
     }
 }
 
 impl<'a> Inlet for SliceInlet<'a> {
     ghost to_come = { λ s. Some s.left.now };
 
+    ghost takes = { λ s. s.takes };
+
+    ghost last_take = { λ s. s.last_take };
+
     ghost failures = { λ _. 0 };
 
+    ghost ends = { λ s. s.ends };
+
     fn take(&mut self, place: &mut [u8]) -> Result<usize, Failed> {
+        self.takes = self.takes.saturating_add(1);
         let k = self.left.len().min(place.len());
         let (now, later) = self.left.split_at(k);
         place[..k].copy_from_slice(now);
         self.left = later;
+        self.last_take = k;
+        self.ends = self.ends.saturating_add(u64::from(k == 0));
         Ok(k)
     }
 }
@@ -38,6 +57,7 @@ impl<'a> Inlet for SliceInlet<'a> {
 pub struct MemoryOutlet<A: Allocator = Global> {
     bytes: Vec<u8, A>,
     failures: u64,
+    last_failed: bool,
 }
 
 impl<A: Allocator> MemoryOutlet<A> {
@@ -45,10 +65,12 @@ impl<A: Allocator> MemoryOutlet<A> {
     pub fn new(alloc: A) -> MemoryOutlet<A>
         ensures bytes { ⟦<MemoryOutlet<A> as Outlet>⟧.already result ≡ Some [] }
         ensures none_failed { ⟦<MemoryOutlet<A> as Outlet>⟧.failures result ≡ 0 }
+        ensures not_failed { ⟦<MemoryOutlet<A> as Outlet>⟧.last_failed result ≡ false }
     {
         MemoryOutlet {
             bytes: Vec::new(alloc),
             failures: 0,
+            last_failed: false,
         }
     }
 
@@ -65,11 +87,17 @@ impl<A: Allocator> Outlet for MemoryOutlet<A> {
 
     ghost failures = { λ s. s.failures };
 
+    ghost last_failed = { λ s. s.last_failed };
+
     fn put(&mut self, bytes: &[u8]) -> Result<usize, Failed> {
         match self.bytes.extend_from_slice(bytes) {
-            Ok(()) => Ok(bytes.len()),
+            Ok(()) => {
+                self.last_failed = false;
+                Ok(bytes.len())
+            }
             Err(_) => {
                 self.failures = self.failures.saturating_add(1);
+                self.last_failed = true;
                 Err(Failed)
             }
         }

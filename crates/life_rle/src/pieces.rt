@@ -12,7 +12,9 @@ pub struct PieceInlet {
     piece: usize,
     fail_at: Option<u64>,
     calls: u64,
+    last_take: usize,
     failures: u64,
+    ends: u64,
     ghost at_within: { at ≤ length bytes.items },
     ghost some_piece: { 0 < piece },
 }
@@ -23,7 +25,9 @@ impl PieceInlet {
     pub fn new(bytes: Vec<u8>, piece: usize, fail_at: Option<u64>) -> PieceInlet
         requires { 0 < piece }
         ensures to_come { ⟦<PieceInlet as Inlet>⟧.to_come result ≡ Some bytes.items }
+        ensures none_taken { ⟦<PieceInlet as Inlet>⟧.takes result ≡ 0 }
         ensures none_failed { ⟦<PieceInlet as Inlet>⟧.failures result ≡ 0 }
+        ensures not_ended { ⟦<PieceInlet as Inlet>⟧.ends result ≡ 0 }
         ensures not_called { result.calls ≡ 0 }
     {
         PieceInlet {
@@ -32,7 +36,9 @@ impl PieceInlet {
             piece,
             fail_at,
             calls: 0,
+            last_take: 0,
             failures: 0,
+            ends: 0,
         }
     }
 
@@ -49,11 +55,18 @@ impl Inlet for PieceInlet {
 
     ghost to_come = { λ s. Some (drop s.at s.bytes.items) };
 
+    ghost takes = { λ s. s.calls };
+
+    ghost last_take = { λ s. s.last_take };
+
     ghost failures = { λ s. s.failures };
+
+    ghost ends = { λ s. s.ends };
 
     fn take(&mut self, place: &mut [u8]) -> Result<usize, Failed> {
         self.calls = self.calls.saturating_add(1);
         if self.fail_at == Some(self.calls) {
+            self.last_take = 0;
             self.failures = self.failures.saturating_add(1);
             return Err(Failed);
         }
@@ -61,6 +74,8 @@ impl Inlet for PieceInlet {
         let k = rest.len().min(place.len()).min(self.piece);
         place[..k].copy_from_slice(&rest[..k]);
         self.at += k;
+        self.last_take = k;
+        self.ends = self.ends.saturating_add(u64::from(k == 0));
         Ok(k)
     }
 }
@@ -73,6 +88,7 @@ pub struct PieceOutlet {
     fail_at: Option<u64>,
     calls: u64,
     failures: u64,
+    last_failed: bool,
     ghost some_piece: { 0 < piece },
 }
 
@@ -90,6 +106,7 @@ impl PieceOutlet {
             fail_at,
             calls: 0,
             failures: 0,
+            last_failed: false,
         }
     }
 
@@ -108,17 +125,24 @@ impl Outlet for PieceOutlet {
 
     ghost failures = { λ s. s.failures };
 
+    ghost last_failed = { λ s. s.last_failed };
+
     fn put(&mut self, bytes: &[u8]) -> Result<usize, Failed> {
         self.calls = self.calls.saturating_add(1);
         if self.fail_at == Some(self.calls) {
             self.failures = self.failures.saturating_add(1);
+            self.last_failed = true;
             return Err(Failed);
         }
         let k = bytes.len().min(self.piece);
         match self.bytes.extend_from_slice(&bytes[..k]) {
-            Ok(()) => Ok(k),
+            Ok(()) => {
+                self.last_failed = false;
+                Ok(k)
+            }
             Err(_) => {
                 self.failures = self.failures.saturating_add(1);
+                self.last_failed = true;
                 Err(Failed)
             }
         }

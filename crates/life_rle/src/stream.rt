@@ -1,6 +1,6 @@
 //! Where bytes come from and where they go.
-ghost use Rattle.std.specs.Prelude.{◌≡◌, ℕ, ◌<◌, ◌≤◌, List, Option, IfOk, OnOk, OnErr, length};
-ghost use Rattle.life_rle.specs.Stream.{counted, Takes, Puts, Gains, GainsSome, FailedBetween};
+ghost use Rattle.std.specs.Prelude.{◌≡◌, Bool, ℕ, ◌<◌, ◌≤◌, List, Option, IfOk, OnOk, OnErr, false, length};
+ghost use Rattle.life_rle.specs.Stream.{raised, counted, ended, moved, is_err, Takes, Puts, Gains, GainsSome, FailsLast};
 
 use std::io::{Read, Write};
 
@@ -10,49 +10,69 @@ pub struct Failed;
 
 /// Where bytes come from.
 pub trait Inlet {
-    // The bytes still to come, where they are told.
+    // The bytes still to come, if the proof knows them.
     ghost to_come: { Self → Option (List ℕ) };
-    // How many takes have failed.
+    // How many takes were made, how many bytes the last of them moved, how many have failed, and how many found the end.
+    ghost takes: { Self → ℕ };
+
+    ghost last_take: { Self → ℕ };
+
     ghost failures: { Self → ℕ };
+
+    ghost ends: { Self → ℕ };
 
     /// Takes some of the next bytes into the front of `place`.
     fn take(&mut self, place: &mut [u8]) -> Result<usize, Failed>
         ensures within { IfOk result (λ k. k ≤ length place.new) }
         ensures bytes { Takes (to_come self.old) (to_come self.new) result place.new }
-        ensures count { failures self.new ≡ counted (failures self.old) result };
+        ensures made { takes self.new ≡ raised (takes self.old) }
+        ensures gave { last_take self.new ≡ moved result }
+        ensures count { failures self.new ≡ counted (failures self.old) result }
+        ensures end { ends self.new ≡ ended (ends self.old) result };
 }
 
 /// Where bytes go.
 pub trait Outlet {
-    // The bytes already put, where they are told.
+    // The bytes already put, if the proof knows them.
     ghost already: { Self → Option (List ℕ) };
-    // How many puts have failed.
+    // How many puts have failed, and whether the last one did.
     ghost failures: { Self → ℕ };
+
+    ghost last_failed: { Self → Bool };
 
     /// Puts some of the bytes from the front of `bytes`.
     fn put(&mut self, bytes: &[u8]) -> Result<usize, Failed>
         ensures within { IfOk result (λ k. k ≤ length bytes.now) }
         ensures some { IfOk result (λ k. 0 < length bytes.now → 0 < k) }
         ensures bytes { Puts (already self.old) (already self.new) result bytes.now }
-        ensures count { failures self.new ≡ counted (failures self.old) result };
+        ensures count { failures self.new ≡ counted (failures self.old) result }
+        ensures last { last_failed self.new ≡ is_err result };
 }
 
-/// Any reader. It tells what the reader tells.
+/// Any reader. The proof knows of its bytes what it knows of the reader's.
 #[derive(Drop)]
 pub struct FromRead<R> {
     reader: R,
+    takes: u64,
+    last_take: usize,
     failures: u64,
+    ends: u64,
 }
 
 impl<R: Read> FromRead<R> {
     /// The inlet over the reader.
     pub fn new(reader: R) -> FromRead<R>
         ensures bytes { ⟦<FromRead<R> as Inlet>⟧.to_come result ≡ R.remaining reader }
+        ensures none_taken { ⟦<FromRead<R> as Inlet>⟧.takes result ≡ 0 }
         ensures none_failed { ⟦<FromRead<R> as Inlet>⟧.failures result ≡ 0 }
+        ensures not_ended { ⟦<FromRead<R> as Inlet>⟧.ends result ≡ 0 }
     {
         FromRead {
             reader,
+            takes: 0,
+            last_take: 0,
             failures: 0,
+            ends: 0,
         }
     }
 }
@@ -60,12 +80,24 @@ impl<R: Read> FromRead<R> {
 impl<R: Read> Inlet for FromRead<R> {
     ghost to_come = { λ s. R.remaining s.reader };
 
+    ghost takes = { λ s. s.takes };
+
+    ghost last_take = { λ s. s.last_take };
+
     ghost failures = { λ s. s.failures };
 
+    ghost ends = { λ s. s.ends };
+
     fn take(&mut self, place: &mut [u8]) -> Result<usize, Failed> {
+        self.takes = self.takes.saturating_add(1);
         match self.reader.read(place) {
-            Ok(k) if k <= place.len() => Ok(k),
+            Ok(k) if k <= place.len() => {
+                self.last_take = k;
+                self.ends = self.ends.saturating_add(u64::from(k == 0));
+                Ok(k)
+            }
             _ => {
+                self.last_take = 0;
                 self.failures = self.failures.saturating_add(1);
                 Err(Failed)
             }
@@ -78,6 +110,7 @@ impl<R: Read> Inlet for FromRead<R> {
 pub struct FromWrite<W> {
     writer: W,
     failures: u64,
+    last_failed: bool,
 }
 
 impl<W: Write> FromWrite<W> {
@@ -85,10 +118,12 @@ impl<W: Write> FromWrite<W> {
     pub fn new(writer: W) -> FromWrite<W>
         ensures bytes { ⟦<FromWrite<W> as Outlet>⟧.already result ≡ W.contents writer }
         ensures none_failed { ⟦<FromWrite<W> as Outlet>⟧.failures result ≡ 0 }
+        ensures not_failed { ⟦<FromWrite<W> as Outlet>⟧.last_failed result ≡ false }
     {
         FromWrite {
             writer,
             failures: 0,
+            last_failed: false,
         }
     }
 }
@@ -98,23 +133,29 @@ impl<W: Write> Outlet for FromWrite<W> {
 
     ghost failures = { λ s. s.failures };
 
+    ghost last_failed = { λ s. s.last_failed };
+
     fn put(&mut self, bytes: &[u8]) -> Result<usize, Failed> {
         match self.writer.write(bytes) {
-            Ok(k) if k <= bytes.len() && (k > 0 || bytes.is_empty()) => Ok(k),
+            Ok(k) if k <= bytes.len() && (k > 0 || bytes.is_empty()) => {
+                self.last_failed = false;
+                Ok(k)
+            }
             _ => {
                 self.failures = self.failures.saturating_add(1);
+                self.last_failed = true;
                 Err(Failed)
             }
         }
     }
 }
 
-/// Puts all of the bytes, in as many puts as it takes.
+/// Puts all of the bytes, in as many puts as it takes. A put that fails is the last.
 pub fn put_all<O: Outlet>(output: &mut O, bytes: &[u8]) -> Result<(), Failed>
     ensures all { OnOk result (Gains (O.already output.old) (O.already output.new) bytes.now) }
     ensures some { OnErr result (GainsSome (O.already output.old) (O.already output.new) bytes.now) }
     ensures count { OnOk result (O.failures output.new ≡ O.failures output.old) }
-    ensures failed { OnErr result (FailedBetween (O.failures output.old) (O.failures output.new)) }
+    ensures failed { OnErr result (FailsLast (O.failures output.old) (O.failures output.new) (O.last_failed output.new)) }
 {
     let mut at = 0;
     'puts: while at < bytes.len() {

@@ -3,17 +3,18 @@ use Rattle.life_rle.specs.Stream.{LosesUpTo}
 use Rattle.life_rle.specs.MachineState.{IsSound, Followed}
 use Rattle.life_rle.proofs.machine.follow.Given as goal
 
--- so many bytes were taken and read, and no take failed
-pub record IsFollowing (Told Sound Few Unfailed : Type 0) (taken : ℕ) : Type 0 where
+-- so many bytes were taken and read, no take failed, and none found the end
+pub record IsFollowing (Told Sound Few Unfailed Unended : Type 0) (taken : ℕ) : Type 0 where
   pub told : Told
   pub sound : Sound
   pub few : Few
   pub unfailed : Unfailed
+  pub unended : Unended
   pub most : taken ≤ 1048577
 
 abbrev pub invariant-loop-taken : goal.invariant-loop-taken
 invariant-loop-taken g l =
-    IsFollowing (Followed (g.I.Inlet.to_come l.initial.inlet) (g.I.Inlet.to_come l.inlet) l.machine l.taken) (IsSound l.machine) (LosesUpTo l.taken (g.I.Inlet.to_come l.initial.inlet) (g.I.Inlet.to_come l.inlet)) (g.I.Inlet.failures l.inlet ≡ g.I.Inlet.failures l.initial.inlet) l.taken
+    IsFollowing (Followed (g.I.Inlet.to_come l.initial.inlet) (g.I.Inlet.to_come l.inlet) l.machine l.taken) (IsSound l.machine) (LosesUpTo l.taken (g.I.Inlet.to_come l.initial.inlet) (g.I.Inlet.to_come l.inlet)) (g.I.Inlet.failures l.inlet ≡ g.I.Inlet.failures l.initial.inlet) (g.I.Inlet.ends l.inlet ≡ g.I.Inlet.ends l.initial.inlet) l.taken
 
 abbrev pub decreases-loop-taken : goal.decreases-loop-taken
 decreases-loop-taken g l = 1048577 - l.taken

@@ -12,6 +12,7 @@ pub mod CountingTotals
 pub mod TableLines
 pub mod CodeTextLaws
 pub mod KnownLaws
+pub mod NamesLaws
 pub mod SteadyPhases
 pub mod SteadyVisits
 pub mod SteadyShapes

@@ -5,6 +5,7 @@ pub mod CodeText
 pub mod Rows
 pub mod Counting
 pub mod CountingState
+pub mod NamesState
 pub mod Table
 pub mod TableState
 pub mod Steady

@@ -1,5 +1,5 @@
 //! How many clusters there are of each code.
-ghost use Rattle.std.specs.Prelude.{◌≡◌, ℕ, List, Option, ◌+◌, ◌<◌, ◌≤◌, ◌^◌, ◌++◌, ◌∷◌, [], map, IfOk, IfSome, OnOk, MatchResult};
+ghost use Rattle.std.specs.Prelude.{◌≡◌, ℕ, List, Option, ◌+◌, ◌<◌, ◌≤◌, ◌^◌, ◌++◌, ◌∷◌, [], map, IfOk, IfSome, OnOk, OnErr, MatchResult};
 ghost use Rattle.std.specs.List.{All};
 ghost use Rattle.life_core.specs.Pattern.{Cells, IsWithin};
 ghost use Rattle.life_code.specs.Codes.{code_of};
@@ -19,9 +19,9 @@ use std::cmp::Ordering;
 
 /// A cluster, and the code of all clusters that are this set moved, if they have one.
 #[derive(Drop)]
-struct Known<A: Allocator> {
-    shape: Cluster<A>,
-    code: Option<CodeText<A>>,
+pub struct Known<A: Allocator> {
+    pub shape: Cluster<A>,
+    pub code: Option<CodeText<A>>,
 }
 
 /// How many clusters of the pattern have each code under the rule and the limit of the period, and
@@ -110,7 +110,7 @@ fn tally_of<A: Allocator + Copy>(
 }
 
 /// The place of a cluster's shape among those that are known; a new one gets the last place.
-fn known_place<A: Allocator + Copy>(
+pub fn known_place<A: Allocator + Copy>(
     alloc: A,
     rule: &Rule,
     cluster: &Cluster<A>,
@@ -121,7 +121,7 @@ fn known_place<A: Allocator + Copy>(
     requires few { limit ≤ PERIOD_LIMIT }
     requires room { IsWithin 400_000_000 cluster.now }
     requires known { All (IsKnown rule.now limit) known.old.items }
-    ensures known { OnOk result (All (IsKnown rule.now limit) known.new.items) }
+    ensures known { All (IsKnown rule.now limit) known.new.items }
     ensures code { IfOk result (λ i. HasCodeAt known.new.items (code_of rule.now cluster.now limit) i) }
 {
     if let Some(i) = place_of_shape(known, cluster) {
@@ -148,7 +148,8 @@ fn place_of_shape<A: Allocator + Copy>(known: &[Known<A>], cluster: &Cluster<A>)
 
 /// One more shape that is known.
 fn learn<A: Allocator>(known: &mut Vec<Known<A>, A>, one: Known<A>) -> Result<(), AllocError>
-    ensures { OnOk result (known.new.items ≡ known.old.items ++ one ∷ []) }
+    ensures learnt { OnOk result (known.new.items ≡ known.old.items ++ one ∷ []) }
+    ensures kept { OnErr result (known.new.items ≡ known.old.items) }
 {
     known.push(one)?;
     Ok(())

@@ -28,10 +28,10 @@ code_of_cluster-requires-clause-room g c = subst (λ (X : Cells). IsWithin 40000
 pub returns-clause-known : goal.returns-clause-known
 returns-clause-known g c =
     known_more c.args.rule.now c.args.limit c.args.known.now.items c.learn.new.known.items c.args.cluster.now _ c.requires.known c.in_ok-shape.ensures
-    (c.in_ok-code.ensures ∙ ap (λ (X : Cells). code_of c.args.rule.now X c.args.limit) c.in_ok-pattern.ensures) c.in_ok-learn.ensures
+    (c.in_ok-code.ensures ∙ ap (λ (X : Cells). code_of c.args.rule.now X c.args.limit) c.in_ok-pattern.ensures) c.in_ok-learn.ensures.learnt
 
 pub returns-clause-code : goal.returns-clause-code
 returns-clause-code g c =
     let end : c.len-i.result ≡ length c.args.known.now.items = omega (arith, c.len-i.ensures, c.args.known.now.ok) in
-    code_last c.args.known.now.items c.learn.new.known.items _ _ c.len-i.result c.in_ok-learn.ensures end
+    code_last c.args.known.now.items c.learn.new.known.items _ _ c.len-i.result c.in_ok-learn.ensures.learnt end
     (c.in_ok-code.ensures ∙ ap (λ (X : Cells). code_of c.args.rule.now X c.args.limit) c.in_ok-pattern.ensures)

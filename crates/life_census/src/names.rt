@@ -1,0 +1,112 @@
+//! The codes of the clusters of pattern after pattern.
+ghost use Rattle.std.specs.Prelude.{◌≡◌, ◌≤◌, ◌++◌, ◌∷◌, [], map, IfOk, OnOk};
+ghost use Rattle.std.specs.List.{All};
+ghost use Rattle.life_core.specs.Pattern.{IsWithin};
+ghost use Rattle.life_code.specs.Codes.{code_of};
+ghost use Rattle.life_census.specs.Parts.{parts};
+ghost use Rattle.life_census.specs.NamesState.{IsNaming};
+
+use crate::cluster::Cluster;
+use crate::code_text::CodeText;
+use crate::counting::{Known, known_place};
+use crate::parts::parted;
+use life_code::PERIOD_LIMIT;
+use life_core::{Fault, Pattern, Rule};
+use std::alloc::{AllocError, Allocator};
+use std::marker::Model;
+
+/// What names the clusters of pattern after pattern under a rule and a limit of the period. The codes of the shapes that were met are
+/// kept, so that each is found once.
+#[derive(Drop)]
+pub struct Names<A: Allocator> {
+    rule: Rule,
+    limit: u32,
+    known: Vec<Known<A>, A>,
+}
+
+impl<A: Allocator> Model for Names<A> {
+    ghost use Rattle.life_census.specs.NamesState.{Naming, coded_naming, IsNaming};
+
+    ghost Value = { Naming };
+
+    ghost coded = { coded_naming };
+
+    ghost view = { λ a. record { rule = a.rule; limit = a.limit } };
+
+    ghost invariant = { λ a. IsNaming a.rule a.limit a.known.items };
+}
+
+impl<A: Allocator + Copy> Names<A> {
+    /// Under this rule and this limit, with no shape met.
+    pub fn new(alloc: A, rule: Rule, limit: u32) -> Names<A>
+        requires from_one { 1 ≤ limit }
+        requires few { limit ≤ PERIOD_LIMIT }
+        ensures { result ≡ record { rule = rule; limit = limit } }
+    {
+        Names {
+            rule,
+            limit,
+            known: Vec::new(alloc),
+        }
+    }
+
+    /// The codes of the clusters of a pattern, in the order of the clusters, with none for each that has none.
+    pub fn codes(
+        &mut self,
+        alloc: A,
+        pattern: &Pattern<A>,
+    ) -> Result<Vec<Option<CodeText<A>>, A>, Fault>
+        requires room { IsWithin 400_000_000 pattern.now }
+        ensures same { self.new ≡ self.old }
+        ensures codes { IfOk result (λ v. v.items ≡ map (λ P. code_of self.old.rule P self.old.limit) (parts pattern.now)) }
+    {
+        let clusters = parted(alloc, pattern.cells())?;
+        named(alloc, &self.rule, self.limit, &clusters, &mut self.known)
+    }
+}
+
+/// The codes of clusters, in their order.
+fn named<A: Allocator + Copy>(
+    alloc: A,
+    rule: &Rule,
+    limit: u32,
+    clusters: &[Cluster<A>],
+    known: &mut Vec<Known<A>, A>,
+) -> Result<Vec<Option<CodeText<A>>, A>, Fault>
+    requires naming { IsNaming rule.now limit known.old.items }
+    requires room { All (IsWithin 400_000_000) clusters.now }
+    ensures naming { IsNaming rule.now limit known.new.items }
+    ensures codes { IfOk result (λ v. v.items ≡ map (λ P. code_of rule.now P limit) clusters.now) }
+{
+    let mut codes = Vec::new(alloc);
+    for cluster in clusters {
+        let i = known_place(alloc, rule, cluster, limit, known)?;
+        put_code(alloc, &mut codes, &known[i].code)?;
+    }
+    Ok(codes)
+}
+
+/// Puts a code, or none, at the end of the list.
+fn put_code<A: Allocator + Copy>(
+    alloc: A,
+    codes: &mut Vec<Option<CodeText<A>>, A>,
+    code: &Option<CodeText<A>>,
+) -> Result<(), AllocError>
+    ensures { OnOk result (codes.new.items ≡ codes.old.items ++ code.now ∷ []) }
+{
+    codes.push(copied(alloc, code)?)?;
+    Ok(())
+}
+
+/// The same code again, or none again.
+fn copied<A: Allocator>(
+    alloc: A,
+    code: &Option<CodeText<A>>,
+) -> Result<Option<CodeText<A>>, AllocError>
+    ensures { IfOk result (λ o. o ≡ code.now) }
+{
+    match code {
+        Some(code) => Ok(Some(CodeText::from_slice(alloc, code.as_bytes())?)),
+        None => Ok(None),
+    }
+}

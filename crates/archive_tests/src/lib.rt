@@ -10,4 +10,6 @@ mod pages;
 #[cfg(test)]
 mod requests;
 #[cfg(test)]
+mod sessions;
+#[cfg(test)]
 mod stops;

@@ -33,7 +33,7 @@ fn copied(alloc: Global, file: &Stopping) -> Result<Memory, Unavailable> {
 }
 
 /// What the files hold, in files that stop after so many calls.
-fn again(
+pub fn again(
     alloc: Global,
     files: &Files<Stopping>,
     log_calls: u64,

@@ -1,1 +1,5 @@
 pub mod DepositLemmas
+pub mod DepositCrashes
+pub mod MigrationLemmas
+pub mod SessionLemmas
+pub mod PathLemmas

@@ -9,7 +9,7 @@ use Rattle.life_desk.specs.declared.refusal.Refusal.TheVariants as refusals
 use Rattle.life_desk.specs.declared.request.Request.TheVariants as ask
 use Rattle.life_desk.specs.declared.request.Reply.{Reply}
 use Rattle.life_desk.specs.declared.request.Reply.TheVariants as says
-use Rattle.life_desk.specs.Run.{Answered}
+use Rattle.life_desk.specs.Run.{Answered, IsCrashSafe}
 use Rattle.life_jobs.specs.declared.stop.Stop.{Stop}
 use Rattle.life_jobs.specs.declared.stop.Stop.TheVariants.{BadPattern, Unreadable, Unavailable, Unwritable}
 use Rattle.life_archive.specs.declared.stop.ArchiveStop.{ArchiveStop}
@@ -62,3 +62,12 @@ IsUnasked answer = ⊥
 abbrev pub Deposits : {S : Type 0} → Ghosts S → ArchiveView S → ArchiveView S → List ℕ → List ℕ → Option (List ℕ) → Option (List ℕ) → Option (List ℕ) → Result (Unit {0}) ArchiveStop → Type 0
 Deposits g old new member token told before after answer =
     (IsUnasked answer × (new ≡ old)) ⊎ AsksOnce g old new member token told before after answer
+
+-- ---- crashes
+
+-- Where the archive was asked: the database was sure and its disk has returned what was written, then a crash in the middle of the job leaves the archive as it was
+-- or with the deposit of the file that was asked for; and where the reply of which the number was put says that it is kept, it is there.
+abbrev pub IsDepositSafe : {S : Type 0} → Ghosts S → ArchiveView S → ArchiveView S → List ℕ → List ℕ → Option (List ℕ) → Option (List ℕ) → Option (List ℕ) → Result (Unit {0}) ArchiveStop → Type 0
+IsDepositSafe g old new member token told before after answer =
+    (IsUnasked answer × (new ≡ old))
+    ⊎ ((once : AsksOnce g old new member token told before after answer) × IsCrashSafe g old new (ask.Deposit member token once.file ∷ []) (once.reply ∷ []))

@@ -1,2 +1,4 @@
 pub mod Stop
 pub mod Deposit
+pub mod Session
+pub mod Path

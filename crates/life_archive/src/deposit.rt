@@ -1,13 +1,13 @@
 //! Depositing a pattern file that comes in.
 ghost use Rattle.std.specs.Prelude.{◌≡◌, ◌≢◌, ◌∷◌, [], IfOk, OnOk, OnErr, Err};
 ghost use Rattle.std.specs.Fmt.{decimal};
-ghost use Rattle.life_rle.specs.Stream.{Gains, GainsSome, FailedBetween};
+ghost use Rattle.life_rle.specs.Stream.{FailsLast, Gains, GainsSome};
 ghost use Rattle.life_desk.specs.declared.request.Request.TheVariants as ask;
 ghost use Rattle.life_desk.specs.Run.{Answered};
 ghost use Rattle.life_jobs.specs.Streams.{TakesFile, PutsOnce};
 ghost use Rattle.life_jobs.specs.declared.stop.Stop.TheVariants.{Unreadable};
 ghost use Rattle.life_archive.specs.declared.stop.ArchiveStop.TheVariants.{Job};
-ghost use Rattle.life_archive.specs.Deposit.{IsFileTaken, IsUnasked, deposit_line, desk_stop, by_streams, PutsReply, Deposits};
+ghost use Rattle.life_archive.specs.Deposit.{IsFileTaken, IsUnasked, deposit_line, desk_stop, by_streams, PutsReply, Deposits, IsDepositSafe};
 
 use crate::stop::ArchiveStop;
 use itoa::Buffer;
@@ -25,7 +25,7 @@ const MOST_TAKEN: usize = 1_048_577;
 fn take_file<I: Inlet>(alloc: Global, input: &mut I) -> Result<Vec<u8>, ArchiveStop>
     ensures taken { IfOk result (λ file. IsFileTaken (I.to_come input.old) file.items) }
     ensures unasked { OnErr result (IsUnasked result) }
-    ensures takes { TakesFile (I.to_come input.old) (I.to_come input.new) (I.failures input.old) (I.failures input.new) (by_streams result) }
+    ensures takes { TakesFile (I.to_come input.old) (I.to_come input.new) (I.failures input.old) (I.failures input.new) (I.ends input.old) (I.ends input.new) (I.last_take input.new) (by_streams result) }
 {
     let mut file = Vec::new(alloc);
     let mut buffer = [0u8; 4096];
@@ -76,7 +76,7 @@ fn put_decimal<O: Outlet>(output: &mut O, n: u64) -> Result<(), Failed>
     ensures all { OnOk result (Gains (O.already output.old) (O.already output.new) (decimal n)) }
     ensures some { OnErr result (GainsSome (O.already output.old) (O.already output.new) (decimal n)) }
     ensures count { OnOk result (O.failures output.new ≡ O.failures output.old) }
-    ensures failed { OnErr result (FailedBetween (O.failures output.old) (O.failures output.new)) }
+    ensures failed { OnErr result (FailsLast (O.failures output.old) (O.failures output.new) (O.last_failed output.new)) }
 {
     put_all(output, Buffer::new().format(n).as_bytes())
 }
@@ -86,7 +86,7 @@ fn put_number<O: Outlet>(output: &mut O, id: u64) -> Result<(), Failed>
     ensures all { OnOk result (Gains (O.already output.old) (O.already output.new) (deposit_line id)) }
     ensures some { OnErr result (GainsSome (O.already output.old) (O.already output.new) (deposit_line id)) }
     ensures count { OnOk result (O.failures output.new ≡ O.failures output.old) }
-    ensures failed { OnErr result (FailedBetween (O.failures output.old) (O.failures output.new)) }
+    ensures failed { OnErr result (FailsLast (O.failures output.old) (O.failures output.new) (O.last_failed output.new)) }
 {
     match put_all(output, b"deposit ") {
         Ok(()) => {}
@@ -105,7 +105,7 @@ fn put_number<O: Outlet>(output: &mut O, id: u64) -> Result<(), Failed>
 /// Puts the number of a deposit, or answers why it was refused.
 fn put_reply<O: Outlet>(output: &mut O, reply: Reply) -> Result<(), ArchiveStop>
     ensures puts { PutsReply reply (O.already output.old) (O.already output.new) result }
-    ensures once { PutsOnce output.old output.new (O.failures output.old) (O.failures output.new) (by_streams result) }
+    ensures once { PutsOnce output.old output.new (O.failures output.old) (O.failures output.new) (O.last_failed output.new) (by_streams result) }
     ensures readable { result ≢ Err (Job Unreadable) }
 {
     match reply {
@@ -125,6 +125,30 @@ fn reply_of<S: Alter>(alloc: Global, archive: &mut Archive<S>, request: Request)
     answer(archive, alloc, request)
 }
 
+/// Takes a file to its end, asks the archive once, and puts its reply.
+fn deposit_once<S: Alter, I: Inlet, O: Outlet>(
+    alloc: Global,
+    archive: &mut Archive<S>,
+    member: &str,
+    token: &str,
+    input: &mut I,
+    output: &mut O,
+) -> Result<(), ArchiveStop>
+    ensures deposits { Deposits S.Store archive.old archive.new member.now token.now (I.to_come input.old) (O.already output.old) (O.already output.new) result }
+    ensures takes { TakesFile (I.to_come input.old) (I.to_come input.new) (I.failures input.old) (I.failures input.new) (I.ends input.old) (I.ends input.new) (I.last_take input.new) (by_streams result) }
+    ensures once { PutsOnce output.old output.new (O.failures output.old) (O.failures output.new) (O.last_failed output.new) (by_streams result) }
+{
+    let file = match take_file(alloc, input) {
+        Ok(file) => file,
+        Err(stop) => return Err(stop),
+    };
+    let request = match deposit_request(alloc, member, token, file) {
+        Ok(request) => request,
+        Err(_) => return Err(ArchiveStop::Job(Stop::Unavailable)),
+    };
+    put_reply(output, reply_of(alloc, archive, request))
+}
+
 /// Takes a file to its end and deposits it under the member and the token; puts the number of the
 /// deposit as one line.
 pub fn run_deposit<S: Alter, I: Inlet, O: Outlet>(
@@ -137,16 +161,11 @@ pub fn run_deposit<S: Alter, I: Inlet, O: Outlet>(
 ) -> Result<(), ArchiveStop>
     // The archive is as it was, or was asked once, and its answer is told: where it was asked, it was for the file that came in.
     ensures deposits { Deposits S.Store archive.old archive.new member.now token.now (I.to_come input.old) (O.already output.old) (O.already output.new) result }
-    ensures takes { TakesFile (I.to_come input.old) (I.to_come input.new) (I.failures input.old) (I.failures input.new) (by_streams result) }
-    ensures once { PutsOnce output.old output.new (O.failures output.old) (O.failures output.new) (by_streams result) }
+    // A crash in the middle of it leaves the archive as it was or with the deposit, and with it where its number was put.
+    ensures crash { IsDepositSafe S.Store archive.old archive.new member.now token.now (I.to_come input.old) (O.already output.old) (O.already output.new) result }
+    ensures takes { TakesFile (I.to_come input.old) (I.to_come input.new) (I.failures input.old) (I.failures input.new) (I.ends input.old) (I.ends input.new) (I.last_take input.new) (by_streams result) }
+    ensures once { PutsOnce output.old output.new (O.failures output.old) (O.failures output.new) (O.last_failed output.new) (by_streams result) }
 {
-    let file = match take_file(alloc, input) {
-        Ok(file) => file,
-        Err(stop) => return Err(stop),
-    };
-    let request = match deposit_request(alloc, member, token, file) {
-        Ok(request) => request,
-        Err(_) => return Err(ArchiveStop::Job(Stop::Unavailable)),
-    };
-    put_reply(output, reply_of(alloc, archive, request))
+    archive.law_of_crashes();
+    deposit_once(alloc, archive, member, token, input, output)
 }

@@ -1,10 +1,11 @@
 //! Serving an archive over the streams of a connection.
-ghost use Rattle.std.specs.Prelude.{◌≡◌, Err, OnOk, IfSome};
-ghost use Rattle.life_rle.specs.Stream.{FailedBetween, LosesUpTo};
-ghost use Rattle.life_desk.specs.Run.{RequestStep, IsDurable};
-ghost use Rattle.life_pages.specs.Message.{AnswersMessage, Starts};
-ghost use Rattle.life_pages.specs.Serving.{Served, RepliesCutShort, ServedSoFar, LastReplyCutShort, LosesAtLeast, ReportsTakeFailures, ReportsPutFailures};
-ghost use Rattle.life_pages.specs.Archive.{ByArchive, IsServedSafely};
+ghost use Rattle.std.specs.Prelude.{◌≡◌, ◌+◌, ◌≤◌, Err, OnOk};
+ghost use Rattle.life_rle.specs.Stream.{FailedBetween, Gains, GainsSome, LosesUpTo};
+ghost use Rattle.life_desk.specs.Run.{RequestStep};
+ghost use Rattle.life_pages.specs.Message.{AnswersMessage};
+ghost use Rattle.life_pages.specs.Serving.{AreAllOf, AreFirstOf, AreFirstUpTo, Grows, Served, RepliesCutShort, ServedSoFar, LastReplyCutShort, LosesAtLeast, ReportsTakeFailures, ReportsPutFailures};
+ghost use Rattle.life_pages.specs.Archive.{AnswersFirmly, ByArchive, IsAnswered, IsServedSafely};
+ghost use Rattle.life_pages.specs.Requests.{ServesTheHeadline};
 
 use life_pages::{IoFault, serve};
 use life_rle::{Inlet, Outlet};
@@ -19,11 +20,23 @@ pub fn run_serve<S: Alter, I: Inlet, O: Outlet>(
     input: &mut I,
     output: &mut O,
 ) -> Result<(), IoFault>
-    // Told: the archive went through a run over the messages of the stream, and what was put is the run's bytes.
-    ensures told { OnOk result (IfSome (I.to_come input.old) (λ stream.
-        ByArchive S.Store (λ A B. Served (AnswersMessage RequestStep) stream A B (O.already output.old) (O.already output.new)) archive.old archive.new)) }
-    // Told or not: it went through a run over some messages, and no more than its bytes was put.
-    ensures some { ByArchive S.Store (λ A B. RepliesCutShort (AnswersMessage RequestStep) A B (O.already output.old) (O.already output.new)) archive.old archive.new }
+    // Ok: the archive went through a run over all messages of the stream, and what was put is the run's bytes.
+    ensures told { OnOk result
+        (ByArchive S.Store (λ A B. Served (AnswersMessage RequestStep) (I.to_come input.old) A B (O.already output.old) (O.already output.new)) archive.old archive.new) }
+    // Whatever the answer: it went through a run over the first of them, and no more than its bytes was put.
+    ensures some { ByArchive S.Store (λ A B. RepliesCutShort (AnswersMessage RequestStep) (I.to_come input.old) A B (O.already output.old) (O.already output.new)) archive.old archive.new }
+    // Of one list of messages and one of their replies' bytes: the store answered the first messages of the stream, each archive that it meant went through a
+    // run over them, a request that is refused for its own words is answered by that refusal, whatever the database does, and a crash in the middle leaves
+    // the archive after a beginning of them or one more; and a beginning of the bytes was put.
+    ensures steps { IsAnswered S.Store (AreFirstOf (I.to_come input.old)) (GainsSome (O.already output.old) (O.already output.new)) archive.old archive.new }
+    // On Ok they are all messages, and all bytes were put.
+    ensures whole { OnOk result (IsAnswered S.Store (AreAllOf (I.to_come input.old)) (Gains (O.already output.old) (O.already output.new)) archive.old archive.new) }
+    // What was answered says of sets of live cells what it should, of all messages or, whatever the answer, of the first of them.
+    ensures headline { OnOk result (ByArchive S.Store (ServesTheHeadline (AreAllOf (I.to_come input.old)) (Gains (O.already output.old) (O.already output.new))) archive.old archive.new) }
+    ensures headlines { ByArchive S.Store (ServesTheHeadline (AreFirstOf (I.to_come input.old)) (GainsSome (O.already output.old) (O.already output.new))) archive.old archive.new }
+    // Whatever the database does: a request that is refused for its own words (member, token, limits, rule) is answered by that refusal, and
+    // unavailable never comes in its place; and each other message of the first of them by the bytes of its refusal or of a reply.
+    ensures firm { RepliesCutShort (AnswersMessage AnswersFirmly) (I.to_come input.old) tt tt (O.already output.old) (O.already output.new) }
     // A failed take: the run is over what was taken whole, and its bytes were put whole.
     ensures paused { result ≡ Err IoFault.Read →
         ByArchive S.Store (λ A B. ServedSoFar (AnswersMessage RequestStep) (I.to_come input.old) (I.to_come input.new) A B (O.already output.old) (O.already output.new)) archive.old archive.new }
@@ -32,17 +45,19 @@ pub fn run_serve<S: Alter, I: Inlet, O: Outlet>(
     ensures many { result ≡ Err IoFault.TooManyReads → LosesAtLeast 1_048_576 (I.to_come input.old) (I.to_come input.new) }
     // A failed put: of the last reply of the run a beginning was put, and those before it whole.
     ensures cut { result ≡ Err IoFault.Write →
-        ByArchive S.Store (λ A B. LastReplyCutShort (AnswersMessage RequestStep) (λ ms. IfSome (I.to_come input.old) (λ stream. Starts stream ms)) A B (O.already output.old) (O.already output.new)) archive.old archive.new }
-    // A crash in the middle of it leaves the archive after a beginning of the messages, or after the one that follows as well, and no other reply
-    // says that something is kept; a crash after it leaves the archive after all.
-    ensures crash { IsServedSafely S.Store archive.old archive.new (O.already output.old) (O.already output.new) }
-    ensures durable { IsDurable S.Store archive.new }
+        ByArchive S.Store (λ A B. LastReplyCutShort (AnswersMessage RequestStep) (AreFirstUpTo (I.to_come input.old) (I.to_come input.new) (I.last_take input.new)) A B (O.already output.old) (O.already output.new)) archive.old archive.new }
+    // A crash in the middle of it leaves the archive after a beginning of the messages that were sent, or after the one that follows as well,
+    // and no other reply says that something is stored.
+    ensures crash { IsServedSafely S.Store (I.to_come input.old) archive.old archive.new (O.already output.old) (O.already output.new) }
+    // What is put only grows: what was put before the call is a beginning of what is put after it.
+    ensures grows { Grows (O.already output.old) (O.already output.new) }
     ensures memory { result ≡ Err IoFault.Memory → (archive.new ≡ archive.old) × (input.new ≡ input.old) × (output.new ≡ output.old) }
-    // At most 1,048,576 takes are made, of at most 4,096 bytes each.
+    // At most 1,048,576 takes are made, and at most 4,096 times as many bytes are taken.
+    ensures takes { I.takes input.new ≤ I.takes input.old + 1_048_576 }
     ensures most { LosesUpTo 4_294_967_296 (I.to_come input.old) (I.to_come input.new) }
     // A failed take is told at once, a failed put is told, and nothing else is.
     ensures heard { ReportsTakeFailures (I.failures input.old) (I.failures input.new) result }
-    ensures puts { ReportsPutFailures (O.failures output.old) (O.failures output.new) result }
+    ensures puts { ReportsPutFailures (O.failures output.old) (O.failures output.new) (O.last_failed output.new) result }
     ensures read { result ≡ Err IoFault.Read → FailedBetween (I.failures input.old) (I.failures input.new) }
     ensures write { result ≡ Err IoFault.Write → FailedBetween (O.failures output.old) (O.failures output.new) }
 {

@@ -81,7 +81,7 @@ census_each : (A : Archive) (c : Census) (o : Option Deposit) → numbered A.dep
 census_each A c None is each = each
 census_each A c (Some d) is each = census_each_token A c (census_by c.member c.token A.censuses) (subst (λ o. IsSome o) (sym is) refl) each
 
-after_each : (A : Archive) (w : Result Judged Refusal) → EachHasDeposit A.deposits A.censuses → EachHasDeposit (after_by A w).deposits (after_by A w).censuses
+pub after_each : (A : Archive) (w : Result Judged Refusal) → EachHasDeposit A.deposits A.censuses → EachHasDeposit (after_by A w).deposits (after_by A w).censuses
 after_each A (Err refusal) each = each
 after_each A (Ok (good.Deposit member token file)) each = deposit_each A (deposit_verdict A member token file) each
 after_each A (Ok (good.Show id)) each = each
@@ -112,6 +112,7 @@ census_has ds cs (suc i) c each is = get_each ds cs i c each is
 pub record Moment (A : Archive) (q : Request) (r : Reply) (B : Archive) : Type 0 where
   pub before : Archive
   pub behind : Archive
+  pub earlier : IsLater A before
   pub each : EachHasDeposit before.deposits before.censuses
   pub step : RequestStep before q r behind
   pub later : IsLater behind B
@@ -123,13 +124,14 @@ pub moment : (A B : Archive) (qs : List Request) (rs : List Reply) (q : Request)
 moment A B (p ∷ qs) (s ∷ rs) q r each run (inl same) = record {
   before = A;
   behind = run.0;
+  earlier = later_same A;
   each = each;
   step = here A p q s r run.0 same.0 same.1 run.1;
   later = run_later run.0 B qs rs run.2;
 }
 moment A B (p ∷ qs) (s ∷ rs) q r each run (inr more) =
     let m = moment run.0 B qs rs q r (step_each A p s run.0 run.1 each) run.2 more in
-    record { before = m.before; behind = m.behind; each = m.each; step = m.step; later = m.later }
+    record { before = m.before; behind = m.behind; earlier = later_later A run.0 m.before (step_later A p s run.0 run.1) m.earlier; each = m.each; step = m.step; later = m.later }
 moment A B [] rs q r each run answered = absurd answered
 moment A B (p ∷ qs) [] q r each run answered = absurd answered
 

@@ -1,19 +1,21 @@
 -- What the replies of a run say of sets of live cells.
 use Rattle.std.proofs.Common.{inl, inr, ◌≡◌, ◌≢◌, ◌↔◌, ℕ, List, Bool, true, false, Option, None, Some, IsSome, IsTrue, Result, Ok, Err, IfOk, refl, sym, ◌∙◌, ap, subst, if◌then◌else◌}
 use Rattle.life_core.specs.Rule.{RuleSets}
+use Rattle.life_core.specs.RuleText.{read_rule}
+use Rattle.life_core.specs.declared.rule_text.RuleFault.{RuleFault}
 use Rattle.life_core.specs.Pattern.{Cells}
 use Rattle.life_core.specs.Generations.{generation_of}
 use Rattle.life_rle.specs.Record.{plain}
 use Rattle.life_rle.specs.Writer as writer
 use Rattle.life_code.specs.declared.kinds.Kind.{Kind}
 use Rattle.life_code.specs.Codes.{code_of, Same}
+use Rattle.life_code.specs.Period.{kind_of}
 use Rattle.life_code.specs.Laws.{CodeIsComplete}
 use Rattle.life_census.specs.Parts.{parts}
 use Rattle.life_census.specs.Rows.{TallyCounts}
 use Rattle.life_census.specs.Steady.{IsSteady}
-use Rattle.life_census.specs.Laws.{PartsAreParts, OnePartEach, RowsAreCounts, TalliesAddUp, SteadyIsDecided}
+use Rattle.life_census.specs.Laws.{RowsAreCounts, TalliesAddUp, SteadyIsDecided}
 use Rattle.sqlite_trees.specs.declared.store.Store.{Ghosts}
-use Rattle.sqlite_trees.specs.Tree.{Trees}
 use Rattle.life_store.specs.declared.kept.Deposit.{Deposit}
 use Rattle.life_store.specs.declared.kept.Census.{Census}
 use Rattle.life_store.specs.Kept.{numbered}
@@ -24,14 +26,14 @@ use Rattle.life_desk.specs.declared.request.Judged.TheVariants as good
 use Rattle.life_desk.specs.declared.request.Reply.{Reply}
 use Rattle.life_desk.specs.declared.request.Reply.TheVariants as says
 use Rattle.life_desk.specs.declared.request.Shown.{Shown}
-use Rattle.life_desk.specs.Archive.{Archive, tally_at, tally_for, tally_of_cells, steady_at, steady_for}
-use Rattle.life_desk.specs.Judging.{is_generation, is_limit}
-use Rattle.life_desk.specs.Replies.{IsReply, IsReplyBy, after, at_reply, kind_reply, shown_reply}
+use Rattle.life_desk.specs.Archive.{Archive, clusters_with, tally_at, tally_for, tally_of_cells, steady_at, steady_for}
+use Rattle.life_desk.specs.Judging.{is_generation, is_limit, judged_rule}
+use Rattle.life_desk.specs.Replies.{IsReply, IsReplyBy, after, at_reply, file_reply, kind_reply, shown_reply}
 use Rattle.life_desk.specs.Means.{EachHasDeposit}
-use Rattle.life_store.specs.Tables.{ArchiveView, IsTransition, StaysSure}
+use Rattle.life_store.specs.Tables.{ArchiveView, StaysSure}
 use Rattle.life_desk.specs.Run.{RequestRun, IsAnswered, IsLater, Answered}
 use Rattle.life_desk.specs.Laws.{FlagTellsSteady}
-use Rattle.life_desk.specs.Headline.{CountsEachOnce, HeadlineHolds, IsTheArchive, IsTheArchiveOrFaults, IsTheArchiveInMemory}
+use Rattle.life_desk.specs.Headline.{CountsEachOnce, ShowsCensus, HeadlineHolds, IsTheArchive, IsTheArchiveOrFaults, IsTheArchiveInMemory}
 use Rattle.life_desk.proofs.Meaning.{each_of}
 use Rattle.life_desk.proofs.Later.{later_later, deposit_stays, census_stays}
 use Rattle.life_desk.proofs.Steps.{moment, step_answers, step_later, run_later, census_has}
@@ -86,21 +88,21 @@ one_object complete d e limit other s t rule one two =
 
 -- ---- censuses
 
-counts : PartsAreParts → OnePartEach → RowsAreCounts → TalliesAddUp → (rule : RuleSets) (X : Cells) (limit : ℕ) → CountsEachOnce rule X limit (tally_of_cells rule X limit)
-counts are one rows add rule X limit = record {
-  clusters = are X;
-  one_each = one X;
+counts : RowsAreCounts → TalliesAddUp → (rule : RuleSets) (X : Cells) (limit : ℕ) → CountsEachOnce rule X limit (tally_of_cells rule X limit)
+counts rows add rule X limit = record {
   rows = λ code n. rows _ code n;
   unresolved = refl;
   total = refl;
   adds_up = add (λ P. code_of rule P limit) (parts X) (tally_of_cells rule X limit) (record { rows = refl; unresolved = refl; total = refl });
 }
 
-shown_case : (ds : List Deposit) (id : ℕ) (shown : Shown) (o : Option Census) → says.Shown shown ≡ shown_reply ds id o → (c : Census) × (o ≡ Some c) × (shown.tally ≡ tally_at ds c)
+-- a census, as it is shown
+abbrev shown_of : List Deposit → ℕ → Census → Shown
+shown_of ds id c = record { census = id; deposit = c.deposit; generation = c.generation; limit = c.limit; tally = tally_at ds c; steady = steady_at ds c }
+
+shown_case : (ds : List Deposit) (id : ℕ) (shown : Shown) (o : Option Census) → says.Shown shown ≡ shown_reply ds id o → (c : Census) × (o ≡ Some c) × (shown ≡ shown_of ds id c)
 shown_case ds id shown None is = absurd cc
-shown_case ds id shown (Some c) is =
-    let same : shown ≡ record { census = id; deposit = c.deposit; generation = c.generation; limit = c.limit; tally = tally_at ds c; steady = steady_at ds c } = cc in
-    (c, refl, ap (λ (x : Shown). x.tally) same)
+shown_case ds id shown (Some c) is = (c, refl, cc)
 
 some_of : {X : Type 0} → (o : Option X) → IsSome o → (x : X) × (o ≡ Some x)
 some_of None is = absurd cc
@@ -123,14 +125,70 @@ flag_case decided ds d id shown (Some c) is =
 pub flag_tells_steady : SteadyIsDecided → FlagTellsSteady
 flag_tells_steady decided A id shown d is there = flag_case decided A.deposits d id shown (numbered A.censuses id) is there
 
+-- a census of a deposit is shown as it is
+shows_census : RowsAreCounts → TalliesAddUp → SteadyIsDecided → (M B : Archive) (id : ℕ) (shown : Shown) → EachHasDeposit M.deposits M.censuses → IsLater M B
+    → says.Shown shown ≡ shown_reply M.deposits id (numbered M.censuses id) → ShowsCensus B id shown
+shows_census rows add decided M B id shown each later is =
+    let found = shown_case M.deposits id shown (numbered M.censuses id) is in
+    let c : Census = found.0 in
+    let has = some_of (numbered M.deposits c.deposit) (census_has M.deposits M.censuses id c each found.1) in
+    let d : Deposit = has.0 in
+    let tally : shown.tally ≡ tally_for c (Some d) = ap (λ (x : Shown). x.tally) found.2 ∙ ap (λ o. tally_for c o) has.1 in
+    let steady : shown.steady ≡ steady_for c (Some d) = ap (λ (x : Shown). x.steady) found.2 ∙ ap (λ o. steady_for c o) has.1 in
+    record {
+      census = c;
+      deposit = d;
+      stored = census_stays M B later id c found.1;
+      counted = deposit_stays M B later c.deposit d has.1;
+      numbers = (ap (λ (x : Shown). x.census) found.2, ap (λ (x : Shown). x.deposit) found.2, ap (λ (x : Shown). x.generation) found.2, ap (λ (x : Shown). x.limit) found.2);
+      tally = subst (λ (t : TallyCounts). CountsEachOnce d.content.rule (generation_of d.content.rule d.content.cells c.generation) c.limit t) (sym tally)
+          (counts rows add d.content.rule (generation_of d.content.rule d.content.cells c.generation) c.limit);
+      steady = subst (λ b. IsTrue b ↔ IsSteady d.content.rule (generation_of d.content.rule d.content.cells c.generation) c.limit) (sym steady)
+          (decided d.content.rule (generation_of d.content.rule d.content.cells c.generation) c.limit);
+    }
+
+-- ---- shows, kinds and totals
+
+show_case : (bytes : List ℕ) (o : Option Deposit) → says.File bytes ≡ file_reply o → (d : Deposit) × (o ≡ Some d) × (bytes ≡ writer.text d.content)
+show_case bytes None is = absurd cc
+show_case bytes (Some d) is = (d, refl, cc)
+
+kind_case : (limit : ℕ) (k : Kind) (code : Option (List ℕ)) (o : Option Deposit) → says.Kinded k code ≡ kind_reply limit o
+    → (d : Deposit) × (o ≡ Some d) × (k ≡ kind_of d.content.rule d.content.cells limit) × (code ≡ code_of d.content.rule d.content.cells limit)
+kind_case limit k code None is = absurd cc
+kind_case limit k code (Some d) is = (d, refl, cc, cc)
+
+rule_case : (M : Archive) (code : List ℕ) (limit n : ℕ) (read : Result RuleSets RuleFault) → IsReplyBy M (judged_rule code limit read) (says.Total n)
+    → (rule : RuleSets) × (read ≡ Ok rule) × (n ≡ clusters_with M rule code)
+rule_case M code limit n (Ok rule) is = (rule, refl, is.2)
+rule_case M code limit n (Err fault) is = absurd cc
+
+total_case : (M : Archive) (text code : List ℕ) (limit n : ℕ) (b : Bool) → IsReplyBy M (if b then judged_rule code limit (read_rule text) else Err no.OutOfLimit) (says.Total n)
+    → (rule : RuleSets) × (read_rule text ≡ Ok rule) × (n ≡ clusters_with M rule code)
+total_case M text code limit n true is = rule_case M code limit n (read_rule text) is
+total_case M text code limit n false is = absurd cc
+
 -- ---- all
 
-pub headline_holds : PartsAreParts → OnePartEach → RowsAreCounts → TalliesAddUp → CodeIsComplete → HeadlineHolds
-headline_holds are one rows add complete A B qs rs each run = record {
+pub headline_holds : RowsAreCounts → TalliesAddUp → SteadyIsDecided → CodeIsComplete → HeadlineHolds
+headline_holds rows add decided complete A B qs rs each run = record {
   later = run_later A B qs rs run;
   deposited = λ member token file n answered.
       let m = at A B qs rs (ask.Deposit member token file) (says.Deposited n) each run answered (λ e. cc) in
       deposits_stay_lem m.0 B member token file n m.2 m.4;
+  shows = λ id bytes answered.
+      let m = at A B qs rs (ask.Show id) (says.File bytes) each run answered (λ e. cc) in
+      let found = show_case bytes (numbered m.0.deposits id) m.2 in
+      (found.0, deposit_stays m.0 B m.3 id found.0 found.1, found.2);
+  kinds = λ id limit k code answered.
+      let m = at A B qs rs (ask.KindOf id limit) (says.Kinded k code) each run answered (λ e. cc) in
+      let found = kind_case limit k code (numbered m.0.deposits id) (limit_case m.0 id limit (says.Kinded k code) k code (is_limit limit) refl m.2) in
+      (found.0, deposit_stays m.0 B m.3 id found.0 found.1, found.2, found.3);
+  totals = λ text code limit n answered.
+      let m = moment A B qs rs (ask.Total text code limit) (says.Total n) each run answered in
+      let is = (step_answers m.before (ask.Total text code limit) (says.Total n) m.behind m.step (λ e. cc)).0 in
+      let found = total_case m.before text code limit n (is_limit limit) is in
+      (found.0, m.before, found.1, m.earlier, later_later m.before m.behind B (step_later m.before (ask.Total text code limit) (says.Total n) m.behind m.step) m.later, found.2);
   generations = λ id n bytes answered.
       let m = at A B qs rs (ask.At id n) (says.File bytes) each run answered (λ e. cc) in
       let found = file_case n bytes (numbered m.0.deposits id) (generation_case m.0 id n bytes (is_generation n) m.2) in
@@ -139,16 +197,7 @@ headline_holds are one rows add complete A B qs rs each run = record {
       one_object complete d e limit other s t rule (coded A B qs rs each run i limit k s d first is) (coded A B qs rs each run j other l t e second also);
   censuses = λ id shown answered.
       let m = at A B qs rs (ask.ShowCensus id) (says.Shown shown) each run answered (λ e. cc) in
-      let found = shown_case m.0.deposits id shown (numbered m.0.censuses id) m.2 in
-      let has = some_of (numbered m.0.deposits found.0.deposit) (census_has m.0.deposits m.0.censuses id found.0 m.1 found.1) in
-      let tally : shown.tally ≡ tally_for found.0 (Some has.0) = found.2 ∙ ap (λ o. tally_for found.0 o) has.1 in (
-        found.0,
-        has.0,
-        census_stays m.0 B m.3 id found.0 found.1,
-        deposit_stays m.0 B m.3 found.0.deposit has.0 has.1,
-        subst (λ (t : TallyCounts). CountsEachOnce has.0.content.rule (generation_of has.0.content.rule has.0.content.cells found.0.generation) found.0.limit t) (sym tally)
-            (counts are one rows add has.0.content.rule (generation_of has.0.content.rule has.0.content.cells found.0.generation) found.0.limit),
-      );
+      shows_census rows add decided m.0 B id shown m.1 m.3 m.2;
 }
 
 -- what was answered is what the archive says
@@ -162,16 +211,16 @@ pub all_told_by : {X E S : Type 0} → (g : Ghosts S) → HeadlineHolds → (old
 all_told_by g holds old new qs replies (Ok x) done = told_by holds old new qs (replies x) done
 all_told_by g holds old new qs replies (Err e) done = tt
 
-lasting_by : {S : Type 0} {g : Ghosts S} {More : Trees → Type 0} (old new : ArchiveView S) (qs : List Request) (rs : List Reply) → IsTransition g More old new → IsTheArchive old new qs rs → IsTheArchiveOrFaults old new qs rs
+lasting_by : {S : Type 0} {g : Ghosts S} → HeadlineHolds → (old new : ArchiveView S) (qs : List Request) (rs : List Reply) → Answered g old new qs rs → IsTheArchiveOrFaults g old new qs rs
 unfolding StaysSure
-lasting_by old new qs rs goes told A sure m = elim (goes.lasts.is_sure sure) [
-  | inl still ↦ inl (still, told A still m)
-  | inr more ↦ inr more
+lasting_by holds old new qs rs done A sure m = elim (done.goes.lasts.is_sure sure) [
+  | inl still ↦ inl (still, told_by holds old new qs rs done A still m)
+  | inr more ↦ inr (more, λ clean. let run = done.replied clean sure A m in (run.0, run.1, holds A run.0 qs rs (each_of old A m) run.1))
 ]
 
 pub all_lasting_by : {X E S : Type 0} → (g : Ghosts S) → HeadlineHolds → (old new : ArchiveView S) (qs : List Request) (replies : X → List Reply) (r : Result X E) → IfOk r (λ x. Answered g old new qs (replies x))
-    → IfOk r (λ x. IsTheArchiveOrFaults old new qs (replies x))
-all_lasting_by g holds old new qs replies (Ok x) done = lasting_by old new qs (replies x) done.goes (told_by holds old new qs (replies x) done)
+    → IfOk r (λ x. IsTheArchiveOrFaults g old new qs (replies x))
+all_lasting_by g holds old new qs replies (Ok x) done = lasting_by holds old new qs (replies x) done
 all_lasting_by g holds old new qs replies (Err e) done = tt
 
 -- where the database is sure at the end in any case

@@ -1,9 +1,8 @@
 -- What the private calls that answer one kind of request leave.
-use Rattle.std.specs.Prelude.{◌≡◌, true, Result, IfOk, IsTrue, MatchResult}
+use Rattle.std.specs.Prelude.{◌≡◌, ◌⊎◌, true, Result, IfOk, IsTrue, MatchResult}
 use Rattle.sqlite_trees.specs.declared.store.Store.{Ghosts}
 use Rattle.sqlite_trees.specs.Tree.{Trees}
-use Rattle.sqlite_trees.specs.View.{IsClean}
-use Rattle.life_store.specs.Tables.{ArchiveView}
+use Rattle.life_store.specs.Tables.{ArchiveView, IsSureIfClean}
 use Rattle.life_store.specs.declared.fault.Unavailable.{Unavailable}
 use Rattle.life_desk.specs.declared.request.Reply.{Reply}
 use Rattle.life_desk.specs.Archive.{Archive}
@@ -21,6 +20,14 @@ abbrev pub ActsWhere : {S : Type 0} → ArchiveView S → ArchiveView S → Resu
 ActsWhere old new result where_this gives leaves =
     (A : Archive) → IsTrue new.tables.is_sure → Means old A → where_this A → MatchResult result (λ r. gives A r × Means new (leaves A)) (λ _. Means new A)
 
+-- the reply is what each archive gives, and each stays as it is
+abbrev pub IsGivenByAll : (Archive → Reply → Type 0) → (Archive → Archive) → Reply → Type 0
+IsGivenByAll gives leaves r = (A : Archive) → gives A r × (leaves A ≡ A)
+
+-- what is answered was answered by a database that is sure unless its disk has lied, or whatever is kept
+abbrev pub SpeaksSurely : {S : Type 0} → Ghosts S → ArchiveView S → Result Reply Unavailable → (Archive → Reply → Type 0) → (Archive → Archive) → Type 0
+SpeaksSurely g new result gives leaves = IfOk result (λ r. IsSureIfClean g new ⊎ IsGivenByAll gives leaves r)
+
 -- ---- what a crash may leave of such a call
 
 -- the database was sure, and whatever archive its tables meant, the trees mean what the change makes of it
@@ -33,4 +40,4 @@ MeanChangedWhere old where_this change db = IsTrue old.tables.is_sure × ((A : A
 
 -- what is acknowledged was done by a database that is sure, unless its disk has lied
 abbrev pub Promises : {S : Type 0} → Ghosts S → ArchiveView S → Result Reply Unavailable → Type 0
-Promises g new result = IfOk result (λ r. acknowledges r ≡ true → IsClean (g.view new.store) → IsTrue new.tables.is_sure)
+Promises g new result = IfOk result (λ r. acknowledges r ≡ true → IsSureIfClean g new)

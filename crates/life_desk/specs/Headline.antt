@@ -1,19 +1,22 @@
 -- The archive in its own words: what the replies of a run say of sets of live cells.
-use Rattle.std.specs.Prelude.{◌≡◌, ◌↔◌, ◌+◌, ◌≤◌, ◌⊎◌, ℕ, true, List, Some, Ok, IsTrue, length, sum_by, count_by, is_none}
+use Rattle.std.specs.Prelude.{◌≡◌, ◌↔◌, ◌+◌, ◌≤◌, ◌⊎◌, ℕ, List, Option, Some, Ok, IsTrue, length, sum_by, count_by, is_none}
 use Rattle.std.specs.List.{Contains, filter_map}
-use Rattle.std.specs.FinSet as set
-use Rattle.life_core.specs.declared.cell.Cell.{Cell}
+use Rattle.sqlite_trees.specs.declared.store.Store.{Ghosts}
+use Rattle.sqlite_trees.specs.View.{IsClean}
 use Rattle.life_core.specs.Rule.{RuleSets}
+use Rattle.life_core.specs.RuleText.{read_rule}
 use Rattle.life_core.specs.Pattern.{Cells}
 use Rattle.life_core.specs.Generations.{generation_of}
 use Rattle.life_rle.specs.Record.{Contents, plain}
 use Rattle.life_rle.specs.File as files
 use Rattle.life_rle.specs.Writer as writer
 use Rattle.life_code.specs.declared.kinds.Kind.{Kind}
+use Rattle.life_code.specs.Period.{kind_of}
 use Rattle.life_code.specs.Codes.{code_of, Same}
-use Rattle.life_census.specs.Parts.{ArePartsOf, parts}
+use Rattle.life_census.specs.Parts.{parts}
 use Rattle.life_census.specs.Counting.{how_often}
 use Rattle.life_census.specs.Rows.{TallyCounts}
+use Rattle.life_census.specs.Steady.{IsSteady}
 use Rattle.life_store.specs.declared.kept.Deposit.{Deposit}
 use Rattle.life_store.specs.declared.kept.Census.{Census}
 use Rattle.life_store.specs.Kept.{numbered}
@@ -23,20 +26,29 @@ use Rattle.life_desk.specs.declared.request.Request.TheVariants as ask
 use Rattle.life_desk.specs.declared.request.Reply.{Reply}
 use Rattle.life_desk.specs.declared.request.Reply.TheVariants as says
 use Rattle.life_desk.specs.declared.request.Shown.{Shown}
-use Rattle.life_desk.specs.Archive.{Archive}
+use Rattle.life_desk.specs.Archive.{Archive, clusters_with}
 use Rattle.life_desk.specs.Means.{EachHasDeposit, Means}
 use Rattle.life_desk.specs.Run.{RequestRun, IsAnswered, IsLater}
 
--- The tally counts every cluster of X once, under its code or as unresolved. The clusters are the parts of X, and each live cell is in
--- exactly one; a row says how many have its code; the rows and what is unresolved add up to how many there are.
+-- The tally counts every cluster of X once, under its code or as unresolved. The clusters are `parts X`: that each live cell is in exactly one of
+-- them, and that no other list of sets is so, are the laws `OnePartEach` and `OneListOfParts` of life_census. A row says how many have its code;
+-- the rows and what is unresolved add up to how many there are.
 pub record CountsEachOnce (rule : RuleSets) (X : Cells) (limit : ℕ) (tally : TallyCounts) : Type 0 where
-  pub clusters : ArePartsOf X (parts X)
-  pub one_each : (c : Cell) → set.contains X c ≡ true
-      → (P : Cells) × Contains (parts X) P × (set.contains P c ≡ true) × ((Q : Cells) → Contains (parts X) Q → set.contains Q c ≡ true → Q ≡ P)
   pub rows : (code : List ℕ) (n : ℕ) → Contains tally.rows (code, n) ↔ ((n ≡ how_often code (filter_map (λ P. code_of rule P limit) (parts X))) × (1 ≤ n))
   pub unresolved : tally.unresolved ≡ count_by (λ P. is_none (code_of rule P limit)) (parts X)
   pub total : tally.total ≡ length (parts X)
   pub adds_up : sum_by (λ (row : List ℕ × ℕ). row.1) tally.rows + tally.unresolved ≡ tally.total
+
+-- The census of the number is shown: its deposit, generation and limit, its tally, and whether what was counted is steady, which is to say
+-- that its clusters are still lifes and oscillators that never meet.
+pub record ShowsCensus (B : Archive) (id : ℕ) (shown : Shown) : Type 0 where
+  pub census : Census
+  pub deposit : Deposit
+  pub stored : numbered B.censuses id ≡ Some census
+  pub counted : numbered B.deposits census.deposit ≡ Some deposit
+  pub numbers : (shown.census ≡ id) × (shown.deposit ≡ census.deposit) × (shown.generation ≡ census.generation) × (shown.limit ≡ census.limit)
+  pub tally : CountsEachOnce deposit.content.rule (generation_of deposit.content.rule deposit.content.cells census.generation) census.limit shown.tally
+  pub steady : IsTrue shown.steady ↔ IsSteady deposit.content.rule (generation_of deposit.content.rule deposit.content.cells census.generation) census.limit
 
 -- What the replies of a run from A to B say. Deposits and censuses are named by their numbers in B.
 pub record Headline (A : Archive) (qs : List Request) (rs : List Reply) (B : Archive) : Type 0 where
@@ -45,18 +57,25 @@ pub record Headline (A : Archive) (qs : List Request) (rs : List Reply) (B : Arc
   -- the number of a deposit names what was handed in
   pub deposited : (member token file : List ℕ) (n : ℕ) → IsAnswered qs rs (ask.Deposit member token file) (says.Deposited n)
       → (content : Contents) × (files.file file ≡ Ok content) × (numbered B.deposits n ≡ Some (record { member = member; token = token; content = content }))
+  -- the file that is shown is the text of what was handed in
+  pub shows : (id : ℕ) (bytes : List ℕ) → IsAnswered qs rs (ask.Show id) (says.File bytes)
+      → (d : Deposit) × (numbered B.deposits id ≡ Some d) × (bytes ≡ writer.text d.content)
   -- generation n is the rule applied n times
   pub generations : (id n : ℕ) (bytes : List ℕ) → IsAnswered qs rs (ask.At id n) (says.File bytes)
       → (d : Deposit) × (numbered B.deposits id ≡ Some d) × (bytes ≡ writer.text (plain d.content.rule (generation_of d.content.rule d.content.cells n)))
+  -- the kind and the code are those of the deposit's pattern
+  pub kinds : (id limit : ℕ) (k : Kind) (code : Option (List ℕ)) → IsAnswered qs rs (ask.KindOf id limit) (says.Kinded k code)
+      → (d : Deposit) × (numbered B.deposits id ≡ Some d) × (k ≡ kind_of d.content.rule d.content.cells limit) × (code ≡ code_of d.content.rule d.content.cells limit)
   -- two coded patterns of one rule share a code exactly when a move, turn or reflection takes one to a phase of the other
   pub codes : (i j limit other : ℕ) (k l : Kind) (s t : List ℕ) (d e : Deposit)
       → IsAnswered qs rs (ask.KindOf i limit) (says.Kinded k (Some s)) → IsAnswered qs rs (ask.KindOf j other) (says.Kinded l (Some t))
       → numbered B.deposits i ≡ Some d → numbered B.deposits j ≡ Some e → d.content.rule ≡ e.content.rule
       → (s ≡ t) ↔ Same d.content.rule d.content.cells e.content.cells
   -- a census counts every cluster once, under its code or as unresolved
-  pub censuses : (id : ℕ) (shown : Shown) → IsAnswered qs rs (ask.ShowCensus id) (says.Shown shown)
-      → (c : Census) × (d : Deposit) × (numbered B.censuses id ≡ Some c) × (numbered B.deposits c.deposit ≡ Some d)
-      × CountsEachOnce d.content.rule (generation_of d.content.rule d.content.cells c.generation) c.limit shown.tally
+  pub censuses : (id : ℕ) (shown : Shown) → IsAnswered qs rs (ask.ShowCensus id) (says.Shown shown) → ShowsCensus B id shown
+  -- a total is how many clusters have the code in all censuses that there were at that moment, of deposits of the rule
+  pub totals : (text code : List ℕ) (limit n : ℕ) → IsAnswered qs rs (ask.Total text code limit) (says.Total n)
+      → (rule : RuleSets) × (M : Archive) × (read_rule text ≡ Ok rule) × IsLater A M × IsLater M B × (n ≡ clusters_with M rule code)
 
 -- It holds of every run from an archive in which each census is of a deposit.
 abbrev pub HeadlineHolds : Type 0
@@ -70,10 +89,15 @@ IsTakenByRun A new qs rs = (B : Archive) × RequestRun A qs rs B × Means new B 
 abbrev pub IsTheArchive : {S : Type 0} → ArchiveView S → ArchiveView S → List Request → List Reply → Type 0
 IsTheArchive old new qs rs = (A : Archive) → IsTrue new.tables.is_sure → Means old A → IsTakenByRun A new qs rs
 
--- Where the database is sure at the start: so it is at the end, and A was taken; or the disk failed in the call.
-abbrev pub IsTheArchiveOrFaults : {S : Type 0} → ArchiveView S → ArchiveView S → List Request → List Reply → Type 0
-IsTheArchiveOrFaults old new qs rs = (A : Archive) → IsTrue old.tables.is_sure → Means old A
-    → (IsTrue new.tables.is_sure × IsTakenByRun A new qs rs) ⊎ HasFailed old.tables new.tables
+-- A was taken by a run, and these replies say so of it.
+abbrev pub AreOfARun : Archive → List Request → List Reply → Type 0
+AreOfARun A qs rs = (B : Archive) × RequestRun A qs rs B × Headline A qs rs B
+
+-- Where the database is sure at the start: so it is at the end, and A was taken; or the disk failed in the call. Then the replies are those of a run all the
+-- same, unless the disk has returned other than what was written; of which archive it is left with the clause on crashes speaks.
+abbrev pub IsTheArchiveOrFaults : {S : Type 0} → Ghosts S → ArchiveView S → ArchiveView S → List Request → List Reply → Type 0
+IsTheArchiveOrFaults g old new qs rs = (A : Archive) → IsTrue old.tables.is_sure → Means old A
+    → (IsTrue new.tables.is_sure × IsTakenByRun A new qs rs) ⊎ (HasFailed old.tables new.tables × (IsClean (g.view new.store) → AreOfARun A qs rs))
 
 -- Where the database is in memory: A was taken, with no premise.
 abbrev pub IsTheArchiveInMemory : {S : Type 0} → ArchiveView S → ArchiveView S → List Request → List Reply → Type 0

@@ -1,6 +1,6 @@
 -- What is judged of a request's own words, before the archive is asked, in the order member, token, limits, rule. What is judged good is
 -- the same request with its rule read; what is not is refused, by the first fault.
-use Rattle.std.specs.Prelude.{◌==◌, ◌&&◌, ◌||◌, ℕ, Bool, List, length, Result, Ok, Err, nat_le, if◌then◌else◌}
+use Rattle.std.specs.Prelude.{◌≡◌, ◌⊎◌, ◌==◌, ◌&&◌, ◌||◌, ℕ, Bool, List, length, Result, Ok, Err, IsOk, nat_le, if◌then◌else◌}
 use Rattle.std.specs.List.{list_all}
 use Rattle.life_core.specs.declared.generations.TheConstants.{GENERATION_LIMIT}
 use Rattle.life_code.specs.declared.period.TheConstants.{PERIOD_LIMIT}
@@ -8,7 +8,7 @@ use Rattle.life_core.specs.Rule.{RuleSets}
 use Rattle.life_core.specs.declared.rule_text.RuleFault.{RuleFault}
 use Rattle.life_core.specs.RuleText.{read_rule}
 use Rattle.life_desk.specs.declared.refusal.Refusal.{Refusal}
-use Rattle.life_desk.specs.declared.refusal.Refusal.TheVariants.{BadMember, BadToken, OutOfLimit, BadRule}
+use Rattle.life_desk.specs.declared.refusal.Refusal.TheVariants.{BadMember, BadToken, OutOfLimit, BadRule, Unavailable}
 use Rattle.life_desk.specs.declared.request.Request.{Request}
 use Rattle.life_desk.specs.declared.request.Request.TheVariants as ask
 use Rattle.life_desk.specs.declared.request.Judged.{Judged}
@@ -59,3 +59,12 @@ judged (ask.Census member token id n limit) =
 judged (ask.ShowCensus id) = Ok (good.ShowCensus id)
 judged (ask.CensusCsv id) = Ok (good.CensusCsv id)
 judged (ask.Total rule code limit) = if is_limit limit then judged_rule code limit (read_rule rule) else Err OutOfLimit
+
+-- a check of a request's words answers what they are judged
+abbrev pub IsChecked : {J : Type 0} → Result (Unit {0}) Refusal → Result J Refusal → Type 0
+IsChecked (Ok u) words = IsOk words
+IsChecked (Err refusal) words = words ≡ Err refusal
+
+-- what a request may be refused for before the archive is asked: its own words; or, where they are good, that it is unavailable
+abbrev pub MayRefuse : {J : Type 0} → Result J Refusal → Refusal → Type 0
+MayRefuse words refusal = (words ≡ Err refusal) ⊎ (IsOk words × (refusal ≡ Unavailable))

@@ -22,6 +22,10 @@ pub data RequestStep (A : Archive) (q : Request) : Reply → Archive → Type 0 
   answers : (r : Reply) → IsReply A q r → RequestStep A q r (after A q)
   gives_up : IsOk (judged q) → RequestStep A q (says.Refused no.Unavailable) A
 
+-- Each archive may give this reply, and stays as it is: the reply says nothing of what is kept.
+abbrev pub IsIdle : Request → Reply → Type 0
+IsIdle q r = (A : Archive) → RequestStep A q r A
+
 -- the requests, one after the other, each with its reply: from A to B
 abbrev pub RequestRun : Archive → List Request → List Reply → Archive → Type 0
 RequestRun A [] [] B = B ≡ A
@@ -66,12 +70,15 @@ pub record IsCrashOf (A : Archive) (qs : List Request) (rs : List Reply) (db : T
 abbrev pub MayBeLeft : {S : Type 0} → Ghosts S → ArchiveView S → List Request → List Reply → Trees → Type 0
 MayBeLeft g old qs rs db = (g.recovers old.store db × PromiseNothing rs) ⊎ (IsTrue old.tables.is_sure × ((A : Archive) → Means old A → IsCrashOf A qs rs db))
 
--- The requests were answered by the store. The premise stands here and in no other place: where the database is
--- sure at the end, so it was at the start, and each archive that the tables meant was taken by a run to one that they mean.
+-- The requests were answered by the store. Where the database is sure at the end, so it was at the start, and each archive that the tables
+-- meant was taken by a run to one that they mean. Where it was sure at the start, and its disk has returned what was written, the replies
+-- are those of a run also if the disk failed on the way; and where it was not, each reply says nothing of what is kept.
 -- Of what a crash leaves the last clause speaks.
 pub record Answered {S : Type 0} (g : Ghosts S) (old new : ArchiveView S) (qs : List Request) (rs : List Reply) : Type 0 where
   pub goes : IsTransition g (λ db. ⊤) old new
   pub run : IsTrue new.tables.is_sure → (A : Archive) → Means old A → (B : Archive) × RequestRun A qs rs B × Means new B
+  pub replied : IsClean (g.view new.store) → IsTrue old.tables.is_sure → (A : Archive) → Means old A → (B : Archive) × RequestRun A qs rs B × (IsTrue new.tables.is_sure → Means new B)
+  pub shut : IsClean (g.view new.store) → old.tables.is_sure ≡ false → (A : Archive) → RequestRun A qs rs A
   pub left : IsClean (g.view new.store) → (db : Trees) → g.recovers new.store db → MayBeLeft g old qs rs db
 
 -- ---- crashes

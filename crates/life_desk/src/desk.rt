@@ -1,9 +1,9 @@
 //! The desk: a request is judged by its own words, the archive is asked, and a reply is made.
-ghost use Rattle.std.specs.Prelude.{◌≡◌, ◌≤◌, ◌∷◌, [], if◌then◌else◌, None, IfErr, IfOk, IsTrue, OnErr, length, option_map, Some, true};
+ghost use Rattle.std.specs.Prelude.{◌≡◌, ◌≤◌, ◌∷◌, ◌⊎◌, [], if◌then◌else◌, None, IfErr, IfOk, IsTrue, OnErr, OnOk, length, option_map, Some, true};
 ghost use Rattle.life_rle.specs.Record.{IsInside};
 ghost use Rattle.life_store.specs.Kept.{numbered, deposit_by, listed_after};
 ghost use Rattle.life_store.specs.Crash.{NoMore};
-ghost use Rattle.life_store.specs.Tables.{IsTransition, HoldsTheSame, HasOrder};
+ghost use Rattle.life_store.specs.Tables.{IsTransition, IsSureIfClean, HoldsTheSame, HasOrder};
 ghost use Rattle.life_desk.specs.declared.request.Reply.TheVariants as says;
 ghost use Rattle.life_desk.specs.declared.refusal.Refusal.TheVariants as refusals;
 ghost use Rattle.life_desk.specs.Replies.{Adds, deposit_by_token, deposit_verdict, deposit_reply, with_deposit, is_same_content, census_by_token, census_verdict, census_reply, with_census, file_reply, at_reply, kind_reply, shown_reply, csv_reply, IsTotal, IsReplyTo, after_all_of, is_shown};
@@ -12,9 +12,9 @@ ghost use Rattle.life_code.specs.Codes as codes;
 ghost use Rattle.life_desk.specs.Content.{same_contents};
 ghost use Rattle.life_desk.specs.Judging.{judged};
 ghost use Rattle.life_desk.specs.JudgingState.{IsGood};
-ghost use Rattle.life_desk.specs.DeskState.{Acts, ActsWhere, MeanChanged, MeanChangedWhere, Promises};
+ghost use Rattle.life_desk.specs.DeskState.{Acts, ActsWhere, MeanChanged, MeanChangedWhere, Promises, SpeaksSurely};
 ghost use Rattle.life_desk.specs.Headline.{IsTheArchive, IsTheArchiveOrFaults, IsTheArchiveInMemory};
-ghost use Rattle.life_desk.specs.Run.{Answered, IsCrashSafe, IsDurable};
+ghost use Rattle.life_desk.specs.Run.{Answered, IsIdle, IsCrashSafe};
 ghost use Rattle.life_desk.specs.Archive.{census_by, tally_for, tally_at, tally_of_cells, steady_for};
 ghost use Rattle.life_rle.specs.Writer as writer;
 ghost use Rattle.life_census.specs.Steady.{is_steady};
@@ -58,6 +58,7 @@ fn keep_new<S: Alter>(
     requires { IsInside 1024 deposit.now.content.cells }
     ensures goes { IsTransition S.Store (MeanChanged archive.old (λ A. with_deposit A (deposit_by_token A deposit.now None))) archive.old archive.new }
     ensures told { Promises S.Store archive.new result }
+    ensures sure { OnOk result (IsSureIfClean S.Store archive.new) }
     ensures acts { Acts archive.old archive.new result
         (λ A r. r ≡ deposit_reply A (deposit_by_token A deposit.now None))
         (λ A. with_deposit A (deposit_by_token A deposit.now None)) }
@@ -77,6 +78,7 @@ fn keep_deposit<S: Alter>(
     requires { IsInside 1024 deposit.now.content.cells }
     ensures goes { IsTransition S.Store (MeanChanged archive.old (λ A. with_deposit A (deposit_by_token A deposit.now (deposit_by deposit.now.member deposit.now.token A.deposits)))) archive.old archive.new }
     ensures told { Promises S.Store archive.new result }
+    ensures sure { OnOk result (IsSureIfClean S.Store archive.new) }
     ensures acts { Acts archive.old archive.new result
         (λ A r. r ≡ deposit_reply A (deposit_by_token A deposit.now (deposit_by deposit.now.member deposit.now.token A.deposits)))
         (λ A. with_deposit A (deposit_by_token A deposit.now (deposit_by deposit.now.member deposit.now.token A.deposits))) }
@@ -102,6 +104,7 @@ fn deposit<S: Alter>(
 ) -> Result<Reply, Unavailable>
     ensures goes { IsTransition S.Store (MeanChanged archive.old (λ A. with_deposit A (deposit_verdict A member token file))) archive.old archive.new }
     ensures told { Promises S.Store archive.new result }
+    ensures sure { SpeaksSurely S.Store archive.new result (λ A r. r ≡ deposit_reply A (deposit_verdict A member token file)) (λ A. with_deposit A (deposit_verdict A member token file)) }
     ensures acts { Acts archive.old archive.new result
         (λ A r. r ≡ deposit_reply A (deposit_verdict A member token file))
         (λ A. with_deposit A (deposit_verdict A member token file)) }
@@ -132,6 +135,7 @@ fn file_of(alloc: Global, content: &Record) -> Result<Reply, Unavailable>
 fn show<S: Alter>(archive: &mut Archive<S>, alloc: Global, id: u64) -> Result<Reply, Unavailable>
     ensures goes { IsTransition S.Store NoMore archive.old archive.new }
     ensures told { Promises S.Store archive.new result }
+    ensures sure { OnOk result (IsSureIfClean S.Store archive.new) }
     ensures acts { Acts archive.old archive.new result (λ A r. r ≡ file_reply (numbered A.deposits id)) (λ A. A) }
 {
     match deposit_of(archive, alloc, id)? {
@@ -148,6 +152,7 @@ fn list_after<S: Alter>(
 ) -> Result<Reply, Unavailable>
     ensures goes { IsTransition S.Store NoMore archive.old archive.new }
     ensures told { Promises S.Store archive.new result }
+    ensures sure { OnOk result (IsSureIfClean S.Store archive.new) }
     ensures acts { Acts archive.old archive.new result (λ A r. r ≡ says.Deposits (listed_after id A.deposits)) (λ A. A) }
 {
     Ok(Reply::Deposits(deposits_after(archive, alloc, id)?))
@@ -175,6 +180,7 @@ fn show_at<S: Alter>(
     requires { n ≤ GENERATION_LIMIT }
     ensures goes { IsTransition S.Store NoMore archive.old archive.new }
     ensures told { Promises S.Store archive.new result }
+    ensures sure { OnOk result (IsSureIfClean S.Store archive.new) }
     ensures acts { Acts archive.old archive.new result (λ A r. r ≡ at_reply n (numbered A.deposits id)) (λ A. A) }
 {
     match deposit_of(archive, alloc, id)? {
@@ -225,6 +231,7 @@ fn name_kind<S: Alter>(
     requires few { limit ≤ PERIOD_LIMIT }
     ensures goes { IsTransition S.Store NoMore archive.old archive.new }
     ensures told { Promises S.Store archive.new result }
+    ensures sure { OnOk result (IsSureIfClean S.Store archive.new) }
     ensures acts { Acts archive.old archive.new result (λ A r. r ≡ kind_reply limit (numbered A.deposits id)) (λ A. A) }
 {
     match deposit_of(archive, alloc, id)? {
@@ -281,6 +288,7 @@ fn add_counted<S: Alter>(
     requires short { census.now.limit ≤ PERIOD_LIMIT }
     ensures goes { IsTransition S.Store (MeanChangedWhere archive.old (λ A. numbered A.deposits census.now.deposit ≡ Some deposit.now) (λ A. with_census A (Adds census.now))) archive.old archive.new }
     ensures told { Promises S.Store archive.new result }
+    ensures sure { OnOk result (IsSureIfClean S.Store archive.new) }
     ensures acts { ActsWhere archive.old archive.new result
         (λ A. numbered A.deposits census.now.deposit ≡ Some deposit.now)
         (λ A r. r ≡ census_reply A (Adds census.now))
@@ -303,6 +311,7 @@ fn keep_census<S: Alter>(
     requires short { census.now.limit ≤ PERIOD_LIMIT }
     ensures goes { IsTransition S.Store (MeanChangedWhere archive.old (λ A. numbered A.deposits census.now.deposit ≡ Some deposit.now) (λ A. with_census A (census_by_token A census.now (census_by census.now.member census.now.token A.censuses)))) archive.old archive.new }
     ensures told { Promises S.Store archive.new result }
+    ensures sure { OnOk result (IsSureIfClean S.Store archive.new) }
     ensures acts { ActsWhere archive.old archive.new result
         (λ A. numbered A.deposits census.now.deposit ≡ Some deposit.now)
         (λ A r. r ≡ census_reply A (census_by_token A census.now (census_by census.now.member census.now.token A.censuses)))
@@ -347,6 +356,7 @@ fn take_census<S: Alter>(
     requires short { census.now.limit ≤ PERIOD_LIMIT }
     ensures goes { IsTransition S.Store (MeanChanged archive.old (λ A. with_census A (census_verdict A census.now))) archive.old archive.new }
     ensures told { Promises S.Store archive.new result }
+    ensures sure { OnOk result (IsSureIfClean S.Store archive.new) }
     ensures acts { Acts archive.old archive.new result
         (λ A r. r ≡ census_reply A (census_verdict A census.now))
         (λ A. with_census A (census_verdict A census.now)) }
@@ -365,6 +375,7 @@ fn show_census<S: Alter>(
 ) -> Result<Reply, Unavailable>
     ensures goes { IsTransition S.Store NoMore archive.old archive.new }
     ensures told { Promises S.Store archive.new result }
+    ensures sure { OnOk result (IsSureIfClean S.Store archive.new) }
     ensures acts { Acts archive.old archive.new result (λ A r. r ≡ shown_reply A.deposits id (numbered A.censuses id)) (λ A. A) }
 {
     match kept_tally(archive, alloc, id)? {
@@ -398,6 +409,7 @@ fn census_csv<S: Alter>(
 ) -> Result<Reply, Unavailable>
     ensures goes { IsTransition S.Store NoMore archive.old archive.new }
     ensures told { Promises S.Store archive.new result }
+    ensures sure { OnOk result (IsSureIfClean S.Store archive.new) }
     ensures acts { Acts archive.old archive.new result (λ A r. r ≡ csv_reply A.deposits (numbered A.censuses id)) (λ A. A) }
 {
     match kept_tally(archive, alloc, id)? {
@@ -418,6 +430,7 @@ fn total<S: Alter>(
     requires few { limit ≤ PERIOD_LIMIT }
     ensures goes { IsTransition S.Store NoMore archive.old archive.new }
     ensures told { Promises S.Store archive.new result }
+    ensures sure { SpeaksSurely S.Store archive.new result (λ A r. IsTotal A rule.now text.now limit r) (λ A. A) }
     ensures acts { Acts archive.old archive.new result (λ A r. IsTotal A rule.now text.now limit r) (λ A. A) }
 {
     match open_code(alloc, rule, text, limit) {
@@ -437,6 +450,7 @@ fn act<S: Alter>(
     requires { IsGood judged }
     ensures goes { IsTransition S.Store (MeanChanged archive.old (λ A. after_all_of A judged)) archive.old archive.new }
     ensures told { Promises S.Store archive.new result }
+    ensures sure { SpeaksSurely S.Store archive.new result (λ A r. IsReplyTo A judged r) (λ A. after_all_of A judged) }
     ensures acts { Acts archive.old archive.new result (λ A r. IsReplyTo A judged r) (λ A. after_all_of A judged) }
 {
     match judged {
@@ -458,11 +472,12 @@ fn act<S: Alter>(
 /// the store, so unavailable never comes in its place.
 pub fn answer<S: Alter>(archive: &mut Archive<S>, alloc: Global, request: Request) -> Reply
     ensures answered { Answered S.Store archive.old archive.new (request ∷ []) (result ∷ []) }
+    // A database that is not sure gives no reply that says something of what is kept, unless its disk has lied.
+    ensures sure { IsSureIfClean S.Store archive.new ⊎ IsIdle request result }
     // Where the reply shows what is kept, nothing has changed, and it might have been withheld.
     ensures withheld { is_shown result ≡ true → Answered S.Store archive.old archive.new (request ∷ []) (says.Refused refusals.Unavailable ∷ []) }
-    // A crash in the middle of the call leaves the archive before the request or the one after it; a crash after it, the one after it.
+    // A crash in the middle of the call leaves the archive before the request or the one after it.
     ensures crash { IsCrashSafe S.Store archive.old archive.new (request ∷ []) (result ∷ []) }
-    ensures durable { IsDurable S.Store archive.new }
     // What a request's own words are refused for comes whatever the store does.
     ensures firm { IfErr (judged request) (λ refusal. (result ≡ says.Refused refusal) × (archive.new ≡ archive.old)) }
 {
@@ -510,19 +525,16 @@ pub fn answer_all<S: Alter>(
     ensures ok { IfOk result (λ replies. Answered S.Store archive.old archive.new requests.items replies.items) }
     // .. which says of sets of live cells what it should.
     ensures headline { IfOk result (λ replies. IsTheArchive archive.old archive.new requests.items replies.items) }
-    // A database that is sure before the call is sure after it, unless its disk failed in the call.
-    ensures lasting { IfOk result (λ replies. IsTheArchiveOrFaults archive.old archive.new requests.items replies.items) }
+    // A database that is sure before the call is sure after it, unless its disk failed in the call; the replies are those of a run in either case.
+    ensures lasting { IfOk result (λ replies. IsTheArchiveOrFaults S.Store archive.old archive.new requests.items replies.items) }
     // A crash in the middle of the call leaves the archive after a beginning of the requests, or after the one that follows as well, and no
-    // other reply says that something is kept; a crash after it leaves the archive after all.
+    // other reply says that something is stored.
     ensures crash { IfOk result (λ replies. IsCrashSafe S.Store archive.old archive.new requests.items replies.items) }
-    ensures durable { IsDurable S.Store archive.new }
     ensures err { OnErr result (archive.new ≡ archive.old) }
 {
     law_of_the_archive();
     archive.law_of_crashes();
-    let replies = answer_each(archive, alloc, requests);
-    archive.law_of_crashes();
-    replies
+    answer_each(archive, alloc, requests)
 }
 
 /// As [`answer_all`], of an archive in memory: no disk can fail there, so the replies and the archive are those of a run in any case.

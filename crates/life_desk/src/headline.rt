@@ -1,18 +1,21 @@
 //! The archive in its own words.
 ghost use Rattle.life_desk.specs.Headline.{HeadlineHolds};
 ghost use Rattle.life_desk.specs.Means.{NewIsEmpty};
+ghost use Rattle.life_desk.specs.Run.{IsDurable};
 
-use life_census::{laws_of_clusters, laws_of_tallies};
+use life_census::{laws_of_steady_fields, laws_of_tallies};
 use life_code::laws_of_codes;
+use life_store::Archive;
+use sqlite::Alter;
 
-/// What the replies of every run say of sets of live cells: no deposit and no census is lost or changed;
-/// generation n is the rule applied n times; two coded patterns of one rule share a code exactly where a
-/// move, turn or reflection takes one to a phase of the other; and a census counts every cluster once,
-/// under its code or as unresolved. A law: calling it does nothing.
+/// What the replies of every run say of sets of live cells. No deposit and no census is lost or changed. What is shown is what was handed
+/// in; generation n is the rule applied n times; kinds and codes are those of the deposit's pattern. Two coded patterns of one rule share a
+/// code exactly when a move, turn or reflection takes one to a phase of the other. A census counts every cluster once, under its code or
+/// as unresolved, and a total adds these counts up. A law: calling it does nothing.
 pub fn law_of_the_archive()
     ensures { HeadlineHolds }
 {
-    laws_of_clusters();
+    laws_of_steady_fields();
     laws_of_tallies();
     laws_of_codes();
 }
@@ -21,3 +24,11 @@ pub fn law_of_the_archive()
 pub fn law_of_new_archives()
     ensures { NewIsEmpty }
 {}
+
+/// What was answered lasts: between two calls a crash leaves the archive that the tables represent, and nothing else. A law: calling it
+/// does nothing.
+pub fn law_of_durability<S: Alter>(archive: &Archive<S>)
+    ensures { IsDurable S.Store archive.now }
+{
+    archive.law_of_crashes();
+}

@@ -1,9 +1,9 @@
 //! What is judged of a request's own words.
-ghost use Rattle.std.specs.Prelude.{◌≡◌, if◌then◌else◌, Ok, Err, IfOk};
+ghost use Rattle.std.specs.Prelude.{◌≡◌, ℕ, if◌then◌else◌, List, Ok, Err, IfOk};
 ghost use Rattle.std.specs.List.{list_all};
 ghost use Rattle.life_desk.specs.declared.refusal.Refusal.TheVariants.{BadMember, BadToken, OutOfLimit};
 ghost use Rattle.life_desk.specs.declared.request.Request.TheVariants as ask;
-ghost use Rattle.life_desk.specs.Judging.{is_member, is_token, is_member_byte, is_token_byte, is_between, is_generation, is_limit, judged};
+ghost use Rattle.life_desk.specs.Judging.{is_member, is_token, is_member_byte, is_token_byte, is_between, is_generation, is_limit, judged, IsChecked};
 ghost use Rattle.life_desk.specs.JudgingState.{IsGood};
 
 use crate::bytes::Bytes;
@@ -88,16 +88,45 @@ fn limit_in(n: u64) -> Result<u32, Refusal>
 }
 
 /// The member and the token, judged in this order.
-fn judge_names(member: &Text, token: &Text) -> Result<(), Refusal>
+fn judge_names(member: &[u8], token: &[u8]) -> Result<(), Refusal>
     ensures { result ≡ (if is_member member.now then (if is_token token.now then Ok tt else Err BadToken) else Err BadMember) }
 {
-    if !is_member(member.as_bytes()) {
+    if !is_member(member) {
         return Err(Refusal::BadMember);
     }
-    if !is_token(token.as_bytes()) {
+    if !is_token(token) {
         return Err(Refusal::BadToken);
     }
     Ok(())
+}
+
+/// Whether the words of a deposit are good, whatever its file is: what [`answer`](crate::answer) would refuse it for by its
+/// words alone, before anything is copied.
+pub fn check_deposit(member: &[u8], token: &[u8]) -> Result<(), Refusal>
+    ensures { (file : List ℕ) → IsChecked result (judged (ask.Deposit member.now token.now file)) }
+{
+    judge_names(member, token)
+}
+
+/// The same of a census, whatever deposit it is of.
+pub fn check_census(member: &[u8], token: &[u8], n: u64, limit: u64) -> Result<(), Refusal>
+    ensures { (deposit : ℕ) → IsChecked result (judged (ask.Census member.now token.now deposit n limit)) }
+{
+    judge_names(member, token)?;
+    generation_in(n)?;
+    limit_in(limit)?;
+    Ok(())
+}
+
+/// The same of a total, whatever its code is.
+pub fn check_total(rule: &[u8], limit: u64) -> Result<(), Refusal>
+    ensures { (code : List ℕ) → IsChecked result (judged (ask.Total rule.now code limit)) }
+{
+    limit_in(limit)?;
+    match Rule::read(rule) {
+        Ok(_) => Ok(()),
+        Err(_) => Err(Refusal::BadRule),
+    }
 }
 
 /// The words of a deposit, judged.
@@ -105,7 +134,7 @@ fn judge_deposit(member: Text, token: Text, file: Bytes) -> Result<Judged, Refus
     ensures value { result ≡ judged (ask.Deposit member token file) }
     ensures within { IfOk result IsGood }
 {
-    judge_names(&member, &token)?;
+    judge_names(member.as_bytes(), token.as_bytes())?;
     Ok(Judged::Deposit(member, token, file))
 }
 
@@ -120,7 +149,7 @@ fn judge_census(
     ensures value { result ≡ judged (ask.Census member token deposit n limit) }
     ensures within { IfOk result IsGood }
 {
-    judge_names(&member, &token)?;
+    judge_names(member.as_bytes(), token.as_bytes())?;
     let generation = generation_in(n)?;
     let limit = limit_in(limit)?;
     Ok(Judged::Census(Census {

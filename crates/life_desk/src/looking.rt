@@ -1,10 +1,9 @@
 //! What an archive tells, as the desk asks it.
-ghost use Rattle.std.specs.Prelude.{◌≡◌, ◌+◌, ◌++◌, ◌∷◌, [], Some, nat_lt, length, option_map, IfOk, IfSome, IsTrue, OnOk, OnErr};
-ghost use Rattle.sqlite_trees.specs.View.{IsClean};
+ghost use Rattle.std.specs.Prelude.{◌≡◌, ◌+◌, ◌++◌, ◌∷◌, [], Some, nat_lt, length, option_map, IfOk, IfSome, OnOk, OnErr};
 ghost use Rattle.life_rle.specs.Record.{IsInside};
 ghost use Rattle.life_store.specs.Kept.{numbered, deposit_by, listed_after, kept_census};
 ghost use Rattle.life_store.specs.Crash.{NoMore};
-ghost use Rattle.life_store.specs.Tables.{IsTransition, HasOrder};
+ghost use Rattle.life_store.specs.Tables.{IsTransition, HasOrder, IsSureIfClean};
 ghost use Rattle.life_store.specs.declared.kept.Deposit.{Deposit as Kept};
 ghost use Rattle.life_desk.specs.Archive.{census_by, clusters_with, tally_at, tally_for, steady_at, steady_for};
 ghost use Rattle.life_desk.specs.Means.{Means, tallied};
@@ -26,6 +25,7 @@ pub(crate) fn deposit_of<S: Alter>(
     id: u64,
 ) -> Result<Option<Deposit>, Unavailable>
     ensures goes { IsTransition S.Store NoMore archive.old archive.new }
+    ensures sure { OnOk result (IsSureIfClean S.Store archive.new) }
     ensures same { MeansTheSame archive.old archive.new }
     ensures value { ForAllMeant archive.old archive.new (λ A. IfOk result (λ d. d ≡ numbered A.deposits id)) }
     ensures inside { IfOk result (λ o. IfSome o (λ d. IsInside 1024 d.content.cells)) }
@@ -41,7 +41,7 @@ pub(crate) fn find_deposit<S: Alter>(
     token: &[u8],
 ) -> Result<Option<FoundDeposit>, Unavailable>
     ensures goes { IsTransition S.Store NoMore archive.old archive.new }
-    ensures sure { OnOk result (IsClean (S.Store.view archive.new.store) → IsTrue archive.new.tables.is_sure) }
+    ensures sure { OnOk result (IsSureIfClean S.Store archive.new) }
     ensures same { MeansTheSame archive.old archive.new }
     ensures value { ForAllMeant archive.old archive.new (λ A. IfOk result (λ o. o ≡ deposit_by member.now token.now A.deposits)) }
 {
@@ -55,6 +55,7 @@ pub(crate) fn deposits_after<S: Alter>(
     id: u64,
 ) -> Result<Listing, Unavailable>
     ensures goes { IsTransition S.Store NoMore archive.old archive.new }
+    ensures sure { OnOk result (IsSureIfClean S.Store archive.new) }
     ensures same { MeansTheSame archive.old archive.new }
     ensures value { ForAllMeant archive.old archive.new (λ A. IfOk result (λ lines. lines ≡ listed_after id A.deposits)) }
 {
@@ -69,7 +70,7 @@ pub(crate) fn find_census<S: Alter>(
     token: &[u8],
 ) -> Result<Option<FoundCensus>, Unavailable>
     ensures goes { IsTransition S.Store NoMore archive.old archive.new }
-    ensures sure { OnOk result (IsClean (S.Store.view archive.new.store) → IsTrue archive.new.tables.is_sure) }
+    ensures sure { OnOk result (IsSureIfClean S.Store archive.new) }
     ensures same { MeansTheSame archive.old archive.new }
     ensures value { ForAllMeant archive.old archive.new (λ A. IfOk result (λ o. o ≡ census_by member.now token.now A.censuses)) }
 {
@@ -84,6 +85,7 @@ pub(crate) fn counts_of<S: Alter>(
     code: &[u8],
 ) -> Result<u64, Unavailable>
     ensures goes { IsTransition S.Store NoMore archive.old archive.new }
+    ensures sure { OnOk result (IsSureIfClean S.Store archive.new) }
     ensures same { MeansTheSame archive.old archive.new }
     ensures value { ForAllMeant archive.old archive.new (λ A. IfOk result (λ n. n ≡ clusters_with A rule.now code.now)) }
 {
@@ -97,6 +99,7 @@ fn census_of<S: Alter>(
     id: u64,
 ) -> Result<Option<KeptCensus>, Unavailable>
     ensures goes { IsTransition S.Store NoMore archive.old archive.new }
+    ensures sure { OnOk result (IsSureIfClean S.Store archive.new) }
     ensures same { MeansTheSame archive.old archive.new }
     ensures value { ForAllMeant archive.old archive.new (λ A. IfOk result (λ c. c ≡ option_map kept_census (option_map (tallied A.deposits) (numbered A.censuses id)))) }
 {
@@ -110,6 +113,7 @@ fn rows_of<S: Alter>(
     id: u64,
 ) -> Result<Option<Rows>, Unavailable>
     ensures goes { IsTransition S.Store NoMore archive.old archive.new }
+    ensures sure { OnOk result (IsSureIfClean S.Store archive.new) }
     ensures same { MeansTheSame archive.old archive.new }
     ensures value { ForAllMeant archive.old archive.new (λ A. IfOk result (λ rows. rows ≡ option_map (λ t. t.tally.rows) (option_map (tallied A.deposits) (numbered A.censuses id)))) }
 {
@@ -123,6 +127,7 @@ pub(crate) fn kept_tally<S: Alter>(
     id: u64,
 ) -> Result<Option<(Census, Tally)>, Unavailable>
     ensures goes { IsTransition S.Store NoMore archive.old archive.new }
+    ensures sure { OnOk result (IsSureIfClean S.Store archive.new) }
     ensures same { MeansTheSame archive.old archive.new }
     ensures value { ForAllMeant archive.old archive.new (λ A.
         IfOk result (λ o. o ≡ option_map (λ c. record { 0 = c; 1 = tally_at A.deposits c }) (numbered A.censuses id))) }
@@ -149,6 +154,7 @@ pub(crate) fn flag_of<S: Alter>(
     id: u64,
 ) -> Result<Option<bool>, Unavailable>
     ensures goes { IsTransition S.Store NoMore archive.old archive.new }
+    ensures sure { OnOk result (IsSureIfClean S.Store archive.new) }
     ensures same { MeansTheSame archive.old archive.new }
     ensures value { ForAllMeant archive.old archive.new (λ A. IfOk result (λ b. b ≡ option_map (steady_at A.deposits) (numbered A.censuses id))) }
 {
@@ -158,7 +164,7 @@ pub(crate) fn flag_of<S: Alter>(
 /// How many deposits there are.
 fn count_deposits<S: Alter>(archive: &mut Archive<S>) -> Result<u64, Unavailable>
     ensures goes { IsTransition S.Store NoMore archive.old archive.new }
-    ensures sure { OnOk result (IsClean (S.Store.view archive.new.store) → IsTrue archive.new.tables.is_sure) }
+    ensures sure { OnOk result (IsSureIfClean S.Store archive.new) }
     ensures same { MeansTheSame archive.old archive.new }
     ensures value { ForAllMeant archive.old archive.new (λ A. IfOk result (λ n. n ≡ length A.deposits)) }
 {
@@ -168,7 +174,7 @@ fn count_deposits<S: Alter>(archive: &mut Archive<S>) -> Result<u64, Unavailable
 /// How many censuses there are.
 fn count_censuses<S: Alter>(archive: &mut Archive<S>) -> Result<u64, Unavailable>
     ensures goes { IsTransition S.Store NoMore archive.old archive.new }
-    ensures sure { OnOk result (IsClean (S.Store.view archive.new.store) → IsTrue archive.new.tables.is_sure) }
+    ensures sure { OnOk result (IsSureIfClean S.Store archive.new) }
     ensures same { MeansTheSame archive.old archive.new }
     ensures value { ForAllMeant archive.old archive.new (λ A. IfOk result (λ n. n ≡ length A.censuses)) }
 {
@@ -178,7 +184,7 @@ fn count_censuses<S: Alter>(archive: &mut Archive<S>) -> Result<u64, Unavailable
 /// Whether there is room for one more deposit.
 pub(crate) fn has_room<S: Alter>(archive: &mut Archive<S>) -> Result<bool, Unavailable>
     ensures goes { IsTransition S.Store NoMore archive.old archive.new }
-    ensures sure { OnOk result (IsClean (S.Store.view archive.new.store) → IsTrue archive.new.tables.is_sure) }
+    ensures sure { OnOk result (IsSureIfClean S.Store archive.new) }
     ensures same { MeansTheSame archive.old archive.new }
     ensures value { ForAllMeant archive.old archive.new (λ A. IfOk result (λ room. room ≡ nat_lt (length A.deposits) A.capacity)) }
 {
@@ -188,6 +194,7 @@ pub(crate) fn has_room<S: Alter>(archive: &mut Archive<S>) -> Result<bool, Unava
 /// Whether there is room for one more census.
 pub(crate) fn has_census_room<S: Alter>(archive: &mut Archive<S>) -> Result<bool, Unavailable>
     ensures goes { IsTransition S.Store NoMore archive.old archive.new }
+    ensures sure { OnOk result (IsSureIfClean S.Store archive.new) }
     ensures same { MeansTheSame archive.old archive.new }
     ensures value { ForAllMeant archive.old archive.new (λ A. IfOk result (λ room. room ≡ nat_lt (length A.censuses) A.capacity)) }
 {
@@ -202,7 +209,7 @@ pub(crate) fn add_deposit<S: Alter>(
 ) -> Result<u64, Unavailable>
     requires { IsInside 1024 deposit.now.content.cells }
     ensures goes { IsTransition S.Store (MeanChanged archive.old (λ A. record A { deposits = A.deposits ++ deposit.now ∷ [] })) archive.old archive.new }
-    ensures sure { OnOk result (IsClean (S.Store.view archive.new.store) → IsTrue archive.new.tables.is_sure) }
+    ensures sure { OnOk result (IsSureIfClean S.Store archive.new) }
     ensures value { ForAllMeant archive.old archive.new (λ A. IfOk result (λ n. n ≡ length A.deposits + 1)) }
     ensures ok { OnOk result (ForAllMeant archive.old archive.new (λ A. Means archive.new (record A { deposits = A.deposits ++ deposit.now ∷ [] }))) }
     ensures err { OnErr result (MeansTheSame archive.old archive.new) }
@@ -219,7 +226,7 @@ pub(crate) fn add_census<S: Alter>(
 ) -> Result<u64, Unavailable>
     requires { HasOrder tally.now }
     ensures goes { IsTransition S.Store (λ db. (d : Kept) → tally.now ≡ tally_for census.now (Some d) → steady ≡ steady_for census.now (Some d) → MeanChangedWhere archive.old (λ A. numbered A.deposits census.now.deposit ≡ Some d) (λ A. record A { censuses = A.censuses ++ census.now ∷ [] }) db) archive.old archive.new }
-    ensures sure { OnOk result (IsClean (S.Store.view archive.new.store) → IsTrue archive.new.tables.is_sure) }
+    ensures sure { OnOk result (IsSureIfClean S.Store archive.new) }
     ensures value { ForAllMeant archive.old archive.new (λ A. IfOk result (λ n. n ≡ length A.censuses + 1)) }
     ensures ok { OnOk result (ForAllMeant archive.old archive.new (λ A. (d : Kept) → numbered A.deposits census.now.deposit ≡ Some d → tally.now ≡ tally_for census.now (Some d) → steady ≡ steady_for census.now (Some d) → Means archive.new (record A { censuses = A.censuses ++ census.now ∷ [] }))) }
     ensures err { OnErr result (MeansTheSame archive.old archive.new) }

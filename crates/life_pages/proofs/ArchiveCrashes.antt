@@ -38,7 +38,7 @@ module _ (A : Archive) (q : Request) (r : Reply) (bytes : List ℕ) (made : byte
   of_parts (p ∷ []) back (s ∷ []) rest mid e f (next, step, run) (inl mean) none =
       let same : q ≡ p = cc in
       let reply : r ≡ s = let h = f in cc in
-      inl (next, inl (r, subst (λ x. RequestStep A q x next) (sym reply) (subst (λ x. RequestStep A x s next) (sym same) step), made), subst (λ X. TreesMean db X) run mean)
+      inl (next, (r, subst (λ x. RequestStep A q x next) (sym reply) (subst (λ x. RequestStep A x s next) (sym same) step), made), subst (λ X. TreesMean db X) run mean)
   of_parts (p ∷ []) back (s ∷ []) rest mid e f (next, step, run) (inr (n, more, is, mean)) none = absurd (let empty : [] ≡ back = cc in let bad = empty ∙ is in cc)
   of_parts (p ∷ []) back (s ∷ t ∷ given) rest mid e f (next, step, run) left none = absurd run
   of_parts (p ∷ x ∷ front) back (s ∷ given) rest mid e f run left none = absurd cc

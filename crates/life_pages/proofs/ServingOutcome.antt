@@ -1,16 +1,16 @@
 -- What became of a stream, where serving it ended.
-use Rattle.std.proofs.Common.{◌≡◌, ◌≢◌, ℕ, ◌+◌, ◌-◌, ◌<◌, ◌≤◌, true, List, Option, Result, Ok, Err, IfSome, OnOk, inl, inr, arith}
-use Rattle.life_rle.specs.Stream.{IsEnded}
+use Rattle.std.proofs.Common.{◌≡◌, ◌≢◌, ℕ, ◌+◌, ◌-◌, ◌<◌, ◌≤◌, true, List, length, Option, Result, Ok, Err, OnOk, inl, inr, arith}
+use Rattle.life_rle.specs.Stream.{IsEnded, Loses}
 use Rattle.life_pages.specs.Head.{Head}
-use Rattle.life_pages.specs.Message.{Starts, are_line_breaks}
+use Rattle.life_pages.specs.Message.{HasNone, are_line_breaks}
 use Rattle.life_pages.specs.MessageState.{NeverHas, held_limit}
-use Rattle.life_pages.specs.Serving.{RepliesCutShort, Served, LosesAtLeast}
+use Rattle.life_pages.specs.Serving.{RepliesCutShort, Served, LosesAtLeast, Grows}
 use Rattle.life_pages.specs.declared.serving.IoFault.{IoFault}
 use Rattle.life_pages.specs.declared.serving.IoFault.TheVariants as faults
 use Rattle.life_pages.specs.ServingState.{Ended, AtEnd, IsOutcome, IsBlankEnd, most_takes}
 use Rattle.life_pages.proofs.ServingRunning.{cut_broke}
-use Rattle.life_pages.proofs.ServingReading.{Reading, reading_ended, reading_end, reading_broke, reading_stop, reading_cut_end, ended_broke, served_broke, broke_of}
-use Rattle.life_pages.proofs.ServingPassing.{many_passed, blank_end, other_end, other_cut, bad_put, passed_paused}
+use Rattle.life_pages.proofs.ServingReading.{Reading, reading_ended, reading_end, reading_cut_end, served_broke, so_far_broke}
+use Rattle.life_pages.proofs.ServingPassing.{many_passed, blank_end, other_end, other_cut, passed_paused}
 
 pub one_more : (taken : ℕ) → taken ≤ most_takes → taken ≢ most_takes → taken + 1 ≤ most_takes
 one_more taken few some_left = omega (arith, some_left)
@@ -26,47 +26,50 @@ below_same a b n same below = rw (← same) below
 
 module _ {D : Type 0} (answers : D → Head → List ℕ → List ℕ → D → Type 0) where
   -- the last message ended the stream
-  pub outcome_ended : (stream left : Option (List ℕ)) (held : List ℕ) (old mid new : D) (x y z : Option (List ℕ)) → Reading answers stream left held old mid x y
-      → Ended answers held mid new y z → IsOutcome answers (Ok tt) stream left old new x z
-  outcome_ended stream left held old mid new x y z r e =
-      (reading_ended answers stream left held old mid new x y z r e, reading_broke answers stream left held old mid new x y z r (ended_broke answers held mid new y z e))
+  pub outcome_ended : (most : ℕ) (stream left : Option (List ℕ)) (held : List ℕ) (old mid new : D) (x y z : Option (List ℕ)) → Reading answers stream left held old mid x y
+      → Ended answers held mid new y z → IsOutcome answers (Ok tt) stream left most old new x z
+  outcome_ended most stream left held old mid new x y z r e = reading_ended answers stream left held old mid new x y z r e
 
   -- the input ended
-  pub outcome_end : (result : Result (Unit {0}) IoFault) (stream left next : Option (List ℕ)) (held : List ℕ) (old new : D) (x y z : Option (List ℕ))
-      → Reading answers stream left held old new x y → IsEnded left → AtEnd answers result held new y z → IsOutcome answers result stream next old new x z
-  outcome_end (Ok u) stream left next held old new x y z r e a =
-      (reading_end answers stream left held old new new x y z r e a, reading_broke answers stream left held old new new x y z r (served_broke answers held new new y z a))
-  outcome_end (Err faults.Write) stream left next held old new x y z r e a = reading_cut_end answers stream left held old new new x y z r e a
-  outcome_end (Err faults.Read) stream left next held old new x y z r e a = absurd a
-  outcome_end (Err faults.TooManyReads) stream left next held old new x y z r e a = absurd a
-  outcome_end (Err faults.Memory) stream left next held old new x y z r e a = absurd a
+  pub outcome_end : {most : ℕ} (result : Result (Unit {0}) IoFault) (stream left next : Option (List ℕ)) (held : List ℕ) (old new : D) (x y z : Option (List ℕ))
+      → Reading answers stream left held old new x y → IsEnded left → HasNone held → (piece : List ℕ) → Loses left next piece → (length piece ≤ 4096) × (length piece ≤ most)
+      → AtEnd answers result held new y z → IsOutcome answers result stream next most old new x z
+  outcome_end (Ok u) stream left next held old new x y z r e none piece taken short a = reading_end answers stream left held old new new x y z r e a
+  outcome_end (Err faults.Write) stream left next held old new x y z r e none piece taken short a = reading_cut_end answers stream left next held piece old new new x y z r e none taken short a
+  outcome_end (Err faults.Read) stream left next held old new x y z r e none piece taken short a = absurd a
+  outcome_end (Err faults.TooManyReads) stream left next held old new x y z r e none piece taken short a = absurd a
+  outcome_end (Err faults.Memory) stream left next held old new x y z r e none piece taken short a = absurd a
 
   -- long blank bytes were held
-  pub outcome_blank : (result : Result (Unit {0}) IoFault) (stream left next : Option (List ℕ)) (held : List ℕ) (taken takes : ℕ) (old new : D) (x y z : Option (List ℕ))
+  pub outcome_blank : (most : ℕ) (result : Result (Unit {0}) IoFault) (stream left next : Option (List ℕ)) (held : List ℕ) (taken takes : ℕ) (old new : D) (x y z : Option (List ℕ))
       → Reading answers stream left held old new x y → are_line_breaks held ≡ true → NeverHas held → LosesAtLeast taken stream left → most_takes ≤ taken + takes
-      → IsBlankEnd result takes left next y z → IsOutcome answers result stream next old new x z
-  outcome_blank (Ok u) stream left next held taken takes old new x y z r blank never many fits (inl (rest, same)) =
-      rw same (blank_end answers stream left held old new x y r blank rest, reading_stop answers stream left held old new x y r)
-  outcome_blank (Ok u) stream left next held taken takes old new x y z r blank never many fits (inr (rest, put)) =
-      (other_end answers stream left held old new x y z r never rest put, bad_put answers stream left held old new x y z r put)
-  outcome_blank (Err faults.Write) stream left next held taken takes old new x y z r blank never many fits (rest, some) =
-      other_cut answers stream left held old new x y z r never rest some
-  outcome_blank (Err faults.Read) stream left next held taken takes old new x y z r blank never many fits (passed, same) =
+      → IsBlankEnd result takes most left next y z → IsOutcome answers result stream next most old new x z
+  outcome_blank most (Ok u) stream left next held taken takes old new x y z r blank never many fits (inl (rest, same)) =
+      rw same (blank_end answers stream left held old new x y r blank rest)
+  outcome_blank most (Ok u) stream left next held taken takes old new x y z r blank never many fits (inr (rest, put)) =
+      other_end answers stream left held old new x y z r never rest put
+  outcome_blank most (Err faults.Write) stream left next held taken takes old new x y z r blank never many fits (rest, then, some) =
+      other_cut answers stream left next held old new x y z r never rest then some
+  outcome_blank most (Err faults.Read) stream left next held taken takes old new x y z r blank never many fits (passed, same) =
       rw same (passed_paused answers stream left next held 0 old new x y r blank never passed)
-  outcome_blank (Err faults.TooManyReads) stream left next held taken takes old new x y z r blank never many fits (passed, same) =
+  outcome_blank most (Err faults.TooManyReads) stream left next held taken takes old new x y z r blank never many fits (passed, same) =
       rw same (passed_paused answers stream left next held takes old new x y r blank never passed, many_passed stream left next taken takes most_takes many passed fits)
-  outcome_blank (Err faults.Memory) stream left next held taken takes old new x y z r blank never many fits e = absurd e
+  outcome_blank most (Err faults.Memory) stream left next held taken takes old new x y z r blank never many fits e = absurd e
 
   -- what an outcome says, whatever the result is
-  pub outcome_told : (result : Result (Unit {0}) IoFault) (stream left : Option (List ℕ)) (old new : D) (x y : Option (List ℕ))
-      → IsOutcome answers result stream left old new x y → OnOk result (IfSome stream (λ bytes. Served answers bytes old new x y))
-  outcome_told (Ok u) stream left old new x y o = o.0
-  outcome_told (Err fault) stream left old new x y o = tt
+  pub outcome_told : (most : ℕ) (result : Result (Unit {0}) IoFault) (stream left : Option (List ℕ)) (old new : D) (x y : Option (List ℕ))
+      → IsOutcome answers result stream left most old new x y → OnOk result (Served answers stream old new x y)
+  outcome_told most (Ok u) stream left old new x y o = o
+  outcome_told most (Err fault) stream left old new x y o = tt
 
-  pub outcome_some : (result : Result (Unit {0}) IoFault) (stream left : Option (List ℕ)) (old new : D) (x y : Option (List ℕ))
-      → IsOutcome answers result stream left old new x y → RepliesCutShort answers old new x y
-  outcome_some (Ok u) stream left old new x y o = o.1
-  outcome_some (Err faults.Read) stream left old new x y o = broke_of answers old new o.done o.bytes x y o.run o.put
-  outcome_some (Err faults.TooManyReads) stream left old new x y o = broke_of answers old new o.0.done o.0.bytes x y o.0.run o.0.put
-  outcome_some (Err faults.Write) stream left old new x y o = cut_broke answers (λ ms. IfSome stream (λ bytes. Starts bytes ms)) old new x y o
-  outcome_some (Err faults.Memory) stream left old new x y o = absurd o
+  pub outcome_some : (most : ℕ) (result : Result (Unit {0}) IoFault) (stream left : Option (List ℕ)) (old new : D) (x y : Option (List ℕ))
+      → IsOutcome answers result stream left most old new x y → RepliesCutShort answers stream old new x y
+  outcome_some most (Ok u) stream left old new x y o = served_broke answers stream old new x y o
+  outcome_some most (Err faults.Read) stream left old new x y o = so_far_broke answers stream left old new x y o
+  outcome_some most (Err faults.TooManyReads) stream left old new x y o = so_far_broke answers stream left old new x y o.0
+  outcome_some most (Err faults.Write) stream left old new x y o = cut_broke answers stream left old new x y o
+  outcome_some most (Err faults.Memory) stream left old new x y o = absurd o
+
+  -- whatever was put of the replies, what was put before is in front of it
+  pub some_grows : (stream : Option (List ℕ)) (old new : D) (x y : Option (List ℕ)) → RepliesCutShort answers stream old new x y → Grows x y
+  some_grows stream old new x y b = (b.put.0, b.put.3)

@@ -2,18 +2,19 @@
 use Rattle.std.proofs.Common.{◌≡◌, ◌≢◌, ℕ, ◌+◌, ◌-◌, ◌*◌, ◌<◌, ◌≤◌, ◌&&◌, Bool, true, false, List, [], ◌∷◌, ◌++◌, length, take, Option, None, Some, Ok, IfSome, inl, refl, sym, ◌∙◌, ap, append_assoc, append-nil, length-append, length-take-le, arith}
 use Rattle.std.proofs.lemmas.Grind.{common_steps}
 use Rattle.std.proofs.lemmas.List.Folds.{list_all-append}
-use Rattle.life_rle.specs.Stream.{Loses, LosesUpTo, IsEnded}
+use Rattle.std.proofs.Math.Nat.{min-le_left}
+use Rattle.life_rle.specs.Stream.{raised, last_count, Loses, LosesUpTo, IsEnded}
 use Rattle.life_rle.specs.declared.stream.Failed.{Failed}
 use Rattle.life_rle.specs.Stream.{Gains, GainsSome}
 use Rattle.life_rle.proofs.StreamLemmas.{gains_more, gains_none, loses_on}
 use Rattle.life_pages.specs.Head.{Head}
 use Rattle.life_pages.specs.Reply.{bad_bytes}
-use Rattle.life_pages.specs.Message.{Message, bad, Starts, are_line_breaks}
+use Rattle.life_pages.specs.Message.{Message, bad, Messages, Starts, MessageRun, are_line_breaks}
 use Rattle.life_pages.specs.MessageState.{NeverHas}
-use Rattle.life_pages.specs.Serving.{Fronts, Served, RepliesCutShort, LastReplyCutShort, ServedSoFar, LosesAtLeast}
-use Rattle.life_pages.specs.ServingState.{Feeds, PassesBlank, IsBlankRest, most_takes, most_taken}
+use Rattle.life_pages.specs.Serving.{AreFirstUpTo, Fronts, Served, LastReplyCutShort, ServedSoFar, LosesAtLeast}
+use Rattle.life_pages.specs.ServingState.{Feeds, PassesBlank, PassesThen, IsBlankRest, most_takes, most_taken}
 use Rattle.life_pages.proofs.ServingRunning.{front_messages, front_starts, run_then, then_cut}
-use Rattle.life_pages.proofs.ServingReading.{Reading, reading_more, reading_broke, bad_end, paused}
+use Rattle.life_pages.proofs.ServingReading.{Reading, reading_more, paused, fronts_more, whole_before}
 
 pub loses_then : (a b c : Option (List ℕ)) (x y : List ℕ) → Loses a b x → Loses b c y → Loses a c (x ++ y)
 loses_then None b c x y p q = tt
@@ -51,6 +52,13 @@ passed_other None mid new n y p l e = tt
 passed_other (Some old) None new n y (bytes, many, blank, lost) l e = absurd lost
 passed_other (Some old) (Some mid) None n y p l e = absurd l
 passed_other (Some old) (Some mid) (Some new) n y (bytes, many, blank, lost) l e = rw (lost, l) (other_later bytes y new e)
+
+pub passed_then : {most : ℕ} (old mid new : Option (List ℕ)) (n k : ℕ) (place : List ℕ) → PassesBlank n old mid → Loses mid new (take k place) → are_line_breaks (take k place) ≡ false → length place ≡ most_taken → most ≡ k
+    → IsBlankRest old false × PassesThen most old new
+passed_then old mid new n k place p l e short last =
+    let all : length (take k place) ≤ length place = grind (arith, common_steps) in
+    let some : length (take k place) ≤ k = grind (arith, common_steps) in
+    (passed_other old mid new n (take k place) p l e, (p.0, mid, take k place, p.2, p.3, l, omega (arith, all, short), omega (arith, some, last)))
 
 -- ---- how much was taken
 
@@ -101,6 +109,20 @@ pub most_blank : (a b c : Option (List ℕ)) (n : ℕ) → n ≤ most_takes → 
 most_blank a b c n few before (piece, short, lost) =
     loses_on a b c (n * most_taken) ((most_takes - n) * most_taken) (most_takes * most_taken) piece before lost short (omega arith)
 
+-- ---- how many takes are made
+
+pub one_take : (start now next n : ℕ) → now ≤ start + n → next ≡ raised now → next ≤ start + (n + 1)
+one_take start now next n before is = let most = min-le_left (now + 1) last_count in omega (arith, before, is, most)
+
+pub take_within : (start now next n all : ℕ) → now ≤ start + n → next ≡ raised now → n < all → next ≤ start + all
+take_within start now next n all before is more = let one = one_take start now next n before is in omega (arith, one, more)
+
+pub takes_rest : (start now next n all : ℕ) → now ≤ start + n → next ≤ now + (all - n) → n ≤ all → next ≤ start + all
+takes_rest start now next n all before rest few = omega (arith, before, rest, few)
+
+pub still_few : (a b n : ℕ) → n ≢ b → n ≤ b → n < b
+still_few a b n other few = omega (arith, other)
+
 -- ---- what became of a stream behind long blank bytes
 
 fronts_starts_rest : (stream left : Option (List ℕ)) (ms ns : List Message) (held : List ℕ) → Fronts stream ms held left
@@ -116,54 +138,49 @@ begins_bad : (left : Option (List ℕ)) (held : List ℕ) → IsBlankRest left f
 begins_bad None held rest never = tt
 begins_bad (Some l) held rest never = (blank_not held l rest, never l, refl)
 
+fronts_messages_rest : (stream left : Option (List ℕ)) (ms ns : List Message) (held : List ℕ) → Fronts stream ms held left
+    → IfSome left (λ l. Messages (held ++ l) ns) → IfSome stream (λ s. Messages s (ms ++ ns))
+fronts_messages_rest None left ms ns held f m = tt
+fronts_messages_rest (Some stream) None ms ns held f m = absurd f
+fronts_messages_rest (Some stream) (Some left) ms ns held f m = front_messages stream ms ns (held ++ left) f m
+
+none_left : (left : Option (List ℕ)) (held : List ℕ) → are_line_breaks held ≡ true → IsBlankRest left true → IfSome left (λ l. Messages (held ++ l) [])
+none_left None held blank rest = tt
+none_left (Some l) held blank rest = blank_both held l blank rest
+
+bad_left : (left : Option (List ℕ)) (held : List ℕ) → IsBlankRest left false → NeverHas held → IfSome left (λ l. Messages (held ++ l) (bad ∷ []))
+bad_left None held rest never = tt
+bad_left (Some l) held rest never = (blank_not held l rest, never l, refl)
+
 module _ {D : Type 0} (answers : D → Head → List ℕ → List ℕ → D → Type 0) where
-  reading_rest : (stream left : Option (List ℕ)) (held : List ℕ) (old mid new : D) (x y z : Option (List ℕ)) → Reading answers stream left held old mid x y
-      → IfSome left (λ l. Served answers (held ++ l) mid new y z) → IfSome stream (λ s. Served answers s old new x z)
-  reading_rest None left held old mid new x y z r e = tt
-  reading_rest (Some stream) None held old mid new x y z r e = absurd r.front
-  reading_rest (Some stream) (Some left) held old mid new x y z r e = record {
-    done = r.done ++ e.done;
-    bytes = r.bytes ++ e.bytes;
-    messages = front_messages stream r.done e.done (held ++ left) r.front e.messages;
-    run = run_then answers old mid new r.done e.done r.bytes e.bytes r.run e.run;
-    put = gains_more x y z r.bytes e.bytes r.put e.put;
+  -- and messages behind those that were answered, which are all that is left
+  reading_rest : (stream left : Option (List ℕ)) (held : List ℕ) (old new : D) (x y z : Option (List ℕ)) (ms : List Message) (bytes : List ℕ) → Reading answers stream left held old new x y
+      → IfSome left (λ l. Messages (held ++ l) ms) → MessageRun answers new ms bytes new → Gains y z bytes → Served answers stream old new x z
+  reading_rest stream left held old new x y z ms bytes r m run put = record {
+    done = r.done ++ ms;
+    bytes = r.bytes ++ bytes;
+    messages = fronts_messages_rest stream left r.done ms held r.front m;
+    run = run_then answers old new new r.done ms r.bytes bytes r.run run;
+    put = gains_more x y z r.bytes bytes r.put put;
   }
 
-  rest_blank : (left : Option (List ℕ)) (held : List ℕ) (desk : D) (y : Option (List ℕ)) → are_line_breaks held ≡ true → IsBlankRest left true
-      → IfSome left (λ l. Served answers (held ++ l) desk desk y y)
-  rest_blank None held desk y blank rest = tt
-  rest_blank (Some l) held desk y blank rest =
-      record { done = []; bytes = []; messages = blank_both held l blank rest; run = (refl, refl); put = gains_none y }
-
-  rest_other : (left : Option (List ℕ)) (held : List ℕ) (desk : D) (y z : Option (List ℕ)) → NeverHas held → IsBlankRest left false → Gains y z bad_bytes
-      → IfSome left (λ l. Served answers (held ++ l) desk desk y z)
-  rest_other None held desk y z never rest p = tt
-  rest_other (Some l) held desk y z never rest p = bad_end answers (held ++ l) desk y z (blank_not held l rest) (never l) p
-
   pub blank_end : (stream left : Option (List ℕ)) (held : List ℕ) (old new : D) (x y : Option (List ℕ)) → Reading answers stream left held old new x y
-      → are_line_breaks held ≡ true → IsBlankRest left true → IfSome stream (λ s. Served answers s old new x y)
-  blank_end stream left held old new x y r blank rest = reading_rest stream left held old new new x y y r (rest_blank left held new y blank rest)
+      → are_line_breaks held ≡ true → IsBlankRest left true → Served answers stream old new x y
+  blank_end stream left held old new x y r blank rest = reading_rest stream left held old new x y y [] [] r (none_left left held blank rest) (refl, refl) (gains_none y)
 
   pub other_end : (stream left : Option (List ℕ)) (held : List ℕ) (old new : D) (x y z : Option (List ℕ)) → Reading answers stream left held old new x y
-      → NeverHas held → IsBlankRest left false → Gains y z bad_bytes → IfSome stream (λ s. Served answers s old new x z)
-  other_end stream left held old new x y z r never rest p = reading_rest stream left held old new new x y z r (rest_other left held new y z never rest p)
+      → NeverHas held → IsBlankRest left false → Gains y z bad_bytes → Served answers stream old new x z
+  other_end stream left held old new x y z r never rest p =
+      reading_rest stream left held old new x y z (bad ∷ []) bad_bytes r (bad_left left held rest never) ([], sym (append-nil bad_bytes), (refl, refl)) p
 
-  -- the reply to a bad message, or a beginning of it
-  pub bad_broke : (stream left : Option (List ℕ)) (held : List ℕ) (old new : D) (x y z : Option (List ℕ)) → Reading answers stream left held old new x y
-      → GainsSome y z bad_bytes → RepliesCutShort answers old new x z
-  bad_broke stream left held old new x y z r p =
-      reading_broke answers stream left held old new new x y z r
-      (record { done = bad ∷ []; bytes = bad_bytes; run = ([], sym (append-nil bad_bytes), (refl, refl)); put = p })
-
-  pub bad_put : (stream left : Option (List ℕ)) (held : List ℕ) (old new : D) (x y z : Option (List ℕ)) → Reading answers stream left held old new x y
-      → Gains y z bad_bytes → RepliesCutShort answers old new x z
-  bad_put stream left held old new x y z r p = bad_broke stream left held old new x y z r (bad_bytes, [], sym (append-nil bad_bytes), p)
-
-  pub other_cut : (stream left : Option (List ℕ)) (held : List ℕ) (old new : D) (x y z : Option (List ℕ)) → Reading answers stream left held old new x y
-      → NeverHas held → IsBlankRest left false → GainsSome y z bad_bytes → LastReplyCutShort answers (λ ms. IfSome stream (λ s. Starts s ms)) old new x z
-  other_cut stream left held old new x y z r never rest p =
-      then_cut answers (λ ms. IfSome left (λ l. Starts (held ++ l) ms)) (λ ms. IfSome stream (λ s. Starts s ms)) r.done r.bytes old new new x y z r.run r.put
-      (λ ms h. fronts_starts_rest stream left r.done ms held r.front h)
+  pub other_cut : {most : ℕ} (stream left next : Option (List ℕ)) (held : List ℕ) (old new : D) (x y z : Option (List ℕ)) → Reading answers stream left held old new x y
+      → NeverHas held → IsBlankRest left false → PassesThen most left next → GainsSome y z bad_bytes → LastReplyCutShort answers (AreFirstUpTo stream next most) old new x z
+  other_cut {most} stream left next held old new x y z r never rest (blank, mid, piece, white, lost, taken, short, few) p =
+      then_cut answers (λ ms. IfSome left (λ l. Starts (held ++ l) ms)) (AreFirstUpTo stream next most) r.done r.bytes old new new x y z r.run r.put
+      (λ ms last h. (
+        fronts_starts_rest stream left r.done (ms ++ last ∷ []) held r.front h,
+        whole_before stream next mid r.done ms last (held ++ blank) piece (fronts_more stream left mid r.done held blank (held ++ blank) r.front lost refl) (never blank) taken (short, few),
+      ))
       (record {
         done = [];
         last = bad;

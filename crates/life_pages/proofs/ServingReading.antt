@@ -1,14 +1,15 @@
 -- A stream as far as it was taken.
-use Rattle.std.proofs.Common.{◌≡◌, ℕ, false, List, [], ◌∷◌, ◌++◌, Option, None, Some, Ok, IfSome, refl, sym, ◌∙◌, ap, append_assoc, append-nil}
+use Rattle.std.proofs.Common.{◌≡◌, ◌≤◌, length, arith, true≢false, ℕ, false, List, [], ◌∷◌, ◌++◌, Option, None, Some, Ok, IfSome, refl, sym, ◌∙◌, ap, append_assoc, append-nil}
 use Rattle.life_pages.specs.Head.{Head}
 use Rattle.life_rle.specs.Stream.{Gains, GainsSome, Loses, IsEnded}
 use Rattle.life_rle.proofs.StreamLemmas.{gains_more, gains_none}
 use Rattle.life_rle.specs.declared.stream.Failed.{Failed}
 use Rattle.life_pages.specs.Reply.{bad_bytes}
 use Rattle.life_pages.specs.Message.{Message, bad, Messages, Front, Starts, MessageRun, HasNone, IsAwaited, are_line_breaks}
-use Rattle.life_pages.specs.Serving.{RepliesCutShort, Served, Fronts, ServedSoFar, LastReplyCutShort}
+use Rattle.life_pages.specs.Serving.{AreFirstUpTo, WholeBefore, RepliesCutShort, Served, Fronts, ServedSoFar, LastReplyCutShort}
 use Rattle.life_pages.specs.ServingState.{Went, Ended, Feeds}
-use Rattle.life_pages.proofs.ServingRunning.{front_then, front_append, front_messages, front_starts, run_then, some_more, then_cut}
+use Rattle.life_pages.proofs.MessageStanding.{not_blank}
+use Rattle.life_pages.proofs.ServingRunning.{front_then, front_append, front_messages, front_starts, messages_first, front_first, run_then, then_cut}
 
 fronts_none : (stream : Option (List ℕ)) → Fronts stream [] [] stream
 fronts_none None = tt
@@ -21,7 +22,7 @@ fronts_then (Some stream) None ms ns held rest f h = absurd f
 fronts_then (Some stream) (Some left) ms ns held rest f h =
     front_then stream ms ns (held ++ left) (rest ++ left) f (front_append held ns rest left h)
 
-fronts_more : (stream left next : Option (List ℕ)) (ms : List Message) (held some all : List ℕ) → Fronts stream ms held left → Loses left next some
+pub fronts_more : (stream left next : Option (List ℕ)) (ms : List Message) (held some all : List ℕ) → Fronts stream ms held left → Loses left next some
     → all ≡ held ++ some → Fronts stream ms all next
 fronts_more None left next ms held some all f l e = tt
 fronts_more (Some stream) None next ms held some all f l e = absurd f
@@ -42,6 +43,15 @@ fronts_end None left ms ns held f e m = tt
 fronts_end (Some stream) None ms ns held f e m = absurd f
 fronts_end (Some stream) (Some left) ms ns held f e m =
     front_messages stream ms ns (held ++ left) f (rw (e, append-nil held) m)
+
+all_first : (stream : Option (List ℕ)) (ms : List Message) → IfSome stream (λ s. Messages s ms) → IfSome stream (λ s. Starts s ms)
+all_first None ms m = tt
+all_first (Some stream) ms m = messages_first stream ms m
+
+fronts_first : (stream left : Option (List ℕ)) (ms : List Message) (held : List ℕ) → Fronts stream ms held left → IfSome stream (λ s. Starts s ms)
+fronts_first None left ms held f = tt
+fronts_first (Some stream) None ms held f = absurd f
+fronts_first (Some stream) (Some left) ms held f = front_first stream ms (held ++ left) f
 
 module _ {D : Type 0} (answers : D → Head → List ℕ → List ℕ → D → Type 0) where
   pub record Reading (stream left : Option (List ℕ)) (held : List ℕ) (old new : D) (before after : Option (List ℕ)) : Type 0 where
@@ -74,40 +84,29 @@ module _ {D : Type 0} (answers : D → Head → List ℕ → List ℕ → D → 
     put = r.put;
   }
 
-  pub served_at : (stream : Option (List ℕ)) (ms : List Message) (bytes : List ℕ) (old new : D) (x y : Option (List ℕ)) → IfSome stream (λ s. Messages s ms)
-      → MessageRun answers old ms bytes new → Gains x y bytes → IfSome stream (λ s. Served answers s old new x y)
-  served_at None ms bytes old new x y m r p = tt
-  served_at (Some s) ms bytes old new x y m r p = record { done = ms; bytes = bytes; messages = m; run = r; put = p }
-
   pub reading_ended : (stream left : Option (List ℕ)) (held : List ℕ) (old mid new : D) (x y z : Option (List ℕ)) → Reading stream left held old mid x y
-      → Ended answers held mid new y z → IfSome stream (λ s. Served answers s old new x z)
-  reading_ended stream left held old mid new x y z r e =
-      served_at stream (r.done ++ e.done) (r.bytes ++ e.bytes) old new x z (fronts_ended stream left r.done e.done held r.front e.messages)
-      (run_then answers old mid new r.done e.done r.bytes e.bytes r.run e.run) (gains_more x y z r.bytes e.bytes r.put e.put)
-
-  pub reading_end : (stream left : Option (List ℕ)) (held : List ℕ) (old mid new : D) (x y z : Option (List ℕ)) → Reading stream left held old mid x y
-      → IsEnded left → Served answers held mid new y z → IfSome stream (λ s. Served answers s old new x z)
-  reading_end stream left held old mid new x y z r ended e =
-      served_at stream (r.done ++ e.done) (r.bytes ++ e.bytes) old new x z (fronts_end stream left r.done e.done held r.front ended e.messages)
-      (run_then answers old mid new r.done e.done r.bytes e.bytes r.run e.run) (gains_more x y z r.bytes e.bytes r.put e.put)
-
-  pub reading_broke : (stream left : Option (List ℕ)) (held : List ℕ) (old mid new : D) (x y z : Option (List ℕ)) → Reading stream left held old mid x y
-      → RepliesCutShort answers mid new y z → RepliesCutShort answers old new x z
-  reading_broke stream left held old mid new x y z r b = record {
-    done = r.done ++ b.done;
-    bytes = r.bytes ++ b.bytes;
-    run = run_then answers old mid new r.done b.done r.bytes b.bytes r.run b.run;
-    put = some_more x y z r.bytes b.bytes r.put b.put;
+      → Ended answers held mid new y z → Served answers stream old new x z
+  reading_ended stream left held old mid new x y z r e = record {
+    done = r.done ++ e.done;
+    bytes = r.bytes ++ e.bytes;
+    messages = fronts_ended stream left r.done e.done held r.front e.messages;
+    run = run_then answers old mid new r.done e.done r.bytes e.bytes r.run e.run;
+    put = gains_more x y z r.bytes e.bytes r.put e.put;
   }
 
-  -- what was answered whole was answered
-  pub broke_of : (old new : D) (ms : List Message) (bytes : List ℕ) (x y : Option (List ℕ)) → MessageRun answers old ms bytes new → Gains x y bytes
-      → RepliesCutShort answers old new x y
-  broke_of old new ms bytes x y r p = record { done = ms; bytes = bytes; run = r; put = (bytes, [], sym (append-nil bytes), p) }
+  pub reading_end : (stream left : Option (List ℕ)) (held : List ℕ) (old mid new : D) (x y z : Option (List ℕ)) → Reading stream left held old mid x y
+      → IsEnded left → Served answers (Some held) mid new y z → Served answers stream old new x z
+  reading_end stream left held old mid new x y z r ended e = record {
+    done = r.done ++ e.done;
+    bytes = r.bytes ++ e.bytes;
+    messages = fronts_end stream left r.done e.done held r.front ended e.messages;
+    run = run_then answers old mid new r.done e.done r.bytes e.bytes r.run e.run;
+    put = gains_more x y z r.bytes e.bytes r.put e.put;
+  }
 
   -- the end of the input in the middle of a message
   pub bad_end : (held : List ℕ) (desk : D) (x y : Option (List ℕ)) → are_line_breaks held ≡ false → HasNone held → Gains x y bad_bytes
-      → Served answers held desk desk x y
+      → Served answers (Some held) desk desk x y
   bad_end held desk x y b n p = record {
     done = bad ∷ [];
     bytes = bad_bytes;
@@ -116,15 +115,24 @@ module _ {D : Type 0} (answers : D → Head → List ℕ → List ℕ → D → 
     put = p;
   }
 
-  pub ended_broke : (held : List ℕ) (old new : D) (x y : Option (List ℕ)) → Ended answers held old new x y → RepliesCutShort answers old new x y
-  ended_broke held old new x y e = broke_of old new e.done e.bytes x y e.run e.put
+  -- all messages are the first of them
+  pub served_broke : (stream : Option (List ℕ)) (old new : D) (x y : Option (List ℕ)) → Served answers stream old new x y → RepliesCutShort answers stream old new x y
+  served_broke stream old new x y e = record {
+    done = e.done;
+    bytes = e.bytes;
+    begun = all_first stream e.done e.messages;
+    run = e.run;
+    put = (e.bytes, [], sym (append-nil e.bytes), e.put);
+  }
 
-  pub served_broke : (stream : List ℕ) (old new : D) (x y : Option (List ℕ)) → Served answers stream old new x y → RepliesCutShort answers old new x y
-  served_broke stream old new x y e = broke_of old new e.done e.bytes x y e.run e.put
-
-  pub reading_stop : (stream left : Option (List ℕ)) (held : List ℕ) (old new : D) (x y : Option (List ℕ)) → Reading stream left held old new x y
-      → RepliesCutShort answers old new x y
-  reading_stop stream left held old new x y r = broke_of old new r.done r.bytes x y r.run r.put
+  pub so_far_broke : (stream left : Option (List ℕ)) (old new : D) (x y : Option (List ℕ)) → ServedSoFar answers stream left old new x y → RepliesCutShort answers stream old new x y
+  so_far_broke stream left old new x y e = record {
+    done = e.done;
+    bytes = e.bytes;
+    begun = fronts_first stream left e.done e.held e.front;
+    run = e.run;
+    put = (e.bytes, [], sym (append-nil e.bytes), e.put);
+  }
 
   -- more bytes came
   pub reading_fed : (stream left next : Option (List ℕ)) (held all : List ℕ) (k : ℕ) (old new : D) (x y : Option (List ℕ)) → Reading stream left held old new x y
@@ -158,18 +166,95 @@ fronts_starts_end None left ms ns held f e m = tt
 fronts_starts_end (Some stream) None ms ns held f e m = absurd f
 fronts_starts_end (Some stream) (Some left) ms ns held f e m = front_starts stream ms ns (held ++ left) f (rw (e, append-nil held) m)
 
-module _ {D : Type 0} (answers : D → Head → List ℕ → List ℕ → D → Type 0) where
-  pub reading_cut : (stream left : Option (List ℕ)) (held : List ℕ) (old mid new : D) (x y z : Option (List ℕ)) → Reading answers stream left held old mid x y
-      → LastReplyCutShort answers (λ ms. (more : List ℕ) → Starts (held ++ more) ms) mid new y z → LastReplyCutShort answers (λ ms. IfSome stream (λ s. Starts s ms)) old new x z
-  reading_cut stream left held old mid new x y z r c =
-      then_cut answers (λ ms. (more : List ℕ) → Starts (held ++ more) ms) (λ ms. IfSome stream (λ s. Starts s ms)) r.done r.bytes old mid new x y z r.run r.put
-      (λ ms h. fronts_starts stream left r.done ms held r.front h) c
+-- ---- what was taken before the last take
 
-  pub reading_cut_end : (stream left : Option (List ℕ)) (held : List ℕ) (old mid new : D) (x y z : Option (List ℕ)) → Reading answers stream left held old mid x y
-      → IsEnded left → LastReplyCutShort answers (λ ms. Starts held ms) mid new y z → LastReplyCutShort answers (λ ms. IfSome stream (λ s. Starts s ms)) old new x z
-  reading_cut_end stream left held old mid new x y z r e c =
-      then_cut answers (λ ms. Starts held ms) (λ ms. IfSome stream (λ s. Starts s ms)) r.done r.bytes old mid new x y z r.run r.put
-      (λ ms h. fronts_starts_end stream left r.done ms held r.front e h) c
+pub whole_before : {most : ℕ} (stream left before : Option (List ℕ)) (done ms : List Message) (last : Message) (held piece : List ℕ) → Fronts stream done held before → HasNone held
+    → Loses before left piece → (length piece ≤ 4096) × (length piece ≤ most) → WholeBefore stream left most (done ++ (ms ++ last ∷ []))
+whole_before stream left before done [] last held piece whole none taken short =
+    record { front = done; next = last; more = []; all = refl; before = before; held = held; whole = whole; none = none; piece = piece; taken = taken; short = short }
+whole_before stream left before done (m ∷ ms) last held piece whole none taken short =
+    record { front = done; next = m; more = ms ++ last ∷ []; all = refl; before = before; held = held; whole = whole; none = none; piece = piece; taken = taken; short = short }
+
+none_in_nothing : HasNone []
+none_in_nothing said body rest s = true≢false (not_blank [] s.head (body ++ rest) s.bytes_are)
+
+pub loses_none : (left : Option (List ℕ)) → Loses left left []
+loses_none None = tt
+loses_none (Some left) = refl
+
+module _ {D : Type 0} (answers : D → Head → List ℕ → List ℕ → D → Type 0) where
+  -- a stream as far as it was taken, with the last take
+  pub record Reached (stream left : Option (List ℕ)) (most : ℕ) (held : List ℕ) (old new : D) (x y : Option (List ℕ)) : Type 0 where
+    pub done : List Message
+    pub bytes : List ℕ
+    pub run : MessageRun answers old done bytes new
+    pub put : Gains x y bytes
+    pub before : Option (List ℕ)
+    pub kept : List ℕ
+    pub whole : Fronts stream done kept before
+    pub none : HasNone kept
+    pub piece : List ℕ
+    pub taken : Loses before left piece
+    pub is : held ≡ kept ++ piece
+    pub short : (length piece ≤ 4096) × (length piece ≤ most)
+
+  pub reached_none : (most : ℕ) (stream : Option (List ℕ)) (old : D) (x : Option (List ℕ)) → Reached stream stream most [] old old x x
+  reached_none most stream old x = record {
+    done = [];
+    bytes = [];
+    run = (refl, refl);
+    put = gains_none x;
+    before = stream;
+    kept = [];
+    whole = fronts_none stream;
+    none = none_in_nothing;
+    piece = [];
+    taken = loses_none stream;
+    is = refl;
+    short = (omega arith, omega arith);
+  }
+
+  pub reached_start : {most : ℕ} (stream : Option (List ℕ)) (held : List ℕ) (old : D) (x : Option (List ℕ)) → held ≡ [] → Reached stream stream most held old old x x
+  reached_start {most} stream held old x is = rw is (reached_none most stream old x)
+
+  pub reading_start : (stream : Option (List ℕ)) (held : List ℕ) (old : D) (x : Option (List ℕ)) → held ≡ [] → Reading answers stream stream held old old x x
+  reading_start stream held old x is = rw is (reading_none answers stream old x)
+
+  pub reached_fed : {most : ℕ} (stream left next : Option (List ℕ)) (held all : List ℕ) (k : ℕ) (old new : D) (x y : Option (List ℕ)) → Reading answers stream left held old new x y → HasNone held
+      → Feeds {E = Failed} left next held all (Ok k) → k ≤ 4096 → most ≡ k → Reached stream next most all old new x y
+  reached_fed stream left next held all k old new x y r none f few last = record {
+    done = r.done;
+    bytes = r.bytes;
+    run = r.run;
+    put = r.put;
+    before = left;
+    kept = held;
+    whole = r.front;
+    none = none;
+    piece = f.0;
+    taken = f.1;
+    is = f.2;
+    short = let l = f.4 in (omega (arith, l, few), omega (arith, l, last));
+  }
+
+  pub reached_cut : {most : ℕ} (stream left : Option (List ℕ)) (held : List ℕ) (old mid new : D) (x y z : Option (List ℕ)) → Reached stream left most held old mid x y
+      → LastReplyCutShort answers (λ ms. (more : List ℕ) → Starts (held ++ more) ms) mid new y z → LastReplyCutShort answers (AreFirstUpTo stream left most) old new x z
+  reached_cut {most} stream left held old mid new x y z r c =
+      then_cut answers (λ ms. (more : List ℕ) → Starts (held ++ more) ms) (AreFirstUpTo stream left most) r.done r.bytes old mid new x y z r.run r.put
+      (λ ms last h. (
+        fronts_starts stream left r.done (ms ++ last ∷ []) held (fronts_more stream r.before left r.done r.kept r.piece held r.whole r.taken r.is) h,
+        whole_before stream left r.before r.done ms last r.kept r.piece r.whole r.none r.taken r.short,
+      )) c
+
+  pub reading_cut_end : {most : ℕ} (stream left next : Option (List ℕ)) (held piece : List ℕ) (old mid new : D) (x y z : Option (List ℕ)) → Reading answers stream left held old mid x y
+      → IsEnded left → HasNone held → Loses left next piece → (length piece ≤ 4096) × (length piece ≤ most) → LastReplyCutShort answers (λ ms. Starts held ms) mid new y z
+      → LastReplyCutShort answers (AreFirstUpTo stream next most) old new x z
+  reading_cut_end {most} stream left next held piece old mid new x y z r e none taken short c =
+      then_cut answers (λ ms. Starts held ms) (AreFirstUpTo stream next most) r.done r.bytes old mid new x y z r.run r.put
+      (λ ms last h. (
+        fronts_starts_end stream left r.done (ms ++ last ∷ []) held r.front e h,
+        whole_before stream next left r.done ms last held piece r.front none taken short,
+      )) c
 
   -- the last message, cut short by the end of the input
   pub bad_cut : (held : List ℕ) (desk : D) (x y : Option (List ℕ)) → are_line_breaks held ≡ false → HasNone held → GainsSome x y bad_bytes

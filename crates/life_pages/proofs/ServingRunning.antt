@@ -8,7 +8,7 @@ use Rattle.life_rle.proofs.StreamLemmas.{gains_more, gains_none}
 use Rattle.life_pages.specs.Reply.{bad_bytes}
 use Rattle.life_pages.specs.Message.{Message, good, bad, Messages, Front, Starts, MessageRun, HasMessageInFront, are_line_breaks}
 use Rattle.life_pages.specs.MessageState.{NeverHas}
-use Rattle.life_pages.specs.Serving.{RepliesCutShort, LastReplyCutShort}
+use Rattle.life_pages.specs.Serving.{AreFirstUpTo, RepliesCutShort, LastReplyCutShort}
 use Rattle.life_pages.specs.ServingState.{Went, Ended}
 
 pub stands_append : (bytes : List ℕ) (said : Head) (body rest more : List ℕ) → HasMessageInFront bytes said body rest → HasMessageInFront (bytes ++ more) said body (rest ++ more)
@@ -124,6 +124,17 @@ front_starts a (bad ∷ ms) ns b f m = absurd f
 front_starts a (good said body ∷ ms) ns b f m =
     (f.0, f.1, (λ t. closes_not said.closes _ f.2 t), (λ _. front_starts f.0 ms ns b f.3 m))
 
+-- what a whole stream has, it begins with
+pub messages_first : (bytes : List ℕ) (ms : List Message) → Messages bytes ms → Starts bytes ms
+messages_first bytes [] m = tt
+messages_first bytes (bad ∷ ms) m = m
+messages_first bytes (good said body ∷ ms) m = (m.0, m.1, m.2, λ goes. messages_first m.0 ms (m.3 goes))
+
+pub front_first : (a : List ℕ) (ms : List Message) (b : List ℕ) → Front a ms b → Starts a ms
+front_first a [] b f = tt
+front_first a (bad ∷ ms) b f = absurd f
+front_first a (good said body ∷ ms) b f = (f.0, f.1, (λ t. closes_not said.closes _ f.2 t), (λ _. front_first f.0 ms b f.3))
+
 pub some_more : (a b c : Option (List ℕ)) (x y : List ℕ) → Gains a b x → GainsSome b c y → GainsSome a c (x ++ y)
 some_more a b c x y p (front, rest, e, q) =
     (x ++ front, rest, ap (λ (l : List ℕ). x ++ l) e ∙ sym (append_assoc x front rest), gains_more a b c x front p q)
@@ -151,7 +162,7 @@ module _ {D : Type 0} (answers : D → Head → List ℕ → List ℕ → D → 
 
   -- a cut behind messages that were answered whole
   pub then_cut : (P Q : List Message → Type 0) (done : List Message) (bytes : List ℕ) (old mid new : D) (x y z : Option (List ℕ))
-      → MessageRun answers old done bytes mid → Gains x y bytes → ((ms : List Message) → P ms → Q (done ++ ms)) → LastReplyCutShort answers P mid new y z → LastReplyCutShort answers Q old new x z
+      → MessageRun answers old done bytes mid → Gains x y bytes → ((ms : List Message) (last : Message) → P (ms ++ last ∷ []) → Q (done ++ (ms ++ last ∷ []))) → LastReplyCutShort answers P mid new y z → LastReplyCutShort answers Q old new x z
   then_cut P Q done bytes old mid new x y z r g begins c = record {
     done = done ++ c.done;
     last = c.last;
@@ -159,7 +170,7 @@ module _ {D : Type 0} (answers : D → Head → List ℕ → List ℕ → D → 
     reply = c.reply;
     mid = c.mid;
     whole = c.whole;
-    begun = rw (append_assoc done c.done (c.last ∷ [])) (begins (c.done ++ c.last ∷ []) c.begun);
+    begun = rw (append_assoc done c.done (c.last ∷ [])) (begins c.done c.last c.begun);
     run = run_then answers old mid c.mid done c.done bytes c.bytes r c.run;
     step = c.step;
     put = gains_more x y c.whole bytes c.bytes g c.put;
@@ -170,13 +181,14 @@ module _ {D : Type 0} (answers : D → Head → List ℕ → List ℕ → D → 
       → LastReplyCutShort answers (λ ms. (more : List ℕ) → Starts (b ++ more) ms) mid new y z → LastReplyCutShort answers (λ ms. (more : List ℕ) → Starts (a ++ more) ms) old new x z
   went_cut a b old mid new x y z f c =
       then_cut (λ ms. (more : List ℕ) → Starts (b ++ more) ms) (λ ms. (more : List ℕ) → Starts (a ++ more) ms) f.done f.bytes old mid new x y z f.run f.put
-      (λ ms h more. front_starts (a ++ more) f.done ms (b ++ more) (front_append a f.done b more f.front) (h more)) c
+      (λ ms last h more. front_starts (a ++ more) f.done (ms ++ last ∷ []) (b ++ more) (front_append a f.done b more f.front) (h more)) c
 
   -- what a cut put is a beginning of the replies
-  pub cut_broke : (P : List Message → Type 0) (old new : D) (x y : Option (List ℕ)) → LastReplyCutShort answers P old new x y → RepliesCutShort answers old new x y
-  cut_broke P old new x y c = record {
+  pub cut_broke : {last : ℕ} (stream left : Option (List ℕ)) (old new : D) (x y : Option (List ℕ)) → LastReplyCutShort answers (AreFirstUpTo stream left last) old new x y → RepliesCutShort answers stream old new x y
+  cut_broke stream left old new x y c = record {
     done = c.done ++ c.last ∷ [];
     bytes = c.bytes ++ c.reply;
+    begun = c.begun.0;
     run = run_then answers old c.mid new c.done (c.last ∷ []) c.bytes c.reply c.run c.step;
     put = some_more x c.whole y c.bytes c.reply c.put c.some;
   }

@@ -1,13 +1,15 @@
 -- What the private calls that find a message's request answer.
-use Rattle.std.specs.Prelude.{◌≡◌, ℕ, List, Option, None, Some, Result, Ok, Err, IfOk}
+use Rattle.std.specs.Prelude.{◌≡◌, ℕ, List, Option, None, Some, Result, Ok, Err}
+use Rattle.life_desk.specs.declared.refusal.Refusal.{Refusal}
 use Rattle.life_desk.specs.declared.request.Request.{Request}
+use Rattle.life_desk.specs.Judging.{judged, MayRefuse}
 use Rattle.life_pages.specs.declared.route.Page.{Page}
 use Rattle.life_pages.specs.declared.route.Page.TheVariants as pages
 use Rattle.life_pages.specs.declared.asked.Place.{Place}
 use Rattle.life_pages.specs.declared.asked.Place.TheVariants as places
 use Rattle.life_pages.specs.declared.asked.PageRefusal.{PageRefusal}
 use Rattle.life_pages.specs.declared.asked.Unasked.{Unasked}
-use Rattle.life_pages.specs.declared.asked.Unasked.TheVariants.{Refused, Memory}
+use Rattle.life_pages.specs.declared.asked.Unasked.TheVariants as unasked
 use Rattle.life_pages.specs.Asked.{number_at, ◌>>=◌}
 
 -- the page of a deposit or a census with this number and the numbers behind it
@@ -27,12 +29,13 @@ place_with pages.Census id path = Some (places.Census id)
 place_with pages.CensusCsv id path = Some (places.CensusCsv id)
 place_with _ id path = None
 
--- the request, unless memory ran out
-abbrev pub GivesRequest : {E : Type 0} → Result Request E → Request → Type 0
-GivesRequest answer request = IfOk answer (λ q. q ≡ request)
+-- the request, unless it is refused before it is copied
+abbrev pub GivesRequest : Result Request Refusal → Request → Type 0
+GivesRequest (Ok q) request = q ≡ request
+GivesRequest (Err refusal) request = MayRefuse (judged request) refusal
 
--- a function answers what is asked, unless memory ran out over a request
+-- what is asked, unless it is a request that is refused before it is copied
 abbrev pub IsAsked : Result Request Unasked → Result Request PageRefusal → Type 0
 IsAsked (Ok request) read = read ≡ Ok request
-IsAsked (Err (Refused refusal)) read = read ≡ Err refusal
-IsAsked (Err Memory) read = (request : Request) × (read ≡ Ok request)
+IsAsked (Err (unasked.Message refusal)) read = read ≡ Err refusal
+IsAsked (Err (unasked.Request refusal)) read = (request : Request) × (read ≡ Ok request) × MayRefuse (judged request) refusal

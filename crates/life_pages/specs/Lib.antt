@@ -8,7 +8,9 @@ pub mod Message
 pub mod Laws
 pub mod Serving
 pub mod Archive
+pub mod Requests
 pub mod HeadState
+pub mod RouteState
 pub mod AskedState
 pub mod JsonState
 pub mod ReplyState

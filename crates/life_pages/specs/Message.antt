@@ -7,7 +7,7 @@ use Rattle.life_desk.specs.declared.request.Reply.{Reply}
 use Rattle.life_pages.specs.declared.asked.PageRefusal.{PageRefusal}
 use Rattle.life_pages.specs.Head.{Head, head_of}
 use Rattle.life_pages.specs.Asked.{asked}
-use Rattle.life_pages.specs.Reply.{bytes_of, page_bytes, bad_bytes, unavailable_bytes}
+use Rattle.life_pages.specs.Reply.{bytes_of, page_bytes, bad_bytes}
 
 -- a message of a stream: a good one with its body, or a bad one
 pub data Message : Type 0 where
@@ -87,10 +87,9 @@ module _ {D : Type 0} (answers : D → Head → List ℕ → List ℕ → D → 
 
 -- how a good message is answered, where requests are answered by these replies
 module _ {D : Type 0} (answers : D → Request → Reply → D → Type 0) where
-  -- a request by the bytes of a reply to it, or by that it is unavailable, and nothing changes; a page refusal by its bytes
+  -- a request by the bytes of a reply to it; a page refusal by its bytes, and nothing changes
   abbrev pub AnswersAsked : D → Result Request PageRefusal → List ℕ → D → Type 0
-  AnswersAsked old (Ok request) bytes new =
-      ((reply : Reply) × answers old request reply new × (bytes ≡ bytes_of reply)) ⊎ ((bytes ≡ unavailable_bytes) × (new ≡ old))
+  AnswersAsked old (Ok request) bytes new = (reply : Reply) × answers old request reply new × (bytes ≡ bytes_of reply)
   AnswersAsked old (Err refusal) bytes new = (bytes ≡ page_bytes refusal) × (new ≡ old)
 
   abbrev pub AnswersMessage : D → Head → List ℕ → List ℕ → D → Type 0

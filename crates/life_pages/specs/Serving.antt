@@ -1,10 +1,18 @@
 -- What serving a stream does.
-use Rattle.std.specs.Prelude.{◌≡◌, ℕ, ◌≤◌, List, [], ◌∷◌, ◌++◌, length, Option, None, Some, Result, Ok, Err}
+use Rattle.std.specs.Prelude.{◌≡◌, Bool, ℕ, ◌≤◌, List, [], ◌∷◌, ◌++◌, length, Option, None, Some, Result, Ok, Err, IfSome}
 use Rattle.life_pages.specs.Head.{Head}
-use Rattle.life_rle.specs.Stream.{raised, FailedBetween, Loses, Gains, GainsSome}
-use Rattle.life_pages.specs.Message.{Message, Messages, Front, MessageRun, HasNone, IsAwaited}
+use Rattle.life_rle.specs.Stream.{raised, FailsLast, Loses, Gains, GainsSome}
+use Rattle.life_pages.specs.Message.{Message, Messages, Front, Starts, MessageRun, HasNone, IsAwaited}
 use Rattle.life_pages.specs.declared.serving.IoFault.{IoFault}
 use Rattle.life_pages.specs.declared.serving.IoFault.TheVariants.{Read, Write, TooManyReads, Memory}
+
+-- all the messages that were sent, where the stream tells its bytes
+abbrev pub AreAllOf : Option (List ℕ) → List Message → Type 0
+AreAllOf stream ms = IfSome stream (λ bytes. Messages bytes ms)
+
+-- the first of them, of which the last may close or be bad
+abbrev pub AreFirstOf : Option (List ℕ) → List Message → Type 0
+AreFirstOf stream ms = IfSome stream (λ bytes. Starts bytes ms)
 
 module _ {D : Type 0} (answers : D → Head → List ℕ → List ℕ → D → Type 0) where
   -- messages were answered: the replies to all but the last were put whole, and of the last a beginning
@@ -21,18 +29,19 @@ module _ {D : Type 0} (answers : D → Head → List ℕ → List ℕ → D → 
     pub put : Gains before whole bytes
     pub some : GainsSome whole after reply
 
-  -- messages were answered, and a beginning of their replies was put
-  pub record RepliesCutShort (old new : D) (before after : Option (List ℕ)) : Type 0 where
+  -- the first messages of a stream were answered, and a beginning of their replies was put
+  pub record RepliesCutShort (stream : Option (List ℕ)) (old new : D) (before after : Option (List ℕ)) : Type 0 where
     pub done : List Message
     pub bytes : List ℕ
+    pub begun : AreFirstOf stream done
     pub run : MessageRun answers old done bytes new
     pub put : GainsSome before after bytes
 
-  -- what a told stream's messages are, and what was put for them
-  pub record Served (stream : List ℕ) (old new : D) (before after : Option (List ℕ)) : Type 0 where
+  -- all the messages of a stream were answered, and their replies were put
+  pub record Served (stream : Option (List ℕ)) (old new : D) (before after : Option (List ℕ)) : Type 0 where
     pub done : List Message
     pub bytes : List ℕ
-    pub messages : Messages stream done
+    pub messages : AreAllOf stream done
     pub run : MessageRun answers old done bytes new
     pub put : Gains before after bytes
 
@@ -41,6 +50,25 @@ abbrev pub Fronts : Option (List ℕ) → List Message → List ℕ → Option (
 Fronts None done held left = Unit {0}
 Fronts (Some stream) done held None = ⊥
 Fronts (Some stream) done held (Some left) = Front stream done (held ++ left)
+
+-- But for the last take, of so many bytes and at most 4,096, what was taken held no message whole that is not one of the first of these; and that
+-- is not all of them.
+pub record WholeBefore (stream left : Option (List ℕ)) (last : ℕ) (ms : List Message) : Type 0 where
+  pub front : List Message
+  pub next : Message
+  pub more : List Message
+  pub all : ms ≡ front ++ next ∷ more
+  pub before : Option (List ℕ)
+  pub held : List ℕ
+  pub whole : Fronts stream front held before
+  pub none : HasNone held
+  pub piece : List ℕ
+  pub taken : Loses before left piece
+  pub short : (length piece ≤ 4096) × (length piece ≤ last)
+
+-- the first messages of a stream, all but the last of which were answered before the last take, as far as they had come whole
+abbrev pub AreFirstUpTo : Option (List ℕ) → Option (List ℕ) → ℕ → List Message → Type 0
+AreFirstUpTo stream left last ms = AreFirstOf stream ms × WholeBefore stream left last ms
 
 module _ {D : Type 0} (answers : D → Head → List ℕ → List ℕ → D → Type 0) where
   -- all the messages that were taken whole were answered, good or bad, and their replies were put
@@ -54,6 +82,10 @@ module _ {D : Type 0} (answers : D → Head → List ℕ → List ℕ → D → 
     pub run : MessageRun answers old done bytes new
     pub put : Gains before after bytes
 
+-- told bytes grew at their end: what was there before is a beginning of what is there now
+abbrev pub Grows : Option (List ℕ) → Option (List ℕ) → Type 0
+Grows old new = (more : List ℕ) × Gains old new more
+
 -- told bytes lost at least so many
 abbrev pub LosesAtLeast : ℕ → Option (List ℕ) → Option (List ℕ) → Type 0
 LosesAtLeast least old new = (bytes : List ℕ) × (least ≤ length bytes) × Loses old new bytes
@@ -66,10 +98,10 @@ ReportsTakeFailures old new (Err Write) = new ≡ old
 ReportsTakeFailures old new (Err TooManyReads) = new ≡ old
 ReportsTakeFailures old new (Err Memory) = new ≡ old
 
--- a put that failed is told, and nothing else is
-abbrev pub ReportsPutFailures : ℕ → ℕ → Result (Unit {0}) IoFault → Type 0
-ReportsPutFailures old new (Ok u) = new ≡ old
-ReportsPutFailures old new (Err Read) = new ≡ old
-ReportsPutFailures old new (Err Write) = FailedBetween old new
-ReportsPutFailures old new (Err TooManyReads) = new ≡ old
-ReportsPutFailures old new (Err Memory) = new ≡ old
+-- a put that failed was the last and is answered Write, and no other put failed
+abbrev pub ReportsPutFailures : ℕ → ℕ → Bool → Result (Unit {0}) IoFault → Type 0
+ReportsPutFailures old new last (Ok u) = new ≡ old
+ReportsPutFailures old new last (Err Read) = new ≡ old
+ReportsPutFailures old new last (Err Write) = FailsLast old new last
+ReportsPutFailures old new last (Err TooManyReads) = new ≡ old
+ReportsPutFailures old new last (Err Memory) = new ≡ old

@@ -1,5 +1,5 @@
 -- What the private calls that serve a stream do, one after the other.
-use Rattle.std.specs.Prelude.{◌≡◌, ◌⊎◌, ℕ, ◌<◌, ◌≤◌, Bool, true, false, List, [], ◌++◌, length, Option, None, Some, Result, Ok, Err, IfSome}
+use Rattle.std.specs.Prelude.{◌≡◌, ◌⊎◌, ℕ, ◌<◌, ◌≤◌, Bool, true, false, List, [], ◌++◌, length, Option, None, Some, Result, Ok, Err}
 use Rattle.life_rle.specs.Stream.{raised, Loses, Gains, GainsSome, IsEnded}
 use Rattle.life_pages.specs.declared.serving.IoFault.{IoFault}
 use Rattle.life_pages.specs.declared.serving.IoFault.TheVariants as faults
@@ -11,7 +11,7 @@ use Rattle.life_pages.specs.Head.{Head}
 use Rattle.life_pages.specs.Message.{Message, Messages, Front, Starts, MessageRun, are_line_breaks}
 use Rattle.life_pages.specs.MessageState.{IsWanting}
 use Rattle.life_pages.specs.Reply.{bad_bytes}
-use Rattle.life_pages.specs.Serving.{LastReplyCutShort, Served, RepliesCutShort, ServedSoFar, LosesAtLeast}
+use Rattle.life_pages.specs.Serving.{AreFirstUpTo, LastReplyCutShort, Served, ServedSoFar, LosesAtLeast}
 
 -- the most takes of one call
 abbrev pub most_takes : ℕ
@@ -61,25 +61,29 @@ module _ {D : Type 0} (answers : D → Head → List ℕ → List ℕ → D → 
 
   -- at the end of the input
   abbrev pub AtEnd : Result (Unit {0}) IoFault → List ℕ → D → Option (List ℕ) → Option (List ℕ) → Type 0
-  AtEnd (Ok u) held desk before after = Served answers held desk desk before after
+  AtEnd (Ok u) held desk before after = Served answers (Some held) desk desk before after
   AtEnd (Err faults.Write) held desk before after = LastReplyCutShort answers (λ ms. Starts held ms) desk desk before after
   AtEnd (Err faults.Read) held desk before after = ⊥
   AtEnd (Err faults.TooManyReads) held desk before after = ⊥
   AtEnd (Err faults.Memory) held desk before after = ⊥
 
   -- what became of a stream
-  abbrev pub IsOutcome : Result (Unit {0}) IoFault → Option (List ℕ) → Option (List ℕ) → D → D → Option (List ℕ) → Option (List ℕ) → Type 0
-  IsOutcome (Ok u) stream left old new before after =
-      IfSome stream (λ bytes. Served answers bytes old new before after) × RepliesCutShort answers old new before after
-  IsOutcome (Err faults.Read) stream left old new before after = ServedSoFar answers stream left old new before after
-  IsOutcome (Err faults.TooManyReads) stream left old new before after =
+  abbrev pub IsOutcome : Result (Unit {0}) IoFault → Option (List ℕ) → Option (List ℕ) → ℕ → D → D → Option (List ℕ) → Option (List ℕ) → Type 0
+  IsOutcome (Ok u) stream left last old new before after = Served answers stream old new before after
+  IsOutcome (Err faults.Read) stream left last old new before after = ServedSoFar answers stream left old new before after
+  IsOutcome (Err faults.TooManyReads) stream left last old new before after =
       ServedSoFar answers stream left old new before after × LosesAtLeast most_takes stream left
-  IsOutcome (Err faults.Write) stream left old new before after = LastReplyCutShort answers (λ ms. IfSome stream (λ bytes. Starts bytes ms)) old new before after
-  IsOutcome (Err faults.Memory) stream left old new before after = ⊥
+  IsOutcome (Err faults.Write) stream left last old new before after = LastReplyCutShort answers (AreFirstUpTo stream left last) old new before after
+  IsOutcome (Err faults.Memory) stream left last old new before after = ⊥
 
 -- at least so many bytes were taken, all of them CR and LF
 abbrev pub PassesBlank : ℕ → Option (List ℕ) → Option (List ℕ) → Type 0
 PassesBlank least old new = (bytes : List ℕ) × (least ≤ length bytes) × (are_line_breaks bytes ≡ true) × Loses old new bytes
+
+-- bytes were taken, all of them CR and LF, and then those of one take of so many
+abbrev pub PassesThen : ℕ → Option (List ℕ) → Option (List ℕ) → Type 0
+PassesThen last old new =
+    (blank : List ℕ) × (mid : Option (List ℕ)) × (piece : List ℕ) × (are_line_breaks blank ≡ true) × Loses old mid blank × Loses mid new piece × (length piece ≤ 4096) × (length piece ≤ last)
 
 -- whether what is left of told bytes is CR and LF alone
 abbrev pub IsBlankRest : Option (List ℕ) → Bool → Type 0
@@ -87,11 +91,11 @@ IsBlankRest None blank = Unit {0}
 IsBlankRest (Some left) blank = are_line_breaks left ≡ blank
 
 -- what became of bytes that were taken as long as they were CR and LF, in at most so many takes
-abbrev pub IsPassed : Passed → ℕ → Option (List ℕ) → Option (List ℕ) → Type 0
-IsPassed passed.Ended takes old new = IsBlankRest old true
-IsPassed passed.Other takes old new = IsBlankRest old false
-IsPassed passed.Failed takes old new = PassesBlank 0 old new
-IsPassed passed.TooMany takes old new = PassesBlank takes old new
+abbrev pub IsPassed : Passed → ℕ → ℕ → Option (List ℕ) → Option (List ℕ) → Type 0
+IsPassed passed.Ended takes last old new = IsBlankRest old true
+IsPassed passed.Other takes last old new = IsBlankRest old false × PassesThen last old new
+IsPassed passed.Failed takes last old new = PassesBlank 0 old new
+IsPassed passed.TooMany takes last old new = PassesBlank takes old new
 
 -- a take that failed ends the passing, and nothing else is a failure
 abbrev pub HearsPassed : ℕ → ℕ → Passed → Type 0
@@ -101,10 +105,10 @@ HearsPassed old new passed.Failed = new ≡ raised old
 HearsPassed old new passed.TooMany = new ≡ old
 
 -- what became of a stream behind as many of them as a head may have, in at most so many takes
-abbrev pub IsBlankEnd : Result (Unit {0}) IoFault → ℕ → Option (List ℕ) → Option (List ℕ) → Option (List ℕ) → Option (List ℕ) → Type 0
-IsBlankEnd (Ok u) takes old new before after =
+abbrev pub IsBlankEnd : Result (Unit {0}) IoFault → ℕ → ℕ → Option (List ℕ) → Option (List ℕ) → Option (List ℕ) → Option (List ℕ) → Type 0
+IsBlankEnd (Ok u) takes last old new before after =
     (IsBlankRest old true × (after ≡ before)) ⊎ (IsBlankRest old false × Gains before after bad_bytes)
-IsBlankEnd (Err faults.Write) takes old new before after = IsBlankRest old false × GainsSome before after bad_bytes
-IsBlankEnd (Err faults.Read) takes old new before after = PassesBlank 0 old new × (after ≡ before)
-IsBlankEnd (Err faults.TooManyReads) takes old new before after = PassesBlank takes old new × (after ≡ before)
-IsBlankEnd (Err faults.Memory) takes old new before after = ⊥
+IsBlankEnd (Err faults.Write) takes last old new before after = IsBlankRest old false × PassesThen last old new × GainsSome before after bad_bytes
+IsBlankEnd (Err faults.Read) takes last old new before after = PassesBlank 0 old new × (after ≡ before)
+IsBlankEnd (Err faults.TooManyReads) takes last old new before after = PassesBlank takes old new × (after ≡ before)
+IsBlankEnd (Err faults.Memory) takes last old new before after = ⊥

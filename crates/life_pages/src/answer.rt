@@ -1,14 +1,17 @@
 //! The reply to a good message.
-ghost use Rattle.std.specs.Prelude.{◌≡◌, ◌≤◌, vec_capacity, Ok, IfOk};
+ghost use Rattle.std.specs.Prelude.{◌≡◌, ◌≤◌, vec_capacity, Result, Ok, Err, IfOk};
+ghost use Rattle.life_desk.specs.declared.request.Request.{Request};
+ghost use Rattle.life_pages.specs.declared.asked.PageRefusal.{PageRefusal};
+ghost use Rattle.life_pages.specs.AskedState.{IsAsked};
 ghost use Rattle.life_pages.specs.HeadState.{said};
-ghost use Rattle.life_pages.specs.Route.{page_rows};
+ghost use Rattle.life_pages.specs.RouteState.{page_rows};
 ghost use Rattle.life_pages.specs.Message.{AnswersAsked, AnswersMessage};
 ghost use Rattle.life_pages.specs.AnswerState.{HasRoom};
 
 use crate::asked::{Unasked, asked};
 use crate::desk::Desk;
 use crate::head::GoodHead;
-use crate::reply::{BODY_ROOM, REPLY_ROOM, write_page, write_reply, write_unavailable};
+use crate::reply::{BODY_ROOM, REPLY_ROOM, write_page, write_refusal, write_reply};
 use crate::route::Page;
 use life_desk::Request;
 use matchit::Router;
@@ -42,6 +45,19 @@ fn answer_request<D: Desk>(alloc: Global, desk: &mut D, request: Request, draft:
     write_reply(alloc, &mut draft.reply, &mut draft.body, &reply);
 }
 
+/// Writes why the archive is not asked.
+fn refuse<D: Desk>(desk: &D, unasked: Unasked, draft: &mut ReplyBuffers)
+    requires room { HasRoom draft.old }
+    ensures answered { (read : Result Request PageRefusal) → IsAsked (Err unasked) read → AnswersAsked D.answers desk.now read draft.new.reply.items desk.now }
+    ensures room { HasRoom draft.new }
+{
+    desk.law_of_refusals();
+    match unasked {
+        Unasked::Message(refusal) => write_page(&mut draft.reply, refusal),
+        Unasked::Request(refusal) => write_refusal(&mut draft.reply, &mut draft.body, &refusal),
+    }
+}
+
 /// Writes the reply to a good message.
 pub(crate) fn answer_message<D: Desk>(
     alloc: Global,
@@ -58,7 +74,6 @@ pub(crate) fn answer_message<D: Desk>(
 {
     match asked(alloc, routes, head, body) {
         Ok(request) => answer_request(alloc, desk, request, draft),
-        Err(Unasked::Refused(refusal)) => write_page(&mut draft.reply, refusal),
-        Err(Unasked::Memory) => write_unavailable(&mut draft.reply),
+        Err(unasked) => refuse(desk, unasked, draft),
     }
 }

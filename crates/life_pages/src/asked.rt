@@ -1,17 +1,18 @@
 //! What a good message asks for.
-ghost use Rattle.std.specs.Prelude.{◌≡◌};
+ghost use Rattle.std.specs.Prelude.{◌≡◌, IfOk};
 ghost use Rattle.std.specs.Option.{option_and_then};
 ghost use Rattle.life_pages.specs.Head.{parsed_number};
 ghost use Rattle.life_pages.specs.HeadState.{said};
 ghost use Rattle.life_pages.specs.Path.{path_of, part};
-ghost use Rattle.life_pages.specs.Route.{page_rows, page_of};
+ghost use Rattle.life_pages.specs.Route.{page_of};
+ghost use Rattle.life_pages.specs.RouteState.{page_rows};
 ghost use Rattle.life_pages.specs.Asked.{place_in, place_of, method_of, asked, request_of};
 ghost use Rattle.life_pages.specs.AskedState.{place_with, IsAsked, GivesRequest};
 
 use crate::head::{GoodHead, number};
 use crate::path::{part, path_of};
 use crate::route::{Page, find_page};
-use life_desk::{Bytes, Request};
+use life_desk::{Bytes, Refusal, Request, check_census, check_deposit, check_total};
 use life_rle::Text;
 use matchit::Router;
 use std::alloc::{AllocError, Global};
@@ -53,18 +54,14 @@ impl PageRefusal {
 #[derive(Clone, Copy)]
 pub(crate) enum Place {
     Deposits,
-    Deposit(u64),
-    After(u64),
-    /// A deposit and a generation.
-    At(u64, u64),
-    /// A deposit and a limit.
-    Kind(u64, u64),
-    /// A deposit, a generation and a limit.
-    Censuses(u64, u64, u64),
-    Census(u64),
-    CensusCsv(u64),
-    /// A limit.
-    Total(u64),
+    Deposit { id: u64 },
+    After { id: u64 },
+    At { id: u64, n: u64 },
+    Kind { id: u64, limit: u64 },
+    Censuses { id: u64, n: u64, limit: u64 },
+    Census { id: u64 },
+    CensusCsv { id: u64 },
+    Total { limit: u64 },
 }
 
 /// The number that stands behind so many slashes.
@@ -79,12 +76,22 @@ fn place_with(page: Page, id: u64, path: &str) -> Option<Place>
     ensures { result ≡ place_with page id path.now }
 {
     match page {
-        Page::Deposit => Some(Place::Deposit(id)),
-        Page::At => Some(Place::At(id, number_at(path, 4)?)),
-        Page::Kind => Some(Place::Kind(id, number_at(path, 4)?)),
-        Page::Censuses => Some(Place::Censuses(id, number_at(path, 4)?, number_at(path, 5)?)),
-        Page::Census => Some(Place::Census(id)),
-        Page::CensusCsv => Some(Place::CensusCsv(id)),
+        Page::Deposit => Some(Place::Deposit { id }),
+        Page::At => Some(Place::At {
+            id,
+            n: number_at(path, 4)?,
+        }),
+        Page::Kind => Some(Place::Kind {
+            id,
+            limit: number_at(path, 4)?,
+        }),
+        Page::Censuses => Some(Place::Censuses {
+            id,
+            n: number_at(path, 4)?,
+            limit: number_at(path, 5)?,
+        }),
+        Page::Census => Some(Place::Census { id }),
+        Page::CensusCsv => Some(Place::CensusCsv { id }),
         _ => None,
     }
 }
@@ -95,8 +102,12 @@ fn place_in(page: Page, path: &str) -> Option<Place>
 {
     match page {
         Page::Deposits => Some(Place::Deposits),
-        Page::After => Some(Place::After(number_at(path, 3)?)),
-        Page::Total => Some(Place::Total(number_at(path, 4)?)),
+        Page::After => Some(Place::After {
+            id: number_at(path, 3)?,
+        }),
+        Page::Total => Some(Place::Total {
+            limit: number_at(path, 4)?,
+        }),
         _ => place_with(page, number_at(path, 2)?, path),
     }
 }
@@ -117,14 +128,14 @@ fn method_of(place: Place) -> &'static str
     ensures { result.now ≡ method_of place }
 {
     match place {
-        Place::Deposits | Place::Censuses(_, _, _) => "POST",
+        Place::Deposits | Place::Censuses { .. } => "POST",
         _ => "GET",
     }
 }
 
-/// The request for a deposit.
-fn deposit_request(alloc: Global, head: &GoodHead<'_>, body: &[u8]) -> Result<Request, AllocError>
-    ensures { GivesRequest result (Request.Deposit head.now.member.now head.now.token.now body.now) }
+/// The request for a deposit, copied.
+fn copy_deposit(alloc: Global, head: &GoodHead<'_>, body: &[u8]) -> Result<Request, AllocError>
+    ensures { IfOk result (λ q. q ≡ Request.Deposit head.now.member.now head.now.token.now body.now) }
 {
     Ok(Request::Deposit(
         Text::from_slice(alloc, head.member)?,
@@ -133,15 +144,26 @@ fn deposit_request(alloc: Global, head: &GoodHead<'_>, body: &[u8]) -> Result<Re
     ))
 }
 
-/// The request for a census.
-fn census_request(
+/// The request for a deposit. Its words are judged before anything is copied.
+fn deposit_request(alloc: Global, head: &GoodHead<'_>, body: &[u8]) -> Result<Request, Refusal>
+    ensures { GivesRequest result (Request.Deposit head.now.member.now head.now.token.now body.now) }
+{
+    check_deposit(head.member, head.token)?;
+    match copy_deposit(alloc, head, body) {
+        Ok(request) => Ok(request),
+        Err(_) => Err(Refusal::Unavailable),
+    }
+}
+
+/// The request for a census, copied.
+fn copy_census(
     alloc: Global,
     head: &GoodHead<'_>,
     id: u64,
     n: u64,
     limit: u64,
 ) -> Result<Request, AllocError>
-    ensures { GivesRequest result (Request.Census head.now.member.now head.now.token.now id n limit) }
+    ensures { IfOk result (λ q. q ≡ Request.Census head.now.member.now head.now.token.now id n limit) }
 {
     Ok(Request::Census(
         Text::from_slice(alloc, head.member)?,
@@ -152,9 +174,26 @@ fn census_request(
     ))
 }
 
-/// The request for a total, whose rule and code stand in the path.
-fn total_request(alloc: Global, path: &str, limit: u64) -> Result<Request, AllocError>
-    ensures { GivesRequest result (Request.Total (part 2 path.now) (part 3 path.now) limit) }
+/// The request for a census. Its words are judged before anything is copied.
+fn census_request(
+    alloc: Global,
+    head: &GoodHead<'_>,
+    id: u64,
+    n: u64,
+    limit: u64,
+) -> Result<Request, Refusal>
+    ensures { GivesRequest result (Request.Census head.now.member.now head.now.token.now id n limit) }
+{
+    check_census(head.member, head.token, n, limit)?;
+    match copy_census(alloc, head, id, n, limit) {
+        Ok(request) => Ok(request),
+        Err(_) => Err(Refusal::Unavailable),
+    }
+}
+
+/// The request for a total, whose rule and code stand in the path, copied.
+fn copy_total(alloc: Global, path: &str, limit: u64) -> Result<Request, AllocError>
+    ensures { IfOk result (λ q. q ≡ Request.Total (part 2 path.now) (part 3 path.now) limit) }
 {
     Ok(Request::Total(
         Bytes::from_slice(alloc, part(path, 2).as_bytes())?,
@@ -163,35 +202,48 @@ fn total_request(alloc: Global, path: &str, limit: u64) -> Result<Request, Alloc
     ))
 }
 
-/// The request of a page.
+/// The request for a total. Its words are judged before anything is copied.
+fn total_request(alloc: Global, path: &str, limit: u64) -> Result<Request, Refusal>
+    ensures { GivesRequest result (Request.Total (part 2 path.now) (part 3 path.now) limit) }
+{
+    check_total(part(path, 2).as_bytes(), limit)?;
+    match copy_total(alloc, path, limit) {
+        Ok(request) => Ok(request),
+        Err(_) => Err(Refusal::Unavailable),
+    }
+}
+
+/// The request of a page. One that is refused for its own words is so before anything is copied.
 fn request_of(
     alloc: Global,
     place: Place,
     path: &str,
     head: &GoodHead<'_>,
     body: &[u8],
-) -> Result<Request, AllocError>
+) -> Result<Request, Refusal>
     requires { path.now ≡ path_of head.now.target.now }
     ensures { GivesRequest result (request_of place (said head.now) body.now) }
 {
     match place {
         Place::Deposits => deposit_request(alloc, head, body),
-        Place::Deposit(id) => Ok(Request::Show(id)),
-        Place::After(id) => Ok(Request::ListAfter(id)),
-        Place::At(id, n) => Ok(Request::At(id, n)),
-        Place::Kind(id, limit) => Ok(Request::KindOf(id, limit)),
-        Place::Censuses(id, n, limit) => census_request(alloc, head, id, n, limit),
-        Place::Census(id) => Ok(Request::ShowCensus(id)),
-        Place::CensusCsv(id) => Ok(Request::CensusCsv(id)),
-        Place::Total(limit) => total_request(alloc, path, limit),
+        Place::Deposit { id } => Ok(Request::Show(id)),
+        Place::After { id } => Ok(Request::ListAfter(id)),
+        Place::At { id, n } => Ok(Request::At(id, n)),
+        Place::Kind { id, limit } => Ok(Request::KindOf(id, limit)),
+        Place::Censuses { id, n, limit } => census_request(alloc, head, id, n, limit),
+        Place::Census { id } => Ok(Request::ShowCensus(id)),
+        Place::CensusCsv { id } => Ok(Request::CensusCsv(id)),
+        Place::Total { limit } => total_request(alloc, path, limit),
     }
 }
 
-/// Why there is no request.
+/// Why the archive is not asked.
 #[derive(Clone, Copy)]
 pub(crate) enum Unasked {
-    Refused(PageRefusal),
-    Memory,
+    /// The message makes no request.
+    Message(PageRefusal),
+    /// The request is refused: for its own words, or for want of memory to copy them.
+    Request(Refusal),
 }
 
 /// The request of a good message: its page is judged first, and then its method.
@@ -207,13 +259,13 @@ pub(crate) fn asked(
     let path = path_of(head.target);
     let place = match place_of(routes, path) {
         Some(place) => place,
-        None => return Err(Unasked::Refused(PageRefusal::NoSuchPage)),
+        None => return Err(Unasked::Message(PageRefusal::NoSuchPage)),
     };
     if head.method != method_of(place) {
-        return Err(Unasked::Refused(PageRefusal::BadMethod));
+        return Err(Unasked::Message(PageRefusal::BadMethod));
     }
     match request_of(alloc, place, path, head, body) {
         Ok(request) => Ok(request),
-        Err(_) => Err(Unasked::Memory),
+        Err(refusal) => Err(Unasked::Request(refusal)),
     }
 }

@@ -157,7 +157,7 @@ fn write_number(out: &mut Vec<u8>, body: &mut Vec<u8>, status: StatusCode, name:
 }
 
 /// Writes a refusal of the archive, which is short.
-fn write_refusal(out: &mut Vec<u8>, body: &mut Vec<u8>, refusal: &Refusal)
+pub(crate) fn write_refusal(out: &mut Vec<u8>, body: &mut Vec<u8>, refusal: &Refusal)
     requires room { REPLY_ROOM ≤ vec_capacity out.old }
     requires body_room { BODY_ROOM ≤ vec_capacity body.old }
     ensures bytes { out.new.items ≡ reply_bytes (refusals.status_of refusal.now) json (refusal_body (refusals.name_of refusal.now) (refusals.number_of refusal.now) (fault_part refusal.now)) }
@@ -191,7 +191,7 @@ fn write_body(out: &mut Vec<u8>, kind: &str, body: &[u8]) -> Result<(), AllocErr
 }
 
 /// Writes that memory was wanting.
-pub(crate) fn write_unavailable(out: &mut Vec<u8>)
+fn write_unavailable(out: &mut Vec<u8>)
     requires { REPLY_ROOM ≤ vec_capacity out.old }
     ensures bytes { out.new.items ≡ unavailable_bytes }
     ensures room { vec_capacity out.old ≤ vec_capacity out.new }

@@ -1,14 +1,14 @@
 //! Serving the messages of a stream.
-ghost use Rattle.std.specs.Prelude.{◌⊎◌, ◌≡◌, ℕ, ◌+◌, ◌-◌, ◌*◌, ◌<◌, ◌≤◌, List, [], ◌∷◌, ◌++◌, length, drop, true, false, vec_len, vec_capacity, Err, OnOk, OnErr, IfOk, IfSome};
-ghost use Rattle.life_rle.specs.Stream.{counted, raised, FailedBetween, LosesUpTo, Gains, GainsSome};
+ghost use Rattle.std.specs.Prelude.{◌⊎◌, ◌≡◌, ℕ, ◌+◌, ◌-◌, ◌*◌, ◌<◌, ◌≤◌, List, [], ◌∷◌, ◌++◌, length, drop, true, false, vec_len, vec_capacity, Err, OnOk, OnErr, IfOk};
+ghost use Rattle.life_rle.specs.Stream.{counted, moved, raised, FailedBetween, FailsLast, LosesUpTo, Gains, GainsSome};
 ghost use Rattle.life_pages.specs.Head.{Head};
 ghost use Rattle.life_pages.specs.HeadState.{said};
-ghost use Rattle.life_pages.specs.Route.{page_rows};
+ghost use Rattle.life_pages.specs.RouteState.{page_rows};
 ghost use Rattle.life_pages.specs.Reply.{bad_bytes};
-ghost use Rattle.life_pages.specs.Message.{are_line_breaks, HasMessageInFront, HasNone, Starts, AnswersMessage};
+ghost use Rattle.life_pages.specs.Message.{are_line_breaks, HasMessageInFront, HasNone, AnswersMessage};
 ghost use Rattle.life_pages.specs.MessageState.{held_limit, NeverHas, IsWanting, WantsUntil};
 ghost use Rattle.life_pages.specs.AnswerState.{HasRoom};
-ghost use Rattle.life_pages.specs.Serving.{ServedSoFar, LastReplyCutShort, Served, RepliesCutShort, LosesAtLeast, ReportsTakeFailures, ReportsPutFailures};
+ghost use Rattle.life_pages.specs.Serving.{AreFirstUpTo, Grows, ServedSoFar, LastReplyCutShort, Served, RepliesCutShort, LosesAtLeast, ReportsTakeFailures, ReportsPutFailures};
 ghost use Rattle.life_pages.specs.ServingState.{AtEnd, IsStep, IsServed, IsOutcome, Feeds, IsPassed, HearsPassed, IsBlankEnd};
 
 use crate::answer::{ReplyBuffers, answer_message};
@@ -70,7 +70,7 @@ fn put_bad<O: Outlet>(output: &mut O) -> Result<(), Failed>
     ensures all { OnOk result (Gains (O.already output.old) (O.already output.new) bad_bytes) }
     ensures some { OnErr result (GainsSome (O.already output.old) (O.already output.new) bad_bytes) }
     ensures count { OnOk result (O.failures output.new ≡ O.failures output.old) }
-    ensures failed { OnErr result (FailedBetween (O.failures output.old) (O.failures output.new)) }
+    ensures failed { OnErr result (FailsLast (O.failures output.old) (O.failures output.new) (O.last_failed output.new)) }
 {
     put_all(output, page_reply(PageRefusal::BadMessage))
 }
@@ -90,7 +90,7 @@ fn serve_one<O: Outlet, D: Desk>(
     requires draft { HasRoom draft.old }
     requires below { WantsUntil wanted.old held.old.items }
     ensures count { OnOk result (O.failures output.new ≡ O.failures output.old) }
-    ensures failed { OnErr result (FailedBetween (O.failures output.old) (O.failures output.new)) }
+    ensures failed { OnErr result (FailsLast (O.failures output.old) (O.failures output.new) (O.last_failed output.new)) }
     ensures step { IsStep (AnswersMessage D.answers) result held.old.items held.new.items desk.old desk.new (O.already output.old) (O.already output.new) }
     ensures room { vec_capacity held.old ≤ vec_capacity held.new }
     ensures draft { HasRoom draft.new }
@@ -141,7 +141,7 @@ fn serve_held<O: Outlet, D: Desk>(
     requires draft { HasRoom draft.old }
     requires below { WantsUntil wanted.old held.old.items }
     ensures count { OnOk result (O.failures output.new ≡ O.failures output.old) }
-    ensures failed { OnErr result (FailedBetween (O.failures output.old) (O.failures output.new)) }
+    ensures failed { OnErr result (FailsLast (O.failures output.old) (O.failures output.new) (O.last_failed output.new)) }
     ensures served { IsServed (AnswersMessage D.answers) result held.old.items held.new.items desk.old desk.new (O.already output.old) (O.already output.new) }
     ensures room { vec_capacity held.old ≤ vec_capacity held.new }
     ensures draft { HasRoom draft.new }
@@ -173,6 +173,8 @@ fn take_into<I: Inlet>(input: &mut I, place: &mut [u8], held: &mut Vec<u8>) -> R
     requires fits { vec_len held.old + length place.old ≤ vec_capacity held.old }
     ensures taken { Feeds (I.to_come input.old) (I.to_come input.new) held.old.items held.new.items result }
     ensures most { IfOk result (λ k. k ≤ length place.old) }
+    ensures made { I.takes input.new ≡ raised (I.takes input.old) }
+    ensures gave { I.last_take input.new ≡ moved result }
     ensures room { vec_capacity held.old ≤ vec_capacity held.new }
     ensures count { I.failures input.new ≡ counted (I.failures input.old) result }
 {
@@ -192,6 +194,8 @@ fn take_more<I: Inlet>(input: &mut I, held: &mut Vec<u8>) -> Result<usize, Faile
     requires room { HELD_LIMIT ≤ vec_capacity held.old }
     ensures taken { Feeds (I.to_come input.old) (I.to_come input.new) held.old.items held.new.items result }
     ensures most { IfOk result (λ k. k ≤ MOST_TAKEN) }
+    ensures made { I.takes input.new ≡ raised (I.takes input.old) }
+    ensures gave { I.last_take input.new ≡ moved result }
     ensures room { vec_capacity held.old ≤ vec_capacity held.new }
     ensures count { I.failures input.new ≡ counted (I.failures input.old) result }
 {
@@ -215,8 +219,9 @@ pub(crate) enum Passed {
 
 /// Takes bytes as long as they are CR and LF, and keeps none.
 fn pass_blank<I: Inlet>(input: &mut I, takes: u64) -> Passed
-    ensures passed { IsPassed result takes (I.to_come input.old) (I.to_come input.new) }
+    ensures passed { IsPassed result takes (I.last_take input.new) (I.to_come input.old) (I.to_come input.new) }
     ensures most { LosesUpTo (takes * MOST_TAKEN) (I.to_come input.old) (I.to_come input.new) }
+    ensures made { I.takes input.new ≤ I.takes input.old + takes }
     ensures heard { HearsPassed (I.failures input.old) (I.failures input.new) result }
 {
     let mut place = [0u8; MOST_TAKEN];
@@ -249,10 +254,11 @@ fn serve_blank<I: Inlet, O: Outlet>(
     output: &mut O,
     takes: u64,
 ) -> Result<(), IoFault>
-    ensures end { IsBlankEnd result takes (I.to_come input.old) (I.to_come input.new) (O.already output.old) (O.already output.new) }
+    ensures end { IsBlankEnd result takes (I.last_take input.new) (I.to_come input.old) (I.to_come input.new) (O.already output.old) (O.already output.new) }
     ensures most { LosesUpTo (takes * MOST_TAKEN) (I.to_come input.old) (I.to_come input.new) }
+    ensures made { I.takes input.new ≤ I.takes input.old + takes }
     ensures heard { ReportsTakeFailures (I.failures input.old) (I.failures input.new) result }
-    ensures puts { ReportsPutFailures (O.failures output.old) (O.failures output.new) result }
+    ensures puts { ReportsPutFailures (O.failures output.old) (O.failures output.new) (O.last_failed output.new) result }
 {
     match pass_blank(input, takes) {
         Passed::Ended => Ok(()),
@@ -269,7 +275,7 @@ fn serve_blank<I: Inlet, O: Outlet>(
 fn finish<O: Outlet, D: Desk>(desk: &D, output: &mut O, held: &[u8]) -> Result<(), IoFault>
     requires { HasNone held.now }
     ensures end { AtEnd (AnswersMessage D.answers) result held.now desk.now (O.already output.old) (O.already output.new) }
-    ensures puts { ReportsPutFailures (O.failures output.old) (O.failures output.new) result }
+    ensures puts { ReportsPutFailures (O.failures output.old) (O.failures output.new) (O.last_failed output.new) result }
 {
     if are_blank(held) {
         return Ok(());
@@ -324,10 +330,11 @@ fn serve_stream<I: Inlet, O: Outlet, D: Desk>(
     requires held { HELD_LIMIT ≤ vec_capacity ready.old.held }
     requires draft { HasRoom ready.old.draft }
     requires below { WantsUntil ready.old.wanted ready.old.held.items }
-    ensures outcome { IsOutcome (AnswersMessage D.answers) result (I.to_come input.old) (I.to_come input.new) desk.old desk.new (O.already output.old) (O.already output.new) }
+    ensures outcome { IsOutcome (AnswersMessage D.answers) result (I.to_come input.old) (I.to_come input.new) (I.last_take input.new) desk.old desk.new (O.already output.old) (O.already output.new) }
     ensures most { LosesUpTo (TAKES * MOST_TAKEN) (I.to_come input.old) (I.to_come input.new) }
+    ensures takes { I.takes input.new ≤ I.takes input.old + TAKES }
     ensures heard { ReportsTakeFailures (I.failures input.old) (I.failures input.new) result }
-    ensures puts { ReportsPutFailures (O.failures output.old) (O.failures output.new) result }
+    ensures puts { ReportsPutFailures (O.failures output.old) (O.failures output.new) (O.last_failed output.new) result }
 {
     let mut taken = 0;
     'takes: loop {
@@ -366,11 +373,10 @@ pub(crate) fn serve_desk<I: Inlet, O: Outlet, D: Desk>(
     input: &mut I,
     output: &mut O,
 ) -> Result<(), IoFault>
-    // Told: what was put is the replies to the messages of the stream.
-    ensures told { OnOk result (IfSome (I.to_come input.old) (λ stream.
-        Served (AnswersMessage D.answers) stream desk.old desk.new (O.already output.old) (O.already output.new))) }
-    // Told or not: some messages were answered, and no more than their replies was put.
-    ensures some { RepliesCutShort (AnswersMessage D.answers) desk.old desk.new (O.already output.old) (O.already output.new) }
+    // Ok: what was put is the replies to all messages of the stream.
+    ensures told { OnOk result (Served (AnswersMessage D.answers) (I.to_come input.old) desk.old desk.new (O.already output.old) (O.already output.new)) }
+    // Whatever the answer: the first of them were answered, and no more than their replies was put.
+    ensures some { RepliesCutShort (AnswersMessage D.answers) (I.to_come input.old) desk.old desk.new (O.already output.old) (O.already output.new) }
     // A failed take: what was taken whole was answered, and the replies were put whole.
     ensures paused { result ≡ Err IoFault.Read → ServedSoFar (AnswersMessage D.answers) (I.to_come input.old) (I.to_come input.new)
         desk.old desk.new (O.already output.old) (O.already output.new) }
@@ -378,14 +384,17 @@ pub(crate) fn serve_desk<I: Inlet, O: Outlet, D: Desk>(
         desk.old desk.new (O.already output.old) (O.already output.new) }
     ensures many { result ≡ Err IoFault.TooManyReads → LosesAtLeast TAKES (I.to_come input.old) (I.to_come input.new) }
     // A failed put: the replies to all answered messages but the last were put whole, and of the last a beginning.
-    ensures cut { result ≡ Err IoFault.Write → LastReplyCutShort (AnswersMessage D.answers) (λ ms. IfSome (I.to_come input.old) (λ stream. Starts stream ms))
+    ensures cut { result ≡ Err IoFault.Write → LastReplyCutShort (AnswersMessage D.answers) (AreFirstUpTo (I.to_come input.old) (I.to_come input.new) (I.last_take input.new))
         desk.old desk.new (O.already output.old) (O.already output.new) }
+    // What is put only grows: what was put before the call is a beginning of what is put after it.
+    ensures grows { Grows (O.already output.old) (O.already output.new) }
     ensures memory { result ≡ Err IoFault.Memory → (desk.new ≡ desk.old) × (input.new ≡ input.old) × (output.new ≡ output.old) }
-    // At most 1,048,576 takes are made, of at most 4,096 bytes each.
+    // At most 1,048,576 takes are made, and at most 4,096 times as many bytes are taken.
+    ensures takes { I.takes input.new ≤ I.takes input.old + TAKES }
     ensures most { LosesUpTo (TAKES * MOST_TAKEN) (I.to_come input.old) (I.to_come input.new) }
     // A failed take is told at once, a failed put is told, and nothing else is.
     ensures heard { ReportsTakeFailures (I.failures input.old) (I.failures input.new) result }
-    ensures puts { ReportsPutFailures (O.failures output.old) (O.failures output.new) result }
+    ensures puts { ReportsPutFailures (O.failures output.old) (O.failures output.new) (O.last_failed output.new) result }
     ensures read { result ≡ Err IoFault.Read → FailedBetween (I.failures input.old) (I.failures input.new) }
     ensures write { result ≡ Err IoFault.Write → FailedBetween (O.failures output.old) (O.failures output.new) }
 {

@@ -17,6 +17,7 @@ pub mod TotalLemmas
 pub mod JoinLemmas
 pub mod SumLemmas
 pub mod LayLemmas
+pub mod LeftLemmas
 pub mod UpdateLemmas
 pub mod CarryLemmas
 pub mod BlankLemmas

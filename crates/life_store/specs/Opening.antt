@@ -3,7 +3,13 @@ use Rattle.std.specs.Prelude.{◌≡◌, ◌⊎◌, ◌&&◌, ℕ, Bool, true, f
 use Rattle.sqlite_value.specs.declared.value.Value.{Value}
 use Rattle.sqlite_value.specs.declared.value.Value.TheVariants.{Int}
 use Rattle.sqlite_value.specs.Order.{Row, column}
+use Rattle.sqlite_disk.specs.declared.Disk.{Ghosts}
+use Rattle.sqlite_disk.specs.declared.Files.{Files}
+use Rattle.sqlite_wal.specs.Files.{outcomes}
+use Rattle.sqlite_wal.specs.Reads.{AreClean}
 use Rattle.sqlite_wal.specs.Recovery.{Image}
+use Rattle.sqlite_store.specs.declared.store.FileStore.{FileStore}
+use Rattle.sqlite_store.specs.FileStore.{recovers}
 use Rattle.sqlite_trees.specs.Tree.{Trees}
 use Rattle.sqlite_catalog.specs.Listing.{IsSound}
 use Rattle.sqlite_schema.specs.declared.schema.Schema.{Schema}
@@ -31,6 +37,14 @@ pub record FilesHold (image : Image) (k : Kept) : Type 0 where
   pub held : ∥ HoldsDatabase image trees ∥₁
   pub sound : IsSound archive_schema trees
   pub holds : Holds (tables_in true 0 false (record { schema = archive_schema; trees = trees })) k
+
+-- Each image that a crash may leave of the two files, and the one that they show, holds these: so the next opening finds them.
+abbrev pub LeftHold : {D : Type 0} → Ghosts D → Files D → Kept → Type 0
+LeftHold g files k = (image : Image) → outcomes g files.log files.db image → FilesHold image k
+
+-- Where the disk has returned what was written, each such image holds a database that the store allowed.
+abbrev pub AreLeftOf : {D : Type 0} {g : Ghosts D} → FileStore D g → Files D → Type 0
+AreLeftOf {D} {g} store files = AreClean g files.log files.db → (image : Image) → outcomes g files.log files.db image → ∥ ((db : Trees) × recovers store db × HoldsDatabase image db) ∥₁
 
 -- The files hold a database that obeys the tables of layout 1, with rows that stand for these.
 pub record FilesHoldFirst (image : Image) (k : Kept) : Type 0 where

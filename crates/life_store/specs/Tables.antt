@@ -7,7 +7,7 @@ use Rattle.std.specs.List.Sorted.{IsStrictlySortedBy}
 use Rattle.sqlite_disk.specs.Disk.{MoreFaults}
 use Rattle.sqlite_trees.specs.declared.store.Store.{Ghosts}
 use Rattle.sqlite_trees.specs.Tree.{Trees}
-use Rattle.sqlite_trees.specs.View.{doubt}
+use Rattle.sqlite_trees.specs.View.{doubt, IsClean}
 use Rattle.sqlite_value.specs.contracts.value.Value as value
 use Rattle.sqlite_value.specs.declared.value.Value.TheVariants.{Int}
 use Rattle.sqlite_value.specs.Order.{Row}
@@ -139,6 +139,10 @@ pub record IsStayingSure (old new : Tables) : Type 0 where
 -- the same, as calls pass it on
 unfoldable pub StaysSure : Tables → Tables → Type 0
 StaysSure old new = IsStayingSure old new
+
+-- The database is sure, unless its disk has returned other than what was written.
+abbrev pub IsSureIfClean : {S : Type 0} → Ghosts S → ArchiveView S → Type 0
+IsSureIfClean g a = IsClean (g.view a.store) → IsTrue a.tables.is_sure
 
 -- the tables stand for what they stood for
 abbrev pub HoldsTheSame : Tables → Tables → Type 0

@@ -2,12 +2,11 @@
 
 ghost use Rattle.std.specs.Prelude.{◌≡◌, ◌+◌, ◌++◌, ◌∷◌, [], length, option_map, IsTrue, IfOk, IfSome, OnOk, OnErr};
 ghost use Rattle.sqlite_trees.specs.Tree.{Trees};
-ghost use Rattle.sqlite_trees.specs.View.{IsClean};
 ghost use Rattle.sqlite.specs.Held.{state};
 ghost use Rattle.life_rle.specs.Record.{IsInside};
 ghost use Rattle.life_store.specs.Kept.{Kept, numbered, deposit_by, listed_after, kept_census, census_by, total_of};
 ghost use Rattle.life_store.specs.Crash.{NoMore};
-ghost use Rattle.life_store.specs.Tables.{tables_of, IsTransition, HoldsTheSame, ForAllHeld, HasOrder, AddsDeposit, AddsCensus, HoldChanged, TreesHold, Holds};
+ghost use Rattle.life_store.specs.Tables.{tables_of, IsTransition, IsSureIfClean, HoldsTheSame, ForAllHeld, HasOrder, AddsDeposit, AddsCensus, HoldChanged, TreesHold, Holds};
 
 use crate::fault::Unavailable;
 use crate::kept::{Census, Deposit, FoundCensus, FoundDeposit, KeptCensus, Listing};
@@ -58,7 +57,8 @@ impl<S: Alter> Model for Archive<S> {
 impl<S: Alter> Archive<S> {
     /// The connection to the tables.
     pub(crate) fn into_connection(self) -> Connection<S>
-        ensures { tables_of (state S.Store result) ≡ self.tables }
+        ensures tables { tables_of (state S.Store result) ≡ self.tables }
+        ensures store { result.store ≡ self.store }
     {
         let Archive { conn, capacity: _ } = self;
         conn
@@ -84,7 +84,7 @@ impl<S: Alter> Archive<S> {
     /// How many deposits there are: the greatest number. No table is walked.
     pub fn count_deposits(&mut self) -> Result<u64, Unavailable>
         ensures goes { IsTransition S.Store NoMore self.old self.new }
-        ensures sure { OnOk result (IsClean (S.Store.view self.new.store) → IsTrue self.new.tables.is_sure) }
+        ensures sure { OnOk result (IsSureIfClean S.Store self.new) }
         ensures same { HoldsTheSame self.old.tables self.new.tables }
         ensures value { ForAllHeld self.old.tables self.new.tables (λ k. IfOk result (λ n. n ≡ length k.deposits)) }
     {
@@ -95,11 +95,14 @@ impl<S: Alter> Archive<S> {
     /// The deposit of the number, or none.
     pub fn deposit_of(&mut self, alloc: Global, id: u64) -> Result<Option<Deposit>, Unavailable>
         ensures goes { IsTransition S.Store NoMore self.old self.new }
+        ensures sure { OnOk result (IsSureIfClean S.Store self.new) }
         ensures same { HoldsTheSame self.old.tables self.new.tables }
         ensures value { ForAllHeld self.old.tables self.new.tables (λ k. IfOk result (λ d. d ≡ numbered k.deposits id)) }
         ensures inside { IfOk result (λ o. IfSome o (λ d. IsInside 1024 d.content.cells)) }
     {
         let Ok(place) = i64::try_from(id) else {
+            // No row has such a number. The store is asked all the same: one that is shut answers nothing.
+            let _count = self.count_deposits()?;
             return Ok(None);
         };
         let rows = deposits::show(&mut self.conn, place)?;
@@ -117,7 +120,7 @@ impl<S: Alter> Archive<S> {
         token: &[u8],
     ) -> Result<Option<FoundDeposit>, Unavailable>
         ensures goes { IsTransition S.Store NoMore self.old self.new }
-        ensures sure { OnOk result (IsClean (S.Store.view self.new.store) → IsTrue self.new.tables.is_sure) }
+        ensures sure { OnOk result (IsSureIfClean S.Store self.new) }
         ensures same { HoldsTheSame self.old.tables self.new.tables }
         ensures value { ForAllHeld self.old.tables self.new.tables (λ k. IfOk result (λ d. d ≡ deposit_by member.now token.now k.deposits)) }
         ensures inside { IfOk result (λ o. IfSome o (λ d. IsInside 1024 d.deposit.content.cells)) }
@@ -129,10 +132,13 @@ impl<S: Alter> Archive<S> {
     /// The first hundred deposits with a greater number, a line each. Any number is good.
     pub fn deposits_after(&mut self, alloc: Global, id: u64) -> Result<Listing, Unavailable>
         ensures goes { IsTransition S.Store NoMore self.old self.new }
+        ensures sure { OnOk result (IsSureIfClean S.Store self.new) }
         ensures same { HoldsTheSame self.old.tables self.new.tables }
         ensures value { ForAllHeld self.old.tables self.new.tables (λ k. IfOk result (λ lines. lines ≡ listed_after id k.deposits)) }
     {
         let Ok(place) = i64::try_from(id) else {
+            // No row has such a number. The store is asked all the same: one that is shut answers nothing.
+            let _count = self.count_deposits()?;
             return Ok(Listing::of(Vec::new(alloc)));
         };
         let rows = deposits::list_after(&mut self.conn, place)?;
@@ -144,7 +150,7 @@ impl<S: Alter> Archive<S> {
     pub fn add_deposit(&mut self, alloc: Global, deposit: &Deposit) -> Result<u64, Unavailable>
         requires { IsInside 1024 deposit.now.content.cells }
         ensures goes { IsTransition S.Store (HoldChanged self.old.tables (λ k. record k { deposits = k.deposits ++ deposit.now ∷ [] })) self.old self.new }
-        ensures sure { OnOk result (IsClean (S.Store.view self.new.store) → IsTrue self.new.tables.is_sure) }
+        ensures sure { OnOk result (IsSureIfClean S.Store self.new) }
         ensures value { ForAllHeld self.old.tables self.new.tables (λ k. IfOk result (λ n. n ≡ length k.deposits + 1)) }
         ensures ok { OnOk result (AddsDeposit self.old.tables self.new.tables deposit.now) }
         ensures err { OnErr result (HoldsTheSame self.old.tables self.new.tables) }
@@ -163,7 +169,7 @@ impl<S: Alter> Archive<S> {
     /// How many censuses there are: the greatest number.
     pub fn count_censuses(&mut self) -> Result<u64, Unavailable>
         ensures goes { IsTransition S.Store NoMore self.old self.new }
-        ensures sure { OnOk result (IsClean (S.Store.view self.new.store) → IsTrue self.new.tables.is_sure) }
+        ensures sure { OnOk result (IsSureIfClean S.Store self.new) }
         ensures same { HoldsTheSame self.old.tables self.new.tables }
         ensures value { ForAllHeld self.old.tables self.new.tables (λ k. IfOk result (λ n. n ≡ length k.censuses)) }
     {
@@ -174,10 +180,13 @@ impl<S: Alter> Archive<S> {
     /// The census of the number, or none.
     pub fn census_of(&mut self, alloc: Global, id: u64) -> Result<Option<KeptCensus>, Unavailable>
         ensures goes { IsTransition S.Store NoMore self.old self.new }
+        ensures sure { OnOk result (IsSureIfClean S.Store self.new) }
         ensures same { HoldsTheSame self.old.tables self.new.tables }
         ensures value { ForAllHeld self.old.tables self.new.tables (λ k. IfOk result (λ c. c ≡ option_map kept_census (numbered k.censuses id))) }
     {
         let Ok(place) = i64::try_from(id) else {
+            // No row has such a number. The store is asked all the same: one that is shut answers nothing.
+            let _count = self.count_censuses()?;
             return Ok(None);
         };
         let rows = censuses::show(&mut self.conn, place)?;
@@ -195,7 +204,7 @@ impl<S: Alter> Archive<S> {
         token: &[u8],
     ) -> Result<Option<FoundCensus>, Unavailable>
         ensures goes { IsTransition S.Store NoMore self.old self.new }
-        ensures sure { OnOk result (IsClean (S.Store.view self.new.store) → IsTrue self.new.tables.is_sure) }
+        ensures sure { OnOk result (IsSureIfClean S.Store self.new) }
         ensures same { HoldsTheSame self.old.tables self.new.tables }
         ensures value { ForAllHeld self.old.tables self.new.tables (λ k. IfOk result (λ c. c ≡ census_by member.now token.now k.censuses)) }
     {
@@ -221,7 +230,7 @@ impl<S: Alter> Archive<S> {
         // The codes of a tally that `tally` made ascend.
         requires { HasOrder tally.now }
         ensures goes { IsTransition S.Store (HoldChanged self.old.tables (λ k. record k { censuses = k.censuses ++ record { census = census.now; tally = tally.now; steady = steady } ∷ [] })) self.old self.new }
-        ensures sure { OnOk result (IsClean (S.Store.view self.new.store) → IsTrue self.new.tables.is_sure) }
+        ensures sure { OnOk result (IsSureIfClean S.Store self.new) }
         ensures value { ForAllHeld self.old.tables self.new.tables (λ k. IfOk result (λ n. n ≡ length k.censuses + 1)) }
         ensures ok { OnOk result (AddsCensus self.old.tables self.new.tables (record { census = census.now; tally = tally.now; steady = steady })) }
         ensures err { OnErr result (HoldsTheSame self.old.tables self.new.tables) }
@@ -237,6 +246,7 @@ impl<S: Alter> Archive<S> {
     /// The rows of the tally of a census that is kept, in byte order of their codes.
     fn rows_kept(&mut self, alloc: Global, id: u64) -> Result<Rows, Unavailable>
         ensures goes { IsTransition S.Store NoMore self.old self.new }
+        ensures sure { OnOk result (IsSureIfClean S.Store self.new) }
         ensures same { HoldsTheSame self.old.tables self.new.tables }
         ensures value { ForAllHeld self.old.tables self.new.tables (λ k. IfOk result (λ rows. IfSome (numbered k.censuses id) (λ t. rows ≡ t.tally.rows))) }
     {
@@ -251,6 +261,7 @@ impl<S: Alter> Archive<S> {
     /// kept by its census alone, so its flag is asked for first.
     pub fn rows_of(&mut self, alloc: Global, id: u64) -> Result<Option<Rows>, Unavailable>
         ensures goes { IsTransition S.Store NoMore self.old self.new }
+        ensures sure { OnOk result (IsSureIfClean S.Store self.new) }
         ensures same { HoldsTheSame self.old.tables self.new.tables }
         ensures value { ForAllHeld self.old.tables self.new.tables (λ k. IfOk result (λ rows. rows ≡ option_map (λ t. t.tally.rows) (numbered k.censuses id))) }
     {
@@ -266,10 +277,13 @@ impl<S: Alter> Archive<S> {
     /// The flag of the census of the number, or none: whether the generation that it counted is steady.
     pub fn flag_of(&mut self, id: u64) -> Result<Option<bool>, Unavailable>
         ensures goes { IsTransition S.Store NoMore self.old self.new }
+        ensures sure { OnOk result (IsSureIfClean S.Store self.new) }
         ensures same { HoldsTheSame self.old.tables self.new.tables }
         ensures value { ForAllHeld self.old.tables self.new.tables (λ k. IfOk result (λ b. b ≡ option_map (λ t. t.steady) (numbered k.censuses id))) }
     {
         let Ok(place) = i64::try_from(id) else {
+            // No row has such a number. The store is asked all the same: one that is shut answers nothing.
+            let _count = self.count_censuses()?;
             return Ok(None);
         };
         let rows = flags::show(&mut self.conn, place)?;
@@ -279,6 +293,7 @@ impl<S: Alter> Archive<S> {
     /// How many clusters with the code there are in all censuses of deposits of the rule.
     pub fn counts_of(&mut self, alloc: Global, rule: &Rule, code: &[u8]) -> Result<u64, Unavailable>
         ensures goes { IsTransition S.Store NoMore self.old self.new }
+        ensures sure { OnOk result (IsSureIfClean S.Store self.new) }
         ensures same { HoldsTheSame self.old.tables self.new.tables }
         ensures value { ForAllHeld self.old.tables self.new.tables (λ k. IfOk result (λ n. n ≡ total_of k rule.now code.now)) }
     {

@@ -236,6 +236,7 @@ fn carry_at_once<S: Alter>(alloc: Global, conn: &mut Connection<S>) -> Result<()
     ensures undone { HasCleanDisk (state S.Store conn.new) → (IsTrue (state S.Store conn.old).is_open → (state S.Store conn.old).now ≡ (state S.Store conn.old).committed) → OnErr result (IsSeenAgain (state S.Store conn.old) (state S.Store conn.new)) }
     ensures ended { OnOk result (conn.new.in_transaction ≡ false) }
     ensures was_open { HasCleanDisk (state S.Store conn.new) → IsTrue (state S.Store conn.new).is_open → IsTrue (state S.Store conn.old).is_open }
+    ensures up { HasCleanDisk (state S.Store conn.new) → OnOk result (IsTrue (state S.Store conn.new).is_open) }
     ensures clean { doubt (state S.Store conn.old).is_clean ≤ doubt (state S.Store conn.new).is_clean }
 {
     let mut tx = conn.transaction();
@@ -257,6 +258,7 @@ pub(crate) fn carry_over<S: Alter>(
     ensures undone { HasCleanDisk (state S.Store conn.new) → OnErr result (IsSeenAgain (state S.Store conn.old) (state S.Store conn.new)) }
     ensures ended { OnOk result (conn.new.in_transaction ≡ false) }
     ensures was_open { HasCleanDisk (state S.Store conn.new) → IsTrue (state S.Store conn.new).is_open → IsTrue (state S.Store conn.old).is_open }
+    ensures up { HasCleanDisk (state S.Store conn.new) → OnOk result (IsTrue (state S.Store conn.new).is_open) }
     ensures clean { doubt (state S.Store conn.old).is_clean ≤ doubt (state S.Store conn.new).is_clean }
 {
     if !conn.is_autocommit() {

@@ -38,6 +38,7 @@ pub(crate) fn show<S: Alter>(conn: &mut Connection<S>, id: i64) -> Result<Vec<Ro
     ensures lost { WasSure (tables_of (state S.Store conn.old)) (tables_of (state S.Store conn.new)) }
     ensures lasts { StaysSure (tables_of (state S.Store conn.old)) (tables_of (state S.Store conn.new)) }
     ensures crash { CrashLeaves S.Store NoMore conn.old.store conn.new.store }
+    ensures up { HasCleanDisk (state S.Store conn.new) → OnOk result (IsTrue (state S.Store conn.new).is_open) }
     ensures keeps { HoldsTheSame (tables_of (state S.Store conn.old)) (tables_of (state S.Store conn.new)) }
     ensures tells { (n : ℕ) → id ≡ pos n → ForAllHeld (tables_of (state S.Store conn.old)) (tables_of (state S.Store conn.new)) (λ k. IfOk result (λ rows. ShowsDeposit (option_map (λ d. record { id = n; deposit = d }) (numbered k.deposits n)) rows.items)) }
 {
@@ -73,6 +74,7 @@ pub(crate) fn list_after<S: Alter>(conn: &mut Connection<S>, id: i64) -> Result<
     ensures lost { WasSure (tables_of (state S.Store conn.old)) (tables_of (state S.Store conn.new)) }
     ensures lasts { StaysSure (tables_of (state S.Store conn.old)) (tables_of (state S.Store conn.new)) }
     ensures crash { CrashLeaves S.Store NoMore conn.old.store conn.new.store }
+    ensures up { HasCleanDisk (state S.Store conn.new) → OnOk result (IsTrue (state S.Store conn.new).is_open) }
     ensures keeps { HoldsTheSame (tables_of (state S.Store conn.old)) (tables_of (state S.Store conn.new)) }
     ensures tells { (n : ℕ) → id ≡ pos n → ForAllHeld (tables_of (state S.Store conn.old)) (tables_of (state S.Store conn.new)) (λ k. IfOk result (λ rows. rows.items ≡ map line_shown (listed_after n k.deposits))) }
 {

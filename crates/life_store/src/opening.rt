@@ -3,11 +3,12 @@
 
 ghost use Rattle.std.specs.Prelude.{◌≡◌, ◌≢◌, ◌↔◌, ◌≤◌, Ok, Err, false, List, [], IsTrue, IfOk, IfErr, OnOk};
 ghost use Rattle.sqlite_value.specs.declared.value.Value.{Value};
-ghost use Rattle.sqlite_trees.specs.View.{doubt};
+ghost use Rattle.sqlite_trees.specs.View.{doubt, IsClean};
+ghost use Rattle.sqlite_store.specs.FileStore.{view};
 ghost use Rattle.sqlite.specs.State.{HasCleanDisk, IsLive};
 ghost use Rattle.sqlite.specs.Held.{state};
 ghost use Rattle.sqlite.specs.Closing.{IsCopied};
-ghost use Rattle.sqlite.specs.Files.{file_state, image_of};
+ghost use Rattle.sqlite.specs.Files.{file_state, image_of, over_files};
 ghost use Rattle.sqlite_disk.specs.declared.Files.{Files as Pair};
 ghost use Rattle.sqlite_wal.specs.Files.{image_at};
 ghost use Rattle.sqlite_wal.specs.Reads.{AreClean};
@@ -17,9 +18,9 @@ ghost use Rattle.life_store.specs.CarryingState.{Carries};
 ghost use Rattle.life_store.specs.Kept.{Kept};
 ghost use Rattle.life_store.specs.LayingState.{IsLaid};
 ghost use Rattle.life_store.specs.Layout.{no_schema};
-ghost use Rattle.life_store.specs.Opening.{is_capacity, nothing_kept, without_log, IsLayout, FilesHaveVersions, FilesHold, FilesHoldFirst, ListNothing};
+ghost use Rattle.life_store.specs.Opening.{is_capacity, nothing_kept, without_log, IsLayout, FilesHaveVersions, FilesHold, FilesHoldFirst, LeftHold, AreLeftOf, ListNothing};
 ghost use Rattle.life_store.specs.OpeningState.{HaveVersions, has_table, has_view, has_name, has_some, column_of, version_shown, version_with, rows_of_version, schema_of};
-ghost use Rattle.life_store.specs.Tables.{tables_of, Holds, HoldsTheSame};
+ghost use Rattle.life_store.specs.Tables.{tables_of, Holds, HoldsTheSame, IsSureIfClean};
 
 use crate::archive::Archive;
 use crate::asking::ask;
@@ -94,6 +95,7 @@ enum Version {
 fn versions<S: Alter>(conn: &mut Connection<S>) -> Result<Vec<Row>, Error>
     ensures same { (schema : SchemaValue) (own : List Value) → IsLayout schema own → IsTrue (tables_of (state S.Store conn.new)).is_sure → (state S.Store conn.old).now.schema ≡ schema → (state S.Store conn.new).now ≡ (state S.Store conn.old).now }
     ensures tells { (schema : SchemaValue) (own versions : List Value) → IsLayout schema own → IsTrue (tables_of (state S.Store conn.new)).is_sure → HaveVersions schema (tables_of (state S.Store conn.old)) versions → IfOk result (λ rows. (rows.items ≡ column_of own) ↔ (versions ≡ own)) }
+    ensures up { HasCleanDisk (state S.Store conn.new) → OnOk result (IsTrue (state S.Store conn.new).is_open) }
     ensures clean { doubt (state S.Store conn.old).is_clean ≤ doubt (state S.Store conn.new).is_clean }
     ensures mode { conn.old.in_transaction ≡ false → conn.new.in_transaction ≡ false }
 {
@@ -144,6 +146,7 @@ fn version_of<S: Alter>(conn: &mut Connection<S>) -> Result<Version, OpenFault>
     ensures found { (schema : SchemaValue) (own versions : List Value) → IsLayout schema own → IsTrue (tables_of (state S.Store conn.new)).is_sure → HaveVersions schema (tables_of (state S.Store conn.old)) versions → IfOk result (λ v. (versions ≡ own) × (schema ≡ schema_of v)) }
     ensures ours { (schema : SchemaValue) (own : List Value) → IsLayout schema own → IsTrue (tables_of (state S.Store conn.new)).is_sure → HaveVersions schema (tables_of (state S.Store conn.old)) own → result ≢ Err OpenFault.NotOurs }
     ensures fits { result ≢ Err OpenFault.BadCapacity }
+    ensures up { HasCleanDisk (state S.Store conn.new) → OnOk result (IsTrue (state S.Store conn.new).is_open) }
     ensures clean { doubt (state S.Store conn.old).is_clean ≤ doubt (state S.Store conn.new).is_clean }
     ensures mode { conn.old.in_transaction ≡ false → conn.new.in_transaction ≡ false }
 {
@@ -164,6 +167,7 @@ fn take_up<S: Alter>(alloc: Global, conn: &mut Connection<S>) -> Result<(), Open
     ensures known { OnOk result ((schema : SchemaValue) (own versions : List Value) → IsLayout schema own → IsTrue (tables_of (state S.Store conn.new)).is_sure → HaveVersions schema (tables_of (state S.Store conn.old)) versions → versions ≡ own) }
     ensures ours { (schema : SchemaValue) (own : List Value) → IsLayout schema own → IsTrue (tables_of (state S.Store conn.new)).is_sure → HaveVersions schema (tables_of (state S.Store conn.old)) own → result ≢ Err OpenFault.NotOurs }
     ensures fits { result ≢ Err OpenFault.BadCapacity }
+    ensures up { HasCleanDisk (state S.Store conn.new) → OnOk result (IsTrue (state S.Store conn.new).is_open) }
     ensures clean { doubt (state S.Store conn.old).is_clean ≤ doubt (state S.Store conn.new).is_clean }
 {
     match version_of(conn) {
@@ -185,6 +189,7 @@ fn prepare<S: Alter>(alloc: Global, conn: &mut Connection<S>) -> Result<(), Open
     ensures ours { (schema : SchemaValue) (own : List Value) → IsLayout schema own → IsTrue (tables_of (state S.Store conn.new)).is_sure → HaveVersions schema (tables_of (state S.Store conn.old)) own → result ≢ Err OpenFault.NotOurs }
     ensures none { (state S.Store conn.old).now.schema ≡ no_schema → result ≢ Err OpenFault.NotOurs }
     ensures fits { result ≢ Err OpenFault.BadCapacity }
+    ensures up { HasCleanDisk (state S.Store conn.new) → OnOk result (IsTrue (state S.Store conn.new).is_open) }
     ensures clean { doubt (state S.Store conn.old).is_clean ≤ doubt (state S.Store conn.new).is_clean }
 {
     if !conn.is_autocommit() {
@@ -253,6 +258,7 @@ fn seen_to<S: Alter + Drop>(
     capacity: u64,
 ) -> Result<Archive<S>, (OpenFault, Result<Connection<S>, S>)>
     ensures capacity { IfOk result (λ a. a.capacity ≡ capacity) }
+    ensures sure { IfOk result (IsSureIfClean S.Store) }
     ensures found { IfOk result (λ a. (k : Kept) → IsTrue a.tables.is_sure → Holds (tables_of (state S.Store conn)) k → Holds a.tables k) }
     ensures carries { IfOk result (λ a. Carries (tables_of (state S.Store conn)) a.tables) }
     ensures fresh { IfOk result (λ a. IsTrue a.tables.is_sure → IsLaid no_schema [] (state S.Store conn).now → Holds a.tables nothing_kept) }
@@ -279,6 +285,7 @@ fn archive_over<D: Disk + Drop>(
     capacity: u64,
 ) -> Result<Archive<FileStore<D>>, (OpenFault, Files<D>)>
     ensures capacity { IfOk result (λ a. a.capacity ≡ capacity) }
+    ensures sure { IfOk result (IsSureIfClean over_files) }
     ensures found { IfOk result (λ a. (k : Kept) → IsTrue a.tables.is_sure → Holds (tables_of (file_state conn)) k → Holds a.tables k) }
     ensures carries { IfOk result (λ a. Carries (tables_of (file_state conn)) a.tables) }
     ensures fresh { IfOk result (λ a. IsTrue a.tables.is_sure → IsLaid no_schema [] (file_state conn).now → Holds a.tables nothing_kept) }
@@ -311,6 +318,7 @@ impl<D: Disk + Drop> Archive<FileStore<D>> {
         requires log { IsTrue (D.Disk.is_usable files.log) }
         requires db { IsTrue (D.Disk.is_usable files.db) }
         ensures capacity { IfOk result (λ a. (a.capacity ≡ capacity) × IsTrue (is_capacity capacity)) }
+        ensures sure { IfOk result (IsSureIfClean over_files) }
         ensures found { IfOk result (λ a. (k : Kept) → IsTrue a.tables.is_sure → FilesHold (image_of D.Disk files) k → Holds a.tables k) }
         ensures carried { IfOk result (λ a. (k : Kept) → IsTrue a.tables.is_sure → FilesHoldFirst (image_of D.Disk files) k → CarriedOver a.tables k) }
         ensures fresh { IfOk result (λ a. IsTrue a.tables.is_sure → ListNothing (image_of D.Disk files) → Holds a.tables nothing_kept) }
@@ -338,6 +346,9 @@ impl<D: Disk + Drop> Archive<FileStore<D>> {
         ensures usable { IfOk result (λ files. IsTrue (D.Disk.is_usable files.log) × IsTrue (D.Disk.is_usable files.db)) }
         ensures held { IfOk result (λ files. (k : Kept) → AreClean D.Disk files.log files.db → Holds self.tables k → FilesHold (image_of D.Disk files) k) }
         ensures alone { IfOk result (λ files. (k : Kept) → AreClean D.Disk files.log files.db → Holds self.tables k → FilesHold (without_log (image_of D.Disk files)) k) }
+        // So does each image that a crash may leave of them then. If the disk returned what was written, the archive was healthy to the end.
+        ensures left { IfOk result (λ files. (k : Kept) → AreClean D.Disk files.log files.db → Holds self.tables k → LeftHold D.Disk files k) }
+        ensures sure { IfOk result (λ files. AreClean D.Disk files.log files.db → IsTrue self.tables.is_sure) }
     {
         match settled(self) {
             Ok(conn) => match close(conn) {
@@ -346,6 +357,17 @@ impl<D: Disk + Drop> Archive<FileStore<D>> {
             },
             Err(store) => Err((Unavailable, store.close())),
         }
+    }
+
+    /// Gives the files back with no IO, as a crash at this moment would leave them: what is not committed is lost, and the log is not
+    /// copied into the database file. What the archive held is in the two files together, and the next opening finds it.
+    pub fn into_files(self) -> Files<D>
+        ensures honest { AreClean D.Disk result.log result.db → IsClean (view self.store) }
+        ensures left { AreLeftOf self.store result }
+        ensures held { (k : Kept) → IsTrue self.tables.is_sure → Holds self.tables k → AreClean D.Disk result.log result.db → LeftHold D.Disk result k }
+    {
+        self.law_of_crashes();
+        self.into_connection().into_store().close()
     }
 
     /// As `close_files`, and the files are closed too. What the archive held is in the database file alone then; where the
@@ -370,6 +392,7 @@ impl<D: Disk + Drop> Archive<FileStore<D>> {
         capacity: u64,
     ) -> Result<Archive<FileStore<D>>, (OpenFault, Files<D>)>
         ensures capacity { IfOk result (λ a. (a.capacity ≡ capacity) × IsTrue (is_capacity capacity)) }
+        ensures sure { IfOk result (IsSureIfClean over_files) }
         ensures found { IfOk result (λ a. (k : Kept) → IsTrue a.tables.is_sure → Holds self.tables k → Holds a.tables k) }
         ensures bad { IfErr result (λ e. e.0 ≡ OpenFault.BadCapacity → is_capacity capacity ≡ false) }
         ensures ours { IfErr result (λ e. (k : Kept) → AreClean D.Disk e.1.log e.1.db → Holds self.tables k → e.0 ≢ OpenFault.NotOurs) }
@@ -401,6 +424,7 @@ impl<T: Start> Archive<FileStore<FileFrom<T>>> {
         start: T,
     ) -> Result<Archive<FileStore<FileFrom<T>>>, OpenFault>
         ensures capacity { IfOk result (λ a. (a.capacity ≡ capacity) × IsTrue (is_capacity capacity)) }
+        ensures sure { IfOk result (IsSureIfClean over_files) }
         ensures found { IfOk result (λ a. (k : Kept) → IsTrue a.tables.is_sure → FilesHold (image_at T.Start) k → Holds a.tables k) }
         ensures carried { IfOk result (λ a. (k : Kept) → IsTrue a.tables.is_sure → FilesHoldFirst (image_at T.Start) k → CarriedOver a.tables k) }
         ensures fresh { IfOk result (λ a. IsTrue a.tables.is_sure → ListNothing (image_at T.Start) → Holds a.tables nothing_kept) }

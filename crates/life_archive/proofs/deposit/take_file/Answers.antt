@@ -1,5 +1,7 @@
-use Rattle.std.proofs.Common.{◌<◌, ◌++◌, ◌∙◌, arith, take, length}
+use Rattle.std.proofs.Common.{◌<◌, ◌++◌, ◌∙◌, inl, arith, take, length}
 use Rattle.std.proofs.lemmas.List.{length-append, length-take-le, length-take}
+use Rattle.life_rle.specs.declared.stream.Failed.{Failed}
+use Rattle.life_rle.proofs.StreamLemmas.{ended_more}
 use Rattle.life_archive.proofs.DepositLemmas.{loses_more, taken_all, taken_full}
 use Rattle.life_archive.proofs.deposit.take_file.Goals as goal
 
@@ -23,6 +25,7 @@ returns-in-Err-extend_from_slice-clause-takes g c = record {
     ),
     loses_more _ _ _ c.loop-buffer.file.items (take c.in-Ok.k c.take.new.place) c.loop-buffer.invariant.taken c.in-Ok.ensures.bytes.0,
   );
+  ended = inl (c.in-Ok.ensures.end ∙ ended_more Failed _ c.in-Ok.k c.in-Ok.k-test.1 ∙ c.loop-buffer.invariant.unended);
 }
 
 pub returns-clause-taken : goal.returns-clause-taken

@@ -4,8 +4,7 @@ use Rattle.life_pages.proofs.archive.serve_in_memory.Goals as goal
 
 pub returns-clause-told : goal.returns-clause-told
 returns-clause-told g c =
-    told_in_memory over_memory (g.I.Inlet.to_come c.args.input.now) c.args.archive.now c.serve-served.new.archive
-    (g.O.Outlet.already c.args.output.now) (g.O.Outlet.already c.serve-served.new.output) c.serve-served.result c.law_of_memory.ensures.sure c.serve-served.ensures.told
+    told_in_memory over_memory _ c.args.archive.now c.serve-served.new.archive c.serve-served.result c.law_of_memory.ensures.sure c.serve-served.ensures.told
 
 pub returns-clause-some : goal.returns-clause-some
 returns-clause-some g c = in_memory over_memory _ _ c.law_of_memory.ensures.sure c.serve-served.ensures.some
@@ -18,3 +17,10 @@ returns-clause-full g c = λ e. in_memory over_memory _ _ c.law_of_memory.ensure
 
 pub returns-clause-cut : goal.returns-clause-cut
 returns-clause-cut g c = λ e. in_memory over_memory _ _ c.law_of_memory.ensures.sure (c.serve-served.ensures.cut e)
+
+pub returns-clause-headline : goal.returns-clause-headline
+returns-clause-headline g c =
+    told_in_memory over_memory _ c.args.archive.now c.serve-served.new.archive c.serve-served.result c.law_of_memory.ensures.sure c.serve-served.ensures.headline
+
+pub returns-clause-headlines : goal.returns-clause-headlines
+returns-clause-headlines g c = in_memory over_memory _ _ c.law_of_memory.ensures.sure c.serve-served.ensures.headlines

@@ -1,6 +1,6 @@
 use Rattle.std.proofs.Common.{codes, refl}
 use Rattle.matchit.specs.Route.{parse_route}
-use Rattle.life_pages.specs.Route.{with_census_pages}
+use Rattle.life_pages.specs.RouteState.{with_census_pages}
 use Rattle.life_pages.specs.declared.route.Page.TheVariants.{Census, CensusCsv, Total}
 use Rattle.life_pages.proofs.RouteInserting.{inserted, inserted_on_ok}
 use Rattle.life_pages.proofs.route.add_census_pages.Goals as goal

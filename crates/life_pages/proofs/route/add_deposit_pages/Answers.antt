@@ -1,6 +1,6 @@
 use Rattle.std.proofs.Common.{codes, refl}
 use Rattle.matchit.specs.Route.{parse_route}
-use Rattle.life_pages.specs.Route.{with_deposit_pages}
+use Rattle.life_pages.specs.RouteState.{with_deposit_pages}
 use Rattle.life_pages.specs.declared.route.Page.TheVariants.{Deposits, Deposit, After, At, Kind, Censuses}
 use Rattle.life_pages.proofs.RouteInserting.{inserted, inserted_on_ok}
 use Rattle.life_pages.proofs.route.add_deposit_pages.Goals as goal

@@ -1,4 +1,4 @@
-use Rattle.std.proofs.Common.{◌≡◌, ◌*◌, length}
+use Rattle.std.proofs.Common.{◌≡◌, ◌≤◌, ◌+◌, ◌*◌, length}
 use Rattle.life_rle.specs.Stream.{LosesUpTo}
 use Rattle.life_pages.specs.ServingState.{PassesBlank, most_taken}
 use Rattle.life_pages.proofs.serving.pass_blank.Given as goal
@@ -9,3 +9,4 @@ invariant-passed g l =
     × LosesUpTo (l._i * most_taken) (g.I.Inlet.to_come l.fn.input) (g.I.Inlet.to_come l.input)
     × (g.I.Inlet.failures l.input ≡ g.I.Inlet.failures l.fn.input)
     × (length l.place ≡ most_taken)
+    × (g.I.Inlet.takes l.input ≤ g.I.Inlet.takes l.fn.input + l._i)

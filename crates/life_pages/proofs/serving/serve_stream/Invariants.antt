@@ -1,15 +1,15 @@
-use Rattle.std.proofs.Common.{◌≡◌, ◌-◌, ◌*◌, ◌≤◌, vec_capacity}
-use Rattle.life_pages.specs.Route.{page_rows}
+use Rattle.std.proofs.Common.{◌≡◌, ◌+◌, ◌-◌, ◌*◌, ◌≤◌, vec_capacity}
+use Rattle.life_pages.specs.RouteState.{page_rows}
 use Rattle.life_pages.specs.Message.{AnswersMessage}
 use Rattle.life_pages.specs.MessageState.{held_limit, WantsUntil}
 use Rattle.life_pages.specs.AnswerState.{HasRoom}
 use Rattle.life_pages.specs.Serving.{LosesAtLeast}
 use Rattle.life_pages.specs.ServingState.{most_takes, most_taken}
 use Rattle.life_rle.specs.Stream.{LosesUpTo}
-use Rattle.life_pages.proofs.ServingReading.{Reading}
+use Rattle.life_pages.proofs.ServingReading.{Reading, Reached}
 use Rattle.life_pages.proofs.serving.serve_stream.Given as goal
 
-pub record Going (r m t f p h d i o b : Type 0) : Type 0 where
+pub record Going (r m t f p h d i o b n l : Type 0) : Type 0 where
   pub reading : r
   pub many : m
   pub most : t
@@ -20,6 +20,8 @@ pub record Going (r m t f p h d i o b : Type 0) : Type 0 where
   pub takes : i
   pub puts : o
   pub below : b
+  pub made : n
+  pub reached : l
 
 abbrev pub invariant-takes : goal.invariant-takes
 invariant-takes g l = Going
@@ -33,6 +35,8 @@ invariant-takes g l = Going
     (g.I.Inlet.failures l.input ≡ g.I.Inlet.failures l.fn.input)
     (g.O.Outlet.failures l.output ≡ g.O.Outlet.failures l.fn.output)
     (WantsUntil l.ready.wanted l.ready.held.items)
+    (g.I.Inlet.takes l.input ≤ g.I.Inlet.takes l.fn.input + l.taken)
+    (Reached (AnswersMessage g.D.Desk.answers) (g.I.Inlet.to_come l.fn.input) (g.I.Inlet.to_come l.input) (g.I.Inlet.last_take l.input) l.ready.held.items l.fn.desk l.desk (g.O.Outlet.already l.fn.output) (g.O.Outlet.already l.output))
 
 abbrev pub decreases-takes : goal.decreases-takes
 decreases-takes g l = most_takes - l.taken

@@ -3,7 +3,7 @@ use Rattle.std.specs.Prelude.{◌↔◌}
 use Rattle.sqlite.specs.Held.{state}
 use Rattle.life_store.specs.OpeningState.{column_of}
 use Rattle.life_store.specs.StatementsState.{version_text}
-use Rattle.life_store.proofs.KeepLemmas.{seen_same, told}
+use Rattle.life_store.proofs.KeepLemmas.{seen_same, told, open_when_shown}
 use Rattle.life_store.proofs.OpenLemmas.{version_plain, finds_own}
 use Rattle.life_store.proofs.opening.versions.Goals as goal
 
@@ -15,6 +15,7 @@ returns g c =
       same = λ schema own known sure is. seen_same version_text [] schema old new (version_plain schema own known) c.ask.result c.ask.ensures.shown c.ask.ensures.refused sure is;
       tells = λ schema own versions known sure have.
           told new version_text [] old (λ rows. (rows ≡ column_of own) ↔ (versions ≡ own)) c.ask.result (λ rows. finds_own old new schema own versions rows known have) c.ask.ensures.shown sure;
+      up = λ clean. open_when_shown version_text [] old new c.ask.result (c.ask.ensures.shown clean);
       clean = c.ask.ensures.clean;
       mode = c.ask.ensures.mode;
     }

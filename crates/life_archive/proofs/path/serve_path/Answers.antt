@@ -1,0 +1,8 @@
+use Rattle.life_archive.proofs.PathLemmas.{is_path_session}
+use Rattle.life_archive.proofs.path.serve_path.Goals as goal
+
+pub returns-in-Ok-listen-clause-session : goal.returns-in-Ok-listen-clause-session
+returns-in-Ok-listen-clause-session g c =
+    let it = c.in-Ok.ensures in
+    is_path_session c.in-Ok.archive _ c.args.capacity c.args.count _ _ _ c.serve_opened.result c.listen.ensures
+    (record { capacity = it.capacity.0; sure = it.sure; found = it.found; carried = it.carried; fresh = it.fresh }) c.serve_opened.ensures

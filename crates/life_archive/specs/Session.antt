@@ -1,0 +1,171 @@
+-- Sessions: an archive serves connections, one after the other; over files, it is opened before them and let go behind them.
+use Rattle.std.specs.Prelude.{◌≡◌, ◌⊎◌, ◌++◌, ◌∷◌, ℕ, Bool, true, false, List, [], length, Option, None, Some, Result, Ok, Err, IsTrue, ⊤}
+use Rattle.sqlite_disk.specs.declared.Disk as disk
+use Rattle.sqlite_disk.specs.declared.Files.{Files}
+use Rattle.sqlite_wal.specs.Files.{outcomes}
+use Rattle.sqlite_wal.specs.Reads.{AreClean}
+use Rattle.sqlite_wal.specs.Recovery.{Image}
+use Rattle.sqlite_trees.specs.declared.store.Store.{Ghosts}
+use Rattle.sqlite_trees.specs.Tree.{Trees}
+use Rattle.sqlite_trees.specs.View.{IsClean}
+use Rattle.sqlite_store.specs.declared.store.FileStore.{FileStore}
+use Rattle.sqlite_store.specs.FileStore.{view}
+use Rattle.sqlite.specs.Files.{image_of, over_files}
+use Rattle.life_rle.specs.Stream.{raised}
+use Rattle.life_store.specs.Opening.{FilesHold, FilesHoldFirst, ListNothing}
+use Rattle.life_store.specs.Tables.{ArchiveView, IsSureIfClean}
+use Rattle.life_desk.specs.Archive.{Archive}
+use Rattle.life_desk.specs.Means.{EachHasDeposit, Means, kept_of}
+use Rattle.life_desk.specs.Run.{RequestStep}
+use Rattle.life_pages.specs.Message.{Message, MessageRun, AnswersMessage}
+use Rattle.life_pages.specs.Serving.{AreAllOf, AreFirstOf}
+use Rattle.life_pages.specs.Archive.{StoreAnswers, AnswersFirmly, ByArchive, IsLeftOf, IsServedUntil}
+
+-- ---- connections
+
+-- One connection that was served: all that it sent, where that is told; the first messages of it, which were answered; what was put of their replies,
+-- and the rest of them; and whether it was served to its end: then all its messages were answered, and nothing is left of the replies.
+pub record Exchange : Type 0 where
+  pub sent : Option (List ℕ)
+  pub messages : List Message
+  pub put : List ℕ
+  pub rest : List ℕ
+  pub ended : Bool
+  pub first : AreFirstOf sent messages
+  pub whole : IsTrue ended → AreAllOf sent messages × (rest ≡ [])
+
+-- the messages of all of them, connection after connection
+abbrev pub messages_of : List Exchange → List Message
+messages_of [] = []
+messages_of (e ∷ es) = e.messages ++ messages_of es
+
+-- and the replies to these
+abbrev pub replies_of : List Exchange → List ℕ
+replies_of [] = []
+replies_of (e ∷ es) = (e.put ++ e.rest) ++ replies_of es
+
+-- What is told of connections: what each of those to come will send, what was put to each that was served, and how many were not served to their end.
+pub record Traffic : Type 0 where
+  pub to_come : Option (List (List ℕ))
+  pub put : Option (List (List ℕ))
+  pub failures : ℕ
+
+-- where only the failures are told
+abbrev pub untold : ℕ → Traffic
+untold n = record { to_come = None; put = None; failures = n }
+
+-- where it is told what they send, the next sends this; or none came, and nothing was sent
+abbrev pub ComesNext : Option (List (List ℕ)) → Option (List (List ℕ)) → Exchange → Type 0
+ComesNext None new e = ⊤
+ComesNext (Some old) None e = ⊥
+ComesNext (Some old) (Some new) e = (sent : List ℕ) × (e.sent ≡ Some sent) × ((old ≡ sent ∷ new) ⊎ ((sent ≡ []) × (e.ended ≡ false) × (new ≡ old)))
+
+-- where it is told what was put to each, this was put to one more
+abbrev pub TellsOne : Option (List (List ℕ)) → Option (List (List ℕ)) → List ℕ → Type 0
+TellsOne None new put = ⊤
+TellsOne (Some old) None put = ⊥
+TellsOne (Some old) (Some new) put = new ≡ old ++ put ∷ []
+
+-- the failures after one that was served to its end, or was not
+abbrev pub failures_after : Bool → ℕ → ℕ
+failures_after true n = n
+failures_after false n = raised n
+
+-- one connection was the next
+abbrev pub Carries : Traffic → Traffic → Exchange → Type 0
+Carries old new e = ComesNext old.to_come new.to_come e × TellsOne old.put new.put e.put × (new.failures ≡ failures_after e.ended old.failures)
+
+-- these were the next, one after the other
+abbrev pub CarriesAll : Traffic → Traffic → List Exchange → Type 0
+CarriesAll old new [] = new ≡ old
+CarriesAll old new (e ∷ es) = (mid : Traffic) × Carries old mid e × CarriesAll mid new es
+
+-- ---- serving
+
+-- the store answered the messages of the next connection, one after the other
+abbrev pub ServesOne : {S : Type 0} → Ghosts S → ArchiveView S → ArchiveView S → Traffic → Traffic → Type 0
+ServesOne g old new before after = (e : Exchange) × MessageRun (AnswersMessage (StoreAnswers g)) old e.messages (e.put ++ e.rest) new × Carries before after e
+
+-- those of the next so many
+pub record ServesSome {S : Type 0} (g : Ghosts S) (count : ℕ) (old new : ArchiveView S) (before after : Traffic) : Type 0 where
+  pub exchanges : List Exchange
+  pub counted : length exchanges ≡ count
+  pub carried : CarriesAll before after exchanges
+  pub run : MessageRun (AnswersMessage (StoreAnswers g)) old (messages_of exchanges) (replies_of exchanges) new
+
+-- A answers these messages by these bytes, one after the other, and is B then.
+abbrev pub Runs : List Message → List ℕ → Archive → Archive → Type 0
+Runs ms bytes A B = MessageRun (AnswersMessage RequestStep) A ms bytes B
+
+-- What serving so many connections does to a database: each archive that it meant went through a run over the messages of all of them; a request that is refused
+-- for its own words is answered by that refusal, whatever the database does; and a crash in the middle leaves the archive after a beginning of the messages, or
+-- after the one that follows as well, behind which no reply says that something is kept.
+pub record ServesConnections {S : Type 0} (g : Ghosts S) (count : ℕ) (old new : ArchiveView S) (before after : Traffic) : Type 0 where
+  pub exchanges : List Exchange
+  pub counted : length exchanges ≡ count
+  pub carried : CarriesAll before after exchanges
+  pub served : ByArchive g (Runs (messages_of exchanges) (replies_of exchanges)) old new
+  pub firm : MessageRun (AnswersMessage AnswersFirmly) tt (messages_of exchanges) (replies_of exchanges) tt
+  pub crash : (A : Archive) → IsTrue old.tables.is_sure → Means old A → IsClean (g.view new.store) → (db : Trees) → g.recovers new.store db
+      → IsServedUntil A (messages_of exchanges) (replies_of exchanges) db
+
+-- ---- over files
+
+-- The files mean the archive, whatever its capacity is: that is chosen where they are opened.
+abbrev pub FilesMean : Image → Archive → Type 0
+FilesMean image A = EachHasDeposit A.deposits A.censuses × FilesHold image (kept_of A)
+
+-- The files represent the archive; or list no table, as new files do, and the archive is empty; or represent it by schema version 1, in which there are no
+-- flags, so that an opening migrates it.
+abbrev pub Begins : Image → Archive → Type 0
+Begins image A =
+    FilesMean image A ⊎ ((ListNothing image × (A.deposits ≡ []) × (A.censuses ≡ [])) ⊎ (EachHasDeposit A.deposits A.censuses × FilesHoldFirst image (kept_of A)))
+
+-- What a session that began with A leaves, over these messages and replies. After Ok the files mean the archive after all: as they read and after a crash. After
+-- Err, as where the disk failed on the way or the session was cut off, each image that may be left means the archive after a beginning of the messages, or
+-- after the one that follows as well, and no other reply says that something is kept.
+abbrev pub Leaves : {D : Type 0} → disk.Ghosts D → Archive → List Message → List ℕ → Result (Files D) (Files D) → Type 0
+Leaves g A ms bytes (Ok files) = AreClean g files.log files.db → (B : Archive) × Runs ms bytes A B × ((image : Image) → outcomes g files.log files.db image → FilesMean image B)
+Leaves g A ms bytes (Err files) = AreClean g files.log files.db → (image : Image) → outcomes g files.log files.db image → ∥ IsLeftOf A ms bytes (FilesMean image) ∥₁
+
+-- the files of either answer
+abbrev pub either : {X : Type 0} → Result X X → X
+either (Ok x) = x
+either (Err x) = x
+
+-- A session over files: what they meant was taken over the messages of so many connections, to each of which a beginning of its replies was put, and all of them
+-- where it was served to its end. So the next session may begin with what it leaves, and where the disk was honest to the end of that, it was in this.
+--
+-- Of a crash in the middle it is read off the side of Err (docs/DEFINITIONS.md, `life_store`): what the peers had then is a beginning of what was put by
+-- the end of that run, since each put only adds.
+pub record IsSession {D : Type 0} (g : disk.Ghosts D) (files : Files D) (capacity count : ℕ) (before after : Traffic) (left : Result (Files D) (Files D)) : Type 0 where
+  pub exchanges : List Exchange
+  pub counted : length exchanges ≡ count
+  pub carried : CarriesAll before after exchanges
+  pub firm : MessageRun (AnswersMessage AnswersFirmly) tt (messages_of exchanges) (replies_of exchanges) tt
+  pub honest : AreClean g (either left).log (either left).db → AreClean g files.log files.db
+  pub leaves : (A : Archive) → A.capacity ≡ capacity → Begins (image_of g files) A → Leaves g A (messages_of exchanges) (replies_of exchanges) left
+
+-- The same of an archive that is open.
+pub record EndsSession {D : Type 0} (g : disk.Ghosts D) (archive : ArchiveView (FileStore D g)) (count : ℕ) (before after : Traffic) (left : Result (Files D) (Files D)) : Type 0 where
+  pub exchanges : List Exchange
+  pub counted : length exchanges ≡ count
+  pub carried : CarriesAll before after exchanges
+  pub firm : MessageRun (AnswersMessage AnswersFirmly) tt (messages_of exchanges) (replies_of exchanges) tt
+  pub honest : AreClean g (either left).log (either left).db → IsClean (view archive.store)
+  pub leaves : (A : Archive) → IsSureIfClean over_files archive → (IsTrue archive.tables.is_sure → Means archive A) → Leaves g A (messages_of exchanges) (replies_of exchanges) left
+
+-- ---- one session after the other
+
+-- the archive under another capacity
+abbrev pub under : ℕ → Archive → Archive
+under capacity A = record { deposits = A.deposits; censuses = A.censuses; capacity = capacity }
+
+-- Behind a session that was answered Ok comes another, over the files that it left. Where the disk was honest to the end of that, an archive that the files
+-- meant went through a run over the messages of the first, and what the second leaves it leaves of the end of this run.
+abbrev pub SessionsCompose : {D : Type 0} → disk.Ghosts D → Type 0
+SessionsCompose {D} g =
+    (files mid : Files D) (capacity next count more : ℕ) (w x y z : Traffic) (left : Result (Files D) (Files D))
+    (one : IsSession g files capacity count w x (Ok mid)) (two : IsSession g mid next more y z left)
+    → AreClean g (either left).log (either left).db → (A : Archive) → A.capacity ≡ capacity → Begins (image_of g files) A
+    → (B : Archive) × Runs (messages_of one.exchanges) (replies_of one.exchanges) A B × Leaves g (under next B) (messages_of two.exchanges) (replies_of two.exchanges) left

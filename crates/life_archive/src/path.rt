@@ -1,0 +1,108 @@
+//! The jobs over an archive in the file of a path, as the program does them: the archive is opened, asked and closed.
+ghost use Rattle.std.specs.Prelude.{◌≡◌, OnErr, IfOk};
+ghost use Rattle.sqlite_wal.specs.Files.{image_at};
+ghost use Rattle.life_archive.specs.Path.{opening_stop, DepositsIn, DepositsAt, EndsPathSession, IsPathSession};
+
+use crate::deposit::run_deposit;
+use crate::session::{Connections, serve_connections};
+use crate::stop::ArchiveStop;
+use life_census::laws_of_steady_fields;
+use life_jobs::Stop;
+use life_rle::{Inlet, Outlet};
+use life_store::{Archive, OpenFault};
+use sqlite::{FileFrom, FileStore, Start};
+use sqlite_disk::{Disk, Files};
+use std::alloc::Global;
+
+/// The stop for an opening that is refused.
+fn opening_stop(fault: OpenFault) -> ArchiveStop
+    ensures { result ≡ opening_stop fault }
+{
+    match fault {
+        OpenFault::NotOurs => ArchiveStop::NotOurs,
+        _ => ArchiveStop::Job(Stop::Unavailable),
+    }
+}
+
+/// Deposits in an archive that is open, and closes it whatever came of it. A refused close is no refusal of the deposit: what was answered is
+/// committed, and the two files have it together then.
+fn deposit_opened<D: Disk + Drop, I: Inlet, O: Outlet>(
+    alloc: Global,
+    archive: Archive<FileStore<D>>,
+    member: &str,
+    token: &str,
+    input: &mut I,
+    output: &mut O,
+) -> Result<(), ArchiveStop>
+    ensures { DepositsIn archive member.now token.now (I.to_come input.old) (O.already output.old) (O.already output.new) result }
+{
+    let mut archive = archive;
+    let done = run_deposit(alloc, &mut archive, member, token, input, output);
+    let _closed = archive.close();
+    done
+}
+
+/// Deposits the pattern file that comes in, in the archive of the path, which is made if the file is not there. `start` says what the files
+/// are taken to hold, as for `Archive::open_path`.
+pub fn deposit_path<T: Start, I: Inlet, O: Outlet>(
+    rt: &HostRuntime,
+    path: &str,
+    capacity: u64,
+    start: T,
+    member: &str,
+    token: &str,
+    input: &mut I,
+    output: &mut O,
+) -> Result<(), ArchiveStop>
+    ensures { DepositsAt ⟦<FileFrom<T> as Disk>⟧ (image_at T.Start) capacity member.now token.now (I.to_come input.old) (O.already output.old) (O.already output.new) result }
+{
+    match Archive::open_path(rt, path, capacity, start) {
+        Ok(archive) => deposit_opened(rt.alloc(), archive, member, token, input, output),
+        Err(fault) => Err(opening_stop(fault)),
+    }
+}
+
+/// Serves by an archive that is open, and closes it. The files are given back if they were closed.
+fn serve_opened<D: Disk + Drop, C: Connections>(
+    alloc: Global,
+    archive: Archive<FileStore<D>>,
+    connections: &mut C,
+    count: u64,
+) -> Option<Files<D>>
+    ensures { EndsPathSession D.Disk archive count (C.traffic connections.old) (C.traffic connections.new) result }
+{
+    laws_of_steady_fields();
+    let mut archive = archive;
+    serve_connections(alloc, &mut archive, connections, count);
+    match archive.close_files() {
+        Ok(files) => Some(files),
+        Err(_) => None,
+    }
+}
+
+/// A session over the files of a path, as [`crate::serve_files`] over files that are given: opens the archive, which is made if the file is not
+/// there, serves so many connections, one after the other, and closes it, so that the database file has all. The files are given back if they
+/// were closed. If the close is refused, what was answered is in the two files together.
+pub fn serve_path<T: Start, C: Connections>(
+    rt: &HostRuntime,
+    path: &str,
+    capacity: u64,
+    start: T,
+    connections: &mut C,
+    count: u64,
+) -> Result<Option<Files<FileFrom<T>>>, ArchiveStop>
+    ensures session { IfOk result (IsPathSession ⟦<FileFrom<T> as Disk>⟧ (image_at T.Start) capacity count (C.traffic connections.old) (C.traffic connections.new)) }
+    // If the archive is not opened, or nobody can be listened to, nobody was served.
+    ensures unserved { OnErr result (C.traffic connections.new ≡ C.traffic connections.old) }
+{
+    match Archive::open_path(rt, path, capacity, start) {
+        Ok(archive) => match connections.listen() {
+            Ok(()) => Ok(serve_opened(rt.alloc(), archive, connections, count)),
+            Err(stop) => {
+                let _closed = archive.close();
+                Err(stop)
+            }
+        },
+        Err(fault) => Err(opening_stop(fault)),
+    }
+}

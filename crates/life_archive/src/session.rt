@@ -1,0 +1,112 @@
+//! Sessions: connections that come one after the other, and archives in files that are opened for them.
+ghost use Rattle.std.specs.Prelude.{◌≡◌, ◌≢◌, ◌↔◌, false, IsTrue, IfOk, IfErr, OnErr};
+ghost use Rattle.sqlite_wal.specs.Reads.{AreClean};
+ghost use Rattle.sqlite.specs.Files.{image_of};
+ghost use Rattle.life_store.specs.Kept.{Kept};
+ghost use Rattle.life_store.specs.Opening.{is_capacity, FilesHold, ListNothing};
+ghost use Rattle.life_archive.specs.Session.{Traffic, ServesOne, ServesSome, ServesConnections, EndsSession, IsSession, SessionsCompose};
+
+use crate::stop::ArchiveStop;
+use life_census::laws_of_steady_fields;
+use life_store::{Archive, OpenFault};
+use sqlite::{Alter, FileStore, Files};
+use sqlite_disk::Disk;
+use std::alloc::Global;
+
+/// Where connections come from.
+pub trait Connections {
+    // What is known of those to come and of those that were served.
+    ghost traffic: { Self → Traffic };
+
+    /// Makes ready for the first connection, once the archive is open.
+    fn listen(&mut self) -> Result<(), ArchiveStop>
+        ensures { traffic self.new ≡ traffic self.old };
+
+    /// Waits for the next connection, and answers its messages from the archive, as [`crate::run_serve`] does it, whatever comes of it.
+    fn serve_next<S: Alter>(&mut self, alloc: Global, archive: &mut Archive<S>)
+        ensures { ServesOne S.Store archive.old archive.new (traffic self.old) (traffic self.new) };
+}
+
+/// Serves so many connections.
+fn serve_each<S: Alter, C: Connections>(
+    alloc: Global,
+    archive: &mut Archive<S>,
+    connections: &mut C,
+    count: u64,
+)
+    ensures { ServesSome S.Store count archive.old archive.new (C.traffic connections.old) (C.traffic connections.new) }
+{
+    for connection in 0..count {
+        connections.serve_next(alloc, archive);
+    }
+}
+
+/// Serves so many connections by the archive, one after the other. One that fails counts.
+pub fn serve_connections<S: Alter, C: Connections>(
+    alloc: Global,
+    archive: &mut Archive<S>,
+    connections: &mut C,
+    count: u64,
+)
+    // In words of the store: each message of each connection was answered by it, one after the other.
+    ensures steps { ServesSome S.Store count archive.old archive.new (C.traffic connections.old) (C.traffic connections.new) }
+    // In words of the archive: it went through a run over them, also where the disk failed on the way; and what a crash leaves.
+    ensures served { ServesConnections S.Store count archive.old archive.new (C.traffic connections.old) (C.traffic connections.new) }
+{
+    archive.law_of_crashes();
+    serve_each(alloc, archive, connections, count);
+}
+
+/// Serves by an archive over files, and lets it go. Ok says that the database was sound to the end.
+fn serve_opened<D: Disk + Drop, C: Connections>(
+    alloc: Global,
+    archive: Archive<FileStore<D>>,
+    connections: &mut C,
+    count: u64,
+) -> Result<Files<D>, Files<D>>
+    ensures { EndsSession D.Disk archive count (C.traffic connections.old) (C.traffic connections.new) result }
+{
+    let mut archive = archive;
+    archive.law_of_crashes();
+    serve_each(alloc, &mut archive, connections, count);
+    match archive.count_deposits() {
+        Ok(_count) => Ok(archive.into_files()),
+        Err(_) => Err(archive.into_files()),
+    }
+}
+
+/// A session: opens the archive that the files hold, serves so many connections, one after the other, and lets it go, with no copying of the log.
+/// What was meant before it is meant behind it, as the messages that were served leave it: the next session begins with that.
+///
+/// It answers the files in an Ok where the database was sound to the end and tells its count of deposits, and else in an Err. So it does where a crash cut it
+/// off, by the kit's argument on crashes.
+pub fn serve_files<D: Disk + Drop, C: Connections>(
+    alloc: Global,
+    files: Files<D>,
+    capacity: u64,
+    connections: &mut C,
+    count: u64,
+) -> Result<Result<Files<D>, Files<D>>, (OpenFault, Files<D>)>
+    requires log { IsTrue (D.Disk.is_usable files.log) }
+    requires db { IsTrue (D.Disk.is_usable files.db) }
+    ensures session { IfOk result (IsSession D.Disk files capacity count (C.traffic connections.old) (C.traffic connections.new)) }
+    // Where the opening was refused nobody was served; and the refusals and the files are those of `Archive::open_files`. What a crash in the
+    // middle of an opening leaves is not said.
+    ensures unserved { OnErr result (connections.new ≡ connections.old) }
+    ensures bad { IfErr result (λ e. (e.0 ≡ OpenFault.BadCapacity) ↔ (is_capacity capacity ≡ false)) }
+    ensures back { IfErr result (λ e. e.0 ≡ OpenFault.BadCapacity → e.1 ≡ files) }
+    ensures ours { IfErr result (λ e. (k : Kept) → AreClean D.Disk e.1.log e.1.db → FilesHold (image_of D.Disk files) k → e.0 ≢ OpenFault.NotOurs) }
+    ensures none { IfErr result (λ e. AreClean D.Disk e.1.log e.1.db → ListNothing (image_of D.Disk files) → e.0 ≢ OpenFault.NotOurs) }
+    ensures clean { IfErr result (λ e. AreClean D.Disk e.1.log e.1.db → e.0 ≡ OpenFault.NotOurs → AreClean D.Disk files.log files.db) }
+{
+    laws_of_steady_fields();
+    match Archive::open_files(alloc, files, capacity) {
+        Ok(archive) => Ok(serve_opened(alloc, archive, connections, count)),
+        Err((fault, left)) => Err((fault, left)),
+    }
+}
+
+/// A session begins with what the one before it left.
+pub fn law_of_sessions<D: Disk>()
+    ensures { SessionsCompose D.Disk }
+{}

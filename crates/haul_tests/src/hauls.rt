@@ -1,0 +1,113 @@
+//! Hauls that are put into memory, with tables that a program of its own made from Python's SHA-256.
+
+use life_hauls::{HaulWords, laws_of_hauls, laws_of_soups, run_haul};
+use life_jobs::Stop;
+use life_rle::{MemoryOutlet, PieceOutlet};
+use std::alloc::Global;
+use std::test::Fail;
+
+/// Words, what is answered, and what is put.
+type Run = (HaulWords<'static>, Result<(), Stop>, &'static str);
+
+/// Three soups under Conway's Life, 500 generations on.
+const THREE: HaulWords<'static> = HaulWords {
+    root: "tst",
+    first: 0,
+    count: 3,
+    rule: "B3/S23",
+    n: 500,
+    limit: 4,
+};
+
+const TABLE: &str = "\
+code,count,first
+xp2_7,4,0
+xp2_s01110szw66,1,2
+xq4_153,5,0
+xs4_252,1,1
+xs4_33,5,1
+xs5_253,1,1
+xs6_356,2,1
+xs6_696,6,0
+xs8_6996,1,2
+unresolved,1,1
+";
+
+const RUNS: [Run; 8] = [
+    (THREE, Ok(()), TABLE),
+    (HaulWords { count: 0, ..THREE }, Err(Stop::OutOfLimit), ""),
+    (
+        HaulWords {
+            count: 1_000_001,
+            ..THREE
+        },
+        Err(Stop::OutOfLimit),
+        "",
+    ),
+    (
+        HaulWords {
+            first: 9_007_199_254_740_993,
+            ..THREE
+        },
+        Err(Stop::OutOfLimit),
+        "",
+    ),
+    (HaulWords { n: 2049, ..THREE }, Err(Stop::OutOfLimit), ""),
+    (HaulWords { limit: 0, ..THREE }, Err(Stop::OutOfLimit), ""),
+    (
+        HaulWords {
+            root: "a b",
+            ..THREE
+        },
+        Err(Stop::OutOfLimit),
+        "",
+    ),
+    (
+        HaulWords {
+            rule: "B0/S",
+            ..THREE
+        },
+        Err(Stop::BadRule),
+        "",
+    ),
+];
+
+/// Whether the words are answered so, with this text.
+fn runs_so(alloc: Global, run: Run) -> bool {
+    let (words, answer, text) = run;
+    let mut output = MemoryOutlet::new(alloc);
+    run_haul(alloc, words, &mut output) == answer && output.bytes() == text.as_bytes()
+}
+
+/// The first of the runs that goes otherwise.
+fn other(alloc: Global) -> Option<usize> {
+    for (at, run) in RUNS.into_iter().enumerate() {
+        if !runs_so(alloc, run) {
+            return Some(at);
+        }
+    }
+    None
+}
+
+#[test]
+fn hauls_are_put(rt: HostRuntime) -> Result<(), Fail> {
+    assert_eq!(rt; other(rt.alloc()), None);
+    Ok(())
+}
+
+#[test]
+fn a_failed_put_is_told(rt: HostRuntime) -> Result<(), Fail> {
+    let mut output = PieceOutlet::new(rt.alloc(), 10, Some(1));
+    assert_eq!(rt;
+        run_haul(rt.alloc(), THREE, &mut output),
+        Err(Stop::Unwritable)
+    );
+    Ok(())
+}
+
+#[test]
+fn laws_are_calls(_rt: HostRuntime) -> Result<(), Fail> {
+    laws_of_soups();
+    laws_of_hauls();
+    Ok(())
+}

@@ -1,0 +1,11 @@
+pub mod SoupLemmas
+pub mod SeenLemmas
+pub mod HaulRows
+pub mod RowLemmas
+pub mod PushLemmas
+pub mod JobsLemmas
+pub mod WordsLemmas
+pub mod SightingLaws
+pub mod TogetherLaws
+pub mod TallyLaws
+pub mod SoupLaws

@@ -1,0 +1,91 @@
+-- Hauls taken together.
+use Rattle.std.specs.Prelude.{◌≡◌, ℕ, zero, suc, ◌+◌, min, false, cond, List, [], ◌∷◌, ◌++◌, map, length, count_by, is_none, Option, None, Some, refl}
+use Rattle.std.proofs.Common.{sym, ap, ◌∙◌, arith}
+use Rattle.std.specs.List.{list_any, range_with_len}
+use Rattle.std.proofs.lemmas.Bool.{or_parts}
+use Rattle.std.proofs.lemmas.List.{map-append, length-append}
+use Rattle.std.proofs.lemmas.List.Folds.{list_any-append}
+use Rattle.std.proofs.lemmas.List.Sums.{sum_by-append}
+use Rattle.life_census.specs.Counting.{how_often}
+use Rattle.life_census.proofs.CountingLaws.{Texts, same_text}
+use Rattle.life_hauls.specs.declared.rows.Sighting.{Sighting}
+use Rattle.life_hauls.specs.Hauls.{joined, together, rows_by, texts_in, counts_over, soup_codes}
+use Rattle.life_hauls.specs.Laws.{HaulsAddUp, TogetherByCodes, TogetherInAnyOrder}
+use Rattle.life_hauls.proofs.SeenLemmas.{seen-append}
+use Rattle.life_hauls.proofs.HaulRows.{Rows, IsSorted, found, rows_are, sorted-rows, rows_say}
+use Rattle.life_hauls.proofs.PushLemmas.{rows_over, found-over, sorted-over}
+
+-- ---- rows
+
+abbrev codes_of : Rows → Texts
+codes_of es = map (λ (e : List ℕ × Sighting). e.0) es
+
+none_found : (q : List ℕ) (es : Rows) → list_any (same_text q) (codes_of es) ≡ false → found q es ≡ None
+none_found q [] none = refl
+none_found q (e ∷ es) none =
+    let parts = or_parts (same_text q e.0) (list_any (same_text q) (codes_of es)) none in
+    ap (λ b. cond b (Some e.1) (found q es)) parts.0 ∙ none_found q es parts.1
+
+abbrev both_rows : Rows → Rows → Rows
+both_rows es fs = rows_by (λ t. joined (found t es) (found t fs)) (codes_of (es ++ fs))
+
+found-both : (es fs : Rows) (q : List ℕ) → found q (both_rows es fs) ≡ joined (found q es) (found q fs)
+found-both es fs q = rows_say (λ t. joined (found t es) (found t fs)) (codes_of (es ++ fs)) q (λ none.
+    let split = sym (list_any-append (same_text q) (codes_of es) (codes_of fs)) ∙ ap (list_any (same_text q)) (sym (map-append (λ (e : List ℕ × Sighting). e.0) es fs)) ∙ none in
+    let parts = or_parts (list_any (same_text q) (codes_of es)) (list_any (same_text q) (codes_of fs)) split in
+    λ k. joined (none_found q es parts.0 k) (none_found q fs parts.1 k))
+
+sorted-both : (es fs : Rows) → IsSorted (both_rows es fs)
+sorted-both es fs = sorted-rows (λ t. joined (found t es) (found t fs)) (codes_of (es ++ fs))
+
+pub together_by_codes : TogetherByCodes
+unfolding together
+together_by_codes a b code = found-both a.rows b.rows code
+
+joined_turn : (x y : Option Sighting) → joined x y ≡ joined y x
+joined_turn None None = refl
+joined_turn None (Some t) = refl
+joined_turn (Some s) None = refl
+joined_turn (Some s) (Some t) =
+    let count : s.count + t.count ≡ t.count + s.count = omega arith in
+    let first : min s.first t.first ≡ min t.first s.first = omega arith in
+    λ k. Some (record { count = count k; first = first k })
+
+pub together_in_any_order : TogetherInAnyOrder
+unfolding together
+together_in_any_order a b =
+    let rows = rows_are (both_rows a.rows b.rows) (both_rows b.rows a.rows) (sorted-both a.rows b.rows) (sorted-both b.rows a.rows)
+    (λ q. found-both a.rows b.rows q ∙ joined_turn (found q a.rows) (found q b.rows) ∙ sym (found-both b.rows a.rows q)) in
+    let unresolved = joined_turn a.unresolved b.unresolved in
+    let soups : a.soups + b.soups ≡ b.soups + a.soups = omega arith in
+    let total : a.total + b.total ≡ b.total + a.total = omega arith in
+    λ k. record { rows = rows k; unresolved = unresolved k; soups = soups k; total = total k }
+
+-- ---- two lists of soups
+
+counts-append : (codes : ℕ → List (Option (List ℕ))) (ms ns : List ℕ) → counts_over codes (ms ++ ns) ≡ together (counts_over codes ms) (counts_over codes ns)
+unfolding counts_over together
+counts-append codes ms ns =
+    let texts : ℕ → Texts = λ i. texts_in (codes i) in
+    let rows = rows_are (rows_over texts (ms ++ ns)) (both_rows (rows_over texts ms) (rows_over texts ns)) (sorted-over texts (ms ++ ns)) (sorted-both (rows_over texts ms) (rows_over texts ns))
+    (λ q. found-over texts (ms ++ ns) q ∙ seen-append (λ i. how_often q (texts i)) ms ns
+    ∙ (λ k. joined (sym (found-over texts ms q) k) (sym (found-over texts ns q) k))
+    ∙ sym (found-both (rows_over texts ms) (rows_over texts ns) q)) in
+    let unresolved = seen-append (λ i. count_by is_none (codes i)) ms ns in
+    let soups = length-append ms ns in
+    let total = sum_by-append (λ i. length (codes i)) ms ns in
+    λ k. record { rows = rows k; unresolved = unresolved k; soups = soups k; total = total k }
+
+range-append : (first a b : ℕ) → range_with_len first (a + b) ≡ range_with_len first a ++ range_with_len (first + a) b
+range-append first zero b =
+    let one : 0 + b ≡ b = omega arith in
+    let two : first ≡ first + 0 = omega arith in
+    ap (range_with_len first) one ∙ ap (λ k. range_with_len k b) two
+range-append first (suc a) b =
+    let one : suc a + b ≡ suc (a + b) = omega arith in
+    let two : (first + 1) + a ≡ first + suc a = omega arith in
+    ap (range_with_len first) one ∙ ap (λ ks. first ∷ ks) (range-append (first + 1) a b ∙ ap (λ k. range_with_len (first + 1) a ++ range_with_len k b) two)
+
+pub hauls_add_up : HaulsAddUp
+hauls_add_up root rule n limit first a b =
+    ap (counts_over (soup_codes root rule n limit)) (range-append first a b) ∙ counts-append (soup_codes root rule n limit) (range_with_len first a) (range_with_len (first + a) b)

@@ -1,0 +1,34 @@
+use Rattle.std.proofs.Common.{◌≡◌, ◌++◌, ◌∷◌, [], List, arith, sym, ap, subst, ◌∙◌}
+use Rattle.std.specs.List.{All}
+use Rattle.std.proofs.lemmas.List.Elements.{All-push}
+use Rattle.life_core.specs.declared.cell.Cell.{Cell}
+use Rattle.life_core.specs.Cell.{IsCellWithin}
+use Rattle.life_hauls.specs.Soups.{live_cells}
+use Rattle.life_hauls.proofs.SoupLemmas.{live-yes, live-no}
+use Rattle.life_hauls.proofs.soups.live_cells.Goals as goal
+use Rattle.life_hauls.proofs.soups.live_cells.Goals.{then-bit_at+in_ok-push, else-bit_at}
+
+pub loop-place-preserved : goal.loop-place-preserved
+loop-place-preserved g c =
+    let bytes = c.args.digest.now in
+    let n = c.loop-place.place in
+    let before = c.loop-place.invariant in
+    elim c.if-bit_at.branch [
+      | then-bit_at+in_ok-push w ↦ record {
+        cells = rw w.cells-is (w.in_ok-push.ensures.items
+            ∙ ap (λ (cs : List Cell). cs ++ w.field_cell.result ∷ []) before.cells
+            ∙ ap (λ (x : Cell). live_cells bytes n ++ x ∷ []) w.field_cell.ensures.cell
+            ∙ sym (live-yes bytes n (sym c.bit_at.ensures ∙ w.if-bit_at.true)));
+        inside = rw w.cells-is (subst (All (IsCellWithin 15)) (sym w.in_ok-push.ensures.items) (All-push (IsCellWithin 15) c.loop-place.cells.items w.field_cell.result before.inside w.field_cell.ensures.inside));
+      }
+      | else-bit_at w ↦ record {
+        cells = rw w.cells-is (before.cells ∙ sym (live-no bytes n (sym c.bit_at.ensures ∙ w.if-bit_at.false)));
+        inside = rw w.cells-is before.inside;
+      }
+    ]
+
+pub returns-clause-cells : goal.returns-clause-cells
+returns-clause-cells g c =
+    let end = c.loop-place.auto.place-end in
+    let all : c.loop-place.place ≡ 256 = omega (arith, end, c.loop-place-test.false) in
+    c.loop-place.invariant.cells ∙ ap (live_cells c.args.digest.now) all

@@ -1,0 +1,11 @@
+use Rattle.std.proofs.Common.{◌≡◌}
+use Rattle.std.specs.List.{All}
+use Rattle.life_core.specs.Cell.{IsCellWithin}
+use Rattle.life_hauls.specs.Soups.{live_cells}
+use Rattle.life_hauls.proofs.soups.live_cells.Given as goal
+
+abbrev pub invariant-loop-place : goal.invariant-loop-place
+invariant-loop-place g l = record {
+  cells : l.cells.items ≡ live_cells l.digest l.place;
+  inside : All (IsCellWithin 15) l.cells.items;
+}

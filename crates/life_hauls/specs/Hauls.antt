@@ -1,0 +1,108 @@
+-- Hauls: how often each code stands in the fields of many soups, and the first soup that has it (Catagolue, "haul" and "census").
+use Rattle.std.specs.Prelude.{ℕ, zero, suc, ◌+◌, min, Bool, true, false, List, [], ◌∷◌, ◌++◌, map, length, sum_by, count_by, filter, Option, None, Some, option_map, is_none, refl}
+use Rattle.std.specs.Coded.{Coded, code_by, coded×, coded_ℕ, coded_list, coded_option}
+use Rattle.std.specs.List.{filter_map, flat_map, range_with_len}
+use Rattle.std.specs.FinMap as table
+use Rattle.life_core.specs.Generations.{generation_of}
+use Rattle.life_core.specs.Rule.{RuleSets}
+use Rattle.life_code.specs.Codes.{code_of}
+use Rattle.life_census.specs.Parts.{parts}
+use Rattle.life_census.specs.Counting.{row_cmp, how_often}
+use Rattle.life_hauls.specs.declared.rows.Sighting.{Sighting}
+use Rattle.life_hauls.specs.declared.rows.HaulRow.{HaulRow}
+use Rattle.life_hauls.specs.Soups.{soup_of}
+
+-- ---- what a haul holds
+
+-- a row as its code and what was seen of it
+abbrev pub row_seen : {A : Type 0} → HaulRow A → List ℕ × Sighting
+row_seen r = (r.code, r.seen)
+
+-- codes with what was seen of them, what was seen of clusters that have no code, how many soups there were, and how many clusters
+pub record HaulCounts : Type 0 where
+  pub rows : List (List ℕ × Sighting)
+  pub unresolved : Option Sighting
+  pub soups : ℕ
+  pub total : ℕ
+
+-- a sighting is stored as the pair of its parts
+abbrev pub coded_sighting : Coded Sighting
+coded_sighting = code_by (ℕ × ℕ) (coded× coded_ℕ coded_ℕ) (λ s. (s.count, s.first)) (λ p. record { count = p.0; first = p.1 }) (λ _. refl)
+
+-- and so are the counts
+abbrev pub coded_counts : Coded HaulCounts
+coded_counts =
+    code_by (List (List ℕ × Sighting) × (Option Sighting × (ℕ × ℕ)))
+    (coded× (coded_list (coded× (coded_list coded_ℕ) coded_sighting)) (coded× (coded_option coded_sighting) (coded× coded_ℕ coded_ℕ)))
+    (λ h. (h.rows, (h.unresolved, (h.soups, h.total))))
+    (λ p. record { rows = p.0; unresolved = p.1.0; soups = p.1.1.0; total = p.1.1.1 })
+    (λ _. refl)
+
+-- ---- what is seen in soups
+
+-- the lesser of a number and another, if there is one
+abbrev pub lesser_number : ℕ → Option ℕ → ℕ
+lesser_number n None = n
+lesser_number n (Some m) = min n m
+
+-- the least of some numbers, if there is one
+abbrev pub least_number : List ℕ → Option ℕ
+least_number [] = None
+least_number (n ∷ ns) = Some (lesser_number n (least_number ns))
+
+-- whether a number is not 0
+abbrev pub is_positive : ℕ → Bool
+is_positive zero = false
+is_positive (suc n) = true
+
+-- where soup i has f i of something: how many the soups of these numbers have, and the least of the numbers whose soup has one; none where no soup has
+unfoldable pub seen : (ℕ → ℕ) → List ℕ → Option Sighting
+seen f ns = option_map (λ i. record { count = sum_by f ns; first = i }) (least_number (filter (λ i. is_positive (f i)) ns))
+
+-- each text of a list of which f says something, with what it says, in byte order and each once
+unfoldable pub rows_by : (List ℕ → Option Sighting) → List (List ℕ) → List (List ℕ × Sighting)
+rows_by f ts = table.entries (table.from_entries {R = row_cmp} (filter_map (λ t. option_map (λ s. (t, s)) (f t)) ts))
+
+-- two sightings as one
+abbrev pub both : Sighting → Sighting → Sighting
+both a b = record { count = a.count + b.count; first = min a.first b.first }
+
+-- a sighting with another before it, if there is one
+abbrev pub more : Option Sighting → Sighting → Sighting
+more None s = s
+more (Some a) s = both a s
+
+-- what was seen in two hauls
+abbrev pub joined : Option Sighting → Option Sighting → Option Sighting
+joined a None = a
+joined a (Some s) = Some (more a s)
+
+-- the codes of clusters that have one
+abbrev pub texts_in : List (Option (List ℕ)) → List (List ℕ)
+texts_in os = filter_map (λ o. o) os
+
+-- what is counted over the soups of these numbers, where `codes i` is the list of the codes of the clusters of soup i, with none for each that has none
+unfoldable pub counts_over : (ℕ → List (Option (List ℕ))) → List ℕ → HaulCounts
+counts_over codes ns = record {
+  rows = rows_by (λ t. seen (λ i. how_often t (texts_in (codes i))) ns) (flat_map (λ i. texts_in (codes i)) ns);
+  unresolved = seen (λ i. count_by is_none (codes i)) ns;
+  soups = length ns;
+  total = sum_by (λ i. length (codes i)) ns;
+}
+
+-- two hauls as one, as they are added up from what several machines counted
+unfoldable pub together : HaulCounts → HaulCounts → HaulCounts
+together a b = record {
+  rows = rows_by (λ t. joined (table.find row_cmp t a.rows) (table.find row_cmp t b.rows)) (map (λ e. e.0) (a.rows ++ b.rows));
+  unresolved = joined a.unresolved b.unresolved;
+  soups = a.soups + b.soups;
+  total = a.total + b.total;
+}
+
+-- the codes of the clusters of generation n of soup i
+abbrev pub soup_codes : List ℕ → RuleSets → ℕ → ℕ → ℕ → List (Option (List ℕ))
+soup_codes root rule n limit i = map (λ P. code_of rule P limit) (parts (generation_of rule (soup_of root i) n))
+
+-- the haul over so many soups, from a first number on
+abbrev pub haul_of : List ℕ → RuleSets → ℕ → ℕ → ℕ → ℕ → HaulCounts
+haul_of root rule n limit first count = counts_over (soup_codes root rule n limit) (range_with_len first count)

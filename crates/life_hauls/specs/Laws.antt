@@ -1,0 +1,75 @@
+-- What makes the definitions of hauls believable.
+use Rattle.std.specs.Prelude.{◌≡◌, ◌↔◌, ◌≤◌, ℕ, ◌+◌, List, map, sum_by, Option, None, Some}
+use Rattle.std.specs.Option.{unwrap_or}
+use Rattle.std.specs.List.{Contains, range_with_len}
+use Rattle.std.specs.List.Sorted.{IsStrictlySortedBy}
+use Rattle.std.specs.FinMap as table
+use Rattle.life_core.specs.Generations.{generation_of}
+use Rattle.life_core.specs.Rule.{RuleSets}
+use Rattle.life_code.specs.Codes.{code_of}
+use Rattle.life_census.specs.Parts.{parts}
+use Rattle.life_census.specs.Rows.{TallyCounts}
+use Rattle.life_census.specs.Counting.{row_cmp, tally_of}
+use Rattle.life_hauls.specs.declared.rows.Sighting.{Sighting}
+use Rattle.life_hauls.specs.Hauls.{HaulCounts, seen, joined, together, haul_of}
+use Rattle.life_hauls.specs.Soups.{soup_of}
+
+-- ---- many machines
+
+-- The haul over two ranges, one behind the other, is what the hauls over each are together ..
+abbrev pub HaulsAddUp : Type 0
+HaulsAddUp = (root : List ℕ) (rule : RuleSets) (n limit first a b : ℕ) → haul_of root rule n limit first (a + b) ≡ together (haul_of root rule n limit first a) (haul_of root rule n limit (first + a) b)
+
+-- .. which has of each code what both have of it: the counts add up, and the first soup is the lesser ..
+abbrev pub TogetherByCodes : Type 0
+TogetherByCodes = (a b : HaulCounts) (code : List ℕ) → table.find row_cmp code (together a b).rows ≡ joined (table.find row_cmp code a.rows) (table.find row_cmp code b.rows)
+
+-- .. in whatever order they are taken.
+abbrev pub TogetherInAnyOrder : Type 0
+TogetherInAnyOrder = (a b : HaulCounts) → together a b ≡ together b a
+
+-- ---- sightings
+
+-- how many were seen
+abbrev pub count_of : Option Sighting → ℕ
+count_of None = 0
+count_of (Some s) = s.count
+
+-- The count is the sum over the soups, and the first soup has one, as does none with a lesser number ..
+abbrev pub SeenIsLeast : Type 0
+SeenIsLeast = (f : ℕ → ℕ) (ns : List ℕ) (s : Sighting) → seen f ns ≡ Some s → (s.count ≡ sum_by f ns) × Contains ns s.first × (1 ≤ f s.first) × ((i : ℕ) → Contains ns i → 1 ≤ f i → s.first ≤ i)
+
+-- .. and nothing is seen exactly where the sum is 0.
+abbrev pub NothingIsSeen : Type 0
+NothingIsSeen = (f : ℕ → ℕ) (ns : List ℕ) → (seen f ns ≡ None) ↔ (sum_by f ns ≡ 0)
+
+-- ---- tallies
+
+-- the tally of generation n of soup i
+abbrev pub soup_tally : List ℕ → RuleSets → ℕ → ℕ → ℕ → TallyCounts
+soup_tally root rule n limit i = tally_of (λ P. code_of rule P limit) (parts (generation_of rule (soup_of root i) n))
+
+-- how many clusters of a tally have a code
+abbrev pub count_in : List ℕ → TallyCounts → ℕ
+count_in code t = unwrap_or (table.find row_cmp code t.rows) 0
+
+-- The row of a code is what was seen of it in the tallies of the soups: none, if none of them has it ..
+abbrev pub RowsAreOfTallies : Type 0
+RowsAreOfTallies = (root : List ℕ) (rule : RuleSets) (n limit first count : ℕ) (code : List ℕ)
+    → table.find row_cmp code (haul_of root rule n limit first count).rows ≡ seen (λ i. count_in code (soup_tally root rule n limit i)) (range_with_len first count)
+
+-- .. the rows ascend by their codes, byte by byte ..
+abbrev pub RowsAscend : Type 0
+RowsAscend = (root : List ℕ) (rule : RuleSets) (n limit first count : ℕ) → IsStrictlySortedBy row_cmp (map (λ (row : List ℕ × Sighting). row.0) (haul_of root rule n limit first count).rows)
+
+-- .. what was seen without a code is what the tallies have ..
+abbrev pub UnresolvedAreOfTallies : Type 0
+UnresolvedAreOfTallies = (root : List ℕ) (rule : RuleSets) (n limit first count : ℕ)
+    → (haul_of root rule n limit first count).unresolved ≡ seen (λ i. (soup_tally root rule n limit i).unresolved) (range_with_len first count)
+
+-- .. and each cluster of each soup is counted once.
+abbrev pub ClustersCountOnce : Type 0
+ClustersCountOnce = (root : List ℕ) (rule : RuleSets) (n limit first count : ℕ)
+    → (sum_by (λ (row : List ℕ × Sighting). row.1.count) (haul_of root rule n limit first count).rows + count_of (haul_of root rule n limit first count).unresolved
+    ≡ sum_by (λ i. (soup_tally root rule n limit i).total) (range_with_len first count))
+    × ((haul_of root rule n limit first count).total ≡ sum_by (λ i. (soup_tally root rule n limit i).total) (range_with_len first count))

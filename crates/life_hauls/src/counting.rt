@@ -1,0 +1,130 @@
+//! Counting the codes of soup after soup.
+ghost use Rattle.std.specs.Prelude.{◌≡◌, ◌≤◌, T, length, map, OnOk, IfOk, MatchResult};
+ghost use Rattle.std.specs.FinMap as table;
+ghost use Rattle.std.specs.Ordering.{is_gt};
+ghost use Rattle.life_census.specs.Counting.{row_cmp};
+ghost use Rattle.life_hauls.specs.Hauls.{more, row_seen};
+ghost use Rattle.life_hauls.specs.HaulsState.{once, noted, with_code, with_soup, AreBelow, AreNotBelow, IsRowOf, IsPlaceFor};
+
+use crate::rows::{Haul, HaulRow, Sighting};
+use life_census::CodeText;
+use life_core::Fault;
+use std::alloc::{AllocError, Allocator};
+use std::cmp::Ordering;
+
+/// What was seen of something, with one more in a soup.
+fn more(seen: Option<Sighting>, number: u64) -> Result<Sighting, AllocError>
+    ensures { IfOk result (λ s. s ≡ more seen (once number)) }
+{
+    match seen {
+        None => Ok(Sighting {
+            count: 1,
+            first: number,
+        }),
+        Some(seen) => match seen.count.checked_add(1) {
+            Some(count) => Ok(Sighting {
+                count,
+                first: seen.first.min(number),
+            }),
+            None => Err(AllocError),
+        },
+    }
+}
+
+/// Counts one more of a code.
+fn note<A: Allocator + Copy>(
+    alloc: A,
+    rows: &mut Vec<HaulRow<A>, A>,
+    code: &CodeText<A>,
+    number: u64,
+) -> Result<(), AllocError>
+    requires { T (table.is_sorted row_cmp (map row_seen rows.old.items)) }
+    ensures { OnOk result (map row_seen rows.new.items ≡ noted number (map row_seen rows.old.items) code.now) }
+{
+    match place_of(rows, code.as_bytes()) {
+        Ok(i) => {
+            let seen = more(Some(rows[i].seen), number)?;
+            rows[i].seen = seen;
+        }
+        Err(i) => {
+            let seen = more(None, number)?;
+            let code = CodeText::from_slice(alloc, code.as_bytes())?;
+            rows.insert(i, HaulRow { code, seen })?;
+        }
+    }
+    Ok(())
+}
+
+/// The place of a code among rows, or the place where it belongs.
+fn place_of<A: Allocator>(rows: &[HaulRow<A>], code: &[u8]) -> Result<usize, usize>
+    requires { T (table.is_sorted row_cmp (map row_seen rows.now)) }
+    ensures before { MatchResult result (AreBelow rows.now code.now) (AreBelow rows.now code.now) }
+    ensures here { MatchResult result (IsRowOf rows.now code.now) (IsPlaceFor rows.now code.now) }
+{
+    let i = first_not_below(rows, code);
+    if i == rows.len() {
+        return Err(i);
+    }
+    match code.cmp(rows[i].code.as_bytes()) {
+        Ordering::Equal => Ok(i),
+        _ => Err(i),
+    }
+}
+
+/// The place of the first row whose code is not below a code.
+fn first_not_below<A: Allocator>(rows: &[HaulRow<A>], code: &[u8]) -> usize
+    requires { T (table.is_sorted row_cmp (map row_seen rows.now)) }
+    ensures bound { result ≤ length rows.now }
+    ensures before { AreBelow rows.now code.now result }
+    ensures behind { AreNotBelow rows.now code.now result }
+{
+    rows.partition_point(|row| is_below(row, code))
+}
+
+/// Whether the row has a lesser code.
+fn is_below<A: Allocator>(row: &HaulRow<A>, code: &[u8]) -> bool
+    ensures { result ≡ is_gt (row_cmp code.now row.now.code) }
+{
+    code.cmp(row.code.as_bytes()).is_gt()
+}
+
+/// Counts one more cluster of a soup, by its code, or without one.
+fn count_cluster<A: Allocator + Copy>(
+    alloc: A,
+    haul: &mut Haul<A>,
+    code: &Option<CodeText<A>>,
+    number: u64,
+) -> Result<(), AllocError>
+    requires { T (table.is_sorted row_cmp haul.old.rows) }
+    ensures { OnOk result (haul.new ≡ with_code number haul.old code.now) }
+{
+    match code {
+        Some(code) => note(alloc, &mut haul.rows, code, number)?,
+        None => haul.unresolved = Some(more(haul.unresolved, number)?),
+    }
+    match haul.total.checked_add(1) {
+        Some(total) => haul.total = total,
+        None => return Err(AllocError),
+    }
+    Ok(())
+}
+
+/// Counts the clusters of one more soup, by their codes.
+pub fn count_soup<A: Allocator + Copy>(
+    alloc: A,
+    haul: &mut Haul<A>,
+    codes: &[Option<CodeText<A>>],
+    number: u64,
+) -> Result<(), Fault>
+    requires { T (table.is_sorted row_cmp haul.old.rows) }
+    ensures { OnOk result (haul.new ≡ with_soup number haul.old codes.now) }
+{
+    for code in codes {
+        count_cluster(alloc, haul, code, number)?;
+    }
+    match haul.soups.checked_add(1) {
+        Some(soups) => haul.soups = soups,
+        None => return Err(Fault::Memory),
+    }
+    Ok(())
+}

@@ -1,0 +1,60 @@
+//! Hauls.
+ghost use Rattle.std.specs.Prelude.{◌≡◌, ◌+◌, ◌≤◌, ◌<◌, ◌^◌, map, IfOk};
+ghost use Rattle.life_core.specs.Generations.{generation_of};
+ghost use Rattle.life_code.specs.Codes.{code_of};
+ghost use Rattle.life_census.specs.Parts.{parts};
+ghost use Rattle.life_hauls.specs.Hauls.{haul_of};
+ghost use Rattle.life_hauls.specs.Soups.{soup_of};
+
+use crate::counting::count_soup;
+use crate::rows::Haul;
+use crate::soups::soup;
+use life_census::{CodeText, Names};
+use life_code::PERIOD_LIMIT;
+use life_core::{Fault, GENERATION_LIMIT, Rule, generation};
+use std::alloc::Allocator;
+
+/// The codes of the clusters of generation `n` of a soup.
+fn codes_of_soup<A: Allocator + Copy>(
+    alloc: A,
+    root: &[u8],
+    rule: &Rule,
+    n: u32,
+    names: &mut Names<A>,
+    number: u64,
+) -> Result<Vec<Option<CodeText<A>>, A>, Fault>
+    requires { n ≤ GENERATION_LIMIT }
+    ensures same { names.new ≡ names.old }
+    ensures codes { IfOk result (λ v. v.items ≡ map (λ P. code_of names.old.rule P names.old.limit) (parts (generation_of rule.now (soup_of root.now number) n))) }
+{
+    let soup = soup(alloc, root, number)?;
+    let field = generation(alloc, rule, &soup, n)?;
+    names.codes(alloc, &field)
+}
+
+/// The haul over `count` soups of a root text, from the number `first` on: how many clusters of their generation `n` have each code under
+/// the rule and the limit of the period, and the number of the first soup that has one.
+pub fn haul<A: Allocator + Copy>(
+    alloc: A,
+    root: &[u8],
+    rule: &Rule,
+    n: u32,
+    limit: u32,
+    first: u64,
+    count: u64,
+) -> Result<Haul<A>, Fault>
+    requires few { n ≤ GENERATION_LIMIT }
+    requires from_one { 1 ≤ limit }
+    requires limit { limit ≤ PERIOD_LIMIT }
+    requires numbers { first + count < 2 ^ 64 }
+    ensures { IfOk result (λ h. h ≡ haul_of root.now rule.now n limit first count) }
+{
+    let mut names = Names::new(alloc, *rule, limit);
+    let mut haul = Haul::none(alloc);
+    for i in 0..count {
+        let number = first + i;
+        let codes = codes_of_soup(alloc, root, rule, n, &mut names, number)?;
+        count_soup(alloc, &mut haul, &codes, number)?;
+    }
+    Ok(haul)
+}

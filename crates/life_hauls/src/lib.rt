@@ -1,0 +1,19 @@
+//! Hauls: random fields by the thousand, each from a text and a number, of which the clusters are counted code by code.
+#![tactic(auto)]
+
+mod counting;
+mod hauls;
+mod jobs;
+mod laws;
+mod rows;
+mod soups;
+mod table;
+mod words;
+
+pub use hauls::haul;
+pub use jobs::{COUNT_LIMIT, FIRST_LIMIT, HaulWords, run_haul};
+pub use laws::{laws_of_hauls, laws_of_limits, laws_of_soups};
+pub use rows::{Haul, HaulRow, Sighting};
+pub use soups::soup;
+pub use table::csv;
+pub use words::{haul_command, read_words};

@@ -1,0 +1,56 @@
+//! What a haul holds: codes, each with what was seen of it.
+ghost use Rattle.std.specs.Prelude.{◌≡◌, [], None, map};
+ghost use Rattle.life_hauls.specs.Hauls.{row_seen};
+
+use life_census::CodeText;
+use std::alloc::{Allocator, Global};
+use std::marker::Model;
+
+/// How many clusters there were, and the least number of a soup that has one.
+#[derive(Clone, Copy, Debug, PartialEq, Eq)]
+pub struct Sighting {
+    pub count: u64,
+    pub first: u64,
+}
+
+/// A code, and what was seen of it.
+#[derive(Debug, Drop)]
+pub struct HaulRow<A: Allocator = Global> {
+    pub code: CodeText<A>,
+    pub seen: Sighting,
+}
+
+/// What was counted over many soups: a row for each code in byte order, what was seen of clusters without a code, how many soups there
+/// were, and how many clusters.
+#[derive(Debug, Drop)]
+pub struct Haul<A: Allocator = Global> {
+    pub rows: Vec<HaulRow<A>, A>,
+    pub unresolved: Option<Sighting>,
+    pub soups: u64,
+    pub total: u64,
+}
+
+impl<A: Allocator> Model for Haul<A> {
+    ghost use Rattle.std.specs.Prelude.{map};
+    ghost use Rattle.life_hauls.specs.Hauls.{HaulCounts, coded_counts, row_seen};
+
+    ghost Value = { HaulCounts };
+
+    ghost coded = { coded_counts };
+
+    ghost view = { λ h. record { rows = map row_seen h.rows.items; unresolved = h.unresolved; soups = h.soups; total = h.total } };
+}
+
+impl<A: Allocator> Haul<A> {
+    /// The haul over no soup.
+    pub(crate) fn none(alloc: A) -> Haul<A>
+        ensures { result ≡ record { rows = []; unresolved = None; soups = 0; total = 0 } }
+    {
+        Haul {
+            rows: Vec::new(alloc),
+            unresolved: None,
+            soups: 0,
+            total: 0,
+        }
+    }
+}

@@ -1,12 +1,16 @@
-//! The connections of an archive.
+//! The connections that come to a port of this machine.
+
+ghost use Rattle.std.specs.Prelude.{◌≡◌, ℕ, is_ok};
+ghost use Rattle.life_archive.specs.Session.{ServesOne, untold, failures_after};
 
 use crate::peer::Peer;
-use life_archive::{ArchiveStop, run_serve};
+use life_archive::{ArchiveStop, Connections, run_serve};
 use life_jobs::Stop;
 use life_pages::IoFault;
 use life_rle::{FromRead, FromWrite};
 use life_store::Archive;
 use sqlite::Alter;
+use std::alloc::Global;
 use std::io;
 use std::net::{OpenListener, TcpListener};
 
@@ -21,6 +25,11 @@ fn listen(rt: &HostRuntime, port: u64) -> Result<TcpListener, ArchiveStop> {
     }
 }
 
+/// Prints where the program listens.
+fn say_port(rt: &HostRuntime, port: u64) -> io::Result<()> {
+    println!(rt; "listening on 127.0.0.1:{port}")
+}
+
 /// The line for a connection that ended before its end.
 fn fault_line(fault: IoFault) -> &'static str {
     match fault {
@@ -31,49 +40,79 @@ fn fault_line(fault: IoFault) -> &'static str {
     }
 }
 
-/// Serves the next connection.
+/// Serves the next connection. Without a listener none comes, and that is a failed read.
 fn serve_next<S: Alter>(
     rt: &HostRuntime,
+    alloc: Global,
     archive: &mut Archive<S>,
-    listener: &TcpListener,
-) -> Result<(), IoFault> {
+    listener: &Option<TcpListener>,
+) -> Result<(), IoFault>
+    ensures { (n : ℕ) → ServesOne S.Store archive.old archive.new (untold n) (untold (failures_after (is_ok result) n)) }
+{
+    let Some(listener) = listener else {
+        return Err(IoFault::Read);
+    };
     let Ok((stream, _)) = listener.accept() else {
         return Err(IoFault::Read);
     };
     let peer = Peer::new(rt, &stream);
     let served = run_serve(
-        rt.alloc(),
+        alloc,
         archive,
         &mut FromRead::new(&peer),
         &mut FromWrite::new(&peer),
     );
-    // Nobody is told where the peer is gone already.
+    // If the peer is gone already there is nobody to tell.
     let _ended = peer.end();
     served
 }
 
-/// Serves so many connections at a port, one after the other. A connection that fails prints a line and
-/// counts.
-pub fn serve_port<S: Alter>(
-    rt: &HostRuntime,
-    archive: &mut Archive<S>,
+/// The connections that come to a port, which is listened at once the archive is open.
+#[derive(Drop)]
+pub struct Port<'a> {
+    rt: &'a HostRuntime,
     port: u64,
-    connections: u64,
-) -> Result<(), ArchiveStop> {
-    let listener = listen(rt, port)?;
-    if say_port(rt, port).is_err() {
-        return Err(ArchiveStop::Job(Stop::Unwritable));
-    }
-    for _ in 0..connections {
-        if let Err(fault) = serve_next(rt, archive, &listener) {
-            // Where standard error fails there is nobody to tell.
-            let _told = rt.eprintln(fault_line(fault));
-        }
-    }
-    Ok(())
+    listener: Option<TcpListener>,
+    /// How many were not served to their end.
+    failures: u64,
 }
 
-/// Prints where the program listens.
-fn say_port(rt: &HostRuntime, port: u64) -> io::Result<()> {
-    println!(rt; "listening on 127.0.0.1:{port}")
+impl<'a> Port<'a> {
+    /// The port, before it is listened at.
+    pub fn new(rt: &'a HostRuntime, port: u64) -> Port<'a>
+        ensures { ⟦<Port<'static> as Connections>⟧.traffic result ≡ untold 0 }
+    {
+        Port {
+            rt,
+            port,
+            listener: None,
+            failures: 0,
+        }
+    }
+}
+
+impl Connections for Port<'_> {
+    // What a socket carries is unknown: only how many connections were not served to their end is counted.
+    ghost traffic = { λ s. untold s.failures };
+
+    /// Listens at the port, and prints the line that says so.
+    fn listen(&mut self) -> Result<(), ArchiveStop> {
+        self.listener = Some(listen(self.rt, self.port)?);
+        match say_port(self.rt, self.port) {
+            Ok(()) => Ok(()),
+            Err(_) => Err(ArchiveStop::Job(Stop::Unwritable)),
+        }
+    }
+
+    /// A connection that fails prints a line.
+    fn serve_next<S: Alter>(&mut self, alloc: Global, archive: &mut Archive<S>) {
+        match serve_next(self.rt, alloc, archive, &self.listener) {
+            Ok(()) => {}
+            Err(fault) => {
+                self.failures = self.failures.saturating_add(1);
+                // If standard error fails there is nobody to tell.
+                let _told = self.rt.eprintln(fault_line(fault));
+            }
+        }
+    }
 }

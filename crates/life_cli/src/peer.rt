@@ -15,7 +15,7 @@ const MESSAGE: u64 = 10;
 /// How many seconds a reply may take to be taken.
 const REPLY: u64 = 10;
 
-/// For how many seconds at most it is read and dropped what a peer still sends after the last reply.
+/// How many seconds at most are spent on reading and dropping what a peer still sends after the last reply.
 const REST: u64 = 2;
 
 /// How many pieces of it are dropped at most.
@@ -34,6 +34,8 @@ pub struct Peer<'a> {
     message: Cell<Option<Duration>>,
     /// How much longer the reply may take that is put.
     reply: Cell<Duration>,
+    /// Whether the last read found nothing more to read: the peer's end, or its silence.
+    is_drained: Cell<bool>,
 }
 
 impl<'a> Peer<'a> {
@@ -44,12 +46,17 @@ impl<'a> Peer<'a> {
             stream,
             message: Cell::new(None),
             reply: Cell::new(Duration::from_secs(REPLY)),
+            is_drained: Cell::new(false),
         }
     }
 
-    /// Tells the peer that nothing more comes, and drops some of what it still sends, so that the last reply reaches it.
+    /// Tells the peer that nothing more comes. If bytes of it may be unread, some of them are read and dropped: a socket that is closed over
+    /// unread bytes resets the connection, and the last reply may be lost. A peer that was silent or has ended is not waited for again.
     pub fn end(&self) -> io::Result<()> {
         self.stream.shutdown(Shutdown::Write)?;
+        if self.is_drained.get() {
+            return Ok(());
+        }
         let begun = Instant::now(self.rt)?;
         let mut reader = self.stream;
         let mut piece = [0u8; 4096];
@@ -80,9 +87,13 @@ impl Read for &Peer<'_> {
                     None => Duration::from_secs(MESSAGE),
                 };
                 self.message.set(Some(left));
+                self.is_drained.set(k == 0);
                 Ok(k)
             }
-            Err(error) if left.is_none() && error.kind() == ErrorKind::WouldBlock => Ok(0),
+            Err(error) if left.is_none() && error.kind() == ErrorKind::WouldBlock => {
+                self.is_drained.set(true);
+                Ok(0)
+            }
             Err(error) => Err(error),
         }
     }

@@ -2,8 +2,10 @@
 //! texts; what asks for an archive is unavailable here.
 #![tactic(auto)]
 
+ghost use Rattle.std.specs.Prelude.{◌≡◌, Some, codes};
+
 use life_jobs::Stop;
-use life_program::{ArchiveJob, ArchiveJobs, run_program};
+use life_program::{ArchiveJobs, run_program};
 use life_rle::{Inlet, Outlet};
 use std::io;
 use std::process::ExitCode;
@@ -12,12 +14,26 @@ use std::process::ExitCode;
 struct NoArchive;
 
 impl ArchiveJobs for NoArchive {
-    fn done<I: Inlet, O: Outlet>(
+    ghost deposits = { λ member token told old new line. line ≡ Some (codes "refused: unavailable") };
+
+    ghost serves = { λ port connections line. line ≡ Some (codes "refused: unavailable") };
+
+    fn deposit<I: Inlet, O: Outlet>(
         _rt: &HostRuntime,
         _file: &str,
-        _job: ArchiveJob<'_>,
+        _member: &str,
+        _token: &str,
         _input: &mut I,
         _output: &mut O,
+    ) -> Result<(), &'static str> {
+        Err(Stop::Unavailable.line())
+    }
+
+    fn serve(
+        _rt: &HostRuntime,
+        _file: &str,
+        _port: u64,
+        _connections: u64,
     ) -> Result<(), &'static str> {
         Err(Stop::Unavailable.line())
     }

@@ -4,6 +4,7 @@
 use Rattle.std.specs.Prelude.{◌≡◌, true, if◌then◌else◌, List, [], ◌∷◌, Option, None, Some, codes, bytes_eq, Result, Ok, Err}
 use Rattle.clap.specs.Words.{App, Row, Text, Kinds, new_app, with_subcommand, fault_of, subcommand_of}
 use Rattle.clap.specs.Simple.{on_top}
+use Rattle.life_words.specs.Words.{with_version}
 use Rattle.life_words.specs.declared.fault.WordFault.{WordFault}
 use Rattle.life_words.specs.declared.fault.WordFault.TheVariants.{BadWords, Memory}
 use Rattle.life_pictures.specs.declared.jobs.Picture.{Picture}
@@ -19,7 +20,7 @@ svg_app = new_app (codes "svg")
 
 -- the program's name, which wants one of its subcommands
 abbrev pub draw_alone : App
-draw_alone = on_top (λ top. record top { subcommand_required = true }) (new_app (codes "life-draw"))
+draw_alone = on_top (λ top. record top { subcommand_required = true }) (with_version (new_app (codes "life-draw")))
 
 -- the whole command, with its subcommands in the order in which help lists them
 abbrev pub draw : App

@@ -7,7 +7,7 @@ ghost use Rattle.life_pictures.specs.Words.{text_app, svg_app, draw_alone, draw,
 
 use crate::jobs::Picture;
 use clap::{ArgMatches, Command};
-use life_words::{WordFault, named_command};
+use life_words::{WordFault, named_command, program_command};
 use std::alloc::{AllocError, Global};
 use std::convert::AsStr;
 
@@ -59,10 +59,13 @@ fn svg_command<'a>(alloc: Global) -> Command<'a>
 fn command_alone<'a>(alloc: Global) -> Command<'a>
     ensures { app_of result ≡ draw_alone }
 {
-    Command::new(alloc, "life-draw")
-        .about("Pictures of Game of Life patterns")
-        .after_help(DRAW_HELP)
-        .subcommand_required(true)
+    program_command(
+        alloc,
+        "life-draw",
+        "Pictures of Game of Life patterns",
+        DRAW_HELP,
+    )
+    .subcommand_required(true)
 }
 
 // The command with one more subcommand, which has no global argument, if it was made.

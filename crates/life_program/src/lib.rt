@@ -1,9 +1,11 @@
-//! What is common to the programs: what is printed where a job stops, and with which status a program ends; and, for those that take the
-//! words of `life`, which job they name.
+//! What is common to the programs: what is printed if a job stops, and with which status a program ends; and, for those that take the
+//! arguments of `life`, which job they name.
 #![tactic(auto)]
 
+mod job;
 mod printing;
 mod program;
 
+pub use job::{ArchiveJobs, do_job};
 pub use printing::{print_fault, print_stop};
-pub use program::{ArchiveJob, ArchiveJobs, run_program};
+pub use program::run_program;

@@ -1,5 +1,6 @@
-//! What a program prints on standard error where it does no job, and the status that it then ends with.
+//! What a program prints if it does no job, and the status that it then ends with.
 
+use clap::error::ErrorKind;
 use life_jobs::Stop;
 use life_words::WordFault;
 use std::io;
@@ -16,9 +17,14 @@ pub fn print_stop(rt: &impl Eprint, line: &str) -> io::Result<ExitCode> {
     Ok(ExitCode::FAILURE)
 }
 
-/// Prints why the words name no job: what `clap` says of them, with the status 2, or that memory was refused, as a stop.
-pub fn print_fault(rt: &impl Eprint, fault: WordFault) -> io::Result<ExitCode> {
+/// Prints why the arguments name no job: what `clap` says of them on standard error, with the status 2, or that memory was refused, as a stop.
+/// The version is printed on standard output, with the status 0.
+pub fn print_fault(rt: &HostRuntime, fault: WordFault) -> io::Result<ExitCode> {
     match fault {
+        WordFault::BadWords(Some(error)) if error.kind() == ErrorKind::DisplayVersion => {
+            print!(rt; "{error}")?;
+            return Ok(ExitCode::SUCCESS);
+        }
         WordFault::BadWords(Some(error)) => eprint!(rt; "{error}")?,
         WordFault::BadWords(None) => {}
         WordFault::Memory => return print_stop(rt, Stop::Unavailable.line()),

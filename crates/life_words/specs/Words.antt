@@ -64,9 +64,13 @@ serve = with_rule (with_rule (with_rule (new_app (codes "serve")) file_rule) (nu
 abbrev pub subcommands : List App
 subcommands = generation ∷ kind ∷ object ∷ census ∷ deposit ∷ serve ∷ []
 
+-- a command that has a version, which `--version` asks for
+abbrev pub with_version : App → App
+with_version command = on_top (λ top. record top { has_version = true }) command
+
 -- the program's name, which wants one of its subcommands
 abbrev pub life_alone : App
-life_alone = on_top (λ top. record top { subcommand_required = true }) (new_app (codes "life"))
+life_alone = on_top (λ top. record top { subcommand_required = true }) (with_version (new_app (codes "life")))
 
 -- the whole command
 abbrev pub life_app : App

@@ -1,6 +1,7 @@
 //! What the commands of all programs have in common: how they begin, and the words of the process that they are given.
 ghost use Rattle.std.specs.Prelude.{◌≡◌, false};
 ghost use Rattle.clap.specs.Words.{new_app, app_of};
+ghost use Rattle.life_words.specs.Words.{with_version};
 ghost use Rattle.clap.specs.declared.builder.command.Command.TheViews.{out-Command as fields_of};
 
 use crate::fault::WordFault;
@@ -15,6 +16,22 @@ pub fn named_command<'a>(alloc: Global, name: &'a str, about: &'a str, help: &'a
     ensures local { (fields_of result).has_globals ≡ false }
 {
     Command::new(alloc, name).about(about).after_help(help)
+}
+
+/// The version of the programs, which `--version` prints.
+pub const VERSION: &str = "1.0.0";
+
+/// As [`named_command`], of a whole program: it has a version too.
+pub fn program_command<'a>(
+    alloc: Global,
+    name: &'a str,
+    about: &'a str,
+    help: &'a str,
+) -> Command<'a>
+    ensures app { app_of result ≡ with_version (new_app name.entry.now) }
+    ensures local { (fields_of result).has_globals ≡ false }
+{
+    named_command(alloc, name, about, help).version(VERSION)
 }
 
 /// The words of the process, the program's name first. Where one of them is not UTF-8, they are bad words, with the text that `clap`

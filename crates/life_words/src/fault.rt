@@ -9,7 +9,7 @@ use std::alloc::AllocError;
 /// Why words name no job.
 #[derive(Drop)]
 pub enum WordFault {
-    /// The words are not the command's, or ask for help. The error has the text for the user.
+    /// The words are not the command's, or ask for help or for the version. The error has the text for the user.
     BadWords(Option<Error>),
     /// A growth was refused.
     Memory,

@@ -5,6 +5,6 @@ mod commands;
 mod fault;
 mod words;
 
-pub use commands::{named_command, words_of};
+pub use commands::{VERSION, named_command, program_command, words_of};
 pub use fault::WordFault;
 pub use words::{Job, life_command, read_words};

@@ -6,7 +6,7 @@ ghost use Rattle.clap.specs.declared.builder.command.Command.TheViews.{out-Comma
 ghost use Rattle.life_words.specs.Words.{number_rule, number_rule_in, text_rule, file_rule, generation, kind, object, census, deposit, serve, life_alone, life_app, asked_by};
 ghost use Rattle.life_words.specs.Words.{AsksGeneration, AsksKind, number_at, text_at, object_of, census_of, deposit_of, serve_of, job_of, Answers};
 
-use crate::commands::named_command;
+use crate::commands::{named_command, program_command};
 use crate::fault::WordFault;
 use clap::builder::ValueParser;
 use clap::{Arg, ArgMatches, Command};
@@ -294,10 +294,13 @@ fn with_command<'a>(
 fn command_alone<'a>(alloc: Global) -> Command<'a>
     ensures { app_of result ≡ life_alone }
 {
-    Command::new(alloc, "life")
-        .about("An archive of Game of Life patterns")
-        .after_help(LIFE_HELP)
-        .subcommand_required(true)
+    program_command(
+        alloc,
+        "life",
+        "An archive of Game of Life patterns",
+        LIFE_HELP,
+    )
+    .subcommand_required(true)
 }
 
 /// The command of `life`, with its subcommands in the order in which help lists them.

@@ -1,0 +1,32 @@
+-- What the job that the arguments of a program name does: which text is put, and which line is printed if it stops. What the arguments name is said by
+-- `Answers` of life_words.
+use Rattle.std.specs.Prelude.{◌≡◌, ◌↔◌, ◌<◌, ◌≤◌, ℕ, List, Option, None, Some, Result, Ok, Err}
+use Rattle.life_words.specs.Words.{Asked, AsksGeneration, AsksKind, AsksObject, AsksCensus, AsksDeposit, AsksServe}
+use Rattle.life_jobs.specs.declared.stop.Stop.{Stop}
+use Rattle.life_jobs.specs.declared.stop.Stop.TheVariants.{OutOfLimit}
+use Rattle.life_jobs.specs.Stop.{line_of}
+use Rattle.life_jobs.specs.Jobs.{generation_text, kind_text, census_text, IsPeriodLimit, AreCensusNumbers, PutsTold, PutsObject}
+
+-- a job over a file or a code: its numbers are judged first, and then it puts its text or says why there is none
+abbrev pub DoesFileJob : Asked → Option (List ℕ) → Option (List ℕ) → Option (List ℕ) → Result (Unit {0}) Stop → Type 0
+DoesFileJob (AsksGeneration n) told old new answer = ((answer ≡ Err OutOfLimit) ↔ (2048 < n)) × (n ≤ 2048 → PutsTold (generation_text n) told old new answer)
+DoesFileJob (AsksKind limit) told old new answer =
+    ((answer ≡ Err OutOfLimit) ↔ ¬ IsPeriodLimit limit) × (IsPeriodLimit limit → PutsTold (kind_text limit) told old new answer)
+DoesFileJob (AsksCensus n limit) told old new answer =
+    ((answer ≡ Err OutOfLimit) ↔ ¬ AreCensusNumbers n limit) × (AreCensusNumbers n limit → PutsTold (census_text n limit) told old new answer)
+DoesFileJob (AsksObject rule code limit) told old new answer = PutsObject rule code limit old new answer
+-- no other is a job over a file
+DoesFileJob asked told old new answer = Unit {0}
+
+-- the line that is printed for an answer
+abbrev pub line_after : Result (Unit {0}) Stop → Option (List ℕ)
+line_after (Ok done) = None
+line_after (Err stop) = Some (line_of stop)
+
+-- what the job that is asked for puts, and the line that is printed, if it stops: a deposit is what the program's archive makes of its member and its
+-- token, serving what it makes of its port and its count of connections
+abbrev pub DoesJob : (List ℕ → List ℕ → Option (List ℕ) → Option (List ℕ) → Option (List ℕ) → Option (List ℕ) → Type 0) → (ℕ → ℕ → Option (List ℕ) → Type 0)
+    → Asked → Option (List ℕ) → Option (List ℕ) → Option (List ℕ) → Option (List ℕ) → Type 0
+DoesJob deposits serves (AsksDeposit file member token) told old new line = deposits member token told old new line
+DoesJob deposits serves (AsksServe file port connections) told old new line = serves port connections line
+DoesJob deposits serves asked told old new line = (answer : Result (Unit {0}) Stop) × DoesFileJob asked told old new answer × (line ≡ line_after answer)

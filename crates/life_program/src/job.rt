@@ -1,0 +1,91 @@
+//! The job that the arguments of a program name, over any streams.
+ghost use Rattle.std.specs.Prelude.{◌≡◌, ℕ, List, Option, None, Some, Err, MatchResult};
+ghost use Rattle.life_jobs.specs.Stop.{line_of};
+ghost use Rattle.life_jobs.specs.declared.stop.Stop.{Stop as StopValue};
+ghost use Rattle.life_words.specs.Words.{asked_by};
+ghost use Rattle.life_program.specs.Job.{DoesFileJob, DoesJob, line_after};
+
+use life_jobs::{Stop, run_census, run_generation, run_kind, run_object};
+use life_rle::{Inlet, Outlet};
+use life_words::Job;
+use std::alloc::Global;
+
+/// The jobs over the archive of a file, which each program does in its own way. Each answers the line for standard error if it stops, without
+/// its line end; it is empty if nothing is printed.
+pub trait ArchiveJobs {
+    // What a deposit does: by its member and its token, the bytes that come in, those that were put before it and after it, and the line.
+    ghost deposits: { List ℕ → List ℕ → Option (List ℕ) → Option (List ℕ) → Option (List ℕ) → Option (List ℕ) → Type 0 };
+    // What serving does: by its port, its count of connections, and the line.
+    ghost serves: { ℕ → ℕ → Option (List ℕ) → Type 0 };
+
+    /// Deposits the pattern that comes in under the member and the token.
+    fn deposit<I: Inlet, O: Outlet>(
+        rt: &HostRuntime,
+        file: &str,
+        member: &str,
+        token: &str,
+        input: &mut I,
+        output: &mut O,
+    ) -> Result<(), &'static str>
+        ensures { MatchResult result
+            (λ _. deposits member.now token.now (I.to_come input.old) (O.already output.old) (O.already output.new) None)
+            (λ line. deposits member.now token.now (I.to_come input.old) (O.already output.old) (O.already output.new) (Some line.now)) };
+
+    /// Serves so many connections at the port.
+    fn serve(rt: &HostRuntime, file: &str, port: u64, connections: u64) -> Result<(), &'static str>
+        ensures { MatchResult result (λ _. serves port connections None) (λ line. serves port connections (Some line.now)) };
+}
+
+/// The line of a stop in place of the stop.
+fn or_line(done: Result<(), Stop>) -> Result<(), &'static str>
+    ensures { MatchResult result (λ _. line_after done ≡ None) (λ line. line_after done ≡ Some line.now) }
+{
+    match done {
+        Ok(()) => Ok(()),
+        Err(stop) => Err(stop.line()),
+    }
+}
+
+/// Does a job over a file or a code.
+fn do_file_job<I: Inlet, O: Outlet>(
+    alloc: Global,
+    job: Job<'_>,
+    input: &mut I,
+    output: &mut O,
+) -> Result<(), Stop>
+    ensures { DoesFileJob (asked_by job.entry) (I.to_come input.old) (O.already output.old) (O.already output.new) result }
+{
+    match job {
+        Job::Generation(n) => run_generation(alloc, n, input, output),
+        Job::Kind(limit) => run_kind(alloc, limit, input, output),
+        Job::Object { rule, code, limit } => run_object(alloc, rule, code, limit, output),
+        Job::Census { n, limit } => run_census(alloc, n, limit, input, output),
+        _ => Err(Stop::Unavailable),
+    }
+}
+
+/// Does the job over these streams. It answers the line for standard error if the job stops, as [`ArchiveJobs`] do.
+pub fn do_job<J: ArchiveJobs, I: Inlet, O: Outlet>(
+    rt: &HostRuntime,
+    job: Job<'_>,
+    input: &mut I,
+    output: &mut O,
+) -> Result<(), &'static str>
+    ensures { MatchResult result
+        (λ _. DoesJob J.deposits J.serves (asked_by job.entry) (I.to_come input.old) (O.already output.old) (O.already output.new) None)
+        (λ line. DoesJob J.deposits J.serves (asked_by job.entry) (I.to_come input.old) (O.already output.old) (O.already output.new) (Some line.now)) }
+{
+    match job {
+        Job::Deposit {
+            file,
+            member,
+            token,
+        } => J::deposit(rt, file, member, token, input, output),
+        Job::Serve {
+            file,
+            port,
+            connections,
+        } => J::serve(rt, file, port, connections),
+        _ => or_line(do_file_job(rt.alloc(), job, input, output)),
+    }
+}

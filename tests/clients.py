@@ -9,6 +9,7 @@ import subprocess
 import sys
 import tempfile
 import threading
+import traceback
 
 HERE = os.path.dirname(os.path.abspath(__file__))
 GLIDER = b"x = 3, y = 3\nbo$2bo$3o!\n"
@@ -121,6 +122,16 @@ def new_folder():
     memory = "/dev/shm"
     fits = os.access(memory, os.W_OK) and not os.statvfs(memory).f_flag & os.ST_NOEXEC and shutil.disk_usage(memory).free > 1 << 28
     return tempfile.mkdtemp(prefix="life-archive-", dir=memory if fits else None)
+
+
+def tried(part, *words):
+    """Runs a part; one that breaks off is not as wanted."""
+    try:
+        return part(*words)
+    except Exception:
+        traceback.print_exc(file=sys.stdout)
+        check(f"{part.__name__} to its end", False)
+        return None
 
 
 def finish():

@@ -39,6 +39,8 @@ class Gateway:
             self.folder = line[3:].split(";")[0]
         elif line.startswith("http://"):
             self.port = int(line.rsplit(":", 1)[1])
+        elif line.endswith(" is not there: a new archive is made\n"):
+            pass
         else:
             print(line, end="")
 

@@ -123,10 +123,10 @@ class Browser:
         roles = [(node.get("role", {}).get("value"), node.get("name", {}).get("value")) for node in nodes if not node.get("ignored")]
         return [role for role, name in roles if role in named and not name]
 
-    def drop(self, path, selector):
-        """Drops a file on an element, as the system does."""
+    def drop(self, paths, selector):
+        """Drops files on an element, as the system does."""
         box = self.run("const box = document.querySelector(arguments[0]).getBoundingClientRect(); return [box.x + box.width / 2, box.y + box.height / 2]", selector)
-        data = {"items": [], "files": [path], "dragOperationsMask": 1}
+        data = {"items": [], "files": paths, "dragOperationsMask": 1}
         for kind in ("dragEnter", "dragOver", "drop"):
             self.driver.execute_cdp_cmd("Input.dispatchDragEvent", {"type": kind, "x": box[0], "y": box[1], "data": data})
 
@@ -135,10 +135,11 @@ class Browser:
 
 
 class Relay:
-    """Stands before a server, and takes away the replies to as many deposits as it is told: they are done, and their peer doesn't hear of it."""
+    """Stands before a server, and takes away the replies to as many deposits as it is told: they are done, and their peer doesn't hear of it.
+    While `away` is set it passes nothing on, so that no request gets a reply."""
 
     def __init__(self, port):
-        self.to, self.left, self.cut = port, 0, []
+        self.to, self.left, self.cut, self.away = port, 0, [], False
         self.listener = socket.create_server(("127.0.0.1", 0))
         self.port = self.listener.getsockname()[1]
         threading.Thread(target=self.take, daemon=True).start()
@@ -156,7 +157,7 @@ class Relay:
 
     def send_on(self, client, server, state):
         try:
-            while piece := client.recv(65536):
+            while (piece := client.recv(65536)) and not self.away:
                 if piece.startswith(b"POST /deposits HTTP/1.1\r\n") and self.left:
                     self.left -= 1
                     self.cut.append(next(line.split()[1] for line in piece.split(b"\r\n") if line.lower().startswith(b"x-token:")).decode())

@@ -69,7 +69,12 @@ async function askAgain(path, options, pauses, said = () => {}) {
   }
 }
 
-const read = (path, signal) => inLine(() => askAgain(path, { signal }, PAUSES), signal);
+function failRead(error) {
+  if (error instanceof Refused) error.isRead = true;
+  throw error;
+}
+
+const read = (path, signal) => inLine(() => askAgain(path, { signal }, PAUSES).catch(failRead), signal);
 
 function parsed(bytes, key) {
   try {

@@ -106,11 +106,11 @@ document.addEventListener('keydown', (event) => {
 
 // ---- files that come on any page
 
-function take(file) {
+function take(files) {
   if (current?.taken) {
-    current.taken(file);
+    current.taken(files);
   } else {
-    bring(file);
+    bring(files);
     location.hash = '#new';
   }
 }
@@ -126,14 +126,14 @@ document.addEventListener('drop', (event) => {
   if (!hasFile(event)) return;
   event.preventDefault();
   document.body.classList.remove('dragging');
-  if (event.dataTransfer.files[0]) take(event.dataTransfer.files[0]);
+  if (event.dataTransfer.files[0]) take([...event.dataTransfer.files]);
 });
 document.addEventListener('paste', (event) => {
   if (event.target.matches?.('input, textarea')) return;
-  const file = event.clipboardData.files[0];
+  const files = [...event.clipboardData.files];
   const text = event.clipboardData.getData('text/plain');
-  if (file) take(file);
-  else if (/^\s*(#|x\s*=)/i.test(text)) take(new Blob([text]));
+  if (files.length > 0) take(files);
+  else if (/^\s*(#|x\s*=)/i.test(text)) take([new Blob([text])]);
 });
 
 document.getElementById('keys-button').addEventListener('click', () => keysDialog.showModal());

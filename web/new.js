@@ -1,21 +1,23 @@
 // Depositing: a file is dropped, chosen or pasted, seen, and sent under a member and a token.
 
 import { sendDeposit } from './archive.js';
-import { field, isMember, isToken, make, many, memberInput, refusal, rememberMember } from './dom.js';
+import { counted, field, isMember, isToken, make, many, memberInput, refusal, rememberMember } from './dom.js';
 import { thumbnail } from './draw.js';
 import { Refused } from './refusals.js';
-import { Fault, readFile } from './rle.js';
+import { Fault, LONGEST, readFile } from './rle.js';
 import { ruleText } from './rule.js';
 import { sumOf } from './sum.js';
 
 const WIDTH = 320;
 const HEIGHT = 200;
+/** The number of the fault of a file that is too long. */
+const TOO_LONG = 1;
 
-/** A file that came by a drop or a paste on another page, which this page then takes. */
+/** Files that came by a drop or a paste on another page, which this page then takes. */
 let brought = null;
 
-export function bring(file) {
-  brought = file;
+export function bring(files) {
+  brought = files;
 }
 
 /** The line of a file that has its fault, as far as it can be shown. */
@@ -34,6 +36,7 @@ class Content {
     this.text = text;
     this.token = token;
     this.preview = preview;
+    this.others = make('p', { class: 'others' });
   }
 
   /** Takes bytes. Their token is their sum, as that of examples/scripts/put-folder: the same file again is the same deposit. */
@@ -41,8 +44,19 @@ class Content {
     this.bytes = bytes;
     this.fault = null;
     if (shown) this.text.value = new TextDecoder().decode(bytes);
-    this.token.value = bytes.length === 0 ? '' : sumOf(bytes);
+    this.token.value = bytes.length === 0 || bytes.length > LONGEST ? '' : sumOf(bytes);
     this.preview.replaceChildren(...this.#seen());
+  }
+
+  /** Takes a file's fault alone: the file is not read. */
+  takeFault(fault) {
+    this.take(new Uint8Array(), true);
+    this.fault = fault;
+    this.preview.replaceChildren(this.refused(new Refused('bad-pattern', 7, fault.number)));
+  }
+
+  get isTooLong() {
+    return this.fault?.number === TOO_LONG;
   }
 
   /** How the file is understood here, before the archive has it. */
@@ -64,24 +78,34 @@ class Content {
   }
 }
 
-async function takeFile(content, file, page) {
-  content.take(new Uint8Array(await file.arrayBuffer()), true);
-  page.say(`${file.name ?? 'The pasted text'} is here.`);
+/** What became of several files, of which one is taken; nothing if there is only one. */
+const othersOf = (number) => (number > 1 ? ` Only the first of ${counted(number)} files was taken: ${counted(number - 1)} ${number === 2 ? 'was' : 'were'} not.` : '');
+
+/** Takes the first of some files. A file that is too long is not read, since a large one would hold the page for long. */
+async function takeFirst(content, files, page) {
+  const [file] = files;
+  const name = file.name ?? 'The pasted text';
+  const isTooLong = file.size > LONGEST;
+  if (isTooLong) content.takeFault(new Fault(TOO_LONG));
+  else content.take(new Uint8Array(await file.arrayBuffer()), true);
+  const others = othersOf(files.length);
+  content.others.replaceChildren(others.trim());
+  page.say(`${name} is ${isTooLong ? 'too long' : 'here'}.${others}`);
 }
 
 /** The place where a file is dropped, chosen or pasted. */
 function dropPart(content, page) {
-  const chooser = make('input', { id: 'file', type: 'file', accept: '.rle,.txt,text/plain', change: () => chooser.files[0] && takeFile(content, chooser.files[0], page) });
+  const chooser = make('input', { id: 'file', type: 'file', accept: '.rle,.txt,text/plain', change: () => chooser.files[0] && takeFirst(content, chooser.files, page) });
   content.text.addEventListener('input', () => content.take(new TextEncoder().encode(content.text.value), false));
-  return make('div', { class: 'drop' }, make('p', {}, make('label', { for: 'file' }, 'Drop a pattern file on this page, or choose it: '), chooser),
+  return make('div', { class: 'drop' }, make('p', {}, make('label', { for: 'file' }, 'Drop a pattern file on this page, or choose it: '), chooser), content.others,
     field('Or paste its text', content.text, 'RLE, as Golly and the LifeWiki have it: at most 1 MiB, in 1024 by 1024.'));
 }
 
 /** Sends the content, and goes to the deposit that it is then. */
 async function send(content, name, said, page) {
   if (!isMember(name.value)) throw new Refused('bad-member');
+  if (content.isTooLong) throw new Refused('bad-pattern', 7, TOO_LONG);
   if (!isToken(content.token.value)) throw new Refused('bad-token');
-  if (content.bytes.length > 1048576) throw new Refused('bad-pattern', 7, 1);
   rememberMember(name.value);
   const waiting = (error) => {
     said.replaceChildren(make('p', {}, error.name === 'too-many-requests' ? 'The archive is busy; it is asked again…' : 'No reply yet; the same is sent again with its token…'));
@@ -121,7 +145,7 @@ export function depositForm(page) {
     make('div', {}, dropPart(content, page), field('Member', name, 'Your name here: 1 to 32 of a to z, 0 to 9 and "-".'),
       make('details', {}, make('summary', {}, 'Token'), field('Token', token, 'Made of the file. Sent again under the same token, a file is kept once.')), button, said), preview));
   content.take(new Uint8Array(), true);
-  if (brought) takeFile(content, brought, page);
+  if (brought) takeFirst(content, brought, page);
   brought = null;
-  page.taken = (file) => takeFile(content, file, page);
+  page.taken = (files) => takeFirst(content, files, page);
 }

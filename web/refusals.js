@@ -25,6 +25,9 @@ export const GATEWAY = {
   unknown: 'The reply is not that of an archive. Load these pages anew; if that is no help, tell whoever runs the archive.',
 };
 
+/** What a read says if no reply came: it sends nothing that the archive would keep. */
+const NO_REPLY_TO_READ = 'No reply came, and nothing has changed. Wait a little and ask again; if that is no help, tell whoever runs the archive.';
+
 /** The faults of pattern files by number: their names, and what to do. */
 export const FAULTS = [
   null,
@@ -42,6 +45,9 @@ export const FAULTS = [
 
 /** The refusal of a reply: its name, its number, and the fault of the file where it is one. */
 export class Refused extends Error {
+  /** Whether a read was refused, and not a deposit or a census. */
+  isRead = false;
+
   constructor(name, number = 0, fault = 0) {
     super(name);
     this.name = name;
@@ -56,6 +62,7 @@ export const nameOf = (error) => FAULTS[error.fault]?.[0] ?? error.name;
 /** The sentence that says what to do. */
 export function sentenceOf(error) {
   if (error.fault) return FAULTS[error.fault]?.[1] ?? REFUSALS['bad-pattern'];
+  if (error.isRead && error.name === 'no-reply') return NO_REPLY_TO_READ;
   return REFUSALS[error.name] ?? GATEWAY[error.name] ?? GATEWAY.unknown;
 }
 

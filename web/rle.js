@@ -3,7 +3,8 @@
 
 import { LIFE, readRule } from './rule.js';
 
-const LONGEST = 1048576;
+/** The greatest number of bytes of a file, which is that of the archive. */
+export const LONGEST = 1048576;
 const GREATEST_COUNT = 1000000;
 const MOST_COMMENTS = 64;
 const LONGEST_TEXT = 200;

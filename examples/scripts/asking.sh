@@ -1,10 +1,21 @@
 # shellcheck shell=sh
-# What the scripts beside this one share: asking a server by curl, and saying in words why it refuses.
+# What the scripts in this folder share: asking a server by curl, and saying in words why it refuses.
 
 LC_ALL=C
 export LC_ALL
-line_end='
-'
+
+# A folder for the last reply. It is removed when the script ends, by a signal too.
+room=$(mktemp -d)
+trap 'rm -rf "$room"' EXIT
+trap 'exit 129' HUP
+trap 'exit 130' INT
+trap 'exit 141' PIPE
+trap 'exit 143' TERM
+
+# How far the run is: how many are done, of how many. The next message on it is due after so many seconds of waiting.
+finished=0
+total=0
+message_in=5
 
 # Says on standard error what is wrong, and ends.
 end() {
@@ -12,7 +23,7 @@ end() {
   exit "${2:-1}"
 }
 
-# Ends where a text is no member: 1 to 32 of a-z, 0-9 and -.
+# Ends if a text is no member: 1 to 32 of a-z, 0-9 and -.
 judge_member() {
   case $1 in
     '' | *[!a-z0-9-]*) end "a member is 1 to 32 of a-z, 0-9 and -" 2 ;;
@@ -20,19 +31,49 @@ judge_member() {
   [ "${#1}" -le 32 ] || end "a member is 1 to 32 of a-z, 0-9 and -" 2
 }
 
-# Sends a request with these words of curl, and sets 'status' and 'body' to those of the reply; a status of 000 says that none came.
-# (Some versions of curl wait a second for a leave to send a body, which the server doesn't give, unless 'expect' is taken out.)
-ask() {
-  reply=$(curl --disable --silent --globoff --connect-timeout 10 --write-out '\n%{http_code}' --header 'expect:' "$@") ||
-    reply="${line_end}000"
-  status=${reply##*"$line_end"}
-  body=${reply%"$line_end"*}
+# Sets 'url' to the archive's URL without a slash at its end, and 'archive' to the same without a password, for messages.
+take_url() {
+  url=${1%/}
+  archive=$(printf '%s\n' "$url" | sed 's|^\([^/@]*://\)\{0,1\}[^/]*@|\1|')
 }
 
-# Asks, and up to three times again where no reply came or nothing was done.
+# Sends a request with these arguments of curl. Sets 'status' and 'body' to those of the reply; a status of 000 says that none came.
+# The password is that of ~/.netrc, if it has one for the host. (Some versions of curl wait a second for a '100 Continue', which the
+# server doesn't send, unless the line 'expect' is taken out.)
+ask() {
+  : > "$room/head"
+  : > "$room/body"
+  status=$(curl --disable --silent --show-error --globoff --netrc-optional --connect-timeout 10 --header 'expect:' \
+    --dump-header "$room/head" --output "$room/body" --write-out '%{http_code}' "$@" 2> "$room/errors") || status=000
+  body=$(tr -d '\000' < "$room/body")
+}
+
+# Waits as a reply of status 429 asks: as many seconds as its line 'Retry-After' says, or 1. A long wait says how far the run is.
+wait_as_asked() {
+  seconds=$(tr '[:upper:]' '[:lower:]' < "$room/head" |
+    sed -n 's/^retry-after:[[:space:]]*0*\([1-9][0-9]\{0,5\}\)[[:space:]]*$/\1/p' | tail -n 1)
+  seconds=${seconds:-1}
+  message_in=$((message_in - seconds))
+  if [ "$message_in" -le 0 ]; then
+    echo "${0##*/}: waiting, since the server limits requests; $finished of $total done" >&2
+    message_in=30
+  fi
+  sleep "$seconds"
+}
+
+# Asks as often as the reply is 429: such a request did not reach the archive, so asking again is safe.
+ask_in_turn() {
+  ask "$@"
+  while [ "$status" = 429 ]; do
+    wait_as_asked
+    ask "$@"
+  done
+}
+
+# Asks, and up to three times again if no reply came or nothing was done.
 ask_again() {
   for pause in 1 2 4 none; do
-    ask "$@"
+    ask_in_turn "$@"
     case $status in
       000 | 502 | 503 | 504) [ "$pause" = none ] || sleep "$pause" ;;
       *) return ;;
@@ -40,7 +81,13 @@ ask_again() {
   done
 }
 
-# Prints the number that the reply gives under a name; nothing where it gives none.
+# Ends because no reply came, and says first what curl said about it. The argument is put before the message.
+no_reply() {
+  sed -n 1p "$room/errors" >&2
+  end "${1-}no reply from $archive; give the same command again"
+}
+
+# Prints the number that the reply gives under a name; nothing if it gives none.
 number_of() {
   printf '%s\n' "$body" | sed -n "s/^{\"$1\":\([0-9]*\)}\$/\1/p"
 }
@@ -66,6 +113,7 @@ fault() {
 why() {
   name=$(printf '%s\n' "$body" | sed -n 's/^{"error":"\([a-z-]*\)".*/\1/p')
   number=$(printf '%s\n' "$body" | sed -n 's/.*"rle":\([0-9]*\)}$/\1/p')
+  [ "$status" != 401 ] || name=password
   case $name in
     bad-pattern) fault "$number" ;;
     token-reused) echo 'token-reused: the token of this request stands for something else' ;;
@@ -73,6 +121,7 @@ why() {
     out-of-limit) echo 'out-of-limit: a generation is 0 to 2048, a limit 1 to 2048' ;;
     unavailable) echo 'unavailable: the archive could not do it now, and nothing has changed; give the same command again' ;;
     no-such-page) echo 'no-such-page: the URL is not that of an archive, as http://localhost:8080' ;;
+    password) echo 'password: the club knows its members by passwords; write yours into ~/.netrc' ;;
     '') echo "a reply of status $status that is no archive's" ;;
     *) echo "$name" ;;
   esac

@@ -11,7 +11,7 @@ _life_draw() {
       return ;;
   esac
   if [ "$COMP_CWORD" = 1 ]; then
-    words='text svg help -h --help'
+    words='text svg help -h --help -V --version'
   else
     case ${COMP_WORDS[1]} in
       text) words='-h --help' ;;

@@ -4,7 +4,7 @@
 _life() {
   local word=${COMP_WORDS[COMP_CWORD]} before=${COMP_WORDS[COMP_CWORD - 1]} words=
   COMPREPLY=()
-  # '--db=F' comes in three parts.
+  # '--option=value' comes in three parts.
   if [ "$word" = = ]; then word=; elif [ "$before" = = ]; then before=${COMP_WORDS[COMP_CWORD - 2]}; fi
   case $before in
     --connections)
@@ -21,7 +21,7 @@ _life() {
       return ;;
   esac
   if [ "$COMP_CWORD" = 1 ]; then
-    words='generation kind object census deposit serve help -h --help'
+    words='generation kind object census deposit serve help -h --help -V --version'
   else
     case ${COMP_WORDS[1]} in
       generation) words='-h --help' ;;

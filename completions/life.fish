@@ -10,6 +10,7 @@ complete -c life -n __fish_use_subcommand -a deposit -d 'Keeps the pattern on st
 complete -c life -n __fish_use_subcommand -a serve -d 'Serves the messages of an archive on 127.0.0.1'
 complete -c life -n __fish_use_subcommand -a help -d 'Print this message or the help of the given subcommand(s)'
 complete -c life -n __fish_use_subcommand -s h -l help -d 'Print help'
+complete -c life -n __fish_use_subcommand -s V -l version -d 'Print version'
 complete -c life -n '__fish_seen_subcommand_from generation' -s h -l help -d 'Print help'
 complete -c life -n '__fish_seen_subcommand_from kind' -s h -l help -d 'Print help'
 complete -c life -n '__fish_seen_subcommand_from object' -s h -l help -d 'Print help'

@@ -1,0 +1,7 @@
+# Completion of the words of life-haul for fish. Made by docs/make-words from the help of the program.
+# To use it: put this file as 'life-haul.fish' into ~/.config/fish/completions.
+
+complete -c life-haul -f
+complete -c life-haul -l rule -x -d 'The rule, which is B3/S23 where none is given'
+complete -c life-haul -s h -l help -d 'Print help'
+complete -c life-haul -s V -l version -d 'Print version'

@@ -1,5 +1,5 @@
 //! Texts of rules as they are read without a file round them, and the messages of their faults.
-use life_core::{Rule, RuleFault, laws_of_rule_texts};
+use life_core::{Rule, RuleFault, law_of_life, laws_of_rule_texts};
 use std::alloc::Global;
 
 /// Texts, and the canonical text of the rule that each is read as, or the message of its fault.
@@ -40,5 +40,6 @@ fn rules_are_read(rt: HostRuntime) {
         assert!(rt; is_read_as(rt.alloc(), text, expected), "{text}");
     }
     assert!(rt; has_text(rt.alloc(), &Rule::LIFE, "B3/S23"));
+    assert!(rt; law_of_life() == Rule::LIFE);
     assert!(rt; RuleFault::BadRule.number() == 1 && RuleFault::BirthZero.number() == 2);
 }

@@ -8,6 +8,7 @@ use Rattle.std.proofs.lemmas.List.{get_or_past}
 use Rattle.std.proofs.lemmas.Simd.{get_or-zip2, length-zip2, get_or-replicate, length-replicate, get_or-put_chunk_at, get_or-put_chunk_below, get_or-put_chunk_above}
 use Rattle.std.proofs.lemmas.Nat.Bits.{bit_at_and, bit_at_or, bit_at_xor, bit_at-lt}
 use Rattle.life_core.specs.PackedRow.{place}
+use Rattle.life_core.specs.PackedLanesState.{digits_at, sum_at}
 use Rattle.life_core.proofs.WordShifts.{place_at, shifted_up, shifted_down, places_right}
 
 pub zip_at : (f : ℕ → ℕ → ℕ) (xs ys : List ℕ) → f 0 0 ≡ 0 → length xs ≡ length ys → (j : ℕ) → get_or (zip2 f xs ys) j 0 ≡ f (get_or xs j 0) (get_or ys j 0)
@@ -108,3 +109,12 @@ word_put xs ys k j (inr high) = get_or-put_chunk_above k xs ys j 0 high
 
 pub place_word : (ws vs : List ℕ) (q : ℕ) → get_or ws (q / 64) 0 ≡ get_or vs (q / 64) 0 → place ws q ≡ place vs q
 place_word ws vs q same = ap (λ w. bit_at w (q % 64)) same
+
+-- at most eight of the cells round one are live
+pub few_live : (above above2 sides sides2 below below2 : List ℕ) (p : ℕ) (rows : List ℕ) (a h b : ℕ)
+    → digits_at above above2 p ≡ place rows (a - 1) + (place rows a + place rows (a + 1))
+    → digits_at sides sides2 p ≡ place rows (h - 1) + place rows (h + 1)
+    → digits_at below below2 p ≡ place rows (b - 1) + (place rows b + place rows (b + 1))
+    → sum_at above above2 sides sides2 below below2 p < 9
+few_live above above2 sides sides2 below below2 p rows a h b up beside down =
+    omega (arith, up, beside, down, place-lt rows (a - 1), place-lt rows a, place-lt rows (a + 1), place-lt rows (h - 1), place-lt rows (h + 1), place-lt rows (b - 1), place-lt rows b, place-lt rows (b + 1))

@@ -1,14 +1,17 @@
 -- Four words of a row at a time, with dead places outside the row.
-use Rattle.std.proofs.Common.{◌≡◌, ℕ, zero, suc, ◌+◌, ◌-◌, ◌*◌, ◌/◌, ◌%◌, ◌^◌, ◌<◌, ◌≤◌, max, List, length, get_or, cond, ltb, bit_or, sym, ap, ◌∙◌, inl, inr, arith}
+use Rattle.std.proofs.Common.{◌≡◌, ℕ, zero, suc, ◌+◌, ◌-◌, ◌*◌, ◌/◌, ◌%◌, ◌^◌, ◌<◌, ◌≤◌, ◌⊎◌, nat_eq, max, List, length, get_or, Bool, true, false, cond, ltb, bit_or, sym, ap, ◌∙◌, inl, inr, arith}
 use Rattle.std.specs.Int.{bit_at}
 use Rattle.std.specs.Simd.Lanes.{zip2, put_chunk}
 use Rattle.std.specs.Prelude.{replicate}
 use Rattle.std.proofs.lemmas.Bool.{cases_lt, lt-ltb}
 use Rattle.std.proofs.lemmas.Simd.{get_or-zip2, length-zip2, get_or-replicate, length-replicate, length-put_chunk, get_or-put_chunk_below, get_or-put_chunk_above}
-use Rattle.life_core.specs.PackedRow.{place, place_before}
-use Rattle.life_core.specs.PackedRowState.{AreStepped}
+use Rattle.life_core.specs.PackedRow.{place, place_before, next_place, one_if, round_count}
+use Rattle.life_core.specs.PackedLanesState.{sum_at}
+use Rattle.life_core.specs.PackedRowState.{AreStepped, AreGroupSums}
+use Rattle.life_core.specs.Rule.{RuleSets, lives_at}
+use Rattle.life_core.specs.declared.packed.row_kernel.WideSums.{WideSums}
 use Rattle.life_core.proofs.WordShifts.{shifted_up, places_left}
-use Rattle.life_core.proofs.LanePlaces.{place_or, place_put}
+use Rattle.life_core.proofs.LanePlaces.{place_or, place-lt}
 
 -- a vector of one word
 pub one_lane : (xs : List ℕ) (w i : ℕ) → get_or xs 0 0 ≡ w → i < 64 → place xs i ≡ bit_at w i
@@ -52,20 +55,27 @@ places_before xs ys ws k n xn yn fits here before p lt =
         let own : y ≡ get_or ws (suc m - 1) 0 = is ∙ ap (λ b. cond b (get_or ws (suc m - 1) 0) 0) (lt-ltb 0 (suc m) (omega arith)) in
         omega (arith, own, fits (suc m - 1))
 
--- one more group of words is written
-pub stepped_group : (N : ℕ → ℕ) (k : ℕ) (old out new : List ℕ) → AreStepped N 0 k old out → length new ≡ 4 → k + 4 ≤ length out → ((p : ℕ) → p < 256 → place new p ≡ N (64 * k + p)) → AreStepped N 0 (k + 4) old (put_chunk k out new)
-stepped_group N k old out new done four room places = record {
-  long = length-put_chunk k out new ∙ done.long;
-  inside = λ p le lt. elim (cases_lt p (64 * k)) [
-    | inl earlier ↦ ap (λ x. bit_at x (p % 64)) (get_or-put_chunk_below k out new (p / 64) 0 (omega arith)) ∙ done.inside p le earlier
-    | inr here ↦
-        let back : 64 * k + (p - 64 * k) ≡ p = omega arith in
-        let narrow : p - 64 * k < 256 = omega arith in
-        ap (place (put_chunk k out new)) (sym back) ∙ place_put out new k (p - 64 * k) (omega (arith, four, narrow)) (omega (arith, four, room)) ∙ places (p - 64 * k) narrow ∙ ap N back
-  ];
-  before = λ j lt. absurd (omega arith);
-  after = λ j le. get_or-put_chunk_above k out new j 0 (omega (arith, four, le)) ∙ done.after j (omega arith);
-}
+pub before-lt : (ws : List ℕ) (q : ℕ) → place_before ws q < 2
+before-lt ws q = bit-or-none (ltb 0 q) (place ws (q - 1)) (place-lt ws (q - 1))
+  where
+    bit-or-none : (b : Bool) (x : ℕ) → x < 2 → cond b x 0 < 2
+    bit-or-none true x lt = lt
+    bit-or-none false x lt = omega arith
+
+-- at most eight of the places round one are live
+pub round_few : (above here below : List ℕ) (q : ℕ) → round_count above here below q < 9
+round_few above here below q =
+    omega (arith, before-lt above q, place-lt above q, place-lt above (q + 1), before-lt here q, place-lt here (q + 1), before-lt below q, place-lt below q, place-lt below (q + 1))
+
+-- a place of four words that were written by the sums of their rows is live next
+pub group_place : (r : RuleSets) (above here below new : List ℕ) (k p : ℕ) (a h b : WideSums) → AreGroupSums above k a → AreGroupSums here k h → AreGroupSums below k b → p < 256
+    → (sum_at a.all a.all2 h.sides h.sides2 b.all b.all2 p < 9 → place new (64 * k + p) ≡ one_if (lives_at r (nat_eq (place h.here p) 1) (sum_at a.all a.all2 h.sides h.sides2 b.all b.all2 p)))
+    → place new (64 * k + p) ≡ next_place r above here below (64 * k + p)
+group_place r above here below new k p a h b up mid down lt next =
+    let q = 64 * k + p in
+    let count : sum_at a.all a.all2 h.sides h.sides2 b.all b.all2 p ≡ round_count above here below q = omega (arith, up.all p lt, mid.sides p lt, down.all p lt) in
+    let few : sum_at a.all a.all2 h.sides h.sides2 b.all b.all2 p < 9 = omega (arith, count, round_few above here below q) in
+    next few ∙ (λ t. one_if (lives_at r (nat_eq (mid.here p lt t) 1) (count t)))
 
 -- the whole groups of four words, and then the words that are left, are the whole row
 pub stepped_whole : (N : ℕ → ℕ) (old mid new : List ℕ) → AreStepped N 0 (4 * (length old / 4)) old mid → AreStepped N (4 * (length mid / 4)) (length mid) mid new → (p : ℕ) → p < 64 * length new → place new p ≡ N p

@@ -6,7 +6,7 @@ use Rattle.life_core.specs.Rule.{RuleSets, lives_at}
 use Rattle.life_core.specs.PackedLanesState.{digits_at}
 use Rattle.life_core.specs.declared.packed.blocks.RowSums.{RowSums}
 use Rattle.life_core.specs.declared.packed.blocks.Changes.{Changes}
-use Rattle.life_core.specs.declared.packed.wide_blocks.WideSums.{WideSums}
+use Rattle.life_core.specs.declared.packed.row_kernel.WideSums.{WideSums}
 use Rattle.life_core.specs.declared.packed.wide_blocks.WideChanges.{WideChanges}
 
 -- how many of the eight places round place q are set
@@ -23,6 +23,12 @@ pub record AreSums (rows : List ℕ) (k : ℕ) (s : RowSums) : Type 0 where
   pub here : (p : ℕ) → p < 128 → place s.here p ≡ place rows (64 * k + p)
   pub sides : (p : ℕ) → p < 128 → digits_at s.sides s.sides2 p ≡ place rows (64 * k + p - 1) + place rows (64 * k + p + 1)
   pub all : (p : ℕ) → p < 128 → digits_at s.all s.all2 p ≡ place rows (64 * k + p - 1) + (place rows (64 * k + p) + place rows (64 * k + p + 1))
+
+-- the sums of four words of a row, by their left and their right neighbours
+pub record AreSumsOf (left middle right : List ℕ) (s : WideSums) : Type 0 where
+  pub here : (p : ℕ) → p < 256 → place s.here p ≡ place middle p
+  pub sides : (p : ℕ) → p < 256 → digits_at s.sides s.sides2 p ≡ place left p + place right p
+  pub all : (p : ℕ) → p < 256 → digits_at s.all s.all2 p ≡ place left p + (place middle p + place right p)
 
 -- the sums of the four words from k on
 pub record AreWideSums (rows : List ℕ) (k : ℕ) (s : WideSums) : Type 0 where

@@ -21,7 +21,7 @@ pub use fault::Fault;
 pub use generations::{
     GENERATION_LIMIT, PACKED_LIMIT, generation, generation_by, is_packed, laws_of_generations,
 };
-pub use laws::laws_of_constants;
+pub use laws::{law_of_life, laws_of_constants};
 pub use orientation::{Orientation, laws_of_symmetries};
 pub use packed::row::{laws_of_row_steps, row_step};
 pub use packed::rows::PackedRows;

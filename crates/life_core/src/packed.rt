@@ -7,6 +7,7 @@ mod lines;
 mod margins;
 mod marks;
 pub mod row;
+mod row_kernel;
 mod row_lanes;
 pub mod rows;
 mod rule_form;

@@ -1,12 +1,12 @@
 //! One generation of blocks of two words and sixteen rows.
 ghost use Rattle.std.specs.Prelude.{◌≡◌, ◌⊎◌, ℕ, ◌+◌, ◌-◌, ◌*◌, ◌≤◌, ◌<◌, List, length, slice_index_or};
-ghost use Rattle.std.specs.Simd.Lanes.{put_chunk};
 ghost use Rattle.life_core.specs.PackedRow.{place};
 ghost use Rattle.life_core.specs.Rule.{RuleSets};
 ghost use Rattle.life_core.specs.PackedBlocksState.{flat_next, AreSums, IsOutside, IsRowStep, IsBlock};
 
 use crate::packed::lane_rule::LaneRule;
 use crate::packed::lanes::{carry, lanes_at, moved_down, moved_up, odd};
+use crate::packed::row_kernel::step_words;
 use std::simd::prelude::*;
 
 /// Two words of a row, and at each place how many of the two beside it are live, and of all three:
@@ -39,22 +39,6 @@ pub(crate) fn row_sums(rows: &[u64], k: usize) -> RowSums
     }
 }
 
-/// Puts `N` words, and gives the places that changed.
-#[inline(always)]
-pub(crate) fn put_lanes<const N: usize>(
-    out: &mut [u64],
-    k: usize,
-    new: Simd<u64, N>,
-) -> Simd<u64, N>
-    requires { k + N ≤ length out.old }
-    ensures put { out.new ≡ put_chunk k out.old new.entry }
-    ensures changed { (p : ℕ) → p < 64 * N → place result p ≡ 0 → place new.entry p ≡ place out.old (64 * k + p) }
-{
-    let old = lanes_at(out, k);
-    new.copy_to_slice(&mut out[k..]);
-    old ^ new
-}
-
 /// Puts the two words from `k` on, of the next generation, from the sums of the rows above, here and
 /// below, and gives the places that changed.
 #[inline(always)]
@@ -71,7 +55,8 @@ fn block_row<R: LaneRule<2>>(
     ensures rest { (j : ℕ) → (j < k) ⊎ (k + 2 ≤ j) → slice_index_or out.new j 0 ≡ slice_index_or out.old j 0 }
     ensures row { (r : RuleSets) (rows : List ℕ) (words : ℕ) → R.is_of rule.now r → words + 1 ≤ k → AreSums rows (k - words) above → AreSums rows k here → AreSums rows (k + words) below → IsRowStep 2 (flat_next r rows (64 * words)) k out.old out.new result }
 {
-    let new = rule.next_lanes(
+    step_words(
+        rule,
         here.here,
         above.all,
         above.all2,
@@ -79,8 +64,9 @@ fn block_row<R: LaneRule<2>>(
         here.sides2,
         below.all,
         below.all2,
-    );
-    put_lanes(out, k, new)
+        out,
+        k,
+    )
 }
 
 /// The places of a block that changed: anywhere in its two columns of words, in its first row and in

@@ -121,24 +121,23 @@ fn pair_step<W: LaneRule<4>>(
     );
 }
 
-/// Whether pairs are wanted, and the block in the column and its right neighbour are both marked.
+/// Whether the block in the column and its right neighbour are both marked.
 #[inline(always)]
-fn are_marked(pairs: bool, columns: usize, line: usize, column: usize, marks: &[bool]) -> bool
+fn are_marked(columns: usize, line: usize, column: usize, marks: &[bool]) -> bool
     requires column { column < columns }
     requires marks { mark_at columns line columns < length marks.now }
     ensures { IsTrue result → (column + 2 ≤ columns) × (IsMarked marks.now (mark_at columns line column) × IsMarked marks.now (mark_at columns line (column + 1))) }
 {
     let b = 1 + line * columns + column;
-    pairs && column + 1 < columns && marks[b] && marks[b + 1]
+    column + 1 < columns && marks[b] && marks[b + 1]
 }
 
-/// Steps the block in a line and a column, together with its right neighbour if both are marked and
-/// pairs are wanted. The result is the column that follows.
+/// Steps the block in a line and a column, together with its right neighbour if both are marked. The result is the column that
+/// follows.
 #[inline(always)]
 fn columns_step<R: LaneRule<2>, W: LaneRule<4>>(
     rule: &R,
     wide: &W,
-    pairs: bool,
     columns: usize,
     line: usize,
     column: usize,
@@ -163,7 +162,7 @@ fn columns_step<R: LaneRule<2>, W: LaneRule<4>>(
     ensures rest { (j : ℕ) → ((c : ℕ) → column ≤ c → c < result → IsOutside 2 (block_at columns line c) (2 * columns) 16 j) → slice_index_or out.new j 0 ≡ slice_index_or out.old j 0 }
     ensures blocks { (r : RuleSets) (c : ℕ) → R.is_of rule.now r → W.is_of wide.now r → column ≤ c → c < result → IsStepped (flat_next r rows.now (64 * (2 * columns))) columns line c marks.old out.old out.new next_marks.new next_lines.new }
 {
-    if are_marked(pairs, columns, line, column, marks) {
+    if are_marked(columns, line, column, marks) {
         pair_step(
             wide, columns, line, column, rows, marks, out, next_marks, next_lines,
         );
@@ -179,7 +178,6 @@ fn columns_step<R: LaneRule<2>, W: LaneRule<4>>(
 fn line_step<R: LaneRule<2>, W: LaneRule<4>>(
     rule: &R,
     wide: &W,
-    pairs: bool,
     columns: usize,
     line: usize,
     rows: &[u64],
@@ -204,7 +202,7 @@ fn line_step<R: LaneRule<2>, W: LaneRule<4>>(
     let mut column = 0;
     while column < columns {
         column = columns_step(
-            rule, wide, pairs, columns, line, column, rows, marks, out, next_marks, next_lines,
+            rule, wide, columns, line, column, rows, marks, out, next_marks, next_lines,
         );
     }
 }
@@ -213,7 +211,6 @@ fn line_step<R: LaneRule<2>, W: LaneRule<4>>(
 fn marked_line_step<R: LaneRule<2>, W: LaneRule<4>>(
     rule: &R,
     wide: &W,
-    pairs: bool,
     columns: usize,
     line: usize,
     rows: &[u64],
@@ -244,7 +241,7 @@ fn marked_line_step<R: LaneRule<2>, W: LaneRule<4>>(
     }
     lines[line] = false;
     line_step(
-        rule, wide, pairs, columns, line, rows, marks, out, next_marks, next_lines,
+        rule, wide, columns, line, rows, marks, out, next_marks, next_lines,
     );
 }
 
@@ -252,7 +249,6 @@ fn marked_line_step<R: LaneRule<2>, W: LaneRule<4>>(
 pub(crate) fn advance_blocks<R: LaneRule<2>, W: LaneRule<4>>(
     rule: &R,
     wide: &W,
-    pairs: bool,
     columns: usize,
     rows: &[u64],
     marks: &mut [bool],
@@ -276,7 +272,7 @@ pub(crate) fn advance_blocks<R: LaneRule<2>, W: LaneRule<4>>(
 {
     for line in 1..lines.len() - 1 {
         marked_line_step(
-            rule, wide, pairs, columns, line, rows, marks, lines, out, next_marks, next_lines,
+            rule, wide, columns, line, rows, marks, lines, out, next_marks, next_lines,
         );
     }
 }

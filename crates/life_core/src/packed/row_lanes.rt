@@ -1,14 +1,16 @@
-//! The next generation of a row's words: of whole groups of four at once, and of the words that are
+//! The next generation of a row's words: whole groups of four by `row_kernel`, as blocks are stepped, and the words that are
 //! left one by one.
-ghost use Rattle.std.specs.Prelude.{◌≡◌, ℕ, ◌+◌, ◌-◌, ◌*◌, ◌/◌, ◌<◌, ◌≤◌, length, nat_eq, nat_lt, slice_index_or, if◌then◌else◌};
+ghost use Rattle.std.specs.Prelude.{◌≡◌, ◌⊎◌, ℕ, ◌+◌, ◌-◌, ◌*◌, ◌/◌, ◌<◌, ◌≤◌, length, nat_lt, slice_index_or, if◌then◌else◌};
 ghost use Rattle.std.specs.Int.{bit_at};
-ghost use Rattle.life_core.specs.PackedRow.{one_if, place, place_before, next_place};
-ghost use Rattle.life_core.specs.PackedRowState.{AreStepped};
-ghost use Rattle.life_core.specs.Rule.{RuleSets, lives_at};
+ghost use Rattle.life_core.specs.PackedRow.{place, place_before, next_place};
+ghost use Rattle.life_core.specs.PackedRowState.{AreStepped, AreGroupSums};
+ghost use Rattle.life_core.specs.PackedLanesState.{digits_at};
+ghost use Rattle.life_core.specs.Rule.{RuleSets};
 
 use crate::packed::lane_rule::LaneRule;
 use crate::packed::lanes::{carry, lanes_at, odd};
 use crate::packed::row::{from_left, from_right};
+use crate::packed::row_kernel::{WideSums, step_words, sums_of, wide_row};
 use std::simd::prelude::*;
 
 /// Puts the whole groups of four words, of which the first begins the row.
@@ -26,9 +28,24 @@ pub(crate) fn step_groups<R: LaneRule<4>>(
 {
     for group in 0..out.len() / 4 {
         let k = 4 * group;
-        let next = next_group(rule, above, here, below, k);
-        next.copy_to_slice(&mut out[k..]);
+        let sums_above = group_sums(above, k);
+        let sums_here = group_sums(here, k);
+        let sums_below = group_sums(below, k);
+        let _changed = wide_row(rule, sums_above, sums_here, sums_below, out, k);
     }
+}
+
+/// The sums of the four words from `k` on, with dead cells outside the row.
+#[inline(always)]
+fn group_sums(words: &[u64], k: usize) -> WideSums
+    requires { k + 4 ≤ length words.now }
+    ensures { AreGroupSums words.now k result }
+{
+    sums_of(
+        left_lanes(words, k),
+        lanes_at(words, k),
+        right_lanes(words, k),
+    )
 }
 
 /// Puts the words that no whole group of four has.
@@ -45,86 +62,57 @@ pub(crate) fn step_rest<R: LaneRule<1>>(
     ensures { (r : RuleSets) → R.is_of rule.now r → AreStepped (next_place r above.now here.now below.now) (4 * (length out.old / 4)) (length out.old) out.old out.new }
 {
     for j in 4 * (out.len() / 4)..out.len() {
-        out[j] = next_word(rule, above, here, below, j);
+        step_word(rule, above, here, below, out, j);
     }
 }
 
-/// The four words from `k` on, one generation later.
+/// Writes the word at `j`, one generation later.
 #[inline(always)]
-fn next_group<R: LaneRule<4>>(
+fn step_word<R: LaneRule<1>>(
     rule: &R,
     above: &[u64],
     here: &[u64],
     below: &[u64],
-    k: usize,
-) -> u64x4
-    requires above { k + 4 ≤ length above.now }
-    requires here { k + 4 ≤ length here.now }
-    requires below { k + 4 ≤ length below.now }
-    ensures { (r : RuleSets) (p : ℕ) → R.is_of rule.now r → p < 256 → place result p ≡ next_place r above.now here.now below.now (64 * k + p) }
+    out: &mut [u64],
+    j: usize,
+)
+    requires above { length above.now ≡ length out.old }
+    requires here { length here.now ≡ length out.old }
+    requires below { length below.now ≡ length out.old }
+    requires inside { j < length out.old }
+    ensures long { length out.new ≡ length out.old }
+    ensures rest { (m : ℕ) → (m < j) ⊎ (j + 1 ≤ m) → slice_index_or out.new m 0 ≡ slice_index_or out.old m 0 }
+    ensures next { (r : RuleSets) (i : ℕ) → R.is_of rule.now r → i < 64 → place out.new (64 * j + i) ≡ next_place r above.now here.now below.now (64 * j + i) }
 {
-    next_of(
+    let middle = lane(here[j]);
+    let left = lane(from_left(here, j));
+    let right = lane(from_right(here, j));
+    let (up, up2) = word_sums(above, j);
+    let (down, down2) = word_sums(below, j);
+    let _changed = step_words(
         rule,
-        left_lanes(above, k),
-        lanes_at(above, k),
-        right_lanes(above, k),
-        left_lanes(here, k),
-        lanes_at(here, k),
-        right_lanes(here, k),
-        left_lanes(below, k),
-        lanes_at(below, k),
-        right_lanes(below, k),
-    )
-}
-
-/// The word at `j`, one generation later.
-#[inline(always)]
-fn next_word<R: LaneRule<1>>(rule: &R, above: &[u64], here: &[u64], below: &[u64], j: usize) -> u64
-    requires above { j < length above.now }
-    requires here { j < length here.now }
-    requires below { j < length below.now }
-    ensures { (r : RuleSets) (i : ℕ) → R.is_of rule.now r → i < 64 → bit_at result i ≡ next_place r above.now here.now below.now (64 * j + i) }
-{
-    let next = next_of(
-        rule,
-        lane(from_left(above, j)),
-        lane(above[j]),
-        lane(from_right(above, j)),
-        lane(from_left(here, j)),
-        lane(here[j]),
-        lane(from_right(here, j)),
-        lane(from_left(below, j)),
-        lane(below[j]),
-        lane(from_right(below, j)),
-    );
-    next.to_array()[0]
-}
-
-/// The places that are live next, by the three rows of places round them.
-#[inline(always)]
-fn next_of<const N: usize, R: LaneRule<N>>(
-    rule: &R,
-    above_left: Simd<u64, N>,
-    above: Simd<u64, N>,
-    above_right: Simd<u64, N>,
-    left: Simd<u64, N>,
-    here: Simd<u64, N>,
-    right: Simd<u64, N>,
-    below_left: Simd<u64, N>,
-    below: Simd<u64, N>,
-    below_right: Simd<u64, N>,
-) -> Simd<u64, N>
-    ensures { (r : RuleSets) (p : ℕ) → R.is_of rule.now r → p < 64 * N → place result p ≡ one_if (lives_at r (nat_eq (place here.entry p) 1) (place above_left.entry p + (place above.entry p + (place above_right.entry p + (place left.entry p + (place right.entry p + (place below_left.entry p + (place below.entry p + place below_right.entry p)))))))) }
-{
-    rule.next_lanes(
-        here,
-        odd(above_left, above, above_right),
-        carry(above_left, above, above_right),
+        middle,
+        up,
+        up2,
         left ^ right,
         left & right,
-        odd(below_left, below, below_right),
-        carry(below_left, below, below_right),
-    )
+        down,
+        down2,
+        out,
+        j,
+    );
+}
+
+/// At each cell of the word at `j`, the digits of how many are live of it and its two neighbours in the row.
+#[inline(always)]
+fn word_sums(words: &[u64], j: usize) -> (Simd<u64, 1>, Simd<u64, 1>)
+    requires { j < length words.now }
+    ensures { (i : ℕ) → i < 64 → digits_at result.0 result.1 i ≡ place_before words.now (64 * j + i) + (place words.now (64 * j + i) + place words.now (64 * j + i + 1)) }
+{
+    let left = lane(from_left(words, j));
+    let here = lane(words[j]);
+    let right = lane(from_right(words, j));
+    (odd(left, here, right), carry(left, here, right))
 }
 
 /// A word as a vector of one.

@@ -232,10 +232,6 @@ fn set_unless(kept: bool, marks: &mut [bool])
     }
 }
 
-/// Whether two neighbouring marked blocks are stepped at once under rules other than Life. It is off:
-/// `x86-64-v2` has too few vector registers for it and loses a tenth, though `x86-64-v3` gains a third.
-const PAIRS_BY_FORM: bool = false;
-
 /// `advance_blocks` under the rule.
 fn rule_blocks(
     rule: &Rule,
@@ -259,7 +255,6 @@ fn rule_blocks(
         advance_blocks(
             &ConwayLife,
             &ConwayLife,
-            true,
             columns,
             rows,
             marks,
@@ -272,15 +267,6 @@ fn rule_blocks(
     }
     let form = RuleForm::of(rule);
     advance_blocks(
-        &form,
-        &form,
-        PAIRS_BY_FORM,
-        columns,
-        rows,
-        marks,
-        lines,
-        out,
-        next_marks,
-        next_lines,
+        &form, &form, columns, rows, marks, lines, out, next_marks, next_lines,
     );
 }

@@ -1,27 +1,16 @@
 //! One generation of two neighbouring blocks at once: four words and sixteen rows, by vectors of four words.
 //!
-//! The text is that of `blocks` at another width. It is written out, for a struct whose fields are
-//! `Simd<u64, N>` with `N` a parameter is outside of what the borrow checker covers.
-ghost use Rattle.std.specs.Prelude.{◌≡◌, ◌⊎◌, ℕ, ◌+◌, ◌-◌, ◌*◌, ◌≤◌, ◌<◌, List, length, slice_index_or};
+//! Each row goes by `row_kernel`, as a group of `row_step` does. The rest is the text of `blocks` at another width. It is written out,
+//! for a struct whose fields are `Simd<u64, N>` with `N` a parameter is outside of what the borrow checker covers.
+ghost use Rattle.std.specs.Prelude.{◌≡◌, ℕ, ◌+◌, ◌*◌, ◌≤◌, ◌<◌, length, slice_index_or};
 ghost use Rattle.life_core.specs.PackedRow.{place};
 ghost use Rattle.life_core.specs.Rule.{RuleSets};
-ghost use Rattle.life_core.specs.PackedBlocksState.{flat_next, AreWideSums, IsOutside, IsRowStep, IsWideBlock};
+ghost use Rattle.life_core.specs.PackedBlocksState.{flat_next, AreWideSums, IsOutside, IsWideBlock};
 
-use crate::packed::blocks::put_lanes;
 use crate::packed::lane_rule::LaneRule;
-use crate::packed::lanes::{carry, lanes_at, moved_down, moved_up, odd};
+use crate::packed::lanes::{lanes_at, moved_down, moved_up};
+use crate::packed::row_kernel::{WideSums, sums_of, wide_row};
 use std::simd::prelude::*;
-
-/// Four words of a row. For each cell: how many of its two neighbours in the row are live (`sides`), and how
-/// many of the three cells, itself with them (`all`). Each number has two binary digits.
-#[derive(Clone, Copy)]
-pub(crate) struct WideSums {
-    pub(crate) here: u64x4,
-    pub(crate) sides: u64x4,
-    pub(crate) sides2: u64x4,
-    pub(crate) all: u64x4,
-    pub(crate) all2: u64x4,
-}
 
 /// The sums of the four words from `k` on.
 #[inline(always)]
@@ -30,44 +19,7 @@ pub(crate) fn wide_sums(rows: &[u64], k: usize) -> WideSums
     requires last { k + 5 ≤ length rows.now }
     ensures { AreWideSums rows.now k result }
 {
-    let here: u64x4 = lanes_at(rows, k);
-    let left: u64x4 = moved_up(rows, k);
-    let right: u64x4 = moved_down(rows, k);
-    WideSums {
-        here,
-        sides: left ^ right,
-        sides2: left & right,
-        all: odd(left, right, here),
-        all2: carry(left, right, here),
-    }
-}
-
-/// Writes the next generation of the four words from `k` on, by the sums of the rows above, here and
-/// below. The result has a bit for each cell that changed.
-#[inline(always)]
-fn wide_row<R: LaneRule<4>>(
-    rule: &R,
-    above: WideSums,
-    here: WideSums,
-    below: WideSums,
-    out: &mut [u64],
-    k: usize,
-) -> u64x4
-    requires { k + 4 ≤ length out.old }
-    ensures long { length out.new ≡ length out.old }
-    ensures rest { (j : ℕ) → (j < k) ⊎ (k + 4 ≤ j) → slice_index_or out.new j 0 ≡ slice_index_or out.old j 0 }
-    ensures row { (r : RuleSets) (rows : List ℕ) (words : ℕ) → R.is_of rule.now r → words + 1 ≤ k → AreWideSums rows (k - words) above → AreWideSums rows k here → AreWideSums rows (k + words) below → IsRowStep 4 (flat_next r rows (64 * words)) k out.old out.new result }
-{
-    let new = rule.next_lanes(
-        here.here,
-        above.all,
-        above.all2,
-        here.sides,
-        here.sides2,
-        below.all,
-        below.all2,
-    );
-    put_lanes(out, k, new)
+    sums_of(moved_up(rows, k), lanes_at(rows, k), moved_down(rows, k))
 }
 
 /// The cells of two blocks that changed: in any of their rows, in their first row and in their last.

@@ -1,7 +1,7 @@
 use Rattle.std.proofs.Common.{◌≡◌, ◌*◌, ◌+◌, length, arith}
 use Rattle.life_core.specs.PackedRow.{place}
 use Rattle.life_core.proofs.LanePlaces.{place_xor, place-lt, lane_places}
-use Rattle.life_core.proofs.packed.blocks.put_lanes.Goals as goal
+use Rattle.life_core.proofs.packed.row_kernel.put_lanes.Goals as goal
 
 pub returns-clause-changed : goal.returns-clause-changed
 returns-clause-changed g c p lt blank =

@@ -1,5 +1,6 @@
 pub mod Fault
 pub mod Stream
+pub mod Pieces
 pub mod Lines
 pub mod LinesState
 pub mod Notes

@@ -1,4 +1,4 @@
--- Reading byte by byte: what is read, if these bytes are what is left.
+-- Reading a stream line by line: what the file is read as, if these bytes are what is left.
 use Rattle.std.specs.Prelude.{◌≡◌, ℕ, ◌<◌, ◌≤◌, List, ◌++◌, length, take, drop, Option, None, Some, Result, Ok, Err}
 use Rattle.life_rle.specs.declared.fault.RleFault.{RleFault}
 use Rattle.life_rle.specs.declared.fault.RleFault.TheVariants.{Memory}

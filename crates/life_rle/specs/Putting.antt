@@ -4,6 +4,11 @@ use Rattle.life_rle.specs.declared.putting.WriteFault.{WriteFault}
 use Rattle.life_rle.specs.declared.putting.WriteFault.TheVariants.{Unwritable, Memory}
 use Rattle.life_rle.specs.Stream.{Gains, GainsSome}
 
+-- the faults from 1 on
+abbrev pub write_fault_number : WriteFault → ℕ
+write_fault_number Unwritable = 1
+write_fault_number Memory = 2
+
 -- the text was put, or a beginning of it before a put that failed; want of memory is told of by a clause of its own
 abbrev pub PutsText : Option (List ℕ) → Option (List ℕ) → List ℕ → Result (Unit {0}) WriteFault → Type 0
 PutsText old new bytes (Ok done) = Gains old new bytes

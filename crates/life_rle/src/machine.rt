@@ -1,4 +1,4 @@
-//! Reading a file byte by byte.
+//! Reading a file line by line, from its bytes or from a stream.
 ghost use Rattle.std.specs.Prelude.{◌≡◌, ℕ, ◌++◌, ◌∷◌, [], List, IfOk, OnOk, MatchOption, MatchResult, Err};
 ghost use Rattle.life_rle.specs.declared.fault.RleFault.TheVariants.{Memory};
 ghost use Rattle.life_rle.specs.Fault.{Gives};
@@ -21,7 +21,7 @@ const LONGEST_FILE: usize = 1_048_576;
 /// The most bytes that are taken from a stream: one more than a file may have.
 const MOST_TAKEN: usize = 1_048_577;
 
-/// A file that is being read byte by byte: what the whole lines said, and the line that has begun.
+/// A file that is being read line by line: what the whole lines said, and the line that has begun.
 #[derive(Drop)]
 pub(crate) struct Machine<A: Allocator> {
     reader: Reader<A>,
@@ -120,6 +120,20 @@ pub enum ReadFault {
     Rle(RleFault),
     /// A take failed.
     Unreadable,
+}
+
+impl ReadFault {
+    ghost use Rattle.life_rle.specs.Machine.{read_fault_number};
+
+    /// From 1 to 11 the number of the file's fault, and 12 for a take that failed.
+    pub fn number(self) -> u8
+        ensures { result ≡ read_fault_number self }
+    {
+        match self {
+            ReadFault::Rle(fault) => fault.number(),
+            ReadFault::Unreadable => 12,
+        }
+    }
 }
 
 /// Takes the bytes to their end, or to one more than a file may have; says how many there were.

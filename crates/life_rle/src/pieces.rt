@@ -1,5 +1,5 @@
 //! Streams over memory that come and go in pieces, with one call that fails: for tests.
-ghost use Rattle.std.specs.Prelude.{◌≡◌, ◌<◌, ◌≤◌, [], Some, length};
+ghost use Rattle.std.specs.Prelude.{◌≡◌, ◌<◌, ◌≤◌, [], Some, false, length};
 
 use crate::stream::{Failed, Inlet, Outlet};
 use std::alloc::Global;
@@ -29,6 +29,8 @@ impl PieceInlet {
         ensures none_failed { ⟦<PieceInlet as Inlet>⟧.failures result ≡ 0 }
         ensures not_ended { ⟦<PieceInlet as Inlet>⟧.ends result ≡ 0 }
         ensures not_called { result.calls ≡ 0 }
+        ensures piece { result.piece ≡ piece }
+        ensures fail_at { result.fail_at ≡ fail_at }
     {
         PieceInlet {
             bytes,
@@ -51,7 +53,9 @@ impl PieceInlet {
 }
 
 impl Inlet for PieceInlet {
-    ghost use Rattle.std.specs.Prelude.{Some, drop};
+    ghost use Rattle.std.specs.Prelude.{Some, IfOk, drop};
+    ghost use Rattle.life_rle.specs.Stream.{Takes, raised, counted, ended, moved};
+    ghost use Rattle.life_rle.specs.Pieces.{FailsAt, whole_piece};
 
     ghost to_come = { λ s. Some (drop s.at s.bytes.items) };
 
@@ -63,7 +67,20 @@ impl Inlet for PieceInlet {
 
     ghost ends = { λ s. s.ends };
 
-    fn take(&mut self, place: &mut [u8]) -> Result<usize, Failed> {
+    fn take(&mut self, place: &mut [u8]) -> Result<usize, Failed>
+        ensures within { IfOk result (λ k. k ≤ length place.new) }
+        ensures bytes { Takes (Some (drop self.old.at self.old.bytes.items)) (Some (drop self.new.at self.new.bytes.items)) result place.new }
+        ensures made { self.new.calls ≡ raised self.old.calls }
+        ensures gave { self.new.last_take ≡ moved result }
+        ensures count { self.new.failures ≡ counted self.old.failures result }
+        ensures end { self.new.ends ≡ ended self.old.ends result }
+        // A piece comes whole, unless less is left or wanted.
+        ensures piece { IfOk result (λ k. k ≡ whole_piece self.old.piece (length (drop self.old.at self.old.bytes.items)) (length place.old)) }
+        // The call of the number fails, and no other.
+        ensures fails { FailsAt self.old.fail_at self.new.calls result }
+        ensures same_piece { self.new.piece ≡ self.old.piece }
+        ensures same_call { self.new.fail_at ≡ self.old.fail_at }
+    {
         self.calls = self.calls.saturating_add(1);
         if self.fail_at == Some(self.calls) {
             self.last_take = 0;
@@ -99,6 +116,10 @@ impl PieceOutlet {
         requires { 0 < piece }
         ensures already { ⟦<PieceOutlet as Outlet>⟧.already result ≡ Some [] }
         ensures none_failed { ⟦<PieceOutlet as Outlet>⟧.failures result ≡ 0 }
+        ensures not_failed { ⟦<PieceOutlet as Outlet>⟧.last_failed result ≡ false }
+        ensures not_called { result.calls ≡ 0 }
+        ensures piece { result.piece ≡ piece }
+        ensures fail_at { result.fail_at ≡ fail_at }
     {
         PieceOutlet {
             bytes: Vec::new(alloc),
@@ -119,7 +140,8 @@ impl PieceOutlet {
 }
 
 impl Outlet for PieceOutlet {
-    ghost use Rattle.std.specs.Prelude.{Some};
+    ghost use Rattle.std.specs.Prelude.{Some, IfOk, IsErr, min};
+    ghost use Rattle.life_rle.specs.Stream.{Puts, raised, counted, is_err};
 
     ghost already = { λ s. Some s.bytes.items };
 
@@ -127,7 +149,20 @@ impl Outlet for PieceOutlet {
 
     ghost last_failed = { λ s. s.last_failed };
 
-    fn put(&mut self, bytes: &[u8]) -> Result<usize, Failed> {
+    fn put(&mut self, bytes: &[u8]) -> Result<usize, Failed>
+        ensures within { IfOk result (λ k. k ≤ length bytes.now) }
+        ensures some { IfOk result (λ k. 0 < length bytes.now → 0 < k) }
+        ensures bytes { Puts (Some self.old.bytes.items) (Some self.new.bytes.items) result bytes.now }
+        ensures count { self.new.failures ≡ counted self.old.failures result }
+        ensures last { self.new.last_failed ≡ is_err result }
+        ensures made { self.new.calls ≡ raised self.old.calls }
+        // A piece is taken whole, unless less is offered.
+        ensures piece { IfOk result (λ k. k ≡ min (length bytes.now) self.old.piece) }
+        // The call of the number fails. Another fails only for want of memory, which no clause can say.
+        ensures fails { self.old.fail_at ≡ Some self.new.calls → IsErr result }
+        ensures same_piece { self.new.piece ≡ self.old.piece }
+        ensures same_call { self.new.fail_at ≡ self.old.fail_at }
+    {
         self.calls = self.calls.saturating_add(1);
         if self.fail_at == Some(self.calls) {
             self.failures = self.failures.saturating_add(1);

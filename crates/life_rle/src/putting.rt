@@ -13,9 +13,20 @@ use std::alloc::Allocator;
 #[derive(Clone, Copy, Debug, PartialEq, Eq)]
 pub enum WriteFault {
     /// A put failed. A beginning of the text was put before it.
-    Unwritable,
+    Unwritable = 1,
     /// A growth was refused. Nothing was put.
-    Memory,
+    Memory = 2,
+}
+
+impl WriteFault {
+    ghost use Rattle.life_rle.specs.Putting.{write_fault_number};
+
+    /// The fault's number, from 1 on.
+    pub fn number(self) -> u8
+        ensures { result ≡ write_fault_number self }
+    {
+        self as u8
+    }
 }
 
 /// Puts the text of a record, in as many puts as it takes.

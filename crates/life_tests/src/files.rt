@@ -4,8 +4,8 @@ ghost use Rattle.std.specs.Prelude.{◌<◌};
 use life_core::{Fault, Pattern, Rule};
 use life_rle::{
     FromRead, FromWrite, Inlet, MemoryOutlet, PieceInlet, ReadFault, Record, RleFault, SliceInlet,
-    Text, Texts, laws_of_canonical_bodies, laws_of_files, laws_of_lines_and_runs, laws_of_texts,
-    plain, put_all, read, read_from, read_kept, write,
+    Text, Texts, WriteFault, laws_of_canonical_bodies, laws_of_files, laws_of_lines_and_runs,
+    laws_of_texts, plain, put_all, read, read_from, read_kept, write,
 };
 use std::alloc::{AllocError, Global};
 use std::io;
@@ -61,10 +61,10 @@ fn stream_gives(alloc: Global, input: &mut PieceInlet, text: &str) -> bool {
 }
 
 /// Whether this is written of a stream with these bytes, which come in pieces of the size.
-fn gives_in_pieces_of(alloc: Global, file: &str, piece: usize, text: &str) -> bool
+fn gives_in_pieces_of(alloc: Global, file: &[u8], piece: usize, text: &str) -> bool
     requires { 0 < piece }
 {
-    match file.as_bytes().to_vec(alloc) {
+    match file.to_vec(alloc) {
         Ok(bytes) => stream_gives(alloc, &mut PieceInlet::new(bytes, piece, None), text),
         Err(_) => false,
     }
@@ -73,7 +73,7 @@ fn gives_in_pieces_of(alloc: Global, file: &str, piece: usize, text: &str) -> bo
 /// Whether this is written of a stream with these bytes, which come in pieces of each size.
 fn gives_in_pieces(alloc: Global, file: &str, text: &str) -> bool {
     for piece in [1, 2, 7, 4_096] {
-        if !gives_in_pieces_of(alloc, file, piece, text) {
+        if !gives_in_pieces_of(alloc, file.as_bytes(), piece, text) {
             return false;
         }
     }
@@ -109,11 +109,18 @@ const LONG_FILES: [(&str, usize, &str); 3] = [
     ("x = 1\n", 1_048_571, "too-long"),
 ];
 
+/// Whether this is written of the file, or is the name of its fault, as bytes and as a stream, whole and in pieces of 4,096 bytes.
+fn gives_all_ways(alloc: Global, file: &[u8], text: &str) -> bool {
+    gives(alloc, file, text)
+        && gives_in_pieces_of(alloc, file, usize::MAX, text)
+        && gives_in_pieces_of(alloc, file, 4_096, text)
+}
+
 #[test]
 fn files_have_a_limit(rt: HostRuntime) {
     for (front, blanks, expected) in LONG_FILES {
         match with_blanks(rt.alloc(), front, blanks) {
-            Ok(file) => assert!(rt; gives(rt.alloc(), &file, expected), "{expected}"),
+            Ok(file) => assert!(rt; gives_all_ways(rt.alloc(), &file, expected), "{expected}"),
             Err(_) => panic!(rt; "no memory"),
         }
     }
@@ -232,4 +239,6 @@ fn texts_are_kept(rt: HostRuntime) {
         Err(_) => panic!(rt; "no memory"),
     }
     assert!(rt; RleFault::Memory.number() == 11);
+    assert!(rt; ReadFault::Unreadable.number() == 12);
+    assert!(rt; WriteFault::Memory.number() == 2);
 }

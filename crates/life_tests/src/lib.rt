@@ -9,6 +9,8 @@ mod files;
 mod kinds;
 pub mod refusing;
 #[cfg(test)]
+mod rows;
+#[cfg(test)]
 mod streams;
 #[cfg(test)]
 mod tests;

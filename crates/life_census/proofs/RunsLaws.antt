@@ -1,5 +1,5 @@
 -- The cells of runs.
-use Rattle.std.specs.Prelude.{◌≡◌, ℕ, zero, suc, ◌+◌, ◌<◌, ◌≤◌, ℤ, pos, ◌+ℤ◌, ◌≤ℤ◌, ◌<ℤ◌, Bool, true, false, ◌||◌, ◌⊎◌, List, [], ◌∷◌, ◌++◌, length, map, Option, Some, None, is_some, is_none, slice_get, refl}
+use Rattle.std.specs.Prelude.{◌≡◌, ℕ, zero, suc, ◌+◌, ◌<◌, ◌≤◌, ℤ, pos, ◌+ℤ◌, ◌-ℤ◌, ◌≤ℤ◌, ◌<ℤ◌, Bool, true, false, ◌||◌, ◌⊎◌, ◌≢◌, List, [], ◌∷◌, ◌++◌, length, map, Option, Some, None, is_some, is_none, slice_get, refl}
 use Rattle.std.proofs.Common.{sym, ap, ◌∙◌, inl, inr, get_or, take, true≢false, append_assoc, append-nil, arith}
 use Rattle.std.specs.List.{list_any, flat_map}
 use Rattle.std.specs.List.Sorted.{IsPermutation, IsStrictlySortedBy}
@@ -23,7 +23,9 @@ use Rattle.life_core.proofs.PatternCorners.{normal-moved}
 use Rattle.life_core.proofs.CellLemmas.{same_coordinates}
 use Rattle.life_core.proofs.PatternMembers.{same_cell, has_cell, same_cell-true, same_cell-self, cell_cmp_total, cell_cmp_exact, contains-list, cells_by_members, same_answer, image-list}
 use Rattle.life_census.specs.declared.runs.Run.{Run}
-use Rattle.life_census.specs.RunsState.{cells_from, run_cells, cells_in, first_cell, moved_run, IsRunBefore}
+use Rattle.std.proofs.lemmas.Option.{none-some}
+use Rattle.std.specs.Option.{unwrap_or}
+use Rattle.life_census.specs.RunsState.{cells_from, run_cells, cells_in, first_cell, moved_run, IsRunBefore, AreMoved}
 
 -- ---- one run
 
@@ -273,3 +275,24 @@ one_normal dx dy rs ss same =
 
 pub same_run : (r s : Run) → r.row ≡ s.row → r.first ≡ s.first → r.len ≡ s.len → r ≡ s
 same_run r s row first len = λ i. record { row = row i; first = first i; len = len i }
+
+-- ---- moves of runs
+
+-- the move that takes the first of the runs to the first of the others is the only one that may take all
+pub only_move : (runs others : List Run) (from to : Run) (dx dy : ℤ) → slice_get runs 0 ≡ Some from → slice_get others 0 ≡ Some to
+    → dx ≡ to.first -ℤ from.first → dy ≡ to.row -ℤ from.row → AreMoved runs others → map (moved_run dx dy) runs ≡ others
+only_move [] others from to dx dy f t columns rows h = absurd (h.some refl)
+only_move (r ∷ runs) others from to dx dy f t columns rows h =
+    let moved : moved_run h.dx h.dy r ≡ to = ap (λ o. unwrap_or o to) (ap (λ ss. slice_get ss 0) h.moved ∙ t) in
+    let same : r ≡ from = ap (λ o. unwrap_or o from) f in
+    let first : r.first +ℤ h.dx ≡ to.first = ap (λ (s : Run). s.first) moved in
+    let row : r.row +ℤ h.dy ≡ to.row = ap (λ (s : Run). s.row) moved in
+    let from_first : r.first ≡ from.first = ap (λ (s : Run). s.first) same in
+    let from_row : r.row ≡ from.row = ap (λ (s : Run). s.row) same in
+    let x : dx ≡ h.dx = omega (arith, ints) in
+    let y : dy ≡ h.dy = omega (arith, ints) in
+    (λ i. map (moved_run (x i) (y i)) (r ∷ runs)) ∙ h.moved
+
+-- a list with a first run is not empty
+pub some_first : (runs : List Run) (r : Run) → slice_get runs 0 ≡ Some r → runs ≢ []
+some_first runs r first none = none-some r (sym (ap (λ rs. slice_get rs 0) none) ∙ first)

@@ -1,5 +1,5 @@
 -- Runs: cells of one row that stand side by side (as in run-length encoding, LifeWiki, "Run Length Encoded").
-use Rattle.std.specs.Prelude.{◌≡◌, ◌⊎◌, ℕ, zero, suc, ℤ, pos, ◌+ℤ◌, ◌≤ℤ◌, ◌<ℤ◌, List, [], ◌∷◌}
+use Rattle.std.specs.Prelude.{◌≡◌, ◌≢◌, ◌⊎◌, ℕ, zero, suc, ℤ, pos, ◌+ℤ◌, ◌≤ℤ◌, ◌<ℤ◌, List, [], ◌∷◌, map}
 use Rattle.std.specs.List.{flat_map, AllPairs}
 use Rattle.std.specs.FinSet as set
 use Rattle.life_core.specs.declared.cell.Cell.{Cell}
@@ -30,6 +30,13 @@ emptied r = record { row = r.row; first = r.first; len = 0 }
 -- a run moved dx columns to the right and dy rows down
 abbrev pub moved_run : ℤ → ℤ → Run → Run
 moved_run dx dy r = record { row = r.row +ℤ dy; first = r.first +ℤ dx; len = r.len }
+
+-- there are runs, and a move takes them, in their order, to the others
+pub record AreMoved (runs others : List Run) : Type 0 where
+  pub some : runs ≢ []
+  pub dx : ℤ
+  pub dy : ℤ
+  pub moved : map (moved_run dx dy) runs ≡ others
 
 -- r ends before s begins: in a row before it, or further to the left
 abbrev pub IsRunBefore : Run → Run → Type 0

@@ -1,10 +1,10 @@
 //! A cluster as a list of runs.
-ghost use Rattle.std.specs.Prelude.{◌≡◌, IsTrue, IfOk};
-ghost use Rattle.life_core.specs.Pattern.{IsWithin, normal};
+ghost use Rattle.std.specs.Prelude.{◌≡◌, IfOk};
+ghost use Rattle.life_core.specs.Pattern.{IsWithin};
 ghost use Rattle.life_core.specs.declared.cell.TheConstants.{PLANE};
 ghost use Rattle.life_census.specs.RunsState.{cells_in};
 
-use crate::runs::{Run, are_moved, list_run};
+use crate::runs::{Run, list_run};
 use life_core::Pattern;
 use std::alloc::{AllocError, Allocator};
 use std::marker::Model;
@@ -53,11 +53,11 @@ impl<A: Allocator + Copy> Cluster<A> {
         pattern_of(alloc, &self.runs)
     }
 
-    /// Whether a move takes the set to the other, with their runs in the order in which they are kept.
-    pub fn is_moved_to(&self, other: &Cluster<A>) -> bool
-        ensures { IsTrue result → normal other.now ≡ normal self.now }
+    /// The runs, from the first row on and from left to right.
+    pub fn runs(&self) -> &[Run]
+        ensures { cells_in result.now ≡ self.now }
     {
-        are_moved(&self.runs, &other.runs)
+        &self.runs
     }
 }
 

@@ -12,6 +12,7 @@ use crate::cluster::Cluster;
 use crate::code_text::CodeText;
 use crate::parts::parted;
 use crate::rows::{Row, Rows, Tally};
+use crate::runs::are_moved;
 use life_code::{PERIOD_LIMIT, code};
 use life_core::{Fault, Pattern, Rule};
 use std::alloc::{AllocError, Allocator};
@@ -139,7 +140,7 @@ fn place_of_shape<A: Allocator + Copy>(known: &[Known<A>], cluster: &Cluster<A>)
     ensures { IfSome result (λ i. HasShapeAt known.now cluster.now i) }
 {
     for (i, one) in known.iter().enumerate() {
-        if one.shape.is_moved_to(cluster) {
+        if are_moved(one.shape.runs(), cluster.runs()) {
             return Some(i);
         }
     }

@@ -6,7 +6,7 @@ ghost use Rattle.std.specs.FinSet as set;
 ghost use Rattle.life_core.specs.Cell.{cell_cmp, IsCellWithin};
 ghost use Rattle.life_core.specs.Pattern.{normal};
 ghost use Rattle.life_core.specs.declared.cell.TheConstants.{PLANE};
-ghost use Rattle.life_census.specs.RunsState.{run_cells, cells_in, moved_run, AreRunsInOrder};
+ghost use Rattle.life_census.specs.RunsState.{run_cells, cells_in, moved_run, AreMoved, AreRunsInOrder};
 
 use life_core::Cell;
 use std::alloc::{AllocError, Allocator};
@@ -102,9 +102,10 @@ pub fn list_run<A: Allocator>(cells: &mut Vec<Cell, A>, run: Run) -> Result<(), 
     Ok(())
 }
 
-/// Whether one move takes the runs, in their order, to the others.
+/// Whether there are runs, and one move takes them, in their order, to the others.
 pub fn are_moved(runs: &[Run], others: &[Run]) -> bool
-    ensures { IsTrue result → normal (cells_in others.now) ≡ normal (cells_in runs.now) }
+    ensures decides { IsTrue result ↔ AreMoved runs.now others.now }
+    ensures normal { IsTrue result → normal (cells_in others.now) ≡ normal (cells_in runs.now) }
 {
     let Some(from) = runs.first() else {
         return false;

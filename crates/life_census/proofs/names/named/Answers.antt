@@ -1,4 +1,4 @@
-use Rattle.std.proofs.Common.{◌≡◌, ℕ, ◌∷◌, [], ◌++◌, List, Option, map, take, get_or, sym, ap, ◌∙◌}
+use Rattle.std.proofs.Common.{ℕ, ◌∷◌, [], ◌++◌, List, Option, map, take, sym, ap, ◌∙◌}
 use Rattle.std.proofs.lemmas.List.{take_all}
 use Rattle.life_core.specs.Pattern.{Cells}
 use Rattle.life_code.specs.Codes.{code_of}

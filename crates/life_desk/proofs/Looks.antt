@@ -1,7 +1,6 @@
 -- What the looks at a kept deposit and at a kept tally tell of the reply.
 use Rattle.std.proofs.Common.{◌≡◌, ℕ, List, Bool, true, false, if◌then◌else◌, Option, None, Some, option_map, Result, Ok, Err, IfOk, sym, ◌∙◌, ap, subst}
 use Rattle.std.specs.Result.{MatchResult}
-use Rattle.life_census.specs.Rows.{TallyCounts}
 use Rattle.life_census.specs.Table.{csv_text}
 use Rattle.life_store.specs.declared.kept.Deposit.{Deposit}
 use Rattle.life_store.specs.declared.kept.Census.{Census}
@@ -12,7 +11,8 @@ use Rattle.life_desk.specs.declared.refusal.Refusal.TheVariants as no
 use Rattle.life_desk.specs.declared.request.Reply.{Reply}
 use Rattle.life_desk.specs.declared.request.Reply.TheVariants as says
 use Rattle.life_desk.specs.Content.{same_contents}
-use Rattle.life_desk.specs.Archive.{Archive, tally_at}
+use Rattle.life_desk.specs.declared.looking.CountedCensus.{CountedCensus}
+use Rattle.life_desk.specs.Archive.{Archive, tally_at, steady_at}
 use Rattle.life_desk.specs.Means.{Means}
 use Rattle.life_desk.specs.Replies.{Repeats, Refuses, deposit_by_token, deposit_reply, with_deposit, csv_reply}
 
@@ -43,18 +43,22 @@ deposit_new A new d found o r is tells done = subst (λ o. MatchResult r (λ x. 
 -- ---- tallies
 
 abbrev Found : Type 0
-Found = Option (Census × TallyCounts)
+Found = Option CountedCensus
 
-tally_told : (ds : List Deposit) (o : Option Census) (c : Census) (t : TallyCounts) (found : Found) → found ≡ Some (c, t) → found ≡ option_map (λ c. (c, tally_at ds c)) o
-    → says.Csv (csv_text t) ≡ csv_reply ds o
-tally_told ds None c t found is tells = absurd cc
-tally_told ds (Some x) c t found is tells =
-    let pair : ◌≡◌ {A = Census × TallyCounts} (c, t) (x, tally_at ds x) = cc in
-    ap (λ (p : Census × TallyCounts). says.Csv (csv_text p.1)) pair
+-- the census as it is counted
+abbrev pub counted_at : List Deposit → Census → CountedCensus
+counted_at ds c = record { census = c; tally = tally_at ds c; steady = steady_at ds c }
+
+tally_told : (ds : List Deposit) (o : Option Census) (counted : CountedCensus) (found : Found) → found ≡ Some counted → found ≡ option_map (counted_at ds) o
+    → says.Csv (csv_text counted.tally) ≡ csv_reply ds o
+tally_told ds None counted found is tells = absurd cc
+tally_told ds (Some x) counted found is tells =
+    let same : counted ≡ counted_at ds x = cc in
+    ap (λ (k : CountedCensus). says.Csv (csv_text k.tally)) same
 
 -- the reply with the tally as CSV
-pub csv_told : {E M : Type 0} → (ds : List Deposit) (o : Option Census) (found : Found) (c : Census) (t : TallyCounts) (r : Result Reply E)
-    → found ≡ Some (c, t) → found ≡ option_map (λ c. (c, tally_at ds c)) o → IfOk r (λ reply. reply ≡ says.Csv (csv_text t)) → M
+pub csv_told : {E M : Type 0} → (ds : List Deposit) (o : Option Census) (found : Found) (counted : CountedCensus) (r : Result Reply E)
+    → found ≡ Some counted → found ≡ option_map (counted_at ds) o → IfOk r (λ reply. reply ≡ says.Csv (csv_text counted.tally)) → M
     → MatchResult r (λ reply. (reply ≡ csv_reply ds o) × M) (λ _. M)
-csv_told ds o found c t (Ok reply) is tells told m = (told ∙ tally_told ds o c t found is tells, m)
-csv_told ds o found c t (Err e) is tells told m = m
+csv_told ds o found counted (Ok reply) is tells told m = (told ∙ tally_told ds o counted found is tells, m)
+csv_told ds o found counted (Err e) is tells told m = m

@@ -110,14 +110,6 @@ shares_of ds rule code (c ∷ cs) = sum_by-cons (share ds rule code) (tallied ds
 pub total_of-kept_of : (A : Archive) (rule : RuleSets) (code : List ℕ) → total_of (kept_of A) rule code ≡ clusters_with A rule code
 total_of-kept_of A rule code = shares_of A.deposits rule code A.censuses
 
-flag_is : (ds : List Deposit) (o : Option Census) → option_map (λ (t : Tallied). t.steady) (option_map (tallied ds) o) ≡ option_map (steady_at ds) o
-flag_is ds None = refl
-flag_is ds (Some c) = refl
-
--- the flag of one census
-pub flags_of : (ds : List Deposit) (cs : List Census) (id : ℕ) → option_map (λ (t : Tallied). t.steady) (numbered (map (tallied ds) cs) id) ≡ option_map (steady_at ds) (numbered cs id)
-flags_of ds cs id = ap (λ o. option_map (λ (t : Tallied). t.steady) o) (numbered_tallied ds cs id) ∙ flag_is ds (numbered cs id)
-
 -- one census more, with the tally and the flag of the deposit that is there
 pub means_counted : {S : Type 0} {g : Ghosts S} {More : Trees → Type 0} (old new : ArchiveView S) (A : Archive) (c : Census) (t : TallyCounts) (b : Bool) (d : Deposit) → IsTransition g More old new
     → AddsCensus old.tables new.tables (record { census = c; tally = t; steady = b })

@@ -9,6 +9,7 @@ ghost use Rattle.life_desk.specs.declared.refusal.Refusal.TheVariants as refusal
 ghost use Rattle.life_desk.specs.Replies.{Adds, deposit_by_token, deposit_verdict, deposit_reply, with_deposit, is_same_content, census_by_token, census_verdict, census_reply, with_census, file_reply, at_reply, kind_reply, shown_reply, csv_reply, IsTotal, IsReplyTo, after_all_of, is_shown};
 ghost use Rattle.life_core.specs.Pattern.{IsWithin};
 ghost use Rattle.life_code.specs.Codes as codes;
+ghost use Rattle.life_code.specs.Period as periods;
 ghost use Rattle.life_desk.specs.Content.{same_contents};
 ghost use Rattle.life_desk.specs.Judging.{judged};
 ghost use Rattle.life_desk.specs.JudgingState.{IsGood};
@@ -25,13 +26,13 @@ use crate::content::same_contents;
 use crate::headline::law_of_the_archive;
 use crate::judging::judge;
 use crate::looking::{
-    add_census, add_deposit, counts_of, deposit_of, deposits_after, find_census, find_deposit,
-    flag_of, has_census_room, has_room, kept_tally,
+    add_census, add_deposit, counted_census, counts_of, deposit_of, deposits_after, find_census,
+    find_deposit, has_census_room, has_room,
 };
 use crate::refusal::Refusal;
 use crate::request::{Judged, Reply, Request, Shown};
 use life_census::{Tally, csv, laws_of_tallies, steady, tally};
-use life_code::{CodeFault, PERIOD_LIMIT, code, kind, open_code};
+use life_code::{CodeFault, Kind, PERIOD_LIMIT, code_of_kind, kind, open_code};
 use life_core::{Fault, GENERATION_LIMIT, Pattern, Rule, generation};
 use life_rle::{Record, RleFault, Text, into_plain, read, write};
 use life_store::{Archive, Census, Deposit, FoundCensus, FoundDeposit, Unavailable};
@@ -189,25 +190,26 @@ fn show_at<S: Alter>(
     }
 }
 
-/// The code of a pattern, if it has one.
-fn code_of(
+/// The code of a pattern of this kind, if it has one.
+fn code_by_kind(
     alloc: Global,
     rule: &Rule,
     cells: &Pattern,
     limit: u32,
+    kind: Kind,
 ) -> Result<Option<Bytes>, Unavailable>
-    requires some { 1 ≤ limit }
     requires few { limit ≤ PERIOD_LIMIT }
     requires room { IsWithin 400_000_000 cells.now }
+    requires kind { kind ≡ periods.kind_of rule.now cells.now limit }
     ensures { IfOk result (λ c. c ≡ codes.code_of rule.now cells.now limit) }
 {
-    match code(alloc, rule, cells, limit)? {
+    match code_of_kind(alloc, rule, cells, limit, kind)? {
         None => Ok(None),
         Some(coded) => Ok(Some(Bytes::from_slice(alloc, coded.text())?)),
     }
 }
 
-/// The kind of a deposit, with its code.
+/// The kind of a deposit, with its code. The period is searched once.
 fn kind_of(alloc: Global, deposit: &Deposit, limit: u32) -> Result<Reply, Unavailable>
     requires small { IsInside 1024 deposit.now.content.cells }
     requires some { 1 ≤ limit }
@@ -216,7 +218,7 @@ fn kind_of(alloc: Global, deposit: &Deposit, limit: u32) -> Result<Reply, Unavai
 {
     let rule = deposit.content.rule;
     let kind = kind(alloc, &rule, &deposit.content.cells, limit)?;
-    let code = code_of(alloc, &rule, &deposit.content.cells, limit)?;
+    let code = code_by_kind(alloc, &rule, &deposit.content.cells, limit, kind)?;
     Ok(Reply::Kinded(kind, code))
 }
 
@@ -378,19 +380,16 @@ fn show_census<S: Alter>(
     ensures sure { OnOk result (IsSureIfClean S.Store archive.new) }
     ensures acts { Acts archive.old archive.new result (λ A r. r ≡ shown_reply A.deposits id (numbered A.censuses id)) (λ A. A) }
 {
-    match kept_tally(archive, alloc, id)? {
+    match counted_census(archive, alloc, id)? {
         None => Ok(Reply::Refused(Refusal::NoSuchCensus)),
-        Some((census, tally)) => match flag_of(archive, id)? {
-            None => Err(Unavailable),
-            Some(steady) => Ok(Reply::Shown(Shown {
-                census: id,
-                deposit: census.deposit,
-                generation: census.generation,
-                limit: census.limit,
-                tally,
-                steady,
-            })),
-        },
+        Some(counted) => Ok(Reply::Shown(Shown {
+            census: id,
+            deposit: counted.census.deposit,
+            generation: counted.census.generation,
+            limit: counted.census.limit,
+            tally: counted.tally,
+            steady: counted.steady,
+        })),
     }
 }
 
@@ -412,9 +411,9 @@ fn census_csv<S: Alter>(
     ensures sure { OnOk result (IsSureIfClean S.Store archive.new) }
     ensures acts { Acts archive.old archive.new result (λ A r. r ≡ csv_reply A.deposits (numbered A.censuses id)) (λ A. A) }
 {
-    match kept_tally(archive, alloc, id)? {
+    match counted_census(archive, alloc, id)? {
         None => Ok(Reply::Refused(Refusal::NoSuchCensus)),
-        Some((_census, tally)) => csv_of(alloc, &tally),
+        Some(counted) => csv_of(alloc, &counted.tally),
     }
 }
 

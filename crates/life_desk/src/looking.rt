@@ -106,59 +106,58 @@ fn census_of<S: Alter>(
     archive.census_of(alloc, id)
 }
 
-/// The rows of the tally of the census of the number.
-fn rows_of<S: Alter>(
+/// The rows of the tally of the census of the number, and whether the generation that it counted is steady.
+fn rows_and_flag_of<S: Alter>(
     archive: &mut Archive<S>,
     alloc: Global,
     id: u64,
-) -> Result<Option<Rows>, Unavailable>
+) -> Result<Option<(Rows, bool)>, Unavailable>
     ensures goes { IsTransition S.Store NoMore archive.old archive.new }
     ensures sure { OnOk result (IsSureIfClean S.Store archive.new) }
     ensures same { MeansTheSame archive.old archive.new }
-    ensures value { ForAllMeant archive.old archive.new (λ A. IfOk result (λ rows. rows ≡ option_map (λ t. t.tally.rows) (option_map (tallied A.deposits) (numbered A.censuses id)))) }
+    ensures value { ForAllMeant archive.old archive.new (λ A. IfOk result (λ found. found ≡ option_map (λ t. record { 0 = t.tally.rows; 1 = t.steady }) (option_map (tallied A.deposits) (numbered A.censuses id)))) }
 {
-    archive.rows_of(alloc, id)
+    archive.rows_and_flag_of(alloc, id)
 }
 
-/// A census that is kept, with its tally.
-pub(crate) fn kept_tally<S: Alter>(
+/// A census that is stored, with its tally, and whether the generation that it counted is steady.
+#[derive(Drop)]
+pub(crate) struct CountedCensus {
+    pub(crate) census: Census,
+    pub(crate) tally: Tally,
+    pub(crate) steady: bool,
+}
+
+/// The census of the number, as it was counted.
+pub(crate) fn counted_census<S: Alter>(
     archive: &mut Archive<S>,
     alloc: Global,
     id: u64,
-) -> Result<Option<(Census, Tally)>, Unavailable>
+) -> Result<Option<CountedCensus>, Unavailable>
     ensures goes { IsTransition S.Store NoMore archive.old archive.new }
     ensures sure { OnOk result (IsSureIfClean S.Store archive.new) }
     ensures same { MeansTheSame archive.old archive.new }
     ensures value { ForAllMeant archive.old archive.new (λ A.
-        IfOk result (λ o. o ≡ option_map (λ c. record { 0 = c; 1 = tally_at A.deposits c }) (numbered A.censuses id))) }
+        IfOk result (λ o. o ≡ option_map (λ c. record { census = c; tally = tally_at A.deposits c; steady = steady_at A.deposits c }) (numbered A.censuses id))) }
 {
     match census_of(archive, alloc, id)? {
         None => Ok(None),
-        Some(kept) => match rows_of(archive, alloc, id)? {
+        Some(kept) => match rows_and_flag_of(archive, alloc, id)? {
             None => Err(Unavailable),
-            Some(rows) => Ok(Some((
-                kept.census,
-                Tally {
+            Some((rows, steady)) => {
+                let tally = Tally {
                     rows,
                     unresolved: kept.unresolved,
                     total: kept.total,
-                },
-            ))),
+                };
+                Ok(Some(CountedCensus {
+                    census: kept.census,
+                    tally,
+                    steady,
+                }))
+            }
         },
     }
-}
-
-/// Whether the generation that the census of the number counted is steady.
-pub(crate) fn flag_of<S: Alter>(
-    archive: &mut Archive<S>,
-    id: u64,
-) -> Result<Option<bool>, Unavailable>
-    ensures goes { IsTransition S.Store NoMore archive.old archive.new }
-    ensures sure { OnOk result (IsSureIfClean S.Store archive.new) }
-    ensures same { MeansTheSame archive.old archive.new }
-    ensures value { ForAllMeant archive.old archive.new (λ A. IfOk result (λ b. b ≡ option_map (steady_at A.deposits) (numbered A.censuses id))) }
-{
-    archive.flag_of(id)
 }
 
 /// How many deposits there are.

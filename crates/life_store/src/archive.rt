@@ -257,20 +257,37 @@ impl<S: Alter> Archive<S> {
         all_rows(alloc, rows.as_slice())
     }
 
-    /// The rows of the tally of the census of the number, in byte order of their codes, or none. A tally without rows is
-    /// kept by its census alone, so its flag is asked for first.
+    /// The rows of the tally of the census of the number, in byte order of their codes, and its flag, or none. A tally without rows
+    /// is stored by its census alone, so the flag is asked for first.
+    pub fn rows_and_flag_of(
+        &mut self,
+        alloc: Global,
+        id: u64,
+    ) -> Result<Option<(Rows, bool)>, Unavailable>
+        ensures goes { IsTransition S.Store NoMore self.old self.new }
+        ensures sure { OnOk result (IsSureIfClean S.Store self.new) }
+        ensures same { HoldsTheSame self.old.tables self.new.tables }
+        ensures value { ForAllHeld self.old.tables self.new.tables (λ k. IfOk result (λ found. found ≡ option_map (λ t. record { 0 = t.tally.rows; 1 = t.steady }) (numbered k.censuses id))) }
+    {
+        match self.flag_of(id)? {
+            None => Ok(None),
+            Some(steady) => {
+                let rows = self.rows_kept(alloc, id)?;
+                Ok(Some((rows, steady)))
+            }
+        }
+    }
+
+    /// The rows of the tally of the census of the number, in byte order of their codes, or none.
     pub fn rows_of(&mut self, alloc: Global, id: u64) -> Result<Option<Rows>, Unavailable>
         ensures goes { IsTransition S.Store NoMore self.old self.new }
         ensures sure { OnOk result (IsSureIfClean S.Store self.new) }
         ensures same { HoldsTheSame self.old.tables self.new.tables }
         ensures value { ForAllHeld self.old.tables self.new.tables (λ k. IfOk result (λ rows. rows ≡ option_map (λ t. t.tally.rows) (numbered k.censuses id))) }
     {
-        match self.flag_of(id)? {
+        match self.rows_and_flag_of(alloc, id)? {
             None => Ok(None),
-            Some(_) => {
-                let rows = self.rows_kept(alloc, id)?;
-                Ok(Some(rows))
-            }
+            Some((rows, _steady)) => Ok(Some(rows)),
         }
     }
 

@@ -9,7 +9,6 @@ ghost use Rattle.sqlite.specs.State.{HasCleanDisk, IsLive};
 ghost use Rattle.sqlite.specs.Held.{state};
 ghost use Rattle.sqlite.specs.Closing.{IsCopied};
 ghost use Rattle.sqlite.specs.Files.{file_state, image_of, over_files};
-ghost use Rattle.sqlite_disk.specs.declared.Files.{Files as Pair};
 ghost use Rattle.sqlite_wal.specs.Files.{image_at};
 ghost use Rattle.sqlite_wal.specs.Reads.{AreClean};
 ghost use Rattle.sqlite_schema.specs.declared.schema.Schema.{Schema as SchemaValue};
@@ -368,18 +367,6 @@ impl<D: Disk + Drop> Archive<FileStore<D>> {
     {
         self.law_of_crashes();
         self.into_connection().into_store().close()
-    }
-
-    /// As `close_files`, and the files are closed too. What the archive held is in the database file alone then; where the
-    /// close is refused, it is in the two files together, as it was.
-    pub fn close(self) -> Result<(), Unavailable>
-        // No result names the files, so it says that there are some.
-        ensures { OnOk result ((files : Pair D) × ((k : Kept) → AreClean D.Disk files.log files.db → Holds self.tables k → FilesHold (without_log (image_of D.Disk files)) k)) }
-    {
-        match self.close_files() {
-            Ok(_files) => Ok(()),
-            Err((fault, _files)) => Err(fault),
-        }
     }
 }
 

@@ -3,5 +3,5 @@ use Rattle.life_desk.proofs.desk.census_csv.Goals as goal
 
 pub returns-in-Some-clause-acts : goal.returns-in-Some-clause-acts
 returns-in-Some-clause-acts g c = λ A sure m.
-    let kept = c.in_ok-kept_tally.ensures in
-    csv_told A.deposits _ _ _ _ _ c.in-Some.is (kept.value A sure m) c.csv_of.ensures (kept.same A sure m)
+    let kept = c.in_ok-counted_census.ensures in
+    csv_told A.deposits _ _ _ _ c.in-Some.is (kept.value A sure m) c.csv_of.ensures (kept.same A sure m)

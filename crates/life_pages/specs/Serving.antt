@@ -6,6 +6,13 @@ use Rattle.life_pages.specs.Message.{Message, Messages, Front, Starts, MessageRu
 use Rattle.life_pages.specs.declared.serving.IoFault.{IoFault}
 use Rattle.life_pages.specs.declared.serving.IoFault.TheVariants.{Read, Write, TooManyReads, Memory}
 
+-- the faults from 1 on
+abbrev pub io_fault_number : IoFault → ℕ
+io_fault_number Read = 1
+io_fault_number Write = 2
+io_fault_number TooManyReads = 3
+io_fault_number Memory = 4
+
 -- all the messages that were sent, where the stream tells its bytes
 abbrev pub AreAllOf : Option (List ℕ) → List Message → Type 0
 AreAllOf stream ms = IfSome stream (λ bytes. Messages bytes ms)

@@ -43,6 +43,17 @@ pub enum IoFault {
     Memory = 4,
 }
 
+impl IoFault {
+    ghost use Rattle.life_pages.specs.Serving.{io_fault_number};
+
+    /// The fault's number, from 1 on.
+    pub fn number(self) -> u8
+        ensures { result ≡ io_fault_number self }
+    {
+        self as u8
+    }
+}
+
 /// What became of the first message that is held.
 #[derive(Clone, Copy)]
 pub(crate) enum Step {

@@ -5,6 +5,7 @@ use Rattle.std.proofs.Math.Logic.{∥∥₁_map}
 use Rattle.std.specs.Prelude.{IsTrue}
 use Rattle.sqlite_disk.specs.declared.Disk as disk
 use Rattle.sqlite_disk.specs.declared.Files.{Files}
+use Rattle.sqlite_wal.specs.Files.{outcomes}
 use Rattle.sqlite_wal.specs.Reads.{AreClean}
 use Rattle.sqlite_wal.specs.Recovery.{Image}
 use Rattle.sqlite_trees.specs.declared.store.Store.{Ghosts}
@@ -40,7 +41,7 @@ use Rattle.life_pages.proofs.ArchiveRuns.{SomeMessages, run_answered, by_taken, 
 use Rattle.life_pages.proofs.FirmReplies.{firm_run}
 use Rattle.life_census.specs.Laws.{SteadyIsDecided}
 use Rattle.life_archive.proofs.MigrationLemmas.{migrated_is}
-use Rattle.life_archive.specs.Session.{Exchange, messages_of, replies_of, Traffic, untold, failures_after, Carries, CarriesAll, ServesOne, ServesSome, Runs, ServesConnections, FilesMean, Begins, Leaves, IsSession, EndsSession, under, SessionsCompose}
+use Rattle.life_archive.specs.Session.{Exchange, messages_of, replies_of, Traffic, untold, failures_after, Carries, CarriesAll, ServesOne, ServesSome, Runs, ServesConnections, FilesMean, Begins, Leaves, IsSession, EndsSession, under, either, SessionsCompose, LeavesAfter, GoesOn, SessionsComposeOverCrashes}
 
 -- ---- one connection
 
@@ -171,6 +172,15 @@ module _ {D : Type 0} {g : disk.Ghosts D} (a mid last : ArchiveView (FileStore D
       left_as A ms bytes (TreesMean found.0) (FilesMean image) (each_of a A means) (λ X each mean. (each, files_hold image found.0 (kept_of X) mean found.2))
       (left_safely over_files a mid ms bytes law served A sure means clean_mid found.0 (kept_before clean_last found.0 found.1)))
 
+-- what is left, by either answer with these files
+pub leaves_either : {D : Type 0} (g : disk.Ghosts D) (A : Archive) (ms : List Message) (bytes : List ℕ) (files : Files D) (left : Result (Files D) (Files D)) → either left ≡ files
+    → Leaves g A ms bytes (Ok files) → Leaves g A ms bytes (Err files) → Leaves g A ms bytes left
+leaves_either {D} g A ms bytes files (Ok f) is whole cut = subst (λ (x : Files D). Leaves g A ms bytes (Ok x)) (sym is) whole
+leaves_either {D} g A ms bytes files (Err f) is whole cut = subst (λ (x : Files D). Leaves g A ms bytes (Err x)) (sym is) cut
+
+pub either_clean : {D : Type 0} (g : disk.Ghosts D) (files : Files D) (left : Result (Files D) (Files D)) → either left ≡ files → AreClean g (either left).log (either left).db → AreClean g files.log files.db
+either_clean {D} g files left is clean = subst (λ (x : Files D). AreClean g x.log x.db) is clean
+
 -- an archive that an opening found
 module _ {D : Type 0} {g : disk.Ghosts D} (a : ArchiveView (FileStore D g)) (image : Image) (found : (k : Kept) → IsTrue a.tables.is_sure → FilesHold image k → Holds a.tables k)
     (fresh : IsTrue a.tables.is_sure → ListNothing image → Holds a.tables nothing_kept) (carried : (k : Kept) → IsTrue a.tables.is_sure → FilesHoldFirst image k → CarriedOver a.tables k)
@@ -205,3 +215,31 @@ sessions_compose g stays files mid capacity next count more w x y z left one two
     let done = one.leaves A fits begins (two.honest clean) in
     let seen = done.2 (image_of g mid) (stays mid.log, stays mid.db) in
     (done.0, done.1, two.leaves (under next done.0) refl (inl seen))
+
+left_then : (A : Archive) (ms : List Message) (bytes : List ℕ) (P Q : Archive → Type 0) → ((X : Archive) → P X → Q X) → IsLeftOf A ms bytes P → IsLeftOf A ms bytes Q
+left_then A ms bytes P Q says it = record {
+  front = it.front;
+  back = it.back;
+  given = it.given;
+  rest = it.rest;
+  messages = it.messages;
+  replies = it.replies;
+  mid = it.mid;
+  run = it.run;
+  left = elim it.left [
+    | inl mean ↦ inl (says it.mid mean)
+    | inr more ↦ inr (more.0, more.1, more.2, more.3, more.4, more.5, says _ more.6)
+  ];
+  unpromised = it.unpromised;
+}
+
+pub sessions_over_crashes : {D E : Type 0} (g : disk.Ghosts D) (h : disk.Ghosts E) → SessionsComposeOverCrashes g h
+sessions_over_crashes {D} {E} g h files again capacity next count more w x y z mid left one two clean may A fits begins = goes_on mid one clean may
+  where
+    second : (X : Archive) → FilesMean (image_of h again) X → LeavesAfter h two X
+    second X mean = two.leaves (under next X) refl (inl mean)
+
+    goes_on : (mid : Result (Files D) (Files D)) (one : IsSession g files capacity count w x mid) → AreClean g (either mid).log (either mid).db → outcomes g (either mid).log (either mid).db (image_of h again)
+        → GoesOn A (messages_of one.exchanges) (replies_of one.exchanges) (LeavesAfter h two) mid
+    goes_on (Ok mid) one clean may = let done = one.leaves A fits begins clean in (done.0, done.1, second done.0 (done.2 (image_of h again) may))
+    goes_on (Err mid) one clean may = ∥∥₁_map (one.leaves A fits begins clean (image_of h again) may) (left_then A (messages_of one.exchanges) (replies_of one.exchanges) (FilesMean (image_of h again)) (LeavesAfter h two) second)

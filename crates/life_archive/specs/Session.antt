@@ -133,6 +133,10 @@ abbrev pub either : {X : Type 0} → Result X X → X
 either (Ok x) = x
 either (Err x) = x
 
+-- no sync of the files has failed, so that they may be opened
+abbrev pub AreUsable : {D : Type 0} → disk.Ghosts D → Files D → Type 0
+AreUsable g files = IsTrue (g.is_usable files.log) × IsTrue (g.is_usable files.db)
+
 -- A session over files: what they meant was taken over the messages of so many connections, to each of which a beginning of its replies was put, and all of them
 -- where it was served to its end. So the next session may begin with what it leaves, and where the disk was honest to the end of that, it was in this.
 --
@@ -169,3 +173,22 @@ SessionsCompose {D} g =
     (one : IsSession g files capacity count w x (Ok mid)) (two : IsSession g mid next more y z left)
     → AreClean g (either left).log (either left).db → (A : Archive) → A.capacity ≡ capacity → Begins (image_of g files) A
     → (B : Archive) × Runs (messages_of one.exchanges) (replies_of one.exchanges) A B × Leaves g (under next B) (messages_of two.exchanges) (replies_of two.exchanges) left
+
+-- What a session leaves, by the archive that it began with under its own capacity.
+abbrev pub LeavesAfter : {D : Type 0} (g : disk.Ghosts D) {files : Files D} {capacity count : ℕ} {x y : Traffic} {left : Result (Files D) (Files D)} → IsSession g files capacity count x y left → Archive → Type 0
+LeavesAfter g {capacity = capacity} {left = left} it A = Leaves g (under capacity A) (messages_of it.exchanges) (replies_of it.exchanges) left
+
+-- how an archive goes on after a session that began with A, by the answer of the session
+abbrev pub GoesOn : {X : Type 0} → Archive → List Message → List ℕ → (Archive → Type 0) → Result X X → Type 0
+GoesOn A ms bytes Next (Ok mid) = (B : Archive) × Runs ms bytes A B × Next B
+GoesOn A ms bytes Next (Err mid) = ∥ IsLeftOf A ms bytes Next ∥₁
+
+-- A crash came after a session, or ended it, and another session opens what the crash left, maybe on another disk. If the first was answered Ok, the second
+-- begins with the archive after all its messages. Else it begins with the archive after a beginning of them, or after the one that follows as well, and every
+-- deposit and census that was acknowledged is in it.
+abbrev pub SessionsComposeOverCrashes : {D E : Type 0} → disk.Ghosts D → disk.Ghosts E → Type 0
+SessionsComposeOverCrashes {D} {E} g h =
+    (files : Files D) (again : Files E) (capacity next count more : ℕ) (w x y z : Traffic) (mid : Result (Files D) (Files D)) (left : Result (Files E) (Files E))
+    (one : IsSession g files capacity count w x mid) (two : IsSession h again next more y z left)
+    → AreClean g (either mid).log (either mid).db → outcomes g (either mid).log (either mid).db (image_of h again) → (A : Archive) → A.capacity ≡ capacity → Begins (image_of g files) A
+    → GoesOn A (messages_of one.exchanges) (replies_of one.exchanges) (LeavesAfter h two) mid

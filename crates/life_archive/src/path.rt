@@ -38,7 +38,7 @@ fn deposit_opened<D: Disk + Drop, I: Inlet, O: Outlet>(
 {
     let mut archive = archive;
     let done = run_deposit(alloc, &mut archive, member, token, input, output);
-    let _closed = archive.close();
+    let _closed = archive.close_files();
     done
 }
 
@@ -99,7 +99,7 @@ pub fn serve_path<T: Start, C: Connections>(
         Ok(archive) => match connections.listen() {
             Ok(()) => Ok(serve_opened(rt.alloc(), archive, connections, count)),
             Err(stop) => {
-                let _closed = archive.close();
+                let _closed = archive.close_files();
                 Err(stop)
             }
         },

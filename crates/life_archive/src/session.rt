@@ -4,7 +4,7 @@ ghost use Rattle.sqlite_wal.specs.Reads.{AreClean};
 ghost use Rattle.sqlite.specs.Files.{image_of};
 ghost use Rattle.life_store.specs.Kept.{Kept};
 ghost use Rattle.life_store.specs.Opening.{is_capacity, FilesHold, ListNothing};
-ghost use Rattle.life_archive.specs.Session.{Traffic, ServesOne, ServesSome, ServesConnections, EndsSession, IsSession, SessionsCompose};
+ghost use Rattle.life_archive.specs.Session.{Traffic, ServesOne, ServesSome, ServesConnections, AreUsable, either, EndsSession, IsSession, SessionsCompose, SessionsComposeOverCrashes};
 
 use crate::stop::ArchiveStop;
 use life_census::laws_of_steady_fields;
@@ -57,20 +57,35 @@ pub fn serve_connections<S: Alter, C: Connections>(
     serve_each(alloc, archive, connections, count);
 }
 
-/// Serves by an archive over files, and lets it go. Ok says that the database was sound to the end.
+/// The files in an Ok if they may be opened again: no sync of them has failed.
+fn reopenable<D: Disk>(files: Files<D>) -> Result<Files<D>, Files<D>>
+    ensures same { either result ≡ files }
+    ensures usable { IfOk result (AreUsable D.Disk) }
+{
+    if !files.log.may_be_used() {
+        return Err(files);
+    }
+    if !files.db.may_be_used() {
+        return Err(files);
+    }
+    Ok(files)
+}
+
+/// Serves by an archive over files, and lets it go. Ok says that the database was sound to the end, and that the files may be opened again.
 fn serve_opened<D: Disk + Drop, C: Connections>(
     alloc: Global,
     archive: Archive<FileStore<D>>,
     connections: &mut C,
     count: u64,
 ) -> Result<Files<D>, Files<D>>
-    ensures { EndsSession D.Disk archive count (C.traffic connections.old) (C.traffic connections.new) result }
+    ensures ends { EndsSession D.Disk archive count (C.traffic connections.old) (C.traffic connections.new) result }
+    ensures usable { IfOk result (AreUsable D.Disk) }
 {
     let mut archive = archive;
     archive.law_of_crashes();
     serve_each(alloc, &mut archive, connections, count);
     match archive.count_deposits() {
-        Ok(_count) => Ok(archive.into_files()),
+        Ok(_count) => reopenable(archive.into_files()),
         Err(_) => Err(archive.into_files()),
     }
 }
@@ -78,7 +93,7 @@ fn serve_opened<D: Disk + Drop, C: Connections>(
 /// A session: opens the archive that the files hold, serves so many connections, one after the other, and lets it go, with no copying of the log.
 /// What was meant before it is meant behind it, as the messages that were served leave it: the next session begins with that.
 ///
-/// It answers the files in an Ok where the database was sound to the end and tells its count of deposits, and else in an Err. So it does where a crash cut it
+/// It answers the files in an Ok if the database was sound to the end and tells its count of deposits, and else in an Err. So it does if a crash cut it
 /// off, by the kit's argument on crashes.
 pub fn serve_files<D: Disk + Drop, C: Connections>(
     alloc: Global,
@@ -89,6 +104,8 @@ pub fn serve_files<D: Disk + Drop, C: Connections>(
 ) -> Result<Result<Files<D>, Files<D>>, (OpenFault, Files<D>)>
     requires log { IsTrue (D.Disk.is_usable files.log) }
     requires db { IsTrue (D.Disk.is_usable files.db) }
+    // Files in an Ok may be opened again: each sync of them went well.
+    ensures usable { IfOk result (λ left. IfOk left (AreUsable D.Disk)) }
     ensures session { IfOk result (IsSession D.Disk files capacity count (C.traffic connections.old) (C.traffic connections.new)) }
     // Where the opening was refused nobody was served; and the refusals and the files are those of `Archive::open_files`. What a crash in the
     // middle of an opening leaves is not said.
@@ -106,7 +123,8 @@ pub fn serve_files<D: Disk + Drop, C: Connections>(
     }
 }
 
-/// A session begins with what the one before it left.
-pub fn law_of_sessions<D: Disk>()
-    ensures { SessionsCompose D.Disk }
+/// A session begins with what the one before it left: as it left the files, or as a crash left them. A law: calling it does nothing.
+pub fn law_of_sessions<D: Disk, E: Disk>()
+    ensures composed { SessionsCompose D.Disk }
+    ensures crashed { SessionsComposeOverCrashes D.Disk E.Disk }
 {}

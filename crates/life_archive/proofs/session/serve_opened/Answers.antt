@@ -2,11 +2,11 @@ use Rattle.sqlite.specs.Files.{over_files}
 use Rattle.life_pages.proofs.ArchiveRuns.{run_answered}
 use Rattle.life_pages.proofs.FirmReplies.{firm_run}
 use Rattle.life_archive.specs.Session.{messages_of, replies_of}
-use Rattle.life_archive.proofs.SessionLemmas.{end_ok, end_err}
+use Rattle.life_archive.proofs.SessionLemmas.{end_ok, end_err, leaves_either, either_clean}
 use Rattle.life_archive.proofs.session.serve_opened.Goals as goal
 
-pub returns-in-Ok : goal.returns-in-Ok
-returns-in-Ok g c =
+pub returns-in-Ok-clause-ends : goal.returns-in-Ok-clause-ends
+returns-in-Ok-clause-ends g c =
     let a = c.args.archive in
     let mid = c.serve_each.new.archive in
     let last = c.count_deposits.new.self in
@@ -15,10 +15,22 @@ returns-in-Ok g c =
     let bytes = replies_of some.exchanges in
     let it = run_answered over_files a mid ms bytes some.run in
     let firm = firm_run over_files a mid ms bytes some.run in
-    record { exchanges = some.exchanges; counted = some.counted; carried = some.carried; firm = firm; honest = λ clean. it.taken.goes.crash.honest (c.count_deposits.ensures.goes.crash.honest (c.into_files.ensures.honest clean)); leaves = λ A up m. end_ok a mid last c.into_files.result ms bytes it c.count_deposits.ensures.goes c.into_files.ensures.honest c.count_deposits.ensures.same c.in-Ok.ensures.sure c.into_files.ensures.held A m }
+    let files = c.into_files.result in
+    let same = c.reopenable.ensures.same in
+    let sound = c.into_files.ensures.honest in
+    record {
+      exchanges = some.exchanges;
+      counted = some.counted;
+      carried = some.carried;
+      firm = firm;
+      honest = λ clean. it.taken.goes.crash.honest (c.count_deposits.ensures.goes.crash.honest (sound (either_clean g.D.Disk files c.reopenable.result same clean)));
+      leaves = λ A up m. leaves_either g.D.Disk A ms bytes files c.reopenable.result same
+          (end_ok a mid last files ms bytes it c.count_deposits.ensures.goes sound c.count_deposits.ensures.same c.in-Ok.ensures.sure c.into_files.ensures.held A m)
+          (end_err a mid last files ms bytes it c.count_deposits.ensures.goes sound c.law_of_crashes.ensures c.into_files.ensures.left A up m);
+    }
 
-pub returns-in-Err : goal.returns-in-Err
-returns-in-Err g c =
+pub returns-in-Err-clause-ends : goal.returns-in-Err-clause-ends
+returns-in-Err-clause-ends g c =
     let a = c.args.archive in
     let mid = c.serve_each.new.archive in
     let last = c.count_deposits.new.self in

@@ -25,7 +25,10 @@ pub fn print_fault(rt: &HostRuntime, fault: WordFault) -> io::Result<ExitCode> {
             print!(rt; "{error}")?;
             return Ok(ExitCode::SUCCESS);
         }
-        WordFault::BadWords(Some(error)) => eprint!(rt; "{error}")?,
+        WordFault::BadWords(Some(error)) => {
+            // If standard error fails there is nobody to tell, and the status still says it.
+            let _told = eprint!(rt; "{error}");
+        }
         WordFault::BadWords(None) => {}
         WordFault::Memory => return print_stop(rt, Stop::Unavailable.line()),
     }

@@ -10,7 +10,14 @@ _life_haul() {
     --rule)
       return ;;
   esac
-  words='--rule -h --help -V --version'
+  if [ "$COMP_CWORD" = 1 ]; then
+    words='soup --rule -h --help -V --version'
+  else
+    case ${COMP_WORDS[1]} in
+      soup) words='--rule -h --help' ;;
+      *) words='--rule -h --help -V --version' ;;
+    esac
+  fi
   mapfile -t COMPREPLY < <(compgen -W "$words" -- "$word")
 }
 complete -F _life_haul life-haul

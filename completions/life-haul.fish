@@ -2,6 +2,9 @@
 # To use it: put this file as 'life-haul.fish' into ~/.config/fish/completions.
 
 complete -c life-haul -f
-complete -c life-haul -l rule -x -d 'The rule, which is B3/S23 where none is given'
-complete -c life-haul -s h -l help -d 'Print help'
-complete -c life-haul -s V -l version -d 'Print version'
+complete -c life-haul -n __fish_use_subcommand -a soup -d 'Prints a soup as a pattern file'
+complete -c life-haul -n 'not __fish_seen_subcommand_from soup' -l rule -x -d 'The rule, which is B3/S23 where none is given'
+complete -c life-haul -n 'not __fish_seen_subcommand_from soup' -s h -l help -d 'Print help'
+complete -c life-haul -n 'not __fish_seen_subcommand_from soup' -s V -l version -d 'Print version'
+complete -c life-haul -n '__fish_seen_subcommand_from soup' -l rule -x -d 'The rule, which is B3/S23 where none is given'
+complete -c life-haul -n '__fish_seen_subcommand_from soup' -s h -l help -d 'Print help'

@@ -122,13 +122,15 @@ def add(tables):
 
 
 def read_table(text):
-    """The table of a text that a program printed."""
-    rows = [line.split(",") for line in text.splitlines()[1:]]
+    """The table of a text that a program printed, without what it is of and without its sums."""
+    rows = [line.split(",") for line in text.splitlines()[5:-2]]
     return {None if code == "unresolved" else code: (int(count), int(first)) for code, count, first in rows if first}
 
 
-def table_text(table):
-    """The text of a table: rows in byte order of their codes, and the clusters without a code last."""
+def table_text(table, root, first, count, n, limit, rule):
+    """The text of the table of a haul: what it is of, rows in byte order of their codes, the clusters without a code, and the sums."""
+    heading = f"# root {root}\n# rule {rule}\n# generation {n}\n# limit {limit}\ncode,count,first\n"
     rows = [f"{code},{table[code][0]},{table[code][1]}\n" for code in sorted(table.keys() - {None})]
-    count, first = table.get(None, (0, ""))
-    return "code,count,first\n" + "".join(rows) + f"unresolved,{count},{first}\n"
+    unresolved, least = table.get(None, (0, ""))
+    clusters = sum(number for number, _ in table.values())
+    return heading + "".join(rows) + f"unresolved,{unresolved},{least}\nclusters,{clusters},\nsoups,{count},{first}\n"

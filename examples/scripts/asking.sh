@@ -119,7 +119,7 @@ why() {
     token-reused) echo 'token-reused: the token of this request stands for something else' ;;
     full) echo 'full: the archive takes no more' ;;
     out-of-limit) echo 'out-of-limit: a generation is 0 to 2048, a limit 1 to 2048' ;;
-    unavailable) echo 'unavailable: the archive could not do it now, and nothing has changed; give the same command again' ;;
+    unavailable) echo 'unavailable: the archive could not do it now; give the same command again: nothing is kept twice' ;;
     no-such-page) echo 'no-such-page: the URL is not that of an archive, as http://localhost:8080' ;;
     password) echo 'password: the club knows its members by passwords; write yours into ~/.netrc' ;;
     '') echo "a reply of status $status that is no archive's" ;;

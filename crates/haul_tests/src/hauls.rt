@@ -1,6 +1,6 @@
 //! Hauls that are put into memory, with tables that a program of its own made from Python's SHA-256.
 
-use life_hauls::{HaulWords, laws_of_hauls, laws_of_soups, run_haul};
+use life_hauls::{HaulWords, Unwatched, Watch, laws_of_hauls, laws_of_soups, run_haul};
 use life_jobs::Stop;
 use life_rle::{MemoryOutlet, PieceOutlet};
 use std::alloc::Global;
@@ -20,6 +20,10 @@ const THREE: HaulWords<'static> = HaulWords {
 };
 
 const TABLE: &str = "\
+# root tst
+# rule B3/S23
+# generation 500
+# limit 4
 code,count,first
 xp2_7,4,0
 xp2_s01110szw66,1,2
@@ -31,6 +35,8 @@ xs6_356,2,1
 xs6_696,6,0
 xs8_6996,1,2
 unresolved,1,1
+clusters,27,
+soups,3,0
 ";
 
 const RUNS: [Run; 8] = [
@@ -76,7 +82,8 @@ const RUNS: [Run; 8] = [
 fn runs_so(alloc: Global, run: Run) -> bool {
     let (words, answer, text) = run;
     let mut output = MemoryOutlet::new(alloc);
-    run_haul(alloc, words, &mut output) == answer && output.bytes() == text.as_bytes()
+    run_haul(alloc, words, &mut output, &mut Unwatched) == answer
+        && output.bytes() == text.as_bytes()
 }
 
 /// The first of the runs that goes otherwise.
@@ -99,9 +106,37 @@ fn hauls_are_put(rt: HostRuntime) -> Result<(), Fail> {
 fn a_failed_put_is_told(rt: HostRuntime) -> Result<(), Fail> {
     let mut output = PieceOutlet::new(rt.alloc(), 10, Some(1));
     assert_eq!(rt;
-        run_haul(rt.alloc(), THREE, &mut output),
+        run_haul(rt.alloc(), THREE, &mut output, &mut Unwatched),
         Err(Stop::Unwritable)
     );
+    Ok(())
+}
+
+/// What a watch was told: how often, and last.
+#[derive(Drop)]
+struct Told {
+    times: u64,
+    last: (u64, u64),
+}
+
+impl Watch for Told {
+    fn counted(&mut self, done: u64, count: u64) {
+        self.times = self.times.saturating_add(1);
+        self.last = (done, count);
+    }
+}
+
+#[test]
+fn the_watch_is_told_of_each_soup(rt: HostRuntime) -> Result<(), Fail> {
+    let mut told = Told {
+        times: 0,
+        last: (0, 0),
+    };
+    let mut output = MemoryOutlet::new(rt.alloc());
+    assert_eq!(rt; run_haul(rt.alloc(), THREE, &mut output, &mut told), Ok(()));
+    assert_eq!(rt; output.bytes(), TABLE.as_bytes());
+    assert_eq!(rt; told.times, 3);
+    assert_eq!(rt; told.last, (3, 3));
     Ok(())
 }
 

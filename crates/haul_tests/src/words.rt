@@ -1,6 +1,6 @@
-//! Words of the command line of `life-haul`, and the hauls that they name.
+//! Words of the command line of `life-haul`, and the jobs that they name.
 
-use life_hauls::{HaulWords, read_words};
+use life_hauls::{HaulWords, Job, SoupWords, read_words};
 use life_words::WordFault;
 use std::alloc::Global;
 use std::test::Fail;
@@ -15,8 +15,15 @@ const THOUSAND: HaulWords<'static> = HaulWords {
     limit: 60,
 };
 
-/// Words, the program's name first, and the haul that they name; none where they are bad words.
-const WORDS: [(&[&str], Option<HaulWords<'static>>); 6] = [
+/// A soup under Conway's Life.
+const SOUP: SoupWords<'static> = SoupWords {
+    root: "abc",
+    number: 17,
+    rule: "B3/S23",
+};
+
+/// Words, the program's name first, and the job that they name; none where they are bad words.
+const WORDS: [(&[&str], Option<Job<'static>>); 12] = [
     (&["life-haul"], None),
     (&["life-haul", "abc", "1", "1000", "2048"], None),
     (&["life-haul", "abc", "one", "1000", "2048", "60"], None),
@@ -26,7 +33,7 @@ const WORDS: [(&[&str], Option<HaulWords<'static>>); 6] = [
     ),
     (
         &["life-haul", "abc", "1", "1000", "2048", "60"],
-        Some(THOUSAND),
+        Some(Job::Haul(THOUSAND)),
     ),
     (
         &[
@@ -39,26 +46,47 @@ const WORDS: [(&[&str], Option<HaulWords<'static>>); 6] = [
             "2048",
             "60",
         ],
-        Some(HaulWords {
+        Some(Job::Haul(HaulWords {
             rule: "B36/S23",
             ..THOUSAND
-        }),
+        })),
+    ),
+    (
+        &["life-haul", "--", "soup", "1", "1000", "2048", "60"],
+        Some(Job::Haul(HaulWords {
+            root: "soup",
+            ..THOUSAND
+        })),
+    ),
+    (&["life-haul", "soup", "abc", "17"], Some(Job::Soup(SOUP))),
+    (
+        &["life-haul", "soup", "abc", "17", "--rule", "B36/S23"],
+        Some(Job::Soup(SoupWords {
+            rule: "B36/S23",
+            ..SOUP
+        })),
+    ),
+    (&["life-haul", "soup", "abc"], None),
+    (&["life-haul", "abc", "soup", "abc", "17"], None),
+    (
+        &["life-haul", "--rule", "B36/S23", "soup", "abc", "17"],
+        None,
     ),
 ];
 
-/// Whether the words name the haul, or are bad words where there is none.
-fn name(alloc: Global, words: &'static [&'static str], haul: Option<HaulWords<'static>>) -> bool {
+/// Whether the words name the job, or are bad words where there is none.
+fn name(alloc: Global, words: &'static [&'static str], job: Option<Job<'static>>) -> bool {
     match read_words(alloc, words) {
-        Ok(named) => haul == Some(named),
-        Err(WordFault::BadWords(_)) => haul.is_none(),
+        Ok(named) => job == Some(named),
+        Err(WordFault::BadWords(_)) => job.is_none(),
         Err(WordFault::Memory) => false,
     }
 }
 
-/// The first of these words that name another haul.
+/// The first of these words that name another job.
 fn other(alloc: Global) -> Option<usize> {
-    for (at, (words, haul)) in WORDS.into_iter().enumerate() {
-        if !name(alloc, words, haul) {
+    for (at, (words, job)) in WORDS.into_iter().enumerate() {
+        if !name(alloc, words, job) {
             return Some(at);
         }
     }
@@ -66,7 +94,7 @@ fn other(alloc: Global) -> Option<usize> {
 }
 
 #[test]
-fn words_name_hauls(rt: HostRuntime) -> Result<(), Fail> {
+fn words_name_jobs(rt: HostRuntime) -> Result<(), Fail> {
     assert_eq!(rt; other(rt.alloc()), None);
     Ok(())
 }

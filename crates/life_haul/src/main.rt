@@ -1,17 +1,33 @@
-//! The program `life-haul`: random soups by the thousand, of which the objects are counted.
+//! The program `life-haul`: random soups by the thousand, of which the objects are counted, and each soup.
 #![tactic(auto)]
 
-use life_hauls::{HaulWords, haul_command, read_words, run_haul};
+mod progress;
+
+use life_hauls::{HaulWords, Job, SoupWords, haul_command, read_words, run_haul, run_soup};
 use life_program::{print_fault, print_stop};
 use life_rle::FromWrite;
 use life_words::words_of;
+use progress::Progress;
 use std::io;
 use std::process::ExitCode;
 
-/// Puts the haul of these words on standard output.
+/// Puts the haul of these words on standard output, and shows how far it is.
 fn put_haul(rt: &HostRuntime, haul: HaulWords<'_>) -> io::Result<ExitCode> {
     let mut output = FromWrite::new(io::writer(rt));
-    match run_haul(rt.alloc(), haul, &mut output) {
+    let mut progress = Progress::begin(rt);
+    match run_haul(rt.alloc(), haul, &mut output, &mut progress) {
+        Ok(()) => Ok(ExitCode::SUCCESS),
+        Err(stop) => {
+            progress.clear();
+            print_stop(rt, stop.line())
+        }
+    }
+}
+
+/// Puts the soup of these words on standard output.
+fn put_soup(rt: &HostRuntime, soup: SoupWords<'_>) -> io::Result<ExitCode> {
+    let mut output = FromWrite::new(io::writer(rt));
+    match run_soup(rt.alloc(), soup, &mut output) {
         Ok(()) => Ok(ExitCode::SUCCESS),
         Err(stop) => print_stop(rt, stop.line()),
     }
@@ -23,7 +39,8 @@ fn main(rt: HostRuntime) -> io::Result<ExitCode> {
         Err(fault) => return print_fault(&rt, fault),
     };
     match read_words(rt.alloc(), words.as_slice()) {
-        Ok(haul) => put_haul(&rt, haul),
+        Ok(Job::Haul(haul)) => put_haul(&rt, haul),
+        Ok(Job::Soup(soup)) => put_soup(&rt, soup),
         Err(fault) => print_fault(&rt, fault),
     }
 }

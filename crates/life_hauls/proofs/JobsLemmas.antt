@@ -1,4 +1,4 @@
--- What the job of a haul answers, from what its steps answer.
+-- What a job answers, from what its steps answer.
 use Rattle.std.specs.Prelude.{◌≡◌, ℕ, List, Option, Result, Ok, Err}
 use Rattle.std.proofs.Common.{subst}
 use Rattle.life_core.specs.Rule.{RuleSets}
@@ -7,17 +7,16 @@ use Rattle.life_rle.specs.Stream.{Gains, GainsSome}
 use Rattle.life_jobs.specs.Streams.{PutsText}
 use Rattle.life_jobs.specs.declared.stop.Stop.{Stop}
 use Rattle.life_jobs.specs.declared.stop.Stop.TheVariants.{OutOfLimit, BadPattern, BadRule, BadCode, Unreadable, Unavailable, Unwritable}
-use Rattle.life_hauls.specs.declared.jobs.HaulWords.{HaulWords}
-use Rattle.life_hauls.specs.Jobs.{MayBeAsked, haul_text, PutsHaul}
+use Rattle.life_hauls.specs.Jobs.{PutsUnderRule}
 
--- what is answered where the text of the haul is put
-pub puts_haul : (words : HaulWords) (rule : RuleSets) (text : List ℕ) (old new : Option (List ℕ)) (answer : Result (Unit {0}) Stop) → MayBeAsked words → read_rule words.rule.now ≡ Ok rule → text ≡ haul_text words rule
-    → PutsText old new text answer → PutsHaul words old new answer
-puts_haul words rule text old new (Ok done) asked is same puts = (asked, (rule, is, subst (Gains old new) same puts))
-puts_haul words rule text old new (Err OutOfLimit) asked is same puts = absurd puts
-puts_haul words rule text old new (Err (BadPattern fault)) asked is same puts = puts
-puts_haul words rule text old new (Err BadRule) asked is same puts = absurd puts
-puts_haul words rule text old new (Err (BadCode fault)) asked is same puts = puts
-puts_haul words rule text old new (Err Unreadable) asked is same puts = puts
-puts_haul words rule text old new (Err Unavailable) asked is same puts = tt
-puts_haul words rule text old new (Err Unwritable) asked is same puts = (asked, (rule, is, subst (GainsSome old new) same puts))
+-- what is answered if a text is put, which is the one that is wanted under the rule
+pub puts_under : (MayBe : Type 0) (name : List ℕ) (wanted : RuleSets → List ℕ) (rule : RuleSets) (text : List ℕ) (old new : Option (List ℕ)) (answer : Result (Unit {0}) Stop) → MayBe → read_rule name ≡ Ok rule → text ≡ wanted rule
+    → PutsText old new text answer → PutsUnderRule MayBe name wanted old new answer
+puts_under MayBe name wanted rule text old new (Ok done) may is same puts = (may, (rule, is, subst (Gains old new) same puts))
+puts_under MayBe name wanted rule text old new (Err OutOfLimit) may is same puts = absurd puts
+puts_under MayBe name wanted rule text old new (Err (BadPattern fault)) may is same puts = puts
+puts_under MayBe name wanted rule text old new (Err BadRule) may is same puts = absurd puts
+puts_under MayBe name wanted rule text old new (Err (BadCode fault)) may is same puts = puts
+puts_under MayBe name wanted rule text old new (Err Unreadable) may is same puts = puts
+puts_under MayBe name wanted rule text old new (Err Unavailable) may is same puts = tt
+puts_under MayBe name wanted rule text old new (Err Unwritable) may is same puts = (may, (rule, is, subst (GainsSome old new) same puts))

@@ -1,5 +1,5 @@
 -- A haul from the tallies of its soups.
-use Rattle.std.specs.Prelude.{◌≡◌, ◌⊎◌, ℕ, ◌+◌, true, false, cond, List, [], ◌∷◌, ◌++◌, map, sum_by, count_by, is_none, Option, None, Some, refl}
+use Rattle.std.specs.Prelude.{◌≡◌, ◌⊎◌, ℕ, zero, suc, ◌+◌, true, false, cond, List, [], ◌∷◌, ◌++◌, map, length, sum_by, count_by, is_none, Option, None, Some, refl}
 use Rattle.std.proofs.Common.{sym, ap, subst, ◌∙◌, inl, inr, arith}
 use Rattle.std.specs.declared.cmp.Ordering.{Ordering}
 use Rattle.std.specs.declared.cmp.Ordering.TheVariants.{Less, Equal, Greater}
@@ -21,7 +21,7 @@ use Rattle.life_census.proofs.CountingLaws.{Texts, same_text, row_cmp_total, bot
 use Rattle.life_hauls.specs.declared.rows.Sighting.{Sighting}
 use Rattle.life_hauls.specs.Hauls.{HaulCounts, seen, more, both, texts_in, counts_over, soup_codes}
 use Rattle.life_hauls.specs.HaulsState.{once, noted, with_code, with_codes}
-use Rattle.life_hauls.specs.Laws.{count_of, count_in, soup_tally, RowsAreOfTallies, RowsAscend, UnresolvedAreOfTallies, ClustersCountOnce}
+use Rattle.life_hauls.specs.Laws.{count_of, count_in, soup_tally, RowsAreOfTallies, RowsAscend, UnresolvedAreOfTallies, ClustersCountOnce, SumsAreCounts}
 use Rattle.life_hauls.specs.Soups.{soup_of}
 use Rattle.life_hauls.proofs.HaulRows.{Rows, IsSorted, found}
 use Rattle.life_hauls.proofs.PushLemmas.{found-over, sorted-haul, sorted-more, counts-push, no-soups}
@@ -187,3 +187,16 @@ pub clusters_count_once : ClustersCountOnce
 clusters_count_once root rule n limit first count =
     let total = total_of_tallies root rule n limit (range_with_len first count) in
     (hauls_are_complete (soup_codes root rule n limit) (range_with_len first count) ∙ total, total)
+
+-- ---- the sums of a table
+
+range_length : (first count : ℕ) → length (range_with_len first count) ≡ count
+range_length first zero = refl
+range_length first (suc count) = let rest = range_length (first + 1) count in omega (arith, rest)
+
+pub sums_are_counts : SumsAreCounts
+unfolding counts_over
+sums_are_counts root rule n limit first count = (
+  sym (hauls_are_complete (soup_codes root rule n limit) (range_with_len first count)),
+  range_length first count,
+)

@@ -10,7 +10,7 @@ use Rattle.life_census.specs.Counting.{how_often}
 use Rattle.life_census.proofs.CountingLaws.{Texts, same_text}
 use Rattle.life_hauls.specs.declared.rows.Sighting.{Sighting}
 use Rattle.life_hauls.specs.Hauls.{joined, together, rows_by, texts_in, counts_over, soup_codes}
-use Rattle.life_hauls.specs.Laws.{HaulsAddUp, TogetherByCodes, TogetherInAnyOrder}
+use Rattle.life_hauls.specs.Laws.{HaulsAddUp, TogetherByCodes, TogetherInAnyOrder, TogetherInAnyGrouping}
 use Rattle.life_hauls.proofs.SeenLemmas.{seen-append}
 use Rattle.life_hauls.proofs.HaulRows.{Rows, IsSorted, found, rows_are, sorted-rows, rows_say}
 use Rattle.life_hauls.proofs.PushLemmas.{rows_over, found-over, sorted-over}
@@ -59,6 +59,33 @@ together_in_any_order a b =
     let unresolved = joined_turn a.unresolved b.unresolved in
     let soups : a.soups + b.soups ≡ b.soups + a.soups = omega arith in
     let total : a.total + b.total ≡ b.total + a.total = omega arith in
+    λ k. record { rows = rows k; unresolved = unresolved k; soups = soups k; total = total k }
+
+-- ---- three hauls
+
+joined_regroup : (x y z : Option Sighting) → joined (joined x y) z ≡ joined x (joined y z)
+joined_regroup x y None = refl
+joined_regroup x None (Some u) = refl
+joined_regroup None (Some t) (Some u) = refl
+joined_regroup (Some s) (Some t) (Some u) =
+    let count : (s.count + t.count) + u.count ≡ s.count + (t.count + u.count) = omega arith in
+    let first : min (min s.first t.first) u.first ≡ min s.first (min t.first u.first) = omega arith in
+    λ k. Some (record { count = count k; first = first k })
+
+found-left : (es fs gs : Rows) (q : List ℕ) → found q (both_rows (both_rows es fs) gs) ≡ joined (joined (found q es) (found q fs)) (found q gs)
+found-left es fs gs q = found-both (both_rows es fs) gs q ∙ ap (λ o. joined o (found q gs)) (found-both es fs q)
+
+found-right : (es fs gs : Rows) (q : List ℕ) → found q (both_rows es (both_rows fs gs)) ≡ joined (found q es) (joined (found q fs) (found q gs))
+found-right es fs gs q = found-both es (both_rows fs gs) q ∙ ap (joined (found q es)) (found-both fs gs q)
+
+pub together_in_any_grouping : TogetherInAnyGrouping
+unfolding together
+together_in_any_grouping a b c =
+    let rows = rows_are (both_rows (both_rows a.rows b.rows) c.rows) (both_rows a.rows (both_rows b.rows c.rows)) (sorted-both (both_rows a.rows b.rows) c.rows) (sorted-both a.rows (both_rows b.rows c.rows))
+    (λ q. found-left a.rows b.rows c.rows q ∙ joined_regroup (found q a.rows) (found q b.rows) (found q c.rows) ∙ sym (found-right a.rows b.rows c.rows q)) in
+    let unresolved = joined_regroup a.unresolved b.unresolved c.unresolved in
+    let soups : (a.soups + b.soups) + c.soups ≡ a.soups + (b.soups + c.soups) = omega arith in
+    let total : (a.total + b.total) + c.total ≡ a.total + (b.total + c.total) = omega arith in
     λ k. record { rows = rows k; unresolved = unresolved k; soups = soups k; total = total k }
 
 -- ---- two lists of soups

@@ -1,15 +1,19 @@
 -- What `life-haul` puts.
-use Rattle.std.specs.Prelude.{◌≡◌, ◌≤◌, ℕ, List, length, nat_le, Bool, true, ◌&&◌, Option, Result, Ok, Err}
+use Rattle.std.specs.Prelude.{◌≡◌, ◌≤◌, ◌<◌, ℕ, ◌+◌, List, length, nat_le, Bool, true, ◌&&◌, Option, Result, Ok, Err}
 use Rattle.std.specs.List.{list_all}
 use Rattle.life_core.specs.Rule.{RuleSets}
 use Rattle.life_core.specs.RuleText.{read_rule}
+use Rattle.life_rle.specs.Record.{plain}
 use Rattle.life_rle.specs.Stream.{Gains, GainsSome}
+use Rattle.life_rle.specs.Writer.{text}
 use Rattle.life_jobs.specs.Jobs.{AreCensusNumbers, RefusesRule}
 use Rattle.life_jobs.specs.declared.stop.Stop.{Stop}
 use Rattle.life_jobs.specs.declared.stop.Stop.TheVariants.{OutOfLimit, BadRule, Unavailable, Unwritable}
 use Rattle.life_hauls.specs.declared.jobs.TheConstants.{COUNT_LIMIT, FIRST_LIMIT}
 use Rattle.life_hauls.specs.declared.jobs.HaulWords.{HaulWords}
+use Rattle.life_hauls.specs.declared.jobs.SoupWords.{SoupWords}
 use Rattle.life_hauls.specs.Hauls.{haul_of}
+use Rattle.life_hauls.specs.Soups.{soup_of}
 use Rattle.life_hauls.specs.Table.{csv_text}
 
 -- whether a byte is graphic ASCII
@@ -28,15 +32,32 @@ pub record MayBeAsked (words : HaulWords) : Type 0 where
   pub few : words.count ≤ COUNT_LIMIT
   pub numbers : AreCensusNumbers words.n words.limit
 
--- the text of the haul of these words under a rule
+-- the table of the haul of these words under a rule
 abbrev pub haul_text : HaulWords → RuleSets → List ℕ
-haul_text words rule = csv_text (haul_of words.root.now rule words.n words.limit words.first words.count)
+haul_text words rule = csv_text words.root.now rule words.n words.limit words.first (haul_of words.root.now rule words.n words.limit words.first words.count)
 
--- what is put for the words: the text of their haul under the rule that they name, or a beginning of it before a put that failed
+-- words of a soup that may be asked for, its rule aside: a haul may count this soup
+pub record MaySoupBeAsked (words : SoupWords) : Type 0 where
+  pub root : IsRoot words.root.now
+  pub number : words.number < FIRST_LIMIT + COUNT_LIMIT
+
+-- the pattern file of the soup of these words under a rule
+abbrev pub soup_text : SoupWords → RuleSets → List ℕ
+soup_text words rule = text (plain rule (soup_of words.root.now words.number))
+
+-- what is put by a job whose words may be asked for, by the text of a rule: what is to be put under this rule, or a beginning of it before a put that failed
+abbrev pub PutsUnderRule : Type 0 → List ℕ → (RuleSets → List ℕ) → Option (List ℕ) → Option (List ℕ) → Result (Unit {0}) Stop → Type 0
+PutsUnderRule MayBe rule wanted old new (Ok done) = MayBe × ((sets : RuleSets) × (read_rule rule ≡ Ok sets) × Gains old new (wanted sets))
+PutsUnderRule MayBe rule wanted old new (Err OutOfLimit) = ¬ MayBe
+PutsUnderRule MayBe rule wanted old new (Err BadRule) = MayBe × RefusesRule rule
+PutsUnderRule MayBe rule wanted old new (Err Unavailable) = Unit {0}
+PutsUnderRule MayBe rule wanted old new (Err Unwritable) = MayBe × ((sets : RuleSets) × (read_rule rule ≡ Ok sets) × GainsSome old new (wanted sets))
+PutsUnderRule MayBe rule wanted old new (Err stop) = ⊥
+
+-- what is put for the words of a haul: its table
 abbrev pub PutsHaul : HaulWords → Option (List ℕ) → Option (List ℕ) → Result (Unit {0}) Stop → Type 0
-PutsHaul words old new (Ok done) = MayBeAsked words × ((rule : RuleSets) × (read_rule words.rule.now ≡ Ok rule) × Gains old new (haul_text words rule))
-PutsHaul words old new (Err OutOfLimit) = ¬ MayBeAsked words
-PutsHaul words old new (Err BadRule) = MayBeAsked words × RefusesRule words.rule.now
-PutsHaul words old new (Err Unavailable) = Unit {0}
-PutsHaul words old new (Err Unwritable) = MayBeAsked words × ((rule : RuleSets) × (read_rule words.rule.now ≡ Ok rule) × GainsSome old new (haul_text words rule))
-PutsHaul words old new (Err stop) = ⊥
+PutsHaul words = PutsUnderRule (MayBeAsked words) words.rule.now (haul_text words)
+
+-- what is put for the words of a soup: its pattern file
+abbrev pub PutsSoup : SoupWords → Option (List ℕ) → Option (List ℕ) → Result (Unit {0}) Stop → Type 0
+PutsSoup words = PutsUnderRule (MaySoupBeAsked words) words.rule.now (soup_text words)

@@ -24,9 +24,13 @@ HaulsAddUp = (root : List ℕ) (rule : RuleSets) (n limit first a b : ℕ) → h
 abbrev pub TogetherByCodes : Type 0
 TogetherByCodes = (a b : HaulCounts) (code : List ℕ) → table.find row_cmp code (together a b).rows ≡ joined (table.find row_cmp code a.rows) (table.find row_cmp code b.rows)
 
--- .. in whatever order they are taken.
+-- .. in whatever order they are taken ..
 abbrev pub TogetherInAnyOrder : Type 0
 TogetherInAnyOrder = (a b : HaulCounts) → together a b ≡ together b a
+
+-- .. and whichever two of them are taken together first.
+abbrev pub TogetherInAnyGrouping : Type 0
+TogetherInAnyGrouping = (a b c : HaulCounts) → together (together a b) c ≡ together a (together b c)
 
 -- ---- sightings
 
@@ -73,3 +77,9 @@ ClustersCountOnce = (root : List ℕ) (rule : RuleSets) (n limit first count : �
     → (sum_by (λ (row : List ℕ × Sighting). row.1.count) (haul_of root rule n limit first count).rows + count_of (haul_of root rule n limit first count).unresolved
     ≡ sum_by (λ i. (soup_tally root rule n limit i).total) (range_with_len first count))
     × ((haul_of root rule n limit first count).total ≡ sum_by (λ i. (soup_tally root rule n limit i).total) (range_with_len first count))
+
+-- What a table says of its sums holds: the clusters are the counts of all rows, those without a code with them, and the soups are those of the range.
+abbrev pub SumsAreCounts : Type 0
+SumsAreCounts = (root : List ℕ) (rule : RuleSets) (n limit first count : ℕ)
+    → ((haul_of root rule n limit first count).total ≡ sum_by (λ (row : List ℕ × Sighting). row.1.count) (haul_of root rule n limit first count).rows + count_of (haul_of root rule n limit first count).unresolved)
+    × ((haul_of root rule n limit first count).soups ≡ count)

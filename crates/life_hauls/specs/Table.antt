@@ -1,9 +1,19 @@
--- The text of a haul, as comma-separated values (RFC 4180, with a header line; lines end in a line feed alone).
+-- The table of a haul: what it is of, what was counted as comma-separated values (RFC 4180, with a header line; lines end in a line feed alone), and the sums.
 use Rattle.std.specs.Prelude.{ℕ, List, [], ◌∷◌, ◌++◌, codes, Option, None, Some}
 use Rattle.std.specs.Fmt.{decimal}
 use Rattle.std.specs.List.{flat_map}
+use Rattle.life_core.specs.Rule.{RuleSets}
+use Rattle.life_core.specs.RuleText.{rule_text}
 use Rattle.life_hauls.specs.declared.rows.Sighting.{Sighting}
 use Rattle.life_hauls.specs.Hauls.{HaulCounts}
+
+-- a line: a name and a text
+unfoldable pub named : List ℕ → List ℕ → List ℕ
+named name text = name ++ text ++ 10 ∷ []
+
+-- what a haul is of, a line each: the root, the text of the rule, the generation and the limit of the period
+abbrev pub heading : List ℕ → List ℕ → ℕ → ℕ → List ℕ
+heading root rule n limit = named (codes "# root ") root ++ named (codes "# rule ") rule ++ named (codes "# generation ") (decimal n) ++ named (codes "# limit ") (decimal limit)
 
 -- a count, a comma, and the number of the first soup
 abbrev pub sighting_text : Sighting → List ℕ
@@ -19,5 +29,13 @@ abbrev pub line : List ℕ × Sighting → List ℕ
 line row = row.0 ++ 44 ∷ sighting_text row.1 ++ 10 ∷ []
 
 -- a line of names, a line for each code with what was seen of it, and a line with what was seen of clusters without a code
-abbrev pub csv_text : HaulCounts → List ℕ
-csv_text h = codes "code,count,first\n" ++ flat_map line h.rows ++ codes "unresolved," ++ unresolved_text h.unresolved ++ 10 ∷ []
+abbrev pub counts_text : HaulCounts → List ℕ
+counts_text h = codes "code,count,first\n" ++ flat_map line h.rows ++ codes "unresolved," ++ unresolved_text h.unresolved ++ codes "\n"
+
+-- how many clusters there were; and how many soups, with the number of the first
+abbrev pub sums_text : ℕ → HaulCounts → List ℕ
+sums_text first h = codes "clusters," ++ decimal h.total ++ codes ",\nsoups," ++ decimal h.soups ++ 44 ∷ decimal first ++ codes "\n"
+
+-- the whole table
+abbrev pub csv_text : List ℕ → RuleSets → ℕ → ℕ → ℕ → HaulCounts → List ℕ
+csv_text root rule n limit first h = heading root (rule_text rule) n limit ++ counts_text h ++ sums_text first h

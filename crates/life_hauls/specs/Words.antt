@@ -1,36 +1,45 @@
--- The words of the command line of `life-haul`, and the haul that they name.
+-- The words of the command line of `life-haul`, and the job that they name.
 -- What a command is, which words it takes and what it reads of them is said by the kit's `clap`; the names of the
 -- words are the program's own.
-use Rattle.std.specs.Prelude.{◌≡◌, ℕ, List, [], ◌∷◌, Option, None, Some, codes, Result, Ok, Err}
-use Rattle.clap.specs.Words.{App, Row, Rule, Text, Kinds, new_app, new_rule, with_rule, fault_of, matches_of}
+use Rattle.std.specs.Prelude.{◌≡◌, ℕ, true, if◌then◌else◌, List, [], ◌∷◌, Option, None, Some, codes, bytes_eq, Result, Ok, Err}
+use Rattle.clap.specs.Words.{App, Row, Rule, Text, Kinds, new_app, new_rule, with_rule, with_subcommand, fault_of, matches_of, subcommand_of}
+use Rattle.clap.specs.Simple.{on_top}
 use Rattle.life_words.specs.Words.{with_version, number_rule, text_rule, number_at, text_at}
 use Rattle.life_words.specs.declared.fault.WordFault.{WordFault}
 use Rattle.life_words.specs.declared.fault.WordFault.TheVariants.{BadWords, Memory}
-use Rattle.life_hauls.specs.declared.jobs.HaulWords.{HaulWords}
+use Rattle.life_hauls.specs.declared.words.Job.{Job}
+use Rattle.life_hauls.specs.declared.words.Job.TheVariants.{Haul, Soup}
 
 -- the option `--rule RULE`
 abbrev pub rule_rule : Rule
 rule_rule = record (new_rule (codes "RULE")) { long = Some (codes "rule") }
 
--- `life-haul ROOT FIRST COUNT N LIMIT --rule RULE`
+-- `soup ROOT NUMBER --rule RULE`
+abbrev pub soup_app : App
+soup_app = with_rule (with_rule (with_rule (new_app (codes "soup")) (text_rule (codes "ROOT"))) (number_rule (codes "NUMBER"))) rule_rule
+
+-- the program's name; with a subcommand it wants no words of its own, and it has no subcommand `help`
+abbrev pub haul_alone : App
+haul_alone = on_top (λ top. record top { disable_help_subcommand = true }) (on_top (λ top. record top { subcommand_negates_reqs = true }) (with_version (new_app (codes "life-haul"))))
+
+-- `life-haul ROOT FIRST COUNT N LIMIT --rule RULE`, and `life-haul soup`
 abbrev pub haul_app : App
 haul_app =
-    with_rule
-    (with_rule (with_rule (with_rule (with_rule (with_rule (with_version (new_app (codes "life-haul"))) (text_rule (codes "ROOT"))) (number_rule (codes "FIRST"))) (number_rule (codes "COUNT"))) (number_rule (codes "N"))) (number_rule (codes "LIMIT")))
-    rule_rule
+    with_subcommand
+    (with_rule (with_rule (with_rule (with_rule (with_rule (with_rule haul_alone (text_rule (codes "ROOT"))) (number_rule (codes "FIRST"))) (number_rule (codes "COUNT"))) (number_rule (codes "N"))) (number_rule (codes "LIMIT"))) rule_rule)
+    soup_app.top
 
--- a haul with the texts of its words
-pub record Asked : Type 0 where
-  pub root : Text
-  pub first : ℕ
-  pub count : ℕ
-  pub rule : Text
-  pub n : ℕ
-  pub limit : ℕ
+-- ---- the job
 
--- what words ask for
-abbrev pub asked_by : HaulWords → Asked
-asked_by words = record { root = words.root.now; first = words.first; count = words.count; rule = words.rule.now; n = words.n; limit = words.limit }
+-- a job with the texts of its words
+pub data Asked : Type 0 where
+  AsksHaul : (root : Text) (first count : ℕ) (rule : Text) (n limit : ℕ) → Asked
+  AsksSoup : (root : Text) (number : ℕ) (rule : Text) → Asked
+
+-- what a job asks for
+abbrev pub asked_by : Job → Asked
+asked_by (Haul words) = AsksHaul words.root.now words.first words.count words.rule.now words.n words.limit
+asked_by (Soup words) = AsksSoup words.root.now words.number words.rule.now
 
 -- the text of a rule, or that of Conway's Life where there is none
 abbrev pub rule_or_life : Option Text → Text
@@ -39,7 +48,7 @@ rule_or_life (Some rule) = rule
 
 -- the haul of these words, if all of them are there
 abbrev pub haul_of_words : Option Text → Option ℕ → Option ℕ → Text → Option ℕ → Option ℕ → Option Asked
-haul_of_words (Some root) (Some first) (Some count) rule (Some n) (Some limit) = Some (record { root = root; first = first; count = count; rule = rule; n = n; limit = limit })
+haul_of_words (Some root) (Some first) (Some count) rule (Some n) (Some limit) = Some (AsksHaul root first count rule n limit)
 haul_of_words root first count rule n limit = None
 
 -- the haul of the words that were found
@@ -47,17 +56,40 @@ abbrev pub haul_in : List Row → Option Asked
 haul_in rows =
     haul_of_words (text_at (codes "ROOT") rows) (number_at (codes "FIRST") rows) (number_at (codes "COUNT") rows) (rule_or_life (text_at (codes "RULE") rows)) (number_at (codes "N") rows) (number_at (codes "LIMIT") rows)
 
--- no haul, where the words have a fault of one of these kinds
+-- the soup of these words, if both of them are there
+abbrev pub soup_of_words : Option Text → Option ℕ → Text → Option Asked
+soup_of_words (Some root) (Some number) rule = Some (AsksSoup root number rule)
+soup_of_words root number rule = None
+
+-- the soup of the words that were found after the name of the subcommand
+abbrev pub soup_in : List Row → Option Asked
+soup_in rows = soup_of_words (text_at (codes "ROOT") rows) (number_at (codes "NUMBER") rows) (rule_or_life (text_at (codes "RULE") rows))
+
+-- the job of the subcommand of this name
+abbrev pub job_named : Text → List Row → Option Asked
+job_named name rows = if bytes_eq name (codes "soup") then soup_in rows else None
+
+-- a job, if neither a root nor a rule is there
+abbrev pub if_alone : Option Text → Option Text → Option Asked → Option Asked
+if_alone None None job = job
+if_alone root rule job = None
+
+-- the job of the words that were found, and of those of the subcommand that was met: this one is named before all other words
+abbrev pub job_of : List Row → Option (Text × List Row) → Option Asked
+job_of rows None = haul_in rows
+job_of rows (Some met) = if_alone (text_at (codes "ROOT") rows) (text_at (codes "RULE") rows) (job_named met.0 met.1)
+
+-- no job, where the words have a fault of one of these kinds
 abbrev pub unless_fault : Kinds → Option Asked → Option Asked
-unless_fault [] haul = haul
-unless_fault (first ∷ others) haul = None
+unless_fault [] job = job
+unless_fault (first ∷ others) job = None
 
--- the haul that the words name, the program's name first
-unfoldable pub words_haul : List Text → Option Asked
-words_haul words = unless_fault (fault_of haul_app words) (haul_in (matches_of haul_app words))
+-- the job that the words name, the program's name first
+unfoldable pub words_job : List Text → Option Asked
+words_job words = unless_fault (fault_of haul_app words) (job_of (matches_of haul_app words) (subcommand_of haul_app words))
 
--- the answer to words: their haul, or bad words where they name none; want of memory may come with any words
-abbrev pub Answers : List Text → Result HaulWords WordFault → Type 0
-Answers words (Ok haul) = words_haul words ≡ Some (asked_by haul)
-Answers words (Err (BadWords error)) = words_haul words ≡ None
+-- the answer to words: their job, or bad words where they name none; want of memory may come with any words
+abbrev pub Answers : List Text → Result Job WordFault → Type 0
+Answers words (Ok job) = words_job words ≡ Some (asked_by job)
+Answers words (Err (BadWords error)) = words_job words ≡ None
 Answers words (Err Memory) = Unit {0}

@@ -9,6 +9,7 @@ ghost use Rattle.life_hauls.specs.Soups.{soup_of};
 use crate::counting::count_soup;
 use crate::rows::Haul;
 use crate::soups::soup;
+use crate::watch::Watch;
 use life_census::{CodeText, Names};
 use life_code::PERIOD_LIMIT;
 use life_core::{Fault, GENERATION_LIMIT, Rule, generation};
@@ -33,8 +34,8 @@ fn codes_of_soup<A: Allocator + Copy>(
 }
 
 /// The haul over `count` soups of a root text, from the number `first` on: how many clusters of their generation `n` have each code under
-/// the rule and the limit of the period, and the number of the first soup that has one.
-pub fn haul<A: Allocator + Copy>(
+/// the rule and the limit of the period, and the number of the first soup that has one. After each soup the watch is told how many there are.
+pub fn haul<A: Allocator + Copy, W: Watch>(
     alloc: A,
     root: &[u8],
     rule: &Rule,
@@ -42,6 +43,7 @@ pub fn haul<A: Allocator + Copy>(
     limit: u32,
     first: u64,
     count: u64,
+    watch: &mut W,
 ) -> Result<Haul<A>, Fault>
     requires few { n ≤ GENERATION_LIMIT }
     requires from_one { 1 ≤ limit }
@@ -55,6 +57,7 @@ pub fn haul<A: Allocator + Copy>(
         let number = first + i;
         let codes = codes_of_soup(alloc, root, rule, n, &mut names, number)?;
         count_soup(alloc, &mut haul, &codes, number)?;
+        watch.counted(i + 1, count);
     }
     Ok(haul)
 }

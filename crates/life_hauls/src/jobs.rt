@@ -1,17 +1,19 @@
-//! The job of `life-haul`: a haul as CSV.
+//! The jobs of `life-haul`: the table of a haul, and a soup.
 ghost use Rattle.std.specs.Prelude.{◌≡◌, ◌↔◌, ◌≤◌, Err, IfOk, IsTrue};
 ghost use Rattle.std.specs.List.{list_all};
 ghost use Rattle.std.specs.Option.{MatchOption};
 ghost use Rattle.life_jobs.specs.Jobs.{RefusesRule};
 ghost use Rattle.life_jobs.specs.Streams.{PutsOnce};
-ghost use Rattle.life_hauls.specs.Jobs.{is_graphic, IsRoot, MayBeAsked, haul_text, PutsHaul};
+ghost use Rattle.life_hauls.specs.Jobs.{is_graphic, IsRoot, MayBeAsked, haul_text, PutsHaul, MaySoupBeAsked, soup_text, PutsSoup};
 
 use crate::hauls::haul;
+use crate::soups::soup;
 use crate::table::csv;
+use crate::watch::Watch;
 use life_code::PERIOD_LIMIT;
 use life_core::{Fault, GENERATION_LIMIT, Rule};
 use life_jobs::{Stop, put_text};
-use life_rle::Outlet;
+use life_rle::{Outlet, into_plain, write};
 use std::alloc::Global;
 
 /// The most soups of a haul.
@@ -35,6 +37,17 @@ pub struct HaulWords<'a> {
     pub n: u64,
     /// The limit of the period.
     pub limit: u64,
+}
+
+/// The words of a soup.
+#[derive(Clone, Copy, Debug, PartialEq, Eq)]
+pub struct SoupWords<'a> {
+    /// The root text, from 1 to 64 bytes of graphic ASCII.
+    pub root: &'a str,
+    /// The number of the soup.
+    pub number: u64,
+    /// The text of the rule.
+    pub rule: &'a str,
 }
 
 /// The number, if it lies between two others.
@@ -96,31 +109,30 @@ fn numbers(words: HaulWords<'_>) -> Option<(u32, u32)>
     ))
 }
 
-/// The CSV of a haul.
-fn table(
+/// The table of a haul.
+fn table<W: Watch>(
     alloc: Global,
     words: HaulWords<'_>,
     rule: &Rule,
     n: u32,
     limit: u32,
+    watch: &mut W,
 ) -> Result<Vec<u8>, Fault>
     requires { MayBeAsked words × (n ≡ words.n) × (limit ≡ words.limit) }
     ensures { IfOk result (λ v. v.items ≡ haul_text words.entry rule.now) }
 {
-    let haul = haul(
-        alloc,
-        words.root.as_bytes(),
-        rule,
-        n,
-        limit,
-        words.first,
-        words.count,
-    )?;
-    csv(alloc, &haul)
+    let root = words.root.as_bytes();
+    let haul = haul(alloc, root, rule, n, limit, words.first, words.count, watch)?;
+    csv(alloc, root, rule, n, limit, words.first, &haul)
 }
 
-/// Puts the haul of the words as CSV. The numbers and the root are judged before the rule.
-pub fn run_haul<O: Outlet>(alloc: Global, words: HaulWords<'_>, output: &mut O) -> Result<(), Stop>
+/// Puts the table of the haul of the words. The numbers and the root are judged before the rule. The watch is told how far the haul is.
+pub fn run_haul<O: Outlet, W: Watch>(
+    alloc: Global,
+    words: HaulWords<'_>,
+    output: &mut O,
+    watch: &mut W,
+) -> Result<(), Stop>
     ensures limit { (result ≡ Err Stop.OutOfLimit) ↔ ¬ MayBeAsked words.entry }
     ensures rule { (result ≡ Err Stop.BadRule) ↔ MayBeAsked words.entry × RefusesRule words.entry.rule.now }
     // What is put is the text of the haul that the words name.
@@ -133,7 +145,45 @@ pub fn run_haul<O: Outlet>(alloc: Global, words: HaulWords<'_>, output: &mut O) 
     let Ok(rule) = Rule::read(words.rule.as_bytes()) else {
         return Err(Stop::BadRule);
     };
-    match table(alloc, words, &rule, n, limit) {
+    match table(alloc, words, &rule, n, limit, watch) {
+        Ok(text) => put_text(output, &text),
+        Err(_) => Err(Stop::Unavailable),
+    }
+}
+
+/// Whether a soup may be asked for.
+fn is_soup(words: SoupWords<'_>) -> bool
+    ensures { IsTrue result ↔ MaySoupBeAsked words.entry }
+{
+    if words.number >= FIRST_LIMIT + COUNT_LIMIT {
+        return false;
+    }
+    is_root(words.root.as_bytes())
+}
+
+/// The pattern file of a soup.
+fn soup_file(alloc: Global, words: SoupWords<'_>, rule: Rule) -> Result<Vec<u8>, Fault>
+    ensures { IfOk result (λ v. v.items ≡ soup_text words.entry rule) }
+{
+    let cells = soup(alloc, words.root.as_bytes(), words.number)?;
+    write(alloc, &into_plain(alloc, rule, cells))
+}
+
+/// Puts the soup of the words as canonical RLE, in normal form. The number and the root are judged before the rule.
+pub fn run_soup<O: Outlet>(alloc: Global, words: SoupWords<'_>, output: &mut O) -> Result<(), Stop>
+    ensures limit { (result ≡ Err Stop.OutOfLimit) ↔ ¬ MaySoupBeAsked words.entry }
+    ensures rule { (result ≡ Err Stop.BadRule) ↔ MaySoupBeAsked words.entry × RefusesRule words.entry.rule.now }
+    // What is put is the pattern file of the soup that the words name.
+    ensures puts { PutsSoup words.entry (O.already output.old) (O.already output.new) result }
+    ensures once { PutsOnce output.old output.new (O.failures output.old) (O.failures output.new) (O.last_failed output.new) result }
+{
+    if !is_soup(words) {
+        return Err(Stop::OutOfLimit);
+    }
+    let Ok(rule) = Rule::read(words.rule.as_bytes()) else {
+        return Err(Stop::BadRule);
+    };
+    match soup_file(alloc, words, rule) {
         Ok(text) => put_text(output, &text),
         Err(_) => Err(Stop::Unavailable),
     }

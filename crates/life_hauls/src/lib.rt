@@ -8,12 +8,14 @@ mod laws;
 mod rows;
 mod soups;
 mod table;
+mod watch;
 mod words;
 
 pub use hauls::haul;
-pub use jobs::{COUNT_LIMIT, FIRST_LIMIT, HaulWords, run_haul};
+pub use jobs::{COUNT_LIMIT, FIRST_LIMIT, HaulWords, SoupWords, run_haul, run_soup};
 pub use laws::{laws_of_hauls, laws_of_limits, laws_of_soups};
 pub use rows::{Haul, HaulRow, Sighting};
 pub use soups::soup;
 pub use table::csv;
-pub use words::{haul_command, read_words};
+pub use watch::{Unwatched, Watch};
+pub use words::{Job, haul_command, read_words};

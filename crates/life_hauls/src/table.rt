@@ -1,32 +1,102 @@
-//! A haul as CSV.
+//! The table of a haul.
 ghost use Rattle.std.specs.Prelude.{◌≡◌, ◌++◌, map, IfOk, OnOk};
+ghost use Rattle.std.specs.Fmt.{decimal};
 ghost use Rattle.std.specs.List.{flat_map};
 ghost use Rattle.life_hauls.specs.Hauls.{row_seen};
-ghost use Rattle.life_hauls.specs.Table.{sighting_text, unresolved_text, line, csv_text};
+ghost use Rattle.life_hauls.specs.Table.{named, heading, sighting_text, unresolved_text, line, counts_text, sums_text, csv_text};
 
 use crate::rows::{Haul, HaulRow, Sighting};
 use itoa::Buffer;
-use life_core::Fault;
+use life_core::{Fault, Rule};
 use std::alloc::{AllocError, Allocator};
 
-/// The haul as CSV: a line of names, a line for each code with its count and the number of its first soup, and the same of the clusters
-/// that have no code.
-pub fn csv<A: Allocator + Copy>(alloc: A, haul: &Haul<A>) -> Result<Vec<u8, A>, Fault>
-    ensures { IfOk result (λ v. v.items ≡ csv_text haul.now) }
+/// The table of a haul over soups of a root text from the number `first` on, whose generation `n` was counted under the rule and the limit
+/// of the period.
+pub fn csv<A: Allocator + Copy>(
+    alloc: A,
+    root: &[u8],
+    rule: &Rule,
+    n: u32,
+    limit: u32,
+    first: u64,
+    haul: &Haul<A>,
+) -> Result<Vec<u8, A>, Fault>
+    ensures { IfOk result (λ v. v.items ≡ csv_text root.now rule.now n limit first haul.now) }
 {
-    Ok(text_of(alloc, haul)?)
+    let rule = rule.text(alloc)?;
+    let mut out = Vec::new(alloc);
+    put_heading(&mut out, root, rule.as_bytes(), n, limit)?;
+    put_counts(&mut out, haul)?;
+    put_sums(&mut out, first, haul)?;
+    Ok(out)
 }
 
-/// The text of a haul.
-fn text_of<A: Allocator + Copy>(alloc: A, haul: &Haul<A>) -> Result<Vec<u8, A>, AllocError>
-    ensures { IfOk result (λ v. v.items ≡ csv_text haul.now) }
+/// Writes the lines that say what the haul is of.
+fn put_heading<A: Allocator>(
+    out: &mut Vec<u8, A>,
+    root: &[u8],
+    rule: &[u8],
+    n: u32,
+    limit: u32,
+) -> Result<(), AllocError>
+    ensures { OnOk result (out.new.items ≡ out.old.items ++ heading root.now rule.now n limit) }
 {
-    let mut out = Vec::from_slice(alloc, b"code,count,first\n")?;
-    put_rows(&mut out, &haul.rows)?;
-    out.extend_from_slice(b"unresolved,")?;
-    put_unresolved(&mut out, haul.unresolved)?;
+    put_named(out, b"# root ", root)?;
+    put_named(out, b"# rule ", rule)?;
+    put_named(out, b"# generation ", Buffer::new().format(n).as_bytes())?;
+    put_named(out, b"# limit ", Buffer::new().format(limit).as_bytes())?;
+    Ok(())
+}
+
+/// Writes the line of a name and a text.
+#[tactic(auto, unfolding(crate::specs::Table::named))]
+fn put_named<A: Allocator>(out: &mut Vec<u8, A>, name: &[u8], text: &[u8]) -> Result<(), AllocError>
+    ensures { OnOk result (out.new.items ≡ out.old.items ++ named name.now text.now) }
+{
+    out.extend_from_slice(name)?;
+    out.extend_from_slice(text)?;
     out.push(b'\n')?;
-    Ok(out)
+    Ok(())
+}
+
+/// Writes a name and a number.
+fn put_number<A: Allocator>(
+    out: &mut Vec<u8, A>,
+    name: &[u8],
+    number: u64,
+) -> Result<(), AllocError>
+    ensures { OnOk result (out.new.items ≡ out.old.items ++ name.now ++ decimal number) }
+{
+    out.extend_from_slice(name)?;
+    out.extend_from_slice(Buffer::new().format(number).as_bytes())?;
+    Ok(())
+}
+
+/// Writes the line of names, the lines of the codes, and the line of the clusters without a code.
+fn put_counts<A: Allocator>(out: &mut Vec<u8, A>, haul: &Haul<A>) -> Result<(), AllocError>
+    ensures { OnOk result (out.new.items ≡ out.old.items ++ counts_text haul.now) }
+{
+    out.extend_from_slice(b"code,count,first\n")?;
+    put_rows(out, &haul.rows)?;
+    out.extend_from_slice(b"unresolved,")?;
+    put_unresolved(out, haul.unresolved)?;
+    out.push(b'\n')?;
+    Ok(())
+}
+
+/// Writes the lines of how many clusters and how many soups there were.
+fn put_sums<A: Allocator>(
+    out: &mut Vec<u8, A>,
+    first: u64,
+    haul: &Haul<A>,
+) -> Result<(), AllocError>
+    ensures { OnOk result (out.new.items ≡ out.old.items ++ sums_text first haul.now) }
+{
+    put_number(out, b"clusters,", haul.total)?;
+    put_number(out, b",\nsoups,", haul.soups)?;
+    put_number(out, b",", first)?;
+    out.push(b'\n')?;
+    Ok(())
 }
 
 /// Writes the lines of rows.

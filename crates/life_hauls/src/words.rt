@@ -1,28 +1,53 @@
 //! The words of the command line, read by `clap`.
 ghost use Rattle.std.specs.Prelude.{◌≡◌, codes, map, option_map, IfOk, false};
 ghost use Rattle.clap.specs.Simple.{App};
-ghost use Rattle.clap.specs.Words.{Rule, app_of, rule_of, rows_of, found_of, with_rule};
+ghost use Rattle.clap.specs.Words.{Rule, app_of, rule_of, rows_of, found_of, subcommand_rows_of, with_rule, with_subcommand};
+ghost use Rattle.clap.specs.declared.builder.command.Command.TheViews.{out-Command as fields_of};
 ghost use Rattle.life_words.specs.Words.{number_rule, text_rule, number_at, text_at};
-ghost use Rattle.life_hauls.specs.Words.{rule_rule, haul_app, asked_by, rule_or_life, haul_in as haul_of_rows, Answers};
+ghost use Rattle.life_hauls.specs.Words.{rule_rule, soup_app, haul_alone, haul_app, asked_by, rule_or_life};
+ghost use Rattle.life_hauls.specs.Words.{haul_in as haul_of_rows, soup_in as soup_of_rows, job_named, job_of, Answers};
 
-use crate::jobs::HaulWords;
-use clap::{Arg, ArgMatches, Command};
-use life_words::{WordFault, program_command};
+use crate::jobs::{HaulWords, SoupWords};
+use clap::error::ErrorKind;
+use clap::{Arg, ArgMatches, Command, Error};
+use life_words::{WordFault, named_command, program_command};
 use std::alloc::{AllocError, Global};
 use std::convert::AsStr;
+
+// The forms of the command, as its help and its errors have them.
+const HAUL_USAGE: &str = "\
+life-haul [OPTIONS] <ROOT> <FIRST> <COUNT> <N> <LIMIT>
+       life-haul soup [OPTIONS] <ROOT> <NUMBER>";
 
 // What help says after the words: what is printed and refused, and an example.
 const HAUL_HELP: &str = "\
 Reads:   nothing
-Prints:  a line 'CODE,COUNT,FIRST' for each code in byte order, after 'code,count,first', and
-         'unresolved,COUNT,FIRST': how many clusters of generation N of all soups have the code, and
-         the number of the first soup that has one
+Prints:  '# root ROOT', '# rule RULE', '# generation N', '# limit LIMIT', then 'code,count,first' and
+         a line 'CODE,COUNT,FIRST' for each code in byte order, and 'unresolved,COUNT,FIRST': how many
+         clusters of generation N of all soups have the code, and the number of the first soup that
+         has one; at the end 'clusters,COUNT,' and 'soups,COUNT,FIRST'
 Soups:   soup I has 16 by 16 cells, row by row: the bits of the SHA-256 digest of ROOT and I
+Roots:   the root 'soup' is written after '--': life-haul -- soup 1 1000 2048 60
 Refuses: out-of-limit, bad-rule, unavailable
 Example: life-haul abc 1 1000 2048 60
 
 A refusal is one line 'refused: NAME' on standard error, with status 1.
 Bad words, and a request for help, end with status 2.";
+
+const SOUP_HELP: &str = "\
+Reads:   nothing
+Prints:  the soup as canonical RLE, without its first empty columns and rows
+Refuses: out-of-limit, bad-rule, unavailable
+Example: life-haul soup abc 17";
+
+/// What the program is to do.
+#[derive(Clone, Copy, Debug, PartialEq, Eq)]
+pub enum Job<'a> {
+    /// Print the table of a haul.
+    Haul(HaulWords<'a>),
+    /// Print a soup.
+    Soup(SoupWords<'a>),
+}
 
 // A required word that is a text.
 fn text_arg<'a>(alloc: Global, id: &'a str) -> Arg<'a>
@@ -90,33 +115,74 @@ fn limit_arg<'a>(alloc: Global) -> Arg<'a>
     number_arg(alloc, "LIMIT").help("The limit of the period, from 1 to 2048")
 }
 
+// The number of a soup.
+fn soup_number_arg<'a>(alloc: Global) -> Arg<'a>
+    ensures rule { rule_of result ≡ number_rule (codes "NUMBER") }
+    ensures local { result.global ≡ false }
+{
+    number_arg(alloc, "NUMBER").help("The number of the soup, from 0 to 9007199255740991")
+}
+
 // The command with one more argument, if the command was made.
 fn with_arg<'a>(
     above: Result<Command<'a>, AllocError>,
     arg: Arg<'a>,
 ) -> Result<Command<'a>, AllocError>
     requires { arg.global ≡ false }
-    ensures { (made : App) (rule : Rule) → IfOk above.entry (λ command. app_of command ≡ made) → rule_of arg.entry ≡ rule → IfOk result (λ command. app_of command ≡ with_rule made rule) }
+    ensures app { (made : App) (rule : Rule) → IfOk above.entry (λ command. app_of command ≡ made) → rule_of arg.entry ≡ rule → IfOk result (λ command. app_of command ≡ with_rule made rule) }
+    ensures local { IfOk above.entry (λ command. (fields_of command).has_globals ≡ false) → IfOk result (λ command. (fields_of command).has_globals ≡ false) }
 {
     above?.arg(arg)
 }
 
-/// The command of `life-haul`, with its words in the order in which they stand.
-pub fn haul_command<'a>(alloc: Global) -> Result<Command<'a>, AllocError>
-    ensures { IfOk result (λ command. app_of command ≡ haul_app) }
+// The command of a soup.
+fn soup_command<'a>(alloc: Global) -> Result<Command<'a>, AllocError>
+    ensures app { IfOk result (λ command. app_of command ≡ soup_app) }
+    ensures local { IfOk result (λ command. (fields_of command).has_globals ≡ false) }
 {
-    let command = Ok(program_command(
+    let command = Ok(named_command(alloc, "soup", "Prints a soup as a pattern file", SOUP_HELP));
+    let command = with_arg(command, root_arg(alloc));
+    let command = with_arg(command, soup_number_arg(alloc));
+    with_arg(command, rule_arg(alloc))
+}
+
+// The command of hauls without its words.
+fn command_alone<'a>(alloc: Global) -> Command<'a>
+    ensures { app_of result ≡ haul_alone }
+{
+    program_command(
         alloc,
         "life-haul",
         "Counts the objects of random soups",
         HAUL_HELP,
-    ));
-    let command = with_arg(command, root_arg(alloc));
+    )
+    .override_usage(HAUL_USAGE)
+    .subcommand_negates_reqs(true)
+    .disable_help_subcommand(true)
+}
+
+// The command with one more subcommand, which has no global argument, if both were made.
+fn with_command<'a>(
+    above: Result<Command<'a>, AllocError>,
+    below: Result<Command<'a>, AllocError>,
+) -> Result<Command<'a>, AllocError>
+    requires { IfOk below (λ command. (fields_of command).has_globals ≡ false) }
+    ensures { (made added : App) → IfOk above.entry (λ command. app_of command ≡ made) → IfOk below.entry (λ command. app_of command ≡ added) → IfOk result (λ command. app_of command ≡ with_subcommand made added.top) }
+{
+    above?.subcommand(below?)
+}
+
+/// The command of `life-haul`, with its words in the order in which they stand, and with its subcommand.
+pub fn haul_command<'a>(alloc: Global) -> Result<Command<'a>, AllocError>
+    ensures { IfOk result (λ command. app_of command ≡ haul_app) }
+{
+    let command = with_arg(Ok(command_alone(alloc)), root_arg(alloc));
     let command = with_arg(command, first_arg(alloc));
     let command = with_arg(command, count_arg(alloc));
     let command = with_arg(command, generation_arg(alloc));
     let command = with_arg(command, limit_arg(alloc));
-    with_arg(command, rule_arg(alloc))
+    let command = with_arg(command, rule_arg(alloc));
+    with_command(command, soup_command(alloc))
 }
 
 // The number of the word with this id.
@@ -144,28 +210,70 @@ fn rule_in<'a>(found: &ArgMatches<'a>) -> &'a str
 }
 
 // The haul of the words that were found.
-fn haul_in<'a>(found: &ArgMatches<'a>) -> Option<HaulWords<'a>>
+fn haul_in<'a>(found: &ArgMatches<'a>) -> Option<Job<'a>>
     ensures { option_map asked_by result ≡ haul_of_rows (rows_of (found_of found.now)) }
 {
-    Some(HaulWords {
+    Some(Job::Haul(HaulWords {
         root: text_in(found, "ROOT")?,
         first: number_in(found, "FIRST")?,
         count: number_in(found, "COUNT")?,
         rule: rule_in(found),
         n: number_in(found, "N")?,
         limit: number_in(found, "LIMIT")?,
-    })
+    }))
 }
 
-/// The haul that the words name. The first of them is the program's name, as in `env::args`.
+// The soup of the words that were found.
+fn soup_in<'a>(found: &ArgMatches<'a>) -> Option<Job<'a>>
+    ensures { option_map asked_by result ≡ soup_of_rows (rows_of (found_of found.now)) }
+{
+    Some(Job::Soup(SoupWords {
+        root: text_in(found, "ROOT")?,
+        number: number_in(found, "NUMBER")?,
+        rule: rule_in(found),
+    }))
+}
+
+// The job of the subcommand of this name.
+fn job_named<'a>(name: &str, found: &ArgMatches<'a>) -> Option<Job<'a>>
+    ensures { option_map asked_by result ≡ job_named name.now (rows_of (found_of found.now)) }
+{
+    match name {
+        "soup" => soup_in(found),
+        _ => None,
+    }
+}
+
+// The job of the words that were found. Before the name of a subcommand there are none.
+fn job_in<'a>(matches: &ArgMatches<'a>) -> Option<Job<'a>>
+    ensures { option_map asked_by result ≡ job_of (rows_of (found_of matches.now)) (subcommand_rows_of matches.now) }
+{
+    let Some((name, found)) = matches.subcommand() else {
+        return haul_in(matches);
+    };
+    match (text_in(matches, "ROOT"), text_in(matches, "RULE")) {
+        (None, None) => job_named(name, found),
+        _ => None,
+    }
+}
+
+// The error of words before the name of a subcommand.
+fn words_before(alloc: Global) -> Result<Error, AllocError> {
+    haul_command(alloc)?.error(
+        ErrorKind::ArgumentConflict,
+        "the subcommand 'soup' cannot be used with arguments before it",
+    )
+}
+
+/// The job that the words name. The first of them is the program's name, as in `env::args`.
 ///
 /// A request for help is a fault too, `BadWords` with the text of the help.
-pub fn read_words<'a, S: AsStr>(alloc: Global, words: &'a [S]) -> Result<HaulWords<'a>, WordFault>
+pub fn read_words<'a, S: AsStr>(alloc: Global, words: &'a [S]) -> Result<Job<'a>, WordFault>
     ensures { Answers (map S.text words.entry.now) result }
 {
     let matches = haul_command(alloc)?.try_get_matches_from(words)?;
-    let Some(haul) = haul_in(&matches) else {
-        return Err(WordFault::BadWords(None));
+    let Some(job) = job_in(&matches) else {
+        return Err(WordFault::BadWords(Some(words_before(alloc)?)));
     };
-    Ok(haul)
+    Ok(job)
 }

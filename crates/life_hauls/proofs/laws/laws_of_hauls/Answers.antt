@@ -1,6 +1,6 @@
 use Rattle.life_hauls.proofs.SightingLaws.{seen_is_least, nothing_is_seen}
-use Rattle.life_hauls.proofs.TallyLaws.{rows_are_of_tallies, rows_ascend, unresolved_are_of_tallies, clusters_count_once}
-use Rattle.life_hauls.proofs.TogetherLaws.{hauls_add_up, together_by_codes, together_in_any_order}
+use Rattle.life_hauls.proofs.TallyLaws.{rows_are_of_tallies, rows_ascend, unresolved_are_of_tallies, clusters_count_once, sums_are_counts}
+use Rattle.life_hauls.proofs.TogetherLaws.{hauls_add_up, together_by_codes, together_in_any_order, together_in_any_grouping}
 use Rattle.life_hauls.proofs.laws.laws_of_hauls.Goals as goal
 
 pub returns-clause-add_up : goal.returns-clause-add_up
@@ -11,6 +11,9 @@ returns-clause-by_codes c = together_by_codes
 
 pub returns-clause-any_order : goal.returns-clause-any_order
 returns-clause-any_order c = together_in_any_order
+
+pub returns-clause-any_grouping : goal.returns-clause-any_grouping
+returns-clause-any_grouping c = together_in_any_grouping
 
 pub returns-clause-least : goal.returns-clause-least
 returns-clause-least c = seen_is_least
@@ -29,3 +32,6 @@ returns-clause-unresolved c = unresolved_are_of_tallies
 
 pub returns-clause-once : goal.returns-clause-once
 returns-clause-once c = clusters_count_once
+
+pub returns-clause-sums : goal.returns-clause-sums
+returns-clause-sums c = sums_are_counts

@@ -1,4 +1,4 @@
-// Asks the archive over its routes (docs/FORMATS.md, Messages). What is read is asked again where no reply came; a deposit is sent
+// Asks the archive over its routes (docs/API.md). What is read is asked again where no reply came; a deposit is sent
 // again with its token; a census is not, since it may be what the archive is held by.
 
 import { Refused, refusalOf } from './refusals.js';

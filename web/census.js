@@ -15,8 +15,8 @@ function barOf(count, most, more = '') {
   return make('td', { class: 'bars' }, bar);
 }
 
-/** A row of the table: an object, its name where it is a known one, how often it is there, and a bar of that. */
-function objectRow({ code, count }, most, rule, names) {
+/** A row of a table: an object, its name if it is a known one, how often it is there, and a bar of that. */
+export function objectRow({ code, count }, most, rule, names) {
   const pattern = patternOf(code);
   const name = rule === 'B3/S23' ? names.get(code) : null;
   return make('tr', {}, make('td', { class: 'drawn' }, pattern ? thumbnail(pattern, SIDE, SIDE) : null),
@@ -24,7 +24,8 @@ function objectRow({ code, count }, most, rule, names) {
     make('td', { class: 'number' }, counted(count)), barOf(count, most));
 }
 
-function unresolvedRow(count, most) {
+/** The row of the clusters without a code. */
+export function unresolvedRow(count, most) {
   return make('tr', {}, make('td', { class: 'drawn' }), make('th', { scope: 'row' }, 'unresolved', make('small', {}, 'no code within the limit')),
     make('td', { class: 'number' }, counted(count)), barOf(count, most, 'none'));
 }

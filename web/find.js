@@ -31,7 +31,8 @@ export function findPage(page) {
   page.title('Find');
   page.root.append(make('h1', { tabindex: -1 }, 'Find'), make('div', { class: 'forms' }, numberForm('deposit-number', 'Deposit', 'deposit'), numberForm('census-number', 'Census', 'census')),
     make('h2', {}, 'An object'), codeForm(),
-    make('p', { class: 'hint' }, 'A code names one object of a rule: a still life (xs), an oscillator (xp) or a spaceship (xq), wherever it stands and however it is turned.'));
+    make('p', { class: 'hint' }, 'A code names one object of a rule: a still life (xs), an oscillator (xp) or a spaceship (xq), wherever it stands and however it is turned.'),
+    make('h2', {}, 'A haul'), make('p', {}, 'The objects of random soups, as ', make('code', {}, 'life-haul'), ' counts them: ', make('a', { href: '#haul' }, 'show a table'), '.'));
 }
 
 /** An object by its code: the archive tells the total of a code that it can open, and refuses any other. */

@@ -4,6 +4,7 @@ import { censusPage } from './census.js';
 import { depositPage } from './deposit.js';
 import { make, refusal } from './dom.js';
 import { codePage, findPage } from './find.js';
+import { haulPage } from './haul.js';
 import { deposits, depositsOf } from './list.js';
 import { bring, depositForm } from './new.js';
 import { Refused } from './refusals.js';
@@ -16,6 +17,7 @@ const PAGES = [
   [/^new$/, 'new', depositForm],
   [/^find$/, 'find', findPage],
   [/^census\/([0-9]{1,15})$/, 'find', censusPage],
+  [/^haul$/, 'find', haulPage],
   [/^code\/([^/]+)\/([^/]+)$/, 'find', codePage],
 ];
 

@@ -1,4 +1,4 @@
-// Why something was refused, and what to do: a sentence for each name and number of docs/FORMATS.md, and for what the gateway says.
+// Why something was refused, and what to do: a sentence for each name and number of docs/API.md and docs/FORMATS.md, and for what the gateway says.
 
 export const REFUSALS = {
   'no-such-deposit': 'There is no deposit of this number. Look at the newest deposits, or compare the number with what was cited.',
@@ -11,7 +11,7 @@ export const REFUSALS = {
   'bad-rule': 'This is no rule that is taken: write it in digits, as B3/S23, with no 0 among the births.',
   'bad-code': 'This is no object’s code under this rule. Compare it with what was cited: each object has one code alone, in lower case, and another rule has other objects.',
   full: 'The archive takes no more. Tell whoever runs it; what is in it stays.',
-  unavailable: 'The archive could not do this now, and nothing has changed. Wait a little and ask again; if that is no help, tell whoever runs it.',
+  unavailable: 'The archive could not do this now. Wait a little and ask again: with the same token, nothing is kept twice. If that is no help, tell whoever runs it.',
   'no-such-page': 'There is no such page. Compare the address with what was cited, or begin at the newest deposits.',
   'bad-method': 'This page of the archive is asked in another way. Load these pages anew; if that is no help, tell whoever runs the archive.',
   'bad-message': 'The archive could not read what came: a file has at most 1,048,576 bytes. Take a smaller one, or load these pages anew.',
@@ -56,7 +56,7 @@ export class Refused extends Error {
   }
 }
 
-/** The name by which FORMATS.md has it: that of the fault of a file, else that of the refusal. */
+/** The name by which the documents have it: that of the fault of a file, else that of the refusal. */
 export const nameOf = (error) => FAULTS[error.fault]?.[0] ?? error.name;
 
 /** The sentence that says what to do. */

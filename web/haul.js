@@ -1,0 +1,101 @@
+// A haul: the table of `life-haul` is dropped or chosen, and its objects are shown, the most frequent first, with the soups that have them.
+
+import { objectRow, unresolvedRow } from './census.js';
+import { objectNames } from './code.js';
+import { counted, field, make, many } from './dom.js';
+import { bring } from './new.js';
+import { sumOf } from './sum.js';
+
+/** How many objects are shown at first, and how many more by each press: a drawing each. */
+const SHOWN = 100;
+/** The longest table that is read, in bytes: some 200,000 codes. */
+const LONGEST_TABLE = 16_777_216;
+const HEADINGS = ['root', 'rule', 'generation', 'limit'];
+const HEAD = 'code,count,first';
+const ROW = /^(x[spq][1-9][0-9]*_[0-9a-z]+),([1-9][0-9]{0,15}),([0-9]{1,16})$/;
+const ENDS = [/^unresolved,([0-9]{1,16}),[0-9]{0,16}$/, /^clusters,([0-9]{1,16}),$/, /^soups,([0-9]{1,16}),([0-9]{1,16})$/];
+
+/** What a table says; null for a text that is none, or whose counts do not add up. */
+export function readTable(text) {
+  const lines = text.split('\n');
+  const said = HEADINGS.map((name, at) => (lines[at]?.startsWith(`# ${name} `) ? lines[at].slice(name.length + 3) : null));
+  const ends = ENDS.map((form, at) => form.exec(lines.at(at - 4) ?? ''));
+  const rows = lines.slice(HEADINGS.length + 1, -4).map((line) => ROW.exec(line));
+  if ([...said, ...ends, ...rows].includes(null) || lines.at(-1) !== '' || lines[HEADINGS.length] !== HEAD) return null;
+  const [root, rule, generation, limit] = said;
+  const [unresolved, clusters, soups, first] = [ends[0][1], ends[1][1], ends[2][1], ends[2][2]].map(Number);
+  const objects = rows.map(([, code, count, seen]) => ({ code, count: Number(count), first: Number(seen) }));
+  if (objects.reduce((sum, { count }) => sum + count, unresolved) !== clusters) return null;
+  return { root, rule, generation: Number(generation), limit: Number(limit), unresolved, clusters, soups, first, objects };
+}
+
+/** A soup as a pattern file: the bits of the SHA-256 digest of its root and its number, row by row. */
+export function soupFile(root, rule, number) {
+  const digest = sumOf(new TextEncoder().encode(`${root}${number}`));
+  const cells = [...digest].map((digit) => parseInt(digit, 16).toString(2).padStart(4, '0').replaceAll('0', 'b').replaceAll('1', 'o')).join('');
+  return `#N soup ${number} of ${root}\nx = 16, y = 16, rule = ${rule}\n${cells.match(/.{16}/g).join('$\n')}!\n`;
+}
+
+/** A button that takes a soup to the page on which files are deposited. */
+function soupButton(haul, number) {
+  const click = () => {
+    bring([new File([soupFile(haul.root, haul.rule, number)], `soup-${number}.rle`)]);
+    location.hash = '#new';
+  };
+  return make('button', { type: 'button', click, 'aria-label': `Soup ${number}: see it, deposit it` }, counted(number));
+}
+
+function rowOf(object, most, haul, names) {
+  const row = objectRow(object, most, haul.rule, names);
+  row.append(make('td', { class: 'number' }, soupButton(haul, object.first)));
+  return row;
+}
+
+/** The table of the objects, of which more are shown by a press. */
+function objectsOf(haul, names) {
+  const objects = haul.objects.toSorted((one, other) => other.count - one.count);
+  const most = Math.max(1, haul.unresolved, ...objects.slice(0, 1).map(({ count }) => count));
+  const body = make('tbody');
+  const more = make('button', { type: 'button' });
+  let shown = 0;
+  const showMore = () => {
+    body.append(...objects.slice(shown, shown + SHOWN).map((object) => rowOf(object, most, haul, names)));
+    shown = Math.min(shown + SHOWN, objects.length);
+    more.hidden = shown === objects.length;
+    more.textContent = `Show ${counted(Math.min(SHOWN, objects.length - shown))} more of ${counted(objects.length)}`;
+  };
+  more.addEventListener('click', showMore);
+  showMore();
+  const last = unresolvedRow(haul.unresolved, most);
+  last.append(make('td'));
+  const heads = [['Code', ''], ['Count', 'number'], [null, ''], ['First soup', 'number']];
+  return [make('table', { class: 'census' }, make('caption', { class: 'aside' }, 'Objects of the haul, the most frequent first'),
+    make('thead', {}, make('tr', {}, make('td', {}), heads.map(([text, kind]) => (text ? make('th', { scope: 'col', class: kind }, text) : make('td', {}))))),
+    body, make('tfoot', {}, last)), make('p', {}, more)];
+}
+
+function shownHaul(haul, names) {
+  const facts = [['Soups', counted(haul.soups)], ['Clusters', counted(haul.clusters)], ['Objects', many(haul.objects.length, 'code')], ['Unresolved', counted(haul.unresolved)]];
+  return [make('p', { class: 'by' }, `Soups ${counted(haul.first)} to ${counted(haul.first + Math.max(haul.soups, 1) - 1)} of `, make('code', {}, haul.root),
+    `, at generation ${counted(haul.generation)} under ${haul.rule}, with periods up to ${counted(haul.limit)}.`),
+  make('dl', { class: 'facts' }, facts.map(([term, told]) => make('div', {}, make('dt', {}, term), make('dd', {}, told)))), ...objectsOf(haul, names),
+  make('p', { class: 'hint' }, 'The page shows what the table says; the archive has not seen it. A soup that is deposited is counted by the archive itself.')];
+}
+
+export function haulPage(page) {
+  page.title('Haul');
+  const place = make('div');
+  const take = async (files) => {
+    const [file] = files;
+    if (!file) return;
+    const names = await objectNames();
+    const haul = file.size > LONGEST_TABLE ? null : readTable(await file.text());
+    const refused = make('p', { class: 'refusal', role: 'alert' }, `${file.name ?? 'The text'} is not a whole table of life-haul.`);
+    place.replaceChildren(...(haul ? shownHaul(haul, names) : [refused]));
+    page.say(haul ? `${many(haul.soups, 'soup')}, ${many(haul.objects.length, 'code')}.` : 'That is no table of a haul.');
+  };
+  const input = make('input', { id: 'haul-file', type: 'file', accept: '.csv,text/csv', change: () => take([...input.files]) });
+  page.taken = take;
+  page.root.append(make('h1', { tabindex: -1 }, 'A haul'),
+    field('A table of life-haul', input, 'Choose it, or drop it anywhere on the page. It stays on this machine.'), place);
+}

@@ -4,7 +4,7 @@
     bench/archive.py
 
 The program is bench/archive.rattle. It is no crate of the repository, so that the gate does not prove it each time: it is
-built here in a folder of its own, over the crates as they stand (which are proved on the way, where they are not yet), and
+built here in a folder of its own, over the crates as they are (which are proved on the way, if they are not yet), and
 runs there beside python's. Both files lie in that folder; both write a log and wait for the disk at each commit.
 """
 import os

@@ -16,6 +16,8 @@ GLIDER = b"x = 3, y = 3\nbo$2bo$3o!\n"
 GLIDER_TEXT = b"x = 3, y = 3, rule = B3/S23\nbo$2bo$3o!\n"
 BLOCKS = b"x = 6, y = 2\n2o2b2o$2o2b2o!\n"
 BLOCKS_TEXT = b"x = 6, y = 2, rule = B3/S23\n2o2b2o$2o2b2o!\n"
+UNAVAILABLE = (b"HTTP/1.1 503 Service Unavailable\r\ncontent-type: application/json\r\ncontent-length: 36\r\n\r\n"
+               b'{"error":"unavailable","refusal":11}')
 PASSED = [0, 0]
 ALONE = threading.Lock()
 
@@ -117,11 +119,34 @@ def run(*words, data=b""):
     return done.returncode, done.stdout, done.stderr
 
 
+def is_answered(archive, messages, back):
+    """Whether each message was answered as by this archive of the reference, or is unavailable. The archive is then the one after those that were
+    answered."""
+    for one in messages:
+        if back.startswith(UNAVAILABLE):
+            back = back[len(UNAVAILABLE):]
+            continue
+        wanted = archive.replies(one)
+        if not back.startswith(wanted):
+            return False
+        back = back[len(wanted):]
+    return back == b""
+
+
 def new_folder():
-    """A folder in memory, where the system has room for one: a program waits for a disk at each commit, and is killed here, not the system."""
+    """A folder in memory, if the system has room for one: a program waits for a disk at each commit, and is killed here, not the system."""
     memory = "/dev/shm"
     fits = os.access(memory, os.W_OK) and not os.statvfs(memory).f_flag & os.ST_NOEXEC and shutil.disk_usage(memory).free > 1 << 28
     return tempfile.mkdtemp(prefix="life-archive-", dir=memory if fits else None)
+
+
+def fresh(folder, name):
+    """The path of a database of this name, of which nothing is left."""
+    database = os.path.join(folder, name)
+    for ending in ("", "-wal", "-shm", "-journal"):
+        if os.path.exists(database + ending):
+            os.remove(database + ending)
+    return database
 
 
 def tried(part, *words):

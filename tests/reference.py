@@ -1,4 +1,4 @@
-"""What the archive answers, worked out anew from docs/FORMATS.md for the tests: it shares no code with the program.
+"""What the archive answers, worked out anew from docs/API.md and docs/FORMATS.md for the tests: it shares no code with the program.
 
 `Archive.replies(stream)` gives the bytes that a stream of messages is answered with. Sets of cells are python's sets of
 (column, row); nothing here is fast.

@@ -142,7 +142,7 @@ def refused_deposits_share(folder, share, shares):
     unchanged = [NO_TABLES, tables(database)]
     run("deposit", "--db", database, "ann", "t1", data=GLIDER)
     kept = tables(database)
-    wrong, allocation, tried, refusals = 0, share + 1 - shares, 0, 0
+    wrong, allocation, tried, refusals = int(kept in unchanged), share + 1 - shares, 0, 0
     while True:
         allocation += shares
         fresh(folder, "refused.db")

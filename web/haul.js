@@ -68,9 +68,9 @@ function objectsOf(haul, names) {
   showMore();
   const last = unresolvedRow(haul.unresolved, most);
   last.append(make('td'));
-  const heads = [['Code', ''], ['Count', 'number'], [null, ''], ['First soup', 'number']];
-  return [make('table', { class: 'census' }, make('caption', { class: 'aside' }, 'Objects of the haul, the most frequent first'),
-    make('thead', {}, make('tr', {}, make('td', {}), heads.map(([text, kind]) => (text ? make('th', { scope: 'col', class: kind }, text) : make('td', {}))))),
+  const heads = [['Code', ''], ['Count', 'number'], [null, 'bars'], ['First soup', 'number']];
+  return [make('table', { class: 'census haul' }, make('caption', { class: 'aside' }, 'Objects of the haul, the most frequent first'),
+    make('thead', {}, make('tr', {}, make('td', {}), heads.map(([text, kind]) => (text ? make('th', { scope: 'col', class: kind }, text) : make('td', { class: kind }))))),
     body, make('tfoot', {}, last)), make('p', {}, more)];
 }
 

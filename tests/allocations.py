@@ -198,21 +198,26 @@ def has_ended(peer):
         return True
 
 
-def answered_in_turn(port, messages, database, archive):
-    """Sends messages one by one over a connection. Whether each is answered as by this archive of the reference, or is unavailable, or ends the
-    connection without a reply; and whether the tables after each that is not answered are as before it. And how many are unavailable."""
-    unavailable = 0
-    with socket.create_connection(("127.0.0.1", port), timeout=60) as peer:
+def answered_in_turn(server, messages, database, archive):
+    """Sends messages one by one over the server's only connection. Whether each is answered as by this archive of the reference, or is unavailable,
+    or ends the connection without a reply; and whether the tables, read before the next one is sent, changed with each 201 and with nothing
+    else. And how many are unavailable."""
+    unavailable, before, ended = 0, tables(database), True
+    with socket.create_connection(("127.0.0.1", server.port), timeout=60) as peer:
         for one in messages:
-            before = tables(database)
             back = replied(peer, one)
+            if not back or b" HTTP/1.0\r\n" in one:
+                # The server ends after its connection, and writes its log into its file: the tables are read once it has.
+                ended = has_ended(peer) and server.ended() is not None
+            after = tables(database)
             unavailable += back == UNAVAILABLE
-            good = back == b"" or is_answered(archive, [one], back)
-            good = good and (back not in (b"", UNAVAILABLE) or tables(database) == before)
+            good = ended and (back == b"" or is_answered(archive, [one], back))
+            good = good and (after != before) == back.startswith(b"HTTP/1.1 201 ")
             if not good:
-                print(f"archive: {one[:60]!r} was answered {back[:200]!r}; tables as before it: {tables(database) == before}", flush=True)
+                print(f"archive: {one[:60]!r} was answered {back[:200]!r}; tables as before it: {after == before}", flush=True)
             if not good or not back:
                 return good, unavailable
+            before = after
         return has_ended(peer), unavailable
 
 
@@ -238,7 +243,7 @@ def refused_share(folder, name, before, messages, kept, step, share, shares):
         archive.replies(b"".join(before))
         with Server(database, 1, refusing.environment(allocation)) as server:
             # An opening that is refused has changed nothing, or has made the tables.
-            good, more = answered_in_turn(server.port, messages, database, archive) if server.line else (True, 0)
+            good, more = answered_in_turn(server, messages, database, archive) if server.line else (True, 0)
             good, unavailable = good and (server.line != b"" or tables(database) in (opened, unopened)), unavailable + more
             good = server.ended() in (0, 1) and good
             ended += server.process.stderr.read() == b"connection: memory\n"

@@ -6,6 +6,7 @@ import { copyButton, counted, field, icon, isMember, make, many, memberInput, re
 import { Player } from './player.js';
 import { Refused } from './refusals.js';
 import { ruleAddress, ruleText } from './rule.js';
+import { addLater, censusesSection } from './search.js';
 import { View } from './view.js';
 
 const SPEEDS = [1, 2, 5, 10, 20, 40];
@@ -184,6 +185,7 @@ export async function depositPage(page, given, at = '0') {
   const shown = new Shown(number, page);
   const view = new View(canvas, page.signal);
   const said = make('div');
+  const countedIn = make('div');
   const player = new Player(number, page.signal, {
     shown: (gen, generation, bytes, place) => {
       const { pattern } = generation;
@@ -214,9 +216,10 @@ export async function depositPage(page, given, at = '0') {
   page.root.append(...heading(number, record, row?.member), make('div', { class: 'stage' }, canvas, bar.bar), said,
     make('dl', { class: 'facts' }, list.map(([term, told]) => make('div', {}, make('dt', {}, term), make('dd', {}, told)))),
     make('div', { class: 'columns' }, ...shown.parts(), censusPart(shown, page)),
-    make('nav', { class: 'pager', 'aria-label': 'Other deposits' }, number > 1 ? make('a', { href: `#deposit/${number - 1}` }, `← ${counted(number - 1)}`) : null,
+    countedIn, make('nav', { class: 'pager', 'aria-label': 'Other deposits' }, number > 1 ? make('a', { href: `#deposit/${number - 1}` }, `← ${counted(number - 1)}`) : null,
       make('a', { href: `#deposit/${number + 1}` }, `${counted(number + 1)} →`)));
   await player.show(Math.min(Number(at), LAST_GENERATION));
   view.fit();
+  addLater(page, countedIn, censusesSection(page, number));
   if (Number(at) > LAST_GENERATION) said.replaceChildren(refusal(new Refused('out-of-limit')));
 }

@@ -8,14 +8,16 @@ import { haulPage } from './haul.js';
 import { deposits, depositsOf } from './list.js';
 import { bring, depositForm } from './new.js';
 import { Refused } from './refusals.js';
+import { censusesPage } from './search.js';
 
 const PAGES = [
   [/^(?:deposits)?$/, 'deposits', (page) => deposits(page)],
   [/^deposits\/after\/([0-9]{1,15})$/, 'deposits', deposits],
-  [/^deposits\/of\/([a-z0-9-]{1,32})(?:\/before\/([0-9]{1,15}))?$/, 'deposits', depositsOf],
+  [/^deposits\/of\/([a-z0-9-]{1,32})(?:\/before\/([0-9]{1,15}))?$/i, 'deposits', (page, member, before) => depositsOf(page, member.toLowerCase(), before)],
   [/^deposit\/([0-9]{1,15})(?:\/at\/([0-9]{1,15}))?$/, 'deposits', depositPage],
   [/^new$/, 'new', depositForm],
-  [/^find$/, 'find', findPage],
+  [/^find(?:\?(.*))?$/, 'find', findPage],
+  [/^censuses$/, 'find', censusesPage],
   [/^census\/([0-9]{1,15})$/, 'find', censusPage],
   [/^haul$/, 'find', haulPage],
   [/^code\/([^/]+)\/([^/]+)$/, 'find', codePage],

@@ -35,6 +35,14 @@ def kept(gateway, name, text, member="ann"):
     return json.loads(answer).get("deposit") if status == 201 else None
 
 
+def listed(gateway):
+    """All deposits, list by list, from the program itself."""
+    found = []
+    while rows := json.loads(told(gateway, f"/deposits/after/{found[-1]['id'] if found else 0}"))["deposits"]:
+        found += rows
+    return found
+
+
 def index(gateway, database):
     """Makes the index of the archive as the gateway gives it; whether it is made."""
     copy = os.path.join(gateway.folder, "copy.db")

@@ -13,7 +13,7 @@ import xml.etree.ElementTree
 import archives
 from clients import check, exchanged, message
 from gateways import DEPLOY
-from pages import asked, index, kept
+from pages import asked, index, kept, listed
 
 LINKS = "return [...document.querySelectorAll('.cards a')].map((link) => Number(link.getAttribute('href').match(/[0-9]+/)[0]))"
 ENTER = "\ue007"
@@ -84,7 +84,7 @@ def members(gateway, browser, base, folder):
     later = kept(gateway, "later", b"#N Later\nx = 3, y = 1\n3o!\n", "dan")
     time.sleep(2.1)
     browser.open(f"{base}/#deposits/of/dan")
-    rows = json.loads(asked(gateway.life_port, "/deposits/after/0")[1])["deposits"]
+    rows = listed(gateway)
     wanted = [row["id"] for row in rows if row["member"] == "dan"][::-1]
     check(f"a member's deposits: {numbers(browser)}", browser.until(lambda: numbers(browser) == wanted and wanted[0] == later) and browser.text(".count") == "3 deposits")
     browser.open(f"{base}/#deposits/of/eve")
@@ -95,7 +95,7 @@ def members(gateway, browser, base, folder):
 
 def counted(gateway, browser, base, folder):
     """An object's page says which censuses and deposits have it, a deposit's which censuses it has, and there is a list of all."""
-    rows = json.loads(asked(gateway.life_port, "/deposits/after/0")[1])["deposits"]
+    rows = listed(gateway)
     one, two = (next(row["id"] for row in rows if row["member"] == member and row["population"] == cells) for member, cells in (("cid", 4), ("dan", 8)))
     made = [a_census(gateway, one), a_census(gateway, two), a_census(gateway, one, 3)]
     check("an index of the censuses", index(gateway, os.path.join(folder, "club.db")))

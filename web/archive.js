@@ -157,7 +157,9 @@ const sent = (member, token, body, signal) => ({ method: 'POST', headers: { 'x-m
 
 /** Deposits a file, and answers its number. Where no reply comes it is sent again, always with the same token; `said` hears of it. */
 export async function sendDeposit(member, token, bytes, said, signal) {
-  return parsed(await askAgain('/deposits', sent(member, token, bytes, signal), SEND_PAUSES, said), 'deposit').deposit;
+  const number = parsed(await askAgain('/deposits', sent(member, token, bytes, signal), SEND_PAUSES, said), 'deposit').deposit;
+  seen = Math.max(seen, number);
+  return number;
 }
 
 /** Asks for a census once, and answers its number. */

@@ -2,7 +2,9 @@
 
 import { LAST_GENERATION, deposit, depositsAfter, kind, sendCensus } from './archive.js';
 import { objectNames } from './code.js';
-import { copyButton, counted, field, icon, isMember, make, many, memberInput, refusal, rememberMember } from './dom.js';
+import { againButton, copyButton, counted, field, icon, isMember, make, many, memberInput, refusal, rememberMember } from './dom.js';
+import { keepSetting, setting } from './kept.js';
+import { noteOf } from './new.js';
 import { Player } from './player.js';
 import { Refused } from './refusals.js';
 import { ruleAddress, ruleText } from './rule.js';
@@ -45,7 +47,7 @@ class Shown {
 
   /** The address of the page is that of what is shown. A browser takes few changes a second, so it is not made while it plays. */
   cite() {
-    history.replaceState(null, '', `#deposit/${this.number}${this.at === 0 ? '' : `/at/${this.at}`}`);
+    history.replaceState(history.state, '', `#deposit/${this.number}${this.at === 0 ? '' : `/at/${this.at}`}`);
   }
 
   #fill() {
@@ -139,7 +141,7 @@ function controls(player, view) {
   const toggle = (direction) => (player.direction === direction ? player.pause() : player.play(direction));
   const number = make('input', { id: 'generation', type: 'number', min: 0, max: LAST_GENERATION, inputmode: 'numeric', change: () => player.go(Number(number.value)) });
   const slider = make('input', { id: 'slider', type: 'range', min: 0, max: LAST_GENERATION, 'aria-label': 'Generation', change: () => player.go(Number(slider.value)), input: () => { number.value = slider.value; } });
-  const speed = make('select', { id: 'speed', change: () => { player.speed = Number(speed.value); } }, SPEEDS.map((rate) => make('option', { value: rate, selected: rate === player.speed }, `${rate}/s`)));
+  const speed = make('select', { id: 'speed', change: () => keepSetting('speed', player.speed = Number(speed.value)) }, SPEEDS.map((rate) => make('option', { value: rate, selected: rate === player.speed }, `${rate}/s`)));
   const bar = make('div', { class: 'controls', role: 'group', 'aria-label': 'Generations' },
     button('Generation 0', icon('first'), () => player.go(0), { id: 'first' }), back, button('A generation back', icon('less'), () => player.step(-1), { id: 'step-back' }), play,
     button('A generation on', icon('more'), () => player.step(1), { id: 'step' }), make('span', { class: 'pair' }, make('label', { for: 'generation' }, 'Generation'), number),
@@ -159,12 +161,12 @@ function controls(player, view) {
   };
 }
 
-function keysOf(page, player, view, toggle, number) {
+function keysOf(page, player, view, toggle, next) {
   Object.assign(page.keys, {
     ' ': () => (player.direction === 0 ? toggle(1) : player.pause()), b: () => toggle(-1), ArrowRight: () => player.step(1), ArrowLeft: () => player.step(-1),
     Home: () => player.go(0), End: () => player.go(LAST_GENERATION), '+': () => view.zoom(1), '=': () => view.zoom(1), '-': () => view.zoom(-1), 0: () => view.fit(),
     'shift ArrowLeft': () => view.pan(-0.1, 0), 'shift ArrowRight': () => view.pan(0.1, 0), 'shift ArrowUp': () => view.pan(0, -0.1), 'shift ArrowDown': () => view.pan(0, 0.1),
-    '[': () => { if (number > 1) location.hash = `#deposit/${number - 1}`; }, ']': () => { location.hash = `#deposit/${number + 1}`; },
+    ']': () => { if (next) location.hash = `#deposit/${next.id}`; },
   });
 }
 
@@ -177,9 +179,10 @@ function heading(number, record, member) {
 /** The page of a deposit, at a generation. */
 export async function depositPage(page, given, at = '0') {
   const number = Number(given);
+  page.keys['['] = () => { if (number > 1) location.hash = `#deposit/${number - 1}`; };
   const { record } = await deposit(number, page.signal);
   page.title(record.name ?? `Deposit ${number}`);
-  const row = (await depositsAfter(number - 1, page.signal)).find(({ id }) => id === number);
+  const [row, next] = await depositsAfter(number - 1, page.signal);
   const canvas = make('canvas', { class: 'large', role: 'img', tabindex: 0 });
   const facts = { population: make('span'), box: make('span') };
   const shown = new Shown(number, page);
@@ -203,21 +206,22 @@ export async function depositPage(page, given, at = '0') {
       bar.changed();
       if (player.direction === 0) settled();
     },
-    failed: (error) => said.replaceChildren(refusal(error)),
+    failed: (error) => said.replaceChildren(...[refusal(error), againButton(error, () => player.go(player.wanted))].filter(Boolean)),
   });
   const settled = () => {
     if (shown.at === undefined) return;
     shown.cite();
     page.say(canvas.getAttribute('aria-label'));
   };
+  player.speed = SPEEDS.find((rate) => String(rate) === setting('speed')) ?? player.speed;
   const bar = controls(player, view);
-  keysOf(page, player, view, bar.toggle, number);
+  keysOf(page, player, view, bar.toggle, next);
   const list = [['Cells', [facts.population]], ['Box', [facts.box]], ['Rule', [ruleText(record.rule)]], ...kindParts(number, record, page)];
-  page.root.append(...heading(number, record, row?.member), make('div', { class: 'stage' }, canvas, bar.bar), said,
+  page.root.append(...heading(number, record, row?.member), noteOf(number), make('div', { class: 'stage' }, canvas, bar.bar), said,
     make('dl', { class: 'facts' }, list.map(([term, told]) => make('div', {}, make('dt', {}, term), make('dd', {}, told)))),
     make('div', { class: 'columns' }, ...shown.parts(), censusPart(shown, page)),
     countedIn, make('nav', { class: 'pager', 'aria-label': 'Other deposits' }, number > 1 ? make('a', { href: `#deposit/${number - 1}` }, `← ${counted(number - 1)}`) : null,
-      make('a', { href: `#deposit/${number + 1}` }, `${counted(number + 1)} →`)));
+      next ? make('a', { href: `#deposit/${next.id}` }, `${counted(next.id)} →`) : null));
   await player.show(Math.min(Number(at), LAST_GENERATION));
   view.fit();
   addLater(page, countedIn, censusesSection(page, number));

@@ -4,6 +4,7 @@ import { deposit, depositsAfter, lastDeposit } from './archive.js';
 import { counted, field, isMember, make, many, refusal } from './dom.js';
 import { thumbnail } from './draw.js';
 import { allDeposits, indexHead, indexNote } from './index.js';
+import { keepPlace, place } from './kept.js';
 import { Refused } from './refusals.js';
 
 const SHOWN = 24;
@@ -94,14 +95,17 @@ export function shownRows(page, rows) {
   const list = make('div');
   const more = make('button', { type: 'button', class: 'more' });
   let shown = 0;
-  const show = () => {
-    list.append(cards(page, rows.slice(shown, shown + SHOWN)));
-    shown = Math.min(shown + SHOWN, rows.length);
+  const show = (number) => {
+    list.append(cards(page, rows.slice(shown, shown + number)));
+    shown = Math.min(shown + number, rows.length);
     more.hidden = shown >= rows.length;
     more.textContent = `Show ${counted(Math.min(SHOWN, rows.length - shown))} more of ${counted(rows.length)}`;
   };
-  more.addEventListener('click', show);
-  show();
+  more.addEventListener('click', () => {
+    show(SHOWN);
+    keepPlace({ shown });
+  });
+  show(place().shown ?? SHOWN);
   walk(page);
   return [list, make('p', {}, more)];
 }

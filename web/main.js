@@ -2,25 +2,26 @@
 
 import { censusPage } from './census.js';
 import { depositPage } from './deposit.js';
-import { make, refusal } from './dom.js';
+import { againButton, make, refusal } from './dom.js';
 import { codePage, findPage } from './find.js';
 import { haulPage } from './haul.js';
+import { keepPlace, place } from './kept.js';
 import { deposits, depositsOf } from './list.js';
 import { bring, depositForm } from './new.js';
 import { Refused } from './refusals.js';
 import { censusesPage } from './search.js';
 
 const PAGES = [
-  [/^(?:deposits)?$/, 'deposits', (page) => deposits(page)],
-  [/^deposits\/after\/([0-9]{1,15})$/, 'deposits', deposits],
+  [/^(?:deposits)?$/i, 'deposits', (page) => deposits(page)],
+  [/^deposits\/after\/([0-9]{1,15})$/i, 'deposits', deposits],
   [/^deposits\/of\/([a-z0-9-]{1,32})(?:\/before\/([0-9]{1,15}))?$/i, 'deposits', (page, member, before) => depositsOf(page, member.toLowerCase(), before)],
-  [/^deposit\/([0-9]{1,15})(?:\/at\/([0-9]{1,15}))?$/, 'deposits', depositPage],
-  [/^new$/, 'new', depositForm],
-  [/^find(?:\?(.*))?$/, 'find', findPage],
-  [/^censuses$/, 'find', censusesPage],
-  [/^census\/([0-9]{1,15})$/, 'find', censusPage],
-  [/^haul$/, 'find', haulPage],
-  [/^code\/([^/]+)\/([^/]+)$/, 'find', codePage],
+  [/^deposit\/([0-9]{1,15})(?:\/at\/([0-9]{1,15}))?$/i, 'deposits', depositPage],
+  [/^new$/i, 'new', depositForm],
+  [/^find(?:\?(.*))?$/i, 'find', findPage],
+  [/^censuses$/i, 'find', censusesPage],
+  [/^census\/([0-9]{1,15})$/i, 'find', censusPage],
+  [/^haul$/i, 'find', haulPage],
+  [/^code\/([^/]+)\/([^/]+)$/i, 'find', codePage],
 ];
 
 const main = document.getElementById('main');
@@ -56,15 +57,30 @@ function fail(page, error) {
   const refused = error instanceof Refused ? error : new Refused('unknown');
   if (refused !== error) console.error(error);
   if (!page.root.querySelector('h1')) page.root.append(make('h1', { tabindex: -1 }, 'Not found'));
-  page.root.append(refusal(refused), make('p', {}, make('a', { href: '#deposits' }, 'The newest deposits')));
+  page.root.append(...[refusal(refused), againButton(refused, show)].filter(Boolean), make('p', {}, make('a', { href: '#deposits' }, 'The newest deposits')));
+}
+
+/** How long a page may be without anything to show before it says that it waits, in milliseconds. */
+const WAITING = 400;
+/** How long after the last scroll the place of a page is kept, in milliseconds. */
+const STILL = 100;
+let scrolled = null;
+
+/** Says that a page waits, for who hears it; who sees it has it from the style. */
+function sayWaiting(page) {
+  setTimeout(() => { if (current === page && main.hasAttribute('aria-busy')) page.say('Waiting for the archive…'); }, WAITING);
 }
 
 async function show() {
   const address = location.hash.slice(1);
+  const { scroll = 0 } = place();
+  clearTimeout(scrolled);
   current?.end();
   const page = current = new Page();
   main.replaceChildren(page.root);
   main.setAttribute('aria-busy', 'true');
+  scrollTo(0, 0);
+  sayWaiting(page);
   const [form, part, begin] = PAGES.find(([form]) => form.test(address)) ?? [];
   for (const link of document.querySelectorAll('nav [data-page]')) {
     if (link.dataset.page === part) link.setAttribute('aria-current', 'page');
@@ -79,6 +95,7 @@ async function show() {
   if (current !== page) return;
   main.removeAttribute('aria-busy');
   page.root.querySelector('h1')?.focus({ preventScroll: true });
+  scrollTo(0, scroll);
 }
 
 // ---- keys
@@ -142,5 +159,10 @@ document.addEventListener('paste', (event) => {
 
 document.getElementById('keys-button').addEventListener('click', () => keysDialog.showModal());
 document.getElementById('skip').addEventListener('click', () => main.focus());
+history.scrollRestoration = 'manual';
+addEventListener('scroll', () => {
+  clearTimeout(scrolled);
+  scrolled = setTimeout(() => keepPlace({ scroll: scrollY }), STILL);
+}, { passive: true });
 addEventListener('hashchange', show);
 show();

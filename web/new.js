@@ -1,8 +1,9 @@
 // Depositing: a file is dropped, chosen or pasted, seen, and sent under a member and a token.
 
-import { sendDeposit } from './archive.js';
+import { lastDeposit, sendDeposit } from './archive.js';
 import { counted, field, isMember, isToken, make, many, memberInput, refusal, rememberMember } from './dom.js';
 import { thumbnail } from './draw.js';
+import { draft, keepDraft } from './kept.js';
 import { Refused } from './refusals.js';
 import { Fault, LONGEST, readFile } from './rle.js';
 import { ruleText } from './rule.js';
@@ -18,6 +19,16 @@ let brought = null;
 
 export function bring(files) {
   brought = files;
+}
+
+/** What is said of the deposit that was sent last, on its page. */
+let note = null;
+
+/** The note of a deposit, once; nothing where there is none. */
+export function noteOf(number) {
+  const text = note?.number === number ? note.text : null;
+  note = null;
+  return make('p', { class: 'note', role: 'status' }, text ?? '');
 }
 
 /** The line of a file that has its fault, as far as it can be shown. */
@@ -96,7 +107,10 @@ async function takeFirst(content, files, page) {
 /** The place where a file is dropped, chosen or pasted. */
 function dropPart(content, page) {
   const chooser = make('input', { id: 'file', type: 'file', accept: '.rle,.txt,text/plain', change: () => chooser.files[0] && takeFirst(content, chooser.files, page) });
-  content.text.addEventListener('input', () => content.take(new TextEncoder().encode(content.text.value), false));
+  content.text.addEventListener('input', () => {
+    content.take(new TextEncoder().encode(content.text.value), false);
+    keepDraft('pattern', content.text.value);
+  });
   return make('div', { class: 'drop' }, make('p', {}, make('label', { for: 'file' }, 'Drop a pattern file on this page, or choose it: '), chooser), content.others,
     field('Or paste its text', content.text, 'RLE, as Golly and the LifeWiki have it: at most 1 MiB, in 1024 by 1024.'));
 }
@@ -112,8 +126,12 @@ async function send(content, name, said, page) {
     page.say(said.textContent);
   };
   page.say('Sending…');
+  said.replaceChildren(make('p', { class: 'waiting' }, 'Sending…'));
+  const last = await lastDeposit(page.signal).catch(() => 0);
   const number = await sendDeposit(name.value, content.token.value, content.bytes, waiting, page.signal);
   page.say(`Kept as deposit ${number}.`);
+  keepDraft('pattern', null);
+  note = { number, text: number > last ? 'Deposited.' : 'You had deposited this already: it keeps its number.' };
   location.hash = `#deposit/${number}`;
 }
 
@@ -145,7 +163,9 @@ export function depositForm(page) {
     make('div', {}, dropPart(content, page), field('Member', name, 'Your name here: 1 to 32 of a to z, 0 to 9 and "-".'),
       make('details', {}, make('summary', {}, 'Token'), field('Token', token, 'Made of the file. Sent again under the same token, a file is kept once.')), button, said), preview));
   content.take(new Uint8Array(), true);
+  const typed = draft('pattern');
   if (brought) takeFirst(content, brought, page);
+  else if (typed) content.take(new TextEncoder().encode(typed), true);
   brought = null;
   page.taken = (files) => takeFirst(content, files, page);
 }

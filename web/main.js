@@ -7,7 +7,7 @@ import { codePage, findPage } from './find.js';
 import { haulPage } from './haul.js';
 import { keepPlace, place } from './kept.js';
 import { deposits, depositsOf } from './list.js';
-import { bring, depositForm } from './new.js';
+import { bring, depositForm, patternsOf } from './new.js';
 import { Refused } from './refusals.js';
 import { censusesPage } from './search.js';
 
@@ -136,6 +136,28 @@ function take(files) {
   }
 }
 
+/** The files of an entry of a drop: its own, or those of its folder and the folders in it. */
+async function filesOf(entry, folder = '') {
+  if (entry.isFile) {
+    const file = await new Promise((resolve, reject) => { entry.file(resolve, reject); });
+    return [Object.assign(file, { relativePath: folder + file.name })];
+  }
+  const reader = entry.createReader();
+  const found = [];
+  for (;;) {
+    const entries = await new Promise((resolve, reject) => { reader.readEntries(resolve, reject); });
+    if (entries.length === 0) return patternsOf((await Promise.all(found.map((one) => filesOf(one, `${folder}${entry.name}/`)))).flat());
+    found.push(...entries);
+  }
+}
+
+/** The files of a drop; of a folder its pattern files. */
+async function dropped(data) {
+  const entries = [...data.items].map((item) => item.webkitGetAsEntry?.());
+  if (!entries.some((entry) => entry?.isDirectory)) return [...data.files];
+  return (await Promise.all(entries.filter(Boolean).map((entry) => filesOf(entry)))).flat();
+}
+
 const hasFile = (event) => [...event.dataTransfer.types].includes('Files');
 document.addEventListener('dragover', (event) => {
   if (!hasFile(event)) return;
@@ -147,7 +169,7 @@ document.addEventListener('drop', (event) => {
   if (!hasFile(event)) return;
   event.preventDefault();
   document.body.classList.remove('dragging');
-  if (event.dataTransfer.files[0]) take([...event.dataTransfer.files]);
+  dropped(event.dataTransfer).then((files) => { if (files.length > 0) take(files); });
 });
 document.addEventListener('paste', (event) => {
   if (event.target.matches?.('input, textarea')) return;

@@ -168,14 +168,10 @@ async function send(content, name, said, page) {
   location.hash = `#deposit/${number}`;
 }
 
-export function depositForm(page) {
-  page.title('Deposit a file');
-  const text = make('textarea', { id: 'pattern', rows: 10, spellcheck: 'false', autocapitalize: 'none', autocomplete: 'off', placeholder: 'x = 3, y = 3, rule = B3/S23\nbo$2bo$3o!' });
-  const token = make('input', { id: 'token', maxlength: 64, autocapitalize: 'none', autocomplete: 'off', spellcheck: 'false' });
+/** The fields for one file, and what happens when they are sent. */
+function singlePart(content, token, page) {
   const name = memberInput('member');
-  const preview = make('div', { class: 'preview', 'aria-live': 'polite' });
   const said = make('div');
-  const content = new Content(text, token, preview);
   const button = make('button', { class: 'main', id: 'send' }, 'Deposit');
   const submit = async (event) => {
     event.preventDefault();
@@ -192,31 +188,46 @@ export function depositForm(page) {
       button.disabled = false;
     }
   };
+  const part = make('div', {}, field('Name', content.texts.name, 'A name and an author are written into a file that has none.'), make('p', {}, content.offer),
+    field('Author', content.texts.author), field('Member', name, 'Your name here: 1 to 32 of a to z, 0 to 9 and "-".'),
+    make('details', {}, make('summary', {}, 'Token'), field('Token', token, 'Made of the file. Sent again under the same token, a file is kept once.')), button, said);
+  return { part, submit };
+}
+
+/** The table of many files, which takes the place of the fields for one; answers what takes files. */
+function takerOf(form, single, content, page) {
   const table = new Table(page);
-  const form = make('form', { class: 'deposit', submit },
-    make('div', {}, dropPart(content, (files) => take(files)), field('Name', content.texts.name, 'A name and an author are written into a file that has none.'), make('p', {}, content.offer), field('Author', content.texts.author),
-      field('Member', name, 'Your name here: 1 to 32 of a to z, 0 to 9 and "-".'),
-      make('details', {}, make('summary', {}, 'Token'), field('Token', token, 'Made of the file. Sent again under the same token, a file is kept once.')), button, said), preview);
-  /** One file has the form for itself; several have the table. */
-  const take = (files) => {
-    if (files.length === 0) return null;
-    if (files.length > 1) {
-      form.after(table.root);
-      return table.take(files);
-    }
-    table.root.remove();
-    forgetTable();
-    return takeFile(content, files[0], page);
+  const showTable = (isMany) => {
+    single.hidden = content.preview.hidden = isMany;
+    if (isMany) form.after(table.root);
+    else table.root.remove();
   };
-  page.root.append(make('h1', { tabindex: -1 }, 'Deposit a file'), form);
-  content.take(new Uint8Array(), true);
-  const [typed, kept] = [draft('pattern'), keptTable()];
-  if (brought) take(brought);
-  else if (kept.length > 0) {
+  content.text.addEventListener('input', () => showTable(false));
+  const kept = keptTable();
+  if (kept.length > 0) {
     form.after(table.root);
     table.showKept(kept);
   }
-  if (!brought && typed) content.take(new TextEncoder().encode(typed), true);
+  return (files) => {
+    if (files.length === 0) return null;
+    showTable(files.length > 1);
+    if (files.length > 1) return table.take(files);
+    forgetTable();
+    return takeFile(content, files[0], page);
+  };
+}
+
+export function depositForm(page) {
+  page.title('Deposit a file');
+  const text = make('textarea', { id: 'pattern', rows: 10, spellcheck: 'false', autocapitalize: 'none', autocomplete: 'off', placeholder: 'x = 3, y = 3, rule = B3/S23\nbo$2bo$3o!' });
+  const token = make('input', { id: 'token', maxlength: 64, autocapitalize: 'none', autocomplete: 'off', spellcheck: 'false' });
+  const content = new Content(text, token, make('div', { class: 'preview', 'aria-live': 'polite' }));
+  const { part, submit } = singlePart(content, token, page);
+  const form = make('form', { class: 'deposit', submit }, make('div', {}, dropPart(content, (files) => page.taken(files)), part), content.preview);
+  page.root.append(make('h1', { tabindex: -1 }, 'Deposit a file'), form);
+  page.taken = takerOf(form, part, content, page);
+  const typed = draft('pattern');
+  content.take(brought || !typed ? new Uint8Array() : new TextEncoder().encode(typed), true);
+  if (brought) page.taken(brought);
   brought = null;
-  page.taken = take;
 }

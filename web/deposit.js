@@ -6,6 +6,7 @@ import { controls, keysOf } from './controls.js';
 import { Plot } from './plot.js';
 import { againButton, copyButton, counted, field, isMember, make, many, memberInput, refusal, rememberMember } from './dom.js';
 import { noteOf } from './new.js';
+import { saveSection } from './picture.js';
 import { Player } from './player.js';
 import { Refused } from './refusals.js';
 import { ruleAddress, ruleText } from './rule.js';
@@ -33,9 +34,10 @@ class Shown {
   }
 
   /** Takes the generation that is shown; one that the page made has no bytes, and only its address is known. */
-  take(at, bytes) {
+  take(at, bytes, record) {
     this.at = at;
     if (bytes === null) return;
+    this.whole = { at, record };
     this.bytes = bytes;
     this.address.href = this.url;
     this.address.replaceChildren(this.url);
@@ -160,13 +162,14 @@ class Stage {
   }
 
   /** Shows a generation; `bytes` is null where the page made it. Answers where it was put. */
-  shown(at, { pattern }, bytes, place) {
+  shown(at, record, bytes, place) {
+    const { pattern } = record;
     const put = this.view.show(pattern, place);
     this.bar.at(at);
     this.facts.population.replaceChildren(counted(pattern.population));
     this.facts.box.replaceChildren(`${counted(pattern.width)} by ${counted(pattern.height)}`);
     this.canvas.setAttribute('aria-label', `Generation ${at}: ${many(pattern.population, 'live cell')} in ${pattern.width} by ${pattern.height}`);
-    this.text.take(at, bytes);
+    this.text.take(at, bytes, record);
     this.plot.add(at, pattern.population);
     this.source.replaceChildren(bytes === null ? 'Made in the page, to be compared.' : 'The archive’s own answer.');
     if (bytes !== null) this.said.replaceChildren();
@@ -213,7 +216,7 @@ export async function depositPage(page, given, at = '0') {
   const censuses = make('div');
   page.root.append(...heading(number, record, row?.member), noteOf(number), ...stage.parts(),
     make('dl', { class: 'facts' }, list.map(([term, told]) => make('div', {}, make('dt', {}, term), make('dd', {}, told)))),
-    make('div', { class: 'columns' }, ...text.parts(), censusPart(text, page)),
+    make('div', { class: 'columns' }, ...text.parts(), saveSection(number, record, () => text.whole, page), censusPart(text, page)),
     censuses, make('nav', { class: 'pager', 'aria-label': 'Other deposits' }, number > 1 ? make('a', { href: `#deposit/${number - 1}` }, `← ${counted(number - 1)}`) : null,
       next ? make('a', { href: `#deposit/${next.id}` }, `${counted(next.id)} →`) : null));
   await player.show(Math.min(Number(at), LAST_GENERATION));

@@ -31,6 +31,16 @@ return [size, bitmap.height / size, cells];
 """
 
 
+# The phases of an object as the page has them, cell by cell.
+PHASES = """
+const { phasesOf } = await import('/web/object.js');
+const { readFile } = await import('/web/rle.js');
+const { cellsOf } = await import('/web/pattern.js');
+const { pattern, rule } = readFile(new TextEncoder().encode(words[0]));
+return (await phasesOf(pattern, rule, words[1], new AbortController().signal)).map((phase) => [...cellsOf(phase)]);
+"""
+
+
 def saved(browser, folder, button, name):
     """Presses a button, and answers the bytes of the file that comes."""
     path = os.path.join(folder, DOWNLOADS, name)
@@ -86,4 +96,34 @@ def animations(gateway, browser, base, folder):
     check("one is seen after the other", times[0] == [0, round(1 / 9, 6)] and all(time == [0, round(at / 9, 6), round((at + 1) / 9, 6)] for at, time in enumerate(times) if at))
 
 
-PARTS = [pictures, animations]
+def objects(_gateway, browser, base, folder):
+    """An object is played, its text is the program's, and its phases are those of the rule."""
+    for code, rule, period in (("xq4_153", "B3/S23", 4), ("xs6_696", "B3/S23", 1), ("xp15_4r4z4r4", "B3/S23", 15), ("xp2_7", "B36/S23", 2),
+                               ("xp3_co9nas0san9oczgoldlo0oldlogz1047210127401", "B3/S23", 3)):
+        browser.open(f"{base}/#code/{code}/{rule.replace('/', '-')}")
+        status, wanted, _ = run("object", rule, code, str(period))
+        check(f"the text of {code} is the program's", status == 0 and browser.until(lambda: browser.one("#load-object")) and saved(browser, folder, "#load-object", f"{code}.rle") == wanted)
+        check(f"where {code} may be looked up", browser.one("a[href^='https://catagolue']").get_attribute("href") == f"https://catagolue.hatsya.com/object/{code}/{rule.lower().replace('/', '')}")
+        if period == 1:
+            check(f"{code} has no phases", browser.all("#phases") == [] and browser.all("#play-object") == [])
+            continue
+        browser.one("#phases summary").click()
+        found = [cells for cells in browser.wait_for(PHASES, wanted.decode(), period)]
+        now, phases = reference.read_file(wanted)[4], []
+        for _ in range(period):
+            phases.append(now)
+            now = reference.following(reference.read_rule(rule.encode()), now)
+        left, top = min(x for phase in phases for x, _ in phase), min(y for phase in phases for _, y in phase)
+        check(f"the phases of {code}", [{tuple(cell) for cell in cells} for cells in found] == [{(x - left, y - top) for x, y in phase} for phase in phases]
+              and len(browser.all("#phases canvas")) == period)
+        browser.one("#play-object").click()
+        check(f"{code} is played", browser.until(lambda: "phase" in browser.one(".page > .picture canvas").get_attribute("aria-label")) and browser.text("#play-object") == "Pause")
+    browser.picture("object-phases")
+    browser.screen(320, 780)
+    browser.open(f"{base}/#code/xp3_co9nas0san9oczgoldlo0oldlogz1047210127401/B3-S23")
+    browser.one("#load-object")
+    check("an object fits a phone", browser.run("return document.documentElement.scrollWidth") <= 320 and browser.unnamed() == [])
+    browser.screen()
+
+
+PARTS = [pictures, animations, objects]

@@ -5,6 +5,7 @@ import { limitOf, objectNames, patternOf } from './code.js';
 import { copyButton, field, make, many } from './dom.js';
 import { thumbnail } from './draw.js';
 import { indexHead } from './index.js';
+import { objectParts } from './object.js';
 import { rulePart, ruleAddress, ruleOfAddress } from './rule.js';
 import { addLater, formOf, occurrences, results } from './search.js';
 
@@ -57,11 +58,15 @@ export async function codePage(page, givenCode, givenRule) {
   if (name) page.root.querySelector('h1').append(make('small', {}, ` ${name}`));
   const url = `${location.origin}/#code/${code}/${ruleAddress(plain)}`;
   const command = `life object ${plain} ${code} ${limit}`;
-  page.root.append(thumbnail(patternOf(code), 320, 200, `The object ${code}`),
+  const pattern = patternOf(code);
+  const picture = make('div', { class: 'picture' }, thumbnail(pattern, 320, 200, `The object ${code}`));
+  const parts = make('div');
+  page.root.append(picture,
     make('p', { class: 'total' }, make('strong', {}, many(count, 'time')), ` in all censuses of deposits under ${plain}.`),
     make('section', {}, make('h2', {}, 'Cite'), make('p', { class: 'row' }, make('a', { class: 'address', href: url }, url), copyButton('Copy the address', () => url, page.say))),
-    make('section', {}, make('h2', {}, 'As a pattern file'), make('p', {}, 'The program prints the object that the code names:'),
+    parts, make('section', {}, make('h2', {}, 'At the shell'), make('p', {}, 'The program prints the object that the code names:'),
       make('p', { class: 'row' }, make('code', { class: 'command' }, command), copyButton('Copy', () => command, page.say))));
   page.say(`${code}: ${many(count, 'time')} in all censuses.`);
+  addLater(page, parts, objectParts(pattern, code, code.startsWith('xs') ? 1 : limit, plain, picture, page));
   addLater(page, page.root, occurrences(page, plain, code));
 }

@@ -157,4 +157,59 @@ def kept_places(gateway, browser, base, _folder):
     browser.run("localStorage.removeItem('speed')")
 
 
-PARTS = [waiting, already, neighbours, capitals, last_number, kept_places]
+# The least contrast of the border of what can be used with what is round it (WCAG 2.1, 1.4.11: 3).
+CONTRAST = """
+const channel = (part) => (part <= 0.03928 ? part / 12.92 : ((part + 0.055) / 1.055) ** 2.4);
+const light = (color) => { const [red, green, blue] = color.match(/[0-9.]+/g).slice(0, 3).map((part) => channel(part / 255)); return 0.2126 * red + 0.7152 * green + 0.0722 * blue; };
+const back = light(getComputedStyle(document.documentElement).backgroundColor);
+return [...document.querySelectorAll('main button, main input:not([type=range]):not([type=checkbox]):not([type=file]), main select, main textarea')].filter((one) => one.checkVisibility() && !one.disabled).map((one) => {
+  const style = getComputedStyle(one);
+  const [edge, inside] = [light(style.borderColor), light(style.backgroundColor)];
+  return Math.max(...[back].map((round) => (Math.max(edge, round) + 0.05) / (Math.min(edge, round) + 0.05)));
+}).reduce((least, found) => Math.min(least, found), 99);
+"""
+
+
+def contrasts(_gateway, browser, base, _folder):
+    """Borders of fields and buttons are seen, light and dark."""
+    for scheme in ("light", "dark"):
+        browser.screen(1100, 900, scheme)
+        for address in ("#new", "#find", "#deposit/1"):
+            browser.open(f"{base}/{address}")
+            least = browser.run(CONTRAST)
+            check(f"borders of {address} in {scheme}: {least:.2f}", 3 <= least < 99)
+    browser.screen()
+
+
+SHADES = """
+const { thumbnail } = await import('/web/draw.js');
+const rows = Array.from({ length: 640 }, (_, row) => words[0] === 'half' ? Array.from({ length: 640 }, (_, at) => at) : row % 40 === 0 ? [row, row + 1] : []);
+const canvas = thumbnail({ width: 640, height: 640, population: 1, rows }, 176, 120);
+const pixels = canvas.getContext('2d').getImageData(0, 0, canvas.width, canvas.height).data;
+return [...pixels.filter((_, at) => at % 4 === 0)];
+"""
+
+
+def shaded(_gateway, browser, base, _folder):
+    """A small drawing of a large field is as dark as it has live cells, and a single cell is seen."""
+    browser.screen(1100, 900, "light")
+    browser.open(f"{base}/#find")
+    half, few = browser.wait_for(SHADES, "half"), browser.wait_for(SHADES, "few")
+    dark, white = min(half), max(half)
+    check(f"half of the cells are live: {dark} to {white}", white == 255 and 110 < dark < 175)
+    check(f"single cells are seen: {min(few)}, {sum(shade < 255 for shade in few)}", 150 < min(few) < 230 and sum(shade < 255 for shade in few) == 16)
+
+
+def phone(_gateway, browser, base, _folder):
+    """On a phone the controls take few rows, the head of a census' table is not broken, and there is room beside the canvas to scroll by."""
+    browser.screen(390, 844)
+    browser.open(f"{base}/#deposit/1")
+    beside = browser.run("return innerWidth - document.querySelector('canvas.large').getBoundingClientRect().right")
+    check(f"{beside} pixels beside the canvas", beside >= 32)
+    browser.open(f"{base}/#census/1")
+    heads = browser.run("return [...document.querySelectorAll('.census thead th')].map((head) => head.getClientRects().length === 1 && head.getBoundingClientRect().height < 40)")
+    check("the head of a census", heads == [True, True])
+    browser.screen()
+
+
+PARTS = [waiting, already, neighbours, capitals, last_number, kept_places, contrasts, shaded, phone]

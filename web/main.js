@@ -1,27 +1,41 @@
 // Which page the address names, and the keys. An address names what is shown: `#deposit/7/at/30`, `#census/3`, `#code/xq4_153/B3-S23`.
 
-import { censusPage } from './census.js';
-import { depositPage } from './deposit.js';
 import { againButton, make, refusal } from './dom.js';
-import { codePage, findPage } from './find.js';
-import { haulPage } from './haul.js';
 import { keepPlace, place } from './kept.js';
 import { deposits, depositsOf } from './list.js';
-import { bring, depositForm, patternsOf } from './new.js';
+import { patternsOf } from './names.js';
 import { Refused } from './refusals.js';
-import { censusesPage } from './search.js';
+
+/** How often a module did not come. A browser does not ask again for one that failed under the same address. */
+const failed = {};
+
+/** A module that only some pages want, loaded with the first of them. */
+async function load(name) {
+  try {
+    return await import(`./${name}.js${failed[name] ? `?${failed[name]}` : ''}`);
+  } catch (error) {
+    if (!(error instanceof TypeError)) throw error;
+    failed[name] = (failed[name] ?? 0) + 1;
+    throw Object.assign(new Refused('no-reply'), { isRead: true });
+  }
+}
+
+const later = (name, begin) => async (page, ...given) => {
+  const module = await load(name);
+  if (!page.signal.aborted) await module[begin](page, ...given);
+};
 
 const PAGES = [
   [/^(?:deposits)?$/i, 'deposits', (page) => deposits(page)],
   [/^deposits\/after\/([0-9]{1,15})$/i, 'deposits', deposits],
   [/^deposits\/of\/([a-z0-9-]{1,32})(?:\/before\/([0-9]{1,15}))?$/i, 'deposits', (page, member, before) => depositsOf(page, member.toLowerCase(), before)],
-  [/^deposit\/([0-9]{1,15})(?:\/at\/([0-9]{1,15}))?$/i, 'deposits', depositPage],
-  [/^new$/i, 'new', depositForm],
-  [/^find(?:\?(.*))?$/i, 'find', findPage],
-  [/^censuses$/i, 'find', censusesPage],
-  [/^census\/([0-9]{1,15})$/i, 'find', censusPage],
-  [/^haul$/i, 'find', haulPage],
-  [/^code\/([^/]+)\/([^/]+)$/i, 'find', codePage],
+  [/^deposit\/([0-9]{1,15})(?:\/at\/([0-9]{1,15}))?$/i, 'deposits', later('deposit', 'depositPage')],
+  [/^new$/i, 'new', later('new', 'depositForm')],
+  [/^find(?:\?(.*))?$/i, 'find', later('find', 'findPage')],
+  [/^censuses$/i, 'find', later('search', 'censusesPage')],
+  [/^census\/([0-9]{1,15})$/i, 'find', later('census', 'censusPage')],
+  [/^haul$/i, 'find', later('haul', 'haulPage')],
+  [/^code\/([^/]+)\/([^/]+)$/i, 'find', later('find', 'codePage')],
 ];
 
 const main = document.getElementById('main');
@@ -127,13 +141,18 @@ document.addEventListener('keydown', (event) => {
 
 // ---- files that come on any page
 
-function take(files) {
+async function take(files) {
   if (current?.taken) {
     current.taken(files);
-  } else {
-    bring(files);
-    location.hash = '#new';
+    return;
   }
+  try {
+    (await load('new')).bring(files);
+  } catch (error) {
+    fail(current, error);
+    return;
+  }
+  location.hash = '#new';
 }
 
 /** The files of an entry of a drop: its own, or those of its folder and the folders in it. */

@@ -9,6 +9,9 @@ function oneLine(text) {
   return new TextDecoder().decode(bytesOf(plain).subarray(0, LONGEST_TEXT)).replace(/\ufffd+$/, '').trim();
 }
 
+/** Of the files of a folder those that are pattern files. */
+export const patternsOf = (files) => files.filter(({ name }) => /\.rle$/i.test(name));
+
 /** The name of a file without its folders and its ending: `guns/gosper-gun.rle` has `gosper-gun`. */
 export const baseName = (name) => oneLine(name.split('/').at(-1).replace(/\.(rle|txt)$/i, ''));
 

@@ -5,7 +5,7 @@ import { field, isMember, isToken, make, many, memberInput, refusal, rememberMem
 import { thumbnail } from './draw.js';
 import { draft, keepDraft } from './kept.js';
 import { Table, forgetTable, keptTable } from './many.js';
-import { baseName, withTexts } from './names.js';
+import { baseName, patternsOf, withTexts } from './names.js';
 import { Refused } from './refusals.js';
 import { Fault, LONGEST, readFile } from './rle.js';
 import { ruleText } from './rule.js';
@@ -15,9 +15,6 @@ const WIDTH = 320;
 const HEIGHT = 200;
 /** The number of the fault of a file that is too long. */
 const TOO_LONG = 1;
-
-/** Of the files of a folder those that are pattern files. */
-export const patternsOf = (files) => files.filter(({ name }) => /\.rle$/i.test(name));
 
 /** Files that came by a drop or a paste on another page, which this page then takes. */
 let brought = null;

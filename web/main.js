@@ -9,14 +9,20 @@ import { Refused } from './refusals.js';
 /** How often a module did not come. A browser does not ask again for one that failed under the same address. */
 const failed = {};
 
+/** After which pauses it is asked for again, in milliseconds, as the archive is. */
+const PAUSES = [500, 1000, 2000];
+
 /** A module that only some pages want, loaded with the first of them. */
 async function load(name) {
-  try {
-    return await import(`./${name}.js${failed[name] ? `?${failed[name]}` : ''}`);
-  } catch (error) {
-    if (!(error instanceof TypeError)) throw error;
-    failed[name] = (failed[name] ?? 0) + 1;
-    throw Object.assign(new Refused('no-reply'), { isRead: true });
+  for (let tries = 0; ; tries += 1) {
+    try {
+      return await import(`./${name}.js${failed[name] ? `?${failed[name]}` : ''}`);
+    } catch (error) {
+      if (!(error instanceof TypeError)) throw error;
+      failed[name] = (failed[name] ?? 0) + 1;
+      if (tries === PAUSES.length) throw Object.assign(new Refused('no-reply'), { isRead: true });
+    }
+    await new Promise((resolve) => setTimeout(resolve, PAUSES[tries]));
   }
 }
 

@@ -23,7 +23,7 @@ class Gateway:
     """deploy/try over an archive's file, up to its end."""
 
     def __init__(self, database, first_port, *settings, seconds=120):
-        words = [os.path.join(DEPLOY, "try"), "--seconds", str(seconds), "--first-port", str(first_port), "--program", PROGRAM, "--db", database, *settings]
+        words = [os.path.join(DEPLOY, "try"), "--seconds", str(seconds), "--first-port", str(first_port), "--program", PROGRAM, "--db", database, "--index", "0", *settings]
         self.process = subprocess.Popen(words, stdout=subprocess.PIPE, stderr=subprocess.STDOUT, text=True)
         self.lives, self.folder, self.port, self.life_port = [], None, None, None
         while self.port is None and (line := self.process.stdout.readline()):

@@ -1,6 +1,7 @@
 // Asks the archive over its routes (docs/API.md). What is read is asked again where no reply came; a deposit is sent
 // again with its token; a census is not, since it may be what the archive is held by.
 
+import { indexHead } from './index.js';
 import { Refused, refusalOf } from './refusals.js';
 import { readFile } from './rle.js';
 import { rulePart } from './rule.js';
@@ -127,20 +128,25 @@ export async function total(rule, code, limit, signal) {
 // The greatest number of a deposit that was seen: numbers are never given back.
 let seen = 0;
 
-/** The greatest number of a deposit, 0 where there is none. No route tells it, so it is searched by lists, from one that was seen. */
+/** Where lists are asked for, of which one may be the last: at first far apart, then between the bounds that are known. */
+function probes(low, high) {
+  if (high === Infinity) return [10, 100, 1000, 10_000].map((lists) => low + lists * PAGE);
+  return [1, 2, 3, 4].map((part) => Math.floor(low + (high - low) * part / 5));
+}
+
+/**
+ * The greatest number of a deposit, 0 where there is none. No route tells it: it is looked for by lists, from one that was seen or that the
+ * index has, four at a time.
+ */
 export async function lastDeposit(signal) {
-  let low = seen;
-  let step = PAGE;
+  let low = Math.max(seen, (await indexHead())?.counts.deposits ?? 0);
   let high = Infinity;
-  while (low < high) {
-    const middle = high === Infinity ? low + step - PAGE : Math.floor((low + high) / 2);
-    const rows = await depositsAfter(middle, signal);
-    if (rows.length === 0) {
-      high = middle;
-    } else {
-      low = rows.at(-1).id;
-      high = rows.length < PAGE ? low : high;
-      step *= 2;
+  for (let begins = [low]; low < high; begins = probes(low, high)) {
+    const lists = await Promise.all(begins.map((begin) => depositsAfter(begin, signal)));
+    for (const [at, rows] of lists.entries()) {
+      if (rows.length === 0) high = Math.min(high, begins[at]);
+      else low = Math.max(low, rows.at(-1).id);
+      if (rows.length > 0 && rows.length < PAGE) high = low;
     }
   }
   seen = low;
@@ -151,7 +157,9 @@ const sent = (member, token, body, signal) => ({ method: 'POST', headers: { 'x-m
 
 /** Deposits a file, and answers its number. Where no reply comes it is sent again, always with the same token; `said` hears of it. */
 export async function sendDeposit(member, token, bytes, said, signal) {
-  return parsed(await askAgain('/deposits', sent(member, token, bytes, signal), SEND_PAUSES, said), 'deposit').deposit;
+  const number = parsed(await askAgain('/deposits', sent(member, token, bytes, signal), SEND_PAUSES, said), 'deposit').deposit;
+  seen = Math.max(seen, number);
+  return number;
 }
 
 /** Asks for a census once, and answers its number. */

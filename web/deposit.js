@@ -2,17 +2,19 @@
 
 import { LAST_GENERATION, deposit, depositsAfter, kind, sendCensus } from './archive.js';
 import { objectNames } from './code.js';
-import { copyButton, counted, field, icon, isMember, make, many, memberInput, refusal, rememberMember } from './dom.js';
+import { controls, keysOf } from './controls.js';
+import { Plot } from './plot.js';
+import { againButton, copyButton, counted, field, isMember, make, many, memberInput, refusal, rememberMember } from './dom.js';
+import { noteOf } from './new.js';
+import { saveSection } from './picture.js';
 import { Player } from './player.js';
 import { Refused } from './refusals.js';
 import { ruleAddress, ruleText } from './rule.js';
+import { addLater, censusesSection } from './search.js';
 import { View } from './view.js';
 
-const SPEEDS = [1, 2, 5, 10, 20, 40];
 /** The limit that finds what ash has: a multiple of the common periods. */
 const USUAL_LIMIT = 60;
-
-const button = (label, text, click, more = {}) => make('button', { type: 'button', 'aria-label': label, title: label, click, ...more }, text);
 
 /** What is to be done with the generation that is shown: its address, its text, a census. It is told of each that is shown. */
 class Shown {
@@ -31,8 +33,11 @@ class Shown {
     return `${location.origin}/#deposit/${this.number}${this.at === 0 ? '' : `/at/${this.at}`}`;
   }
 
-  take(at, bytes) {
+  /** Takes the generation that is shown; one that the page made has no bytes, and only its address is known. */
+  take(at, bytes, record) {
     this.at = at;
+    if (bytes === null) return;
+    this.whole = { at, record };
     this.bytes = bytes;
     this.address.href = this.url;
     this.address.replaceChildren(this.url);
@@ -44,7 +49,7 @@ class Shown {
 
   /** The address of the page is that of what is shown. A browser takes few changes a second, so it is not made while it plays. */
   cite() {
-    history.replaceState(null, '', `#deposit/${this.number}${this.at === 0 ? '' : `/at/${this.at}`}`);
+    history.replaceState(history.state, '', `#deposit/${this.number}${this.at === 0 ? '' : `/at/${this.at}`}`);
   }
 
   #fill() {
@@ -74,7 +79,7 @@ function kindText(found, limit) {
 }
 
 /** The kind of the deposit, within a limit that can be asked for anew. */
-function kindParts(number, record, page) {
+function kindParts(number, record, page, periodic) {
   const said = make('span', {}, '…');
   const code = make('span', {}, '…');
   const limit = make('input', { id: 'limit', type: 'number', min: 1, max: LAST_GENERATION, required: true, inputmode: 'numeric' });
@@ -85,12 +90,13 @@ function kindParts(number, record, page) {
     try {
       const found = await kind(number, within, page.signal);
       said.replaceChildren(kindText(found, within));
-      const periodic = !['empty', 'unresolved'].includes(found.kind);
+      const isPeriodic = !['empty', 'unresolved'].includes(found.kind);
+      periodic(isPeriodic ? found.period ?? 1 : null);
       const rule = ruleText(record.rule);
       const name = found.code && rule === 'B3/S23' ? (await objectNames()).get(found.code) : null;
       code.replaceChildren(...(found.code
         ? [make('a', { href: `#code/${found.code}/${ruleAddress(rule)}` }, make('code', {}, found.code)), name ? ` ${name} ` : ' ', copyButton('Copy', () => found.code, page.say)]
-        : [periodic ? 'none: no phase fits in a box of 40 by 40' : 'none']));
+        : [isPeriodic ? 'none: no phase fits in a box of 40 by 40' : 'none']));
     } catch (error) {
       if (page.signal.aborted) return;
       said.replaceChildren(refusal(error));
@@ -131,92 +137,90 @@ function censusPart(shown, page) {
     make('form', { submit: ask }, field('Member', name), field('Longest period', limit, '60 is right for ash. A large one may take long on a large field.'), send), said);
 }
 
-/** The buttons under the canvas. */
-function controls(player, view) {
-  const play = button('Play', icon('play'), () => toggle(1), { class: 'main', id: 'play' });
-  const back = button('Play back', icon('back'), () => toggle(-1), { id: 'back' });
-  const toggle = (direction) => (player.direction === direction ? player.pause() : player.play(direction));
-  const number = make('input', { id: 'generation', type: 'number', min: 0, max: LAST_GENERATION, inputmode: 'numeric', change: () => player.go(Number(number.value)) });
-  const slider = make('input', { id: 'slider', type: 'range', min: 0, max: LAST_GENERATION, 'aria-label': 'Generation', change: () => player.go(Number(slider.value)), input: () => { number.value = slider.value; } });
-  const speed = make('select', { id: 'speed', change: () => { player.speed = Number(speed.value); } }, SPEEDS.map((rate) => make('option', { value: rate, selected: rate === player.speed }, `${rate}/s`)));
-  const bar = make('div', { class: 'controls', role: 'group', 'aria-label': 'Generations' },
-    button('Generation 0', icon('first'), () => player.go(0), { id: 'first' }), back, button('A generation back', icon('less'), () => player.step(-1), { id: 'step-back' }), play,
-    button('A generation on', icon('more'), () => player.step(1), { id: 'step' }), make('span', { class: 'pair' }, make('label', { for: 'generation' }, 'Generation'), number),
-    make('span', { class: 'pair' }, make('label', { for: 'speed' }, 'Speed'), speed),
-    make('span', { class: 'pair' }, button('Zoom out', '−', () => view.zoom(-1), { id: 'zoom-out' }), button('Zoom in', '+', () => view.zoom(1), { id: 'zoom-in' }), button('Show all', 'Fit', () => view.fit(), { id: 'fit' })), slider);
-  return {
-    bar,
-    toggle,
-    at: (at) => { number.value = at; slider.value = at; },
-    changed: () => {
-      for (const [element, direction, label, name] of [[play, 1, 'Play', 'play'], [back, -1, 'Play back', 'back']]) {
-        const playing = player.direction === direction;
-        element.replaceChildren(icon(playing ? 'pause' : name));
-        for (const attribute of ['aria-label', 'title']) element.setAttribute(attribute, playing ? 'Pause' : label);
-      }
-    },
-  };
-}
-
-function keysOf(page, player, view, toggle, number) {
-  Object.assign(page.keys, {
-    ' ': () => (player.direction === 0 ? toggle(1) : player.pause()), b: () => toggle(-1), ArrowRight: () => player.step(1), ArrowLeft: () => player.step(-1),
-    Home: () => player.go(0), End: () => player.go(LAST_GENERATION), '+': () => view.zoom(1), '=': () => view.zoom(1), '-': () => view.zoom(-1), 0: () => view.fit(),
-    'shift ArrowLeft': () => view.pan(-0.1, 0), 'shift ArrowRight': () => view.pan(0.1, 0), 'shift ArrowUp': () => view.pan(0, -0.1), 'shift ArrowDown': () => view.pan(0, 0.1),
-    '[': () => { if (number > 1) location.hash = `#deposit/${number - 1}`; }, ']': () => { location.hash = `#deposit/${number + 1}`; },
-  });
-}
-
 function heading(number, record, member) {
   const texts = record.comments.map((comment) => make('p', { class: 'comment' }, comment));
   const by = [record.author ? `By ${record.author}. ` : null, member ? ['Deposited by ', make('a', { href: `#deposits/of/${member}` }, member), '.'] : null].flat();
   return [make('h1', { tabindex: -1 }, record.name ?? `Deposit ${number}`, record.name ? make('small', {}, ` deposit ${counted(number)}`) : null), make('p', { class: 'by' }, by), ...texts];
 }
 
+/** The canvas of a deposit with what is said of the generation that it shows, and who made it. */
+class Stage {
+  canvas = make('canvas', { class: 'large', role: 'img', tabindex: 0 });
+  facts = { population: make('span'), box: make('span') };
+  said = make('div');
+  doubt = make('div');
+  source = make('span');
+  equal = make('span');
+
+  constructor(number, page) {
+    this.page = page;
+    this.text = new Shown(number, page);
+    this.view = new View(this.canvas, page.signal);
+    this.plot = new Plot((at) => this.player.go(at));
+    this.player = new Player(number, page.signal, this);
+    this.bar = controls(this.player, this.view);
+  }
+
+  /** Shows a generation; `bytes` is null where the page made it. Answers where it was put. */
+  shown(at, record, bytes, place) {
+    const { pattern } = record;
+    const put = this.view.show(pattern, place);
+    this.bar.at(at);
+    this.facts.population.replaceChildren(counted(pattern.population));
+    this.facts.box.replaceChildren(`${counted(pattern.width)} by ${counted(pattern.height)}`);
+    this.canvas.setAttribute('aria-label', `Generation ${at}: ${many(pattern.population, 'live cell')} in ${pattern.width} by ${pattern.height}`);
+    this.text.take(at, bytes, record);
+    this.plot.add(at, pattern.population);
+    this.source.replaceChildren(bytes === null ? 'Made in the page, to be compared.' : 'The archive’s own answer.');
+    if (bytes !== null) this.said.replaceChildren();
+    this.#settle();
+    return put;
+  }
+
+  changed() {
+    this.bar.changed();
+    this.#settle();
+  }
+
+  compared(at, isSame) {
+    if (isSame) this.equal.replaceChildren(`Compared with the archive’s at generation ${counted(at)}: the same.`);
+    else this.doubt.replaceChildren(make('p', { class: 'refusal', role: 'alert' }, `What the page made of generation ${counted(at)} is not what the archive answers. From here on each generation is the archive’s.`));
+  }
+
+  failed(error) {
+    this.said.replaceChildren(...[refusal(error), againButton(error, () => this.player.go(this.player.wanted))].filter(Boolean));
+  }
+
+  #settle() {
+    if (this.player.direction !== 0 || this.text.at === undefined) return;
+    this.text.cite();
+    this.page.say(this.canvas.getAttribute('aria-label'));
+  }
+
+  parts() {
+    return [make('div', { class: 'stage' }, this.canvas, this.bar.bar, make('p', { class: 'source' }, this.source, ' ', this.equal), this.plot.canvas), this.doubt, this.said];
+  }
+}
+
 /** The page of a deposit, at a generation. */
 export async function depositPage(page, given, at = '0') {
   const number = Number(given);
+  page.keys['['] = () => { if (number > 1) location.hash = `#deposit/${number - 1}`; };
   const { record } = await deposit(number, page.signal);
   page.title(record.name ?? `Deposit ${number}`);
-  const row = (await depositsAfter(number - 1, page.signal)).find(({ id }) => id === number);
-  const canvas = make('canvas', { class: 'large', role: 'img', tabindex: 0 });
-  const facts = { population: make('span'), box: make('span') };
-  const shown = new Shown(number, page);
-  const view = new View(canvas, page.signal);
-  const said = make('div');
-  const player = new Player(number, page.signal, {
-    shown: (gen, generation, bytes, place) => {
-      const { pattern } = generation;
-      const put = view.show(pattern, place);
-      bar.at(gen);
-      facts.population.replaceChildren(counted(pattern.population));
-      facts.box.replaceChildren(`${counted(pattern.width)} by ${counted(pattern.height)}`);
-      canvas.setAttribute('aria-label', `Generation ${gen}: ${many(pattern.population, 'live cell')} in ${pattern.width} by ${pattern.height}`);
-      shown.take(gen, bytes);
-      said.replaceChildren();
-      if (player.direction === 0) settled();
-      return put;
-    },
-    changed: () => {
-      bar.changed();
-      if (player.direction === 0) settled();
-    },
-    failed: (error) => said.replaceChildren(refusal(error)),
-  });
-  const settled = () => {
-    if (shown.at === undefined) return;
-    shown.cite();
-    page.say(canvas.getAttribute('aria-label'));
-  };
-  const bar = controls(player, view);
-  keysOf(page, player, view, bar.toggle, number);
-  const list = [['Cells', [facts.population]], ['Box', [facts.box]], ['Rule', [ruleText(record.rule)]], ...kindParts(number, record, page)];
-  page.root.append(...heading(number, record, row?.member), make('div', { class: 'stage' }, canvas, bar.bar), said,
+  const [row, next] = await depositsAfter(number - 1, page.signal);
+  const stage = new Stage(number, page);
+  const { player, view, bar, text, facts } = stage;
+  keysOf(page, player, view, bar.toggle, next);
+  const list = [['Cells', [facts.population]], ['Box', [facts.box]], ['Rule', [ruleText(record.rule)]], ...kindParts(number, record, page, bar.periodic)];
+  const censuses = make('div');
+  page.root.append(...heading(number, record, row?.member), noteOf(number), ...stage.parts(),
     make('dl', { class: 'facts' }, list.map(([term, told]) => make('div', {}, make('dt', {}, term), make('dd', {}, told)))),
-    make('div', { class: 'columns' }, ...shown.parts(), censusPart(shown, page)),
-    make('nav', { class: 'pager', 'aria-label': 'Other deposits' }, number > 1 ? make('a', { href: `#deposit/${number - 1}` }, `← ${counted(number - 1)}`) : null,
-      make('a', { href: `#deposit/${number + 1}` }, `${counted(number + 1)} →`)));
+    make('div', { class: 'columns' }, ...text.parts(), saveSection(number, record, () => text.whole, page), censusPart(text, page)),
+    censuses, make('nav', { class: 'pager', 'aria-label': 'Other deposits' }, number > 1 ? make('a', { href: `#deposit/${number - 1}` }, `← ${counted(number - 1)}`) : null,
+      next ? make('a', { href: `#deposit/${next.id}` }, `${counted(next.id)} →`) : null));
   await player.show(Math.min(Number(at), LAST_GENERATION));
   view.fit();
-  if (Number(at) > LAST_GENERATION) said.replaceChildren(refusal(new Refused('out-of-limit')));
+  addLater(page, censuses, censusesSection(page, number));
+  if (Number(at) > LAST_GENERATION) stage.said.replaceChildren(refusal(new Refused('out-of-limit')));
 }

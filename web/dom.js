@@ -1,5 +1,6 @@
 // Making elements, and what several pages have.
 
+import { keepSetting, setting } from './kept.js';
 import { nameOf, Refused, sentenceOf } from './refusals.js';
 
 /** An element with attributes (a function is a listener, `true` an attribute without a value) and with what is in it. */
@@ -71,20 +72,16 @@ export function copyButton(label, text, say) {
 /** A field for a member's name, with the one that was used last, which this browser alone keeps, if it keeps anything. */
 export function memberInput(id) {
   const input = make('input', { id, name: 'member', required: true, maxlength: 32, autocomplete: 'username', autocapitalize: 'none', spellcheck: 'false' });
-  try {
-    input.value = localStorage.getItem('member') ?? '';
-  } catch {
-    input.value = '';
-  }
+  input.value = setting('member') ?? '';
   return input;
 }
 
-export function rememberMember(name) {
-  try {
-    localStorage.setItem('member', name);
-  } catch {
-    // Then it is typed again.
-  }
+export const rememberMember = (name) => keepSetting('member', name);
+
+/** A button that asks again, where what was asked for may come yet; else nothing. */
+export function againButton(error, again) {
+  const may = error.isRead && ['no-reply', 'unavailable', 'too-many-requests'].includes(error.name);
+  return may ? make('p', {}, make('button', { type: 'button', class: 'again', click: again }, 'Try again')) : null;
 }
 
 const MEMBER = /^[a-z0-9-]{1,32}$/;

@@ -52,6 +52,30 @@ function paintGrid(words, width, height, view, word) {
   }
 }
 
+const FAINTEST = 0.3;
+
+/** A color between two, of which the second has a share. */
+function between(one, other, share) {
+  const part = (shift) => Math.round(((one >>> shift) & 255) * (1 - share) + ((other >>> shift) & 255) * share) << shift;
+  return (0xff000000 | part(16) | part(8) | part(0)) >>> 0;
+}
+
+/** Adds the cells of a run to the pixels of a line of which each shows several, each to its own. */
+function addRun(counts, line, begin, end, view) {
+  for (let column = begin; column < end; column += 1) counts[line + Math.floor((column - view.left) * view.size)] += 1;
+}
+
+/** Draws a pattern of cells smaller than a pixel by the share of live ones in each pixel; a pixel with any live cell is seen. */
+function paintShares(words, width, height, pattern, view, shades) {
+  const counts = new Float32Array(width * height);
+  for (const [row, runs] of pattern.rows.entries()) {
+    const line = Math.floor((row - view.top) * view.size) * width;
+    for (let at = 0; at < runs.length; at += 2) addRun(counts, line, runs[at], runs[at + 1], view);
+  }
+  const cells = 1 / view.size ** 2;
+  for (const [at, count] of counts.entries()) if (count > 0) words[at] = between(shades.dead, shades.live, Math.max(FAINTEST, Math.min(1, count / cells)));
+}
+
 /**
  * Draws a pattern on a canvas. A view has the column and row of the plane at the left and top edge, the size of a cell in pixels, and
  * the place of the pattern's corner.
@@ -64,6 +88,11 @@ export function paint(canvas, pattern, view, shades = colors()) {
   words.fill(shades.dead);
   if (view.grid !== false && view.size >= GRID_FROM) paintGrid(words, width, height, view, shades.grid);
   const gap = view.size >= GAP_FROM ? 1 : 0;
+  if (view.shaded && view.size < 1) {
+    paintShares(words, width, height, pattern, view, shades);
+    context.putImageData(picture, 0, 0);
+    return;
+  }
   for (let row = 0; row < pattern.height; row += 1) {
     const top = Math.floor((row + view.place.row - view.top) * view.size);
     if (top >= height) break;
@@ -91,7 +120,7 @@ export function thumbnail(pattern, width, height, label) {
     const size = sizeFor(pattern.width + 2, pattern.height + 2, canvas.width, canvas.height, 12 * scale);
     const left = pattern.width / 2 - canvas.width / size / 2;
     const top = pattern.height / 2 - canvas.height / size / 2;
-    paint(canvas, pattern, { left, top, size, place: { column: 0, row: 0 }, grid: false });
+    paint(canvas, pattern, { left, top, size, place: { column: 0, row: 0 }, grid: false, shaded: true });
   };
   draw();
   canvas.redraw = draw;

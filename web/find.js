@@ -4,7 +4,10 @@ import { total } from './archive.js';
 import { limitOf, objectNames, patternOf } from './code.js';
 import { copyButton, field, make, many } from './dom.js';
 import { thumbnail } from './draw.js';
+import { indexHead } from './index.js';
+import { objectParts } from './object.js';
 import { rulePart, ruleAddress, ruleOfAddress } from './rule.js';
+import { addLater, formOf, occurrences, results } from './search.js';
 
 function numberForm(id, label, page) {
   const input = make('input', { id, type: 'number', min: 1, required: true, inputmode: 'numeric' });
@@ -27,17 +30,24 @@ function codeForm(code = '', rule = 'B3/S23') {
   return make('form', { class: 'code', submit }, field('Code of an object', codeInput), field('Rule', ruleInput), make('button', { class: 'main' }, 'Look up'));
 }
 
-export function findPage(page) {
-  page.title('Find');
-  page.root.append(make('h1', { tabindex: -1 }, 'Find'), make('div', { class: 'forms' }, numberForm('deposit-number', 'Deposit', 'deposit'), numberForm('census-number', 'Census', 'census')),
+export async function findPage(page, query) {
+  page.title(query ? 'Found' : 'Find');
+  const head = await indexHead();
+  page.root.append(make('h1', { tabindex: -1 }, query ? 'Found' : 'Find'), ...(head ? [formOf(query)] : []));
+  if (query) {
+    await results(page, query);
+    return;
+  }
+  page.root.append(make('h2', {}, 'By number'), make('div', { class: 'forms' }, numberForm('deposit-number', 'Deposit', 'deposit'), numberForm('census-number', 'Census', 'census')),
     make('h2', {}, 'An object'), codeForm(),
     make('p', { class: 'hint' }, 'A code names one object of a rule: a still life (xs), an oscillator (xp) or a spaceship (xq), wherever it stands and however it is turned.'),
     make('h2', {}, 'A haul'), make('p', {}, 'The objects of random soups, as ', make('code', {}, 'life-haul'), ' counts them: ', make('a', { href: '#haul' }, 'show a table'), '.'));
+  if (head) page.root.append(make('h2', {}, 'Lists'), make('p', { class: 'row' }, make('a', { href: '#censuses' }, 'All censuses'), make('a', { href: '/index/feed.xml' }, 'New deposits as a feed')));
 }
 
 /** An object by its code: the archive tells the total of a code that it can open, and refuses any other. */
 export async function codePage(page, givenCode, givenRule) {
-  const code = decodeURIComponent(givenCode);
+  const code = decodeURIComponent(givenCode).toLowerCase();
   const rule = ruleOfAddress(decodeURIComponent(givenRule));
   page.title(code);
   page.root.append(make('h1', { tabindex: -1 }, make('code', {}, code)), codeForm(code, rule));
@@ -48,10 +58,15 @@ export async function codePage(page, givenCode, givenRule) {
   if (name) page.root.querySelector('h1').append(make('small', {}, ` ${name}`));
   const url = `${location.origin}/#code/${code}/${ruleAddress(plain)}`;
   const command = `life object ${plain} ${code} ${limit}`;
-  page.root.append(thumbnail(patternOf(code), 320, 200, `The object ${code}`),
+  const pattern = patternOf(code);
+  const picture = make('div', { class: 'picture' }, thumbnail(pattern, 320, 200, `The object ${code}`));
+  const parts = make('div');
+  page.root.append(picture,
     make('p', { class: 'total' }, make('strong', {}, many(count, 'time')), ` in all censuses of deposits under ${plain}.`),
     make('section', {}, make('h2', {}, 'Cite'), make('p', { class: 'row' }, make('a', { class: 'address', href: url }, url), copyButton('Copy the address', () => url, page.say))),
-    make('section', {}, make('h2', {}, 'As a pattern file'), make('p', {}, 'The program prints the object that the code names:'),
+    parts, make('section', {}, make('h2', {}, 'At the shell'), make('p', {}, 'The program prints the object that the code names:'),
       make('p', { class: 'row' }, make('code', { class: 'command' }, command), copyButton('Copy', () => command, page.say))));
   page.say(`${code}: ${many(count, 'time')} in all censuses.`);
+  addLater(page, parts, objectParts(pattern, code, code.startsWith('xs') ? 1 : limit, plain, picture, page));
+  addLater(page, page.root, occurrences(page, plain, code));
 }

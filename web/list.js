@@ -3,14 +3,16 @@
 import { deposit, depositsAfter, lastDeposit } from './archive.js';
 import { counted, field, isMember, make, many, refusal } from './dom.js';
 import { thumbnail } from './draw.js';
+import { allDeposits, indexHead, indexNote } from './index.js';
+import { keepPlace, place } from './kept.js';
 import { Refused } from './refusals.js';
 
 const SHOWN = 24;
 const WIDTH = 176;
 const HEIGHT = 120;
 const BLOCK = 100;
-/** How many lists are looked through at once for the deposits of a member. */
-const BLOCKS = 40;
+/** How many lists are asked for at once, in looking for the deposits of a member. */
+const TOGETHER = 4;
 
 /** Draws a deposit into its card once it is near the screen, and gives it its name. */
 function drawLater(page) {
@@ -28,7 +30,7 @@ function drawLater(page) {
 
 function card(page, row, watch) {
   const picture = make('div', { class: 'picture' });
-  const name = make('strong', {}, `Deposit ${row.id}`);
+  const name = make('strong', {}, row.name || `Deposit ${row.id}`);
   const facts = [`No. ${row.id}`, row.member, many(row.population, 'cell'), row.rule === 'B3/S23' ? null : row.rule].filter(Boolean).join(' · ');
   const item = make('li', {}, make('a', { href: `#deposit/${row.id}` }, picture, name, make('span', { class: 'facts' }, facts)));
   item.draw = async () => {
@@ -44,7 +46,7 @@ function card(page, row, watch) {
   return item;
 }
 
-function cards(page, rows) {
+export function cards(page, rows) {
   const watch = drawLater(page);
   return make('ul', { class: 'cards' }, rows.map((row) => card(page, row, watch)));
 }
@@ -78,7 +80,7 @@ function pager(page, older, newer) {
 }
 
 /** `j` and `k` go from card to card. */
-function walk(page) {
+export function walk(page) {
   const by = (step) => () => {
     const links = [...page.root.querySelectorAll('.cards a')];
     const at = links.indexOf(document.activeElement);
@@ -86,6 +88,26 @@ function walk(page) {
   };
   page.keys.j = by(1);
   page.keys.k = by(-1);
+}
+
+/** The first of a list of deposits, drawn, and a button that shows more. */
+export function shownRows(page, rows) {
+  const list = make('div');
+  const more = make('button', { type: 'button', class: 'more' });
+  let shown = 0;
+  const show = (number) => {
+    list.append(cards(page, rows.slice(shown, shown + number)));
+    shown = Math.min(shown + number, rows.length);
+    more.hidden = shown >= rows.length;
+    more.textContent = `Show ${counted(Math.min(SHOWN, rows.length - shown))} more of ${counted(rows.length)}`;
+  };
+  more.addEventListener('click', () => {
+    show(SHOWN);
+    keepPlace({ shown });
+  });
+  show(place().shown ?? SHOWN);
+  walk(page);
+  return [list, make('p', {}, more)];
 }
 
 const nothing = () => make('p', { class: 'empty' }, 'There is nothing here yet. ', make('a', { href: '#new' }, 'Deposit a file'), ' and be the first.');
@@ -109,23 +131,44 @@ export async function deposits(page, given) {
   page.say(`${many(rows.length, 'deposit')}, ${first} to ${end}.`);
 }
 
-/** The deposits of a member before a number, the greatest first: found by looking through the lists. */
-export async function depositsOf(page, member, given) {
-  page.title(`Deposits of ${member}`);
-  const said = make('p', { class: 'count' }, 'Looking through the lists…');
-  page.root.append(make('h1', { tabindex: -1 }, `Deposits of ${member}`), forms(page, null, member), said);
-  walk(page);
-  let before = given === undefined ? await lastDeposit(page.signal) + 1 : Number(given);
+/** The deposits after a number, list by list up to the newest one. */
+async function newer(after, signal) {
   const found = [];
-  for (let block = 0; block < BLOCKS && before > 1 && found.length < SHOWN; block += 1) {
-    const after = Math.max(0, before - 1 - BLOCK);
-    const rows = (await depositsAfter(after, page.signal)).filter((row) => row.id < before && row.member === member).reverse();
+  for (;;) {
+    const rows = await depositsAfter(found.at(-1)?.id ?? after, signal);
     found.push(...rows);
-    before = after + 1;
+    if (rows.length < BLOCK) return found;
   }
-  const rows = found.slice(0, SHOWN);
-  const next = found.length > SHOWN ? rows.at(-1).id : before;
-  said.replaceChildren(rows.length === 0 ? `None from number ${counted(before)} on.` : many(rows.length, 'deposit'));
-  page.root.append(cards(page, rows), pager(page, next > 1 ? `#deposits/of/${member}/before/${next}` : null, null));
+}
+
+/** All deposits of a member, the newest first, by the index; those that came after it was made, by the archive's lists. */
+async function indexedOf(head, member, said, signal) {
+  const since = await newer(head.counts.deposits, signal);
+  const all = await allDeposits((number, of) => { if (number < of) said.replaceChildren(`The index is read: ${counted(number)} of ${counted(of)} blocks…`); }, signal);
+  return [...since.reverse(), ...all].filter((row) => row.member === member);
+}
+
+/** The same without an index: all lists are looked through. */
+async function listedOf(member, said, signal) {
+  const found = [];
+  for (let before = await lastDeposit(signal) + 1; before > 1; before -= TOGETHER * BLOCK) {
+    said.replaceChildren(`Looking through the lists: ${many(found.length, 'deposit')} so far, ${counted(before - 1)} to look at…`);
+    const begins = Array.from({ length: TOGETHER }, (_, at) => before - 1 - (at + 1) * BLOCK).filter((begin) => begin > -BLOCK);
+    const lists = await Promise.all(begins.map((begin) => depositsAfter(Math.max(0, begin), signal).then((rows) => rows.filter((row) => row.id <= begin + BLOCK).reverse())));
+    found.push(...lists.flat().filter((row) => row.member === member));
+  }
+  return found;
+}
+
+/** The deposits of a member, the newest first; those before a number where one is given. */
+export async function depositsOf(page, member, before = Infinity) {
+  page.title(`Deposits of ${member}`);
+  const said = make('p', { class: 'count' }, 'Looking…');
+  page.root.append(make('h1', { tabindex: -1 }, `Deposits of ${member}`), forms(page, null, member), said);
+  const head = await indexHead();
+  const all = head ? await indexedOf(head, member, said, page.signal) : await listedOf(member, said, page.signal);
+  const rows = all.filter((row) => row.id < Number(before));
+  said.replaceChildren(rows.length === 0 ? 'None.' : many(rows.length, 'deposit'));
+  page.root.append(...shownRows(page, rows), ...(head ? [indexNote(head)] : []));
   page.say(`${many(rows.length, 'deposit')} of ${member}.`);
 }

@@ -1,24 +1,47 @@
 // Which page the address names, and the keys. An address names what is shown: `#deposit/7/at/30`, `#census/3`, `#code/xq4_153/B3-S23`.
 
-import { censusPage } from './census.js';
-import { depositPage } from './deposit.js';
-import { make, refusal } from './dom.js';
-import { codePage, findPage } from './find.js';
-import { haulPage } from './haul.js';
+import { againButton, make, refusal } from './dom.js';
+import { keepPlace, place } from './kept.js';
 import { deposits, depositsOf } from './list.js';
-import { bring, depositForm } from './new.js';
+import { patternsOf } from './names.js';
 import { Refused } from './refusals.js';
 
+/** How often a module did not come. A browser does not ask again for one that failed under the same address. */
+const failed = {};
+
+/** After which pauses it is asked for again, in milliseconds, as the archive is. */
+const PAUSES = [500, 1000, 2000];
+
+/** A module that only some pages want, loaded with the first of them. */
+async function load(name) {
+  for (let tries = 0; ; tries += 1) {
+    try {
+      return await import(`./${name}.js${failed[name] ? `?${failed[name]}` : ''}`);
+    } catch (error) {
+      if (!(error instanceof TypeError)) throw error;
+      failed[name] = (failed[name] ?? 0) + 1;
+      if (tries === PAUSES.length) throw Object.assign(new Refused('no-reply'), { isRead: true });
+    }
+    await new Promise((resolve) => setTimeout(resolve, PAUSES[tries]));
+  }
+}
+
+const later = (name, begin) => async (page, ...given) => {
+  const module = await load(name);
+  if (!page.signal.aborted) await module[begin](page, ...given);
+};
+
 const PAGES = [
-  [/^(?:deposits)?$/, 'deposits', (page) => deposits(page)],
-  [/^deposits\/after\/([0-9]{1,15})$/, 'deposits', deposits],
-  [/^deposits\/of\/([a-z0-9-]{1,32})(?:\/before\/([0-9]{1,15}))?$/, 'deposits', depositsOf],
-  [/^deposit\/([0-9]{1,15})(?:\/at\/([0-9]{1,15}))?$/, 'deposits', depositPage],
-  [/^new$/, 'new', depositForm],
-  [/^find$/, 'find', findPage],
-  [/^census\/([0-9]{1,15})$/, 'find', censusPage],
-  [/^haul$/, 'find', haulPage],
-  [/^code\/([^/]+)\/([^/]+)$/, 'find', codePage],
+  [/^(?:deposits)?$/i, 'deposits', (page) => deposits(page)],
+  [/^deposits\/after\/([0-9]{1,15})$/i, 'deposits', deposits],
+  [/^deposits\/of\/([a-z0-9-]{1,32})(?:\/before\/([0-9]{1,15}))?$/i, 'deposits', (page, member, before) => depositsOf(page, member.toLowerCase(), before)],
+  [/^deposit\/([0-9]{1,15})(?:\/at\/([0-9]{1,15}))?$/i, 'deposits', later('deposit', 'depositPage')],
+  [/^new$/i, 'new', later('new', 'depositForm')],
+  [/^find(?:\?(.*))?$/i, 'find', later('find', 'findPage')],
+  [/^censuses$/i, 'find', later('search', 'censusesPage')],
+  [/^census\/([0-9]{1,15})$/i, 'find', later('census', 'censusPage')],
+  [/^haul$/i, 'find', later('haul', 'haulPage')],
+  [/^code\/([^/]+)\/([^/]+)$/i, 'find', later('find', 'codePage')],
 ];
 
 const main = document.getElementById('main');
@@ -54,15 +77,30 @@ function fail(page, error) {
   const refused = error instanceof Refused ? error : new Refused('unknown');
   if (refused !== error) console.error(error);
   if (!page.root.querySelector('h1')) page.root.append(make('h1', { tabindex: -1 }, 'Not found'));
-  page.root.append(refusal(refused), make('p', {}, make('a', { href: '#deposits' }, 'The newest deposits')));
+  page.root.append(...[refusal(refused), againButton(refused, show)].filter(Boolean), make('p', {}, make('a', { href: '#deposits' }, 'The newest deposits')));
+}
+
+/** How long a page may be without anything to show before it says that it waits, in milliseconds. */
+const WAITING = 400;
+/** How long after the last scroll the place of a page is kept, in milliseconds. */
+const STILL = 100;
+let scrolled = null;
+
+/** Says that a page waits, for who hears it; who sees it has it from the style. */
+function sayWaiting(page) {
+  setTimeout(() => { if (current === page && main.hasAttribute('aria-busy')) page.say('Waiting for the archive…'); }, WAITING);
 }
 
 async function show() {
   const address = location.hash.slice(1);
+  const { scroll = 0 } = place();
+  clearTimeout(scrolled);
   current?.end();
   const page = current = new Page();
   main.replaceChildren(page.root);
   main.setAttribute('aria-busy', 'true');
+  scrollTo(0, 0);
+  sayWaiting(page);
   const [form, part, begin] = PAGES.find(([form]) => form.test(address)) ?? [];
   for (const link of document.querySelectorAll('nav [data-page]')) {
     if (link.dataset.page === part) link.setAttribute('aria-current', 'page');
@@ -77,6 +115,7 @@ async function show() {
   if (current !== page) return;
   main.removeAttribute('aria-busy');
   page.root.querySelector('h1')?.focus({ preventScroll: true });
+  scrollTo(0, scroll);
 }
 
 // ---- keys
@@ -108,13 +147,40 @@ document.addEventListener('keydown', (event) => {
 
 // ---- files that come on any page
 
-function take(files) {
+async function take(files) {
   if (current?.taken) {
     current.taken(files);
-  } else {
-    bring(files);
-    location.hash = '#new';
+    return;
   }
+  try {
+    (await load('new')).bring(files);
+  } catch (error) {
+    fail(current, error);
+    return;
+  }
+  location.hash = '#new';
+}
+
+/** The files of an entry of a drop: its own, or those of its folder and the folders in it. */
+async function filesOf(entry, folder = '') {
+  if (entry.isFile) {
+    const file = await new Promise((resolve, reject) => { entry.file(resolve, reject); });
+    return [Object.assign(file, { relativePath: folder + file.name })];
+  }
+  const reader = entry.createReader();
+  const found = [];
+  for (;;) {
+    const entries = await new Promise((resolve, reject) => { reader.readEntries(resolve, reject); });
+    if (entries.length === 0) return patternsOf((await Promise.all(found.map((one) => filesOf(one, `${folder}${entry.name}/`)))).flat());
+    found.push(...entries);
+  }
+}
+
+/** The files of a drop; of a folder its pattern files. */
+async function dropped(data) {
+  const entries = [...data.items].map((item) => item.webkitGetAsEntry?.());
+  if (!entries.some((entry) => entry?.isDirectory)) return [...data.files];
+  return (await Promise.all(entries.filter(Boolean).map((entry) => filesOf(entry)))).flat();
 }
 
 const hasFile = (event) => [...event.dataTransfer.types].includes('Files');
@@ -128,7 +194,7 @@ document.addEventListener('drop', (event) => {
   if (!hasFile(event)) return;
   event.preventDefault();
   document.body.classList.remove('dragging');
-  if (event.dataTransfer.files[0]) take([...event.dataTransfer.files]);
+  dropped(event.dataTransfer).then((files) => { if (files.length > 0) take(files); });
 });
 document.addEventListener('paste', (event) => {
   if (event.target.matches?.('input, textarea')) return;
@@ -140,5 +206,10 @@ document.addEventListener('paste', (event) => {
 
 document.getElementById('keys-button').addEventListener('click', () => keysDialog.showModal());
 document.getElementById('skip').addEventListener('click', () => main.focus());
+history.scrollRestoration = 'manual';
+addEventListener('scroll', () => {
+  clearTimeout(scrolled);
+  scrolled = setTimeout(() => keepPlace({ scroll: scrollY }), STILL);
+}, { passive: true });
 addEventListener('hashchange', show);
 show();

@@ -1,8 +1,11 @@
 // Depositing: a file is dropped, chosen or pasted, seen, and sent under a member and a token.
 
-import { sendDeposit } from './archive.js';
-import { counted, field, isMember, isToken, make, many, memberInput, refusal, rememberMember } from './dom.js';
+import { lastDeposit, sendDeposit } from './archive.js';
+import { field, isMember, isToken, make, many, memberInput, refusal, rememberMember } from './dom.js';
 import { thumbnail } from './draw.js';
+import { draft, keepDraft } from './kept.js';
+import { Table, forgetTable, keptTable } from './many.js';
+import { baseName, patternsOf, withTexts } from './names.js';
 import { Refused } from './refusals.js';
 import { Fault, LONGEST, readFile } from './rle.js';
 import { ruleText } from './rule.js';
@@ -20,6 +23,16 @@ export function bring(files) {
   brought = files;
 }
 
+/** What is said of the deposit that was sent last, on its page. */
+let note = null;
+
+/** The note of a deposit, once; nothing where there is none. */
+export function noteOf(number) {
+  const text = note?.number === number ? note.text : null;
+  note = null;
+  return make('p', { class: 'note', role: 'status' }, text ?? '');
+}
+
 /** The line of a file that has its fault, as far as it can be shown. */
 function lineOf(bytes, number) {
   if (number === 0) return null;
@@ -31,21 +44,52 @@ function lineOf(bytes, number) {
 class Content {
   bytes = new Uint8Array();
   fault = null;
+  fileName = '';
 
   constructor(text, token, preview) {
     this.text = text;
     this.token = token;
     this.preview = preview;
-    this.others = make('p', { class: 'others' });
+    this.texts = { name: this.#textInput('text-name', 'no name yet'), author: this.#textInput('text-author', 'no author yet') };
   }
 
-  /** Takes bytes. Their token is their sum, as that of examples/scripts/put-folder: the same file again is the same deposit. */
+  #textInput(id, placeholder) {
+    return make('input', { id, maxlength: 200, autocomplete: 'off', placeholder, input: () => this.#compose() });
+  }
+
+  /** Takes bytes as they came. */
   take(bytes, shown) {
-    this.bytes = bytes;
+    this.own = bytes;
     this.fault = null;
     if (shown) this.text.value = new TextDecoder().decode(bytes);
-    this.token.value = bytes.length === 0 || bytes.length > LONGEST ? '' : sumOf(bytes);
     this.preview.replaceChildren(...this.#seen());
+    this.#offer(shown);
+    this.#compose();
+  }
+
+  /** Fields for a name and an author are there where the file has none. */
+  #offer(isNew) {
+    for (const [name, input] of Object.entries(this.texts)) {
+      const has = this.record?.[name] ?? null;
+      if (isNew || input.disabled || has !== null) input.value = has ?? '';
+      input.disabled = has !== null || !this.record;
+    }
+    const offered = baseName(this.fileName);
+    this.offer.hidden = !offered || this.texts.name.disabled;
+    this.offer.replaceChildren(`Name it “${offered}”`);
+  }
+
+  /** Names the file by its file's name. */
+  offer = make('button', { type: 'button', id: 'offer', hidden: true, click: () => {
+    this.texts.name.value = baseName(this.fileName);
+    this.#compose();
+  } });
+
+  /** What is sent: the bytes as they came, with the texts that were missing. Their token is their sum, as that of examples/scripts/put-folder. */
+  #compose() {
+    const { name, author } = this.texts;
+    this.bytes = this.record ? withTexts(this.own, this.record, name.value, author.value) : this.own;
+    this.token.value = this.bytes.length === 0 || this.bytes.length > LONGEST ? '' : sumOf(this.bytes);
   }
 
   /** Takes a file's fault alone: the file is not read. */
@@ -61,9 +105,10 @@ class Content {
 
   /** How the file is understood here, before the archive has it. */
   #seen() {
-    if (this.bytes.length === 0) return [make('p', { class: 'empty' }, 'The pattern is drawn here.')];
+    this.record = null;
+    if (this.own.length === 0) return [make('p', { class: 'empty' }, 'The pattern is drawn here.')];
     try {
-      const { name, rule, pattern } = readFile(this.bytes);
+      const { name, rule, pattern } = this.record = readFile(this.own);
       const facts = `${name ? `${name}: ` : ''}${many(pattern.population, 'cell')}, ${pattern.width} by ${pattern.height}, ${ruleText(rule)}`;
       return [thumbnail(pattern, WIDTH, HEIGHT, facts), make('p', {}, facts)];
     } catch (error) {
@@ -74,31 +119,30 @@ class Content {
   }
 
   refused(error) {
-    return refusal(error, error.fault && error.fault === this.fault?.number ? lineOf(this.bytes, this.fault.line) : null);
+    return refusal(error, error.fault && error.fault === this.fault?.number ? lineOf(this.own, this.fault.line) : null);
   }
 }
 
-/** What became of several files, of which one is taken; nothing if there is only one. */
-const othersOf = (number) => (number > 1 ? ` Only the first of ${counted(number)} files was taken: ${counted(number - 1)} ${number === 2 ? 'was' : 'were'} not.` : '');
-
-/** Takes the first of some files. A file that is too long is not read, since a large one would hold the page for long. */
-async function takeFirst(content, files, page) {
-  const [file] = files;
-  const name = file.name ?? 'The pasted text';
+/** Takes a file. One that is too long is not read, since a large one would hold the page for long. */
+async function takeFile(content, file, page) {
   const isTooLong = file.size > LONGEST;
+  content.fileName = file.name ?? '';
   if (isTooLong) content.takeFault(new Fault(TOO_LONG));
   else content.take(new Uint8Array(await file.arrayBuffer()), true);
-  const others = othersOf(files.length);
-  content.others.replaceChildren(others.trim());
-  page.say(`${name} is ${isTooLong ? 'too long' : 'here'}.${others}`);
+  page.say(`${file.name ?? 'The pasted text'} is ${isTooLong ? 'too long' : 'here'}.`);
 }
 
-/** The place where a file is dropped, chosen or pasted. */
-function dropPart(content, page) {
-  const chooser = make('input', { id: 'file', type: 'file', accept: '.rle,.txt,text/plain', change: () => chooser.files[0] && takeFirst(content, chooser.files, page) });
-  content.text.addEventListener('input', () => content.take(new TextEncoder().encode(content.text.value), false));
-  return make('div', { class: 'drop' }, make('p', {}, make('label', { for: 'file' }, 'Drop a pattern file on this page, or choose it: '), chooser), content.others,
-    field('Or paste its text', content.text, 'RLE, as Golly and the LifeWiki have it: at most 1 MiB, in 1024 by 1024.'));
+/** The place where files are dropped, chosen or pasted. */
+function dropPart(content, take) {
+  const chooser = make('input', { id: 'file', type: 'file', multiple: true, accept: '.rle,.txt,text/plain', change: () => take([...chooser.files]) });
+  const folder = make('input', { id: 'folder', type: 'file', webkitdirectory: true, change: () => take(patternsOf([...folder.files])) });
+  content.text.addEventListener('input', () => {
+    content.take(new TextEncoder().encode(content.text.value), false);
+    keepDraft('pattern', content.text.value);
+  });
+  return make('div', { class: 'drop' }, make('p', {}, make('label', { for: 'file' }, 'Drop files or a folder on this page, or choose files: '), chooser),
+    make('p', {}, make('label', { for: 'folder' }, 'A folder: '), folder),
+    field('Or paste a file’s text', content.text, 'RLE, as Golly and the LifeWiki have it: at most 1 MiB, in 1024 by 1024.'));
 }
 
 /** Sends the content, and goes to the deposit that it is then. */
@@ -112,19 +156,19 @@ async function send(content, name, said, page) {
     page.say(said.textContent);
   };
   page.say('Sending…');
+  said.replaceChildren(make('p', { class: 'waiting' }, 'Sending…'));
+  const last = await lastDeposit(page.signal).catch(() => 0);
   const number = await sendDeposit(name.value, content.token.value, content.bytes, waiting, page.signal);
   page.say(`Kept as deposit ${number}.`);
+  keepDraft('pattern', null);
+  note = { number, text: number > last ? 'Deposited.' : 'You had deposited this already: it keeps its number.' };
   location.hash = `#deposit/${number}`;
 }
 
-export function depositForm(page) {
-  page.title('Deposit a file');
-  const text = make('textarea', { id: 'pattern', rows: 10, spellcheck: 'false', autocapitalize: 'none', autocomplete: 'off', placeholder: 'x = 3, y = 3, rule = B3/S23\nbo$2bo$3o!' });
-  const token = make('input', { id: 'token', maxlength: 64, autocapitalize: 'none', autocomplete: 'off', spellcheck: 'false' });
+/** The fields for one file, and what happens when they are sent. */
+function singlePart(content, token, page) {
   const name = memberInput('member');
-  const preview = make('div', { class: 'preview', 'aria-live': 'polite' });
   const said = make('div');
-  const content = new Content(text, token, preview);
   const button = make('button', { class: 'main', id: 'send' }, 'Deposit');
   const submit = async (event) => {
     event.preventDefault();
@@ -141,11 +185,46 @@ export function depositForm(page) {
       button.disabled = false;
     }
   };
-  page.root.append(make('h1', { tabindex: -1 }, 'Deposit a file'), make('form', { class: 'deposit', submit },
-    make('div', {}, dropPart(content, page), field('Member', name, 'Your name here: 1 to 32 of a to z, 0 to 9 and "-".'),
-      make('details', {}, make('summary', {}, 'Token'), field('Token', token, 'Made of the file. Sent again under the same token, a file is kept once.')), button, said), preview));
-  content.take(new Uint8Array(), true);
-  if (brought) takeFirst(content, brought, page);
+  const part = make('div', {}, field('Name', content.texts.name, 'A name and an author are written into a file that has none.'), make('p', {}, content.offer),
+    field('Author', content.texts.author), field('Member', name, 'Your name here: 1 to 32 of a to z, 0 to 9 and "-".'),
+    make('details', {}, make('summary', {}, 'Token'), field('Token', token, 'Made of the file. Sent again under the same token, a file is kept once.')), button, said);
+  return { part, submit };
+}
+
+/** The table of many files, which takes the place of the fields for one; answers what takes files. */
+function takerOf(form, single, content, page) {
+  const table = new Table(page);
+  const showTable = (isMany) => {
+    single.hidden = content.preview.hidden = isMany;
+    if (isMany) form.after(table.root);
+    else table.root.remove();
+  };
+  content.text.addEventListener('input', () => showTable(false));
+  const kept = keptTable();
+  if (kept.length > 0) {
+    form.after(table.root);
+    table.showKept(kept);
+  }
+  return (files) => {
+    if (files.length === 0) return null;
+    showTable(files.length > 1);
+    if (files.length > 1) return table.take(files);
+    forgetTable();
+    return takeFile(content, files[0], page);
+  };
+}
+
+export function depositForm(page) {
+  page.title('Deposit a file');
+  const text = make('textarea', { id: 'pattern', rows: 10, spellcheck: 'false', autocapitalize: 'none', autocomplete: 'off', placeholder: 'x = 3, y = 3, rule = B3/S23\nbo$2bo$3o!' });
+  const token = make('input', { id: 'token', maxlength: 64, autocapitalize: 'none', autocomplete: 'off', spellcheck: 'false' });
+  const content = new Content(text, token, make('div', { class: 'preview', 'aria-live': 'polite' }));
+  const { part, submit } = singlePart(content, token, page);
+  const form = make('form', { class: 'deposit', submit }, make('div', {}, dropPart(content, (files) => page.taken(files)), part), content.preview);
+  page.root.append(make('h1', { tabindex: -1 }, 'Deposit a file'), form);
+  page.taken = takerOf(form, part, content, page);
+  const typed = draft('pattern');
+  content.take(brought || !typed ? new Uint8Array() : new TextEncoder().encode(typed), true);
+  if (brought) page.taken(brought);
   brought = null;
-  page.taken = (files) => takeFirst(content, files, page);
 }

@@ -1,10 +1,15 @@
-// Playing a deposit generation by generation, as the archive answers each. Those that come next are asked ahead.
+// Playing a deposit. What is shown at rest is the archive's own answer. While it plays the page makes the generations by itself (maker.js):
+// each hundredth, and the one at which it stops, is compared with the archive's.
 
 import { LAST_GENERATION, generation } from './archive.js';
+import { Maker, isSame } from './maker.js';
 import { nextCorner } from './pattern.js';
 
 const TOGETHER = 3;
 const KEPT = 160;
+const COMPARED_EACH = 100;
+/** How far a leap may be of which the place is made out by steps. */
+const NEAR = 256;
 
 export class Player {
   #known = new Map();
@@ -18,17 +23,23 @@ export class Player {
   direction = 0;
   /** Generations a second. */
   speed = 10;
+  /** The generation at which the pattern is back, if it is known, and whether playing then begins anew. */
+  period = null;
+  isLoop = false;
+  /** The generation at which playing stops. */
+  until = LAST_GENERATION;
+  #maker = null;
+  #isDoubted = false;
 
   /**
-   * `shown(at, record, bytes, place)` is called for each generation that is shown, and answers where it was put; `place` is null where
-   * it isn't known. `changed()` is called as playing begins and ends, `failed(error)` where a generation did not come.
+   * Tells `told`: `shown(at, record, bytes, place)` is called for each generation that is shown, and answers where it was put; `place` is null where
+   * it isn't known, and `bytes` where the page made it. `changed()` is called as playing begins and ends, `failed(error)` where a generation
+   * did not come, `compared(at, isSame)` after a comparison.
    */
-  constructor(deposit, signal, { shown, changed, failed }) {
+  constructor(deposit, signal, told) {
     this.deposit = deposit;
     this.signal = signal;
-    this.shown = shown;
-    this.changed = changed;
-    this.failed = failed;
+    this.told = told;
     signal.addEventListener('abort', () => this.#stop());
   }
 
@@ -78,19 +89,104 @@ export class Player {
     try {
       const { record, bytes } = await this.#fetch(at);
       if (this.wanted !== at || this.signal.aborted) return false;
-      const place = this.#placeOf(at);
+      const place = this.#placeOf(at) ?? await this.#madePlace(at);
+      if (this.wanted !== at || this.signal.aborted) return false;
       if (place === null) this.#places.clear();
+      this.#compare(at, record.pattern);
       this.at = at;
-      this.#places.set(at, this.shown(at, record, bytes, place));
+      this.#places.set(at, this.told.shown(at, record, bytes, place));
       this.#ahead();
       return true;
     } catch (error) {
       if (!this.signal.aborted) {
         this.pause();
-        this.failed(error);
+        this.told.failed(error);
       }
       return false;
     }
+  }
+
+  /** What makes generations in the page; null where it can't, or where it was found to be wrong. */
+  async #making() {
+    if (this.#isDoubted || this.#maker?.ended) return null;
+    try {
+      this.#maker ??= new Maker((await this.#fetch(0)).record, LAST_GENERATION, this.signal);
+      return this.#maker;
+    } catch {
+      this.#isDoubted = true;
+      return null;
+    }
+  }
+
+  /** Where a generation is, by the steps between it and the one that is shown; null where these are too many. */
+  async #madePlace(at) {
+    const shown = this.#places.get(this.at);
+    if (!shown || Math.abs(at - this.at) > NEAR) return null;
+    try {
+      const maker = await this.#making();
+      const [there, here] = maker ? [(await maker.get(this.at)).corner, (await maker.get(at)).corner] : [];
+      return here ? { column: shown.column + here.column - there.column, row: shown.row + here.row - there.row } : null;
+    } catch {
+      return null;
+    }
+  }
+
+  /** Compares what the page made of a generation with the archive's answer, if it made it. */
+  #compare(at, own) {
+    const made = this.#shownMade?.at === at ? this.#shownMade.pattern : null;
+    if (!made) return;
+    const good = isSame(made, own);
+    this.#isDoubted ||= !good;
+    this.told.compared(at, good);
+    if (!good) this.#maker.end();
+  }
+
+  #shownMade = null;
+
+  /** Shows a generation that the page makes; answers whether it did. */
+  async #showMade(at) {
+    const maker = await this.#making();
+    if (!maker) return this.show(at);
+    const from = this.at;
+    const turn = this.#timer;
+    this.wanted = at;
+    try {
+      const before = (await maker.get(from, this.direction)).corner;
+      const { pattern, corner } = await maker.get(at, this.direction);
+      if (this.wanted !== at || this.#timer !== turn || this.signal.aborted) return false;
+      const place = this.#places.get(from);
+      this.at = at;
+      this.#shownMade = { at, pattern };
+      const put = this.told.shown(at, { pattern }, null, place ? { column: place.column + corner.column - before.column, row: place.row + corner.row - before.row } : null);
+      this.#places.clear();
+      this.#places.set(at, put);
+      if (at % COMPARED_EACH === 0) this.#check(at, pattern);
+      return true;
+    } catch {
+      return this.signal.aborted ? false : this.show(at);
+    }
+  }
+
+  /** Asks for a generation beside the play, and compares it. A reply that stays away is met again where it stops. */
+  async #check(at, made) {
+    try {
+      const { record } = await this.#fetch(at);
+      const good = isSame(made, record.pattern);
+      this.told.compared(at, good);
+      if (good) return;
+      this.#isDoubted = true;
+      this.#maker.end();
+      this.go(at);
+    } catch {
+      // As above.
+    }
+  }
+
+  /** Plays to a generation, and stops. */
+  runTo(at) {
+    if (at <= this.at) return;
+    this.play(1);
+    this.until = Math.min(at, LAST_GENERATION);
   }
 
   /** Goes to a generation, and stops. */
@@ -107,18 +203,20 @@ export class Player {
   play(direction) {
     this.#stop();
     this.direction = direction;
-    this.changed();
+    this.until = LAST_GENERATION;
+    this.told.changed();
     this.#next(performance.now());
   }
 
   async #next(due) {
     const turn = this.#timer = {};
-    const at = this.at + this.direction;
-    if (at < 0 || at > LAST_GENERATION) {
+    let at = this.at + this.direction;
+    if (this.isLoop && this.period && this.direction > 0) at = (at - 1) % this.period + 1;
+    if (at < 0 || at > this.until) {
       this.pause();
       return;
     }
-    const done = await this.show(at);
+    const done = await this.#showMade(at);
     if (!done || this.#timer !== turn) return;
     // What came late is not made up for.
     const next = Math.max(due + 1000 / this.speed, performance.now());
@@ -133,6 +231,9 @@ export class Player {
   pause() {
     const played = this.direction !== 0;
     this.#stop();
-    if (played) this.changed();
+    if (!played) return;
+    this.told.changed();
+    // Where it stops is the archive's own answer.
+    if (this.#shownMade?.at === this.at) this.show(this.at);
   }
 }

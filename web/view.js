@@ -12,6 +12,7 @@ export class View {
   #size = 1;
   #asked = false;
   #pointers = new Map();
+  #grid = true;
   /** Whether the whole pattern is kept in sight; a hand that moves or zooms ends it. */
   following = true;
 
@@ -60,7 +61,7 @@ export class View {
     this.#asked = true;
     requestAnimationFrame(() => {
       this.#asked = false;
-      paint(this.canvas, this.#pattern, { left: this.#left, top: this.#top, size: this.#size, place: this.#place });
+      paint(this.canvas, this.#pattern, { left: this.#left, top: this.#top, size: this.#size, place: this.#place, grid: this.#grid });
     });
   }
 
@@ -83,6 +84,11 @@ export class View {
     if (width === 0 || inside) return;
     if (width + 2 > wide || height + 2 > high) this.#size = sizeFor(width + 2, height + 2, this.canvas.width, this.canvas.height, this.#size);
     this.#look({ column: column + width / 2, row: row + height / 2 });
+  }
+
+  showGrid(is) {
+    this.#grid = is;
+    this.#draw();
   }
 
   /** Shows the whole pattern, and follows it from now on. */

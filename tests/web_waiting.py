@@ -1,0 +1,215 @@
+"""The parts of tests/web on waiting and going on: what is seen while a reply stays away, asking again, and what a browser keeps.
+"""
+import time
+
+from browser import Relay
+from clients import check
+from pages import kept
+
+VISIBLE = "const style = getComputedStyle(document.querySelector('.page'), '::after'); return style.content.includes('Waiting') && style.visibility === 'visible'"
+# A list may be two seconds old.
+OLD = 2.1
+KEYS = {"older": "[", "newer": "]"}
+
+
+def waiting(gateway, browser, _base, _folder):
+    """A page that waits says so, for who sees it and who hears it; a read without a reply can be tried again, and then shows the page."""
+    relay = Relay(gateway.port)
+    try:
+        browser.open(f"http://127.0.0.1:{relay.port}/#find")
+        check("a page that is there does not wait", not browser.run(VISIBLE))
+        for address, heading in (("#deposits", "Deposits"), ("#deposit/1", "deposit 1"), ("#census/1", "Census 1")):
+            relay.away = True
+            browser.run("location.hash = arguments[0]", address)
+            check(f"waiting for {address} is seen", browser.until(lambda: browser.run(VISIBLE)))
+            check(f"waiting for {address} is heard", browser.until(lambda: browser.text("#status") == "Waiting for the archive…"))
+            check(f"no reply to {address} is told", browser.until(lambda: browser.text(".refusal")) and browser.settled() and not browser.run(VISIBLE))
+            relay.away = False
+            browser.one(".again").click()
+            check(f"{address} once more", browser.until(lambda: heading in browser.text("h1") and not browser.all(".refusal")) and browser.settled())
+            browser.run("location.hash = '#find'")
+            browser.at("#find")
+        # A generation that does not come.
+        browser.run("location.hash = '#deposit/1'")
+        browser.until(lambda: browser.all("canvas.large")) and browser.settled()
+        relay.away = True
+        browser.type("#generation", "777\ue007")
+        again = browser.until(lambda: browser.all(".again"))
+        relay.away = False
+        if again:
+            again[0].click()
+        check("a generation is asked for again", bool(again) and browser.at("#deposit/1/at/777") and browser.until(lambda: browser.all(".again") == []))
+        browser.open(f"http://127.0.0.1:{relay.port}/#deposit/4000")
+        check("what is not there is not tried again", browser.until(lambda: browser.text(".refusal")) and browser.all(".again") == [])
+    finally:
+        relay.end()
+
+
+def already(_gateway, browser, base, _folder):
+    """A deposit that was there already says so, and one that is new does not."""
+    for said in ("Deposited.", "You had deposited this already: it keeps its number."):
+        browser.open(f"{base}/#new")
+        browser.type("#pattern", "#N Told\nx = 7, y = 1\n7o!")
+        browser.type("#member", "ann")
+        browser.one("#send").click()
+        time.sleep(OLD)
+        check(f"it is told: {said}", browser.until(lambda: browser.text("h1").startswith("Told ")) and browser.text(".note") == said)
+    browser.driver.refresh()
+    browser.settled()
+    check("it is told once", browser.until(lambda: browser.text("h1").startswith("Told ")) and browser.text(".note") == "")
+
+
+def neighbours(gateway, browser, base, _folder):
+    """A deposit leads to the next one only if there is one, and from a number that is not there one goes back."""
+    last = kept(gateway, "last", b"#N Last\nx = 1, y = 2\no$o!\n")
+    time.sleep(OLD)
+    links = "return [...document.querySelectorAll('.pager a')].map((link) => link.getAttribute('href'))"
+    browser.open(f"{base}/#deposit/{last}")
+    check("the newest has none after it", browser.run(links) == [f"#deposit/{last - 1}"])
+    browser.press(KEYS["newer"])
+    browser.press(KEYS["older"])
+    check("its key leads nowhere", browser.at(f"#deposit/{last - 1}") and browser.until(lambda: browser.run(links) == [f"#deposit/{last - 2}", f"#deposit/{last}"]))
+    browser.open(f"{base}/#deposit/{last + 1}")
+    browser.until(lambda: browser.text(".refusal"))
+    browser.press(KEYS["older"])
+    check("back from a number that is not there", browser.at(f"#deposit/{last}"))
+
+
+def capitals(_gateway, browser, base, _folder):
+    """Addresses are taken in capitals, too."""
+    for address, wanted in (("#DEPOSIT/1", "deposit 1"), ("#code/XQ4_153/b3-s23", "xq4_153 glider"), ("#deposits/of/ANN", "Deposits of ann"), ("#New", "Deposit a file")):
+        browser.open(f"{base}/{address}")
+        check(f"the address {address}", wanted in browser.text("h1") and browser.all(".refusal") == [])
+
+
+# Asks for the last number of an archive of so many, which takes its time, and counts the requests, those at once and the turns.
+LAST = """
+const { lastDeposit } = await import(`/web/archive.js?${words[0]}`);
+const whole = window.fetch;
+const seen = { requests: 0, now: 0, most: 0 };
+window.fetch = async (path, options) => {
+  const found = /\\/deposits\\/after\\/([0-9]+)/.exec(path);
+  if (!found) return whole(path, options);
+  seen.requests += 1;
+  seen.now += 1;
+  seen.most = Math.max(seen.most, seen.now);
+  await new Promise((resolve) => setTimeout(resolve, 20));
+  seen.now -= 1;
+  const deposits = [];
+  for (let id = Number(found[1]) + 1; id <= words[0] && deposits.length < 100; id += 1) deposits.push({ id });
+  return new Response(JSON.stringify({ deposits }), { status: 200 });
+};
+const begun = performance.now();
+try {
+  const last = await lastDeposit(new AbortController().signal);
+  return [last, seen.requests, seen.most, performance.now() - begun];
+} finally {
+  window.fetch = whole;
+}
+"""
+
+
+def last_number(_gateway, browser, base, _folder):
+    """The newest number is looked for by four lists at a time: few turns, also in a large archive."""
+    browser.open(f"{base}/#find")
+    for number in (0, 1, 99, 100, 101, 1099, 1100, 43_557, 999_999):
+        found, requests, most, took = browser.wait_for(LAST, number)
+        check(f"the last of {number} is {found} by {requests} requests in {took:.0f} ms", found == number and most <= 4 and requests <= 40 and took < 800)
+    check("four are asked at once", most == 4)
+
+
+def kept_places(gateway, browser, base, _folder):
+    """Back and reload find the place in a list, a text that is half typed, and the speed."""
+    for turn in range(30):
+        kept(gateway, f"place-{turn}", f"#N Place {turn}\nx = 1, y = 1\n{turn + 100}o!".encode())
+    browser.screen(700, 500)
+    browser.open(f"{base}/#deposits/after/3")
+    browser.run("scrollTo(0, 420)")
+    browser.until(lambda: browser.run("return history.state?.scroll === 420"))
+    browser.run("document.querySelectorAll('.cards a')[9].click()")
+    browser.until(lambda: browser.all("canvas.large"))
+    browser.settled()
+    check("another page begins at its top", browser.run("return scrollY") == 0)
+    browser.driver.back()
+    check("back finds the place in the list", browser.until(lambda: browser.run("return !!document.querySelector('.cards') && scrollY") == 420))
+    browser.driver.refresh()
+    check("reload finds it, too", browser.until(lambda: browser.run("return !!document.querySelector('.cards') && scrollY") == 420))
+    browser.screen()
+    text = "#N Half\nx = 3, y = 1\n3"
+    browser.open(f"{base}/#new")
+    browser.type("#pattern", text)
+    browser.run("location.hash = '#find'")
+    browser.at("#find")
+    browser.driver.back()
+    check("back finds what was typed", browser.until(lambda: browser.run("return document.getElementById('pattern')?.value") == text))
+    browser.driver.refresh()
+    check("reload finds what was typed", browser.until(lambda: browser.run("return document.getElementById('pattern')?.value") == text))
+    browser.one("#pattern").send_keys("o!")
+    browser.type("#member", "ann")
+    browser.one("#send").click()
+    browser.until(lambda: browser.text("h1").startswith("Half "))
+    browser.open(f"{base}/#new")
+    check("nothing of it is left after it is deposited", browser.run("return document.getElementById('pattern').value") == "")
+    browser.open(f"{base}/#deposit/1")
+    browser.run("const speed = document.getElementById('speed'); speed.value = '2'; speed.dispatchEvent(new Event('change'))")
+    browser.open(f"{base}/#deposit/2")
+    check("the speed is kept", browser.run("return document.getElementById('speed').value") == "2")
+    browser.run("localStorage.removeItem('speed')")
+
+
+# The least contrast of the border of what can be used with what is round it (WCAG 2.1, 1.4.11: 3).
+CONTRAST = """
+const channel = (part) => (part <= 0.03928 ? part / 12.92 : ((part + 0.055) / 1.055) ** 2.4);
+const light = (color) => { const [red, green, blue] = color.match(/[0-9.]+/g).slice(0, 3).map((part) => channel(part / 255)); return 0.2126 * red + 0.7152 * green + 0.0722 * blue; };
+const back = light(getComputedStyle(document.documentElement).backgroundColor);
+return [...document.querySelectorAll('main button, main input:not([type=range]):not([type=checkbox]):not([type=file]), main select, main textarea')].filter((one) => one.checkVisibility() && !one.disabled).map((one) => {
+  const style = getComputedStyle(one);
+  const [edge, inside] = [light(style.borderColor), light(style.backgroundColor)];
+  return Math.max(...[back].map((round) => (Math.max(edge, round) + 0.05) / (Math.min(edge, round) + 0.05)));
+}).reduce((least, found) => Math.min(least, found), 99);
+"""
+
+
+def contrasts(_gateway, browser, base, _folder):
+    """Borders of fields and buttons are seen, light and dark."""
+    for scheme in ("light", "dark"):
+        browser.screen(1100, 900, scheme)
+        for address in ("#new", "#find", "#deposit/1"):
+            browser.open(f"{base}/{address}")
+            least = browser.run(CONTRAST)
+            check(f"borders of {address} in {scheme}: {least:.2f}", 3 <= least < 99)
+    browser.screen()
+
+
+SHADES = """
+const { thumbnail } = await import('/web/draw.js');
+const rows = Array.from({ length: 640 }, (_, row) => words[0] === 'half' ? Array.from({ length: 640 }, (_, at) => at) : row % 40 === 0 ? [row, row + 1] : []);
+const canvas = thumbnail({ width: 640, height: 640, population: 1, rows }, 176, 120);
+const pixels = canvas.getContext('2d').getImageData(0, 0, canvas.width, canvas.height).data;
+return [...pixels.filter((_, at) => at % 4 === 0)];
+"""
+
+
+def shaded(_gateway, browser, base, _folder):
+    """A small drawing of a large field is as dark as it has live cells, and a single cell is seen."""
+    browser.screen(1100, 900, "light")
+    browser.open(f"{base}/#find")
+    half, few = browser.wait_for(SHADES, "half"), browser.wait_for(SHADES, "few")
+    dark, white = min(half), max(half)
+    check(f"half of the cells are live: {dark} to {white}", white == 255 and 110 < dark < 175)
+    check(f"single cells are seen: {min(few)}, {sum(shade < 255 for shade in few)}", 150 < min(few) < 230 and sum(shade < 255 for shade in few) == 16)
+
+
+def phone(_gateway, browser, base, _folder):
+    """On a phone the controls take few rows, the head of a census' table is not broken, and there is room beside the canvas to scroll by."""
+    browser.screen(390, 844)
+    browser.open(f"{base}/#deposit/1")
+    beside = browser.run("return innerWidth - document.querySelector('canvas.large').getBoundingClientRect().right")
+    check(f"{beside} pixels beside the canvas", beside >= 32)
+    browser.open(f"{base}/#census/1")
+    heads = browser.run("return [...document.querySelectorAll('.census thead th')].map((head) => head.getClientRects().length === 1 && head.getBoundingClientRect().height < 40)")
+    check("the head of a census", heads == [True, True])
+    browser.screen()
+
+
+PARTS = [waiting, already, neighbours, capitals, last_number, kept_places, contrasts, shaded, phone]

@@ -1,0 +1,80 @@
+// The buttons under the canvas of a deposit, and the keys that do the same.
+
+import { LAST_GENERATION } from './archive.js';
+import { counted, icon, make } from './dom.js';
+import { keepSetting, setting } from './kept.js';
+
+const SPEEDS = [1, 2, 5, 10, 20, 40, 60];
+const STEPS = [1, 10, 100];
+const FIRST_GOAL = 100;
+
+const button = (label, text, click, more = {}) => make('button', { type: 'button', 'aria-label': label, title: label, click, ...more }, text);
+const pair = (...inside) => make('span', { class: 'pair' }, inside);
+const labelled = (label, input) => pair(make('label', { for: input.id }, label), input);
+
+/** The speed, which this browser keeps. */
+function speedPart(player) {
+  player.speed = SPEEDS.find((rate) => String(rate) === setting('speed')) ?? player.speed;
+  const speed = make('select', { id: 'speed', change: () => keepSetting('speed', player.speed = Number(speed.value)) },
+    SPEEDS.map((rate) => make('option', { value: rate, selected: rate === player.speed }, `${rate}/s`)));
+  return labelled('Speed', speed);
+}
+
+/** Running to a generation. */
+function runPart(player) {
+  const goal = make('input', { id: 'run-to', type: 'number', min: 1, max: LAST_GENERATION, inputmode: 'numeric', 'aria-label': 'Run to generation' });
+  goal.value = FIRST_GOAL;
+  return pair(button('Run to this generation', 'Run to', () => player.runTo(Math.trunc(Number(goal.value))), { id: 'run' }), goal);
+}
+
+function viewParts(view) {
+  const grid = make('input', { id: 'grid', type: 'checkbox', checked: true, change: () => view.showGrid(grid.checked) });
+  return [pair(button('Zoom out', '−', () => view.zoom(-1), { id: 'zoom-out' }), button('Zoom in', '+', () => view.zoom(1), { id: 'zoom-in' }), button('Show all', 'Fit', () => view.fit(), { id: 'fit' })),
+    pair(grid, make('label', { for: 'grid' }, 'Grid'))];
+}
+
+/** Where a periodic pattern is back: a mark, a button, and playing that begins anew there. `take` is told the period, null if there is none. */
+function backPart(player) {
+  const loop = make('input', { id: 'loop', type: 'checkbox', change: () => { player.isLoop = loop.checked; } });
+  const part = make('span', { class: 'pair', hidden: true });
+  const ticks = make('datalist', { id: 'ticks' });
+  const take = (period) => {
+    player.period = period;
+    part.hidden = period === null;
+    if (period === null) return;
+    ticks.replaceChildren(make('option', { value: period }));
+    part.replaceChildren(loop, make('label', { for: 'loop' }, 'Loop'), button(`Generation ${period}, at which it is back`, `back at ${counted(period)}`, () => player.go(period), { id: 'back-at' }));
+  };
+  return { parts: [part, ticks], take };
+}
+
+/** All of them: the bar, what plays and pauses, what is told a period, a generation that is shown, and a change of playing. */
+export function controls(player, view) {
+  const play = button('Play', icon('play'), () => toggle(1), { class: 'main', id: 'play' });
+  const back = button('Play back', icon('back'), () => toggle(-1), { id: 'back' });
+  const toggle = (direction) => (player.direction === direction ? player.pause() : player.play(direction));
+  const number = make('input', { id: 'generation', type: 'number', min: 0, max: LAST_GENERATION, inputmode: 'numeric', change: () => player.go(Number(number.value)) });
+  const slider = make('input', { id: 'slider', type: 'range', min: 0, max: LAST_GENERATION, list: 'ticks', 'aria-label': 'Generation', change: () => player.go(Number(slider.value)), input: () => { number.value = slider.value; } });
+  const step = make('select', { id: 'step-size' }, STEPS.map((size) => make('option', { value: size }, size)));
+  const { parts, take } = backPart(player);
+  const bar = make('div', { class: 'controls', role: 'group', 'aria-label': 'Generations' },
+    button('Generation 0', icon('first'), () => player.go(0), { id: 'first' }), back, button('A step back', icon('less'), () => player.step(-Number(step.value)), { id: 'step-back' }), play,
+    button('A step on', icon('more'), () => player.step(Number(step.value)), { id: 'step' }), labelled('Step', step), labelled('Generation', number), speedPart(player), viewParts(view), runPart(player), parts, slider);
+  const changed = () => {
+    for (const [element, direction, label, name] of [[play, 1, 'Play', 'play'], [back, -1, 'Play back', 'back']]) {
+      const playing = player.direction === direction;
+      element.replaceChildren(icon(playing ? 'pause' : name));
+      element.ariaLabel = element.title = playing ? 'Pause' : label;
+    }
+  };
+  return { bar, toggle, periodic: take, changed, at: (at) => { number.value = at; slider.value = at; } };
+}
+
+export function keysOf(page, player, view, toggle, next) {
+  Object.assign(page.keys, {
+    ' ': () => (player.direction === 0 ? toggle(1) : player.pause()), b: () => toggle(-1), ArrowRight: () => player.step(1), ArrowLeft: () => player.step(-1),
+    Home: () => player.go(0), End: () => player.go(LAST_GENERATION), '+': () => view.zoom(1), '=': () => view.zoom(1), '-': () => view.zoom(-1), 0: () => view.fit(),
+    'shift ArrowLeft': () => view.pan(-0.1, 0), 'shift ArrowRight': () => view.pan(0.1, 0), 'shift ArrowUp': () => view.pan(0, -0.1), 'shift ArrowDown': () => view.pan(0, 0.1),
+    ']': () => { if (next) location.hash = `#deposit/${next.id}`; },
+  });
+}

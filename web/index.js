@@ -1,0 +1,183 @@
+// The index for finding (docs/FORMATS.md, The index for finding): a list of what the archive has, behind by a quarter of an hour, of
+// which nothing is proved. Where the club has none, the pages do without.
+
+import { make } from './dom.js';
+import { Refused } from './refusals.js';
+
+const PLACE = '/index/';
+/** How long a list of blocks is taken as it is, in milliseconds. */
+const FRESH = 60_000;
+export const BLOCK = 1000;
+const NONE = { counts: { deposits: 0, censuses: 0 }, blocks: { deposits: [], censuses: [], objects: [] } };
+
+async function jsonOf(name) {
+  try {
+    const reply = await fetch(PLACE + name);
+    if (reply.ok) return await reply.json();
+  } catch {
+    // As below.
+  }
+  throw Object.assign(new Refused('no-reply'), { isRead: true });
+}
+
+let head = null;
+let headAt = -Infinity;
+
+/** The list of all blocks; null where there is no index, or another version of it. */
+export function indexHead() {
+  if (performance.now() - headAt > FRESH) {
+    headAt = performance.now();
+    head = jsonOf('index.json').then((found) => (found.version === 1 ? found : null), () => null);
+  }
+  return head;
+}
+
+/** What the index is, said wherever it is used. */
+export function indexNote(head) {
+  return make('p', { class: 'hint' }, `From the index for finding, made on ${head.made.slice(0, 10)} at ${head.made.slice(11, 16)} UTC: `
+    + 'a list, up to a quarter of an hour behind, of which nothing is proved. Each answer that it leads to is the archive’s own.');
+}
+
+/** The day of each row of a block. */
+function daysOf(block, count) {
+  const days = [];
+  for (const [at, [from, day]] of block.seen.entries()) {
+    const end = block.seen[at + 1]?.[0] ?? block.first + count;
+    days.push(...Array(end - from).fill(day));
+  }
+  return days;
+}
+
+const folded = (text) => text.normalize('NFKD').replace(/\p{M}/gu, '').toLowerCase();
+
+/** The deposits of a block, each with what is searched in it. */
+function depositsOf(block) {
+  const days = daysOf(block, block.name.length);
+  const [authors, members] = [block.author, block.member].map((column) => column.of.map(folded));
+  return block.name.map((name, at) => ({
+    id: block.first + at, name, author: block.author.of[block.author.at[at]], member: block.member.of[block.member.at[at]], rule: block.rule.of[block.rule.at[at]],
+    population: block.cells[at], width: block.width[at], height: block.height[at], day: days[at],
+    search: { name: folded(name), author: authors[block.author.at[at]], member: members[block.member.at[at]] },
+  }));
+}
+
+function censusesOf(block) {
+  const days = daysOf(block, block.deposit.length);
+  return block.deposit.map((deposit, at) => ({
+    id: block.first + at, deposit, generation: block.generation[at], limit: block.limit[at], clusters: block.clusters[at], unresolved: block.unresolved[at],
+    steady: block.steady[at] === 1, day: days[at],
+  }));
+}
+
+const READ = { deposits: depositsOf, censuses: censusesOf, objects: (block) => block };
+const blocks = new Map();
+
+/** A block as it is read, asked once. One that did not come is asked again the next time. */
+function blockOf(kind, name) {
+  if (!blocks.has(name)) {
+    blocks.set(name, jsonOf(name).then(READ[kind]).catch((error) => {
+      blocks.delete(name);
+      headAt = -Infinity;
+      throw error;
+    }));
+  }
+  return blocks.get(name);
+}
+
+/** All blocks of a kind, the newest first, as they come: `came(block, how many have come, how many there are)`. */
+export async function eachBlock(kind, came, signal) {
+  const names = ((await indexHead()) ?? NONE).blocks[kind].toReversed();
+  // All are asked at once, and taken in their order.
+  const asked = names.map((name) => blockOf(kind, name));
+  for (const one of asked) one.catch(() => {});
+  for (const [at, one] of asked.entries()) {
+    const block = await one;
+    signal.throwIfAborted();
+    came(block, at + 1, names.length);
+  }
+}
+
+/** A deposit or a census as the index has it; null where it has none. */
+async function rowOf(kind, id) {
+  const name = ((await indexHead()) ?? NONE).blocks[kind][Math.floor((id - 1) / BLOCK)];
+  if (!name) return null;
+  const rows = await blockOf(kind, name).catch(() => []);
+  return rows.find((row) => row.id === id) ?? null;
+}
+
+export const indexedDeposit = (id) => rowOf('deposits', id);
+export const indexedCensus = (id) => rowOf('censuses', id);
+
+/** All deposits, the newest first; `came` hears how many blocks have come of how many. */
+export async function allDeposits(came, signal) {
+  const found = [];
+  await eachBlock('deposits', (block, number, all) => {
+    for (let at = block.length - 1; at >= 0; at -= 1) found.push(block[at]);
+    came(number, all);
+  }, signal);
+  return found;
+}
+
+/** Censuses with a property, the newest first. */
+export async function censusesWith(is, signal) {
+  const found = [];
+  await eachBlock('censuses', (block) => found.push(...block.filter(is).reverse()), signal);
+  return found;
+}
+
+/** The censuses that have an object of a rule, the newest first, each with how often it has it. */
+export async function censusesOfObject(rule, code, signal) {
+  const found = [];
+  await eachBlock('objects', (block) => {
+    const places = block.rules[rule]?.[code] ?? [];
+    for (let at = places.length - 2; at >= 0; at -= 2) found.push({ id: block.first + places[at], count: places[at + 1] });
+  }, signal);
+  return found;
+}
+
+// ---- searching
+
+/** What is asked for: words, a member, an author, a rule, and ranges `[least, greatest]` of cells, of the longer side, and of days. */
+export const NOTHING = { text: '', member: '', author: '', rule: '', cells: ['', ''], side: ['', ''], day: ['', ''] };
+
+/** How well a word fits a deposit; 0 where it does not. */
+function fit(word, { search, id }) {
+  const at = search.name.indexOf(word);
+  if (at === 0 || (at > 0 && /[^\p{L}\p{N}]/u.test(search.name[at - 1]))) return 50;
+  if (at > 0) return 20;
+  if (search.member === word || String(id) === word) return 40;
+  if (search.author.includes(word)) return 10;
+  return search.member.includes(word) ? 5 : 0;
+}
+
+const within = (value, [least, greatest]) => (least === '' || value >= least) && (greatest === '' || value <= greatest);
+
+/** How well a deposit fits what is asked for; 0 where it does not. */
+function rank(row, asked) {
+  if (asked.member && row.member !== asked.member) return 0;
+  if (asked.author && !row.search.author.includes(asked.author)) return 0;
+  if (asked.rule && row.rule !== asked.rule) return 0;
+  if (!within(row.population, asked.cells) || !within(Math.max(row.width, row.height), asked.side) || !within(row.day, asked.day)) return 0;
+  let sum = 1;
+  for (const word of asked.words) {
+    const found = fit(word, row);
+    if (found === 0) return 0;
+    sum += found;
+  }
+  if (asked.text === '') return sum;
+  if (row.search.name === asked.text) return sum + 1000;
+  return row.search.name.startsWith(asked.text) ? sum + 500 : sum;
+}
+
+/** The deposits that fit what is asked for, the best first, and of equal ones the newest. */
+export function search(rows, given) {
+  const text = folded(given.text.trim());
+  const number = (part) => (part === '' ? '' : Number(part));
+  const asked = { ...given, text, words: text.split(/\s+/).filter(Boolean), author: folded(given.author.trim()), cells: given.cells.map(number), side: given.side.map(number) };
+  const found = [];
+  for (const row of rows) {
+    const sum = rank(row, asked);
+    if (sum > 0) found.push({ row, sum });
+  }
+  return found.sort((one, other) => other.sum - one.sum || other.row.id - one.row.id).map(({ row }) => row);
+}

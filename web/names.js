@@ -1,0 +1,27 @@
+// Names and authors that are written into a file which has none (docs/FORMATS.md, Pattern files): `#N` and `#O` before its first line.
+
+const LONGEST_TEXT = 200;
+const bytesOf = (text) => new TextEncoder().encode(text);
+
+/** A text as one line of at most 200 bytes, without what is cut in a character. */
+function oneLine(text) {
+  const plain = text.replace(/[\r\n\t]+/g, ' ').trim();
+  return new TextDecoder().decode(bytesOf(plain).subarray(0, LONGEST_TEXT)).replace(/\ufffd+$/, '').trim();
+}
+
+/** Of the files of a folder those that are pattern files. */
+export const patternsOf = (files) => files.filter(({ name }) => /\.rle$/i.test(name));
+
+/** The name of a file without its folders and its ending: `guns/gosper-gun.rle` has `gosper-gun`. */
+export const baseName = (name) => oneLine(name.split('/').at(-1).replace(/\.(rle|txt)$/i, ''));
+
+/** A file with a name and an author, where these are given and its record has none. */
+export function withTexts(bytes, record, name, author) {
+  const lines = [record.name === null && oneLine(name) ? `#N ${oneLine(name)}\n` : '', record.author === null && oneLine(author) ? `#O ${oneLine(author)}\n` : ''].join('');
+  if (lines === '') return bytes;
+  const head = bytesOf(lines);
+  const all = new Uint8Array(head.length + bytes.length);
+  all.set(head);
+  all.set(bytes, head.length);
+  return all;
+}

@@ -13,19 +13,19 @@ PORT = (r"[1-9][0-9]{0,4}", "a port from 1 to 65535")
 COUNT = (r"[1-9][0-9]{0,8}", "a number from 1 on")
 PATH = (r"/[A-Za-z0-9_./@+:-]*", "a path from / on, without spaces")
 PATH_OR_NONE = (PATH[0] + "|", PATH[1] + ", or nothing")
-USER_OR_NONE = (r"[a-z_][a-z0-9_-]*|", "the name of a user, or nothing")
+USER = (r"[a-z_][a-z0-9_-]*", "the name of a user")
 RATE = (r"[1-9][0-9]{0,5}r/[sm]", "a rate, as 5r/s or 12r/m")
 TIME = (r"[1-9][0-9]{0,5}(ms|s|m|h)", "a time, as 30s")
 ADDRESS_OR_NONE = (r"|([A-Za-z0-9_.*-]+:|\[[0-9a-f:.]+\]:)?[1-9][0-9]{0,4}", "a port, an address and a port as [::]:80, or nothing")
 # What each setting may be: a form, and the form in words.
 FORMS = {
     "PROGRAM": PATH, "ARCHIVE": PATH, "ARCHIVE_FOLDER": PATH, "SCRIPTS": PATH, "SETTINGS": PATH, "BACKUP_FOLDER": PATH, "METRICS_FOLDER": PATH_OR_NONE,
-    "LIFE_USER": (r"[a-z_][a-z0-9_-]*", "the name of a user"),
+    "LIFE_USER": USER,
     "LIFE_MEMORY": (r"[1-9][0-9]{0,8}[KMGT]", "an amount of memory, as 400M"),
     "LIFE_PORT": PORT, "PROXY_PORT": PORT,
     "LISTEN": (ADDRESS_OR_NONE[0][1:], "a port, or an address and a port as 127.0.0.1:80"), "LISTEN_ALSO": ADDRESS_OR_NONE,
     "REDIRECT": ADDRESS_OR_NONE, "REDIRECT_ALSO": ADDRESS_OR_NONE,
-    "HOST": (r"[A-Za-z0-9_.*-]+( [A-Za-z0-9_.*-]+)*", "names of hosts, or _"),
+    "HOST": (r"([A-Za-z0-9_.*-]+( [A-Za-z0-9_.*-]+)*)?", "names of hosts, or nothing"),
     "TLS": (r"yes|no", "yes or no"), "TLS_CERTIFICATE": PATH, "TLS_KEY": PATH, "ACME_FOLDER": PATH_OR_NONE,
     "HSTS": (r"[1-9][0-9]{0,8}|no|", "a number of seconds, or no"),
     "MEMBERS_FILE": PATH_OR_NONE, "PAGES_FOLDER": PATH_OR_NONE,
@@ -33,9 +33,7 @@ FORMS = {
     "READS_AT_ONCE": COUNT, "DEPOSITS_AT_ONCE": COUNT, "CENSUSES_AT_ONCE": COUNT, "CONNECTIONS": COUNT,
     "QUEUE_TIME": TIME, "ANSWER_TIME": TIME, "WEB_TIME": TIME, "WATCH_SECONDS": COUNT,
     "WEB_FOLDER": PATH, "CACHE_SIZE": (r"[1-9][0-9]{0,8}[kKmMgG]", "an amount, as 4g"), "CACHE_NAME": (r"[A-Za-z0-9_.-]+", "a word"),
-    "WEB_USER": USER_OR_NONE, "WEB_PROCESSES": (r"auto|[1-9][0-9]{0,3}", "auto or a number"),
-    "WEB_CONNECTIONS": COUNT, "WEB_FILES": COUNT, "WEB_PID": PATH, "WEB_LOG": PATH, "WEB_ERRORS": PATH,
-    "PROXY_CONNECTIONS": COUNT, "PROXY_USER": USER_OR_NONE,
+    "WEB_LOG": PATH, "WEB_ERRORS": PATH, "PROXY_CONNECTIONS": COUNT, "PROXY_USER": USER,
     "BACKUP_TIMES": (r"[A-Za-z0-9*].*", "a calendar of systemd, as *:0/15"),
     "KEEP_QUARTERS": COUNT, "KEEP_DAYS": COUNT, "KEEP_MONTHS": COUNT,
     "SECOND_PLACE": (r"|([A-Za-z0-9_.@-]+:)?/[A-Za-z0-9_./@+-]*", "a folder, as /mnt/club or club@host:/srv/club, or nothing"),

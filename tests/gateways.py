@@ -37,7 +37,7 @@ class Gateway:
             self.lives.append(int(line.split()[-1]))
         elif line.startswith("in "):
             self.folder = line[3:].split(";")[0]
-        elif line.startswith("http://"):
+        elif line.startswith(("http://", "https://")):
             self.port = int(line.rsplit(":", 1)[1])
         elif line.endswith(" is not there: a new archive is made\n"):
             pass

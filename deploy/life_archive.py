@@ -1,0 +1,244 @@
+"""An archive's file and its log, as the scripts beside this file need them: copied, read, compared, and opened by the program.
+
+The server holds the file's lock, so no sqlite3 reads it. `copied` copies the bytes of the file and then those of its log. While the
+file and the head of its log stay as they were, the program only appends to the log, so what was copied is what a stop at that moment
+would have left. SQLite then copies the log into the file. It changes no byte that the program did not write: `.backup`, VACUUM INTO or
+another journal mode would leave wrong checksums in the pages.
+"""
+import fcntl
+import http.client
+import os
+import pathlib
+import select
+import shutil
+import socket
+import sqlite3
+import subprocess
+import time
+
+TRIES = 40
+# A log's head, a frame's head and the smallest page of SQLite: a shorter log has no commit.
+LEAST_COMMIT = 32 + 24 + 512
+# The bytes of a file that SQLite and `life` lock while they have it open.
+LOCK_START, LOCK_LENGTH = 1 << 30, 512
+# How long the program may take to open a copy, in seconds. A migration takes as long as the censuses took.
+OPENED_WITHIN = 1800
+# The tables with numbers: what a row is called, and the columns that tell it from the row of another archive.
+TABLES = {"deposits": ("deposit", "member, token, rle"), "censuses": ("census", "member, token, deposit, gens, lim")}
+
+
+class Refused(Exception):
+    """Why something is not done, in words."""
+
+
+def line_of(fault):
+    """One line for people about what hindered a script."""
+    if isinstance(fault, OSError) and fault.filename:
+        return f"{fault.filename2 or fault.filename}: {fault.strerror}"
+    return str(fault)
+
+
+# ---- the bytes of an archive
+
+def begin_of(path):
+    """The head of a log, which changes when a log is begun anew, and its length."""
+    try:
+        with open(path, "rb") as log:
+            return log.read(32), os.fstat(log.fileno()).st_size
+    except FileNotFoundError:
+        return b"", 0
+
+
+def has_commit(path):
+    """Whether the log of a file may have a commit."""
+    return begin_of(path + "-wal")[1] >= LEAST_COMMIT
+
+
+def state_of(path):
+    state = os.stat(path)
+    return state.st_ino, state.st_size, state.st_mtime_ns
+
+
+def copied(archive, new):
+    """Whether the two files were copied as they were at one moment."""
+    file, (head, length) = state_of(archive), begin_of(archive + "-wal")
+    shutil.copyfile(archive, new)
+    pathlib.Path(new + "-wal").unlink(missing_ok=True)
+    if head:
+        shutil.copyfile(archive + "-wal", new + "-wal")
+    copied_head, copied_length = begin_of(new + "-wal")
+    later_head, later_length = begin_of(archive + "-wal")
+    return file == state_of(archive) and head == copied_head == later_head and length <= copied_length <= later_length
+
+
+def copied_in_time(archive, new):
+    """Copies the two files, again while they change."""
+    for turn in range(TRIES):
+        if copied(archive, new):
+            return
+        time.sleep(0.02 * (turn + 1))
+    raise Refused(f"{archive} changed during each of {TRIES} tries")
+
+
+def sync(path):
+    """Waits until a file, or the names in a folder, are on the disk."""
+    number = os.open(path, os.O_RDONLY)
+    try:
+        os.fsync(number)
+    finally:
+        os.close(number)
+
+
+def locked(path):
+    """A file, open, with a lock by which no program can begin to write to it, or None if one has it open."""
+    file = open(path, "rb")
+    try:
+        fcntl.lockf(file, fcntl.LOCK_SH | fcntl.LOCK_NB, LOCK_LENGTH, LOCK_START)
+    except BlockingIOError:
+        file.close()
+        return None
+    return file
+
+
+# ---- what is in an archive
+
+class Database:
+    """A database of one name for people. What SQLite can't do with it is an error with that name."""
+
+    def __init__(self, name, address):
+        self.name = name
+        try:
+            self.opened = sqlite3.connect(address, uri=True)
+        except sqlite3.Error as fault:
+            raise self.refused(fault) from fault
+
+    def first_row(self, query, *values):
+        try:
+            return self.opened.execute(query, values).fetchone()
+        except sqlite3.Error as fault:
+            raise self.refused(fault) from fault
+
+    def refused(self, why):
+        return Refused(f"{self.name} can't be read as an archive: {why}")
+
+
+def fold(new, archive):
+    """Copies the log into its file, and checks the file."""
+    database = Database(archive, pathlib.Path(new).as_uri())
+    if database.first_row("PRAGMA wal_checkpoint(TRUNCATE)")[0] != 0:
+        raise database.refused("its log can't be copied into its file")
+    if (found := database.first_row("PRAGMA integrity_check")[0]) != "ok":
+        raise database.refused(found.splitlines()[-1])
+    database.opened.close()
+
+
+class Contents(Database):
+    """What is in an archive of one file. The file is only read, and a log beside it is not."""
+
+    def __init__(self, path, name):
+        super().__init__(name, pathlib.Path(path).as_uri() + "?mode=ro&immutable=1")
+        self.counts = {table: self.count(table) for table in TABLES}
+
+    def count(self, table):
+        count, last = self.first_row(f"SELECT count(*), coalesce(max(id), 0) FROM {table}")
+        if count != last:
+            raise self.refused(f"the {table} have gaps")
+        return count
+
+    def row(self, table, number):
+        return self.first_row(f"SELECT {TABLES[table][1]} FROM {table} WHERE id = ?", number)
+
+    def text(self):
+        return ", ".join(f"{count} {TABLES[table][0] if count == 1 else table}" for table, count in self.counts.items())
+
+    def text_with_first(self):
+        first = self.row("deposits", 1)
+        return self.text() + (f", the first deposit by {first[0]!a}" if first else "")
+
+    def newest(self):
+        """The path of a route for the newest deposit, and what the program has to answer."""
+        number = self.counts["deposits"]
+        return (f"/deposits/{number}", self.row("deposits", number)[2]) if number else ("/deposits/after/0", b'{"deposits":[]}')
+
+
+def lacking(new, there):
+    """What an archive that is there has and the new one lacks."""
+    found = [f"fewer {table}" for table in TABLES if new.counts[table] < there.counts[table]]
+    for table, (one, _) in TABLES.items():
+        last = min(new.counts[table], there.counts[table])
+        numbers = sorted({1, last}) if last else []
+        found += [f"another {one} {number}" for number in numbers if new.row(table, number) != there.row(table, number)]
+    return found
+
+
+def lacks(new, there):
+    """That a new archive can't take the place of another one, in words, or nothing."""
+    found = lacking(new, there)
+    return f"{there.name} stays with {there.text_with_first()}; {new.name} has {new.text_with_first()}: {', '.join(found)}" if found else ""
+
+
+# ---- the program
+
+def free_port():
+    with socket.socket() as probe:
+        probe.bind(("127.0.0.1", 0))
+        return probe.getsockname()[1]
+
+
+def answered(port, path, timeout=60):
+    """The status and the body of a reply of the program."""
+    asked = http.client.HTTPConnection("127.0.0.1", port, timeout=timeout)
+    try:
+        asked.request("GET", path, headers={"connection": "close"})
+        reply = asked.getresponse()
+        return reply.status, reply.read()
+    except (OSError, http.client.HTTPException) as fault:
+        raise Refused(f"no answer at port {port}: {fault}") from fault
+    finally:
+        asked.close()
+
+
+class Opened:
+    """The program with a file, for one connection at a port of 127.0.0.1. It ends by itself after that, or is killed."""
+
+    def __init__(self, program, path):
+        self.path, self.port = path, free_port()
+        words = [program, "serve", "--db", path, "--port", str(self.port), "--connections", "1"]
+        self.process = subprocess.Popen(words, stdin=subprocess.DEVNULL, stdout=subprocess.PIPE, stderr=subprocess.PIPE)
+
+    def __enter__(self):
+        return self
+
+    def __exit__(self, *_):
+        if self.process.poll() is None:
+            self.process.kill()
+        self.process.communicate()
+
+    def asked(self, name, route):
+        """The reply for a route, or why the program doesn't serve the file, which people know by this name."""
+        if not (select.select([self.process.stdout], [], [], OPENED_WITHIN)[0] and self.process.stdout.readline()):
+            self.process.kill()
+            raise Refused(f"{name} is not opened by the program: {self.process.stderr.read().decode().strip()}")
+        return answered(self.port, route)
+
+    def ended(self):
+        """Whether the program ended well after its connection."""
+        return self.process.wait(60) == 0
+
+
+def try_by_program(program, path, contents):
+    """Opens a file, which is not kept, by the program, and reads its newest deposit."""
+    route, wanted = contents.newest()
+    with Opened(program, path) as opened:
+        if opened.asked(contents.name, route) != (200, wanted):
+            raise contents.refused(f"the program answers {route} with something else")
+
+
+def made_by_program(program, path):
+    """Has the program make an archive; its log has nothing, and is removed."""
+    with Opened(program, path) as opened:
+        if opened.asked(path, "/deposits/after/0") != (200, b'{"deposits":[]}') or not opened.ended():
+            raise Refused(f"the program made no archive at {path}")
+    if has_commit(path):
+        raise Refused(f"{path}-wal has what should be in {path}")
+    os.remove(path + "-wal")

@@ -1,0 +1,118 @@
+"""The settings of a club's archive: lines NAME=VALUE, what each may be, and how they are read."""
+import os
+import re
+import shutil
+import subprocess
+import sys
+
+USUAL = "/etc/life/settings"
+# Every setting has a value here, which that of a club replaces.
+OWN = os.path.join(os.path.dirname(os.path.realpath(__file__)), "settings")
+LINE = re.compile(r"([A-Z_]+)=([A-Za-z0-9_./:@%+*,\[\] -]*)")
+PORT = (r"[1-9][0-9]{0,4}", "a port from 1 to 65535")
+COUNT = (r"[1-9][0-9]{0,8}", "a number from 1 on")
+PATH = (r"/[A-Za-z0-9_./@+:-]*", "a path from / on, without spaces")
+PATH_OR_NONE = (PATH[0] + "|", PATH[1] + ", or nothing")
+USER = (r"[a-z_][a-z0-9_-]*", "the name of a user")
+RATE = (r"[1-9][0-9]{0,5}r/[sm]", "a rate, as 5r/s or 12r/m")
+TIME = (r"[1-9][0-9]{0,5}(ms|s|m|h)", "a time, as 30s")
+ADDRESS_OR_NONE = (r"|([A-Za-z0-9_.*-]+:|\[[0-9a-f:.]+\]:)?[1-9][0-9]{0,4}", "a port, an address and a port as [::]:80, or nothing")
+CALENDAR = (r"[A-Za-z0-9*].*", "a calendar of systemd, as *:0/15")
+# What each setting may be: a form, and the form in words.
+FORMS = {
+    "PROGRAM": PATH, "ARCHIVE": PATH, "ARCHIVE_FOLDER": PATH, "SCRIPTS": PATH, "SETTINGS": PATH, "BACKUP_FOLDER": PATH, "METRICS_FOLDER": PATH_OR_NONE,
+    "LIFE_USER": USER,
+    "LIFE_MEMORY": (r"[1-9][0-9]{0,8}[KMGT]", "an amount of memory, as 400M"),
+    "LIFE_PORT": PORT, "PROXY_PORT": PORT,
+    "LISTEN": (ADDRESS_OR_NONE[0][1:], "a port, or an address and a port as 127.0.0.1:80"), "LISTEN_ALSO": ADDRESS_OR_NONE,
+    "REDIRECT": ADDRESS_OR_NONE, "REDIRECT_ALSO": ADDRESS_OR_NONE,
+    "HOST": (r"([A-Za-z0-9_.*-]+( [A-Za-z0-9_.*-]+)*)?", "names of hosts, or nothing"),
+    "TLS": (r"yes|no", "yes or no"), "TLS_CERTIFICATE": PATH, "TLS_KEY": PATH, "ACME_FOLDER": PATH_OR_NONE,
+    "HSTS": (r"[1-9][0-9]{0,8}|no|", "a number of seconds, or no"),
+    "MEMBERS_FILE": PATH_OR_NONE, "PAGES_FOLDER": PATH_OR_NONE,
+    "READS": RATE, "DEPOSITS": RATE, "CENSUSES": RATE,
+    "READS_AT_ONCE": COUNT, "DEPOSITS_AT_ONCE": COUNT, "CENSUSES_AT_ONCE": COUNT, "CONNECTIONS": COUNT,
+    "QUEUE_TIME": TIME, "ANSWER_TIME": TIME, "WEB_TIME": TIME, "WATCH_SECONDS": COUNT,
+    "WEB_FOLDER": PATH, "CACHE_SIZE": (r"[1-9][0-9]{0,8}[kKmMgG]", "an amount, as 4g"), "CACHE_NAME": (r"[A-Za-z0-9_.-]+", "a word"),
+    "WEB_LOG": PATH, "WEB_ERRORS": PATH, "PROXY_CONNECTIONS": COUNT, "PROXY_USER": USER,
+    "BACKUP_TIMES": CALENDAR, "INDEX_TIMES": CALENDAR, "INDEX_FOLDER": PATH_OR_NONE,
+    "KEEP_QUARTERS": COUNT, "KEEP_DAYS": COUNT, "KEEP_MONTHS": COUNT,
+    "SECOND_PLACE": (r"|([A-Za-z0-9_.@-]+:)?/[A-Za-z0-9_./@+-]*", "a folder, as /mnt/club or club@host:/srv/club, or nothing"),
+    "ALARM_TO": (r"[A-Za-z0-9_.@+-]+", "an address of mail"),
+}
+SECONDS = {"ms": 0.001, "s": 1, "m": 60, "h": 3600}
+
+
+class Wrong(Exception):
+    """What is wrong with the settings, in words."""
+
+
+def lines_of(path):
+    with open(path, encoding="utf-8") as file:
+        lines = [line.rstrip("\n") for line in file]
+    return [line for line in lines if line and not line.startswith("#")]
+
+
+def taken(lines, known):
+    """The settings of these lines. `known` has the names that there are."""
+    settings = {}
+    for line in lines:
+        found = LINE.fullmatch(line)
+        if not found:
+            raise Wrong(f"no setting: {line}")
+        if found[1] not in known:
+            raise Wrong(f"no such setting: {found[1]}")
+        settings[found[1]] = found[2].strip()
+    return settings
+
+
+def judged(name, value):
+    form, words = FORMS[name]
+    port = re.search(r"[0-9]+$", value) if name.endswith("PORT") or name.startswith(("LISTEN", "REDIRECT")) else None
+    if not re.fullmatch(form, value) or (port and int(port[0]) > 65535):
+        raise Wrong(f"{name}={value}: it has to be {words}")
+
+
+def seconds(value):
+    number, unit = re.fullmatch(r"([0-9]+)([a-z]+)", value).groups()
+    return int(number) * SECONDS[unit]
+
+
+def is_calendar(value):
+    """Whether systemd knows these times. Without its tool each text is one."""
+    if not shutil.which("systemd-analyze"):
+        return True
+    return subprocess.run(["systemd-analyze", "calendar", value], capture_output=True, timeout=60, check=False).returncode == 0
+
+
+def judge(settings):
+    """Refuses what is no value of its setting, and values that don't go together."""
+    for name, value in settings.items():
+        judged(name, value)
+    if settings["LIFE_PORT"] == settings["PROXY_PORT"]:
+        raise Wrong("LIFE_PORT and PROXY_PORT are the same port")
+    if os.path.dirname(settings["ARCHIVE"]) != settings["ARCHIVE_FOLDER"].rstrip("/"):
+        raise Wrong("ARCHIVE is not in ARCHIVE_FOLDER")
+    if seconds(settings["WEB_TIME"]) <= seconds(settings["QUEUE_TIME"]) + seconds(settings["ANSWER_TIME"]):
+        raise Wrong("WEB_TIME has to be longer than QUEUE_TIME and ANSWER_TIME together")
+    for name in ("BACKUP_TIMES", "INDEX_TIMES"):
+        if not is_calendar(settings[name]):
+            raise Wrong(f"{name}={settings[name]}: it has to be {CALENDAR[1]}")
+
+
+def settings_of(path, words=()):
+    """All settings: those beside this file, then those of a file, which may be None, then those of the words; each of them judged."""
+    settings = taken(lines_of(OWN), FORMS)
+    if path:
+        settings.update(taken(lines_of(path), settings))
+    settings.update(taken(words, settings))
+    judge(settings)
+    return settings
+
+
+def end_if_wrong(name, path):
+    """The settings of a file, or the end of a script of this name with a line about what is wrong."""
+    try:
+        return settings_of(path)
+    except (OSError, Wrong) as fault:
+        sys.exit(f"{name}: {fault}")

@@ -1,0 +1,44 @@
+"""Templates, and the settings in their places.
+
+In a template @NAME@ is the setting. A line that begins with @NAME?@ is kept if the setting is neither empty nor `no`, one with @NAME!@
+if it is. A line may have several of these.
+"""
+import os
+import re
+import sys
+
+TEMPLATES = os.path.join(os.path.dirname(os.path.realpath(__file__)), "templates")
+GATEWAY = os.path.join(TEMPLATES, "gateway")
+
+
+def with_derived(settings):
+    """The settings, and what follows from them: a second place that is a folder here, and no HSTS without TLS."""
+    place = settings["SECOND_PLACE"]
+    return settings | {"SECOND_FOLDER": place if place.startswith("/") else "", "HSTS": settings["HSTS"] if settings["TLS"] == "yes" else ""}
+
+
+def filled(name, text, settings):
+    """A template with the settings in their places."""
+    def value(found):
+        if found[1] not in settings:
+            sys.exit(f"{name} wants {found[1]}, which is not set")
+        return settings[found[1]]
+
+    kept = []
+    for line in text.splitlines():
+        conditions = re.match(r"(@[A-Z_]+[?!]@)*", line)[0]
+        found = re.finditer(r"@([A-Z_]+)([?!])@", conditions)
+        if all((value(one) not in ("", "no")) == (one[2] == "?") for one in found):
+            kept.append(re.sub(r"@([A-Z_]+)@", value, line[len(conditions):]) + "\n")
+    return "".join(kept)
+
+
+def filled_templates(folder, settings):
+    """The name of each template in a folder, and its text with the settings. A folder that is not there has none."""
+    files = {}
+    for name in sorted(os.listdir(folder)) if os.path.isdir(folder) else []:
+        path = os.path.join(folder, name)
+        if os.path.isfile(path):
+            with open(path, encoding="utf-8") as file:
+                files[name] = filled(name, file.read(), with_derived(settings))
+    return files

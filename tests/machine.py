@@ -1,0 +1,127 @@
+"""A Debian of its own for a test: made by mmdebstrap, with systemd booted in it as process 1 in namespaces, and a network of its own.
+
+Root is needed, and mmdebstrap. No daemon of the host is asked, and only processes that this file started are ended.
+"""
+import os
+import shutil
+import subprocess
+import time
+
+# What systemd finds as its machine, whose folder is the first argument: what belongs to the host's kernel is read-only, its devices are
+# not there.
+BOOT = """set -eu
+mount --bind "$1" "$1"
+cd "$1"
+mount -t proc proc proc
+mount --bind proc/sys proc/sys
+mount -o remount,bind,ro proc/sys
+mount -t sysfs -o ro sys sys
+mount -t cgroup2 cgroup sys/fs/cgroup
+mount -t tmpfs run run
+mount -t tmpfs tmp tmp
+mount -t tmpfs -o mode=755 dev dev
+for node in null zero full random urandom tty; do : > "dev/$node"; mount --bind "/dev/$node" "dev/$node"; done
+mkdir dev/pts dev/shm
+mount -t devpts -o newinstance,ptmxmode=0666 pts dev/pts
+mount -t tmpfs shm dev/shm
+ln -s pts/ptmx dev/ptmx
+ln -s /proc/self/fd dev/fd
+pivot_root . mnt
+umount --lazy mnt
+exec env --ignore-environment container=private PATH=/usr/sbin:/usr/bin:/sbin:/bin /lib/systemd/systemd --system
+"""
+PACKAGES = "systemd,systemd-sysv,dbus,nginx-light,haproxy,python3,curl,libsqlite3-0,procps"
+NAMESPACES = ["--mount", "--pid", "--uts", "--ipc", "--net", "--cgroup"]
+
+
+def missing():
+    """Why no machine can be booted here, or nothing."""
+    if os.geteuid() != 0:
+        return "this is not root"
+    gone = [name for name in ("mmdebstrap", "unshare", "nsenter", "dpkg-deb", "zstd", "strip") if not shutil.which(name)]
+    if gone:
+        return f"{', '.join(gone)} not installed"
+    return "" if cgroups() else "the system has no cgroup2"
+
+
+def cgroups():
+    """Where the system's second kind of control groups is, or nothing."""
+    with open("/proc/self/mounts", encoding="utf-8") as mounts:
+        found = [line.split()[1] for line in mounts if line.split()[2] == "cgroup2"]
+    return found[0] if found else None
+
+
+def make(tar):
+    """A fresh Debian as a file of tar, with what the packages depend on: the machine has no network to fetch it."""
+    words = ["mmdebstrap", "--quiet", "--variant=minbase", f"--include={PACKAGES}", "bookworm", tar]
+    done = subprocess.run(words, stdin=subprocess.DEVNULL, capture_output=True, text=True, timeout=900, check=False)
+    return "" if done.returncode == 0 else (done.stderr.strip().splitlines() or ["no word"])[-1]
+
+
+class Machine:
+    """A Debian in a folder, which may be booted and switched off again and again."""
+
+    def __init__(self, folder, tar):
+        self.folder, self.process, self.pid = os.path.realpath(folder), None, None
+        self.group = os.path.join(cgroups(), f"life-boot-{os.getpid()}")
+        os.makedirs(self.folder)
+        subprocess.run(["tar", "--extract", "--file", tar, "--directory", self.folder], check=True, timeout=300)
+        for unit in ("console-getty.service", "getty@tty1.service"):
+            os.symlink("/dev/null", self.path(f"etc/systemd/system/{unit}"))
+
+    def boot(self):
+        """Boots, and says what systemd makes of it: running, or degraded."""
+        os.makedirs(self.group, exist_ok=True)
+        join = 'echo $$ > "$1/cgroup.procs"; shift; exec "$@"'
+        words = ["bash", "-c", join, "join", self.group, "unshare", *NAMESPACES, "--fork", "bash", "-c", BOOT, "boot", self.folder]
+        with open(self.folder + ".console", "ab") as console:
+            self.process = subprocess.Popen(words, stdin=subprocess.DEVNULL, stdout=console, stderr=console)
+        until = time.monotonic() + 60
+        while time.monotonic() < until:
+            children = self.children()
+            if children and self.run("systemctl", "is-system-running", timeout=20).stdout.strip() in ("running", "degraded"):
+                return self.run("systemctl", "is-system-running").stdout.strip()
+            time.sleep(0.5)
+        return "not up"
+
+    def children(self):
+        """The systemd of the machine, by its number here, once it is there."""
+        try:
+            with open(f"/proc/{self.process.pid}/task/{self.process.pid}/children", encoding="utf-8") as file:
+                self.pid = next(iter(file.read().split()), None)
+            return self.pid and os.readlink(f"/proc/{self.pid}/exe").endswith("systemd")
+        except OSError:
+            return False
+
+    def run(self, *words, data=None, timeout=120):
+        """A command in the machine."""
+        enter = ["nsenter", f"--target={self.pid}", *NAMESPACES, "--root", "--wd", "env", "--ignore-environment", "PATH=/usr/sbin:/usr/bin:/sbin:/bin",
+                 "LC_ALL=C.UTF-8", "DEBIAN_FRONTEND=noninteractive"]
+        return subprocess.run([*enter, *words], input=data, capture_output=True, text=True, timeout=timeout, check=False)
+
+    def path(self, name):
+        return os.path.join(self.folder, name.lstrip("/"))
+
+    def switch_off(self):
+        """Switches the machine off as its administrator would; whether it went off by itself."""
+        self.run("systemctl", "--no-block", "poweroff")
+        try:
+            self.process.wait(60)
+            return True
+        except subprocess.TimeoutExpired:
+            self.end()
+            return False
+
+    def end(self):
+        """Ends the machine at once, by the end of its process 1."""
+        if self.process and self.process.poll() is None:
+            if self.pid:
+                subprocess.run(["kill", "-9", self.pid], check=False)
+            else:
+                self.process.kill()
+            self.process.wait(30)
+        for folder, _, _ in os.walk(self.group, topdown=False):
+            try:
+                os.rmdir(folder)
+            except OSError:
+                pass

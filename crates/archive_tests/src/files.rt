@@ -160,3 +160,43 @@ pub fn made_by(alloc: Global, statements: &[&str]) -> Option<Files<Stopping>> {
         _ => None,
     }
 }
+
+/// The schema version that a database has, and how many flags of censuses, if it has a table of them.
+pub type Schema = (Option<i64>, Option<i64>);
+
+/// The number in the first column of the first row that a query finds.
+fn number<S: Alter>(conn: &mut Connection<S>, query: &str) -> Option<i64> {
+    match conn.query_row(query, &[]) {
+        Ok(row) => row.get(0).ok(),
+        Err(_) => None,
+    }
+}
+
+/// The schema of an open database.
+fn schema<S: Alter>(conn: &mut Connection<S>) -> Schema {
+    let version = number(conn, "SELECT version FROM layout");
+    (version, number(conn, "SELECT count(*) FROM census_flags"))
+}
+
+/// The schema of the database of the files, read by the database alone.
+fn schema_over<D: Disk + Drop>(alloc: Global, files: Files<D>) -> (Schema, Files<D>) {
+    if !files.may_be_used() {
+        return ((None, None), files);
+    }
+    match Connection::open_files(alloc, files, Options::new(7)) {
+        Ok(mut conn) => {
+            let schema = schema(&mut conn);
+            match conn.close_files() {
+                Ok(files) => (schema, files),
+                Err((_, store)) => (schema, store.close()),
+            }
+        }
+        Err((_, left)) => ((None, None), left.into_files()),
+    }
+}
+
+/// The schema of the database of the files.
+pub fn schema_of(alloc: Global, files: Files<Stopping>) -> Schema {
+    let (schema, _) = schema_over(alloc, files);
+    schema
+}

@@ -6,6 +6,10 @@ mod deposits;
 #[cfg(test)]
 mod files;
 #[cfg(test)]
+mod loopback;
+#[cfg(test)]
+mod messages;
+#[cfg(test)]
 mod pages;
 #[cfg(test)]
 mod requests;

@@ -12,19 +12,19 @@ use sqlite::Alter;
 use std::alloc::{AllocError, Global};
 use std::test::Fail;
 
-const GLIDER: &str =
+pub const GLIDER: &str =
     "POST /deposits HTTP/1.1\r\nhost: a\r\nx-member: ann\r\nx-token: t1\r\ncontent-length: 24\r\n\r\nx = 3, y = 3\nbo$2bo$3o!\n";
 
-const BLOCK_UNDER_T1: &str =
+pub const BLOCK_UNDER_T1: &str =
     "POST /deposits HTTP/1.1\r\nhost: a\r\nx-member: ann\r\nx-token: t1\r\ncontent-length: 20\r\n\r\nx = 2, y = 2\n2o$2o!\n";
 
-const FIELD: &str =
+pub const FIELD: &str =
     "POST /deposits HTTP/1.1\r\nx-member: ann\r\nx-token: t1\r\ncontent-length: 30\r\n\r\nx = 6, y = 2\n2o2b2o$2o2b2o!\n\n\n";
 
-const DEPOSITED: &str =
+pub const DEPOSITED: &str =
     "HTTP/1.1 201 Created\r\ncontent-type: application/json\r\ncontent-length: 13\r\n\r\n{\"deposit\":1}";
 
-const BAD: &str =
+pub const BAD: &str =
     "HTTP/1.1 400 Bad Request\r\ncontent-type: application/json\r\ncontent-length: 36\r\n\r\n{\"error\":\"bad-message\",\"refusal\":14}";
 
 const NOT_FOUND: &str =
@@ -32,20 +32,20 @@ const NOT_FOUND: &str =
 
 /// A stream, and what comes of it.
 #[derive(Clone, Copy)]
-struct Exchange<'a> {
-    stream: &'a [u8],
+pub struct Exchange<'a> {
+    pub stream: &'a [u8],
     /// Whether it comes and goes byte by byte.
-    bytewise: bool,
+    pub bytewise: bool,
     /// The number of the take that fails.
-    take_fails: Option<u64>,
+    pub take_fails: Option<u64>,
     /// The number of the put that fails.
-    put_fails: Option<u64>,
-    done: Result<(), IoFault>,
-    put: &'a [u8],
+    pub put_fails: Option<u64>,
+    pub done: Result<(), IoFault>,
+    pub put: &'a [u8],
 }
 
 /// A stream that comes whole, and the replies to it.
-fn whole<'a>(stream: &'a str, replies: &'a str) -> Exchange<'a> {
+pub fn whole<'a>(stream: &'a str, replies: &'a str) -> Exchange<'a> {
     Exchange {
         stream: stream.as_bytes(),
         bytewise: false,
@@ -64,7 +64,7 @@ fn piece(bytewise: bool) -> usize
 }
 
 /// Whether this comes of a stream.
-fn comes<S: Alter>(alloc: Global, archive: &mut Archive<S>, exchange: Exchange<'_>) -> bool {
+pub fn comes<S: Alter>(alloc: Global, archive: &mut Archive<S>, exchange: Exchange<'_>) -> bool {
     let Ok(stream) = exchange.stream.to_vec(alloc) else {
         return false;
     };
@@ -80,9 +80,11 @@ type Page = (&'static str, &'static str, &'static str, &'static str);
 
 /// What an archive does, as a row of a table.
 #[derive(Clone, Copy)]
-enum Act {
+pub enum Act {
     /// It answers this to a stream.
     Answers(&'static str, &'static str),
+    /// It answers this to a stream of bytes that are no text.
+    AnswersBytes(&'static [u8], &'static str),
     /// It shows this page.
     Shows(Page),
     /// It has so many deposits.
@@ -115,7 +117,7 @@ fn kept<S: Alter>(archive: &mut Archive<S>) -> Option<u64> {
 }
 
 /// A text, so often the same line, and another text.
-fn repeated(
+pub fn repeated(
     alloc: Global,
     front: &str,
     line: &str,
@@ -161,6 +163,13 @@ fn has_bad_beginnings<S: Alter>(alloc: Global, archive: &mut Archive<S>) -> bool
 fn does<S: Alter>(alloc: Global, archive: &mut Archive<S>, act: Act) -> bool {
     match act {
         Act::Answers(stream, replies) => comes(alloc, archive, whole(stream, replies)),
+        Act::AnswersBytes(stream, replies) => {
+            let exchange = Exchange {
+                stream,
+                ..whole("", replies)
+            };
+            comes(alloc, archive, exchange)
+        }
         Act::Shows(page) => shows(alloc, archive, page),
         Act::Has(number) => kept(archive) == Some(number),
         Act::AnswersLines(lines, reply) => {
@@ -180,7 +189,7 @@ fn does<S: Alter>(alloc: Global, archive: &mut Archive<S>, act: Act) -> bool {
 }
 
 /// The first act of these that the archive does otherwise.
-fn other_act<S: Alter>(alloc: Global, archive: &mut Archive<S>, acts: &[Act]) -> Option<usize> {
+pub fn other_act<S: Alter>(alloc: Global, archive: &mut Archive<S>, acts: &[Act]) -> Option<usize> {
     for (at, act) in acts.iter().enumerate() {
         if !does(alloc, archive, *act) {
             return Some(at);
@@ -218,7 +227,12 @@ fn a_deposit_comes_again(rt: HostRuntime) -> Result<(), Fail> {
     Ok(())
 }
 
-const BAD_MESSAGES: [Act; 7] = [
+const BAD_MESSAGES: [Act; 8] = [
+    // The target is not UTF-8, and the message after it is not answered.
+    Act::AnswersBytes(
+        b"GET /deposits/\xff HTTP/1.1\r\n\r\nGET /deposits/1 HTTP/1.1\r\n\r\n",
+        BAD,
+    ),
     Act::Answers(
         "GET /deposits HTTP/1.1\r\ntransfer-encoding: chunked\r\n\r\n",
         BAD,
@@ -258,10 +272,10 @@ fn streams_are_answered_to_their_ends(rt: HostRuntime) -> Result<(), Fail> {
     Ok(())
 }
 
-const CENSUS: &str =
+pub const CENSUS: &str =
     "POST /deposits/1/censuses/0/1 HTTP/1.1\r\nx-member: ann\r\nx-token: c1\r\n\r\n";
 
-const COUNTED: &str =
+pub const COUNTED: &str =
     "HTTP/1.1 201 Created\r\ncontent-type: application/json\r\ncontent-length: 12\r\n\r\n{\"census\":1}";
 
 /// A field, its census, the same census again, and what is shown of it.
@@ -307,10 +321,44 @@ fn a_census_is_counted_and_shown(rt: HostRuntime) -> Result<(), Fail> {
     Ok(())
 }
 
+/// Two blocks so far apart that a code has no room for them.
+const APART: &str =
+    "POST /deposits HTTP/1.1\r\nx-member: ann\r\nx-token: t1\r\ncontent-length: 31\r\n\r\nx = 54, y = 2\n2o50b2o$2o50b2o!\n";
+
+const R_PENTOMINO: &str =
+    "POST /deposits HTTP/1.1\r\nx-member: ann\r\nx-token: t2\r\ncontent-length: 24\r\n\r\nx = 3, y = 3\nb2o$2o$bo!\n";
+
+/// A pattern that is too wide for a code, and one that does not repeat within the limit: the key `code` is left out.
+const WITHOUT_A_CODE: [Act; 4] = [
+    Act::Answers(APART, DEPOSITED),
+    Act::Shows((
+        "/deposits/1/kind/1",
+        "200 OK",
+        "application/json",
+        "{\"kind\":\"still\"}",
+    )),
+    Act::Answers(
+        R_PENTOMINO,
+        "HTTP/1.1 201 Created\r\ncontent-type: application/json\r\ncontent-length: 13\r\n\r\n{\"deposit\":2}",
+    ),
+    Act::Shows((
+        "/deposits/2/kind/30",
+        "200 OK",
+        "application/json",
+        "{\"kind\":\"unresolved\"}",
+    )),
+];
+
+#[test]
+fn kinds_without_a_code(rt: HostRuntime) -> Result<(), Fail> {
+    assert_eq!(rt; other(rt.alloc(), WITHOUT_A_CODE.as_slice()), None);
+    Ok(())
+}
+
 const NO_PAGE: &str = "{\"error\":\"no-such-page\",\"refusal\":12}";
 
 /// A deposit, one without its end, pages of the deposit, and pages that are none.
-const PAGES: [Act; 11] = [
+const PAGES: [Act; 13] = [
     Act::Answers(GLIDER, DEPOSITED),
     Act::Answers(
         "POST /deposits HTTP/1.1\r\nx-member: ann\r\nx-token: t9\r\ncontent-length: 12\r\n\r\nx = 1, y = 1",
@@ -324,6 +372,18 @@ const PAGES: [Act; 11] = [
         "405 Method Not Allowed",
         "application/json",
         "{\"error\":\"bad-method\",\"refusal\":13}",
+    )),
+    Act::Shows((
+        "/deposits/1/at/1024",
+        "200 OK",
+        "text/plain",
+        "x = 3, y = 3, rule = B3/S23\nbo$2bo$3o!\n",
+    )),
+    Act::Shows((
+        "/deposits/1/at/2049",
+        "400 Bad Request",
+        "application/json",
+        "{\"error\":\"out-of-limit\",\"refusal\":6}",
     )),
     Act::Shows((
         "/deposits/1/at/1025",

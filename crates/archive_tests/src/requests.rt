@@ -70,7 +70,7 @@ pub enum Said {
 pub type Row = (Asked, Said);
 
 /// Deposits in an archive of capacity 2.
-const DEPOSITS: [Row; 23] = [
+const DEPOSITS: [Row; 24] = [
     (Asked::Deposit("ann", "t1", GLIDER), Said::Deposited(1)),
     (
         Asked::Deposit("ann", "t1", GLIDER_AGAIN),
@@ -88,6 +88,7 @@ const DEPOSITS: [Row; 23] = [
     (Asked::ListAfter(0), Said::Deposits(&[(1, 5), (2, 4)])),
     (Asked::ListAfter(1), Said::Deposits(&[(2, 4)])),
     (Asked::ListAfter(2), Said::Deposits(&[])),
+    (Asked::ListAfter(99), Said::Deposits(&[])),
     (Asked::ListAfter(u64::MAX), Said::Deposits(&[])),
     (Asked::Show(1), Said::File(GLIDER_SHOWN)),
     (Asked::Show(2), Said::File(BLOCK_SHOWN)),
@@ -103,13 +104,15 @@ const DEPOSITS: [Row; 23] = [
 ];
 
 /// Censuses in an archive of capacity 2.
-const CENSUSES: [Row; 19] = [
+const CENSUSES: [Row; 21] = [
     (Asked::Deposit("ann", "t1", FIELD), Said::Deposited(1)),
     (Asked::Census("t1", 1, 0, 1), Said::Counted(1)),
     (Asked::Census("t1", 1, 0, 1), Said::Counted(1)),
+    (Asked::ShowCensus(2), Said::Refused(2)),
     (Asked::Census("t1", 1, 1, 1), Said::Refused(5)),
     (Asked::Census("t1", 9, 0, 1), Said::Refused(1)),
     (Asked::Census("t1", 9, 0, 0), Said::Refused(6)),
+    (Asked::At(1, 2049), Said::Refused(6)),
     (Asked::Total("B3S23", "xs4_33", 1), Said::Total(2)),
     (Asked::Census("c2", 1, 0, 1), Said::Counted(2)),
     (Asked::Total("B3S23", "xs4_33", 1), Said::Total(4)),
@@ -403,12 +406,22 @@ fn many(alloc: Global) -> Result<Vec<Request>, Unavailable> {
     Ok(requests)
 }
 
-/// Whether the reply in this place is a list of so many deposits, of which the last has this number.
-fn has_list(replies: &[Reply], at: usize, many: usize, last: u64) -> bool {
+/// Whether the numbers of these lines are this one and those that follow it.
+fn are_numbered(lines: &[Listed], first: u64) -> bool {
+    for at in 0..lines.len() {
+        if lines[at].id != first.saturating_add(at as u64) {
+            return false;
+        }
+    }
+    true
+}
+
+/// Whether the reply in this place is a list of so many deposits, numbered from this number on.
+fn has_list(replies: &[Reply], at: usize, many: usize, first: u64) -> bool {
     match replies.get(at) {
         Some(Reply::Deposits(list)) => {
             let lines = list.as_slice();
-            lines.len() == many && matches!(lines.last(), Some(line) if line.id == last)
+            lines.len() == many && are_numbered(lines, first)
         }
         _ => false,
     }
@@ -429,7 +442,7 @@ fn other_in_many(replies: &[Reply]) -> Option<usize> {
             return Some(at);
         }
     }
-    if replies.len() == 103 && has_list(replies, 101, 100, 100) && has_list(replies, 102, 1, 101) {
+    if replies.len() == 103 && has_list(replies, 101, 100, 1) && has_list(replies, 102, 1, 101) {
         None
     } else {
         Some(101)

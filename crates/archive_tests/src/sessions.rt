@@ -1,12 +1,13 @@
 //! Sessions over files in memory: an archive is opened over them, serves connections, and is let go; and then again,
 //! over what a stop at any call of a file left.
-ghost use Rattle.std.specs.Prelude.{ℕ, is_ok};
-ghost use Rattle.life_archive.specs.Session.{ServesOne, untold, failures_after};
+ghost use Rattle.std.specs.Prelude.{◌≡◌, ◌∷◌, ℕ, List, IfSome};
+ghost use Rattle.life_rle.specs.Stream.{raised};
+ghost use Rattle.life_archive.specs.Session.{ServesOne};
+ghost use Rattle.archive_tests.specs.Sessions.{sends, streams_from};
 
 use crate::files::{Stopping, blank};
 use crate::stops::again;
 use life_archive::{ArchiveStop, Connections, run_serve, serve_files};
-use life_pages::IoFault;
 use life_rle::{MemoryOutlet, SliceInlet};
 use life_store::Archive;
 use sqlite::{Alter, Files};
@@ -14,34 +15,37 @@ use sqlite_disk::Disk;
 use std::alloc::Global;
 use std::test::Fail;
 
-/// Serves one connection, on which these bytes come. If there is none, that is a failed read.
+/// One more than so many failures, if there is a number for it.
+fn one_more(failures: u64) -> u64
+    ensures { result ≡ raised failures }
+{
+    failures.saturating_add(1)
+}
+
+/// Serves one connection, on which these bytes come. The result is how many connections were not served to their end, if it was so many
+/// before.
 fn serve_sent<S: Alter>(
     alloc: Global,
     archive: &mut Archive<S>,
-    sent: Option<&[u8]>,
-    output: &mut MemoryOutlet,
-) -> Result<(), IoFault>
-    ensures { (n : ℕ) → ServesOne S.Store archive.old archive.new (untold n) (untold (failures_after (is_ok result) n)) }
-{
-    let Some(sent) = sent else {
-        return Err(IoFault::Read);
-    };
-    run_serve(alloc, archive, &mut SliceInlet::new(sent), output)
-}
-
-/// The same, and how many connections were not served to their end, if it was so many before.
-fn serve_counted<S: Alter>(
-    alloc: Global,
-    archive: &mut Archive<S>,
-    sent: Option<&[u8]>,
+    sent: &[u8],
     output: &mut MemoryOutlet,
     failures: u64,
 ) -> u64
-    ensures { ServesOne S.Store archive.old archive.new (untold failures) (untold result) }
+    ensures { (later : List (List ℕ)) → ServesOne S.Store archive.old archive.new (sends (sent.now ∷ later) failures) (sends later result) }
 {
-    match serve_sent(alloc, archive, sent, output) {
+    match run_serve(alloc, archive, &mut SliceInlet::new(sent), output) {
         Ok(()) => failures,
-        Err(_) => failures.saturating_add(1),
+        Err(_) => one_more(failures),
+    }
+}
+
+/// The stream with this index, if there is one, and the next index.
+fn stream_at<'a>(sent: &'a [&'a [u8]], index: usize) -> Option<(&'a [u8], usize)>
+    ensures { IfSome result (λ found. streams_from index sent.now ≡ found.0.now ∷ streams_from found.1 sent.now) }
+{
+    match sent.get(index).copied() {
+        Some(stream) => Some((stream, index + 1)),
+        None => None,
     }
 }
 
@@ -49,26 +53,32 @@ fn serve_counted<S: Alter>(
 #[derive(Drop)]
 struct Peers<'a> {
     sent: &'a [&'a [u8]],
-    served: usize,
+    /// The index of the next.
+    next: usize,
     put: Vec<MemoryOutlet>,
     failures: u64,
 }
 
 impl Connections for Peers<'_> {
-    // What was sent and put is looked at by the test, and not by the proof.
-    ghost traffic = { λ s. untold s.failures };
+    // What each sends is known. What is put to each is compared by the test, since a record of it may find no memory.
+    ghost traffic = { λ s. sends (streams_from s.next s.sent.now) s.failures };
 
     fn listen(&mut self) -> Result<(), ArchiveStop> {
         Ok(())
     }
 
     fn serve_next<S: Alter>(&mut self, alloc: Global, archive: &mut Archive<S>) {
-        let sent = self.sent.get(self.served).copied();
+        let Some(found) = stream_at(self.sent, self.next) else {
+            let failures = one_more(self.failures);
+            self.failures = failures;
+            return;
+        };
         let mut output = MemoryOutlet::new(alloc);
-        self.failures = serve_counted(alloc, archive, sent, &mut output, self.failures);
-        self.served = self.served.saturating_add(1);
-        // A reply that there is no room for is not looked at.
-        let _kept = self.put.push(output);
+        let failures = serve_sent(alloc, archive, found.0, &mut output, self.failures);
+        self.failures = failures;
+        self.next = found.1;
+        // A reply that there is no room for is not compared.
+        let _stored = self.put.push(output);
     }
 }
 
@@ -114,7 +124,7 @@ fn session_over<D: Disk + Drop>(
 ) -> (Replies, Files<D>) {
     let mut peers = Peers {
         sent,
-        served: 0,
+        next: 0,
         put: Vec::new(alloc),
         failures: 0,
     };

@@ -1,5 +1,5 @@
 //! A stop at each call of a file: as a deposit and a census are kept, and as an archive of layout 1 is carried over.
-use crate::files::{Outcome, Stopping, blank, made_by, over, stopping};
+use crate::files::{Outcome, Stopping, blank, made_by, over, schema_of, stopping};
 use crate::requests::{Asked, FIELD, FIELD_SHOWN, Row, Said};
 use life_store::Unavailable;
 use sqlite::Files;
@@ -139,11 +139,19 @@ fn answers_twice(alloc: Global, files: Files<Stopping>, rows: &[Row]) -> bool {
     }
 }
 
-/// Whether what the files hold, in files that never stop, is an archive that answers the rows. An opening refuses a table of
-/// flags under layout 1, and layout 2 without one, so this also says that an archive is carried over whole or not at all.
+/// Whether what the files hold, in files that never stop, is an archive that answers the rows.
 fn is_sound(alloc: Global, files: &Files<Stopping>, rows: &[Row]) -> bool {
     match again(alloc, files, u64::MAX, u64::MAX) {
         Some(copy) => answers_twice(alloc, copy, rows),
+        None => false,
+    }
+}
+
+/// Whether the files hold version 1 without a table of flags, or version 2 with the flags of both censuses. Another opening of the
+/// archive has not migrated them yet.
+fn is_one_version(alloc: Global, files: &Files<Stopping>) -> bool {
+    match again(alloc, files, u64::MAX, u64::MAX) {
+        Some(copy) => matches!(schema_of(alloc, copy), (Some(1), None) | (Some(2), Some(2))),
         None => false,
     }
 }
@@ -153,8 +161,9 @@ fn stop_at(alloc: Global, run: Run<'_>, log_calls: u64, db_calls: u64) -> Option
     match begun(alloc, run.carries_over, log_calls, db_calls) {
         Some(files) => {
             let (outcome, files) = over(alloc, files, 2, run.asked);
+            let is_whole = !run.carries_over || is_one_version(alloc, &files);
             let is_sound = is_sound(alloc, &files, rows_behind(run, outcome));
-            Some((outcome == Ok(None), is_sound))
+            Some((outcome == Ok(None), is_whole && is_sound))
         }
         None => None,
     }

@@ -1,8 +1,8 @@
-use Rattle.life_archive.proofs.SessionLemmas.{one_untold, none_came}
+use Rattle.archive_tests.proofs.SessionLemmas.{sent_whole, sent_first}
 use Rattle.archive_tests.proofs.sessions.serve_sent.Goals as goal
 
-pub returns-in_default : goal.returns-in_default
-returns-in_default g c = λ n. none_came g.S.Store _ n
+pub returns-in-Ok : goal.returns-in-Ok
+returns-in-Ok g c = λ later. sent_whole g.S.Store _ _ _ later _ _ c.new.ensures.to_come _ c.in-Ok.ensures.whole
 
-pub returns : goal.returns
-returns g c = λ n. one_untold g.S.Store _ _ _ _ c.run_serve.result n c.run_serve.ensures.steps
+pub returns-in-Err : goal.returns-in-Err
+returns-in-Err g c = λ later. rw (c.one_more.ensures) (sent_first g.S.Store _ _ _ later _ _ c.new.ensures.to_come _ c.in-Err.ensures.steps)

@@ -15,6 +15,22 @@ use life_code::PERIOD_LIMIT;
 use life_core::{Fault, GENERATION_LIMIT, Rule, generation};
 use std::alloc::Allocator;
 
+/// After how many soups the shapes that were met are forgotten. A haul meets shapes without a code over and over, each of them once: if all
+/// were stored, its memory would grow with the number of soups. Naming the usual shapes anew takes some hundredths of the time of so many soups.
+const SOUPS_REMEMBERED: u64 = 4_096;
+
+/// Forgets the shapes that were met, if it is time after so many soups.
+fn forget<A: Allocator + Copy>(alloc: A, rule: &Rule, limit: u32, names: &mut Names<A>, soups: u64)
+    requires from_one { 1 ≤ limit }
+    requires few { limit ≤ PERIOD_LIMIT }
+    requires naming { names.old ≡ record { rule = rule.now; limit = limit } }
+    ensures { names.new ≡ names.old }
+{
+    if soups % SOUPS_REMEMBERED == 0 {
+        *names = Names::new(alloc, *rule, limit);
+    }
+}
+
 /// The codes of the clusters of generation `n` of a soup.
 fn codes_of_soup<A: Allocator + Copy>(
     alloc: A,
@@ -55,6 +71,7 @@ pub fn haul<A: Allocator + Copy, W: Watch>(
     let mut haul = Haul::none(alloc);
     for i in 0..count {
         let number = first + i;
+        forget(alloc, rule, limit, &mut names, i);
         let codes = codes_of_soup(alloc, root, rule, n, &mut names, number)?;
         count_soup(alloc, &mut haul, &codes, number)?;
         watch.counted(i + 1, count);

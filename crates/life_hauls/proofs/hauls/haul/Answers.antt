@@ -29,7 +29,8 @@ loop-i-preserved g c =
     let all : ℕ → List (Option (List ℕ)) = soup_codes root rule c.args.n c.args.limit in
     let ns = range_with_len c.args.first c.loop-i.i in
     let i = c.args.first + c.loop-i.i in
-    let codes = c.deref.ensures.value ∙ c.in_ok-codes.ensures.codes ∙ ap (λ (v : Naming). map (λ P. code_of v.rule P v.limit) (parts (generation_of rule (soup_of root i) c.args.n))) c.loop-i.invariant.names in
+    let names = c.forget.ensures ∙ c.loop-i.invariant.names in
+    let codes = c.deref.ensures.value ∙ c.in_ok-codes.ensures.codes ∙ ap (λ (v : Naming). map (λ P. code_of v.rule P v.limit) (parts (generation_of rule (soup_of root i) c.args.n))) names in
     record {
       counted =
           c.in_ok-count_soup.ensures
@@ -37,5 +38,5 @@ loop-i-preserved g c =
           ∙ ap (λ (os : List (Option (List ℕ))). with_soup i (counts_over all ns) os) codes
           ∙ counts-push all ns i
           ∙ ap (counts_over all) (sym (range-push c.args.first c.loop-i.i));
-      names = c.codes_of_soup.ensures.same ∙ c.loop-i.invariant.names;
+      names = c.codes_of_soup.ensures.same ∙ names;
     }

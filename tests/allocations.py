@@ -170,7 +170,7 @@ def refused_deposits(folder):
 
 # ---- `life serve`
 
-MESSAGES = [deposit("ann", "t1", GLIDER), message("GET", "/deposits/1"), message("GET", "/deposits/1/kind/4"), deposit("ann", "t2", BLOCKS),
+MESSAGES = [message("POST", "/deposits", GLIDER, "host: a", "x-member: ann", "x-token: t1"), message("GET", "/deposits/1"), message("GET", "/deposits/1/kind/4"), deposit("ann", "t2", BLOCKS),
             message("POST", "/deposits/2/censuses/0/1", b"", "x-member: ann", "x-token: c1"), message("GET", "/censuses/1"),
             message("GET", "/censuses/1/csv"), message("GET", "/objects/B3S23/xs4_33/1"), message("GET", "/deposits/after/0")]
 
@@ -275,9 +275,9 @@ def refusals(folder, step):
         check("a C compiler is installed, which the runs with refused allocations want", False)
         return
     refused_deposits(folder)
-    # Each allocation of one deposit; of two reads of a deposit that is kept already, the second of which closes; of a census, whose deposits
-    # are kept already; and some of a run of all requests.
-    reads = [message("GET", "/deposits/1"), message("GET", "/deposits/1/kind/4", version="1.0")]
+    # Each allocation of one deposit; of two reads of a deposit that is kept already, the second of which closes and has bytes after it; of a
+    # census, whose deposits are kept already; and some of a run of all requests.
+    reads = [message("GET", "/deposits/1"), message("GET", "/deposits/1/kind/4", version="1.0") + b"any bytes"]
     refused_messages(folder, "one deposit", [], MESSAGES[:1], (1, 0), 1)
     refused_messages(folder, "two reads", MESSAGES[:1], reads, (1, 0), 1)
     deposits_alone = [one for one in MESSAGES if one.startswith(b"POST /deposits ")]

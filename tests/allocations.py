@@ -266,7 +266,7 @@ def refused_messages(folder, name, before, messages, kept, step):
     again, after which so many deposits and censuses are kept. Up to four processes try a share of them each."""
     tried, wrong, ended, unavailable = shared(refused_share, folder, name, before, messages, kept, step)
     check(f"{tried} allocations over {name} refused, {wrong} answered otherwise", wrong == 0 and tried > 10)
-    check(f"{ended} connections over {name} ended for want of memory", ended > 0 or step > 1)
+    check(f"{ended} connections over {name} ended, out of memory", ended > 0 or step > 1)
     check(f"{unavailable} messages of {name} unavailable", unavailable > 0)
 
 

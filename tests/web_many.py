@@ -113,7 +113,7 @@ def folders(gateway, browser, base, folder):
 
 
 def broken_off(gateway, browser, _base, folder):
-    """If replies stay away it says so, and the same button goes on; nothing is kept twice. After a reload what was not sent is said."""
+    """If replies stay away it says so, and the same button continues; nothing is kept twice. After a reload what was not sent is said."""
     relay = Relay(gateway.port)
     try:
         before = len(listed(gateway))
@@ -123,10 +123,10 @@ def broken_off(gateway, browser, _base, folder):
         browser.type("#many-member", "ann")
         relay.left = 1000
         browser.one("#send-many").click()
-        check("no reply is told", until(lambda: "send it again with the same token" in browser.text(".many .refusal"), PATIENCE))
+        check("no reply is shown", until(lambda: "send it again with the same token" in browser.text(".many .refusal"), PATIENCE))
         relay.left = 0
         browser.one("#send-many").click()
-        check("the same button goes on", done(browser) == "4 files: 4 deposited.")
+        check("the same button continues", done(browser) == "4 files: 4 deposited.")
         check("each is kept once", len(listed(gateway)) == before + 4)
         browser.run("scrollTo(0, 0)")
         browser.drop(written(os.path.join(folder, "broken"), {f"c{number}.rle": f"#N Unsent {number}\nx = {number}, y = 1\n{number}o!\n".encode() for number in range(1, 3)}), ".drop")

@@ -113,7 +113,7 @@ def doubted(gateway, browser, base, _folder):
     browser.type("#run-to", "150")
     browser.run("const speed = document.getElementById('speed'); speed.value = '60'; speed.dispatchEvent(new Event('change'))")
     browser.one("#run").click()
-    check("a difference is told", browser.until(lambda: "generation 100 is not what the archive answers" in browser.text(".refusal")))
+    check("a difference is shown", browser.until(lambda: "generation 100 is not what the archive answers" in browser.text(".refusal")))
     check("the archive's answer is shown", browser.at("/at/100") and browser.until(lambda: OWN in browser.run(SOURCE)))
     browser.type("#run-to", "110")
     browser.one("#run").click()

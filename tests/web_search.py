@@ -123,7 +123,7 @@ def counted(gateway, browser, base, folder):
 
 
 def fed(gateway, browser, base, _):
-    """The feed is told by the page, and is what the archive has."""
+    """The page links the feed, and is what the archive has."""
     browser.open(f"{base}/")
     link = browser.run("return document.querySelector('link[type=\"application/atom+xml\"]').getAttribute('href')")
     status, body, lines = asked(gateway.port, link)

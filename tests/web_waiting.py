@@ -23,7 +23,7 @@ def waiting(gateway, browser, _base, _folder):
             browser.run("location.hash = arguments[0]", address)
             check(f"waiting for {address} is seen", browser.until(lambda: browser.run(VISIBLE)))
             check(f"waiting for {address} is heard", browser.until(lambda: browser.text("#status") == "Waiting for the archive…"))
-            check(f"no reply to {address} is told", browser.until(lambda: browser.text(".refusal")) and browser.settled() and not browser.run(VISIBLE))
+            check(f"no reply to {address} is shown", browser.until(lambda: browser.text(".refusal")) and browser.settled() and not browser.run(VISIBLE))
             relay.away = False
             browser.one(".again").click()
             check(f"{address} once more", browser.until(lambda: heading in browser.text("h1") and not browser.all(".refusal")) and browser.settled())
@@ -53,10 +53,10 @@ def already(_gateway, browser, base, _folder):
         browser.type("#member", "ann")
         browser.one("#send").click()
         time.sleep(OLD)
-        check(f"it is told: {said}", browser.until(lambda: browser.text("h1").startswith("Told ")) and browser.text(".note") == said)
+        check(f"it is shown: {said}", browser.until(lambda: browser.text("h1").startswith("Told ")) and browser.text(".note") == said)
     browser.driver.refresh()
     browser.settled()
-    check("it is told once", browser.until(lambda: browser.text("h1").startswith("Told ")) and browser.text(".note") == "")
+    check("it is shown once", browser.until(lambda: browser.text("h1").startswith("Told ")) and browser.text(".note") == "")
 
 
 def neighbours(gateway, browser, base, _folder):

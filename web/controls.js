@@ -33,7 +33,7 @@ function viewParts(view) {
     pair(grid, make('label', { for: 'grid' }, 'Grid'))];
 }
 
-/** Where a periodic pattern is back: a mark, a button, and playing that begins anew there. `take` is told the period, null if there is none. */
+/** Where a periodic pattern is back: a mark, a button, and playing that begins anew there. `take` gets the period, null if there is none. */
 function backPart(player) {
   const loop = make('input', { id: 'loop', type: 'checkbox', change: () => { player.isLoop = loop.checked; } });
   const part = make('span', { class: 'pair', hidden: true });
@@ -48,7 +48,7 @@ function backPart(player) {
   return { parts: [part, ticks], take };
 }
 
-/** All of them: the bar, what plays and pauses, what is told a period, a generation that is shown, and a change of playing. */
+/** All of them: the bar, what plays and pauses, what gets a period, a generation that is shown, and a change of playing. */
 export function controls(player, view) {
   const play = button('Play', icon('play'), () => toggle(1), { class: 'main', id: 'play' });
   const back = button('Play back', icon('back'), () => toggle(-1), { id: 'back' });

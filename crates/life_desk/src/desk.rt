@@ -465,10 +465,10 @@ fn act<S: Alter>(
     }
 }
 
-/// Answers one request. The reply is the request's one reply, and the archive the one after it; or, where memory or the
-/// store refused, the reply is [`Refusal::Unavailable`] and nothing has changed. What a request is refused for by its own
-/// words alone ([`Refusal::BadMember`], `BadToken`, `OutOfLimit` and `BadRule`) is answered with no growth and no look into
-/// the store, so unavailable never comes in its place.
+/// Answers one request. The reply is the request's one reply, and the archive the one after it; or, if memory or the
+/// store refused, the reply is [`Refusal::Unavailable`], and nothing has changed if the database is sure after the call.
+/// What a request is refused for by its own fields alone ([`Refusal::BadMember`], `BadToken`, `OutOfLimit` and `BadRule`)
+/// is answered without an allocation and without the store, so unavailable never comes in its place.
 pub fn answer<S: Alter>(archive: &mut Archive<S>, alloc: Global, request: Request) -> Reply
     ensures answered { Answered S.Store archive.old archive.new (request ∷ []) (result ∷ []) }
     // A database that is not sure gives no reply that says something of what is kept, unless its disk has lied.

@@ -7,7 +7,8 @@ use life_rle::RleFault;
 use sqlite::Error;
 use std::alloc::AllocError;
 
-/// The store refused, or a growth did, or a row was met that no archive writes. What was kept is kept.
+/// The store or an allocation was refused, or a row was met that no archive writes. If the database is sure after the
+/// call, what was stored is stored and nothing else is.
 #[derive(Clone, Copy, Debug, PartialEq, Eq)]
 pub struct Unavailable;
 

@@ -305,10 +305,10 @@ fn archive_over<D: Disk + Drop>(
 }
 
 impl<D: Disk + Drop> Archive<FileStore<D>> {
-    /// The archive that the files hold; where they hold none of its tables, a new one. An archive of layout 1 is carried
-    /// over in one transaction, in which each census gets its flag; where that fails, it is Unavailable and the
-    /// transaction is rolled back. What the capacity was before plays no part. A refused opening gives the files back: with
-    /// BadCapacity as they were, and with NotOurs once they were closed.
+    /// The archive that the files hold; if they hold none of its tables, a new one. An archive of schema version 1 is
+    /// migrated in one transaction, in which each census gets its flag; if that fails, it is Unavailable. That the
+    /// transaction is rolled back then is only tested. What the capacity was before plays no part. A refused opening gives
+    /// the files back: with BadCapacity as they were, and with NotOurs once they were closed.
     pub fn open_files(
         alloc: Global,
         files: Files<D>,

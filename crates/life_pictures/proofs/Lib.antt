@@ -1,6 +1,7 @@
 pub mod DocumentLemmas
+pub mod FramesLemmas
 pub mod LawsLemmas
-pub mod LinesLemmas
+mod LinesLemmas
 pub mod PartLemmas
 pub mod RunsLemmas
 pub mod TitleLemmas

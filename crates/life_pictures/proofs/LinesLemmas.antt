@@ -78,12 +78,12 @@ module _ (f : ℕ → Bool × Bool) where
   unfolding trimmed
   none = refl
 
-range_last : (f : ℕ → List ℕ) (a n k : ℕ) → a + n ≡ k → flat_map f (range_with_len a (suc n)) ≡ flat_map f (range_with_len a n) ++ f k
+range_last : {X : Type 0} (f : ℕ → List X) (a n k : ℕ) → a + n ≡ k → flat_map f (range_with_len a (suc n)) ≡ flat_map f (range_with_len a n) ++ f k
 range_last f a zero k is = append-nil (f a) ∙ ap f (omega arith)
-range_last f a (suc n) k is = ap (λ text. f a ++ text) (range_last f (a + 1) n k (omega arith)) ∙ sym (append_assoc (f a) (flat_map f (range_with_len (a + 1) n)) (f k))
+range_last f a (suc n) k is = ap (λ rest. f a ++ rest) (range_last f (a + 1) n k (omega arith)) ∙ sym (append_assoc (f a) (flat_map f (range_with_len (a + 1) n)) (f k))
 
--- one more line
-pub flat_map_range : (f : ℕ → List ℕ) (n : ℕ) → flat_map f (range_with_len 0 (n + 1)) ≡ flat_map f (range_with_len 0 n) ++ f n
+-- one more number of a range
+pub flat_map_range : {X : Type 0} (f : ℕ → List X) (n : ℕ) → flat_map f (range_with_len 0 (n + 1)) ≡ flat_map f (range_with_len 0 n) ++ f n
 flat_map_range f n = ap (λ k. flat_map f (range_with_len 0 k)) (add-one n) ∙ range_last f 0 n n (omega arith)
 
 -- all lines

@@ -1,5 +1,5 @@
 -- A picture as an SVG document (W3C, "Scalable Vector Graphics 2").
-use Rattle.std.specs.Prelude.{ℕ, ◌+◌, List, ◌++◌, codes}
+use Rattle.std.specs.Prelude.{ℕ, ◌+◌, List, ◌++◌, codes, Option}
 use Rattle.life_rle.specs.Record.{Contents}
 use Rattle.life_rle.specs.Writer.{pairs_of, width_of, height_of}
 use Rattle.life_pictures.specs.Numbers.{with_number}
@@ -17,9 +17,10 @@ abbrev pub background : ℕ → ℕ → List ℕ
 background width height =
     with_number (codes "<rect x=\"-1\" y=\"-1\" width=\"") (width + 2) ++ with_number (codes "\" height=\"") (height + 2) ++ codes "\" fill=\"white\"/>\n"
 
+-- what stands before the paths
+unfoldable pub front : ℕ → ℕ → Option (List ℕ) → List ℕ
+front width height name = opening width height ++ title name ++ background width height
+
 -- the document of a record
 unfoldable pub svg : Contents → List ℕ
-svg r =
-    let width = width_of (pairs_of r.cells) in
-    let height = height_of (pairs_of r.cells) in
-    opening width height ++ title r.name ++ background width height ++ codes "<path d=\"" ++ path r.cells ++ codes "\"/>\n</svg>\n"
+svg r = front (width_of (pairs_of r.cells)) (height_of (pairs_of r.cells)) r.name ++ codes "<path d=\"" ++ path r.cells ++ codes "\"/>\n</svg>\n"

@@ -1,17 +1,26 @@
 -- What `life-draw` puts for the bytes that come in.
-use Rattle.std.specs.Prelude.{ℕ, List, Result}
+use Rattle.std.specs.Prelude.{ℕ, ◌≤◌, ◌<◌, ◌-◌, List, Result}
 use Rattle.life_rle.specs.declared.fault.RleFault.{RleFault}
 use Rattle.life_rle.specs.Record.{Contents}
 use Rattle.life_jobs.specs.Jobs.{file_text}
 use Rattle.life_pictures.specs.declared.jobs.Picture.{Picture}
-use Rattle.life_pictures.specs.declared.jobs.Picture.TheVariants.{Text, Svg}
+use Rattle.life_pictures.specs.declared.jobs.Picture.TheVariants.{Text, Svg, Animation}
 use Rattle.life_pictures.specs.Lines.{text}
+use Rattle.life_core.specs.declared.generations.TheConstants.{GENERATION_LIMIT}
+use Rattle.life_pictures.specs.declared.frames.TheConstants.{MOST_FRAMES}
 use Rattle.life_pictures.specs.Document.{svg}
+use Rattle.life_pictures.specs.Frames.{animation}
+
+-- the numbers of a picture are good: the generations of an animation may be asked for, and are not too many
+abbrev pub IsGood : Picture → Type 0
+IsGood (Animation first last) = (first ≤ last) × (last ≤ GENERATION_LIMIT) × (last - first < MOST_FRAMES)
+IsGood picture = Unit {0}
 
 -- the picture of a record
 abbrev pub drawn : Picture → Contents → List ℕ
 drawn Text = λ r. text r.cells
 drawn Svg = svg
+drawn (Animation first last) = λ r. animation r first (last - first)
 
 -- the picture of a file, or the file's first fault
 abbrev pub picture_text : Picture → List ℕ → Result (List ℕ) RleFault

@@ -1,7 +1,13 @@
 -- What makes the definitions of pictures believable.
-use Rattle.std.specs.Prelude.{◌≡◌, ◌≢◌, ◌<◌, ◌+◌, ◌-◌, ℕ, Bool, true, false, ◌||◌, List, [], ◌∷◌, ◌++◌, replicate}
+use Rattle.std.specs.Prelude.{◌≡◌, ◌≢◌, ◌≤◌, ◌<◌, ◌+◌, ◌-◌, ℕ, Bool, true, false, ◌||◌, List, [], ◌∷◌, ◌++◌, replicate}
 use Rattle.std.specs.List.{All, flat_map}
+use Rattle.std.specs.FinSet as set
+use Rattle.life_core.specs.declared.cell.Cell.{Cell}
+use Rattle.life_core.specs.Pattern.{Cells, corner, normal}
+use Rattle.life_core.specs.Rule.{RuleSets}
+use Rattle.life_core.specs.Generations.{generation_of}
 use Rattle.life_pictures.specs.declared.runs.Run.{Run}
+use Rattle.life_pictures.specs.Frames.{trail, in_box}
 use Rattle.life_pictures.specs.Lines.{trimmed}
 use Rattle.life_pictures.specs.Runs.{is_right_of, cells_of_run, runs_of}
 use Rattle.life_pictures.specs.Title.{xml_text}
@@ -31,6 +37,13 @@ AreMaximalRuns (run ∷ next ∷ runs) = (0 < run.length) × (is_right_of (run.c
 -- No two neighbours of the runs could be one run.
 abbrev pub RunsAreLongest : Type 0
 RunsAreLongest = (cells : List (ℕ × ℕ)) → AreMaximalRuns (runs_of cells)
+
+-- ---- animations
+
+-- Each cell of a frame is one of the set whose box is the view box.
+abbrev pub FramesAreInTheBox : Type 0
+FramesAreInTheBox = (rule : RuleSets) (X : Cells) (more k : ℕ) (c : Cell) → k ≤ more → set.contains (in_box (corner (trail rule X (more + 1))) (generation_of rule X k)) c ≡ true
+    → set.contains (normal (trail rule X (more + 1))) c ≡ true
 
 -- ---- titles
 

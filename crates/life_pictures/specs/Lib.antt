@@ -4,6 +4,8 @@ pub mod Runs
 pub mod RunsState
 pub mod Title
 pub mod Document
+pub mod Frames
+pub mod FramesState
 pub mod Jobs
 pub mod Words
 pub mod Laws

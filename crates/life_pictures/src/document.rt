@@ -1,13 +1,13 @@
 //! A picture as an SVG document.
 ghost use Rattle.std.specs.Prelude.{◌≡◌, ◌<◌, ◌^◌, ◌++◌, IfOk, OnOk};
-ghost use Rattle.life_pictures.specs.Document.{opening, background, svg};
+ghost use Rattle.life_pictures.specs.Document.{opening, background, front, svg};
 
 use crate::extent::{Extent, extent_of};
 use crate::numbers::put_numbered;
 use crate::runs::put_path;
 use crate::title::put_title;
 use life_core::Fault;
-use life_rle::Record;
+use life_rle::{Record, Text};
 use std::alloc::{AllocError, Allocator};
 
 /// Writes the beginning of the document, with its view box.
@@ -35,6 +35,23 @@ fn put_background<A: Allocator>(out: &mut Vec<u8, A>, extent: Extent) -> Result<
     Ok(())
 }
 
+/// Writes what stands before the paths of a document: its opening, its title and its background.
+pub(crate) fn put_front<A: Allocator + Copy>(
+    alloc: A,
+    out: &mut Vec<u8, A>,
+    name: &Option<Text<A>>,
+    extent: Extent,
+) -> Result<(), AllocError>
+    requires width { extent.width < 2 ^ 62 }
+    requires height { extent.height < 2 ^ 62 }
+    ensures { OnOk result (out.new.items ≡ out.old.items ++ front extent.width extent.height name.now) }
+{
+    put_opening(out, extent)?;
+    put_title(alloc, out, name)?;
+    put_background(out, extent)?;
+    Ok(())
+}
+
 /// The picture of a record as an SVG document: its name as the title, and one path of the longest runs of its cells in each row. The
 /// view box is the cells' box with a margin of one cell.
 pub fn svg<A: Allocator + Copy>(alloc: A, record: &Record<A>) -> Result<Vec<u8, A>, Fault>
@@ -43,9 +60,7 @@ pub fn svg<A: Allocator + Copy>(alloc: A, record: &Record<A>) -> Result<Vec<u8, 
     let cells = record.cells.cells();
     let extent = extent_of(cells);
     let mut out = Vec::new(alloc);
-    put_opening(&mut out, extent)?;
-    put_title(alloc, &mut out, &record.name)?;
-    put_background(&mut out, extent)?;
+    put_front(alloc, &mut out, &record.name, extent)?;
     out.extend_from_slice(b"<path d=\"")?;
     put_path(&mut out, cells)?;
     out.extend_from_slice(b"\"/>\n</svg>\n")?;

@@ -1,13 +1,14 @@
 //! Drawing the pattern file that comes in.
-ghost use Rattle.std.specs.Prelude.{◌≡◌, IfOk};
+ghost use Rattle.std.specs.Prelude.{◌≡◌, ◌↔◌, IsTrue, IfOk, Err};
 ghost use Rattle.life_rle.specs.Record.{IsInside};
 ghost use Rattle.life_jobs.specs.Jobs.{PutsTold};
 ghost use Rattle.life_jobs.specs.Streams.{TakesFile, PutsText, PutsOnce};
-ghost use Rattle.life_pictures.specs.Jobs.{drawn, picture_text};
+ghost use Rattle.life_pictures.specs.Jobs.{IsGood, drawn, picture_text};
 
 use crate::document::svg;
+use crate::frames::{MOST_FRAMES, animation};
 use crate::lines::text;
-use life_core::Fault;
+use life_core::{Fault, GENERATION_LIMIT};
 use life_jobs::{Stop, put_text, read_input};
 use life_rle::{Inlet, Outlet, Record};
 use std::alloc::Global;
@@ -19,16 +20,36 @@ pub enum Picture {
     Text,
     /// An SVG document.
     Svg,
+    /// An SVG document that shows the generations from `first` to `last`, one after the other.
+    Animation { first: u64, last: u64 },
+}
+
+/// Whether the numbers of a picture are good.
+fn is_good(picture: Picture) -> bool
+    ensures { IsTrue result ↔ IsGood picture }
+{
+    match picture {
+        Picture::Text | Picture::Svg => true,
+        Picture::Animation { first, last } => {
+            first <= last
+                && last <= u64::from(GENERATION_LIMIT)
+                && last - first < u64::from(MOST_FRAMES)
+        }
+    }
 }
 
 /// The picture of a record.
 fn drawn(alloc: Global, picture: Picture, record: &Record) -> Result<Vec<u8>, Fault>
+    requires good { IsGood picture }
     requires inside { IsInside 1024 «record».now.cells }
     ensures { IfOk result (λ v. v.items ≡ drawn picture «record».now) }
 {
     match picture {
         Picture::Text => text(alloc, record),
         Picture::Svg => svg(alloc, record),
+        Picture::Animation { first, last } => {
+            animation(alloc, record, first as u32, (last - first) as u32)
+        }
     }
 }
 
@@ -39,6 +60,7 @@ fn put_picture<O: Outlet>(
     record: &Record,
     output: &mut O,
 ) -> Result<(), Stop>
+    requires good { IsGood picture }
     requires inside { IsInside 1024 «record».now.cells }
     ensures puts { PutsText (O.already output.old) (O.already output.new) (drawn picture «record».now) result }
     ensures once { PutsOnce output.old output.new (O.failures output.old) (O.failures output.new) (O.last_failed output.new) result }
@@ -49,19 +71,24 @@ fn put_picture<O: Outlet>(
     }
 }
 
-/// Reads a pattern file and puts its picture. The input is taken to its end, or to byte 1,048,577. No picture is larger than a file may
-/// be: of 1024 columns and 1024 rows.
+/// Reads a pattern file and puts its picture. The numbers of an animation are judged first, before a byte is taken: the first is not above
+/// the last, the last is 2048 at most, and there are at most [`MOST_FRAMES`]. The input is taken to its end, or to byte 1,048,577.
 pub fn run_draw<I: Inlet, O: Outlet>(
     alloc: Global,
     picture: Picture,
     input: &mut I,
     output: &mut O,
 ) -> Result<(), Stop>
-    // Where the bytes that come in are told, what is put is their picture, and a bad pattern is theirs.
-    ensures told { PutsTold (picture_text picture) (I.to_come input.old) (O.already output.old) (O.already output.new) result }
+    ensures limit { (result ≡ Err Stop.OutOfLimit) ↔ ¬ IsGood picture }
+    ensures untouched { ¬ IsGood picture → (input.new ≡ input.old) × (output.new ≡ output.old) }
+    // If the bytes that come in are known, what is put is their picture, and a bad pattern is theirs.
+    ensures told { IsGood picture → PutsTold (picture_text picture) (I.to_come input.old) (O.already output.old) (O.already output.new) result }
     ensures takes { TakesFile (I.to_come input.old) (I.to_come input.new) (I.failures input.old) (I.failures input.new) (I.ends input.old) (I.ends input.new) (I.last_take input.new) result }
     ensures once { PutsOnce output.old output.new (O.failures output.old) (O.failures output.new) (O.last_failed output.new) result }
 {
+    if !is_good(picture) {
+        return Err(Stop::OutOfLimit);
+    }
     match read_input(alloc, input) {
         Ok(record) => put_picture(alloc, picture, &record, output),
         Err(stop) => Err(stop),

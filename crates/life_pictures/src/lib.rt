@@ -3,6 +3,7 @@
 
 mod document;
 mod extent;
+mod frames;
 mod jobs;
 mod laws;
 mod lines;
@@ -12,6 +13,7 @@ mod title;
 mod words;
 
 pub use document::svg;
+pub use frames::{MOST_FRAMES, animation};
 pub use jobs::{Picture, run_draw};
 pub use laws::laws_of_pictures;
 pub use lines::text;

@@ -1,13 +1,15 @@
 //! The words of the command line, read by `clap`.
-ghost use Rattle.std.specs.Prelude.{◌≡◌, map, IfOk, false};
-ghost use Rattle.clap.specs.Simple.{App};
-ghost use Rattle.clap.specs.Words.{app_of, subcommand_rows_of, with_subcommand};
+ghost use Rattle.std.specs.Prelude.{◌≡◌, codes, map, IfOk, false};
+ghost use Rattle.clap.specs.Words.{app_of, rule_of, rows_of, found_of, subcommand_rows_of};
 ghost use Rattle.clap.specs.declared.builder.command.Command.TheViews.{out-Command as fields_of};
-ghost use Rattle.life_pictures.specs.Words.{text_app, svg_app, draw_alone, draw, picture_of, Answers};
+ghost use Rattle.life_words.specs.Words.{number_rule, number_at};
+ghost use Rattle.life_pictures.specs.Words.{text_app, svg_app, animation_app, draw_alone, draw, animation_of, picture_of, Answers};
 
 use crate::jobs::Picture;
-use clap::{ArgMatches, Command};
-use life_words::{WordFault, named_command, program_command};
+use clap::{Arg, ArgMatches, Command};
+use life_words::{
+    WordFault, named_command, number_arg, number_in, program_command, with_arg, with_command,
+};
 use std::alloc::{AllocError, Global};
 use std::convert::AsStr;
 
@@ -25,6 +27,14 @@ Prints:  an SVG document: the pattern's name as its title, and one path of the l
          cells in each row, on white, with a margin of one cell round the live cells' box
 Refuses: bad-pattern NAME, unreadable, unavailable
 Example: life-draw svg < glider.rle > glider.svg";
+
+const ANIMATION_HELP: &str = "\
+Reads:   a pattern file (RLE) on standard input
+Prints:  an SVG document that shows the generations FIRST to LAST one after the other, each for an eighth
+         of a second, over and over, in the box of all of them; the pattern's name is its title
+Refuses: out-of-limit (LAST over 2048 or below FIRST, more than 240 generations), bad-pattern NAME,
+         unreadable, unavailable
+Example: life-draw animation 0 29 < gosper-gun.rle > gun.svg";
 
 const DRAW_HELP: &str = "\
 A refusal is one line 'refused: NAME' on standard error, with status 1.
@@ -68,32 +78,62 @@ fn command_alone<'a>(alloc: Global) -> Command<'a>
     .subcommand_required(true)
 }
 
-// The command with one more subcommand, which has no global argument, if it was made.
-fn with_command<'a>(
-    above: Result<Command<'a>, AllocError>,
-    below: Command<'a>,
-) -> Result<Command<'a>, AllocError>
-    requires { (fields_of below).has_globals ≡ false }
-    ensures { (made added : App) → IfOk above.entry (λ command. app_of command ≡ made) → app_of below.entry ≡ added → IfOk result (λ command. app_of command ≡ with_subcommand made added.top) }
+// The number of the first generation.
+fn first_arg<'a>(alloc: Global) -> Arg<'a>
+    ensures rule { rule_of result ≡ number_rule (codes "FIRST") }
+    ensures local { result.global ≡ false }
 {
-    above?.subcommand(below)
+    number_arg(alloc, "FIRST").help("The number of the first generation, from 0 to 2048")
+}
+
+// The number of the last generation.
+fn last_arg<'a>(alloc: Global) -> Arg<'a>
+    ensures rule { rule_of result ≡ number_rule (codes "LAST") }
+    ensures local { result.global ≡ false }
+{
+    number_arg(alloc, "LAST").help("The number of the last generation, at most FIRST + 239")
+}
+
+fn animation_command<'a>(alloc: Global) -> Result<Command<'a>, AllocError>
+    ensures app { IfOk result (λ command. app_of command ≡ animation_app) }
+    ensures local { IfOk result (λ command. (fields_of command).has_globals ≡ false) }
+{
+    let command = Ok(named_command(
+        alloc,
+        "animation",
+        "Prints generations of the pattern on standard input as an animated SVG document",
+        ANIMATION_HELP,
+    ));
+    let command = with_arg(command, first_arg(alloc));
+    with_arg(command, last_arg(alloc))
 }
 
 /// The command of `life-draw`, with its subcommands in the order in which help lists them.
 pub fn draw_command<'a>(alloc: Global) -> Result<Command<'a>, AllocError>
     ensures { IfOk result (λ command. app_of command ≡ draw) }
 {
-    let command = with_command(Ok(command_alone(alloc)), text_command(alloc));
-    with_command(command, svg_command(alloc))
+    let command = with_command(Ok(command_alone(alloc)), Ok(text_command(alloc)));
+    let command = with_command(command, Ok(svg_command(alloc)));
+    with_command(command, animation_command(alloc))
+}
+
+fn animation_in(found: &ArgMatches<'_>) -> Option<Picture>
+    ensures { result ≡ animation_of (number_at (codes "FIRST") (rows_of (found_of found.now))) (number_at (codes "LAST") (rows_of (found_of found.now))) }
+{
+    Some(Picture::Animation {
+        first: number_in(found, "FIRST")?,
+        last: number_in(found, "LAST")?,
+    })
 }
 
 fn picture_in(matches: &ArgMatches<'_>) -> Option<Picture>
     ensures { result ≡ picture_of (subcommand_rows_of matches.now) }
 {
-    let (name, _) = matches.subcommand()?;
+    let (name, found) = matches.subcommand()?;
     match name {
         "text" => Some(Picture::Text),
         "svg" => Some(Picture::Svg),
+        "animation" => animation_in(found),
         _ => None,
     }
 }

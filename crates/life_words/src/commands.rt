@@ -1,12 +1,13 @@
 //! What the commands of all programs have in common: how they begin, and the words of the process that they are given.
-ghost use Rattle.std.specs.Prelude.{◌≡◌, false};
-ghost use Rattle.clap.specs.Words.{new_app, app_of};
-ghost use Rattle.life_words.specs.Words.{with_version};
+ghost use Rattle.std.specs.Prelude.{◌≡◌, IfOk, false};
+ghost use Rattle.clap.specs.Simple.{App};
+ghost use Rattle.clap.specs.Words.{Rule, new_app, app_of, rule_of, with_rule, with_subcommand};
+ghost use Rattle.life_words.specs.Words.{number_rule, text_rule, with_version};
 ghost use Rattle.clap.specs.declared.builder.command.Command.TheViews.{out-Command as fields_of};
 
 use crate::fault::WordFault;
-use clap::Command;
 use clap::error::ErrorKind;
+use clap::{Arg, Command};
 use std::alloc::{AllocError, Global};
 use std::{env, io};
 
@@ -32,6 +33,45 @@ pub fn program_command<'a>(
     ensures local { (fields_of result).has_globals ≡ false }
 {
     named_command(alloc, name, about, help).version(VERSION)
+}
+
+/// A required argument that is a text.
+pub fn text_arg<'a>(alloc: Global, id: &'a str) -> Arg<'a>
+    ensures rule { rule_of result ≡ text_rule id.entry.now }
+    ensures local { result.global ≡ false }
+{
+    Arg::new(alloc, id).required(true)
+}
+
+/// A required argument that is a number.
+pub fn number_arg<'a>(alloc: Global, id: &'a str) -> Arg<'a>
+    ensures rule { rule_of result ≡ number_rule id.entry.now }
+    ensures local { result.global ≡ false }
+{
+    text_arg(alloc, id).value_parser(clap::value_parser!(u64))
+}
+
+/// The command with one more argument, if the command was made.
+pub fn with_arg<'a>(
+    above: Result<Command<'a>, AllocError>,
+    arg: Arg<'a>,
+) -> Result<Command<'a>, AllocError>
+    requires { arg.global ≡ false }
+    ensures app { (made : App) (rule : Rule) → IfOk above.entry (λ command. app_of command ≡ made) → rule_of arg.entry ≡ rule → IfOk result (λ command. app_of command ≡ with_rule made rule) }
+    ensures local { IfOk above.entry (λ command. (fields_of command).has_globals ≡ false) → IfOk result (λ command. (fields_of command).has_globals ≡ false) }
+{
+    above?.arg(arg)
+}
+
+/// The command with one more subcommand, which has no global argument, if both were made.
+pub fn with_command<'a>(
+    above: Result<Command<'a>, AllocError>,
+    below: Result<Command<'a>, AllocError>,
+) -> Result<Command<'a>, AllocError>
+    requires { IfOk below (λ command. (fields_of command).has_globals ≡ false) }
+    ensures { (made added : App) → IfOk above.entry (λ command. app_of command ≡ made) → IfOk below.entry (λ command. app_of command ≡ added) → IfOk result (λ command. app_of command ≡ with_subcommand made added.top) }
+{
+    above?.subcommand(below?)
 }
 
 /// The words of the process, the program's name first. Where one of them is not UTF-8, they are bad words, with the text that `clap`

@@ -5,6 +5,8 @@ mod commands;
 mod fault;
 mod words;
 
-pub use commands::{VERSION, named_command, program_command, words_of};
+pub use commands::{
+    VERSION, named_command, number_arg, program_command, text_arg, with_arg, with_command, words_of,
+};
 pub use fault::WordFault;
-pub use words::{Job, life_command, read_words};
+pub use words::{Job, life_command, number_in, read_words};

@@ -6,7 +6,9 @@ ghost use Rattle.clap.specs.declared.builder.command.Command.TheViews.{out-Comma
 ghost use Rattle.life_words.specs.Words.{number_rule, number_rule_in, text_rule, file_rule, generation, kind, object, census, deposit, serve, life_alone, life_app, asked_by};
 ghost use Rattle.life_words.specs.Words.{AsksGeneration, AsksKind, number_at, text_at, object_of, census_of, deposit_of, serve_of, job_of, Answers};
 
-use crate::commands::{named_command, program_command};
+use crate::commands::{
+    named_command, number_arg, program_command, text_arg, with_arg, with_command,
+};
 use crate::fault::WordFault;
 use clap::builder::ValueParser;
 use clap::{Arg, ArgMatches, Command};
@@ -91,40 +93,12 @@ pub enum Job<'a> {
     },
 }
 
-// A required word that is a text.
-fn text_arg<'a>(alloc: Global, id: &'a str) -> Arg<'a>
-    ensures rule { rule_of result ≡ text_rule id.entry.now }
-    ensures local { result.global ≡ false }
-{
-    Arg::new(alloc, id).required(true)
-}
-
-// A required word that is a number.
-fn number_arg<'a>(alloc: Global, id: &'a str) -> Arg<'a>
-    ensures rule { rule_of result ≡ number_rule id.entry.now }
-    ensures local { result.global ≡ false }
-{
-    text_arg(alloc, id).value_parser(clap::value_parser!(u64))
-}
-
 // The word that is the number of a generation.
 fn generation_arg<'a>(alloc: Global) -> Arg<'a>
     ensures rule { rule_of result ≡ number_rule (codes "N") }
     ensures local { result.global ≡ false }
 {
     number_arg(alloc, "N").help("The number of the generation, from 0 to 2048")
-}
-
-// The command with one more argument, if the command was made.
-fn with_arg<'a>(
-    above: Result<Command<'a>, AllocError>,
-    arg: Arg<'a>,
-) -> Result<Command<'a>, AllocError>
-    requires { arg.global ≡ false }
-    ensures app { (made : App) (rule : Rule) → IfOk above.entry (λ command. app_of command ≡ made) → rule_of arg.entry ≡ rule → IfOk result (λ command. app_of command ≡ with_rule made rule) }
-    ensures local { IfOk above.entry (λ command. (fields_of command).has_globals ≡ false) → IfOk result (λ command. (fields_of command).has_globals ≡ false) }
-{
-    above?.arg(arg)
 }
 
 fn generation_command<'a>(alloc: Global) -> Result<Command<'a>, AllocError>
@@ -279,17 +253,6 @@ fn serve_command<'a>(alloc: Global) -> Result<Command<'a>, AllocError>
     with_arg(command, connections_arg(alloc))
 }
 
-// The command with one more subcommand, which has no global argument, if both were made.
-fn with_command<'a>(
-    above: Result<Command<'a>, AllocError>,
-    below: Result<Command<'a>, AllocError>,
-) -> Result<Command<'a>, AllocError>
-    requires { IfOk below (λ command. (fields_of command).has_globals ≡ false) }
-    ensures { (made added : App) → IfOk above.entry (λ command. app_of command ≡ made) → IfOk below.entry (λ command. app_of command ≡ added) → IfOk result (λ command. app_of command ≡ with_subcommand made added.top) }
-{
-    above?.subcommand(below?)
-}
-
 // The command without its subcommands.
 fn command_alone<'a>(alloc: Global) -> Command<'a>
     ensures { app_of result ≡ life_alone }
@@ -315,8 +278,8 @@ pub fn life_command<'a>(alloc: Global) -> Result<Command<'a>, AllocError>
     with_command(command, serve_command(alloc))
 }
 
-// The number of the word with this id.
-fn number_in(found: &ArgMatches<'_>, id: &str) -> Option<u64>
+/// The number of the argument with this id.
+pub fn number_in(found: &ArgMatches<'_>, id: &str) -> Option<u64>
     ensures { result ≡ number_at id.now (rows_of (found_of found.now)) }
 {
     found.get_one(id)

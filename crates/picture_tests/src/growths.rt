@@ -2,7 +2,7 @@
 ghost use Rattle.std.specs.Prelude.{◌<◌};
 
 use life_core::Fault;
-use life_pictures::{Picture, svg, text};
+use life_pictures::{Picture, animation, svg, text};
 use life_rle::{Record, RleFault, read};
 use life_tests::refusing::Refusing;
 use std::process::Abort;
@@ -23,6 +23,15 @@ const SVG: &str = "\
 </svg>
 ";
 
+/// The file and its next generation, which is seven cells side by side.
+const ANIMATION: &str = "\
+<svg xmlns=\"http://www.w3.org/2000/svg\" viewBox=\"-1 -1 11 5\" shape-rendering=\"crispEdges\">
+<title>A &amp; B</title>
+<rect x=\"-1\" y=\"-1\" width=\"11\" height=\"5\" fill=\"white\"/>
+<path d=\"M0 0M0 0h1v1h-1zM2 0h1v1h-1zM4 0h1v1h-1zM6 0h1v1h-1zM8 0h1v1h-1zM1 2h1v1h-1zM3 2h1v1h-1zM5 2h1v1h-1zM7 2h1v1h-1z\"><animate attributeName=\"d\" calcMode=\"discrete\" dur=\"250ms\" repeatCount=\"indefinite\" values=\"M0 0M0 0h1v1h-1zM2 0h1v1h-1zM4 0h1v1h-1zM6 0h1v1h-1zM8 0h1v1h-1zM1 2h1v1h-1zM3 2h1v1h-1zM5 2h1v1h-1zM7 2h1v1h-1z;M0 0M1 1h7v1h-7z\"/></path>
+</svg>
+";
+
 /// Whether this is the picture of a record.
 fn is_drawn<'a>(
     alloc: &'a Refusing,
@@ -34,7 +43,10 @@ fn is_drawn<'a>(
         Picture::Text if record.cells.within(1023) => {
             Ok(text(alloc, record)?.as_slice() == TEXT.as_bytes())
         }
-        Picture::Text => Ok(false),
+        Picture::Animation { .. } if record.cells.within(1023) => {
+            Ok(animation(alloc, record, 0, 1)?.as_slice() == ANIMATION.as_bytes())
+        }
+        _ => Ok(false),
     }
 }
 
@@ -81,4 +93,5 @@ fn pictures_with_each_growth_refused(rt: HostRuntime) {
     let refusing = Refusing::new(rt.alloc(), u64::MAX);
     refuse_each_growth(&rt, &refusing, Picture::Text);
     refuse_each_growth(&rt, &refusing, Picture::Svg);
+    refuse_each_growth(&rt, &refusing, Picture::Animation { first: 0, last: 1 });
 }

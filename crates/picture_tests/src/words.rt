@@ -6,7 +6,7 @@ use std::alloc::Global;
 use std::test::Fail;
 
 /// Words, the program's name first, and the picture that they name; none where they are bad words.
-const WORDS: [(&[&str], Option<Picture>); 7] = [
+const WORDS: [(&[&str], Option<Picture>); 10] = [
     (&["life-draw"], None),
     (&["life-draw", "png"], None),
     (&["life-draw", "text", "svg"], None),
@@ -14,6 +14,12 @@ const WORDS: [(&[&str], Option<Picture>); 7] = [
     (&["life-draw", "svg", "--help"], None),
     (&["life-draw", "text"], Some(Picture::Text)),
     (&["life-draw", "svg"], Some(Picture::Svg)),
+    (&["life-draw", "animation", "3"], None),
+    (&["life-draw", "animation", "3", "-1"], None),
+    (
+        &["life-draw", "animation", "30", "4"],
+        Some(Picture::Animation { first: 30, last: 4 }),
+    ),
 ];
 
 /// Whether the words name the picture, or are bad words where there is none.

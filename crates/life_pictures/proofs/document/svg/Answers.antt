@@ -13,6 +13,6 @@ pub returns : goal.returns
 returns g c =
     let inside = c.record.inside in
     let r : Contents = record { name = inside.name; author = inside.author; comments = inside.comments; rule = inside.rule; cells = inside.cells } in
-    document r c.args.record.now c.cells-cells.result.now c.extent_of-extent.result.width c.extent_of-extent.result.height _ _ _ _ _ _ _
-    c.new-out.ensures.items c.in_ok-put_opening.ensures c.in_ok-put_title.ensures c.in_ok-put_background.ensures c.in_ok-extend_from_slice.ensures.items
-    c.in_ok-put_path.ensures c.in_ok-extend_from_slice-2.ensures.items c.extent_of-extent.ensures.width c.extent_of-extent.ensures.height c.cells-cells.ensures.cells c.record.view_is
+    document r c.args.record.now c.cells-cells.result.now c.extent_of-extent.result.width c.extent_of-extent.result.height _ _ _ _ _
+    c.new-out.ensures.items c.in_ok-put_front.ensures c.in_ok-extend_from_slice.ensures.items c.in_ok-put_path.ensures c.in_ok-extend_from_slice-2.ensures.items
+    c.extent_of-extent.ensures.width c.extent_of-extent.ensures.height c.cells-cells.ensures.cells c.record.view_is

@@ -1,0 +1,164 @@
+//! A pattern in motion as an SVG document: a frame for each generation, all in one box.
+ghost use Rattle.std.specs.Prelude.{◌≡◌, ◌≤◌, ◌<◌, ◌++◌, ℕ, IfOk, OnOk};
+ghost use Rattle.life_core.specs.Cell.{IsCellWithin};
+ghost use Rattle.life_core.specs.Generations.{generation_of};
+ghost use Rattle.life_core.specs.Pattern.{IsWithin, corner};
+ghost use Rattle.life_rle.specs.Record.{IsInside};
+ghost use Rattle.life_pictures.specs.Frames.{trail, frame, next_frames, animated_path, moving, animation};
+ghost use Rattle.life_pictures.specs.FramesState.{IsCornerOf};
+
+use crate::document::put_front;
+use crate::extent::extent_of;
+use crate::numbers::put_numbered;
+use crate::runs::put_path;
+use life_core::{Cell, Fault, GENERATION_LIMIT, Pattern, Rule, generation};
+use life_rle::{Record, Text};
+use std::alloc::Allocator;
+
+/// The most frames of an animation: its document is made whole before any of it is put.
+pub const MOST_FRAMES: u32 = 240;
+
+/// The upper left cell of a pattern's box, or the origin if it has no cell.
+fn corner_of<A: Allocator>(pattern: &Pattern<A>) -> Cell
+    requires { IsWithin 4096 pattern.now }
+    ensures corner { result ≡ corner pattern.now }
+    ensures first { IsCornerOf result pattern.now }
+    ensures within { IsCellWithin 4096 result }
+{
+    match pattern.bounds() {
+        None => Cell { row: 0, column: 0 },
+        Some(bounds) => Cell {
+            row: bounds.top,
+            column: bounds.left,
+        },
+    }
+}
+
+/// All cells that are live in a pattern or in one of its generations, so many in all.
+fn trail<A: Allocator + Copy>(
+    alloc: A,
+    rule: &Rule,
+    start: &Pattern<A>,
+    count: u32,
+) -> Result<Pattern<A>, Fault>
+    requires few { count ≤ MOST_FRAMES }
+    requires within { IsWithin 3072 start.now }
+    ensures trail { IfOk result (λ X. X ≡ trail rule.now start.now count) }
+    ensures within { IfOk result (IsWithin 4096) }
+{
+    let mut cells = Vec::new(alloc);
+    let mut now = start.copy(alloc)?;
+    for _i in 0..count {
+        cells.extend_from_slice(now.cells())?;
+        now = generation(alloc, rule, &now, 1)?;
+    }
+    Ok(Pattern::from_list(cells))
+}
+
+/// Writes the frame of a pattern in a box with this upper left cell.
+fn put_frame<A: Allocator + Copy>(
+    alloc: A,
+    out: &mut Vec<u8, A>,
+    pattern: &Pattern<A>,
+    at: Cell,
+) -> Result<(), Fault>
+    requires pattern { IsWithin 4096 pattern.now }
+    requires at { IsCellWithin 4096 at }
+    requires first { IsCornerOf at pattern.now }
+    ensures { OnOk result (out.new.items ≡ out.old.items ++ frame at pattern.now) }
+{
+    let placed = pattern.moved(alloc, -at.column, -at.row)?;
+    out.extend_from_slice(b"M0 0")?;
+    put_path(out, placed.cells())?;
+    Ok(())
+}
+
+/// Writes the frames of so many generations after a pattern.
+fn put_next_frames<A: Allocator + Copy>(
+    alloc: A,
+    out: &mut Vec<u8, A>,
+    rule: &Rule,
+    start: &Pattern<A>,
+    at: Cell,
+    count: u32,
+) -> Result<(), Fault>
+    requires few { count < MOST_FRAMES }
+    requires within { IsWithin 3072 start.now }
+    requires at { IsCellWithin 4096 at }
+    requires first { (k : ℕ) → k ≤ count → IsCornerOf at (generation_of rule.now start.now k) }
+    ensures { OnOk result (out.new.items ≡ out.old.items ++ next_frames rule.now start.now at count) }
+{
+    let mut now = start.copy(alloc)?;
+    for _i in 0..count {
+        now = generation(alloc, rule, &now, 1)?;
+        out.extend_from_slice(b";")?;
+        put_frame(alloc, out, &now, at)?;
+    }
+    Ok(())
+}
+
+/// Writes the path that shows a pattern and so many generations after it.
+fn put_animated_path<A: Allocator + Copy>(
+    alloc: A,
+    out: &mut Vec<u8, A>,
+    rule: &Rule,
+    start: &Pattern<A>,
+    at: Cell,
+    more: u32,
+) -> Result<(), Fault>
+    requires few { more < MOST_FRAMES }
+    requires within { IsWithin 3072 start.now }
+    requires at { IsCellWithin 4096 at }
+    requires first { (k : ℕ) → k ≤ more → IsCornerOf at (generation_of rule.now start.now k) }
+    ensures { OnOk result (out.new.items ≡ out.old.items ++ animated_path rule.now start.now at more) }
+{
+    out.extend_from_slice(b"<path d=\"")?;
+    put_frame(alloc, out, start, at)?;
+    let opening = b"\"><animate attributeName=\"d\" calcMode=\"discrete\" dur=\"";
+    put_numbered(out, opening, 125 * (u64::from(more) + 1))?;
+    out.extend_from_slice(b"ms\" repeatCount=\"indefinite\" values=\"")?;
+    put_frame(alloc, out, start, at)?;
+    put_next_frames(alloc, out, rule, start, at, more)?;
+    out.extend_from_slice(b"\"/></path>\n")?;
+    Ok(())
+}
+
+/// A pattern of this name and so many generations after it as an SVG document.
+fn moving<A: Allocator + Copy>(
+    alloc: A,
+    name: &Option<Text<A>>,
+    rule: &Rule,
+    start: &Pattern<A>,
+    more: u32,
+) -> Result<Vec<u8, A>, Fault>
+    requires few { more < MOST_FRAMES }
+    requires within { IsWithin 3072 start.now }
+    ensures { IfOk result (λ v. v.items ≡ moving name.now rule.now start.now more) }
+{
+    let all = trail(alloc, rule, start, more + 1)?;
+    let at = corner_of(&all);
+    let all = all.into_normal();
+    let extent = extent_of(all.cells());
+    let mut out = Vec::new(alloc);
+    put_front(alloc, &mut out, name, extent)?;
+    put_animated_path(alloc, &mut out, rule, start, at, more)?;
+    out.extend_from_slice(b"</svg>\n")?;
+    Ok(out)
+}
+
+/// Generation `n` of a record and so many more as an SVG document that shows one after the other. The title is the record's name, and the
+/// view box is the box of all of them, with a margin of one cell.
+pub fn animation<A: Allocator + Copy>(
+    alloc: A,
+    record: &Record<A>,
+    n: u32,
+    more: u32,
+) -> Result<Vec<u8, A>, Fault>
+    requires few { n ≤ GENERATION_LIMIT }
+    requires more { more < MOST_FRAMES }
+    requires inside { IsInside 1024 «record».now.cells }
+    ensures { IfOk result (λ v. v.items ≡ animation «record».now n more) }
+{
+    let start = generation(alloc, &record.rule, &record.cells, n)?;
+    moving(alloc, &record.name, &record.rule, &start, more)
+}

@@ -29,7 +29,7 @@ def objects(haul):
 
 
 def known_names():
-    with open(os.path.join(HERE, "objects.csv"), encoding="ascii") as lines:
+    with open(os.path.join(HERE, "..", "web", "objects.csv"), encoding="ascii") as lines:
         return {row["code"]: row["name"] for row in csv.DictReader(line for line in lines if not line.startswith("#"))}
 
 

@@ -1,4 +1,4 @@
-"""The page #haul for tests/web: the table of a haul that is dropped or chosen is shown, and what is none is refused.
+"""The page of hauls for tests/web: the table of a haul that is dropped or chosen is shown, and what is none is refused.
 
 Tables and soups are made by haul_reference.py.
 """
@@ -41,15 +41,15 @@ def written(folder, name, text):
 
 
 def at_haul(browser, base):
-    browser.open(f"{base}/#haul")
-    return browser.at("#haul")
+    browser.open(f"{base}/haul")
+    return browser.at("/haul")
 
 
 # ---- what is shown
 
 ROWS = """
 return [...document.querySelectorAll('main tbody tr')].map((row) => ({ code: row.querySelector('th code').textContent, name: row.querySelector('th small')?.textContent ?? null,
-  link: row.querySelector('th a').hash, numbers: [...row.querySelectorAll('.number')].map((cell) => cell.textContent), bar: row.querySelector('.bar').getBoundingClientRect().width }));
+  link: row.querySelector('th a').pathname, numbers: [...row.querySelectorAll('.number')].map((cell) => cell.textContent), bar: row.querySelector('.bar').getBoundingClientRect().width }));
 """
 # For each row the pixels of its drawing that are of the color of live cells; null if it has none.
 DRAWN = """
@@ -83,7 +83,7 @@ def is_listed(rows, haul, rule):
     """Whether the rows are the objects of a haul with their names, numbers, links and bars."""
     names = known_names() if rule == LIFE else {}
     codes, most = objects(haul), max(count for count, _ in haul.values())
-    wanted = [{"code": code, "name": names.get(code), "link": f"#code/{code}/{rule.replace('/', '-')}", "numbers": [f"{number:,}" for number in haul[code]]} for code in codes]
+    wanted = [{"code": code, "name": names.get(code), "link": f"/o/{rule.replace('/', '-')}/{code}", "numbers": [f"{number:,}" for number in haul[code]]} for code in codes]
     widest = rows[0]["bar"] * most / haul[codes[0]][0] if rows else 0
     # The shortest bar has two pixels.
     bars = all(abs(row["bar"] - max(2, widest * haul[code][0] / most)) < 1 for row, code in zip(rows, codes))
@@ -175,12 +175,12 @@ def soup_deposited(gateway, browser, base, folder):
     browser.one(f"button[aria-label='Soup {FOUND}: see it, deposit it']").click()
     cells = {(cell % haul_reference.ROW - haul_reference.ORIGIN, cell // haul_reference.ROW) for cell in haul_reference.soup(ROOT, FOUND)}
     wanted = (f"soup {FOUND} of {ROOT}".encode(), None, (), reference.LIFE, reference.normal(cells))
-    text = browser.at("#new") and browser.until(lambda: browser.run("return document.getElementById('pattern').value"))
+    text = browser.at("/new") and browser.until(lambda: browser.run("return document.getElementById('pattern').value"))
     check("a soup in the form", text and reference.read_file(text.encode()) == wanted)
     check("a soup is drawn", browser.until(lambda: f"soup {FOUND} of {ROOT}: {len(cells)} cells" in browser.text(".preview")))
     browser.type("#member", "ann")
     browser.one("#send").click()
-    browser.until(lambda: "#deposit/" in browser.driver.current_url)
+    browser.until(lambda: "/d/" in browser.driver.current_url)
     number = browser.driver.current_url.rsplit("/", 1)[1]
     check("a soup is deposited", exchanged(gateway.life_port, [message("GET", f"/deposits/{number}")]) == reference.reply(200, "text/plain", reference.file_text(wanted)))
 

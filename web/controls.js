@@ -1,5 +1,6 @@
 // The buttons under the canvas of a deposit, and the keys that do the same.
 
+import { depositAddress, go } from './address.js';
 import { LAST_GENERATION } from './archive.js';
 import { counted, icon, make } from './dom.js';
 import { keepSetting, setting } from './kept.js';
@@ -75,6 +76,6 @@ export function keysOf(page, player, view, toggle, next) {
     ' ': () => (player.direction === 0 ? toggle(1) : player.pause()), b: () => toggle(-1), ArrowRight: () => player.step(1), ArrowLeft: () => player.step(-1),
     Home: () => player.go(0), End: () => player.go(LAST_GENERATION), '+': () => view.zoom(1), '=': () => view.zoom(1), '-': () => view.zoom(-1), 0: () => view.fit(),
     'shift ArrowLeft': () => view.pan(-0.1, 0), 'shift ArrowRight': () => view.pan(0.1, 0), 'shift ArrowUp': () => view.pan(0, -0.1), 'shift ArrowDown': () => view.pan(0, 0.1),
-    ']': () => { if (next) location.hash = `#deposit/${next.id}`; },
+    ']': () => { if (next) go(depositAddress(next.id)); },
   });
 }

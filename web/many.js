@@ -1,6 +1,7 @@
 // Many files at once: each is drawn small, or has its fault; one press deposits all that are good, one after the other; and a table says
 // what became of each, also after a reload.
 
+import { depositAddress } from './address.js';
 import { sendDeposit } from './archive.js';
 import { counted, field, isMember, make, many, memberInput, refusal, rememberMember } from './dom.js';
 import { thumbnail } from './draw.js';
@@ -63,7 +64,7 @@ class Row {
 
   say(text = '') {
     this.line.className = this.refused ? 'bad' : '';
-    if (this.kept !== null) this.outcome.replaceChildren(make('a', { href: `#deposit/${this.kept}` }, `deposit ${counted(this.kept)}`));
+    if (this.kept !== null) this.outcome.replaceChildren(make('a', { href: depositAddress(this.kept) }, `deposit ${counted(this.kept)}`));
     else this.outcome.replaceChildren(this.refused ?? text);
   }
 }

@@ -21,7 +21,7 @@ ADDRESSES = [("/", "", "Deposits"), ("/d", "", "Deposits"), ("/d/after/3", "", "
 NOWHERE = ["/x", "/d/", "/d/x", "/d/4/", "/d/4/at", "/d/4/at/x", "/d/-1", "/d/1234567890123456", "/d/of/a_b", "/c/", "/c/x", "/c/1/csv", "/o", "/o/B3-S23", "/o/B3/S23/xs4_33", "/new/1", "/finds",
            "/deposit/4", "/index", "/index/", "/web", "/web/", "/%78", "/census/1", "/index.html", "/preview.png"]
 # Routes of the archive, some with a reply that refuses.
-ROUTES = ["/deposits/1", "/deposits/1/at/7", "/deposits/1/kind/4", "/deposits/after/0", "/censuses/1", "/censuses/1/csv", "/objects/B3S23/xq4_153/4", "/deposits", "/deposits/x", "/deposits/900", "/deposits/1/",
+ROUTES = ["/deposits/1", "/deposits/1/at/7", "/deposits/1/kind/4", "/deposits/after/1000000", "/censuses/1", "/censuses/1/csv", "/objects/B3S23/xq4_153/4", "/deposits", "/deposits/x", "/deposits/900", "/deposits/1/",
           "/censuses/900", "/censuses/x/csv", "/objects/B3S23/xq4_154/4", "/objects/B3-S23", "/objects/"]
 SITE_NAME = "Life archive"
 CODE = "xp3_co9nas0san9oczgoldlo0oldlogz1047210127401"

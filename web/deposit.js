@@ -1,6 +1,7 @@
 // One deposit: its generations on a large canvas, played forward and back, its kind and code, its file, and a census of it.
 
 import { censusAddress, depositAddress, go, memberAddress, objectAddress } from './address.js';
+import { Ages } from './ages.js';
 import { LAST_GENERATION, deposit, depositsAfter, kind, sendCensus } from './archive.js';
 import { objectNames } from './code.js';
 import { controls, keysOf } from './controls.js';
@@ -161,13 +162,15 @@ class Stage {
     this.view = new View(this.canvas, page.signal);
     this.plot = new Plot((at) => this.player.go(at));
     this.player = new Player(number, page.signal, this);
-    this.bar = controls(this.player, this.view);
+    this.ages = new Ages((at) => this.player.made(at), (found) => this.view.showAges(found));
+    this.bar = controls(this.player, this.view, this.ages);
   }
 
   /** Shows a generation; `bytes` is null where the page made it. Answers where it was put. */
   shown(at, record, bytes, place) {
     const { pattern } = record;
     const put = this.view.show(pattern, place);
+    this.ages.show(at);
     this.bar.at(at);
     this.facts.population.replaceChildren(counted(pattern.population));
     this.facts.box.replaceChildren(`${counted(pattern.width)} by ${counted(pattern.height)}`);

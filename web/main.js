@@ -3,7 +3,7 @@
 
 import { go, newAddress } from './address.js';
 import { againButton, make, refusal } from './dom.js';
-import { keepPlace, place } from './kept.js';
+import { keepPlace, keepSetting, place, setting } from './kept.js';
 import { deposits, depositsOf } from './list.js';
 import { patternsOf } from './names.js';
 import { Refused } from './refusals.js';
@@ -219,6 +219,17 @@ document.addEventListener('paste', (event) => {
   if (files.length > 0) take(files);
   else if (/^\s*(#|x\s*=)/i.test(text)) take([new Blob([text])]);
 });
+
+// ---- the theme, which this browser keeps
+
+const theme = document.getElementById('theme');
+const keptTheme = () => { theme.value = ['light', 'dark'].includes(setting('theme')) ? setting('theme') : 'system'; };
+theme.addEventListener('change', () => {
+  keepSetting('theme', theme.value === 'system' ? null : theme.value);
+  dispatchEvent(new CustomEvent('theme', { detail: theme.value }));
+});
+addEventListener('storage', keptTheme);
+keptTheme();
 
 document.getElementById('keys-button').addEventListener('click', () => keysDialog.showModal());
 document.getElementById('skip').addEventListener('click', () => main.focus());

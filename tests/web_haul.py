@@ -11,9 +11,9 @@ from clients import HERE, check, exchanged, message
 
 ROOT, FIRST, SOUPS, GENERATION, LIMIT = "ann-2026", 1000, 5000, 2048, 60
 LIFE, HIGHLIFE = "B3/S23", "B36/S23"
-# Two objects that the table of names does not have: a traffic light, and a code that is none but has the form of one.
-TRAFFIC_LIGHT, UNKNOWN = "xp2_s01110szw222", "xs999_0"
-HAUL = {"xs4_33": (6107, 1000), "xq4_153": (1856, 1001), "xp2_7": (2451, 1003), "xs6_696": (3131, 1000), TRAFFIC_LIGHT: (611, 5481), UNKNOWN: (2, 1012), None: (489, 1042)}
+# An object that has a name only as a constellation, and two that have none: three blinkers, and a code that is none but has the form of one.
+TRAFFIC_LIGHT, THREE_BLINKERS, UNKNOWN = "xp2_s01110szw222", "xp2_70ggg07", "xs999_0"
+HAUL = {"xs4_33": (6107, 1000), "xq4_153": (1856, 1001), "xp2_7": (2451, 1003), "xs6_696": (3131, 1000), TRAFFIC_LIGHT: (611, 5481), THREE_BLINKERS: (269, 1007), UNKNOWN: (2, 1012), None: (489, 1042)}
 FOUND = 5481
 # The longest table that is read, in bytes.
 LONGEST = 16_777_216

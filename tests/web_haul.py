@@ -11,7 +11,7 @@ from clients import HERE, check, exchanged, message
 
 ROOT, FIRST, SOUPS, GENERATION, LIMIT = "ann-2026", 1000, 5000, 2048, 60
 LIFE, HIGHLIFE = "B3/S23", "B36/S23"
-# An object that has a name only as a constellation, and two that have none: three blinkers, and a code that is none but has the form of one.
+# A constellation, which has a name, and two that have none: three blinkers, and a code that is none but has the form of one.
 TRAFFIC_LIGHT, THREE_BLINKERS, UNKNOWN = "xp2_s01110szw222", "xp2_70ggg07", "xs999_0"
 HAUL = {"xs4_33": (6107, 1000), "xq4_153": (1856, 1001), "xp2_7": (2451, 1003), "xs6_696": (3131, 1000), TRAFFIC_LIGHT: (611, 5481), THREE_BLINKERS: (269, 1007), UNKNOWN: (2, 1012), None: (489, 1042)}
 FOUND = 5481
@@ -108,7 +108,7 @@ def dropped(browser, base, folder):
     browser.drop([written(folder, "ann.csv", table())], "main")
     check("a table that is dropped", is_shown(browser, HAUL, LIFE))
     names = {row["code"]: row["name"] for row in browser.run(ROWS)}
-    check("names of what is known alone", (names["xs4_33"], names["xq4_153"], names[TRAFFIC_LIGHT], names[UNKNOWN]) == ("block", "glider", None, None))
+    check("names of what is known alone", (names["xs4_33"], names["xq4_153"], names[TRAFFIC_LIGHT], names[THREE_BLINKERS], names[UNKNOWN]) == ("block", "glider", "traffic light", None, None))
     drawings = browser.wait_for(DRAWN)
     check("a drawing of each object", [is_drawn(code, pixels) for code, pixels in zip(objects(HAUL), drawings)] == [True] * len(objects(HAUL)))
     check("no drawing of a code without cells", [pixels is None for pixels in drawings] == [code == UNKNOWN for code in objects(HAUL)])

@@ -6,7 +6,7 @@ import { sendDeposit } from './archive.js';
 import { counted, field, isMember, make, many, memberInput, refusal, rememberMember } from './dom.js';
 import { thumbnail } from './draw.js';
 import { draft, keepDraft } from './kept.js';
-import { baseName, withTexts } from './names.js';
+import { baseName, pathOf, withTexts } from './names.js';
 import { Refused, sentenceOf } from './refusals.js';
 import { Fault, LONGEST, readFile } from './rle.js';
 import { ruleText } from './rule.js';
@@ -26,7 +26,7 @@ class Row {
 
   constructor(file) {
     this.file = file;
-    this.name = file.webkitRelativePath || file.relativePath || file.name;
+    this.name = pathOf(file);
     this.picture = make('td', { class: 'drawn' });
     this.facts = make('small');
     this.outcome = make('td', { class: 'outcome' });

@@ -68,6 +68,10 @@ class Browser:
         self.driver.get(address)
         self.settled()
 
+    def go(self, address):
+        """Goes to an address as a link of the pages does, and does not wait."""
+        self.run("history.pushState(null, '', arguments[0]); dispatchEvent(new PopStateEvent('popstate'))", address)
+
     def settled(self):
         return self.until(lambda: self.run("const main = document.getElementById('main'); return !main.hasAttribute('aria-busy') && !!main.querySelector('h1')"))
 

@@ -1,4 +1,4 @@
-"""The page #haul for tests/web: the table of a haul that is dropped or chosen is shown, and what is none is refused.
+"""The page of hauls for tests/web: the table of a haul that is dropped or chosen is shown, and what is none is refused.
 
 Tables and soups are made by haul_reference.py.
 """
@@ -11,9 +11,9 @@ from clients import HERE, check, exchanged, message
 
 ROOT, FIRST, SOUPS, GENERATION, LIMIT = "ann-2026", 1000, 5000, 2048, 60
 LIFE, HIGHLIFE = "B3/S23", "B36/S23"
-# Two objects that the table of names does not have: a traffic light, and a code that is none but has the form of one.
-TRAFFIC_LIGHT, UNKNOWN = "xp2_s01110szw222", "xs999_0"
-HAUL = {"xs4_33": (6107, 1000), "xq4_153": (1856, 1001), "xp2_7": (2451, 1003), "xs6_696": (3131, 1000), TRAFFIC_LIGHT: (611, 5481), UNKNOWN: (2, 1012), None: (489, 1042)}
+# A constellation, which has a name, and two that have none: three blinkers, and a code that is none but has the form of one.
+TRAFFIC_LIGHT, THREE_BLINKERS, UNKNOWN = "xp2_s01110szw222", "xp2_70ggg07", "xs999_0"
+HAUL = {"xs4_33": (6107, 1000), "xq4_153": (1856, 1001), "xp2_7": (2451, 1003), "xs6_696": (3131, 1000), TRAFFIC_LIGHT: (611, 5481), THREE_BLINKERS: (269, 1007), UNKNOWN: (2, 1012), None: (489, 1042)}
 FOUND = 5481
 # The longest table that is read, in bytes.
 LONGEST = 16_777_216
@@ -29,7 +29,7 @@ def objects(haul):
 
 
 def known_names():
-    with open(os.path.join(HERE, "objects.csv"), encoding="ascii") as lines:
+    with open(os.path.join(HERE, "..", "web", "objects.csv"), encoding="ascii") as lines:
         return {row["code"]: row["name"] for row in csv.DictReader(line for line in lines if not line.startswith("#"))}
 
 
@@ -41,15 +41,15 @@ def written(folder, name, text):
 
 
 def at_haul(browser, base):
-    browser.open(f"{base}/#haul")
-    return browser.at("#haul")
+    browser.open(f"{base}/haul")
+    return browser.at("/haul")
 
 
 # ---- what is shown
 
 ROWS = """
 return [...document.querySelectorAll('main tbody tr')].map((row) => ({ code: row.querySelector('th code').textContent, name: row.querySelector('th small')?.textContent ?? null,
-  link: row.querySelector('th a').hash, numbers: [...row.querySelectorAll('.number')].map((cell) => cell.textContent), bar: row.querySelector('.bar').getBoundingClientRect().width }));
+  link: row.querySelector('th a').pathname, numbers: [...row.querySelectorAll('.number')].map((cell) => cell.textContent), bar: row.querySelector('.bar').getBoundingClientRect().width }));
 """
 # For each row the pixels of its drawing that are of the color of live cells; null if it has none.
 DRAWN = """
@@ -83,7 +83,7 @@ def is_listed(rows, haul, rule):
     """Whether the rows are the objects of a haul with their names, numbers, links and bars."""
     names = known_names() if rule == LIFE else {}
     codes, most = objects(haul), max(count for count, _ in haul.values())
-    wanted = [{"code": code, "name": names.get(code), "link": f"#code/{code}/{rule.replace('/', '-')}", "numbers": [f"{number:,}" for number in haul[code]]} for code in codes]
+    wanted = [{"code": code, "name": names.get(code), "link": f"/o/{rule.replace('/', '-')}/{code}", "numbers": [f"{number:,}" for number in haul[code]]} for code in codes]
     widest = rows[0]["bar"] * most / haul[codes[0]][0] if rows else 0
     # The shortest bar has two pixels.
     bars = all(abs(row["bar"] - max(2, widest * haul[code][0] / most)) < 1 for row, code in zip(rows, codes))
@@ -108,7 +108,7 @@ def dropped(browser, base, folder):
     browser.drop([written(folder, "ann.csv", table())], "main")
     check("a table that is dropped", is_shown(browser, HAUL, LIFE))
     names = {row["code"]: row["name"] for row in browser.run(ROWS)}
-    check("names of what is known alone", (names["xs4_33"], names["xq4_153"], names[TRAFFIC_LIGHT], names[UNKNOWN]) == ("block", "glider", None, None))
+    check("names of what is known alone", (names["xs4_33"], names["xq4_153"], names[TRAFFIC_LIGHT], names[THREE_BLINKERS], names[UNKNOWN]) == ("block", "glider", "traffic light", None, None))
     drawings = browser.wait_for(DRAWN)
     check("a drawing of each object", [is_drawn(code, pixels) for code, pixels in zip(objects(HAUL), drawings)] == [True] * len(objects(HAUL)))
     check("no drawing of a code without cells", [pixels is None for pixels in drawings] == [code == UNKNOWN for code in objects(HAUL)])
@@ -175,12 +175,12 @@ def soup_deposited(gateway, browser, base, folder):
     browser.one(f"button[aria-label='Soup {FOUND}: see it, deposit it']").click()
     cells = {(cell % haul_reference.ROW - haul_reference.ORIGIN, cell // haul_reference.ROW) for cell in haul_reference.soup(ROOT, FOUND)}
     wanted = (f"soup {FOUND} of {ROOT}".encode(), None, (), reference.LIFE, reference.normal(cells))
-    text = browser.at("#new") and browser.until(lambda: browser.run("return document.getElementById('pattern').value"))
+    text = browser.at("/new") and browser.until(lambda: browser.run("return document.getElementById('pattern').value"))
     check("a soup in the form", text and reference.read_file(text.encode()) == wanted)
     check("a soup is drawn", browser.until(lambda: f"soup {FOUND} of {ROOT}: {len(cells)} cells" in browser.text(".preview")))
     browser.type("#member", "ann")
     browser.one("#send").click()
-    browser.until(lambda: "#deposit/" in browser.driver.current_url)
+    browser.until(lambda: "/d/" in browser.driver.current_url)
     number = browser.driver.current_url.rsplit("/", 1)[1]
     check("a soup is deposited", exchanged(gateway.life_port, [message("GET", f"/deposits/{number}")]) == reference.reply(200, "text/plain", reference.file_text(wanted)))
 

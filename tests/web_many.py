@@ -35,7 +35,7 @@ def done(browser):
 def names(gateway, browser, base, folder):
     """A file without a name gets the one that is typed, or its file's, and so its author; one that has them stays byte by byte."""
     bare, whole = written(os.path.join(folder, "bare"), {"my-gun.rle": b"#C bare\nx = 3, y = 1\n3o!\n", "whole.rle": b"#N Whole\n#O Eve\nx = 4, y = 1, rule = B3/S23\n4o!\n"})
-    browser.open(f"{base}/#new")
+    browser.open(f"{base}/new")
     browser.drop([bare], ".drop")
     check("the file's name is offered", browser.until(lambda: browser.text("#offer") == "Name it “my-gun”") and browser.run("return document.getElementById('text-name').value") == "")
     token = "return document.getElementById('token').value"
@@ -49,7 +49,7 @@ def names(gateway, browser, base, folder):
     check("it is kept by its name", browser.until(lambda: browser.text("h1").startswith("my-gun ")))
     number = listed(gateway)[-1]["id"]
     check("what is kept of it", told(gateway, f"/deposits/{number}") == "#N my-gun\n#O Éva\n#C bare\nx = 3, y = 1, rule = B3/S23\n3o!\n".encode())
-    browser.open(f"{base}/#new")
+    browser.open(f"{base}/new")
     browser.drop([whole], ".drop")
     check("a file with a name keeps it", browser.until(lambda: browser.run("return ['text-name', 'text-author'].map((id) => [document.getElementById(id).value, document.getElementById(id).disabled])")
                                                        == [["Whole", True], ["Eve", True]]) and not browser.one("#offer").is_displayed())
@@ -66,9 +66,9 @@ def dropped(gateway, browser, base, folder):
     """Many files at once: each is drawn or has its fault, one press deposits the good ones, and the table says what became of each."""
     files = {f"{number:02}.rle": named_file(number) for number in range(2, MANY + 2)} | {"cut.rle": CUT, "long.rle": b" " * 1_048_577, "again.rle": named_file(2)}
     before = len(listed(gateway))
-    browser.open(f"{base}/#deposits")
+    browser.open(f"{base}/")
     browser.drop(written(os.path.join(folder, "many"), files), "main")
-    check("a drop of many goes to the table", browser.at("#new") and browser.until(lambda: f"{len(files)} files: 2 not taken, {MANY + 1} to deposit." == browser.text(".many .count")))
+    check("a drop of many goes to the table", browser.at("/new") and browser.until(lambda: f"{len(files)} files: 2 not taken, {MANY + 1} to deposit." == browser.text(".many .count")))
     lines = {name: (outcome, drawn) for name, outcome, drawn in browser.run(LINES)}
     check("each good file is drawn", all(lines[name] == ("", True) for name in files if name not in ("cut.rle", "long.rle")))
     check("a fault has its sentence and line", "ends without \"!\"" in lines["cut.rle"][0] and lines["cut.rle"][0].endswith("Line 3: 3o") and not lines["cut.rle"][1])
@@ -86,10 +86,10 @@ def dropped(gateway, browser, base, folder):
     browser.driver.refresh()
     browser.settled()
     check("the table is kept over a reload", [line[:2] for line in browser.run(LINES)] == [line[:2] for line in table])
-    browser.one(".files a[href^='#deposit/']").click()
-    check("it leads to the deposits", browser.at(f"#deposit/{kept['02.rle']}"))
+    browser.one(".files a[href^='/d/']").click()
+    check("it leads to the deposits", browser.at(f"/d/{kept['02.rle']}"))
     browser.screen(320, 780)
-    browser.open(f"{base}/#new")
+    browser.open(f"{base}/new")
     check("the table fits a phone", browser.run("return document.documentElement.scrollWidth") <= 320 and browser.unnamed() == [])
     browser.screen()
 
@@ -98,11 +98,11 @@ def folders(gateway, browser, base, folder):
     """A folder, chosen or dropped: its pattern files and those of its folders, by their file's names where they have none."""
     room = os.path.join(folder, "guns")
     written(room, {"one.rle": b"x = 5, y = 1\n5o!\n", "deep/two.rle": b"#N Two\nx = 6, y = 2\n6o$o!\n", "deep/notes.md": b"no pattern", "read.txt": b"no pattern"})
-    browser.open(f"{base}/#new")
+    browser.open(f"{base}/new")
     browser.one("#folder").send_keys(room)
-    check("a folder that is chosen", browser.until(lambda: browser.text(".many .count") == "2 files: 2 to deposit.") and sorted(line[0] for line in browser.run(LINES)) == ["guns/deep/two.rle", "guns/one.rle"])
+    check("a folder that is chosen", browser.until(lambda: browser.text(".many .count") == "2 files: 2 to deposit.") and [line[0] for line in browser.run(LINES)] == ["guns/deep/two.rle", "guns/one.rle"])
     browser.drop([room], ".drop")
-    check("a folder that is dropped", browser.until(lambda: sorted(line[0] for line in browser.run(LINES)) == ["guns/deep/two.rle", "guns/one.rle"] and "2 to deposit" in browser.text(".many .count")))
+    check("a folder that is dropped", browser.until(lambda: [line[0] for line in browser.run(LINES)] == ["guns/deep/two.rle", "guns/one.rle"] and "2 to deposit" in browser.text(".many .count")))
     browser.one("#many-name").click()
     browser.type("#many-author", "Cid")
     browser.one("#send-many").click()
@@ -117,7 +117,7 @@ def broken_off(gateway, browser, _base, folder):
     relay = Relay(gateway.port)
     try:
         before = len(listed(gateway))
-        browser.open(f"http://127.0.0.1:{relay.port}/#new")
+        browser.open(f"http://127.0.0.1:{relay.port}/new")
         browser.drop(written(os.path.join(folder, "broken"), {f"b{number}.rle": f"#N Broken {number}\nx = {number}, y = 1\n{number}o!\n".encode() for number in range(1, 5)}), ".drop")
         browser.until(lambda: browser.text(".many .count") == "4 files: 4 to deposit.")
         browser.type("#many-member", "ann")

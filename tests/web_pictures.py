@@ -58,7 +58,7 @@ def cells_of(path):
 def pictures(gateway, browser, base, folder):
     """A picture is byte for byte the one of life-draw, and a PNG has the same cells."""
     number = kept(gateway, "pictured", b"#N A <b> & \"c\"\nx = 9, y = 3\nbo3b3o$2bo2bo$3o5bo!\n")
-    browser.open(f"{base}/#deposit/{number}")
+    browser.open(f"{base}/d/{number}")
     for at, name in ((0, f"deposit-{number}"), (7, f"deposit-{number}-at-7")):
         if at:
             browser.type("#generation", f"{at}\ue007")
@@ -80,7 +80,7 @@ def pictures(gateway, browser, base, folder):
 def animations(gateway, browser, base, folder):
     """An animation has each generation in its own place in one box, so a glider glides."""
     glider = kept(gateway, "glides", b"#N Glides\nx = 3, y = 3\nbo$2bo$3o!\n#\n")
-    browser.open(f"{base}/#deposit/{glider}/at/2")
+    browser.open(f"{base}/d/{glider}/at/2")
     browser.type("#frames", "9")
     tree = xml.etree.ElementTree.fromstring(saved(browser, folder, "#save-animation", f"deposit-{glider}-from-2.svg"))
     now, frames = {(1, 0), (2, 1), (0, 2), (1, 2), (2, 2)}, []
@@ -100,7 +100,7 @@ def objects(_gateway, browser, base, folder):
     """An object is played, its text is the program's, and its phases are those of the rule."""
     for code, rule, period in (("xq4_153", "B3/S23", 4), ("xs6_696", "B3/S23", 1), ("xp15_4r4z4r4", "B3/S23", 15), ("xp2_7", "B36/S23", 2),
                                ("xp3_co9nas0san9oczgoldlo0oldlogz1047210127401", "B3/S23", 3)):
-        browser.open(f"{base}/#code/{code}/{rule.replace('/', '-')}")
+        browser.open(f"{base}/o/{rule.replace('/', '-')}/{code}")
         status, wanted, _ = run("object", rule, code, str(period))
         check(f"the text of {code} is the program's", status == 0 and browser.until(lambda: browser.one("#load-object")) and saved(browser, folder, "#load-object", f"{code}.rle") == wanted)
         check(f"where {code} may be looked up", browser.one("a[href^='https://catagolue']").get_attribute("href") == f"https://catagolue.hatsya.com/object/{code}/{rule.lower().replace('/', '')}")
@@ -120,7 +120,7 @@ def objects(_gateway, browser, base, folder):
         check(f"{code} is played", browser.until(lambda: "phase" in browser.one(".page > .picture canvas").get_attribute("aria-label")) and browser.text("#play-object") == "Pause")
     browser.picture("object-phases")
     browser.screen(320, 780)
-    browser.open(f"{base}/#code/xp3_co9nas0san9oczgoldlo0oldlogz1047210127401/B3-S23")
+    browser.open(f"{base}/o/B3-S23/xp3_co9nas0san9oczgoldlo0oldlogz1047210127401")
     browser.one("#load-object")
     check("an object fits a phone", browser.run("return document.documentElement.scrollWidth") <= 320 and browser.unnamed() == [])
     browser.screen()

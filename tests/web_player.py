@@ -62,7 +62,7 @@ def runs(cells):
 def made(_gateway, browser, base, _folder):
     """What the page makes is what the rule says, under several rules, over borders of words, and where it puts it."""
     chance = random.Random(31)
-    browser.open(f"{base}/#find")
+    browser.open(f"{base}/find")
     for rule in ("B3/S23", "B36/S23", "B1/S012345678", "B2/S", "B12345678/S0", "B8/S8", "B3678/S34678"):
         for size in (1, 3, 31, 33, 64):
             cells = {(x, y) for x in range(size) for y in range(size) if chance.random() < 0.45} | {(0, 0)}
@@ -82,14 +82,14 @@ def made(_gateway, browser, base, _folder):
 def compared(gateway, browser, base, _folder):
     """Playing asks the archive for each hundredth generation and the last one alone, and says what was compared."""
     number = kept(gateway, "played", b"#N R-pentomino\nx = 3, y = 3\nb2o$2o$bo!\n")
-    browser.open(f"{base}/#deposit/{number}")
+    browser.open(f"{base}/d/{number}")
     check("at rest it is the archive's own", browser.run(SOURCE).startswith(OWN))
     browser.run("const speed = document.getElementById('speed'); speed.value = '60'; speed.dispatchEvent(new Event('change')); performance.clearResourceTimings()")
     browser.type("#run-to", "230")
     browser.one("#run").click()
     seen = browser.until(lambda: "generation 100: the same." in browser.run(SOURCE) and browser.run(SOURCE))
     check("while it plays it is said that the page makes it", bool(seen) and "Made in the page" in seen)
-    check("it stops where it should", browser.at(f"#deposit/{number}/at/230") and browser.until(lambda: "generation 230: the same." in browser.run(SOURCE) and OWN in browser.run(SOURCE)))
+    check("it stops where it should", browser.at(f"/d/{number}/at/230") and browser.until(lambda: "generation 230: the same." in browser.run(SOURCE) and OWN in browser.run(SOURCE)))
     requests = browser.run(ASKED)
     check(f"few requests: {requests}", {100, 200, 230} <= set(requests) and len(requests) < 20)
     shown = browser.run("return document.getElementById('text') && [...document.querySelectorAll('.facts dd')].slice(0, 2).map((fact) => fact.textContent)")
@@ -108,7 +108,7 @@ window.fetch = (path, options) => whole(`${path}`.endsWith('/at/100') ? `${path}
 def doubted(gateway, browser, base, _folder):
     """If what the page made is not what the archive answers, it says so, shows the archive's, and plays by the archive alone."""
     number = kept(gateway, "doubted", b"#N Pi\nx = 3, y = 3\n3o$obo$obo!\n")
-    browser.open(f"{base}/#deposit/{number}")
+    browser.open(f"{base}/d/{number}")
     browser.run(FALSE)
     browser.type("#run-to", "150")
     browser.run("const speed = document.getElementById('speed'); speed.value = '60'; speed.dispatchEvent(new Event('change'))")
@@ -124,7 +124,7 @@ def doubted(gateway, browser, base, _folder):
 def controls(gateway, browser, base, _folder):
     """Steps of 10 and 100, the generation at which a pattern is back, playing it over and over, the grid, and the plot."""
     pulsar = kept(gateway, "pulsar", b"#N Blinker\nx = 3, y = 1\n3o!\n")
-    browser.open(f"{base}/#deposit/{pulsar}")
+    browser.open(f"{base}/d/{pulsar}")
     for size, wanted in (("10", 10), ("100", 110), ("1", 111)):
         browser.run("document.getElementById('step-size').value = arguments[0]", size)
         browser.one("#step").click()
@@ -148,13 +148,13 @@ def controls(gateway, browser, base, _folder):
     browser.one("#grid").click()
     check("and is not, if it is not wanted", browser.until(lambda: browser.run(shades) == 2))
     gun = kept(gateway, "none", b"#N Glider alone\nx = 3, y = 3\nbo$2bo$3o!\n#\n")
-    browser.open(f"{base}/#deposit/{gun}")
+    browser.open(f"{base}/d/{gun}")
     check("the plot is seen and named", browser.until(lambda: browser.one("canvas.plot").get_attribute("aria-label") == "Population of the generations that were shown, 5 at most"))
     browser.run("const plot = document.querySelector('canvas.plot'); const box = plot.getBoundingClientRect(); plot.dispatchEvent(new MouseEvent('click', { clientX: box.left + box.width / 2, bubbles: true }))")
     check("a press on the plot leads to its generation", browser.until(lambda: 1020 <= browser.run(GENERATION) <= 1028))
     browser.picture("player")
     browser.screen(320, 780)
-    browser.open(f"{base}/#deposit/{gun}")
+    browser.open(f"{base}/d/{gun}")
     check("the player fits a phone", browser.run("return document.documentElement.scrollWidth") <= 320 and browser.unnamed() == [])
     browser.screen()
 
@@ -164,7 +164,7 @@ def large(gateway, browser, base, _folder):
     chance = random.Random(32)
     rows = ["".join(chance.choice("bo") for _ in range(1000)) for _ in range(1000)]
     number = kept(gateway, "soup", ("#N Soup\nx = 1000, y = 1000\n" + "$\n".join(rows) + "!\n").encode())
-    browser.open(f"{base}/#find")
+    browser.open(f"{base}/find")
     took = browser.wait_for(TIMED, f"/deposits/{number}", 120)
     check(f"a generation of 1000 by 1000 in {took:.1f} ms", took < 1000 / 30)
 

@@ -37,15 +37,15 @@ def numbers(browser):
 def without(gateway, browser, base, _):
     """Without an index there is no search, and numbers, codes, lists and members are as they are."""
     check("there is no index", asked(gateway.port, "/index/index.json")[:2] == (404, b'{"error":"no-such-page","refusal":12}'))
-    browser.open(f"{base}/#find")
+    browser.open(f"{base}/find")
     check("no form to search by", browser.all("form.search") == [] and browser.one("#deposit-number") and browser.one("#code"))
-    browser.open(f"{base}/#find?text=glider")
+    browser.open(f"{base}/find?text=glider")
     check("a search that was cited says that there is none", browser.until(lambda: "no index" in browser.text(".count")))
-    browser.open(f"{base}/#censuses")
+    browser.open(f"{base}/c")
     check("the list of censuses says so too", "no index" in browser.text(".empty"))
-    browser.open(f"{base}/#code/xs4_33/B3-S23")
+    browser.open(f"{base}/o/B3-S23/xs4_33")
     check("an object has its total", "in all censuses of deposits under B3/S23." in browser.text(".total") and browser.all("#occurrences") == [])
-    browser.open(f"{base}/#deposits/of/ANN")
+    browser.open(f"{base}/d/of/ANN")
     check("a member in capitals", browser.text("h1") == "Deposits of ann" and len(numbers(browser)) > 3)
 
 
@@ -58,20 +58,20 @@ def searched(gateway, browser, base, folder):
     """Deposits are found by each of their properties, the best first, through the form and by an address."""
     ids = [kept(gateway, f"search-{turn}", text, member) for turn, (text, member) in enumerate([(ANN, "cid"), (BLOCK, "cid"), (BLOCKS, "dan"), (b"#N Another\nx = 5, y = 1, rule = B36/S23\n5o!\n", "dan")])]
     check("an index is made", index(gateway, os.path.join(folder, "club.db")))
-    browser.open(f"{base}/#find")
+    browser.open(f"{base}/find")
     browser.type("#search-text", "lone block" + ENTER)
-    check("a name by the form", browser.at("#find?text=lone+block") and browser.until(lambda: numbers(browser) == [ids[1]]))
+    check("a name by the form", browser.at("/find?text=lone+block") and browser.until(lambda: numbers(browser) == [ids[1]]))
     check("it is said what the index is", "of which nothing is proved" in browser.text(".hint"))
     browser.picture("search")
     for query, wanted in [("text=block", [ids[2], ids[1]]), ("text=block+beside", [ids[2]]), ("text=eater", [ids[0]]), ("text=%C3%89ATER", [ids[0]]), ("text=smith", [ids[0]]),
                           ("author=jones", [ids[1]]), ("rule=23/36", [ids[3]]), ("rule=B36/S23", [ids[3]]), ("member=dan", [ids[3], ids[2]]), ("member=DAN&cells=8..8", [ids[2]]),
                           ("text=block&side=3..", [ids[2]]), ("text=block&side=..3", [ids[1]]), ("text=another&day=2000-01-01..", [ids[3]]), ("text=another&day=..2000-01-01", []),
                           (f"text={ids[3]}", [ids[3]]), ("text=nothing+of+it", [])]:
-        browser.open(f"{base}/#find?{query}")
+        browser.open(f"{base}/find?{query}")
         check(f"what is found by {query}: {numbers(browser)}", browser.until(lambda: numbers(browser) == wanted and browser.text(".count").startswith(str(len(wanted)) if wanted else "None")))
-    browser.open(f"{base}/#find?member=dan&cells=8..8")
+    browser.open(f"{base}/find?member=dan&cells=8..8")
     check("the form has what was asked", browser.run("return ['member', 'cells', 'cells-to', 'text'].map((name) => document.getElementById('search-' + name).value)") == ["dan", "8", "8", ""])
-    browser.open(f"{base}/#find?text=list+5")
+    browser.open(f"{base}/find?text=list+5")
     shown = browser.run("return [...document.querySelectorAll('.cards strong')].map((name) => name.textContent)")
     check(f"the best first: {shown[:3]}", shown[0] == "List 5" and set(shown[1:11]) == {f"List {number}" for number in range(50, 60)} and "List 15" not in shown[:11])
     browser.one(f".cards a[href$='{numbers(browser)[0]}']").click()
@@ -83,11 +83,11 @@ def members(gateway, browser, base, folder):
     check("an index is made again", index(gateway, os.path.join(folder, "club.db")))
     later = kept(gateway, "later", b"#N Later\nx = 3, y = 1\n3o!\n", "dan")
     time.sleep(2.1)
-    browser.open(f"{base}/#deposits/of/dan")
+    browser.open(f"{base}/d/of/dan")
     rows = listed(gateway)
     wanted = [row["id"] for row in rows if row["member"] == "dan"][::-1]
     check(f"a member's deposits: {numbers(browser)}", browser.until(lambda: numbers(browser) == wanted and wanted[0] == later) and browser.text(".count") == "3 deposits")
-    browser.open(f"{base}/#deposits/of/eve")
+    browser.open(f"{base}/d/of/eve")
     check("24 of them at first", len(numbers(browser)) == 24 and browser.text(".count") == "30 deposits")
     browser.one(".more").click()
     check("more by a press", len(set(numbers(browser))) == 30 and not browser.one(".more").is_displayed())
@@ -100,7 +100,7 @@ def counted(gateway, browser, base, folder):
     made = [a_census(gateway, one), a_census(gateway, two), a_census(gateway, one, 3)]
     check("an index of the censuses", index(gateway, os.path.join(folder, "club.db")))
     lines = "return [...document.querySelectorAll('.censuses tbody tr')].map((row) => [...row.children].map((cell) => cell.textContent))"
-    browser.open(f"{base}/#code/xs4_33/B3-S23")
+    browser.open(f"{base}/o/B3-S23/xs4_33")
     found = browser.until(lambda: browser.one("#occurrences") and browser.run(lines))
     check(f"where an object occurs: {found}", [row[0] for row in found][:3] == [str(number) for number in sorted(made, reverse=True)] and [row[2] for row in found][:3] == ["1", "2", "1"])
     total = int(browser.text(".total").split()[0])
@@ -108,14 +108,14 @@ def counted(gateway, browser, base, folder):
     check("a deposit by its name", found[0][1] == f"Lone blockdeposit {one}, generation 3")
     browser.picture("object")
     browser.one("#occurrences tbody a").click()
-    check("it leads to the census", browser.at(f"#census/{max(made)}"))
-    browser.open(f"{base}/#code/xq4_153/B36-S23")
+    check("it leads to the census", browser.at(f"/c/{max(made)}"))
+    browser.open(f"{base}/o/B36-S23/xq4_153")
     check("an object that no census has", browser.until(lambda: "No census in the index has it." in browser.text("#occurrences")))
-    browser.open(f"{base}/#deposit/{one}")
+    browser.open(f"{base}/d/{one}")
     check("a deposit's censuses", browser.until(lambda: browser.text("#censuses h2") == "2 censuses") and [row[0] for row in browser.run(lines)] == [str(made[2]), str(made[0])])
-    browser.open(f"{base}/#find")
-    browser.one("a[href='#censuses']").click()
-    check("the list of censuses", browser.at("#censuses") and browser.text(".count") == f"{max(made)} censuses"
+    browser.open(f"{base}/find")
+    browser.one("a[href='/c']").click()
+    check("the list of censuses", browser.at("/c") and browser.text(".count") == f"{max(made)} censuses"
           and [row[0] for row in browser.run(lines)] == [str(number) for number in range(max(made), max(0, max(made) - 20), -1)])
     steady = [row[3].startswith("steady") for row in browser.run(lines)]
     own = [json.loads(asked(gateway.life_port, f"/censuses/{number}")[1])["steady"] for number in range(max(made), max(0, max(made) - 20), -1)]
@@ -136,10 +136,10 @@ def fed(gateway, browser, base, _):
 
 def narrow(gateway, browser, base, _):
     """What the index adds fits a phone, and has a name for who hears it."""
-    for address in ("#find", "#find?text=list&cells=1..", "#censuses", "#code/xs4_33/B3-S23", "#deposits/of/eve"):
+    for address in ("find", "find?text=list&cells=1..", "c", "o/B3-S23/xs4_33", "d/of/eve"):
         browser.screen(320, 780)
         browser.open(f"{base}/{address}")
-        browser.until(lambda: "of which nothing is proved" in browser.text("main") or address == "#find")
+        browser.until(lambda: "of which nothing is proved" in browser.text("main") or address == "find")
         wide = browser.run("return document.documentElement.scrollWidth")
         check(f"'{address}' on 320 pixels: {wide}", wide <= 320)
         check(f"names on '{address}': {(unnamed := browser.unnamed())}", unnamed == [])
@@ -172,7 +172,7 @@ def large(gateway, browser, base, folder):
     database.close()
     shutil.rmtree(made)
     check("an index of 100,000", subprocess.run([os.path.join(DEPLOY, "life-index"), copy, made], stdout=subprocess.DEVNULL, timeout=120).returncode == 0)
-    browser.open(f"{base}/#find")
+    browser.open(f"{base}/find")
     fits = [({"text": "gun"}, lambda entry, _: any("gun" in folded(text) for text in (entry.name, entry.author, entry.member))),
             ({"text": "rake puffer"}, lambda entry, _: all(any(word in folded(text) for text in (entry.name, entry.author, entry.member)) for word in ("rake", "puffer"))),
             ({"cells": ["10", "20"], "rule": "B36/S23"}, lambda entry, _: 10 <= entry.cells <= 20 and entry.rule == "B36/S23"),
@@ -184,7 +184,7 @@ def large(gateway, browser, base, folder):
         wanted = {number for number, entry in enumerate(entries, 1) if is_fit(entry, number)}
         check(f"{query}: {len(rows)} of {len(wanted)} in {took:.0f} ms", set(rows) == wanted and len(rows) == len(wanted) and took < 1000 * QUICK)
     exact = [number for number, entry in enumerate(entries, 1) if entry.name == entries[4320].name]
-    browser.open(f"{base}/#find?text={entries[4320].name.replace(' ', '+')}")
+    browser.open(f"{base}/find?text={entries[4320].name.replace(' ', '+')}")
     check("the page shows the best", browser.until(lambda: numbers(browser)[:1] == exact))
     shutil.rmtree(made)
 

@@ -16,21 +16,21 @@ def waiting(gateway, browser, _base, _folder):
     """A page that waits says so, for who sees it and who hears it; a read without a reply can be tried again, and then shows the page."""
     relay = Relay(gateway.port)
     try:
-        browser.open(f"http://127.0.0.1:{relay.port}/#find")
+        browser.open(f"http://127.0.0.1:{relay.port}/find")
         check("a page that is there does not wait", not browser.run(VISIBLE))
-        for address, heading in (("#deposits", "Deposits"), ("#deposit/1", "deposit 1"), ("#census/1", "Census 1")):
+        for address, heading in (("/", "Deposits"), ("/d/1", "deposit 1"), ("/c/1", "Census 1")):
             relay.away = True
-            browser.run("location.hash = arguments[0]", address)
+            browser.go(address)
             check(f"waiting for {address} is seen", browser.until(lambda: browser.run(VISIBLE)))
             check(f"waiting for {address} is heard", browser.until(lambda: browser.text("#status") == "Waiting for the archive…"))
             check(f"no reply to {address} is shown", browser.until(lambda: browser.text(".refusal")) and browser.settled() and not browser.run(VISIBLE))
             relay.away = False
             browser.one(".again").click()
             check(f"{address} once more", browser.until(lambda: heading in browser.text("h1") and not browser.all(".refusal")) and browser.settled())
-            browser.run("location.hash = '#find'")
-            browser.at("#find")
+            browser.go("/find")
+            browser.at("/find")
         # A generation that does not come.
-        browser.run("location.hash = '#deposit/1'")
+        browser.go("/d/1")
         browser.until(lambda: browser.all("canvas.large")) and browser.settled()
         relay.away = True
         browser.type("#generation", "777\ue007")
@@ -38,8 +38,8 @@ def waiting(gateway, browser, _base, _folder):
         relay.away = False
         if again:
             again[0].click()
-        check("a generation is asked for again", bool(again) and browser.at("#deposit/1/at/777") and browser.until(lambda: browser.all(".again") == []))
-        browser.open(f"http://127.0.0.1:{relay.port}/#deposit/4000")
+        check("a generation is asked for again", bool(again) and browser.at("/d/1/at/777") and browser.until(lambda: browser.all(".again") == []))
+        browser.open(f"http://127.0.0.1:{relay.port}/d/4000")
         check("what is not there is not tried again", browser.until(lambda: browser.text(".refusal")) and browser.all(".again") == [])
     finally:
         relay.end()
@@ -48,7 +48,7 @@ def waiting(gateway, browser, _base, _folder):
 def already(_gateway, browser, base, _folder):
     """A deposit that was there already says so, and one that is new does not."""
     for said in ("Deposited.", "You had deposited this already: it keeps its number."):
-        browser.open(f"{base}/#new")
+        browser.open(f"{base}/new")
         browser.type("#pattern", "#N Told\nx = 7, y = 1\n7o!")
         browser.type("#member", "ann")
         browser.one("#send").click()
@@ -64,20 +64,20 @@ def neighbours(gateway, browser, base, _folder):
     last = kept(gateway, "last", b"#N Last\nx = 1, y = 2\no$o!\n")
     time.sleep(OLD)
     links = "return [...document.querySelectorAll('.pager a')].map((link) => link.getAttribute('href'))"
-    browser.open(f"{base}/#deposit/{last}")
-    check("the newest has none after it", browser.run(links) == [f"#deposit/{last - 1}"])
+    browser.open(f"{base}/d/{last}")
+    check("the newest has none after it", browser.run(links) == [f"/d/{last - 1}"])
     browser.press(KEYS["newer"])
     browser.press(KEYS["older"])
-    check("its key leads nowhere", browser.at(f"#deposit/{last - 1}") and browser.until(lambda: browser.run(links) == [f"#deposit/{last - 2}", f"#deposit/{last}"]))
-    browser.open(f"{base}/#deposit/{last + 1}")
+    check("its key leads nowhere", browser.at(f"/d/{last - 1}") and browser.until(lambda: browser.run(links) == [f"/d/{last - 2}", f"/d/{last}"]))
+    browser.open(f"{base}/d/{last + 1}")
     browser.until(lambda: browser.text(".refusal"))
     browser.press(KEYS["older"])
-    check("back from a number that is not there", browser.at(f"#deposit/{last}"))
+    check("back from a number that is not there", browser.at(f"/d/{last}"))
 
 
 def capitals(_gateway, browser, base, _folder):
     """Addresses are taken in capitals, too."""
-    for address, wanted in (("#DEPOSIT/1", "deposit 1"), ("#code/XQ4_153/b3-s23", "xq4_153 glider"), ("#deposits/of/ANN", "Deposits of ann"), ("#New", "Deposit a file")):
+    for address, wanted in (("D/1", "deposit 1"), ("o/b3-s23/XQ4_153", "xq4_153 glider"), ("d/of/ANN", "Deposits of ann"), ("New", "Deposit a file")):
         browser.open(f"{base}/{address}")
         check(f"the address {address}", wanted in browser.text("h1") and browser.all(".refusal") == [])
 
@@ -111,7 +111,7 @@ try {
 
 def last_number(_gateway, browser, base, _folder):
     """The newest number is looked for by four lists at a time: few turns, also in a large archive."""
-    browser.open(f"{base}/#find")
+    browser.open(f"{base}/find")
     for number in (0, 1, 99, 100, 101, 1099, 1100, 43_557, 999_999):
         found, requests, most, took = browser.wait_for(LAST, number)
         check(f"the last of {number} is {found} by {requests} requests in {took:.0f} ms", found == number and most <= 4 and requests <= 40 and took < 800)
@@ -123,7 +123,7 @@ def kept_places(gateway, browser, base, _folder):
     for turn in range(30):
         kept(gateway, f"place-{turn}", f"#N Place {turn}\nx = 1, y = 1\n{turn + 100}o!".encode())
     browser.screen(700, 500)
-    browser.open(f"{base}/#deposits/after/3")
+    browser.open(f"{base}/d/after/3")
     browser.run("scrollTo(0, 420)")
     browser.until(lambda: browser.run("return history.state?.scroll === 420"))
     browser.run("document.querySelectorAll('.cards a')[9].click()")
@@ -136,10 +136,10 @@ def kept_places(gateway, browser, base, _folder):
     check("reload finds it, too", browser.until(lambda: browser.run("return !!document.querySelector('.cards') && scrollY") == 420))
     browser.screen()
     text = "#N Half\nx = 3, y = 1\n3"
-    browser.open(f"{base}/#new")
+    browser.open(f"{base}/new")
     browser.type("#pattern", text)
-    browser.run("location.hash = '#find'")
-    browser.at("#find")
+    browser.go("/find")
+    browser.at("/find")
     browser.driver.back()
     check("back finds what was typed", browser.until(lambda: browser.run("return document.getElementById('pattern')?.value") == text))
     browser.driver.refresh()
@@ -148,11 +148,11 @@ def kept_places(gateway, browser, base, _folder):
     browser.type("#member", "ann")
     browser.one("#send").click()
     browser.until(lambda: browser.text("h1").startswith("Half "))
-    browser.open(f"{base}/#new")
+    browser.open(f"{base}/new")
     check("nothing of it is left after it is deposited", browser.run("return document.getElementById('pattern').value") == "")
-    browser.open(f"{base}/#deposit/1")
+    browser.open(f"{base}/d/1")
     browser.run("const speed = document.getElementById('speed'); speed.value = '2'; speed.dispatchEvent(new Event('change'))")
-    browser.open(f"{base}/#deposit/2")
+    browser.open(f"{base}/d/2")
     check("the speed is kept", browser.run("return document.getElementById('speed').value") == "2")
     browser.run("localStorage.removeItem('speed')")
 
@@ -174,7 +174,7 @@ def contrasts(_gateway, browser, base, _folder):
     """Borders of fields and buttons are seen, light and dark."""
     for scheme in ("light", "dark"):
         browser.screen(1100, 900, scheme)
-        for address in ("#new", "#find", "#deposit/1"):
+        for address in ("new", "find", "d/1"):
             browser.open(f"{base}/{address}")
             least = browser.run(CONTRAST)
             check(f"borders of {address} in {scheme}: {least:.2f}", 3 <= least < 99)
@@ -193,7 +193,7 @@ return [...pixels.filter((_, at) => at % 4 === 0)];
 def shaded(_gateway, browser, base, _folder):
     """A small drawing of a large field is as dark as it has live cells, and a single cell is seen."""
     browser.screen(1100, 900, "light")
-    browser.open(f"{base}/#find")
+    browser.open(f"{base}/find")
     half, few = browser.wait_for(SHADES, "half"), browser.wait_for(SHADES, "few")
     dark, white = min(half), max(half)
     check(f"half of the cells are live: {dark} to {white}", white == 255 and 110 < dark < 175)
@@ -203,10 +203,10 @@ def shaded(_gateway, browser, base, _folder):
 def phone(_gateway, browser, base, _folder):
     """On a phone the controls take few rows, the head of a census' table is not broken, and there is room beside the canvas to scroll by."""
     browser.screen(390, 844)
-    browser.open(f"{base}/#deposit/1")
+    browser.open(f"{base}/d/1")
     beside = browser.run("return innerWidth - document.querySelector('canvas.large').getBoundingClientRect().right")
     check(f"{beside} pixels beside the canvas", beside >= 32)
-    browser.open(f"{base}/#census/1")
+    browser.open(f"{base}/c/1")
     heads = browser.run("return [...document.querySelectorAll('.census thead th')].map((head) => head.getClientRects().length === 1 && head.getBoundingClientRect().height < 40)")
     check("the head of a census", heads == [True, True])
     browser.screen()

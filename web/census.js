@@ -1,10 +1,11 @@
 // A census: its table, with bars, whether its field is steady, and its CSV.
 
+import { censusAddress, depositAddress, go, objectAddress } from './address.js';
 import { census, deposit } from './archive.js';
 import { objectNames, patternOf } from './code.js';
 import { copyButton, counted, make, many } from './dom.js';
 import { thumbnail } from './draw.js';
-import { ruleAddress, ruleText } from './rule.js';
+import { ruleText } from './rule.js';
 
 const SIDE = 48;
 
@@ -20,7 +21,7 @@ export function objectRow({ code, count }, most, rule, names) {
   const pattern = patternOf(code);
   const name = rule === 'B3/S23' ? names.get(code) : null;
   return make('tr', {}, make('td', { class: 'drawn' }, pattern ? thumbnail(pattern, SIDE, SIDE) : null),
-    make('th', { scope: 'row' }, make('a', { href: `#code/${code}/${ruleAddress(rule)}` }, make('code', {}, code)), name ? make('small', {}, name) : null),
+    make('th', { scope: 'row' }, make('a', { href: objectAddress(rule, code) }, make('code', {}, code)), name ? make('small', {}, name) : null),
     make('td', { class: 'number' }, counted(count)), barOf(count, most));
 }
 
@@ -45,10 +46,10 @@ export async function censusPage(page, given) {
   // The most frequent first; the archive has them by code.
   const rows = found.rows.toSorted((one, other) => other.count - one.count);
   const most = Math.max(1, found.unresolved, ...rows.map((row) => row.count));
-  const url = `${location.origin}/#census/${number}`;
-  const place = `#deposit/${found.deposit}${found.generation === 0 ? '' : `/at/${found.generation}`}`;
-  page.keys['['] = () => { if (number > 1) location.hash = `#census/${number - 1}`; };
-  page.keys[']'] = () => { location.hash = `#census/${number + 1}`; };
+  const url = location.origin + censusAddress(number);
+  const place = depositAddress(found.deposit, found.generation);
+  page.keys['['] = () => { if (number > 1) go(censusAddress(number - 1)); };
+  page.keys[']'] = () => { go(censusAddress(number + 1)); };
   page.root.append(make('h1', { tabindex: -1 }, `Census ${counted(number)}`),
     make('p', { class: 'by' }, 'Of ', make('a', { href: place }, `generation ${counted(found.generation)} of deposit ${found.deposit}`),
       `${record.name ? `, ${record.name}` : ''}, under ${rule}, with periods up to ${counted(found.limit)}.`),

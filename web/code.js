@@ -51,7 +51,7 @@ export function patternOf(code) {
 
 let names = null;
 
-/** The names of objects of Conway's Life by their codes, of the table that the archive's tests have. */
+/** The names of objects of Conway's Life by their codes, of the table that is beside this file. */
 export function objectNames() {
   names ??= fetch('/web/objects.csv').then((reply) => (reply.ok ? reply.text() : '')).catch(() => '').then((text) => {
     const lines = text.split('\n').filter((line) => line.includes(',') && !line.startsWith('#')).slice(1);

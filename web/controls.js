@@ -1,5 +1,6 @@
 // The buttons under the canvas of a deposit, and the keys that do the same.
 
+import { depositAddress, go } from './address.js';
 import { LAST_GENERATION } from './archive.js';
 import { counted, icon, make } from './dom.js';
 import { keepSetting, setting } from './kept.js';
@@ -27,10 +28,15 @@ function runPart(player) {
   return pair(button('Run to this generation', 'Run to', () => player.runTo(Math.trunc(Number(goal.value))), { id: 'run' }), goal);
 }
 
-function viewParts(view) {
+function viewParts(view, ages) {
+  const aged = make('input', { id: 'ages', type: 'checkbox', change: () => {
+    keepSetting('ages', aged.checked ? 'yes' : null);
+    ages.turn(aged.checked);
+  } });
+  ages.isOn = aged.checked = setting('ages') === 'yes';
   const grid = make('input', { id: 'grid', type: 'checkbox', checked: true, change: () => view.showGrid(grid.checked) });
   return [pair(button('Zoom out', '−', () => view.zoom(-1), { id: 'zoom-out' }), button('Zoom in', '+', () => view.zoom(1), { id: 'zoom-in' }), button('Show all', 'Fit', () => view.fit(), { id: 'fit' })),
-    pair(grid, make('label', { for: 'grid' }, 'Grid'))];
+    pair(grid, make('label', { for: 'grid' }, 'Grid')), pair(aged, make('label', { for: 'ages', title: 'Young cells are orange, old ones blue' }, 'Color by age'))];
 }
 
 /** Where a periodic pattern is back: a mark, a button, and playing that begins anew there. `take` gets the period, null if there is none. */
@@ -49,7 +55,7 @@ function backPart(player) {
 }
 
 /** All of them: the bar, what plays and pauses, what gets a period, a generation that is shown, and a change of playing. */
-export function controls(player, view) {
+export function controls(player, view, ages) {
   const play = button('Play', icon('play'), () => toggle(1), { class: 'main', id: 'play' });
   const back = button('Play back', icon('back'), () => toggle(-1), { id: 'back' });
   const toggle = (direction) => (player.direction === direction ? player.pause() : player.play(direction));
@@ -59,7 +65,7 @@ export function controls(player, view) {
   const { parts, take } = backPart(player);
   const bar = make('div', { class: 'controls', role: 'group', 'aria-label': 'Generations' },
     button('Generation 0', icon('first'), () => player.go(0), { id: 'first' }), back, button('A step back', icon('less'), () => player.step(-Number(step.value)), { id: 'step-back' }), play,
-    button('A step on', icon('more'), () => player.step(Number(step.value)), { id: 'step' }), labelled('Step', step), labelled('Generation', number), speedPart(player), viewParts(view), runPart(player), parts, slider);
+    button('A step on', icon('more'), () => player.step(Number(step.value)), { id: 'step' }), labelled('Step', step), labelled('Generation', number), speedPart(player), viewParts(view, ages), runPart(player), parts, slider);
   const changed = () => {
     for (const [element, direction, label, name] of [[play, 1, 'Play', 'play'], [back, -1, 'Play back', 'back']]) {
       const playing = player.direction === direction;
@@ -75,6 +81,6 @@ export function keysOf(page, player, view, toggle, next) {
     ' ': () => (player.direction === 0 ? toggle(1) : player.pause()), b: () => toggle(-1), ArrowRight: () => player.step(1), ArrowLeft: () => player.step(-1),
     Home: () => player.go(0), End: () => player.go(LAST_GENERATION), '+': () => view.zoom(1), '=': () => view.zoom(1), '-': () => view.zoom(-1), 0: () => view.fit(),
     'shift ArrowLeft': () => view.pan(-0.1, 0), 'shift ArrowRight': () => view.pan(0.1, 0), 'shift ArrowUp': () => view.pan(0, -0.1), 'shift ArrowDown': () => view.pan(0, 0.1),
-    ']': () => { if (next) location.hash = `#deposit/${next.id}`; },
+    ']': () => { if (next) go(depositAddress(next.id)); },
   });
 }

@@ -1,5 +1,7 @@
 // One deposit: its generations on a large canvas, played forward and back, its kind and code, its file, and a census of it.
 
+import { censusAddress, depositAddress, go, memberAddress, objectAddress } from './address.js';
+import { Ages } from './ages.js';
 import { LAST_GENERATION, deposit, depositsAfter, kind, sendCensus } from './archive.js';
 import { objectNames } from './code.js';
 import { controls, keysOf } from './controls.js';
@@ -9,7 +11,7 @@ import { noteOf } from './new.js';
 import { saveSection } from './picture.js';
 import { Player } from './player.js';
 import { Refused } from './refusals.js';
-import { ruleAddress, ruleText } from './rule.js';
+import { ruleText } from './rule.js';
 import { addLater, censusesSection } from './search.js';
 import { View } from './view.js';
 
@@ -18,8 +20,9 @@ const USUAL_LIMIT = 60;
 
 /** What is to be done with the generation that is shown: its address, its text, a census. It is told of each that is shown. */
 class Shown {
-  constructor(number, page) {
+  constructor(number, name, page) {
     this.number = number;
+    this.name = name;
     this.page = page;
     this.bytes = new Uint8Array();
     this.address = make('a', { class: 'address' });
@@ -30,7 +33,7 @@ class Shown {
   }
 
   get url() {
-    return `${location.origin}/#deposit/${this.number}${this.at === 0 ? '' : `/at/${this.at}`}`;
+    return location.origin + depositAddress(this.number, this.at);
   }
 
   /** Takes the generation that is shown; one that the page made has no bytes, and only its address is known. */
@@ -47,9 +50,10 @@ class Shown {
     this.#fill();
   }
 
-  /** The address of the page is that of what is shown. A browser takes few changes a second, so it is not made while it plays. */
+  /** The address and the title of the page are those of what is shown. A browser takes few changes a second, so none is made while it plays. */
   cite() {
-    history.replaceState(history.state, '', `#deposit/${this.number}${this.at === 0 ? '' : `/at/${this.at}`}`);
+    this.page.title(this.at === 0 ? this.name : `${this.name}, generation ${this.at}`);
+    history.replaceState(history.state, '', depositAddress(this.number, this.at));
   }
 
   #fill() {
@@ -95,7 +99,7 @@ function kindParts(number, record, page, periodic) {
       const rule = ruleText(record.rule);
       const name = found.code && rule === 'B3/S23' ? (await objectNames()).get(found.code) : null;
       code.replaceChildren(...(found.code
-        ? [make('a', { href: `#code/${found.code}/${ruleAddress(rule)}` }, make('code', {}, found.code)), name ? ` ${name} ` : ' ', copyButton('Copy', () => found.code, page.say)]
+        ? [make('a', { href: objectAddress(rule, found.code) }, make('code', {}, found.code)), name ? ` ${name} ` : ' ', copyButton('Copy', () => found.code, page.say)]
         : [isPeriodic ? 'none: no phase fits in a box of 40 by 40' : 'none']));
     } catch (error) {
       if (page.signal.aborted) return;
@@ -125,7 +129,7 @@ function censusPart(shown, page) {
       page.say('Counting…');
       const [at, within] = [shown.at, Math.trunc(Number(limit.value))];
       const number = await sendCensus(name.value, `g${at}-l${within}-d${shown.number}`, shown.number, at, within, page.signal);
-      location.hash = `#census/${number}`;
+      go(censusAddress(number));
     } catch (error) {
       if (!page.signal.aborted) said.replaceChildren(refusal(error));
     } finally {
@@ -139,7 +143,7 @@ function censusPart(shown, page) {
 
 function heading(number, record, member) {
   const texts = record.comments.map((comment) => make('p', { class: 'comment' }, comment));
-  const by = [record.author ? `By ${record.author}. ` : null, member ? ['Deposited by ', make('a', { href: `#deposits/of/${member}` }, member), '.'] : null].flat();
+  const by = [record.author ? `By ${record.author}. ` : null, member ? ['Deposited by ', make('a', { href: memberAddress(member) }, member), '.'] : null].flat();
   return [make('h1', { tabindex: -1 }, record.name ?? `Deposit ${number}`, record.name ? make('small', {}, ` deposit ${counted(number)}`) : null), make('p', { class: 'by' }, by), ...texts];
 }
 
@@ -152,19 +156,21 @@ class Stage {
   source = make('span');
   equal = make('span');
 
-  constructor(number, page) {
+  constructor(number, name, page) {
     this.page = page;
-    this.text = new Shown(number, page);
+    this.text = new Shown(number, name, page);
     this.view = new View(this.canvas, page.signal);
     this.plot = new Plot((at) => this.player.go(at));
     this.player = new Player(number, page.signal, this);
-    this.bar = controls(this.player, this.view);
+    this.ages = new Ages((at) => this.player.made(at), (found) => this.view.showAges(found));
+    this.bar = controls(this.player, this.view, this.ages);
   }
 
   /** Shows a generation; `bytes` is null where the page made it. Answers where it was put. */
   shown(at, record, bytes, place) {
     const { pattern } = record;
     const put = this.view.show(pattern, place);
+    this.ages.show(at);
     this.bar.at(at);
     this.facts.population.replaceChildren(counted(pattern.population));
     this.facts.box.replaceChildren(`${counted(pattern.width)} by ${counted(pattern.height)}`);
@@ -205,11 +211,10 @@ class Stage {
 /** The page of a deposit, at a generation. */
 export async function depositPage(page, given, at = '0') {
   const number = Number(given);
-  page.keys['['] = () => { if (number > 1) location.hash = `#deposit/${number - 1}`; };
+  page.keys['['] = () => { if (number > 1) go(depositAddress(number - 1)); };
   const { record } = await deposit(number, page.signal);
-  page.title(record.name ?? `Deposit ${number}`);
   const [row, next] = await depositsAfter(number - 1, page.signal);
-  const stage = new Stage(number, page);
+  const stage = new Stage(number, record.name ?? `Deposit ${number}`, page);
   const { player, view, bar, text, facts } = stage;
   keysOf(page, player, view, bar.toggle, next);
   const list = [['Cells', [facts.population]], ['Box', [facts.box]], ['Rule', [ruleText(record.rule)]], ...kindParts(number, record, page, bar.periodic)];
@@ -217,8 +222,8 @@ export async function depositPage(page, given, at = '0') {
   page.root.append(...heading(number, record, row?.member), noteOf(number), ...stage.parts(),
     make('dl', { class: 'facts' }, list.map(([term, told]) => make('div', {}, make('dt', {}, term), make('dd', {}, told)))),
     make('div', { class: 'columns' }, ...text.parts(), saveSection(number, record, () => text.whole, page), censusPart(text, page)),
-    censuses, make('nav', { class: 'pager', 'aria-label': 'Other deposits' }, number > 1 ? make('a', { href: `#deposit/${number - 1}` }, `← ${counted(number - 1)}`) : null,
-      next ? make('a', { href: `#deposit/${next.id}` }, `${counted(next.id)} →`) : null));
+    censuses, make('nav', { class: 'pager', 'aria-label': 'Other deposits' }, number > 1 ? make('a', { href: depositAddress(number - 1) }, `← ${counted(number - 1)}`) : null,
+      next ? make('a', { href: depositAddress(next.id) }, `${counted(next.id)} →`) : null));
   await player.show(Math.min(Number(at), LAST_GENERATION));
   view.fit();
   addLater(page, censuses, censusesSection(page, number));

@@ -2,6 +2,8 @@
 
 /** The sizes of a cell that a view can have, in pixels of the screen. */
 export const SIZES = [1 / 8, 1 / 6, 1 / 4, 1 / 3, 1 / 2, 1, 2, 3, 4, 6, 8, 12, 16, 24, 32, 48];
+/** The age of a cell from which on none is shown as older. */
+export const OLDEST = 32;
 const GAP_FROM = 6;
 const GRID_FROM = 8;
 
@@ -11,11 +13,11 @@ function wordOf(color) {
   return (0xff000000 | (blue << 16) | (green << 8) | red) >>> 0;
 }
 
-/** The colors of the style, which are others where dark is preferred. */
+/** The colors of the style, which are others in the dark theme. */
 export function colors() {
   const style = getComputedStyle(document.documentElement);
   const named = (name) => wordOf(style.getPropertyValue(name).trim());
-  return { live: named('--live'), dead: named('--dead'), grid: named('--grid') };
+  return { live: named('--live'), dead: named('--dead'), grid: named('--grid'), young: named('--young'), old: named('--old') };
 }
 
 /** The greatest size of at most `most` at which so many columns and rows fit into a picture; the least one where none does. */
@@ -60,6 +62,16 @@ function between(one, other, share) {
   return (0xff000000 | part(16) | part(8) | part(0)) >>> 0;
 }
 
+/** The color of each age: from young to old, at first fast. */
+const shadesOfAges = ({ young, old }) => Array.from({ length: OLDEST + 1 }, (_, age) => between(young, old, Math.log2(Math.max(1, age)) / Math.log2(OLDEST)));
+
+/** Puts the cells of a row into the lines of a picture, each in the color of its age; `ages` are those of the row. */
+function paintAges(words, width, runs, top, bottom, view, ages, shades) {
+  for (let at = 0; at < runs.length; at += 2) {
+    for (let column = runs[at]; column < runs[at + 1]; column += 1) paintRow(words, width, [column, column + 1], top, bottom, view, shades[ages[column]]);
+  }
+}
+
 /** Adds the cells of a run to the pixels of a line of which each shows several, each to its own. */
 function addRun(counts, line, begin, end, view) {
   for (let column = begin; column < end; column += 1) counts[line + Math.floor((column - view.left) * view.size)] += 1;
@@ -77,8 +89,8 @@ function paintShares(words, width, height, pattern, view, shades) {
 }
 
 /**
- * Draws a pattern on a canvas. A view has the column and row of the plane at the left and top edge, the size of a cell in pixels, and
- * the place of the pattern's corner.
+ * Draws a pattern on a canvas. A view has the column and row of the plane at the left and top edge, the size of a cell in pixels, the
+ * place of the pattern's corner, and the ages of its cells if they are to be seen.
  */
 export function paint(canvas, pattern, view, shades = colors()) {
   const { width, height } = canvas;
@@ -93,11 +105,15 @@ export function paint(canvas, pattern, view, shades = colors()) {
     context.putImageData(picture, 0, 0);
     return;
   }
+  const aged = view.ages ? shadesOfAges(shades) : null;
   for (let row = 0; row < pattern.height; row += 1) {
     const top = Math.floor((row + view.place.row - view.top) * view.size);
     if (top >= height) break;
     const bottom = Math.max(Math.floor((row + 1 + view.place.row - view.top) * view.size) - gap, top + 1);
-    if (bottom > 0) paintRow(words, width, pattern.rows[row], Math.max(top, 0), Math.min(bottom, height), view, shades.live);
+    if (bottom <= 0) continue;
+    const lines = [Math.max(top, 0), Math.min(bottom, height)];
+    if (aged) paintAges(words, width, pattern.rows[row], ...lines, view, view.ages.subarray(row * pattern.width), aged);
+    else paintRow(words, width, pattern.rows[row], ...lines, view, shades.live);
   }
   context.putImageData(picture, 0, 0);
 }
@@ -127,7 +143,7 @@ export function thumbnail(pattern, width, height, label) {
   return canvas;
 }
 
-/** Draws what is on the page anew when the preference for dark or light changes. */
-matchMedia('(prefers-color-scheme: dark)').addEventListener('change', () => {
+// What is on the page is drawn anew when the theme changes.
+addEventListener('recolored', () => {
   for (const canvas of document.querySelectorAll('canvas')) canvas.redraw?.();
 });

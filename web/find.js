@@ -1,19 +1,20 @@
 // Finding a deposit or a census by its number, and an object by its code: how often all censuses have it.
 
+import { censusAddress, depositAddress, go, objectAddress } from './address.js';
 import { total } from './archive.js';
 import { limitOf, objectNames, patternOf } from './code.js';
 import { copyButton, field, make, many } from './dom.js';
 import { thumbnail } from './draw.js';
 import { indexHead } from './index.js';
 import { objectParts } from './object.js';
-import { rulePart, ruleAddress, ruleOfAddress } from './rule.js';
+import { rulePart, ruleOfAddress } from './rule.js';
 import { addLater, formOf, occurrences, results } from './search.js';
 
-function numberForm(id, label, page) {
+function numberForm(id, label, addressOf) {
   const input = make('input', { id, type: 'number', min: 1, required: true, inputmode: 'numeric' });
   const submit = (event) => {
     event.preventDefault();
-    location.hash = `#${page}/${Math.trunc(Number(input.value))}`;
+    go(addressOf(Math.trunc(Number(input.value))));
   };
   return make('form', { submit }, field(label, input), make('button', {}, 'Show'));
 }
@@ -25,7 +26,7 @@ function codeForm(code = '', rule = 'B3/S23') {
   ruleInput.value = rule;
   const submit = (event) => {
     event.preventDefault();
-    location.hash = `#code/${encodeURIComponent(codeInput.value.trim())}/${ruleAddress(ruleInput.value.trim())}`;
+    go(objectAddress(ruleInput.value.trim(), codeInput.value.trim()));
   };
   return make('form', { class: 'code', submit }, field('Code of an object', codeInput), field('Rule', ruleInput), make('button', { class: 'main' }, 'Look up'));
 }
@@ -38,15 +39,15 @@ export async function findPage(page, query) {
     await results(page, query);
     return;
   }
-  page.root.append(make('h2', {}, 'By number'), make('div', { class: 'forms' }, numberForm('deposit-number', 'Deposit', 'deposit'), numberForm('census-number', 'Census', 'census')),
+  page.root.append(make('h2', {}, 'By number'), make('div', { class: 'forms' }, numberForm('deposit-number', 'Deposit', depositAddress), numberForm('census-number', 'Census', censusAddress)),
     make('h2', {}, 'An object'), codeForm(),
     make('p', { class: 'hint' }, 'A code names one object of a rule: a still life (xs), an oscillator (xp) or a spaceship (xq), wherever it stands and however it is turned.'),
-    make('h2', {}, 'A haul'), make('p', {}, 'The objects of random soups, as ', make('code', {}, 'life-haul'), ' counts them: ', make('a', { href: '#haul' }, 'show a table'), '.'));
-  if (head) page.root.append(make('h2', {}, 'Lists'), make('p', { class: 'row' }, make('a', { href: '#censuses' }, 'All censuses'), make('a', { href: '/index/feed.xml' }, 'New deposits as a feed')));
+    make('h2', {}, 'A haul'), make('p', {}, 'The objects of random soups, as ', make('code', {}, 'life-haul'), ' counts them: ', make('a', { href: '/haul' }, 'show a table'), '.'));
+  if (head) page.root.append(make('h2', {}, 'Lists'), make('p', { class: 'row' }, make('a', { href: '/c' }, 'All censuses'), make('a', { href: '/index/feed.xml' }, 'New deposits as a feed')));
 }
 
 /** An object by its code: the archive tells the total of a code that it can open, and refuses any other. */
-export async function codePage(page, givenCode, givenRule) {
+export async function codePage(page, givenRule, givenCode) {
   const code = decodeURIComponent(givenCode).toLowerCase();
   const rule = ruleOfAddress(decodeURIComponent(givenRule));
   page.title(code);
@@ -56,7 +57,7 @@ export async function codePage(page, givenCode, givenRule) {
   const plain = rulePart(rule).replace('S', '/S');
   const name = plain === 'B3/S23' ? (await objectNames()).get(code) : null;
   if (name) page.root.querySelector('h1').append(make('small', {}, ` ${name}`));
-  const url = `${location.origin}/#code/${code}/${ruleAddress(plain)}`;
+  const url = location.origin + objectAddress(plain, code);
   const command = `life object ${plain} ${code} ${limit}`;
   const pattern = patternOf(code);
   const picture = make('div', { class: 'picture' }, thumbnail(pattern, 320, 200, `The object ${code}`));

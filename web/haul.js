@@ -1,5 +1,6 @@
 // A haul: the table of `life-haul` is dropped or chosen, and its objects are shown, the most frequent first, with the soups that have them.
 
+import { go } from './address.js';
 import { objectRow, unresolvedRow } from './census.js';
 import { objectNames } from './code.js';
 import { counted, field, make, many } from './dom.js';
@@ -40,7 +41,7 @@ export function soupFile(root, rule, number) {
 function soupButton(haul, number) {
   const click = () => {
     bring([new File([soupFile(haul.root, haul.rule, number)], `soup-${number}.rle`)]);
-    location.hash = '#new';
+    go('/new');
   };
   return make('button', { type: 'button', click, 'aria-label': `Soup ${number}: see it, deposit it` }, counted(number));
 }

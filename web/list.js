@@ -1,5 +1,6 @@
 // The deposits: the newest, those after a number, those of a member.
 
+import { afterAddress, depositAddress, go, memberAddress } from './address.js';
 import { deposit, depositsAfter, lastDeposit } from './archive.js';
 import { counted, field, isMember, make, many, refusal } from './dom.js';
 import { thumbnail } from './draw.js';
@@ -32,7 +33,7 @@ function card(page, row, watch) {
   const picture = make('div', { class: 'picture' });
   const name = make('strong', {}, row.name || `Deposit ${row.id}`);
   const facts = [`No. ${row.id}`, row.member, many(row.population, 'cell'), row.rule === 'B3/S23' ? null : row.rule].filter(Boolean).join(' · ');
-  const item = make('li', {}, make('a', { href: `#deposit/${row.id}` }, picture, name, make('span', { class: 'facts' }, facts)));
+  const item = make('li', {}, make('a', { href: depositAddress(row.id) }, picture, name, make('span', { class: 'facts' }, facts)));
   item.draw = async () => {
     try {
       const { record } = await deposit(row.id, page.signal);
@@ -59,11 +60,11 @@ function forms(page, after, member) {
   name.value = member ?? '';
   const byNumber = (event) => {
     event.preventDefault();
-    location.hash = `#deposits/after/${Math.max(0, Math.trunc(Number(number.value)) || 0)}`;
+    go(afterAddress(Math.max(0, Math.trunc(Number(number.value)) || 0)));
   };
   const byMember = (event) => {
     event.preventDefault();
-    if (isMember(name.value)) location.hash = `#deposits/of/${name.value}`;
+    if (isMember(name.value)) go(memberAddress(name.value));
     else page.root.querySelector('.forms').after(refusal(new Refused('bad-member')));
   };
   return make('div', { class: 'forms' },
@@ -73,8 +74,8 @@ function forms(page, after, member) {
 
 /** The links to older and newer deposits, which have keys. */
 function pager(page, older, newer) {
-  page.keys['['] = () => { if (older) location.hash = older; };
-  page.keys[']'] = () => { if (newer) location.hash = newer; };
+  page.keys['['] = () => { if (older) go(older); };
+  page.keys[']'] = () => { if (newer) go(newer); };
   return make('nav', { class: 'pager', 'aria-label': 'More deposits' },
     older ? make('a', { href: older, rel: 'next' }, '← Older') : null, newer ? make('a', { href: newer, rel: 'prev' }, 'Newer →') : null);
 }
@@ -110,7 +111,7 @@ export function shownRows(page, rows) {
   return [list, make('p', {}, more)];
 }
 
-const nothing = () => make('p', { class: 'empty' }, 'There is nothing here yet. ', make('a', { href: '#new' }, 'Deposit a file'), ' and be the first.');
+const nothing = () => make('p', { class: 'empty' }, 'There is nothing here yet. ', make('a', { href: '/new' }, 'Deposit a file'), ' and be the first.');
 
 /** The deposits after a number, the greatest first; the newest where no number is given. */
 export async function deposits(page, given) {
@@ -122,12 +123,12 @@ export async function deposits(page, given) {
   page.root.append(forms(page, given, null));
   walk(page);
   if (rows.length === 0) {
-    page.root.append(last === 0 ? nothing() : make('p', { class: 'empty' }, `There is no deposit after ${counted(after)}; the newest is `, make('a', { href: `#deposit/${last}` }, counted(last)), '.'));
+    page.root.append(last === 0 ? nothing() : make('p', { class: 'empty' }, `There is no deposit after ${counted(after)}; the newest is `, make('a', { href: depositAddress(last) }, counted(last)), '.'));
     return;
   }
   const [first, end] = [rows.at(-1).id, rows[0].id];
   page.root.append(make('p', { class: 'count' }, `${counted(first)} to ${counted(end)} of ${counted(Math.max(last, end))}`), cards(page, rows),
-    pager(page, after > 0 ? `#deposits/after/${Math.max(0, after - SHOWN)}` : null, end < last ? `#deposits/after/${after + SHOWN}` : null));
+    pager(page, after > 0 ? afterAddress(Math.max(0, after - SHOWN)) : null, end < last ? afterAddress(after + SHOWN) : null));
   page.say(`${many(rows.length, 'deposit')}, ${first} to ${end}.`);
 }
 

@@ -1,7 +1,9 @@
-// Which page the address names, and the keys. An address names what is shown: `#deposit/7/at/30`, `#census/3`, `#code/xq4_153/B3-S23`.
+// Which page the address names, and the keys. An address names what is shown: `/d/7/at/30`, `/c/3`, `/o/B3-S23/xq4_153`. Those that
+// have a page are in the gateway's site too (deploy/templates/gateway/life-site.conf).
 
+import { go, newAddress } from './address.js';
 import { againButton, make, refusal } from './dom.js';
-import { keepPlace, place } from './kept.js';
+import { keepPlace, keepSetting, place, setting } from './kept.js';
 import { deposits, depositsOf } from './list.js';
 import { patternsOf } from './names.js';
 import { Refused } from './refusals.js';
@@ -32,16 +34,16 @@ const later = (name, begin) => async (page, ...given) => {
 };
 
 const PAGES = [
-  [/^(?:deposits)?$/i, 'deposits', (page) => deposits(page)],
-  [/^deposits\/after\/([0-9]{1,15})$/i, 'deposits', deposits],
-  [/^deposits\/of\/([a-z0-9-]{1,32})(?:\/before\/([0-9]{1,15}))?$/i, 'deposits', (page, member, before) => depositsOf(page, member.toLowerCase(), before)],
-  [/^deposit\/([0-9]{1,15})(?:\/at\/([0-9]{1,15}))?$/i, 'deposits', later('deposit', 'depositPage')],
-  [/^new$/i, 'new', later('new', 'depositForm')],
-  [/^find(?:\?(.*))?$/i, 'find', later('find', 'findPage')],
-  [/^censuses$/i, 'find', later('search', 'censusesPage')],
-  [/^census\/([0-9]{1,15})$/i, 'find', later('census', 'censusPage')],
-  [/^haul$/i, 'find', later('haul', 'haulPage')],
-  [/^code\/([^/]+)\/([^/]+)$/i, 'find', later('find', 'codePage')],
+  [/^\/d?$/i, 'deposits', (page) => deposits(page)],
+  [/^\/d\/after\/([0-9]{1,15})$/i, 'deposits', deposits],
+  [/^\/d\/of\/([a-z0-9-]{1,32})(?:\/before\/([0-9]{1,15}))?$/i, 'deposits', (page, member, before) => depositsOf(page, member.toLowerCase(), before)],
+  [/^\/d\/([0-9]{1,15})(?:\/at\/([0-9]{1,15}))?$/i, 'deposits', later('deposit', 'depositPage')],
+  [/^\/new$/i, 'new', later('new', 'depositForm')],
+  [/^\/find$/i, 'find', (page) => later('find', 'findPage')(page, location.search.slice(1))],
+  [/^\/c$/i, 'find', later('search', 'censusesPage')],
+  [/^\/c\/([0-9]{1,15})$/i, 'find', later('census', 'censusPage')],
+  [/^\/haul$/i, 'find', later('haul', 'haulPage')],
+  [/^\/o\/([^/]+)\/([^/]+)$/i, 'find', later('find', 'codePage')],
 ];
 
 const main = document.getElementById('main');
@@ -76,8 +78,11 @@ function fail(page, error) {
   if (page.signal.aborted) return;
   const refused = error instanceof Refused ? error : new Refused('unknown');
   if (refused !== error) console.error(error);
-  if (!page.root.querySelector('h1')) page.root.append(make('h1', { tabindex: -1 }, 'Not found'));
-  page.root.append(...[refusal(refused), againButton(refused, show)].filter(Boolean), make('p', {}, make('a', { href: '#deposits' }, 'The newest deposits')));
+  if (!page.root.querySelector('h1')) {
+    page.title('Not found');
+    page.root.append(make('h1', { tabindex: -1 }, 'Not found'));
+  }
+  page.root.append(...[refusal(refused), againButton(refused, show)].filter(Boolean), make('p', {}, make('a', { href: '/' }, 'The newest deposits')));
 }
 
 /** How long a page may be without anything to show before it says that it waits, in milliseconds. */
@@ -91,8 +96,19 @@ function sayWaiting(page) {
   setTimeout(() => { if (current === page && main.hasAttribute('aria-busy')) page.say('Waiting for the archive…'); }, WAITING);
 }
 
+/** What has a path of the pages; nothing for another one. */
+const pageOf = (path) => PAGES.find(([form]) => form.test(path)) ?? [];
+
+/** The path that is shown. An old address, which is after `#`, becomes the one that took its place. */
+function pathNow() {
+  if (location.pathname !== '/' || location.hash === '') return location.pathname;
+  const address = newAddress(location.hash.slice(1));
+  if (address) history.replaceState(history.state, '', address);
+  return address ? location.pathname : location.hash;
+}
+
 async function show() {
-  const address = location.hash.slice(1);
+  const path = pathNow();
   const { scroll = 0 } = place();
   clearTimeout(scrolled);
   current?.end();
@@ -101,14 +117,14 @@ async function show() {
   main.setAttribute('aria-busy', 'true');
   scrollTo(0, 0);
   sayWaiting(page);
-  const [form, part, begin] = PAGES.find(([form]) => form.test(address)) ?? [];
+  const [form, part, begin] = pageOf(path);
   for (const link of document.querySelectorAll('nav [data-page]')) {
     if (link.dataset.page === part) link.setAttribute('aria-current', 'page');
     else link.removeAttribute('aria-current');
   }
   try {
     if (!form) throw new Refused('no-such-page');
-    await begin(page, ...form.exec(address).slice(1));
+    await begin(page, ...form.exec(path).slice(1));
   } catch (error) {
     fail(page, error);
   }
@@ -121,9 +137,9 @@ async function show() {
 // ---- keys
 
 const GLOBAL = {
-  l: () => { location.hash = '#deposits'; },
-  n: () => { location.hash = '#new'; },
-  f: () => { location.hash = '#find'; },
+  l: () => go('/'),
+  n: () => go('/new'),
+  f: () => go('/find'),
   '?': () => keysDialog.showModal(),
 };
 
@@ -158,7 +174,7 @@ async function take(files) {
     fail(current, error);
     return;
   }
-  location.hash = '#new';
+  go('/new');
 }
 
 /** The files of an entry of a drop: its own, or those of its folder and the folders in it. */
@@ -204,6 +220,17 @@ document.addEventListener('paste', (event) => {
   else if (/^\s*(#|x\s*=)/i.test(text)) take([new Blob([text])]);
 });
 
+// ---- the theme, which this browser keeps
+
+const theme = document.getElementById('theme');
+const keptTheme = () => { theme.value = ['light', 'dark'].includes(setting('theme')) ? setting('theme') : 'system'; };
+theme.addEventListener('change', () => {
+  keepSetting('theme', theme.value === 'system' ? null : theme.value);
+  dispatchEvent(new CustomEvent('theme', { detail: theme.value }));
+});
+addEventListener('storage', keptTheme);
+keptTheme();
+
 document.getElementById('keys-button').addEventListener('click', () => keysDialog.showModal());
 document.getElementById('skip').addEventListener('click', () => main.focus());
 history.scrollRestoration = 'manual';
@@ -211,5 +238,13 @@ addEventListener('scroll', () => {
   clearTimeout(scrolled);
   scrolled = setTimeout(() => keepPlace({ scroll: scrollY }), STILL);
 }, { passive: true });
-addEventListener('hashchange', show);
+addEventListener('popstate', show);
+// A link to a page is followed here, unless it is to be opened elsewhere.
+document.addEventListener('click', (event) => {
+  const link = event.target.closest?.('a[href]');
+  if (!link || event.defaultPrevented || event.button !== 0 || event.ctrlKey || event.metaKey || event.shiftKey || event.altKey) return;
+  if (link.origin !== location.origin || link.hasAttribute('download') || pageOf(link.pathname).length === 0) return;
+  event.preventDefault();
+  go(link.pathname + link.search);
+});
 show();

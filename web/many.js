@@ -1,11 +1,12 @@
 // Many files at once: each is drawn small, or has its fault; one press deposits all that are good, one after the other; and a table says
 // what became of each, also after a reload.
 
+import { depositAddress } from './address.js';
 import { sendDeposit } from './archive.js';
 import { counted, field, isMember, make, many, memberInput, refusal, rememberMember } from './dom.js';
 import { thumbnail } from './draw.js';
 import { draft, keepDraft } from './kept.js';
-import { baseName, withTexts } from './names.js';
+import { baseName, pathOf, withTexts } from './names.js';
 import { Refused, sentenceOf } from './refusals.js';
 import { Fault, LONGEST, readFile } from './rle.js';
 import { ruleText } from './rule.js';
@@ -25,7 +26,7 @@ class Row {
 
   constructor(file) {
     this.file = file;
-    this.name = file.webkitRelativePath || file.relativePath || file.name;
+    this.name = pathOf(file);
     this.picture = make('td', { class: 'drawn' });
     this.facts = make('small');
     this.outcome = make('td', { class: 'outcome' });
@@ -63,7 +64,7 @@ class Row {
 
   say(text = '') {
     this.line.className = this.refused ? 'bad' : '';
-    if (this.kept !== null) this.outcome.replaceChildren(make('a', { href: `#deposit/${this.kept}` }, `deposit ${counted(this.kept)}`));
+    if (this.kept !== null) this.outcome.replaceChildren(make('a', { href: depositAddress(this.kept) }, `deposit ${counted(this.kept)}`));
     else this.outcome.replaceChildren(this.refused ?? text);
   }
 }

@@ -9,8 +9,11 @@ function oneLine(text) {
   return new TextDecoder().decode(bytesOf(plain).subarray(0, LONGEST_TEXT)).replace(/\ufffd+$/, '').trim();
 }
 
-/** Of the files of a folder those that are pattern files. */
-export const patternsOf = (files) => files.filter(({ name }) => /\.rle$/i.test(name));
+/** The path of a file in the folder that came, or its name. */
+export const pathOf = (file) => file.webkitRelativePath || file.relativePath || file.name;
+
+/** Of the files of a folder those that are pattern files, in the order of their paths. */
+export const patternsOf = (files) => files.filter(({ name }) => /\.rle$/i.test(name)).sort((one, other) => (pathOf(one) < pathOf(other) ? -1 : 1));
 
 /** The name of a file without its folders and its ending: `guns/gosper-gun.rle` has `gosper-gun`. */
 export const baseName = (name) => oneLine(name.split('/').at(-1).replace(/\.(rle|txt)$/i, ''));

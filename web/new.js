@@ -1,5 +1,6 @@
 // Depositing: a file is dropped, chosen or pasted, seen, and sent under a member and a token.
 
+import { depositAddress, go } from './address.js';
 import { lastDeposit, sendDeposit } from './archive.js';
 import { field, isMember, isToken, make, many, memberInput, refusal, rememberMember } from './dom.js';
 import { thumbnail } from './draw.js';
@@ -162,7 +163,7 @@ async function send(content, name, said, page) {
   page.say(`Kept as deposit ${number}.`);
   keepDraft('pattern', null);
   note = { number, text: number > last ? 'Deposited.' : 'You had deposited this already: it keeps its number.' };
-  location.hash = `#deposit/${number}`;
+  go(depositAddress(number));
 }
 
 /** The fields for one file, and what happens when they are sent. */

@@ -118,6 +118,13 @@ export class Player {
     }
   }
 
+  /** A generation as the page makes it, with its place. */
+  async made(at) {
+    const maker = await this.#making();
+    if (!maker) throw new Error('the page makes no generations');
+    return maker.get(at);
+  }
+
   /** Where a generation is, by the steps between it and the one that is shown; null where these are too many. */
   async #madePlace(at) {
     const shown = this.#places.get(this.at);

@@ -1,5 +1,6 @@
 // Searching the index: a form, the deposits that fit, and the places where other pages show what the index says.
 
+import { censusAddress, depositAddress, go } from './address.js';
 import { counted, field, make, many } from './dom.js';
 import { NOTHING, allDeposits, censusesOfObject, censusesWith, indexHead, indexNote, indexedCensus, indexedDeposit, search } from './index.js';
 import { shownRows } from './list.js';
@@ -27,7 +28,7 @@ export function searchAddress(asked) {
     const text = Array.isArray(value) ? value.join('..').replace(/^\.\.$/, '') : value;
     if (text) words.set(name, text);
   }
-  return `#find?${words}`;
+  return `/find?${words}`;
 }
 
 function input(id, type, value) {
@@ -53,7 +54,7 @@ export function searchForm(asked = NOTHING) {
   const all = [...fields, ...RANGES.map((range) => rangeField(range, asked[range[0]]))];
   const submit = (event) => {
     event.preventDefault();
-    location.hash = searchAddress({ text: text.value.trim(), ...Object.fromEntries(all.map(({ name, value }) => [name, value()])) });
+    go(searchAddress({ text: text.value.trim(), ...Object.fromEntries(all.map(({ name, value }) => [name, value()])) }));
   };
   const open = all.some(({ value }) => [value()].flat().some(Boolean));
   return make('form', { class: 'search', role: 'search', submit }, make('div', { class: 'row' }, field('Name, author or member', text), make('button', { class: 'main' }, 'Search')),
@@ -83,9 +84,9 @@ const nameOf = async (id) => (await indexedDeposit(id))?.name || null;
 
 /** A line of a list of censuses: its number, what it is of, and what it found. */
 async function censusLine(row, count) {
-  const place = `#deposit/${row.deposit}${row.generation === 0 ? '' : `/at/${row.generation}`}`;
+  const place = depositAddress(row.deposit, row.generation);
   const name = await nameOf(row.deposit);
-  return make('tr', {}, make('th', { scope: 'row' }, make('a', { href: `#census/${row.id}` }, counted(row.id))),
+  return make('tr', {}, make('th', { scope: 'row' }, make('a', { href: censusAddress(row.id) }, counted(row.id))),
     make('td', {}, make('a', { href: place }, `${name ?? `Deposit ${row.deposit}`}`), make('small', {}, `deposit ${counted(row.deposit)}, generation ${counted(row.generation)}`)),
     count === undefined ? null : make('td', { class: 'number' }, counted(count)), make('td', { class: 'number' }, counted(row.clusters)),
     make('td', {}, row.steady ? 'steady' : 'not steady', make('small', {}, row.day)));
@@ -136,7 +137,7 @@ export async function censusesPage(page) {
   page.root.append(make('h1', { tabindex: -1 }, 'Censuses'));
   const head = await indexHead();
   if (!head) {
-    page.root.append(make('p', { class: 'empty' }, 'This archive has no index, so censuses are found by their numbers alone: ', make('a', { href: '#find' }, 'find one'), '.'));
+    page.root.append(make('p', { class: 'empty' }, 'This archive has no index, so censuses are found by their numbers alone: ', make('a', { href: '/find' }, 'find one'), '.'));
     return;
   }
   const rows = await censusesWith(() => true, page.signal);

@@ -13,6 +13,7 @@ export class View {
   #asked = false;
   #pointers = new Map();
   #grid = true;
+  #ages = null;
   /** Whether the whole pattern is kept in sight; a hand that moves or zooms ends it. */
   following = true;
 
@@ -61,7 +62,7 @@ export class View {
     this.#asked = true;
     requestAnimationFrame(() => {
       this.#asked = false;
-      paint(this.canvas, this.#pattern, { left: this.#left, top: this.#top, size: this.#size, place: this.#place, grid: this.#grid });
+      paint(this.canvas, this.#pattern, { left: this.#left, top: this.#top, size: this.#size, place: this.#place, grid: this.#grid, ages: this.#ages });
     });
   }
 
@@ -69,6 +70,7 @@ export class View {
   show(pattern, place) {
     const middle = this.#middle();
     this.#pattern = pattern;
+    this.#ages = null;
     this.#place = place ?? { column: Math.round(middle.column - pattern.width / 2), row: Math.round(middle.row - pattern.height / 2) };
     if (this.following) this.#follow();
     this.#draw();
@@ -84,6 +86,13 @@ export class View {
     if (width === 0 || inside) return;
     if (width + 2 > wide || height + 2 > high) this.#size = sizeFor(width + 2, height + 2, this.canvas.width, this.canvas.height, this.#size);
     this.#look({ column: column + width / 2, row: row + height / 2 });
+  }
+
+  /** Shows the ages of the cells, or none. */
+  showAges(found) {
+    const fits = found && found.width === this.#pattern.width && found.height === this.#pattern.height;
+    this.#ages = fits ? found.ages : null;
+    this.#draw();
   }
 
   showGrid(is) {

@@ -9,6 +9,7 @@ import fcntl
 import http.client
 import os
 import pathlib
+import re
 import select
 import shutil
 import socket
@@ -23,6 +24,8 @@ LEAST_COMMIT = 32 + 24 + 512
 LOCK_START, LOCK_LENGTH = 1 << 30, 512
 # How long the program may take to open a copy, in seconds. A migration takes as long as the censuses took.
 OPENED_WITHIN = 1800
+# The moment in the name of a copy, in UTC.
+STAMP = "%Y-%m-%dT%H%M"
 # The tables with numbers: what a row is called, and the columns that tell it from the row of another archive.
 TABLES = {"deposits": ("deposit", "member, token, rle"), "censuses": ("census", "member, token, deposit, gens, lim")}
 
@@ -175,6 +178,31 @@ def lacks(new, there):
     """That a new archive can't take the place of another one, in words, or nothing."""
     found = lacking(new, there)
     return f"{there.name} stays with {there.text_with_first()}; {new.name} has {new.text_with_first()}: {', '.join(found)}" if found else ""
+
+
+# ---- the copies of a club
+
+class Copies:
+    """The copies in the folder of a club, the newest first."""
+
+    def __init__(self, archive, folder):
+        self.folder, self.stem = folder, os.path.basename(archive).removesuffix(".db")
+        form = re.compile(re.escape(self.stem) + r"-(\d{4}-\d\d-\d\dT\d{4})\.db")
+        found = [form.fullmatch(name) for name in os.listdir(folder)]
+        self.stamps = sorted((name[1] for name in found if name), reverse=True)
+
+    def path(self, stamp):
+        return os.path.join(self.folder, f"{self.stem}-{stamp}.db")
+
+    def newest_good(self):
+        """The newest copy that can be read, and what is wrong with those that are newer."""
+        faults = []
+        for stamp in self.stamps:
+            try:
+                return Contents(self.path(stamp), self.path(stamp)), faults
+            except Refused as fault:
+                faults.append(str(fault))
+        return None, faults
 
 
 # ---- the program

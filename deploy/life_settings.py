@@ -23,7 +23,7 @@ FORMS = {
     "PROGRAM": PATH, "ARCHIVE": PATH, "ARCHIVE_FOLDER": PATH, "SCRIPTS": PATH, "SETTINGS": PATH, "BACKUP_FOLDER": PATH, "METRICS_FOLDER": PATH_OR_NONE,
     "LIFE_USER": USER,
     "LIFE_MEMORY": (r"[1-9][0-9]{0,8}[KMGT]", "an amount of memory, as 400M"),
-    "LIFE_PORT": PORT, "PROXY_PORT": PORT,
+    "LIFE_PORT": PORT, "PROXY_PORT": PORT, "METRICS_PORT": (PORT[0] + "|", PORT[1] + ", or nothing"),
     "LISTEN": (ADDRESS_OR_NONE[0][1:], "a port, or an address and a port as 127.0.0.1:80"), "LISTEN_ALSO": ADDRESS_OR_NONE,
     "REDIRECT": ADDRESS_OR_NONE, "REDIRECT_ALSO": ADDRESS_OR_NONE,
     "HOST": (r"([A-Za-z0-9_.*-]+( [A-Za-z0-9_.*-]+)*)?", "names of hosts, or nothing"),
@@ -36,7 +36,7 @@ FORMS = {
     "WEB_FOLDER": PATH, "CACHE_SIZE": (r"[1-9][0-9]{0,8}[kKmMgG]", "an amount, as 4g"), "CACHE_NAME": (r"[A-Za-z0-9_.-]+", "a word"),
     "WEB_LOG": PATH, "WEB_ERRORS": PATH, "PROXY_CONNECTIONS": COUNT, "PROXY_USER": USER,
     "BACKUP_TIMES": CALENDAR, "INDEX_TIMES": CALENDAR, "INDEX_FOLDER": PATH_OR_NONE,
-    "KEEP_QUARTERS": COUNT, "KEEP_DAYS": COUNT, "KEEP_MONTHS": COUNT,
+    "COPY_AGE": TIME, "KEEP_QUARTERS": COUNT, "KEEP_DAYS": COUNT, "KEEP_MONTHS": COUNT,
     "SECOND_PLACE": (r"|([A-Za-z0-9_.@-]+:)?/[A-Za-z0-9_./@+-]*", "a folder, as /mnt/club or club@host:/srv/club, or nothing"),
     "ALARM_TO": (r"[A-Za-z0-9_.@+-]+", "an address of mail"),
 }
@@ -89,8 +89,9 @@ def judge(settings):
     """Refuses what is no value of its setting, and values that don't go together."""
     for name, value in settings.items():
         judged(name, value)
-    if settings["LIFE_PORT"] == settings["PROXY_PORT"]:
-        raise Wrong("LIFE_PORT and PROXY_PORT are the same port")
+    ports = [settings[name] for name in ("LIFE_PORT", "PROXY_PORT", "METRICS_PORT")]
+    if len(set(ports)) < len(ports):
+        raise Wrong("two of LIFE_PORT, PROXY_PORT and METRICS_PORT are the same port")
     if os.path.dirname(settings["ARCHIVE"]) != settings["ARCHIVE_FOLDER"].rstrip("/"):
         raise Wrong("ARCHIVE is not in ARCHIVE_FOLDER")
     if seconds(settings["WEB_TIME"]) <= seconds(settings["QUEUE_TIME"]) + seconds(settings["ANSWER_TIME"]):

@@ -12,9 +12,11 @@ GATEWAY = os.path.join(TEMPLATES, "gateway")
 
 
 def with_derived(settings):
-    """The settings, and what follows from them: a second place that is a folder here, and no HSTS without TLS."""
-    place = settings["SECOND_PLACE"]
-    return settings | {"SECOND_FOLDER": place if place.startswith("/") else "", "HSTS": settings["HSTS"] if settings["TLS"] == "yes" else ""}
+    """The settings, and what follows from them: a second place that is a folder here, no HSTS without TLS, and the logs that Debian's file
+    for nginx does not rotate."""
+    place, logs = settings["SECOND_PLACE"], {settings["WEB_LOG"], settings["WEB_ERRORS"]}
+    return settings | {"SECOND_FOLDER": place if place.startswith("/") else "", "HSTS": settings["HSTS"] if settings["TLS"] == "yes" else "",
+                       "OWN_LOGS": " ".join(sorted(log for log in logs if not re.fullmatch(r"/var/log/nginx/[^/]+\.log", log)))}
 
 
 def filled(name, text, settings):

@@ -30,7 +30,8 @@ pivot_root . mnt
 umount --lazy mnt
 exec env --ignore-environment container=private PATH=/usr/sbin:/usr/bin:/sbin:/bin /lib/systemd/systemd --system
 """
-PACKAGES = "systemd,systemd-sysv,dbus,nginx-light,haproxy,python3,curl,libsqlite3-0,procps"
+# What the packages of life depend on; and, for what is tried, another machine's ssh and rsync, and a sendmail.
+PACKAGES = "systemd,systemd-sysv,dbus,nginx-light,haproxy,logrotate,python3,curl,libsqlite3-0,procps,openssh-server,rsync,dma"
 NAMESPACES = ["--mount", "--pid", "--uts", "--ipc", "--net", "--cgroup"]
 
 

@@ -1,4 +1,5 @@
-// Pictures to keep, made in the page: the SVG document that `life-draw svg` makes (docs/FORMATS.md, Pictures), a PNG, and an animated SVG.
+// Pictures to keep, made in the page: the SVG documents that `life-draw svg` and `life-draw animation` make (docs/FORMATS.md, Pictures),
+// and a PNG.
 
 import { LAST_GENERATION, generation } from './archive.js';
 import { make, refusal } from './dom.js';
@@ -9,7 +10,8 @@ import { Refused } from './refusals.js';
 const LONGEST_SIDE = 2048;
 const LARGEST_CELL = 16;
 const MOST_FRAMES = 240;
-const SECONDS = 0.125;
+// How long a frame is shown, in milliseconds.
+const FRAME_TIME = 125;
 const SHADES = { live: 0xff000000, dead: 0xffffffff, grid: 0xffffffff };
 
 /** A text in a document: what no XML may have is U+FFFD. */
@@ -44,16 +46,15 @@ export function pngOf({ pattern }) {
   return new Promise((resolve) => { canvas.toBlob(resolve, 'image/png'); });
 }
 
-/** Frames in one box as a document that shows one after the other, over and over. */
+/** Frames in one box as a document that shows one after the other, over and over: the one that `life-draw animation` makes. */
 export function animationOf(frames, title) {
-  const [left, top] = ['column', 'row'].map((side) => Math.min(...frames.map(({ corner }) => corner[side])));
-  const right = Math.max(...frames.map(({ corner, pattern }) => corner.column + pattern.width));
-  const bottom = Math.max(...frames.map(({ corner, pattern }) => corner.row + pattern.height));
-  const time = (at) => (at / frames.length).toFixed(6);
-  const inside = frames.map(({ corner, pattern }, at) => `<path visibility="hidden" d="${pathOf(pattern, corner.column - left, corner.row - top)}">`
-    + `<animate attributeName="visibility" calcMode="discrete" dur="${frames.length * SECONDS}s" repeatCount="indefinite" `
-    + `${at === 0 ? `values="visible;hidden" keyTimes="0;${time(1)}"` : `values="hidden;visible;hidden" keyTimes="0;${time(at)};${time(at + 1)}"`}/></path>\n`);
-  return documentOf(right - left, bottom - top, title, inside.join(''));
+  const boxes = frames.filter(({ pattern }) => pattern.width > 0);
+  const [left, top] = ['column', 'row'].map((side) => (boxes.length ? Math.min(...boxes.map(({ corner }) => corner[side])) : 0));
+  const right = Math.max(left, ...boxes.map(({ corner, pattern }) => corner.column + pattern.width));
+  const bottom = Math.max(top, ...boxes.map(({ corner, pattern }) => corner.row + pattern.height));
+  const data = frames.map(({ corner, pattern }) => `M0 0${pathOf(pattern, corner.column - left, corner.row - top)}`);
+  return documentOf(right - left, bottom - top, title, `<path d="${data[0]}"><animate attributeName="d" calcMode="discrete" dur="${frames.length * FRAME_TIME}ms" `
+    + `repeatCount="indefinite" values="${data.join(';')}"/></path>\n`);
 }
 
 /** So many generations of a deposit from one on, as the archive answers each, with their places by the page's own steps. */

@@ -9,13 +9,15 @@ _life_haul() {
   case $before in
     --rule)
       return ;;
+    --symmetry)
+      return ;;
   esac
   if [ "$COMP_CWORD" = 1 ]; then
-    words='soup --rule -h --help -V --version'
+    words='soup --rule --symmetry -h --help -V --version'
   else
     case ${COMP_WORDS[1]} in
-      soup) words='--rule -h --help' ;;
-      *) words='--rule -h --help -V --version' ;;
+      soup) words='--rule --symmetry -h --help' ;;
+      *) words='--rule --symmetry -h --help -V --version' ;;
     esac
   fi
   mapfile -t COMPREPLY < <(compgen -W "$words" -- "$word")

@@ -22,10 +22,18 @@ NEIGHBOURS = offsets(1)
 NEAR = offsets(2)
 
 
-def soup(root, number):
-    """The live cells of a soup: the bits of its digest that are 1, in rows of 16, each byte's highest bit first."""
+# How many cells a row of a soup has, by the name of its symmetry.
+WIDTHS = {"C1": 16, "8x32": 32, "4x64": 64, "2x128": 128, "1x256": 256, "D2_+1": 16, "D2_+2": 16}
+# Which row is the mirror image of row 0. The image of row y is as far above it.
+MIRRORS = {"D2_+1": 0, "D2_+2": -1}
+
+
+def soup(root, number, symmetry="C1"):
+    """The live cells of a soup: the bits of its digest that are 1, row by row, each byte's highest bit first; and their mirror images."""
     digest = int.from_bytes(hashlib.sha256(f"{root}{number}".encode()).digest(), "big")
-    return {ORIGIN + bit // 16 * ROW + bit % 16 for bit in range(256) if digest >> 255 - bit & 1}
+    places = [divmod(bit, WIDTHS[symmetry]) for bit in range(256) if digest >> 255 - bit & 1]
+    places += [(MIRRORS[symmetry] - row, column) for row, column in places] if symmetry in MIRRORS else []
+    return {ORIGIN + row * ROW + column for row, column in places}
 
 
 def read_rule(text):
@@ -100,11 +108,11 @@ class Names:
         return self.known[cells]
 
 
-def haul(names, root, first, count, n):
+def haul(names, root, first, count, n, symmetry="C1"):
     """The table of a haul: the count and the first soup of each code, and of None for the clusters without a code."""
     table = {}
     for number in range(first, first + count):
-        for cluster in clusters(generation(soup(root, number), names.rule, n)):
+        for cluster in clusters(generation(soup(root, number, symmetry), names.rule, n)):
             code = names.code(cluster)
             seen, least = table.get(code, (0, number))
             table[code] = seen + 1, least
@@ -123,13 +131,15 @@ def add(tables):
 
 def read_table(text):
     """The table of a text that a program printed, without what it is of and without its sums."""
-    rows = [line.split(",") for line in text.splitlines()[5:-2]]
+    lines = text.splitlines()
+    rows = [line.split(",") for line in lines[lines.index("code,count,first") + 1:-2]]
     return {None if code == "unresolved" else code: (int(count), int(first)) for code, count, first in rows if first}
 
 
-def table_text(table, root, first, count, n, limit, rule):
-    """The text of the table of a haul: what it is of, rows in byte order of their codes, the clusters without a code, and the sums."""
-    heading = f"# root {root}\n# rule {rule}\n# generation {n}\n# limit {limit}\ncode,count,first\n"
+def table_text(table, root, first, count, n, limit, rule, symmetry="C1"):
+    """The text of the table of a haul: what it is of, rows in byte order of their codes, the clusters without a code, and the sums. C1 is not named."""
+    heading = f"# root {root}\n# rule {rule}\n# generation {n}\n# limit {limit}\n"
+    heading += ("" if symmetry == "C1" else f"# symmetry {symmetry}\n") + "code,count,first\n"
     rows = [f"{code},{table[code][0]},{table[code][1]}\n" for code in sorted(table.keys() - {None})]
     unresolved, least = table.get(None, (0, ""))
     clusters = sum(number for number, _ in table.values())

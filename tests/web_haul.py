@@ -19,8 +19,8 @@ FOUND = 5481
 LONGEST = 16_777_216
 
 
-def table(haul=HAUL, rule=LIFE):
-    return haul_reference.table_text(haul, ROOT, FIRST, SOUPS, GENERATION, LIMIT, rule)
+def table(haul=HAUL, rule=LIFE, symmetry="C1"):
+    return haul_reference.table_text(haul, ROOT, FIRST, SOUPS, GENERATION, LIMIT, rule, symmetry)
 
 
 def objects(haul):
@@ -90,12 +90,12 @@ def is_listed(rows, haul, rule):
     return widest > 50 and bars and [{name: row[name] for name in wanted[0]} for row in rows] == wanted
 
 
-def is_shown(browser, haul, rule):
+def is_shown(browser, haul, rule, named=""):
     """Whether a haul is shown: what it is of, its sums, its objects, and the clusters without a code."""
     clusters, codes = sum(count for count, _ in haul.values()), objects(haul)
     browser.until(lambda: browser.text("#status") == f"{SOUPS:,} soups, {len(codes)} codes.")
     facts = {"Soups": f"{SOUPS:,}", "Clusters": f"{clusters:,}", "Objects": f"{len(codes)} codes", "Unresolved": f"{haul[None][0]:,}"}
-    return (browser.text(".by") == f"Soups {FIRST:,} to {FIRST + SOUPS - 1:,} of {ROOT}, at generation {GENERATION:,} under {rule}, with periods up to {LIMIT}."
+    return (browser.text(".by") == f"Soups {FIRST:,} to {FIRST + SOUPS - 1:,} of {ROOT}{named}, at generation {GENERATION:,} under {rule}, with periods up to {LIMIT}."
             and browser.run(FACTS) == facts and is_listed(browser.run(ROWS), haul, rule)
             and browser.text("main tfoot th").startswith("unresolved") and browser.text("main tfoot .number") == f"{haul[None][0]:,}" and browser.text(".refusal") == "")
 
@@ -117,11 +117,30 @@ def dropped(browser, base, folder):
     browser.picture("haul")
 
 
+SOUP_FILES = """
+const { soupFile } = await import('/web/haul.js');
+return arguments[0].map((symmetry) => soupFile(arguments[1], arguments[2], arguments[3], symmetry));
+"""
+
+
+def soups_made(browser):
+    """The soups of each symmetry are those of the reference, from their first column and row on."""
+    texts = browser.wait_for(SOUP_FILES, list(haul_reference.WIDTHS), ROOT, LIFE, FOUND)
+    for symmetry, text in zip(haul_reference.WIDTHS, texts):
+        cells = {(cell % haul_reference.ROW - haul_reference.ORIGIN, cell // haul_reference.ROW) for cell in haul_reference.soup(ROOT, FOUND, symmetry)}
+        named = f"soup {FOUND} of {ROOT}" + ("" if symmetry == "C1" else f" ({symmetry})")
+        check(f"a soup of {symmetry}", reference.read_file(text.encode()) == (named.encode(), None, (), reference.LIFE, reference.normal(cells)))
+
+
 def chosen(browser, base, folder):
     """A table that is chosen, of another rule, is shown without names."""
     check("the page of hauls anew", at_haul(browser, base) and browser.all("main tbody tr") == [])
     browser.one("#haul-file").send_keys(written(folder, "highlife.csv", table(rule=HIGHLIFE)))
     check("a table that is chosen", is_shown(browser, HAUL, HIGHLIFE) and {row["name"] for row in browser.run(ROWS)} == {None})
+    at_haul(browser, base)
+    browser.one("#haul-file").send_keys(written(folder, "mirrored.csv", table(symmetry="D2_+1")))
+    check("a table of a symmetry", is_shown(browser, HAUL, LIFE, " (D2_+1)"))
+    soups_made(browser)
 
 
 def more(browser, base, folder):
@@ -146,7 +165,8 @@ def no_tables():
     return {"empty.csv": "", "census.csv": "code,count\nxs4_33,3\nunresolved,0\n", "without-heading.csv": "\n".join(lines[4:]), "cut.csv": "\n".join(lines[:7]) + "\n",
             "without-end.csv": whole[:-1], "other-sum.csv": whole.replace("xs4_33,6107,", "xs4_33,6106,"), "no-count.csv": whole.replace("xs4_33,6107,1000", "xs4_33,0,1000"),
             "no-code.csv": whole.replace("xs4_33,", "ys4_33,"), "more-columns.csv": whole.replace("xs4_33,6107,1000", "xs4_33,6107,1000,1"),
-            "headings.csv": "\n".join([lines[1], lines[0], *lines[2:]]), "longer.csv": whole.replace(ROOT, "a" * LONGEST)}
+            "symmetry.csv": table(symmetry="32x8"), "named-c1.csv": whole.replace("code,count,first", "# symmetry C1\ncode,count,first"),
+            "two-symmetries.csv": table(symmetry="8x32\n# symmetry 8x32"), "headings.csv": "\n".join([lines[1], lines[0], *lines[2:]]), "longer.csv": whole.replace(ROOT, "a" * LONGEST)}
 
 
 def refused(browser, base, folder):

@@ -13,6 +13,9 @@ const SHOWN = 100;
 const LONGEST_TABLE = 16_777_216;
 const HEADINGS = ['root', 'rule', 'generation', 'limit'];
 const HEAD = 'code,count,first';
+/** The symmetries of soups by their names: how many cells a row has, and which row is the mirror image of row 0, if there is a mirror. */
+const SYMMETRIES = { C1: [16], '8x32': [32], '4x64': [64], '2x128': [128], '1x256': [256], 'D2_+1': [16, 0], 'D2_+2': [16, -1] };
+const NAMED = /^# symmetry (.*)$/;
 const ROW = /^(x[spq][1-9][0-9]*_[0-9a-z]+),([1-9][0-9]{0,15}),([0-9]{1,16})$/;
 const ENDS = [/^unresolved,([0-9]{1,16}),[0-9]{0,16}$/, /^clusters,([0-9]{1,16}),$/, /^soups,([0-9]{1,16}),([0-9]{1,16})$/];
 
@@ -20,6 +23,11 @@ const ENDS = [/^unresolved,([0-9]{1,16}),[0-9]{0,16}$/, /^clusters,([0-9]{1,16})
 export function readTable(text) {
   const lines = text.split('\n');
   const said = HEADINGS.map((name, at) => (lines[at]?.startsWith(`# ${name} `) ? lines[at].slice(name.length + 3) : null));
+  // A table of C1 does not name it.
+  const named = NAMED.exec(lines[HEADINGS.length]);
+  const symmetry = named ? named[1] : 'C1';
+  if (!Object.hasOwn(SYMMETRIES, symmetry) || (named && symmetry === 'C1')) return null;
+  if (named) lines.splice(HEADINGS.length, 1);
   const ends = ENDS.map((form, at) => form.exec(lines.at(at - 4) ?? ''));
   const rows = lines.slice(HEADINGS.length + 1, -4).map((line) => ROW.exec(line));
   if ([...said, ...ends, ...rows].includes(null) || lines.at(-1) !== '' || lines[HEADINGS.length] !== HEAD) return null;
@@ -27,20 +35,26 @@ export function readTable(text) {
   const [unresolved, clusters, soups, first] = [ends[0][1], ends[1][1], ends[2][1], ends[2][2]].map(Number);
   const objects = rows.map(([, code, count, seen]) => ({ code, count: Number(count), first: Number(seen) }));
   if (objects.reduce((sum, { count }) => sum + count, unresolved) !== clusters) return null;
-  return { root, rule, generation: Number(generation), limit: Number(limit), unresolved, clusters, soups, first, objects };
+  return { root, rule, symmetry, generation: Number(generation), limit: Number(limit), unresolved, clusters, soups, first, objects };
 }
 
-/** A soup as a pattern file: the bits of the SHA-256 digest of its root and its number, row by row. */
-export function soupFile(root, rule, number) {
+/** The symmetry in words that follow the root; none for C1. */
+const symmetryWords = (symmetry) => (symmetry === 'C1' ? '' : ` (${symmetry})`);
+
+/** A soup as a pattern file: the bits of the SHA-256 digest of its root and its number, row by row, and before them their mirror image. */
+export function soupFile(root, rule, number, symmetry = 'C1') {
   const digest = sumOf(new TextEncoder().encode(`${root}${number}`));
   const cells = [...digest].map((digit) => parseInt(digit, 16).toString(2).padStart(4, '0').replaceAll('0', 'b').replaceAll('1', 'o')).join('');
-  return `#N soup ${number} of ${root}\nx = 16, y = 16, rule = ${rule}\n${cells.match(/.{16}/g).join('$\n')}!\n`;
+  const [width, image] = SYMMETRIES[symmetry];
+  const rows = cells.match(new RegExp(`.{${width}}`, 'g'));
+  const images = image === undefined ? [] : rows.slice(image + 1).reverse();
+  return `#N soup ${number} of ${root}${symmetryWords(symmetry)}\nx = ${width}, y = ${images.length + rows.length}, rule = ${rule}\n${[...images, ...rows].join('$\n')}!\n`;
 }
 
 /** A button that takes a soup to the page on which files are deposited. */
 function soupButton(haul, number) {
   const click = () => {
-    bring([new File([soupFile(haul.root, haul.rule, number)], `soup-${number}.rle`)]);
+    bring([new File([soupFile(haul.root, haul.rule, number, haul.symmetry)], `soup-${number}.rle`)]);
     go('/new');
   };
   return make('button', { type: 'button', click, 'aria-label': `Soup ${number}: see it, deposit it` }, counted(number));
@@ -78,7 +92,7 @@ function objectsOf(haul, names) {
 function shownHaul(haul, names) {
   const facts = [['Soups', counted(haul.soups)], ['Clusters', counted(haul.clusters)], ['Objects', many(haul.objects.length, 'code')], ['Unresolved', counted(haul.unresolved)]];
   return [make('p', { class: 'by' }, `Soups ${counted(haul.first)} to ${counted(haul.first + Math.max(haul.soups, 1) - 1)} of `, make('code', {}, haul.root),
-    `, at generation ${counted(haul.generation)} under ${haul.rule}, with periods up to ${counted(haul.limit)}.`),
+    `${symmetryWords(haul.symmetry)}, at generation ${counted(haul.generation)} under ${haul.rule}, with periods up to ${counted(haul.limit)}.`),
   make('dl', { class: 'facts' }, facts.map(([term, told]) => make('div', {}, make('dt', {}, term), make('dd', {}, told)))), ...objectsOf(haul, names),
   make('p', { class: 'hint' }, 'The page shows what the table says; the archive has not seen it. A soup that is deposited is counted by the archive itself.')];
 }

@@ -18,7 +18,7 @@ PIECE = """\
 trap 'rm -f FIRST.$$' EXIT
 trap 'exit 1' INT TERM
 [ -e FIRST.csv ] && exit
-"$HAUL_PROGRAM" --rule "$HAUL_RULE" -- "$HAUL_ROOT" FIRST COUNT "$HAUL_N" "$HAUL_LIMIT" > FIRST.$$ && mv FIRST.$$ FIRST.csv"""
+"$HAUL_PROGRAM" --rule "$HAUL_RULE" --symmetry "$HAUL_SYMMETRY" -- "$HAUL_ROOT" FIRST COUNT "$HAUL_N" "$HAUL_LIMIT" > FIRST.$$ && mv FIRST.$$ FIRST.csv"""
 
 
 def end(why):
@@ -46,6 +46,7 @@ def parser_of(description):
     parser.add_argument("--folder", required=True)
     parser.add_argument("--size", type=positive, default=10_000)
     parser.add_argument("--rule", default="B3/S23")
+    parser.add_argument("--symmetry", default="C1")
     parser.add_argument("--program", type=os.path.abspath, default=os.path.join(TOP, "life-haul"))
     return parser
 
@@ -68,14 +69,17 @@ def validate(haul, pieces):
     """Ends as the program does if it refuses the first soup of the last piece. The program is built here if it is not built yet."""
     last = pieces[-1][0] if pieces else haul.first
     numbers = map(str, (last, min(haul.count, 1), haul.n, haul.limit))
-    done = subprocess.run([haul.program, "--rule", haul.rule, "--", haul.root, *numbers], stdout=subprocess.DEVNULL, check=False)
+    done = subprocess.run([haul.program, "--rule", haul.rule, "--symmetry", haul.symmetry, "--", haul.root, *numbers], stdout=subprocess.DEVNULL, check=False)
     if done.returncode != 0:
         sys.exit(done.returncode)
 
 
 def take_folder(haul):
     """Makes the folder, or checks that it is this haul's."""
-    own = json.dumps({name: getattr(haul, name) for name in ("root", "first", "count", "n", "limit", "rule", "size")}) + "\n"
+    names = ["root", "first", "count", "n", "limit", "rule", "size"]
+    # Hauls of C1 do not name it, as their tables do not.
+    names += ["symmetry"] if haul.symmetry != "C1" else []
+    own = json.dumps({name: getattr(haul, name) for name in names}) + "\n"
     stored = os.path.join(haul.folder, "haul.json")
     os.makedirs(haul.folder, exist_ok=True)
     if os.path.exists(stored):
@@ -98,7 +102,8 @@ def write_list(haul, pieces):
 
 def environment(haul):
     """The environment in which pieces are counted."""
-    return os.environ | {"HAUL_PROGRAM": haul.program, "HAUL_ROOT": haul.root, "HAUL_N": str(haul.n), "HAUL_LIMIT": str(haul.limit), "HAUL_RULE": haul.rule}
+    return os.environ | {"HAUL_PROGRAM": haul.program, "HAUL_ROOT": haul.root, "HAUL_N": str(haul.n), "HAUL_LIMIT": str(haul.limit), "HAUL_RULE": haul.rule,
+                         "HAUL_SYMMETRY": haul.symmetry}
 
 
 def table_names(pieces):

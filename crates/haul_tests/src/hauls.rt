@@ -1,6 +1,6 @@
 //! Hauls that are put into memory, with tables that a program of its own made from Python's SHA-256.
 
-use life_hauls::{HaulWords, Unwatched, Watch, laws_of_hauls, laws_of_soups, run_haul};
+use life_hauls::{HaulWords, Symmetry, Unwatched, Watch, laws_of_hauls, laws_of_soups, run_haul};
 use life_jobs::Stop;
 use life_rle::{MemoryOutlet, PieceOutlet};
 use std::alloc::Global;
@@ -15,6 +15,7 @@ const THREE: HaulWords<'static> = HaulWords {
     first: 0,
     count: 3,
     rule: "B3/S23",
+    symmetry: Symmetry::C1,
     n: 500,
     limit: 4,
 };
@@ -39,8 +40,72 @@ clusters,27,
 soups,3,0
 ";
 
-const RUNS: [Run; 8] = [
+/// The same soups in rows of 32 cells.
+const WIDE: &str = "\
+# root tst
+# rule B3/S23
+# generation 500
+# limit 4
+# symmetry 8x32
+code,count,first
+xp2_1110s,1,2
+xp2_652zs01110szw222,1,2
+xp2_7,6,1
+xp2_s01110szw222,3,0
+xq4_153,3,2
+xs4_33,12,0
+xs5_253,2,2
+xs6_356,2,2
+xs6_696,7,0
+xs7_2596,1,2
+unresolved,15,2
+clusters,53,
+soups,3,0
+";
+
+/// The same soups with their mirror images.
+const MIRRORED: &str = "\
+# root tst
+# rule B3/S23
+# generation 500
+# limit 4
+# symmetry D2_+2
+code,count,first
+xp2_33ws,2,1
+xp2_7,10,0
+xp2_70ggg07,6,0
+xp2_s01110szw222,2,2
+xq4_153,8,0
+xs14_0g06996z343,2,2
+xs4_33,29,0
+xs5_253,4,1
+xs6_356,4,0
+xs6_696,13,0
+xs7_2596,2,0
+xs8_6996,4,0
+unresolved,22,0
+clusters,108,
+soups,3,0
+";
+
+const RUNS: [Run; 10] = [
     (THREE, Ok(()), TABLE),
+    (
+        HaulWords {
+            symmetry: Symmetry::EightRows,
+            ..THREE
+        },
+        Ok(()),
+        WIDE,
+    ),
+    (
+        HaulWords {
+            symmetry: Symmetry::D2Plus2,
+            ..THREE
+        },
+        Ok(()),
+        MIRRORED,
+    ),
     (HaulWords { count: 0, ..THREE }, Err(Stop::OutOfLimit), ""),
     (
         HaulWords {

@@ -1,6 +1,6 @@
 //! Words of the command line of `life-haul`, and the jobs that they name.
 
-use life_hauls::{HaulWords, Job, SoupWords, read_words};
+use life_hauls::{HaulWords, Job, SoupWords, Symmetry, read_words};
 use life_words::WordFault;
 use std::alloc::Global;
 use std::test::Fail;
@@ -11,6 +11,7 @@ const THOUSAND: HaulWords<'static> = HaulWords {
     first: 1,
     count: 1000,
     rule: "B3/S23",
+    symmetry: Symmetry::C1,
     n: 2048,
     limit: 60,
 };
@@ -20,10 +21,22 @@ const SOUP: SoupWords<'static> = SoupWords {
     root: "abc",
     number: 17,
     rule: "B3/S23",
+    symmetry: Symmetry::C1,
 };
 
+/// The names of all symmetries.
+const NAMES: [(&str, Symmetry); 7] = [
+    ("C1", Symmetry::C1),
+    ("8x32", Symmetry::EightRows),
+    ("4x64", Symmetry::FourRows),
+    ("2x128", Symmetry::TwoRows),
+    ("1x256", Symmetry::OneRow),
+    ("D2_+1", Symmetry::D2Plus1),
+    ("D2_+2", Symmetry::D2Plus2),
+];
+
 /// Words, the program's name first, and the job that they name; none where they are bad words.
-const WORDS: [(&[&str], Option<Job<'static>>); 12] = [
+const WORDS: [(&[&str], Option<Job<'static>>); 18] = [
     (&["life-haul"], None),
     (&["life-haul", "abc", "1", "1000", "2048"], None),
     (&["life-haul", "abc", "one", "1000", "2048", "60"], None),
@@ -66,6 +79,54 @@ const WORDS: [(&[&str], Option<Job<'static>>); 12] = [
             ..SOUP
         })),
     ),
+    (
+        &[
+            "life-haul",
+            "--symmetry",
+            "8x32",
+            "abc",
+            "1",
+            "1000",
+            "2048",
+            "60",
+        ],
+        Some(Job::Haul(HaulWords {
+            symmetry: Symmetry::EightRows,
+            ..THOUSAND
+        })),
+    ),
+    (
+        &["life-haul", "soup", "abc", "17", "--symmetry", "D2_+2"],
+        Some(Job::Soup(SoupWords {
+            symmetry: Symmetry::D2Plus2,
+            ..SOUP
+        })),
+    ),
+    (
+        &["life-haul", "soup", "abc", "17", "--symmetry=C1"],
+        Some(Job::Soup(SOUP)),
+    ),
+    (
+        &[
+            "life-haul",
+            "abc",
+            "1",
+            "1000",
+            "2048",
+            "60",
+            "--symmetry",
+            "32x8",
+        ],
+        None,
+    ),
+    (
+        &["life-haul", "soup", "abc", "17", "--symmetry", "d2_+2"],
+        None,
+    ),
+    (
+        &["life-haul", "--symmetry", "8x32", "soup", "abc", "17"],
+        None,
+    ),
     (&["life-haul", "soup", "abc"], None),
     (&["life-haul", "abc", "soup", "abc", "17"], None),
     (
@@ -91,6 +152,16 @@ fn other(alloc: Global) -> Option<usize> {
         }
     }
     None
+}
+
+#[test]
+fn symmetries_are_read_by_their_names(rt: HostRuntime) -> Result<(), Fail> {
+    for (name, symmetry) in NAMES {
+        assert_eq!(rt; symmetry.name(), name);
+        assert_eq!(rt; Symmetry::named(name), Some(symmetry));
+    }
+    assert_eq!(rt; Symmetry::named(""), None);
+    Ok(())
 }
 
 #[test]

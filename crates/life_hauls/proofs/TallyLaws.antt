@@ -22,6 +22,7 @@ use Rattle.life_hauls.specs.declared.rows.Sighting.{Sighting}
 use Rattle.life_hauls.specs.Hauls.{HaulCounts, seen, more, both, texts_in, counts_over, soup_codes}
 use Rattle.life_hauls.specs.HaulsState.{once, noted, with_code, with_codes}
 use Rattle.life_hauls.specs.Laws.{count_of, count_in, soup_tally, RowsAreOfTallies, RowsAscend, UnresolvedAreOfTallies, ClustersCountOnce, SumsAreCounts}
+use Rattle.life_hauls.specs.declared.symmetry.Symmetry.{Symmetry}
 use Rattle.life_hauls.specs.Soups.{soup_of}
 use Rattle.life_hauls.proofs.HaulRows.{Rows, IsSorted, found}
 use Rattle.life_hauls.proofs.PushLemmas.{found-over, sorted-haul, sorted-more, counts-push, no-soups}
@@ -52,33 +53,33 @@ counted ts q = go (cases_Bool (list_any (same_text q) ts)) ∙ ap (λ (o : Optio
 
 -- ---- the rows
 
-module _ (root : List ℕ) (rule : RuleSets) (n limit : ℕ) where
+module _ (s : Symmetry) (root : List ℕ) (rule : RuleSets) (n limit : ℕ) where
   abbrev code : Cells → Option (List ℕ)
   code P = code_of rule P limit
 
   abbrev field_parts : ℕ → List Cells
-  field_parts i = parts (generation_of rule (soup_of root i) n)
+  field_parts i = parts (generation_of rule (soup_of s root i) n)
 
-  times_in_tally : (q : List ℕ) (i : ℕ) → how_often q (texts_in (soup_codes root rule n limit i)) ≡ count_in q (soup_tally root rule n limit i)
+  times_in_tally : (q : List ℕ) (i : ℕ) → how_often q (texts_in (soup_codes s root rule n limit i)) ≡ count_in q (soup_tally s root rule n limit i)
   times_in_tally q i = ap (how_often q) (texts-map code (field_parts i)) ∙ counted (filter_map code (field_parts i)) q
 
-  rows_of_tallies : (q : List ℕ) (ns : List ℕ) → found q (counts_over (soup_codes root rule n limit) ns).rows ≡ seen (λ i. count_in q (soup_tally root rule n limit i)) ns
+  rows_of_tallies : (q : List ℕ) (ns : List ℕ) → found q (counts_over (soup_codes s root rule n limit) ns).rows ≡ seen (λ i. count_in q (soup_tally s root rule n limit i)) ns
   unfolding counts_over
-  rows_of_tallies q ns = found-over (λ i. texts_in (soup_codes root rule n limit i)) ns q ∙ ap (λ (f : ℕ → ℕ). seen f ns) (λ k i. times_in_tally q i k)
+  rows_of_tallies q ns = found-over (λ i. texts_in (soup_codes s root rule n limit i)) ns q ∙ ap (λ (f : ℕ → ℕ). seen f ns) (λ k i. times_in_tally q i k)
 
-  unresolved_of_tallies : (ns : List ℕ) → (counts_over (soup_codes root rule n limit) ns).unresolved ≡ seen (λ i. (soup_tally root rule n limit i).unresolved) ns
+  unresolved_of_tallies : (ns : List ℕ) → (counts_over (soup_codes s root rule n limit) ns).unresolved ≡ seen (λ i. (soup_tally s root rule n limit i).unresolved) ns
   unfolding counts_over
   unresolved_of_tallies ns = ap (λ (f : ℕ → ℕ). seen f ns) (λ k i. nameless-map code (field_parts i) k)
 
-  total_of_tallies : (ns : List ℕ) → (counts_over (soup_codes root rule n limit) ns).total ≡ sum_by (λ i. (soup_tally root rule n limit i).total) ns
+  total_of_tallies : (ns : List ℕ) → (counts_over (soup_codes s root rule n limit) ns).total ≡ sum_by (λ i. (soup_tally s root rule n limit i).total) ns
   unfolding counts_over
   total_of_tallies ns = ap (λ (f : ℕ → ℕ). sum_by f ns) (λ k i. length-map (field_parts i) code k)
 
 pub rows_are_of_tallies : RowsAreOfTallies
-rows_are_of_tallies root rule n limit first count q = rows_of_tallies root rule n limit q (range_with_len first count)
+rows_are_of_tallies s root rule n limit first count q = rows_of_tallies s root rule n limit q (range_with_len first count)
 
 pub unresolved_are_of_tallies : UnresolvedAreOfTallies
-unresolved_are_of_tallies root rule n limit first count = unresolved_of_tallies root rule n limit (range_with_len first count)
+unresolved_are_of_tallies s root rule n limit first count = unresolved_of_tallies s root rule n limit (range_with_len first count)
 
 -- ---- the order
 
@@ -102,7 +103,7 @@ ascend (e ∷ f ∷ fs) sorted =
     (above e.0 f fs (less_T _ first.0) parts.1, ascend (f ∷ fs) parts.1)
 
 pub rows_ascend : RowsAscend
-rows_ascend root rule n limit first count = ascend (counts_over (soup_codes root rule n limit) (range_with_len first count)).rows (sorted-haul (soup_codes root rule n limit) (range_with_len first count))
+rows_ascend s root rule n limit first count = ascend (counts_over (soup_codes s root rule n limit) (range_with_len first count)).rows (sorted-haul (soup_codes s root rule n limit) (range_with_len first count))
 
 -- ---- each cluster once
 
@@ -184,9 +185,9 @@ module _ (codes : ℕ → List (Option (List ℕ))) where
   hauls_are_complete ns = all_add_up ns [] (subst AddsUp (sym (no-soups codes)) refl)
 
 pub clusters_count_once : ClustersCountOnce
-clusters_count_once root rule n limit first count =
-    let total = total_of_tallies root rule n limit (range_with_len first count) in
-    (hauls_are_complete (soup_codes root rule n limit) (range_with_len first count) ∙ total, total)
+clusters_count_once s root rule n limit first count =
+    let total = total_of_tallies s root rule n limit (range_with_len first count) in
+    (hauls_are_complete (soup_codes s root rule n limit) (range_with_len first count) ∙ total, total)
 
 -- ---- the sums of a table
 
@@ -196,7 +197,7 @@ range_length first (suc count) = let rest = range_length (first + 1) count in om
 
 pub sums_are_counts : SumsAreCounts
 unfolding counts_over
-sums_are_counts root rule n limit first count = (
-  sym (hauls_are_complete (soup_codes root rule n limit) (range_with_len first count)),
+sums_are_counts s root rule n limit first count = (
+  sym (hauls_are_complete (soup_codes s root rule n limit) (range_with_len first count)),
   range_length first count,
 )

@@ -114,5 +114,5 @@ range-append first (suc a) b =
     ap (range_with_len first) one ∙ ap (λ ks. first ∷ ks) (range-append (first + 1) a b ∙ ap (λ k. range_with_len (first + 1) a ++ range_with_len k b) two)
 
 pub hauls_add_up : HaulsAddUp
-hauls_add_up root rule n limit first a b =
-    ap (counts_over (soup_codes root rule n limit)) (range-append first a b) ∙ counts-append (soup_codes root rule n limit) (range_with_len first a) (range_with_len (first + a) b)
+hauls_add_up s root rule n limit first a b =
+    ap (counts_over (soup_codes s root rule n limit)) (range-append first a b) ∙ counts-append (soup_codes s root rule n limit) (range_with_len first a) (range_with_len (first + a) b)

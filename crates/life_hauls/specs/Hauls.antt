@@ -10,6 +10,7 @@ use Rattle.life_census.specs.Parts.{parts}
 use Rattle.life_census.specs.Counting.{row_cmp, how_often}
 use Rattle.life_hauls.specs.declared.rows.Sighting.{Sighting}
 use Rattle.life_hauls.specs.declared.rows.HaulRow.{HaulRow}
+use Rattle.life_hauls.specs.declared.symmetry.Symmetry.{Symmetry}
 use Rattle.life_hauls.specs.Soups.{soup_of}
 
 -- ---- what a haul holds
@@ -100,9 +101,9 @@ together a b = record {
 }
 
 -- the codes of the clusters of generation n of soup i
-abbrev pub soup_codes : List ℕ → RuleSets → ℕ → ℕ → ℕ → List (Option (List ℕ))
-soup_codes root rule n limit i = map (λ P. code_of rule P limit) (parts (generation_of rule (soup_of root i) n))
+abbrev pub soup_codes : Symmetry → List ℕ → RuleSets → ℕ → ℕ → ℕ → List (Option (List ℕ))
+soup_codes s root rule n limit i = map (λ P. code_of rule P limit) (parts (generation_of rule (soup_of s root i) n))
 
 -- the haul over so many soups, from a first number on
-abbrev pub haul_of : List ℕ → RuleSets → ℕ → ℕ → ℕ → ℕ → HaulCounts
-haul_of root rule n limit first count = counts_over (soup_codes root rule n limit) (range_with_len first count)
+abbrev pub haul_of : Symmetry → List ℕ → RuleSets → ℕ → ℕ → ℕ → ℕ → HaulCounts
+haul_of s root rule n limit first count = counts_over (soup_codes s root rule n limit) (range_with_len first count)

@@ -34,7 +34,7 @@ pub record MayBeAsked (words : HaulWords) : Type 0 where
 
 -- the table of the haul of these words under a rule
 abbrev pub haul_text : HaulWords → RuleSets → List ℕ
-haul_text words rule = csv_text words.root.now rule words.n words.limit words.first (haul_of words.root.now rule words.n words.limit words.first words.count)
+haul_text words rule = csv_text words.symmetry words.root.now rule words.n words.limit words.first (haul_of words.symmetry words.root.now rule words.n words.limit words.first words.count)
 
 -- words of a soup that may be asked for, its rule aside: a haul may count this soup
 pub record MaySoupBeAsked (words : SoupWords) : Type 0 where
@@ -43,7 +43,7 @@ pub record MaySoupBeAsked (words : SoupWords) : Type 0 where
 
 -- the pattern file of the soup of these words under a rule
 abbrev pub soup_text : SoupWords → RuleSets → List ℕ
-soup_text words rule = text (plain rule (soup_of words.root.now words.number))
+soup_text words rule = text (plain rule (soup_of words.symmetry words.root.now words.number))
 
 -- what is put by a job whose words may be asked for, by the text of a rule: what is to be put under this rule, or a beginning of it before a put that failed
 abbrev pub PutsUnderRule : Type 0 → List ℕ → (RuleSets → List ℕ) → Option (List ℕ) → Option (List ℕ) → Result (Unit {0}) Stop → Type 0

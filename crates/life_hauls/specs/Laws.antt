@@ -12,13 +12,14 @@ use Rattle.life_census.specs.Rows.{TallyCounts}
 use Rattle.life_census.specs.Counting.{row_cmp, tally_of}
 use Rattle.life_hauls.specs.declared.rows.Sighting.{Sighting}
 use Rattle.life_hauls.specs.Hauls.{HaulCounts, seen, joined, together, haul_of}
+use Rattle.life_hauls.specs.declared.symmetry.Symmetry.{Symmetry}
 use Rattle.life_hauls.specs.Soups.{soup_of}
 
 -- ---- many machines
 
 -- The haul over two ranges, one behind the other, is what the hauls over each are together ..
 abbrev pub HaulsAddUp : Type 0
-HaulsAddUp = (root : List ℕ) (rule : RuleSets) (n limit first a b : ℕ) → haul_of root rule n limit first (a + b) ≡ together (haul_of root rule n limit first a) (haul_of root rule n limit (first + a) b)
+HaulsAddUp = (s : Symmetry) (root : List ℕ) (rule : RuleSets) (n limit first a b : ℕ) → haul_of s root rule n limit first (a + b) ≡ together (haul_of s root rule n limit first a) (haul_of s root rule n limit (first + a) b)
 
 -- .. which has of each code what both have of it: the counts add up, and the first soup is the lesser ..
 abbrev pub TogetherByCodes : Type 0
@@ -50,8 +51,8 @@ NothingIsSeen = (f : ℕ → ℕ) (ns : List ℕ) → (seen f ns ≡ None) ↔ (
 -- ---- tallies
 
 -- the tally of generation n of soup i
-abbrev pub soup_tally : List ℕ → RuleSets → ℕ → ℕ → ℕ → TallyCounts
-soup_tally root rule n limit i = tally_of (λ P. code_of rule P limit) (parts (generation_of rule (soup_of root i) n))
+abbrev pub soup_tally : Symmetry → List ℕ → RuleSets → ℕ → ℕ → ℕ → TallyCounts
+soup_tally s root rule n limit i = tally_of (λ P. code_of rule P limit) (parts (generation_of rule (soup_of s root i) n))
 
 -- how many clusters of a tally have a code
 abbrev pub count_in : List ℕ → TallyCounts → ℕ
@@ -59,27 +60,27 @@ count_in code t = unwrap_or (table.find row_cmp code t.rows) 0
 
 -- The row of a code is what was seen of it in the tallies of the soups: none, if none of them has it ..
 abbrev pub RowsAreOfTallies : Type 0
-RowsAreOfTallies = (root : List ℕ) (rule : RuleSets) (n limit first count : ℕ) (code : List ℕ)
-    → table.find row_cmp code (haul_of root rule n limit first count).rows ≡ seen (λ i. count_in code (soup_tally root rule n limit i)) (range_with_len first count)
+RowsAreOfTallies = (s : Symmetry) (root : List ℕ) (rule : RuleSets) (n limit first count : ℕ) (code : List ℕ)
+    → table.find row_cmp code (haul_of s root rule n limit first count).rows ≡ seen (λ i. count_in code (soup_tally s root rule n limit i)) (range_with_len first count)
 
 -- .. the rows ascend by their codes, byte by byte ..
 abbrev pub RowsAscend : Type 0
-RowsAscend = (root : List ℕ) (rule : RuleSets) (n limit first count : ℕ) → IsStrictlySortedBy row_cmp (map (λ (row : List ℕ × Sighting). row.0) (haul_of root rule n limit first count).rows)
+RowsAscend = (s : Symmetry) (root : List ℕ) (rule : RuleSets) (n limit first count : ℕ) → IsStrictlySortedBy row_cmp (map (λ (row : List ℕ × Sighting). row.0) (haul_of s root rule n limit first count).rows)
 
 -- .. what was seen without a code is what the tallies have ..
 abbrev pub UnresolvedAreOfTallies : Type 0
-UnresolvedAreOfTallies = (root : List ℕ) (rule : RuleSets) (n limit first count : ℕ)
-    → (haul_of root rule n limit first count).unresolved ≡ seen (λ i. (soup_tally root rule n limit i).unresolved) (range_with_len first count)
+UnresolvedAreOfTallies = (s : Symmetry) (root : List ℕ) (rule : RuleSets) (n limit first count : ℕ)
+    → (haul_of s root rule n limit first count).unresolved ≡ seen (λ i. (soup_tally s root rule n limit i).unresolved) (range_with_len first count)
 
 -- .. and each cluster of each soup is counted once.
 abbrev pub ClustersCountOnce : Type 0
-ClustersCountOnce = (root : List ℕ) (rule : RuleSets) (n limit first count : ℕ)
-    → (sum_by (λ (row : List ℕ × Sighting). row.1.count) (haul_of root rule n limit first count).rows + count_of (haul_of root rule n limit first count).unresolved
-    ≡ sum_by (λ i. (soup_tally root rule n limit i).total) (range_with_len first count))
-    × ((haul_of root rule n limit first count).total ≡ sum_by (λ i. (soup_tally root rule n limit i).total) (range_with_len first count))
+ClustersCountOnce = (s : Symmetry) (root : List ℕ) (rule : RuleSets) (n limit first count : ℕ)
+    → (sum_by (λ (row : List ℕ × Sighting). row.1.count) (haul_of s root rule n limit first count).rows + count_of (haul_of s root rule n limit first count).unresolved
+    ≡ sum_by (λ i. (soup_tally s root rule n limit i).total) (range_with_len first count))
+    × ((haul_of s root rule n limit first count).total ≡ sum_by (λ i. (soup_tally s root rule n limit i).total) (range_with_len first count))
 
 -- What a table says of its sums holds: the clusters are the counts of all rows, those without a code with them, and the soups are those of the range.
 abbrev pub SumsAreCounts : Type 0
-SumsAreCounts = (root : List ℕ) (rule : RuleSets) (n limit first count : ℕ)
-    → ((haul_of root rule n limit first count).total ≡ sum_by (λ (row : List ℕ × Sighting). row.1.count) (haul_of root rule n limit first count).rows + count_of (haul_of root rule n limit first count).unresolved)
-    × ((haul_of root rule n limit first count).soups ≡ count)
+SumsAreCounts = (s : Symmetry) (root : List ℕ) (rule : RuleSets) (n limit first count : ℕ)
+    → ((haul_of s root rule n limit first count).total ≡ sum_by (λ (row : List ℕ × Sighting). row.1.count) (haul_of s root rule n limit first count).rows + count_of (haul_of s root rule n limit first count).unresolved)
+    × ((haul_of s root rule n limit first count).soups ≡ count)

@@ -1,35 +1,121 @@
--- Soups: random fields of 16 by 16 cells, as the field's search programs make them (apgsearch, symmetry C1: the SHA-256 digest of a seed, bit by bit).
-use Rattle.std.specs.Prelude.{◌≡◌, ◌<◌, ℕ, ◌+◌, ◌-◌, ◌*◌, ◌/◌, ◌%◌, ◌^◌, pos, Bool, true, ◌==◌, List, ◌++◌, map, filter, slice_index}
+-- Soups: random fields as the field's search programs make them (apgsearch, Catagolue: the SHA-256 digest of a seed, bit by bit), by their symmetry.
+use Rattle.std.specs.Prelude.{◌≡◌, ◌⊎◌, ◌<◌, ℕ, ◌+◌, ◌-◌, ◌*◌, ◌/◌, ◌%◌, ◌^◌, pos, negsuc, neg_ℤ, ◌-ℤ◌, Bool, true, ◌==◌, if◌then◌else◌, List, ◌++◌, map, filter, slice_index, Option, None, Some, codes, bytes_eq}
 use Rattle.std.specs.Fmt.{decimal}
 use Rattle.std.specs.List.{range_with_len}
 use Rattle.std.specs.FinSet as set
 use Rattle.sha2.specs.Sha256.{sha256}
 use Rattle.life_core.specs.declared.cell.Cell.{Cell}
 use Rattle.life_core.specs.Pattern.{Cells}
+use Rattle.life_hauls.specs.declared.symmetry.Symmetry.{Symmetry}
+use Rattle.life_hauls.specs.declared.symmetry.Symmetry.TheVariants.{C1, EightRows, FourRows, TwoRows, OneRow, D2Plus1, D2Plus2}
+use Rattle.life_hauls.specs.declared.symmetry.Mirror.{Mirror}
+use Rattle.life_hauls.specs.declared.symmetry.Mirror.TheVariants.{OnRow, BetweenRows}
+
+-- ---- symmetries
+
+-- the field's name of a symmetry
+abbrev pub symmetry_name : Symmetry → List ℕ
+symmetry_name C1 = codes "C1"
+symmetry_name EightRows = codes "8x32"
+symmetry_name FourRows = codes "4x64"
+symmetry_name TwoRows = codes "2x128"
+symmetry_name OneRow = codes "1x256"
+symmetry_name D2Plus1 = codes "D2_+1"
+symmetry_name D2Plus2 = codes "D2_+2"
+
+-- the symmetry of a name
+abbrev pub symmetry_named : List ℕ → Option Symmetry
+symmetry_named name =
+    if bytes_eq name (codes "C1") then Some C1
+    else if bytes_eq name (codes "8x32") then Some EightRows
+    else if bytes_eq name (codes "4x64") then Some FourRows
+    else if bytes_eq name (codes "2x128") then Some TwoRows
+    else if bytes_eq name (codes "1x256") then Some OneRow
+    else if bytes_eq name (codes "D2_+1") then Some D2Plus1
+    else if bytes_eq name (codes "D2_+2") then Some D2Plus2
+    else None
+
+-- how many cells a row of the field has
+abbrev pub width : Symmetry → ℕ
+width C1 = 16
+width EightRows = 32
+width FourRows = 64
+width TwoRows = 128
+width OneRow = 256
+width D2Plus1 = 16
+width D2Plus2 = 16
+
+-- the mirror of a symmetry, if it has one
+abbrev pub mirror : Symmetry → Option Mirror
+mirror C1 = None
+mirror EightRows = None
+mirror FourRows = None
+mirror TwoRows = None
+mirror OneRow = None
+mirror D2Plus1 = Some OnRow
+mirror D2Plus2 = Some BetweenRows
+
+-- the mirror image of a cell: row y goes to row -y, or to row -y - 1
+abbrev pub mirrored : Mirror → Cell → Cell
+mirrored OnRow c = record { row = neg_ℤ c.row; column = c.column }
+mirrored BetweenRows c = record { row = negsuc 0 -ℤ c.row; column = c.column }
+
+-- ---- soups
 
 -- whether the bit at place p of some bytes is 1, of each byte the highest bit first
 abbrev pub bit_at : List ℕ → ℕ → Bool
 bit_at bytes p = (slice_index bytes (p / 8) / 2 ^ (7 - p % 8)) % 2 == 1
 
--- the cell at place p of the field, row by row
-abbrev pub field_cell : ℕ → Cell
-field_cell p = record { row = pos (p / 16); column = pos (p % 16) }
+-- the cell at place p of a field, row by row in rows of w cells
+abbrev pub field_cell : ℕ → ℕ → Cell
+field_cell w p = record { row = pos (p / w); column = pos (p % w) }
 
--- the cells of the first n places whose bits are 1
-abbrev pub live_cells : List ℕ → ℕ → List Cell
-live_cells bytes n = map field_cell (filter (bit_at bytes) (range_with_len 0 n))
+-- the cells of the first n places whose bits are 1, in rows of w cells
+abbrev pub live_cells : ℕ → List ℕ → ℕ → List Cell
+live_cells w bytes n = map (field_cell w) (filter (bit_at bytes) (range_with_len 0 n))
 
--- soup i of a root text: the cells whose bits are 1 in the digest of the root and the decimal digits of i
-unfoldable pub soup_of : List ℕ → ℕ → Cells
-soup_of root i = set.from_list (live_cells (sha256 (root ++ decimal i)) 256)
+-- cells together with their mirror images, if there is a mirror
+abbrev pub with_images : Option Mirror → List Cell → List Cell
+with_images None cs = cs
+with_images (Some m) cs = cs ++ map (mirrored m) cs
+
+-- the cells of the soup of a digest
+abbrev pub soup_cells : Symmetry → List ℕ → List Cell
+soup_cells s digest = with_images (mirror s) (live_cells (width s) digest 256)
+
+-- soup i of a root text: the cells whose bits are 1 in the digest of the root and the decimal digits of i, with their mirror images if the symmetry has a mirror
+unfoldable pub soup_of : Symmetry → List ℕ → ℕ → Cells
+soup_of s root i = set.from_list (soup_cells s (sha256 (root ++ decimal i)))
 
 -- ---- what makes this definition believable
 
--- Bit k of byte j, the highest bit first, is the cell at column k + 8 * (j % 2) of row j / 2 ..
-abbrev pub BitsAreCells : Type 0
-BitsAreCells = (root : List ℕ) (i j k : ℕ) → j < 32 → k < 8
-    → set.contains (soup_of root i) (record { row = pos (j / 2); column = pos (k + 8 * (j % 2)) }) ≡ ((slice_index (sha256 (root ++ decimal i)) j / 2 ^ (7 - k)) % 2 == 1)
+-- A symmetry is the one of its name ..
+abbrev pub NamesAreRead : Type 0
+NamesAreRead = (s : Symmetry) → symmetry_named (symmetry_name s) ≡ Some s
 
--- .. and all cells lie in the field.
+-- .. and of no other name.
+abbrev pub NamesAreOne : Type 0
+NamesAreOne = (name : List ℕ) (s : Symmetry) → symmetry_named name ≡ Some s → name ≡ symmetry_name s
+
+-- how many bytes have the bits of a row
+abbrev pub row_bytes : Symmetry → ℕ
+row_bytes s = width s / 8
+
+-- Where b bytes are a row, bit k of byte j, the highest bit first, is the cell at column k + 8 * (j % b) of row j / b ..
+abbrev pub BitsAreCells : Type 0
+BitsAreCells = (s : Symmetry) (root : List ℕ) (i j k : ℕ) → j < 32 → k < 8
+    → set.contains (soup_of s root i) (record { row = pos (j / row_bytes s); column = pos (k + 8 * (j % row_bytes s)) }) ≡ ((slice_index (sha256 (root ++ decimal i)) j / 2 ^ (7 - k)) % 2 == 1)
+
+-- .. a soup with a mirror is its own mirror image ..
+abbrev pub MirrorsKeepSoups : Type 0
+MirrorsKeepSoups = (s : Symmetry) (m : Mirror) (root : List ℕ) (i : ℕ) (c : Cell) → mirror s ≡ Some m → set.contains (soup_of s root i) (mirrored m c) ≡ set.contains (soup_of s root i) c
+
+-- a cell is this one, or its mirror image, if there is a mirror
+abbrev pub IsCellOrImage : Option Mirror → Cell → Cell → Type 0
+IsCellOrImage None d c = c ≡ d
+IsCellOrImage (Some m) d c = (c ≡ d) ⊎ (c ≡ mirrored m d)
+
+-- .. and all cells lie in the field of 256 cells or are mirror images of such.
 abbrev pub SoupsAreFields : Type 0
-SoupsAreFields = (root : List ℕ) (i : ℕ) (c : Cell) → set.contains (soup_of root i) c ≡ true → (x : ℕ) × (y : ℕ) × (x < 16) × (y < 16) × (c ≡ record { row = pos y; column = pos x })
+SoupsAreFields = (s : Symmetry) (root : List ℕ) (i : ℕ) (c : Cell) → set.contains (soup_of s root i) c ≡ true
+    → (x : ℕ) × (y : ℕ) × (x < width s) × (y < 256 / width s) × IsCellOrImage (mirror s) (record { row = pos y; column = pos x }) c

@@ -5,15 +5,23 @@ use Rattle.std.specs.List.{flat_map}
 use Rattle.life_core.specs.Rule.{RuleSets}
 use Rattle.life_core.specs.RuleText.{rule_text}
 use Rattle.life_hauls.specs.declared.rows.Sighting.{Sighting}
+use Rattle.life_hauls.specs.declared.symmetry.Symmetry.{Symmetry}
+use Rattle.life_hauls.specs.declared.symmetry.Symmetry.TheVariants.{C1}
 use Rattle.life_hauls.specs.Hauls.{HaulCounts}
+use Rattle.life_hauls.specs.Soups.{symmetry_name}
 
 -- a line: a name and a text
 unfoldable pub named : List ℕ → List ℕ → List ℕ
 named name text = name ++ text ++ 10 ∷ []
 
--- what a haul is of, a line each: the root, the text of the rule, the generation and the limit of the period
-abbrev pub heading : List ℕ → List ℕ → ℕ → ℕ → List ℕ
-heading root rule n limit = named (codes "# root ") root ++ named (codes "# rule ") rule ++ named (codes "# generation ") (decimal n) ++ named (codes "# limit ") (decimal limit)
+-- the line of the symmetry; C1 has none
+unfoldable pub symmetry_line : Symmetry → List ℕ
+symmetry_line C1 = []
+symmetry_line s = named (codes "# symmetry ") (symmetry_name s)
+
+-- what a haul is of, a line each: the root, the text of the rule, the generation, the limit of the period, and the symmetry
+abbrev pub heading : Symmetry → List ℕ → List ℕ → ℕ → ℕ → List ℕ
+heading s root rule n limit = named (codes "# root ") root ++ named (codes "# rule ") rule ++ named (codes "# generation ") (decimal n) ++ named (codes "# limit ") (decimal limit) ++ symmetry_line s
 
 -- a count, a comma, and the number of the first soup
 abbrev pub sighting_text : Sighting → List ℕ
@@ -37,5 +45,5 @@ abbrev pub sums_text : ℕ → HaulCounts → List ℕ
 sums_text first h = codes "clusters," ++ decimal h.total ++ codes ",\nsoups," ++ decimal h.soups ++ 44 ∷ decimal first ++ codes "\n"
 
 -- the whole table
-abbrev pub csv_text : List ℕ → RuleSets → ℕ → ℕ → ℕ → HaulCounts → List ℕ
-csv_text root rule n limit first h = heading root (rule_text rule) n limit ++ counts_text h ++ sums_text first h
+abbrev pub csv_text : Symmetry → List ℕ → RuleSets → ℕ → ℕ → ℕ → HaulCounts → List ℕ
+csv_text s root rule n limit first h = heading s root (rule_text rule) n limit ++ counts_text h ++ sums_text first h

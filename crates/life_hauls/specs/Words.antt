@@ -1,12 +1,15 @@
 -- The words of the command line of `life-haul`, and the job that they name.
 -- What a command is, which words it takes and what it reads of them is said by the kit's `clap`; the names of the
 -- words are the program's own.
-use Rattle.std.specs.Prelude.{◌≡◌, ℕ, true, if◌then◌else◌, List, [], ◌∷◌, Option, None, Some, codes, bytes_eq, Result, Ok, Err}
+use Rattle.std.specs.Prelude.{◌≡◌, ℕ, Bool, true, ◌||◌, is_some, if◌then◌else◌, List, [], ◌∷◌, Option, None, Some, codes, bytes_eq, Result, Ok, Err}
 use Rattle.clap.specs.Words.{App, Row, Rule, Text, Kinds, new_app, new_rule, with_rule, with_subcommand, fault_of, matches_of, subcommand_of}
 use Rattle.clap.specs.Simple.{on_top}
 use Rattle.life_words.specs.Words.{with_version, number_rule, text_rule, number_at, text_at}
 use Rattle.life_words.specs.declared.fault.WordFault.{WordFault}
 use Rattle.life_words.specs.declared.fault.WordFault.TheVariants.{BadWords, Memory}
+use Rattle.life_hauls.specs.declared.symmetry.Symmetry.{Symmetry}
+use Rattle.life_hauls.specs.declared.symmetry.Symmetry.TheVariants.{C1}
+use Rattle.life_hauls.specs.Soups.{symmetry_named}
 use Rattle.life_hauls.specs.declared.words.Job.{Job}
 use Rattle.life_hauls.specs.declared.words.Job.TheVariants.{Haul, Soup}
 
@@ -14,70 +17,80 @@ use Rattle.life_hauls.specs.declared.words.Job.TheVariants.{Haul, Soup}
 abbrev pub rule_rule : Rule
 rule_rule = record (new_rule (codes "RULE")) { long = Some (codes "rule") }
 
--- `soup ROOT NUMBER --rule RULE`
+-- the option `--symmetry NAME`
+abbrev pub symmetry_rule : Rule
+symmetry_rule = record (new_rule (codes "NAME")) { long = Some (codes "symmetry") }
+
+-- `soup ROOT NUMBER --rule RULE --symmetry NAME`
 abbrev pub soup_app : App
-soup_app = with_rule (with_rule (with_rule (new_app (codes "soup")) (text_rule (codes "ROOT"))) (number_rule (codes "NUMBER"))) rule_rule
+soup_app = with_rule (with_rule (with_rule (with_rule (new_app (codes "soup")) (text_rule (codes "ROOT"))) (number_rule (codes "NUMBER"))) rule_rule) symmetry_rule
 
 -- the program's name; with a subcommand it wants no words of its own, and it has no subcommand `help`
 abbrev pub haul_alone : App
 haul_alone = on_top (λ top. record top { disable_help_subcommand = true }) (on_top (λ top. record top { subcommand_negates_reqs = true }) (with_version (new_app (codes "life-haul"))))
 
--- `life-haul ROOT FIRST COUNT N LIMIT --rule RULE`, and `life-haul soup`
+-- `life-haul ROOT FIRST COUNT N LIMIT --rule RULE --symmetry NAME`, and `life-haul soup`
 abbrev pub haul_app : App
 haul_app =
     with_subcommand
+    (with_rule
     (with_rule (with_rule (with_rule (with_rule (with_rule (with_rule haul_alone (text_rule (codes "ROOT"))) (number_rule (codes "FIRST"))) (number_rule (codes "COUNT"))) (number_rule (codes "N"))) (number_rule (codes "LIMIT"))) rule_rule)
+    symmetry_rule)
     soup_app.top
 
 -- ---- the job
 
 -- a job with the texts of its words
 pub data Asked : Type 0 where
-  AsksHaul : (root : Text) (first count : ℕ) (rule : Text) (n limit : ℕ) → Asked
-  AsksSoup : (root : Text) (number : ℕ) (rule : Text) → Asked
+  AsksHaul : (root : Text) (first count : ℕ) (rule : Text) (symmetry : Symmetry) (n limit : ℕ) → Asked
+  AsksSoup : (root : Text) (number : ℕ) (rule : Text) (symmetry : Symmetry) → Asked
 
 -- what a job asks for
 abbrev pub asked_by : Job → Asked
-asked_by (Haul words) = AsksHaul words.root.now words.first words.count words.rule.now words.n words.limit
-asked_by (Soup words) = AsksSoup words.root.now words.number words.rule.now
+asked_by (Haul words) = AsksHaul words.root.now words.first words.count words.rule.now words.symmetry words.n words.limit
+asked_by (Soup words) = AsksSoup words.root.now words.number words.rule.now words.symmetry
 
 -- the text of a rule, or that of Conway's Life where there is none
 abbrev pub rule_or_life : Option Text → Text
 rule_or_life None = codes "B3/S23"
 rule_or_life (Some rule) = rule
 
+-- the symmetry of a name, or C1 where there is none
+abbrev pub symmetry_or_c1 : Option Text → Option Symmetry
+symmetry_or_c1 None = Some C1
+symmetry_or_c1 (Some name) = symmetry_named name
+
 -- the haul of these words, if all of them are there
-abbrev pub haul_of_words : Option Text → Option ℕ → Option ℕ → Text → Option ℕ → Option ℕ → Option Asked
-haul_of_words (Some root) (Some first) (Some count) rule (Some n) (Some limit) = Some (AsksHaul root first count rule n limit)
-haul_of_words root first count rule n limit = None
+abbrev pub haul_of_words : Option Text → Option ℕ → Option ℕ → Text → Option Symmetry → Option ℕ → Option ℕ → Option Asked
+haul_of_words (Some root) (Some first) (Some count) rule (Some symmetry) (Some n) (Some limit) = Some (AsksHaul root first count rule symmetry n limit)
+haul_of_words root first count rule symmetry n limit = None
 
 -- the haul of the words that were found
 abbrev pub haul_in : List Row → Option Asked
 haul_in rows =
-    haul_of_words (text_at (codes "ROOT") rows) (number_at (codes "FIRST") rows) (number_at (codes "COUNT") rows) (rule_or_life (text_at (codes "RULE") rows)) (number_at (codes "N") rows) (number_at (codes "LIMIT") rows)
+    haul_of_words (text_at (codes "ROOT") rows) (number_at (codes "FIRST") rows) (number_at (codes "COUNT") rows) (rule_or_life (text_at (codes "RULE") rows)) (symmetry_or_c1 (text_at (codes "NAME") rows)) (number_at (codes "N") rows) (number_at (codes "LIMIT") rows)
 
--- the soup of these words, if both of them are there
-abbrev pub soup_of_words : Option Text → Option ℕ → Text → Option Asked
-soup_of_words (Some root) (Some number) rule = Some (AsksSoup root number rule)
-soup_of_words root number rule = None
+-- the soup of these words, if all of them are there
+abbrev pub soup_of_words : Option Text → Option ℕ → Text → Option Symmetry → Option Asked
+soup_of_words (Some root) (Some number) rule (Some symmetry) = Some (AsksSoup root number rule symmetry)
+soup_of_words root number rule symmetry = None
 
 -- the soup of the words that were found after the name of the subcommand
 abbrev pub soup_in : List Row → Option Asked
-soup_in rows = soup_of_words (text_at (codes "ROOT") rows) (number_at (codes "NUMBER") rows) (rule_or_life (text_at (codes "RULE") rows))
+soup_in rows = soup_of_words (text_at (codes "ROOT") rows) (number_at (codes "NUMBER") rows) (rule_or_life (text_at (codes "RULE") rows)) (symmetry_or_c1 (text_at (codes "NAME") rows))
 
 -- the job of the subcommand of this name
 abbrev pub job_named : Text → List Row → Option Asked
 job_named name rows = if bytes_eq name (codes "soup") then soup_in rows else None
 
--- a job, if neither a root nor a rule is there
-abbrev pub if_alone : Option Text → Option Text → Option Asked → Option Asked
-if_alone None None job = job
-if_alone root rule job = None
+-- whether there is a root, a rule or a symmetry
+abbrev pub is_any_before : List Row → Bool
+is_any_before rows = is_some (text_at (codes "ROOT") rows) || (is_some (text_at (codes "RULE") rows) || is_some (text_at (codes "NAME") rows))
 
 -- the job of the words that were found, and of those of the subcommand that was met: this one is named before all other words
 abbrev pub job_of : List Row → Option (Text × List Row) → Option Asked
 job_of rows None = haul_in rows
-job_of rows (Some met) = if_alone (text_at (codes "ROOT") rows) (text_at (codes "RULE") rows) (job_named met.0 met.1)
+job_of rows (Some met) = if is_any_before rows then None else job_named met.0 met.1
 
 -- no job, where the words have a fault of one of these kinds
 abbrev pub unless_fault : Kinds → Option Asked → Option Asked

@@ -9,6 +9,7 @@ ghost use Rattle.life_hauls.specs.Soups.{soup_of};
 use crate::counting::count_soup;
 use crate::rows::Haul;
 use crate::soups::soup;
+use crate::symmetry::Symmetry;
 use crate::watch::Watch;
 use life_census::{CodeText, Names};
 use life_code::PERIOD_LIMIT;
@@ -34,6 +35,7 @@ fn forget<A: Allocator + Copy>(alloc: A, rule: &Rule, limit: u32, names: &mut Na
 /// The codes of the clusters of generation `n` of a soup.
 fn codes_of_soup<A: Allocator + Copy>(
     alloc: A,
+    symmetry: Symmetry,
     root: &[u8],
     rule: &Rule,
     n: u32,
@@ -42,17 +44,18 @@ fn codes_of_soup<A: Allocator + Copy>(
 ) -> Result<Vec<Option<CodeText<A>>, A>, Fault>
     requires { n ≤ GENERATION_LIMIT }
     ensures same { names.new ≡ names.old }
-    ensures codes { IfOk result (λ v. v.items ≡ map (λ P. code_of names.old.rule P names.old.limit) (parts (generation_of rule.now (soup_of root.now number) n))) }
+    ensures codes { IfOk result (λ v. v.items ≡ map (λ P. code_of names.old.rule P names.old.limit) (parts (generation_of rule.now (soup_of symmetry root.now number) n))) }
 {
-    let soup = soup(alloc, root, number)?;
+    let soup = soup(alloc, symmetry, root, number)?;
     let field = generation(alloc, rule, &soup, n)?;
     names.codes(alloc, &field)
 }
 
-/// The haul over `count` soups of a root text, from the number `first` on: how many clusters of their generation `n` have each code under
+/// The haul over `count` soups of a symmetry and a root text, from the number `first` on: how many clusters of their generation `n` have each code under
 /// the rule and the limit of the period, and the number of the first soup that has one. After each soup the watch is told how many there are.
 pub fn haul<A: Allocator + Copy, W: Watch>(
     alloc: A,
+    symmetry: Symmetry,
     root: &[u8],
     rule: &Rule,
     n: u32,
@@ -65,14 +68,14 @@ pub fn haul<A: Allocator + Copy, W: Watch>(
     requires from_one { 1 ≤ limit }
     requires limit { limit ≤ PERIOD_LIMIT }
     requires numbers { first + count < 2 ^ 64 }
-    ensures { IfOk result (λ h. h ≡ haul_of root.now rule.now n limit first count) }
+    ensures { IfOk result (λ h. h ≡ haul_of symmetry root.now rule.now n limit first count) }
 {
     let mut names = Names::new(alloc, *rule, limit);
     let mut haul = Haul::none(alloc);
     for i in 0..count {
         let number = first + i;
         forget(alloc, rule, limit, &mut names, i);
-        let codes = codes_of_soup(alloc, root, rule, n, &mut names, number)?;
+        let codes = codes_of_soup(alloc, symmetry, root, rule, n, &mut names, number)?;
         count_soup(alloc, &mut haul, &codes, number)?;
         watch.counted(i + 1, count);
     }

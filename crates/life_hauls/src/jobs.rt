@@ -8,6 +8,7 @@ ghost use Rattle.life_hauls.specs.Jobs.{is_graphic, IsRoot, MayBeAsked, haul_tex
 
 use crate::hauls::haul;
 use crate::soups::soup;
+use crate::symmetry::Symmetry;
 use crate::table::csv;
 use crate::watch::Watch;
 use life_code::PERIOD_LIMIT;
@@ -33,6 +34,8 @@ pub struct HaulWords<'a> {
     pub count: u64,
     /// The text of the rule.
     pub rule: &'a str,
+    /// The symmetry of the soups.
+    pub symmetry: Symmetry,
     /// The generation of which the clusters are counted.
     pub n: u64,
     /// The limit of the period.
@@ -48,6 +51,8 @@ pub struct SoupWords<'a> {
     pub number: u64,
     /// The text of the rule.
     pub rule: &'a str,
+    /// The symmetry of the soup.
+    pub symmetry: Symmetry,
 }
 
 /// The number, if it lies between two others.
@@ -122,8 +127,14 @@ fn table<W: Watch>(
     ensures { IfOk result (λ v. v.items ≡ haul_text words.entry rule.now) }
 {
     let root = words.root.as_bytes();
-    let haul = haul(alloc, root, rule, n, limit, words.first, words.count, watch)?;
-    csv(alloc, root, rule, n, limit, words.first, &haul)
+    let HaulWords {
+        symmetry,
+        first,
+        count,
+        ..
+    } = words;
+    let haul = haul(alloc, symmetry, root, rule, n, limit, first, count, watch)?;
+    csv(alloc, symmetry, root, rule, n, limit, first, &haul)
 }
 
 /// Puts the table of the haul of the words. The numbers and the root are judged before the rule. The watch is told how far the haul is.
@@ -165,7 +176,7 @@ fn is_soup(words: SoupWords<'_>) -> bool
 fn soup_file(alloc: Global, words: SoupWords<'_>, rule: Rule) -> Result<Vec<u8>, Fault>
     ensures { IfOk result (λ v. v.items ≡ soup_text words.entry rule) }
 {
-    let cells = soup(alloc, words.root.as_bytes(), words.number)?;
+    let cells = soup(alloc, words.symmetry, words.root.as_bytes(), words.number)?;
     write(alloc, &into_plain(alloc, rule, cells))
 }
 

@@ -1,14 +1,17 @@
 //! What holds of all soups and hauls.
 ghost use Rattle.std.specs.Prelude.{◌≡◌, ◌^◌};
-ghost use Rattle.life_hauls.specs.Soups.{BitsAreCells, SoupsAreFields};
+ghost use Rattle.life_hauls.specs.Soups.{NamesAreRead, NamesAreOne, BitsAreCells, MirrorsKeepSoups, SoupsAreFields};
 ghost use Rattle.life_hauls.specs.Laws.{HaulsAddUp, TogetherByCodes, TogetherInAnyOrder, TogetherInAnyGrouping, SeenIsLeast, NothingIsSeen, RowsAreOfTallies, RowsAscend, UnresolvedAreOfTallies, ClustersCountOnce, SumsAreCounts};
 
 use crate::jobs::{COUNT_LIMIT, FIRST_LIMIT};
 
-/// What the definition of a soup means: bit by bit, which cell is live, and that all cells lie in a field of 16 by 16. A law: calling it
-/// does nothing.
+/// What the definition of a soup means, for each symmetry: it is read by its own name and by no other; bit by bit, which cell is live; a soup
+/// with a mirror is its own mirror image; and all cells lie in the field, or are mirror images of its cells. A law: calling it does nothing.
 pub fn laws_of_soups()
+    ensures names { NamesAreRead }
+    ensures one { NamesAreOne }
     ensures bits { BitsAreCells }
+    ensures mirrors { MirrorsKeepSoups }
     ensures fields { SoupsAreFields }
 {}
 

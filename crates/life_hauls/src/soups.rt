@@ -1,25 +1,64 @@
-//! Soups: fields of 16 by 16 cells, each the bits of a digest.
-ghost use Rattle.std.specs.Prelude.{◌≡◌, ◌<◌, ◌++◌, IfOk};
+//! Soups: fields of 256 cells, each the bits of a digest.
+ghost use Rattle.std.specs.Prelude.{◌≡◌, ◌<◌, ◌++◌, IfOk, Some};
 ghost use Rattle.std.specs.Fmt.{decimal};
 ghost use Rattle.std.specs.List.{All};
 ghost use Rattle.sha2.specs.Sha256.{sha256};
 ghost use Rattle.life_core.specs.Cell.{IsCellWithin};
 ghost use Rattle.life_core.specs.Pattern.{IsWithin};
-ghost use Rattle.life_hauls.specs.Soups.{bit_at, field_cell, live_cells, soup_of};
+ghost use Rattle.life_hauls.specs.Soups.{bit_at, field_cell, live_cells, with_images, soup_cells, soup_of};
 
+use crate::symmetry::{Mirror, Symmetry};
 use itoa::Buffer;
 use life_core::{Cell, Fault, Pattern};
 use sha2::{Digest, Sha256};
 use std::alloc::{AllocError, Allocator};
 
-/// The soup of this number under a root text: the field of 16 by 16 cells, row by row, of which a cell is live where the bit of the SHA-256
-/// digest of the root and the number's decimal digits is 1.
-pub fn soup<A: Allocator + Copy>(alloc: A, root: &[u8], number: u64) -> Result<Pattern<A>, Fault>
-    ensures cells { IfOk result (λ X. X ≡ soup_of root.now number) }
-    ensures inside { IfOk result (IsWithin 15) }
+/// The soup of this number under a root text: the field of 256 cells, row by row, of which a cell is live where the bit of the SHA-256
+/// digest of the root and the number's decimal digits is 1. The symmetry says how long a row is, and whether the mirror image is added.
+pub fn soup<A: Allocator + Copy>(
+    alloc: A,
+    symmetry: Symmetry,
+    root: &[u8],
+    number: u64,
+) -> Result<Pattern<A>, Fault>
+    ensures cells { IfOk result (λ X. X ≡ soup_of symmetry root.now number) }
+    ensures inside { IfOk result (IsWithin 256) }
 {
     let digest = digest_of(root, number);
-    Ok(Pattern::from_list(live_cells(alloc, &digest)?))
+    Ok(Pattern::from_list(soup_cells(alloc, symmetry, &digest)?))
+}
+
+/// The cells of the soup of a digest.
+fn soup_cells<A: Allocator + Copy>(
+    alloc: A,
+    symmetry: Symmetry,
+    digest: &[u8; 32],
+) -> Result<Vec<Cell, A>, AllocError>
+    ensures cells { IfOk result (λ v. v.items ≡ soup_cells symmetry digest.now) }
+    ensures inside { IfOk result (λ v. All (IsCellWithin 256) v.items) }
+{
+    let cells = live_cells(alloc, symmetry.width(), digest)?;
+    match symmetry.mirror() {
+        None => Ok(cells),
+        Some(mirror) => with_images(alloc, mirror, &cells),
+    }
+}
+
+/// Cells together with their mirror images.
+fn with_images<A: Allocator>(
+    alloc: A,
+    mirror: Mirror,
+    cells: &[Cell],
+) -> Result<Vec<Cell, A>, AllocError>
+    requires { All (IsCellWithin 255) cells.now }
+    ensures cells { IfOk result (λ v. v.items ≡ with_images (Some mirror) cells.now) }
+    ensures inside { IfOk result (λ v. All (IsCellWithin 256) v.items) }
+{
+    let mut both = Vec::from_slice(alloc, cells)?;
+    for cell in cells {
+        both.push(mirror.mirrored(*cell))?;
+    }
+    Ok(both)
 }
 
 /// The digest of a root text and the decimal digits of a number.
@@ -33,15 +72,20 @@ fn digest_of(root: &[u8], number: u64) -> [u8; 32]
     hasher.finalize()
 }
 
-/// The cells whose bits are 1.
-fn live_cells<A: Allocator>(alloc: A, digest: &[u8; 32]) -> Result<Vec<Cell, A>, AllocError>
-    ensures cells { IfOk result (λ v. v.items ≡ live_cells digest.now 256) }
-    ensures inside { IfOk result (λ v. All (IsCellWithin 15) v.items) }
+/// The cells whose bits are 1, in rows of so many cells.
+fn live_cells<A: Allocator>(
+    alloc: A,
+    width: usize,
+    digest: &[u8; 32],
+) -> Result<Vec<Cell, A>, AllocError>
+    requires { 0 < width }
+    ensures cells { IfOk result (λ v. v.items ≡ live_cells width digest.now 256) }
+    ensures inside { IfOk result (λ v. All (IsCellWithin 255) v.items) }
 {
     let mut cells = Vec::new(alloc);
     for place in 0..256 {
         if bit_at(digest, place) {
-            cells.push(field_cell(place))?;
+            cells.push(field_cell(width, place))?;
         }
     }
     Ok(cells)
@@ -55,14 +99,15 @@ fn bit_at(digest: &[u8; 32], place: usize) -> bool
     (digest[place / 8] >> (7 - place % 8)) % 2 == 1
 }
 
-/// The cell at this place of the field, row by row.
-fn field_cell(place: usize) -> Cell
-    requires { place < 256 }
-    ensures cell { result ≡ field_cell place }
-    ensures inside { IsCellWithin 15 result }
+/// The cell at this place of the field, row by row in rows of so many cells.
+fn field_cell(width: usize, place: usize) -> Cell
+    requires some { 0 < width }
+    requires place { place < 256 }
+    ensures cell { result ≡ field_cell width place }
+    ensures inside { IsCellWithin 255 result }
 {
     Cell {
-        row: (place / 16) as i64,
-        column: (place % 16) as i64,
+        row: (place / width) as i64,
+        column: (place % width) as i64,
     }
 }

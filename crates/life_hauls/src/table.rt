@@ -3,17 +3,19 @@ ghost use Rattle.std.specs.Prelude.{◌≡◌, ◌++◌, map, IfOk, OnOk};
 ghost use Rattle.std.specs.Fmt.{decimal};
 ghost use Rattle.std.specs.List.{flat_map};
 ghost use Rattle.life_hauls.specs.Hauls.{row_seen};
-ghost use Rattle.life_hauls.specs.Table.{named, heading, sighting_text, unresolved_text, line, counts_text, sums_text, csv_text};
+ghost use Rattle.life_hauls.specs.Table.{named, symmetry_line, heading, sighting_text, unresolved_text, line, counts_text, sums_text, csv_text};
 
 use crate::rows::{Haul, HaulRow, Sighting};
+use crate::symmetry::Symmetry;
 use itoa::Buffer;
 use life_core::{Fault, Rule};
 use std::alloc::{AllocError, Allocator};
 
-/// The table of a haul over soups of a root text from the number `first` on, whose generation `n` was counted under the rule and the limit
-/// of the period.
+/// The table of a haul over soups of a symmetry and a root text from the number `first` on, whose generation `n` was counted under the rule
+/// and the limit of the period.
 pub fn csv<A: Allocator + Copy>(
     alloc: A,
+    symmetry: Symmetry,
     root: &[u8],
     rule: &Rule,
     n: u32,
@@ -21,11 +23,11 @@ pub fn csv<A: Allocator + Copy>(
     first: u64,
     haul: &Haul<A>,
 ) -> Result<Vec<u8, A>, Fault>
-    ensures { IfOk result (λ v. v.items ≡ csv_text root.now rule.now n limit first haul.now) }
+    ensures { IfOk result (λ v. v.items ≡ csv_text symmetry root.now rule.now n limit first haul.now) }
 {
     let rule = rule.text(alloc)?;
     let mut out = Vec::new(alloc);
-    put_heading(&mut out, root, rule.as_bytes(), n, limit)?;
+    put_heading(&mut out, symmetry, root, rule.as_bytes(), n, limit)?;
     put_counts(&mut out, haul)?;
     put_sums(&mut out, first, haul)?;
     Ok(out)
@@ -34,18 +36,30 @@ pub fn csv<A: Allocator + Copy>(
 /// Writes the lines that say what the haul is of.
 fn put_heading<A: Allocator>(
     out: &mut Vec<u8, A>,
+    symmetry: Symmetry,
     root: &[u8],
     rule: &[u8],
     n: u32,
     limit: u32,
 ) -> Result<(), AllocError>
-    ensures { OnOk result (out.new.items ≡ out.old.items ++ heading root.now rule.now n limit) }
+    ensures { OnOk result (out.new.items ≡ out.old.items ++ heading symmetry root.now rule.now n limit) }
 {
     put_named(out, b"# root ", root)?;
     put_named(out, b"# rule ", rule)?;
     put_named(out, b"# generation ", Buffer::new().format(n).as_bytes())?;
     put_named(out, b"# limit ", Buffer::new().format(limit).as_bytes())?;
-    Ok(())
+    put_symmetry(out, symmetry)
+}
+
+/// Writes the line of a symmetry. `C1` has none: tables had no such line before there were other symmetries, and stay as they were.
+#[tactic(auto, unfolding(crate::specs::Table::symmetry_line))]
+fn put_symmetry<A: Allocator>(out: &mut Vec<u8, A>, symmetry: Symmetry) -> Result<(), AllocError>
+    ensures { OnOk result (out.new.items ≡ out.old.items ++ symmetry_line symmetry) }
+{
+    match symmetry {
+        Symmetry::C1 => Ok(()),
+        _ => put_named(out, b"# symmetry ", symmetry.name().as_bytes()),
+    }
 }
 
 /// Writes the line of a name and a text.

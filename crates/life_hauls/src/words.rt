@@ -4,10 +4,11 @@ ghost use Rattle.clap.specs.Simple.{App};
 ghost use Rattle.clap.specs.Words.{Rule, app_of, rule_of, rows_of, found_of, subcommand_rows_of, with_rule, with_subcommand};
 ghost use Rattle.clap.specs.declared.builder.command.Command.TheViews.{out-Command as fields_of};
 ghost use Rattle.life_words.specs.Words.{number_rule, text_rule, number_at, text_at};
-ghost use Rattle.life_hauls.specs.Words.{rule_rule, soup_app, haul_alone, haul_app, asked_by, rule_or_life};
+ghost use Rattle.life_hauls.specs.Words.{rule_rule, symmetry_rule, soup_app, haul_alone, haul_app, asked_by, rule_or_life, symmetry_or_c1, is_any_before};
 ghost use Rattle.life_hauls.specs.Words.{haul_in as haul_of_rows, soup_in as soup_of_rows, job_named, job_of, Answers};
 
 use crate::jobs::{HaulWords, SoupWords};
+use crate::symmetry::Symmetry;
 use clap::error::ErrorKind;
 use clap::{Arg, ArgMatches, Command, Error};
 use life_words::{WordFault, named_command, program_command};
@@ -25,8 +26,11 @@ Reads:   nothing
 Prints:  '# root ROOT', '# rule RULE', '# generation N', '# limit LIMIT', then 'code,count,first' and
          a line 'CODE,COUNT,FIRST' for each code in byte order, and 'unresolved,COUNT,FIRST': how many
          clusters of generation N of all soups have the code, and the number of the first soup that
-         has one; at the end 'clusters,COUNT,' and 'soups,COUNT,FIRST'
-Soups:   soup I has 16 by 16 cells, row by row: the bits of the SHA-256 digest of ROOT and I
+         has one; at the end 'clusters,COUNT,' and 'soups,COUNT,FIRST'. A symmetry other than C1 is
+         named after the limit: '# symmetry NAME'
+Soups:   soup I has 16 by 16 cells, row by row: the bits of the SHA-256 digest of ROOT and I.
+         With --symmetry 8x32, 4x64, 2x128 or 1x256 it has so many rows by so many cells. With D2_+1
+         it has its mirror image too, with row y at -y, and with D2_+2 at -y - 1
 Roots:   the root 'soup' is written after '--': life-haul -- soup 1 1000 2048 60
 Refuses: out-of-limit, bad-rule, unavailable
 Example: life-haul abc 1 1000 2048 60
@@ -73,6 +77,16 @@ fn rule_arg<'a>(alloc: Global) -> Arg<'a>
     Arg::new(alloc, "RULE")
         .long("rule")
         .help("The rule, which is B3/S23 where none is given")
+}
+
+// The option `--symmetry`.
+fn symmetry_arg<'a>(alloc: Global) -> Arg<'a>
+    ensures rule { rule_of result ≡ symmetry_rule }
+    ensures local { result.global ≡ false }
+{
+    Arg::new(alloc, "NAME").long("symmetry").help(
+        "The symmetry: C1 (the default), 8x32, 4x64, 2x128, 1x256, D2_+1 or D2_+2",
+    )
 }
 
 // The root text.
@@ -143,7 +157,8 @@ fn soup_command<'a>(alloc: Global) -> Result<Command<'a>, AllocError>
     let command = Ok(named_command(alloc, "soup", "Prints a soup as a pattern file", SOUP_HELP));
     let command = with_arg(command, root_arg(alloc));
     let command = with_arg(command, soup_number_arg(alloc));
-    with_arg(command, rule_arg(alloc))
+    let command = with_arg(command, rule_arg(alloc));
+    with_arg(command, symmetry_arg(alloc))
 }
 
 // The command of hauls without its words.
@@ -182,6 +197,7 @@ pub fn haul_command<'a>(alloc: Global) -> Result<Command<'a>, AllocError>
     let command = with_arg(command, generation_arg(alloc));
     let command = with_arg(command, limit_arg(alloc));
     let command = with_arg(command, rule_arg(alloc));
+    let command = with_arg(command, symmetry_arg(alloc));
     with_command(command, soup_command(alloc))
 }
 
@@ -209,6 +225,16 @@ fn rule_in<'a>(found: &ArgMatches<'a>) -> &'a str
     }
 }
 
+// The symmetry of the name that was found, or C1 where none is given.
+fn symmetry_in(found: &ArgMatches<'_>) -> Option<Symmetry>
+    ensures { result ≡ symmetry_or_c1 (text_at (codes "NAME") (rows_of (found_of found.now))) }
+{
+    match text_in(found, "NAME") {
+        Some(name) => Symmetry::named(name),
+        None => Some(Symmetry::C1),
+    }
+}
+
 // The haul of the words that were found.
 fn haul_in<'a>(found: &ArgMatches<'a>) -> Option<Job<'a>>
     ensures { option_map asked_by result ≡ haul_of_rows (rows_of (found_of found.now)) }
@@ -218,6 +244,7 @@ fn haul_in<'a>(found: &ArgMatches<'a>) -> Option<Job<'a>>
         first: number_in(found, "FIRST")?,
         count: number_in(found, "COUNT")?,
         rule: rule_in(found),
+        symmetry: symmetry_in(found)?,
         n: number_in(found, "N")?,
         limit: number_in(found, "LIMIT")?,
     }))
@@ -231,6 +258,7 @@ fn soup_in<'a>(found: &ArgMatches<'a>) -> Option<Job<'a>>
         root: text_in(found, "ROOT")?,
         number: number_in(found, "NUMBER")?,
         rule: rule_in(found),
+        symmetry: symmetry_in(found)?,
     }))
 }
 
@@ -251,17 +279,33 @@ fn job_in<'a>(matches: &ArgMatches<'a>) -> Option<Job<'a>>
     let Some((name, found)) = matches.subcommand() else {
         return haul_in(matches);
     };
-    match (text_in(matches, "ROOT"), text_in(matches, "RULE")) {
-        (None, None) => job_named(name, found),
-        _ => None,
+    if is_any_before(matches) {
+        return None;
     }
+    job_named(name, found)
 }
 
-// The error of words before the name of a subcommand.
-fn words_before(alloc: Global) -> Result<Error, AllocError> {
-    haul_command(alloc)?.error(
-        ErrorKind::ArgumentConflict,
-        "the subcommand 'soup' cannot be used with arguments before it",
+// Whether a root, a rule or a symmetry was found.
+fn is_any_before(matches: &ArgMatches<'_>) -> bool
+    ensures { result ≡ is_any_before (rows_of (found_of matches.now)) }
+{
+    text_in(matches, "ROOT").is_some()
+        || text_in(matches, "RULE").is_some()
+        || text_in(matches, "NAME").is_some()
+}
+
+// The error of words that name no job: there are some before the name of a subcommand, or the name of the symmetry is none.
+fn no_job(alloc: Global, matches: &ArgMatches<'_>) -> Result<Error, AllocError> {
+    let mut command = haul_command(alloc)?;
+    if matches.subcommand().is_some() && is_any_before(matches) {
+        return command.error(
+            ErrorKind::ArgumentConflict,
+            "the subcommand 'soup' cannot be used with arguments before it",
+        );
+    }
+    command.error(
+        ErrorKind::InvalidValue,
+        "invalid value for '--symmetry <NAME>': it is none of C1, 8x32, 4x64, 2x128, 1x256, D2_+1, D2_+2",
     )
 }
 
@@ -273,7 +317,7 @@ pub fn read_words<'a, S: AsStr>(alloc: Global, words: &'a [S]) -> Result<Job<'a>
 {
     let matches = haul_command(alloc)?.try_get_matches_from(words)?;
     let Some(job) = job_in(&matches) else {
-        return Err(WordFault::BadWords(Some(words_before(alloc)?)));
+        return Err(WordFault::BadWords(Some(no_job(alloc, &matches)?)));
     };
     Ok(job)
 }

@@ -10,6 +10,7 @@ use Rattle.life_hauls.proofs.soups.live_cells.Goals.{then-bit_at+in_ok-push, els
 
 pub loop-place-preserved : goal.loop-place-preserved
 loop-place-preserved g c =
+    let width = c.args.width in
     let bytes = c.args.digest.now in
     let n = c.loop-place.place in
     let before = c.loop-place.invariant in
@@ -17,12 +18,12 @@ loop-place-preserved g c =
       | then-bit_at+in_ok-push w ↦ record {
         cells = rw w.cells-is (w.in_ok-push.ensures.items
             ∙ ap (λ (cs : List Cell). cs ++ w.field_cell.result ∷ []) before.cells
-            ∙ ap (λ (x : Cell). live_cells bytes n ++ x ∷ []) w.field_cell.ensures.cell
-            ∙ sym (live-yes bytes n (sym c.bit_at.ensures ∙ w.if-bit_at.true)));
-        inside = rw w.cells-is (subst (All (IsCellWithin 15)) (sym w.in_ok-push.ensures.items) (All-push (IsCellWithin 15) c.loop-place.cells.items w.field_cell.result before.inside w.field_cell.ensures.inside));
+            ∙ ap (λ (x : Cell). live_cells width bytes n ++ x ∷ []) w.field_cell.ensures.cell
+            ∙ sym (live-yes width bytes n (sym c.bit_at.ensures ∙ w.if-bit_at.true)));
+        inside = rw w.cells-is (subst (All (IsCellWithin 255)) (sym w.in_ok-push.ensures.items) (All-push (IsCellWithin 255) c.loop-place.cells.items w.field_cell.result before.inside w.field_cell.ensures.inside));
       }
       | else-bit_at w ↦ record {
-        cells = rw w.cells-is (before.cells ∙ sym (live-no bytes n (sym c.bit_at.ensures ∙ w.if-bit_at.false)));
+        cells = rw w.cells-is (before.cells ∙ sym (live-no width bytes n (sym c.bit_at.ensures ∙ w.if-bit_at.false)));
         inside = rw w.cells-is before.inside;
       }
     ]
@@ -31,4 +32,4 @@ pub returns-clause-cells : goal.returns-clause-cells
 returns-clause-cells g c =
     let end = c.loop-place.auto.place-end in
     let all : c.loop-place.place ≡ 256 = omega (arith, end, c.loop-place-test.false) in
-    c.loop-place.invariant.cells ∙ ap (live_cells c.args.digest.now) all
+    c.loop-place.invariant.cells ∙ ap (live_cells c.args.width c.args.digest.now) all

@@ -6,6 +6,6 @@ use Rattle.life_hauls.proofs.soups.live_cells.Given as goal
 
 abbrev pub invariant-loop-place : goal.invariant-loop-place
 invariant-loop-place g l = record {
-  cells : l.cells.items ≡ live_cells l.digest l.place;
-  inside : All (IsCellWithin 15) l.cells.items;
+  cells : l.cells.items ≡ live_cells l.width l.digest l.place;
+  inside : All (IsCellWithin 255) l.cells.items;
 }

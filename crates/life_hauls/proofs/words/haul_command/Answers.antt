@@ -8,4 +8,5 @@ returns c =
     let fourth = c.with_arg-command-4.ensures.app _ _ third c.generation_arg.ensures.rule in
     let fifth = c.with_arg-command-5.ensures.app _ _ fourth c.limit_arg.ensures.rule in
     let sixth = c.with_arg-command-6.ensures.app _ _ fifth c.rule_arg.ensures.rule in
-    c.with_command.ensures _ _ sixth c.soup_command.ensures.app
+    let seventh = c.with_arg-command-7.ensures.app _ _ sixth c.symmetry_arg.ensures.rule in
+    c.with_command.ensures _ _ seventh c.soup_command.ensures.app

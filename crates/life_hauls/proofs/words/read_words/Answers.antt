@@ -10,7 +10,7 @@ returns-in_err-matches g c =
 
 pub returns-in_default : goal.returns-in_default
 returns-in_default g c =
-    answer_to_matches _ _ _ (Some c.in_ok-words_before.field-0) None _ c.in_ok-haul_command.ensures c.in_ok-matches.ensures.kinds c.in_ok-matches.ensures.matches (ap (option_map asked_by) (sym c.in_default.is) ∙ c.job_in.ensures) refl
+    answer_to_matches _ _ _ (Some c.in_ok-no_job.field-0) None _ c.in_ok-haul_command.ensures c.in_ok-matches.ensures.kinds c.in_ok-matches.ensures.matches (ap (option_map asked_by) (sym c.in_default.is) ∙ c.job_in.ensures) refl
 
 pub returns : goal.returns
 returns g c =

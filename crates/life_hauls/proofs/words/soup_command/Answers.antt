@@ -4,7 +4,8 @@ pub returns-clause-app : goal.returns-clause-app
 returns-clause-app c =
     let first = c.with_arg-command.ensures.app _ _ c.named_command.ensures.app c.root_arg.ensures.rule in
     let second = c.with_arg-command-2.ensures.app _ _ first c.soup_number_arg.ensures.rule in
-    c.with_arg.ensures.app _ _ second c.rule_arg.ensures.rule
+    let third = c.with_arg-command-3.ensures.app _ _ second c.rule_arg.ensures.rule in
+    c.with_arg.ensures.app _ _ third c.symmetry_arg.ensures.rule
 
 pub returns-clause-local : goal.returns-clause-local
-returns-clause-local c = c.with_arg.ensures.local (c.with_arg-command-2.ensures.local (c.with_arg-command.ensures.local c.named_command.ensures.local))
+returns-clause-local c = c.with_arg.ensures.local (c.with_arg-command-3.ensures.local (c.with_arg-command-2.ensures.local (c.with_arg-command.ensures.local c.named_command.ensures.local)))

@@ -1,0 +1,114 @@
+//! The symmetries of soups: how many cells a row has, and whether the mirror image is added.
+ghost use Rattle.std.specs.Prelude.{◌≡◌, ◌<◌};
+ghost use Rattle.life_core.specs.Cell.{IsCellWithin};
+ghost use Rattle.life_hauls.specs.Soups.{symmetry_name, symmetry_named, width, mirror, mirrored};
+
+use life_core::Cell;
+
+/// A symmetry of soups. Each is described with the name that the field's search programs have for it.
+#[derive(Clone, Copy, Debug, PartialEq, Eq)]
+pub enum Symmetry {
+    /// `C1`: 16 rows of 16 cells.
+    C1,
+    /// `8x32`: 8 rows of 32 cells.
+    EightRows,
+    /// `4x64`: 4 rows of 64 cells.
+    FourRows,
+    /// `2x128`: 2 rows of 128 cells.
+    TwoRows,
+    /// `1x256`: a row of 256 cells.
+    OneRow,
+    /// `D2_+1`: the soup of `C1` with its mirror image, where row y goes to row -y.
+    D2Plus1,
+    /// `D2_+2`: the soup of `C1` with its mirror image, where row y goes to row -y - 1.
+    D2Plus2,
+}
+
+/// The mirror of a symmetry.
+#[derive(Clone, Copy, Debug, PartialEq, Eq)]
+pub enum Mirror {
+    /// On row 0, which stays: row y goes to row -y.
+    OnRow,
+    /// Between row -1 and row 0: row y goes to row -y - 1.
+    BetweenRows,
+}
+
+impl Symmetry {
+    /// The field's name of the symmetry.
+    pub fn name(self) -> &'static str
+        ensures { result.now ≡ symmetry_name self }
+    {
+        match self {
+            Symmetry::C1 => "C1",
+            Symmetry::EightRows => "8x32",
+            Symmetry::FourRows => "4x64",
+            Symmetry::TwoRows => "2x128",
+            Symmetry::OneRow => "1x256",
+            Symmetry::D2Plus1 => "D2_+1",
+            Symmetry::D2Plus2 => "D2_+2",
+        }
+    }
+
+    /// The symmetry of this name, if there is one.
+    pub fn named(name: &str) -> Option<Symmetry>
+        ensures { result ≡ symmetry_named name.now }
+    {
+        match name {
+            "C1" => Some(Symmetry::C1),
+            "8x32" => Some(Symmetry::EightRows),
+            "4x64" => Some(Symmetry::FourRows),
+            "2x128" => Some(Symmetry::TwoRows),
+            "1x256" => Some(Symmetry::OneRow),
+            "D2_+1" => Some(Symmetry::D2Plus1),
+            "D2_+2" => Some(Symmetry::D2Plus2),
+            _ => None,
+        }
+    }
+
+    /// How many cells a row of the field has.
+    pub(crate) fn width(self) -> usize
+        ensures cells { result ≡ width self }
+        ensures some { 0 < result }
+    {
+        match self {
+            Symmetry::C1 | Symmetry::D2Plus1 | Symmetry::D2Plus2 => 16,
+            Symmetry::EightRows => 32,
+            Symmetry::FourRows => 64,
+            Symmetry::TwoRows => 128,
+            Symmetry::OneRow => 256,
+        }
+    }
+
+    /// The mirror of the symmetry, if it has one.
+    pub(crate) fn mirror(self) -> Option<Mirror>
+        ensures { result ≡ mirror self }
+    {
+        match self {
+            Symmetry::D2Plus1 => Some(Mirror::OnRow),
+            Symmetry::D2Plus2 => Some(Mirror::BetweenRows),
+            Symmetry::C1
+            | Symmetry::EightRows
+            | Symmetry::FourRows
+            | Symmetry::TwoRows
+            | Symmetry::OneRow => None,
+        }
+    }
+}
+
+impl Mirror {
+    /// The mirror image of a cell.
+    pub(crate) fn mirrored(self, cell: Cell) -> Cell
+        requires { IsCellWithin 255 cell }
+        ensures image { result ≡ mirrored self cell }
+        ensures inside { IsCellWithin 256 result }
+    {
+        let Cell { row, column } = cell;
+        match self {
+            Mirror::OnRow => Cell { row: -row, column },
+            Mirror::BetweenRows => Cell {
+                row: -1 - row,
+                column,
+            },
+        }
+    }
+}

@@ -1,7 +1,6 @@
 //! The words of the command line, read by `clap`.
 ghost use Rattle.std.specs.Prelude.{◌≡◌, codes, map, option_map, IfOk, false};
-ghost use Rattle.clap.specs.Simple.{App};
-ghost use Rattle.clap.specs.Words.{Rule, app_of, rule_of, rows_of, found_of, subcommand_rows_of, with_rule, with_subcommand};
+ghost use Rattle.clap.specs.Words.{app_of, rule_of, rows_of, found_of, subcommand_rows_of};
 ghost use Rattle.clap.specs.declared.builder.command.Command.TheViews.{out-Command as fields_of};
 ghost use Rattle.life_words.specs.Words.{number_rule, text_rule, number_at, text_at};
 ghost use Rattle.life_hauls.specs.Words.{rule_rule, symmetry_rule, soup_app, haul_alone, haul_app, asked_by, rule_or_life, symmetry_or_c1, is_any_before};
@@ -11,7 +10,10 @@ use crate::jobs::{HaulWords, SoupWords};
 use crate::symmetry::Symmetry;
 use clap::error::ErrorKind;
 use clap::{Arg, ArgMatches, Command, Error};
-use life_words::{WordFault, named_command, program_command};
+use life_words::{
+    WordFault, named_command, number_arg, number_in, program_command, text_arg, text_in, with_arg,
+    with_command,
+};
 use std::alloc::{AllocError, Global};
 use std::convert::AsStr;
 
@@ -51,22 +53,6 @@ pub enum Job<'a> {
     Haul(HaulWords<'a>),
     /// Print a soup.
     Soup(SoupWords<'a>),
-}
-
-// A required word that is a text.
-fn text_arg<'a>(alloc: Global, id: &'a str) -> Arg<'a>
-    ensures rule { rule_of result ≡ text_rule id.entry.now }
-    ensures local { result.global ≡ false }
-{
-    Arg::new(alloc, id).required(true)
-}
-
-// A required word that is a number.
-fn number_arg<'a>(alloc: Global, id: &'a str) -> Arg<'a>
-    ensures rule { rule_of result ≡ number_rule id.entry.now }
-    ensures local { result.global ≡ false }
-{
-    text_arg(alloc, id).value_parser(clap::value_parser!(u64))
 }
 
 // The option `--rule`.
@@ -137,18 +123,6 @@ fn soup_number_arg<'a>(alloc: Global) -> Arg<'a>
     number_arg(alloc, "NUMBER").help("The number of the soup, from 0 to 9007199255740991")
 }
 
-// The command with one more argument, if the command was made.
-fn with_arg<'a>(
-    above: Result<Command<'a>, AllocError>,
-    arg: Arg<'a>,
-) -> Result<Command<'a>, AllocError>
-    requires { arg.global ≡ false }
-    ensures app { (made : App) (rule : Rule) → IfOk above.entry (λ command. app_of command ≡ made) → rule_of arg.entry ≡ rule → IfOk result (λ command. app_of command ≡ with_rule made rule) }
-    ensures local { IfOk above.entry (λ command. (fields_of command).has_globals ≡ false) → IfOk result (λ command. (fields_of command).has_globals ≡ false) }
-{
-    above?.arg(arg)
-}
-
 // The command of a soup.
 fn soup_command<'a>(alloc: Global) -> Result<Command<'a>, AllocError>
     ensures app { IfOk result (λ command. app_of command ≡ soup_app) }
@@ -176,17 +150,6 @@ fn command_alone<'a>(alloc: Global) -> Command<'a>
     .disable_help_subcommand(true)
 }
 
-// The command with one more subcommand, which has no global argument, if both were made.
-fn with_command<'a>(
-    above: Result<Command<'a>, AllocError>,
-    below: Result<Command<'a>, AllocError>,
-) -> Result<Command<'a>, AllocError>
-    requires { IfOk below (λ command. (fields_of command).has_globals ≡ false) }
-    ensures { (made added : App) → IfOk above.entry (λ command. app_of command ≡ made) → IfOk below.entry (λ command. app_of command ≡ added) → IfOk result (λ command. app_of command ≡ with_subcommand made added.top) }
-{
-    above?.subcommand(below?)
-}
-
 /// The command of `life-haul`, with its words in the order in which they stand, and with its subcommand.
 pub fn haul_command<'a>(alloc: Global) -> Result<Command<'a>, AllocError>
     ensures { IfOk result (λ command. app_of command ≡ haul_app) }
@@ -199,20 +162,6 @@ pub fn haul_command<'a>(alloc: Global) -> Result<Command<'a>, AllocError>
     let command = with_arg(command, rule_arg(alloc));
     let command = with_arg(command, symmetry_arg(alloc));
     with_command(command, soup_command(alloc))
-}
-
-// The number of the word with this id.
-fn number_in(found: &ArgMatches<'_>, id: &str) -> Option<u64>
-    ensures { result ≡ number_at id.now (rows_of (found_of found.now)) }
-{
-    found.get_one(id)
-}
-
-// The text of the word with this id.
-fn text_in<'a>(found: &ArgMatches<'a>, id: &str) -> Option<&'a str>
-    ensures { option_map (λ text. text.now) result ≡ text_at id.now (rows_of (found_of found.now)) }
-{
-    found.get_str(id)
 }
 
 // The text of the rule, or that of Conway's Life where none is given.

@@ -9,4 +9,4 @@ pub use commands::{
     VERSION, named_command, number_arg, program_command, text_arg, with_arg, with_command, words_of,
 };
 pub use fault::WordFault;
-pub use words::{Job, life_command, number_in, read_words};
+pub use words::{Job, life_command, number_in, read_words, text_in};

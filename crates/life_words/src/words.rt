@@ -285,8 +285,8 @@ pub fn number_in(found: &ArgMatches<'_>, id: &str) -> Option<u64>
     found.get_one(id)
 }
 
-// The text of the word with this id.
-fn text_in<'a>(found: &ArgMatches<'a>, id: &str) -> Option<&'a str>
+/// The text of the argument with this id.
+pub fn text_in<'a>(found: &ArgMatches<'a>, id: &str) -> Option<&'a str>
     ensures { option_map (λ text. text.now) result ≡ text_at id.now (rows_of (found_of found.now)) }
 {
     found.get_str(id)

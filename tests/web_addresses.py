@@ -125,7 +125,7 @@ def old_ones(_gateway, browser, base, _folder):
     """An old address leads to the one that took its place, and back leads out of it."""
     for old, new in OLD.items():
         browser.open(f"{base}/{old}")
-        check(f"'{old}' is {new}", browser.until(lambda: browser.driver.current_url == base + new) and browser.all(".refusal") == [])
+        check(f"'{old}' is {new}", browser.until(lambda: browser.driver.current_url == base + new) and browser.text("h1") != "Not found")
     browser.driver.back()
     check("back leads out of it", browser.until(lambda: browser.driver.current_url == "about:blank"))
     browser.open(f"{base}/")

@@ -212,4 +212,21 @@ def phone(_gateway, browser, base, _folder):
     browser.screen()
 
 
-PARTS = [waiting, already, neighbours, capitals, last_number, kept_places, contrasts, shaded, phone]
+# The files of the pages that a window has loaded, with their bytes; what an archive or an index answered is none.
+LOADED = """
+return [...performance.getEntriesByType('navigation'), ...performance.getEntriesByType('resource')].map((entry) => [new URL(entry.name).pathname, entry.decodedBodySize])
+  .filter(([path]) => path === '/' || path.startsWith('/web/') || path === '/favicon.ico');
+"""
+# The most bytes that the list of deposits may load before it asks the archive.
+MOST_BYTES = 75_000
+
+
+def light(_gateway, browser, base, _folder):
+    """The list of deposits loads what it shows, and no more: a player, a form or the names of objects come with their own pages."""
+    browser.open(f"{base}/")
+    browser.until(lambda: browser.all(".cards canvas"))
+    loaded = dict(browser.run(LOADED))
+    check(f"the list is {sum(loaded.values())} bytes: {sorted(loaded)}", 40_000 < sum(loaded.values()) <= MOST_BYTES and min(loaded.values()) > 0)
+
+
+PARTS = [light, waiting, already, neighbours, capitals, last_number, kept_places, contrasts, shaded, phone]

@@ -1,11 +1,10 @@
 // Which page the address names, and the keys. An address names what is shown: `/d/7/at/30`, `/c/3`, `/o/B3-S23/xq4_153`. Those that
 // have a page are in the gateway's site too (deploy/templates/gateway/life-site.conf).
 
-import { go, newAddress } from './address.js';
+import { go } from './address.js';
 import { againButton, make, refusal } from './dom.js';
 import { keepPlace, keepSetting, place, setting } from './kept.js';
 import { deposits, depositsOf } from './list.js';
-import { patternsOf } from './names.js';
 import { Refused } from './refusals.js';
 
 /** How often a module did not come. A browser does not ask again for one that failed under the same address. */
@@ -100,15 +99,22 @@ function sayWaiting(page) {
 const pageOf = (path) => PAGES.find(([form]) => form.test(path)) ?? [];
 
 /** The path that is shown. An old address, which is after `#`, becomes the one that took its place. */
-function pathNow() {
+async function pathNow() {
   if (location.pathname !== '/' || location.hash === '') return location.pathname;
-  const address = newAddress(location.hash.slice(1));
+  const address = (await load('old')).newAddress(location.hash.slice(1));
   if (address) history.replaceState(history.state, '', address);
   return address ? location.pathname : location.hash;
 }
 
+/** Marks the link to the part of the pages that is shown. */
+function markLinks(part) {
+  for (const link of document.querySelectorAll('nav [data-page]')) {
+    if (link.dataset.page === part) link.setAttribute('aria-current', 'page');
+    else link.removeAttribute('aria-current');
+  }
+}
+
 async function show() {
-  const path = pathNow();
   const { scroll = 0 } = place();
   clearTimeout(scrolled);
   current?.end();
@@ -117,12 +123,11 @@ async function show() {
   main.setAttribute('aria-busy', 'true');
   scrollTo(0, 0);
   sayWaiting(page);
-  const [form, part, begin] = pageOf(path);
-  for (const link of document.querySelectorAll('nav [data-page]')) {
-    if (link.dataset.page === part) link.setAttribute('aria-current', 'page');
-    else link.removeAttribute('aria-current');
-  }
   try {
+    const path = await pathNow();
+    page.signal.throwIfAborted();
+    const [form, part, begin] = pageOf(path);
+    markLinks(part);
     if (!form) throw new Refused('no-such-page');
     await begin(page, ...form.exec(path).slice(1));
   } catch (error) {
@@ -177,25 +182,11 @@ async function take(files) {
   go('/new');
 }
 
-/** The files of an entry of a drop: its own, or those of its folder and the folders in it. */
-async function filesOf(entry, folder = '') {
-  if (entry.isFile) {
-    const file = await new Promise((resolve, reject) => { entry.file(resolve, reject); });
-    return [Object.assign(file, { relativePath: folder + file.name })];
-  }
-  const reader = entry.createReader();
-  const found = [];
-  for (;;) {
-    const entries = await new Promise((resolve, reject) => { reader.readEntries(resolve, reject); });
-    if (entries.length === 0) return patternsOf((await Promise.all(found.map((one) => filesOf(one, `${folder}${entry.name}/`)))).flat());
-    found.push(...entries);
-  }
-}
-
-/** The files of a drop; of a folder its pattern files. */
-async function dropped(data) {
-  const entries = [...data.items].map((item) => item.webkitGetAsEntry?.());
-  if (!entries.some((entry) => entry?.isDirectory)) return [...data.files];
+/** The files of a drop; of a folder its pattern files. What a drop has is there for its event alone, so it is taken before anything is waited for. */
+async function dropped({ items, files: own }) {
+  const [entries, files] = [[...items].map((item) => item.webkitGetAsEntry?.()), [...own]];
+  if (!entries.some((entry) => entry?.isDirectory)) return files;
+  const { filesOf } = await load('names');
   return (await Promise.all(entries.filter(Boolean).map((entry) => filesOf(entry)))).flat();
 }
 
@@ -210,7 +201,7 @@ document.addEventListener('drop', (event) => {
   if (!hasFile(event)) return;
   event.preventDefault();
   document.body.classList.remove('dragging');
-  dropped(event.dataTransfer).then((files) => { if (files.length > 0) take(files); });
+  dropped(event.dataTransfer).then((files) => { if (files.length > 0) take(files); }, (error) => fail(current, error));
 });
 document.addEventListener('paste', (event) => {
   if (event.target.matches?.('input, textarea')) return;

@@ -1,4 +1,5 @@
-// Names and authors that are written into a file which has none (docs/FORMATS.md, Pattern files): `#N` and `#O` before its first line.
+// The files of a folder, and names and authors that are written into a file which has none (docs/FORMATS.md, Pattern files): `#N` and `#O`
+// before its first line.
 
 const LONGEST_TEXT = 200;
 const bytesOf = (text) => new TextEncoder().encode(text);
@@ -27,4 +28,19 @@ export function withTexts(bytes, record, name, author) {
   all.set(head);
   all.set(bytes, head.length);
   return all;
+}
+
+/** The files of an entry of a drop: its own, or those of its folder and the folders in it. */
+export async function filesOf(entry, folder = '') {
+  if (entry.isFile) {
+    const file = await new Promise((resolve, reject) => { entry.file(resolve, reject); });
+    return [Object.assign(file, { relativePath: folder + file.name })];
+  }
+  const reader = entry.createReader();
+  const found = [];
+  for (;;) {
+    const entries = await new Promise((resolve, reject) => { reader.readEntries(resolve, reject); });
+    if (entries.length === 0) return patternsOf((await Promise.all(found.map((one) => filesOf(one, `${folder}${entry.name}/`)))).flat());
+    found.push(...entries);
+  }
 }

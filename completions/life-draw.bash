@@ -11,12 +11,13 @@ _life_draw() {
       return ;;
   esac
   if [ "$COMP_CWORD" = 1 ]; then
-    words='text svg help -h --help -V --version'
+    words='text svg animation help -h --help -V --version'
   else
     case ${COMP_WORDS[1]} in
       text) words='-h --help' ;;
       svg) words='-h --help' ;;
-      help) [ "$COMP_CWORD" != 2 ] || words='text svg' ;;
+      animation) words='-h --help' ;;
+      help) [ "$COMP_CWORD" != 2 ] || words='text svg animation' ;;
     esac
   fi
   mapfile -t COMPREPLY < <(compgen -W "$words" -- "$word")

@@ -79,7 +79,7 @@ def pictures(gateway, browser, base, folder):
 
 # The box of what the path of an animation shows at a moment.
 BOX = """
-const root = document.documentElement;
+const root = document.querySelector('svg');
 root.pauseAnimations();
 root.setCurrentTime(arguments[0]);
 const { x, y, width, height } = root.querySelector('path').getBBox();
@@ -109,7 +109,8 @@ def animations(gateway, browser, base, folder):
     found = [cells_of(data) for data in tree.find(f"{SVG}path/{SVG}animate").get("values").split(";")]
     check("each frame is in its place", found == frames)
     check("the box has all of them", tree.get("viewBox") == "-1 -1 7 7")
-    browser.driver.get(f"file://{os.path.join(folder, DOWNLOADS)}/deposit-{glider}-from-2.svg")
+    browser.driver.get("about:blank")
+    browser.run("document.body.innerHTML = arguments[0]", svg.decode())
     shown = [browser.run(BOX, 0.125 * at + 0.06) for at in range(18)]
     boxes = [[min(x for x, _ in cells), min(y for _, y in cells), 1 + max(x for x, _ in cells) - min(x for x, _ in cells), 1 + max(y for _, y in cells) - min(y for _, y in cells)]
              for cells in frames]

@@ -99,9 +99,11 @@ function sayWaiting(page) {
 const pageOf = (path) => PAGES.find(([form]) => form.test(path)) ?? [];
 
 /** The path that is shown. An old address, which is after `#`, becomes the one that took its place. */
-async function pathNow() {
+async function pathNow(page) {
   if (location.pathname !== '/' || location.hash === '') return location.pathname;
-  const address = (await load('old')).newAddress(location.hash.slice(1));
+  const { newAddress } = await load('old');
+  page.signal.throwIfAborted();
+  const address = newAddress(location.hash.slice(1));
   if (address) history.replaceState(history.state, '', address);
   return address ? location.pathname : location.hash;
 }
@@ -124,7 +126,7 @@ async function show() {
   scrollTo(0, 0);
   sayWaiting(page);
   try {
-    const path = await pathNow();
+    const path = await pathNow(page);
     page.signal.throwIfAborted();
     const [form, part, begin] = pageOf(path);
     markLinks(part);

@@ -89,7 +89,7 @@ fn has_generation<P: Plane<Global>>(
     goes_on_by::<P>(alloc, before, n, &here)
 }
 
-/// Whether a plane whose room is given up after `n` generations goes on as one that keeps it.
+/// Whether a plane whose room is given up after `n` generations evolves as one that keeps it.
 fn trims_by<P: Plane<Global>>(alloc: Global, before: &Pattern, n: u16) -> Result<bool, Fault> {
     let mut plane = trimmed::<P>(alloc, before, n)?;
     if !has_generation(alloc, &plane, before, u32::from(n))? {

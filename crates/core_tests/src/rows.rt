@@ -76,7 +76,7 @@ fn goes_on_both_ways(alloc: Global, before: Field, after: Field) -> Result<bool,
     )
 }
 
-/// Whether each row of up to 300 cells goes on to three rows of two cells fewer, of which the first
+/// Whether each row of up to 300 cells evolves to three rows of two cells fewer, of which the first
 /// lies above it and the last below it.
 fn rows_go_on(alloc: Global) -> Result<bool, Fault> {
     for width in 1..301_i64 {

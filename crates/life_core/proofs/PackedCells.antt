@@ -1,14 +1,14 @@
 -- The cells of rows in a frame.
-use Rattle.std.proofs.Common.{◌≡◌, ◌≢◌, ℕ, ℤ, pos, negsuc, zero, suc, ◌+◌, ◌*◌, ◌/◌, ◌%◌, ◌^◌, ◌<◌, ◌≤◌, ◌+ℤ◌, ◌-ℤ◌, Bool, true, false, ◌||◌, nat_eq, nat_lt, if◌then◌else◌, cond, List, [], ◌∷◌, ◌++◌, take, map, length, get_or, set, get_or-set_other, get_or-set_same, sym, ap, ◌∙◌, inl, inr, refl, arith, w64, bit_or}
-use Rattle.std.specs.Int.{bit_at}
+use Rattle.std.proofs.Common.{◌≡◌, ◌≢◌, ℕ, ℤ, pos, negsuc, zero, suc, ◌+◌, ◌-◌, ◌*◌, ◌/◌, ◌%◌, ◌^◌, ◌<◌, ◌≤◌, ◌+ℤ◌, ◌-ℤ◌, Bool, true, false, ◌||◌, nat_eq, nat_lt, if◌then◌else◌, cond, List, [], ◌∷◌, ◌++◌, take, map, length, get_or, set, get_or-set_other, get_or-set_same, sym, ap, ◌∙◌, inl, inr, refl, arith, w64, bit_or}
+use Rattle.std.specs.Int.{bit_at, trailing_zeros}
 use Rattle.std.specs.List.{filter, range_with_len}
 use Rattle.std.proofs.lemmas.List.{take_more, map-append}
 use Rattle.std.proofs.lemmas.List.FromFn.{map-range_with_len_more}
 use Rattle.std.proofs.lemmas.List.Elements.{filter-append}
 use Rattle.std.proofs.lemmas.List.Folds.{list_any-append}
 use Rattle.std.proofs.lemmas.Int.{ints}
-use Rattle.std.proofs.lemmas.Nat.{mul-le, div-mul-add, mod-mul-add}
-use Rattle.std.proofs.lemmas.Nat.Bits.{bit_at_set_same, bit_at_set_other, bit_at-zero}
+use Rattle.std.proofs.lemmas.Nat.{mul-le, div-mul-add, mod-mul-add, shr-shr, shr_le}
+use Rattle.std.proofs.lemmas.Nat.Bits.{bit_at_set_same, bit_at_set_other, bit_at-zero, bit_at_above, bit_at-trailing_zeros}
 use Rattle.std.proofs.lemmas.Bool.{false≢true, cases_lt, cases_eq, or_cases, or_left, or_right, and_parts, and_from, lt-ltb, ltb-true, eq-eqb, eqb-true, ne_eqb}
 use Rattle.std.specs.FinSet as fset
 use Rattle.life_core.specs.declared.cell.Cell.{Cell}
@@ -17,9 +17,9 @@ use Rattle.life_core.proofs.PatternMembers.{same_cell, has_cell, same_answer, sa
 use Rattle.life_core.specs.declared.packed.frame.Frame.{Frame}
 use Rattle.life_core.specs.PackedRow.{place}
 use Rattle.std.proofs.lemmas.List.{append-nil}
-use Rattle.std.proofs.Common.{add-zero, lit≤}
+use Rattle.std.proofs.Common.{add-zero}
 use Rattle.life_core.specs.Cell.{moved_cell}
-use Rattle.life_core.specs.PackedFrameState.{cell_of}
+use Rattle.life_core.specs.PackedFrameState.{cell_of, places_below}
 use Rattle.life_core.proofs.WordShifts.{place_at}
 use Rattle.life_core.proofs.PackedPlaces.{contains-rows}
 use Rattle.life_core.specs.PackedFrameState.{framed, bit_in, cell_in, IsIn}
@@ -168,23 +168,58 @@ places_more F Q p = ap (map F) (ap (filter Q) (range_more p) ∙ filter-append Q
     range_more : (n : ℕ) → range_with_len 0 (n + 1) ≡ range_with_len 0 n ++ n ∷ []
     range_more n = sym (ident _) ∙ map-range_with_len_more (λ m. m) 0 n n (omega arith) ∙ ap (λ ms. ms ++ n ∷ []) (ident _)
 
--- a word that is 0 has no set places
-module _ (F : ℕ → Cell) (rows : List ℕ) (k : ℕ) (none : get_or rows k 0 ≡ 0) where
-  places_stay : (m : ℕ) → m ≤ 64 → map F (filter (λ p. nat_eq (place rows p) 1) (range_with_len 0 (64 * k + m))) ≡ map F (filter (λ p. nat_eq (place rows p) 1) (range_with_len 0 (64 * k)))
-  places_stay zero le = ap (λ n. map F (filter (λ p. nat_eq (place rows p) 1) (range_with_len 0 n))) (add-zero (64 * k))
-  places_stay (suc m) le =
-      let Q : ℕ → Bool = λ p. nat_eq (place rows p) 1 in
-      let next : 64 * k + suc m ≡ 64 * k + m + 1 = omega arith in
-      let low : m < 64 = omega arith in
-      let dead : place rows (64 * k + m) ≡ 0 = place_at rows k m low ∙ ap (λ w. bit_at w m) none ∙ bit_at-zero m in
-      ap (λ n. map F (filter Q (range_with_len 0 n))) next ∙ places_more F Q (64 * k + m)
-      ∙ ap (λ b. map F (filter Q (range_with_len 0 (64 * k + m))) ++ (if b then F (64 * k + m) ∷ [] else [])) (ne_eqb (place rows (64 * k + m)) 1 (λ e. omega (arith, e, dead)))
-      ∙ append-nil _ ∙ places_stay m (omega arith)
+-- places that are not set add none
+module _ (F : ℕ → Cell) (rows : List ℕ) (n : ℕ) where
+  pub places_skip : (m : ℕ) → ((j : ℕ) → j < m → place rows (n + j) ≡ 0) → map F (places_below rows (n + m)) ≡ map F (places_below rows n)
+  places_skip zero dead = ap (λ k. map F (places_below rows k)) (add-zero n)
+  places_skip (suc m) dead =
+      let next : n + suc m ≡ n + m + 1 = omega arith in
+      let last : place rows (n + m) ≡ 0 = dead m (omega arith) in
+      ap (λ k. map F (places_below rows k)) next ∙ places_more F (λ p. nat_eq (place rows p) 1) (n + m)
+      ∙ ap (λ b. map F (places_below rows (n + m)) ++ (if b then F (n + m) ∷ [] else [])) (ne_eqb (place rows (n + m)) 1 (λ e. omega (arith, e, last)))
+      ∙ append-nil _ ∙ places_skip m (λ j lt. dead j (omega arith))
 
-  pub no_places : map F (filter (λ p. nat_eq (place rows p) 1) (range_with_len 0 (64 * (k + 1)))) ≡ map F (filter (λ p. nat_eq (place rows p) 1) (range_with_len 0 (64 * k)))
-  no_places =
-      let whole : 64 * (k + 1) ≡ 64 * k + 64 = omega arith in
-      ap (λ n. map F (filter (λ p. nat_eq (place rows p) 1) (range_with_len 0 n))) whole ∙ places_stay 64 (lit≤ tt)
+-- the rest of a word, from its bit i on, is the word's own bits
+pub bit_of_rest : (rows : List ℕ) (k i j : ℕ) → i + j < 64 → place rows (64 * k + i + j) ≡ bit_at (get_or rows k 0 / 2 ^ i) j
+bit_of_rest rows k i j lt =
+    let at : 64 * k + i + j ≡ 64 * k + (i + j) = omega arith in
+    ap (place rows) at ∙ place_at rows k (i + j) lt ∙ ap (λ n. n % 2) (sym (shr-shr (get_or rows k 0) i j))
+
+-- from one live cell of a word to the next
+pub next_live : (F : ℕ → Cell) (rows : List ℕ) (k i dead : ℕ) → i + dead < 64 → bit_at (get_or rows k 0 / 2 ^ i) dead ≡ 1 → ((j : ℕ) → j < dead → bit_at (get_or rows k 0 / 2 ^ i) j ≡ 0)
+    → map F (places_below rows (64 * k + (i + (dead + 1)))) ≡ map F (places_below rows (64 * k + i)) ++ F (64 * k + (i + dead)) ∷ []
+next_live F rows k i dead lt live none =
+    let p = 64 * k + i + dead in
+    let next : 64 * k + (i + (dead + 1)) ≡ p + 1 = omega arith in
+    let at : p ≡ 64 * k + (i + dead) = omega arith in
+    ap (λ n. map F (places_below rows n)) next ∙ places_more F (λ q. nat_eq (place rows q) 1) p
+    ∙ ap (λ b. map F (places_below rows p) ++ (if b then F p ∷ [] else [])) (eq-eqb (place rows p) 1 (bit_of_rest rows k i dead lt ∙ live))
+    ∙ ap (λ cs. cs ++ F p ∷ []) (places_skip F rows (64 * k + i) dead (λ j low. bit_of_rest rows k i j (omega arith) ∙ none j low))
+    ∙ ap (λ n. map F (places_below rows (64 * k + i)) ++ F n ∷ []) at
+
+-- the lowest bit of what is left of a word is one of the word's
+pub lowest_left : (w i left : ℕ) → w < 2 ^ 64 → left ≡ w / 2 ^ i → 0 < left
+    → (i + trailing_zeros w64 left < 64) × (trailing_zeros w64 left < 64) × (bit_at left (trailing_zeros w64 left) ≡ 1) × ((j : ℕ) → j < trailing_zeros w64 left → bit_at left j ≡ 0)
+lowest_left w i left fits is some =
+    let below : left < 2 ^ 64 = omega (arith, is, shr_le w i) in
+    let lowest = bit_at-trailing_zeros w64 left some below in
+    let d = trailing_zeros w64 left in
+    let bit : bit_at w (i + d) ≡ 1 = ap (λ n. n % 2) (sym (shr-shr w i d)) ∙ ap (λ n. bit_at n d) (sym is) ∙ lowest.1 in (
+      elim (cases_lt (i + d) 64) [
+        | inl within ↦ within
+        | inr past ↦ absurd (omega (arith, bit, bit_at_above w 64 (i + d) fits past))
+      ],
+      lowest.0,
+      lowest.1,
+      lowest.2,
+    )
+
+-- no bit of a word is left
+pub none_left : (F : ℕ → Cell) (rows : List ℕ) (k i : ℕ) → i ≤ 64 → get_or rows k 0 / 2 ^ i ≡ 0 → map F (places_below rows (64 * (k + 1))) ≡ map F (places_below rows (64 * k + i))
+none_left F rows k i le none =
+    let whole : 64 * (k + 1) ≡ 64 * k + i + (64 - i) = omega arith in
+    ap (λ n. map F (places_below rows n)) whole
+    ∙ places_skip F rows (64 * k + i) (64 - i) (λ j low. bit_of_rest rows k i j (omega arith) ∙ ap (λ w. bit_at w j) none ∙ bit_at-zero j)
 
 -- the cells of one word stand side by side
 pub cell_of-word : (left top : ℤ) (w k i : ℕ) → 0 < w → i < 64 → cell_of left top (64 * w) (64 * k + i) ≡ moved_cell (pos i) (pos 0) (cell_of left top (64 * w) (64 * k))

@@ -1,10 +1,10 @@
 -- Four words of a row at a time, with dead places outside the row.
-use Rattle.std.proofs.Common.{◌≡◌, ℕ, zero, suc, ◌+◌, ◌-◌, ◌*◌, ◌/◌, ◌%◌, ◌^◌, ◌<◌, ◌≤◌, ◌⊎◌, nat_eq, max, List, length, get_or, Bool, true, false, cond, ltb, bit_or, sym, ap, ◌∙◌, inl, inr, arith}
+use Rattle.std.proofs.Common.{◌≡◌, ℕ, zero, suc, ◌+◌, ◌-◌, ◌*◌, ◌/◌, ◌%◌, ◌^◌, ◌<◌, nat_eq, max, List, length, get_or, Bool, true, false, cond, ltb, bit_or, sym, ap, ◌∙◌, inl, inr, arith}
 use Rattle.std.specs.Int.{bit_at}
-use Rattle.std.specs.Simd.Lanes.{zip2, put_chunk}
+use Rattle.std.specs.Simd.Lanes.{zip2}
 use Rattle.std.specs.Prelude.{replicate}
 use Rattle.std.proofs.lemmas.Bool.{cases_lt, lt-ltb}
-use Rattle.std.proofs.lemmas.Simd.{get_or-zip2, length-zip2, get_or-replicate, length-replicate, length-put_chunk, get_or-put_chunk_below, get_or-put_chunk_above}
+use Rattle.std.proofs.lemmas.Simd.{get_or-zip2, length-zip2, get_or-replicate, length-replicate}
 use Rattle.life_core.specs.PackedRow.{place, place_before, next_place, one_if, round_count}
 use Rattle.life_core.specs.PackedLanesState.{sum_at}
 use Rattle.life_core.specs.PackedRowState.{AreStepped, AreGroupSums}

@@ -54,7 +54,7 @@ pub record IsBlockStep (n : ℕ) (N : ℕ → ℕ) (at words m : ℕ) (old new c
   pub rest : (j : ℕ) → IsOutside n at words m j → slice_index_or new j 0 ≡ slice_index_or old j 0
   pub same : (i p : ℕ) → i < m → p < 64 * n → place changed p ≡ 0 → place new (64 * (at + i * words) + p) ≡ place old (64 * (at + i * words) + p)
 
--- the block whose first word is `at` was written, and it is told where it changed: anywhere, in its first row, in its last row
+-- the block whose first word is `at` was written, and it is said where it changed: anywhere, in its first row, in its last row
 pub record IsBlock (N : ℕ → ℕ) (at words : ℕ) (old new : List ℕ) (c : Changes) : Type 0 where
   pub all : IsBlockStep 2 N at words 16 old new c.all
   pub top : (p : ℕ) → p < 128 → place c.top p ≡ 0 → place new (64 * at + p) ≡ place old (64 * at + p)

@@ -15,9 +15,13 @@ cell_in left top x y = record { row = top +ℤ pos y; column = left +ℤ pos x }
 abbrev pub cell_of : ℤ → ℤ → ℕ → ℕ → Cell
 cell_of left top width p = cell_in left top (p % width) (p / width)
 
+-- the places before the n-th at which the words are set
+abbrev pub places_below : List ℕ → ℕ → List ℕ
+places_below words n = filter (λ p. nat_eq (place words p) 1) (range_with_len 0 n)
+
 -- the places of the words that are set
 abbrev pub set_places : List ℕ → List ℕ
-set_places words = filter (λ p. nat_eq (place words p) 1) (range_with_len 0 (64 * length words))
+set_places words = places_below words (64 * length words)
 
 -- the set that the words stand for, in rows of width places
 abbrev pub cells_of : ℤ → ℤ → ℕ → List ℕ → Cells

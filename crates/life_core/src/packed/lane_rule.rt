@@ -8,7 +8,7 @@ use std::simd::prelude::*;
 
 /// A rule by which `N` words of a row go on at once.
 pub(crate) trait LaneRule<const N: usize> {
-    // It goes on by this rule.
+    // It evolves by this rule.
     ghost is_of: { Self → RuleSets → Type 0 };
 
     /// The places that are live next, by the digits of the sums of the row above, of the two beside

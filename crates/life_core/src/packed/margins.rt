@@ -34,7 +34,7 @@ pub(crate) fn renewed(slack: u32) -> u32
 }
 
 /// A wider frame, where this one has no room for one more generation and its margins are too small
-/// for 31. A side that lacks some grows by a part of the frame's size, so that growths are few.
+/// for 31. A side that lacks some grows by a part of the frame's size, so that it grows rarely.
 pub(crate) fn with_room(frame: Frame, rows: &[u64], slack: u32) -> Option<Wider>
     requires frame { IsFrame frame }
     requires whole { IsWhole frame }

@@ -1,12 +1,12 @@
 //! Sets of cells put into packed words, and listed from them.
-ghost use Rattle.std.specs.Prelude.{◌≡◌, ℕ, ◌+◌, ◌*◌, ◌<◌, ◌≤◌, ◌||◌, IfOk, FitsSigned, take, drop, ◌++◌, pos, ◌+ℤ◌, length, map, nat_eq, slice_index_or, if◌then◌else◌};
+ghost use Rattle.std.specs.Prelude.{◌≡◌, ℕ, ◌+◌, ◌*◌, ◌<◌, ◌≤◌, ◌||◌, IfOk, OnOk, FitsSigned, take, drop, ◌++◌, pos, ◌+ℤ◌, length, map, nat_eq, slice_index_or, if◌then◌else◌};
 ghost use Rattle.std.specs.Int.{w64};
 ghost use Rattle.std.specs.List.{All};
 ghost use Rattle.std.specs.FinSet as set;
 ghost use Rattle.life_core.specs.declared.cell.Cell.{Cell};
 ghost use Rattle.life_core.specs.Cell.{cell_cmp, moved_cell};
 ghost use Rattle.life_core.specs.PackedRow.{place};
-ghost use Rattle.life_core.specs.PackedFrameState.{cell_of, set_places, framed, IsFrame, IsIn};
+ghost use Rattle.life_core.specs.PackedFrameState.{cell_of, set_places, places_below, framed, IsFrame, IsIn};
 ghost use Rattle.life_core.specs.PackedMarginsState.{IsWider};
 
 use crate::cell::Cell;
@@ -84,16 +84,38 @@ pub(crate) fn list_cells<A: Allocator>(
 {
     let mut cells = Vec::new(alloc);
     for k in 0..rows.len() {
-        if rows[k] != 0 {
-            let start = frame.cell(64 * k);
-            for i in 0..64_u32 {
-                if rows[k] >> i & 1 == 1 {
-                    cells.push(to_the_right(start, i))?;
-                }
-            }
-        }
+        list_word(frame, rows, k, &mut cells)?;
     }
     Ok(cells)
+}
+
+/// Adds the cells of word `k` to those of the words before it. It goes from one live cell to the next, so that no branch depends on
+/// a single bit.
+fn list_word<A: Allocator>(
+    frame: Frame,
+    rows: &[u64],
+    k: usize,
+    cells: &mut Vec<Cell, A>,
+) -> Result<(), AllocError>
+    requires frame { IsFrame frame }
+    requires rows { frame.height * frame.words ≡ length rows.now }
+    requires word { k < length rows.now }
+    requires cells { cells.old.items ≡ map (cell_of frame.left frame.top (64 * frame.words)) (places_below rows.now (64 * k)) }
+    ensures { OnOk result (cells.new.items ≡ map (cell_of frame.left frame.top (64 * frame.words)) (places_below rows.now (64 * (k + 1)))) }
+{
+    let mut left = rows[k];
+    if left == 0 {
+        return Ok(());
+    }
+    let start = frame.cell(64 * k);
+    let mut i = 0;
+    while left != 0 {
+        let dead = left.trailing_zeros();
+        cells.push(to_the_right(start, i + dead))?;
+        left = left >> dead >> 1;
+        i += dead + 1;
+    }
+    Ok(())
 }
 
 /// The cell `i` columns to the right.

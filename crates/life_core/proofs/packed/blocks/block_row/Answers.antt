@@ -1,4 +1,4 @@
-use Rattle.std.proofs.Common.{◌≡◌, ℕ, ◌+◌, ◌-◌, ◌*◌, List, nat_eq, ◌∙◌, arith}
+use Rattle.std.proofs.Common.{◌≡◌, ℕ, ◌+◌, ◌-◌, ◌*◌, nat_eq, ◌∙◌, arith}
 use Rattle.life_core.specs.PackedRow.{place, one_if}
 use Rattle.life_core.specs.Rule.{lives_at}
 use Rattle.life_core.specs.PackedLanesState.{digits_at}

@@ -1,5 +1,4 @@
 use Rattle.std.proofs.Common.{◌≡◌, ◌⊎◌, ℕ, ◌+◌, ◌*◌, ◌<◌, ◌≤◌, List, length, slice_index_or, ap, ◌∙◌, inl, inr, arith}
-use Rattle.std.proofs.lemmas.Simd.{length-put_chunk}
 use Rattle.life_core.specs.PackedRow.{place}
 use Rattle.life_core.proofs.LanePlaces.{place_put, word_put}
 use Rattle.life_core.proofs.packed.row_kernel.step_words.Goals as goal

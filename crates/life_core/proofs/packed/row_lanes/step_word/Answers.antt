@@ -1,4 +1,4 @@
-use Rattle.std.proofs.Common.{◌≡◌, ◌<◌, ℕ, List, ◌*◌, ◌+◌, bit_xor, bit_and, length, nat_eq, sym, ap, ◌∙◌, arith}
+use Rattle.std.proofs.Common.{◌≡◌, ℕ, List, ◌*◌, ◌+◌, bit_xor, bit_and, length, nat_eq, sym, ◌∙◌, arith}
 use Rattle.std.specs.Simd.Lanes.{zip2}
 use Rattle.life_core.specs.PackedRow.{place, place_before, one_if, round_count}
 use Rattle.life_core.specs.PackedLanesState.{digits_at, sum_at}

@@ -1,4 +1,4 @@
--- What the function of a step answered, and where it goes on.
+-- What the function of a step answered, and where it continues.
 use Rattle.std.proofs.Common.{◌≡◌, ℕ, ◌+◌, ◌<◌, suc, List, ◌∷◌, length, drop, get_or, refl, ap, ◌∙◌, sym, Result, Ok, Err, Bool, true, false, not, cond, subst, arith}
 use Rattle.std.proofs.Math.Seq.{drop-cons}
 use Rattle.life_core.specs.RuleText.{is_blank, without_blanks}

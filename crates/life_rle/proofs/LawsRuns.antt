@@ -222,7 +222,7 @@ count_by false (suc n) tag k row column tags is low h =
     let next = subst (λ t. (cond t (row + 1) row ≤ k) × (cond t 0 (column + 1) ≤ k) × Stays k (cond t (row + 1) row) (cond t 0 (column + 1)) (replicate n tag ++ tags)) is h in
     omega (arith, count_by false n tag k row (column + 1) tags is next.1 next.2)
 
--- a place behind a run, from which a reader goes on
+-- a place behind a run, from which a reader continues
 record Behind (k : ℕ) (tags : List ℕ) : Type 0 where
   row : ℕ
   column : ℕ

@@ -9,7 +9,7 @@ abbrev pub write_fault_number : WriteFault → ℕ
 write_fault_number Unwritable = 1
 write_fault_number Memory = 2
 
--- the text was put, or a beginning of it before a put that failed; want of memory is told of by a clause of its own
+-- the text was put, or a beginning of it before a put that failed; out of memory has a clause of its own
 abbrev pub PutsText : Option (List ℕ) → Option (List ℕ) → List ℕ → Result (Unit {0}) WriteFault → Type 0
 PutsText old new bytes (Ok done) = Gains old new bytes
 PutsText old new bytes (Err Unwritable) = GainsSome old new bytes

@@ -29,7 +29,7 @@ pub enum RleFault {
     TooWide = 9,
     /// The body ends without `!`.
     NoEnd = 10,
-    /// A growth was refused.
+    /// An allocation was refused.
     Memory = 11,
 }
 

@@ -158,7 +158,7 @@ impl Outlet for PieceOutlet {
         ensures made { self.new.calls ≡ raised self.old.calls }
         // A piece is taken whole, unless less is offered.
         ensures piece { IfOk result (λ k. k ≡ min (length bytes.now) self.old.piece) }
-        // The call of the number fails. Another fails only for want of memory, which no clause can say.
+        // The call of the number fails. Another fails only if memory runs out, which no clause can say.
         ensures fails { self.old.fail_at ≡ Some self.new.calls → IsErr result }
         ensures same_piece { self.new.piece ≡ self.old.piece }
         ensures same_call { self.new.fail_at ≡ self.old.fail_at }

@@ -14,7 +14,7 @@ use std::alloc::Allocator;
 pub enum WriteFault {
     /// A put failed. A beginning of the text was put before it.
     Unwritable = 1,
-    /// A growth was refused. Nothing was put.
+    /// An allocation was refused. Nothing was put.
     Memory = 2,
 }
 

@@ -15,54 +15,68 @@ use std::alloc::{AllocError, Allocator};
 /// The most bytes of a line of items.
 const WIDTH: usize = 70;
 
-/// Items laid into lines.
+/// Items laid into lines. The line that has begun is in a buffer of its own, from which it goes into the text as a whole: so an item
+/// of one digit is two stores, whichever it is, and allocates nothing.
 #[derive(Drop)]
 struct ItemLines<A: Allocator> {
+    /// The text up to the last line that is whole.
     out: Vec<u8, A>,
+    /// The line that has begun, with room for its end.
+    line: [u8; 72],
+    /// How many bytes of the line there are.
     used: usize,
     ghost used_in: { used ≤ 70 },
 }
 
 impl<A: Allocator + Copy> ItemLines<A> {
+    ghost use Rattle.std.specs.Prelude.{take};
     ghost use Rattle.life_rle.specs.ItemLinesState.{written};
 
     fn new(out: Vec<u8, A>) -> ItemLines<A>
         ensures out { result.out ≡ out }
         ensures used { result.used ≡ 0 }
     {
-        ItemLines { out, used: 0 }
+        ItemLines {
+            out,
+            line: [0; 72],
+            used: 0,
+        }
     }
 
-    /// Begins a new line where an item of so many bytes does not fit into this one.
+    /// Ends the line.
+    fn end_line(&mut self) -> Result<(), AllocError>
+        ensures out { OnOk result (self.new.out.items ≡ self.old.out.items ++ (take self.old.used self.old.line ++ 10 ∷ [])) }
+        ensures used { OnOk result (self.new.used ≡ 0) }
+    {
+        self.line[self.used] = b'\n';
+        self.out.extend_from_slice(&self.line[..self.used + 1])?;
+        self.used = 0;
+        Ok(())
+    }
+
+    /// Ends the line if an item of so many bytes does not fit into it.
     fn make_room(&mut self, len: usize) -> Result<(), AllocError>
         requires { len ≤ 70 }
-        ensures { OnOk result ((item : List ℕ) (items : List (List ℕ)) → length item ≡ len → self.new.out.items ++ (item ++ laid self.new.used items) ≡ written self.old (item ∷ items)) }
+        ensures room { OnOk result (self.new.used + len ≤ 70) }
+        ensures text { OnOk result ((item : List ℕ) (items : List (List ℕ)) → length item ≡ len → self.new.out.items ++ (take self.new.used self.new.line ++ (item ++ laid (self.new.used + len) items)) ≡ written self.old (item ∷ items)) }
     {
-        if self.used + len <= WIDTH {
-            self.used += len;
-        } else {
-            self.out.push(b'\n')?;
-            self.used = len;
+        if self.used + len > WIDTH {
+            self.end_line()?;
         }
         Ok(())
     }
 
-    /// Lays the item that is a tag alone.
-    fn put_tag(&mut self, tag: u8) -> Result<(), AllocError>
-        ensures { OnOk result ((items : List (List ℕ)) → written self.new items ≡ written self.old ((tag ∷ []) ∷ items)) }
+    /// Lays the item of a count of at most one digit: the digit, which the tag replaces if the count is 1, and the tag.
+    fn put_digit(&mut self, count: u8, tag: u8) -> Result<(), AllocError>
+        requires some { 0 < count }
+        requires small { count < 10 }
+        ensures { OnOk result ((items : List (List ℕ)) → written self.new items ≡ written self.old (counted count tag ++ items)) }
     {
-        self.make_room(1)?;
-        self.out.push(tag)?;
-        Ok(())
-    }
-
-    /// Lays the item of one digit and its tag.
-    fn put_digit(&mut self, digit: u8, tag: u8) -> Result<(), AllocError>
-        ensures { OnOk result ((items : List (List ℕ)) → written self.new items ≡ written self.old ((digit ∷ tag ∷ []) ∷ items)) }
-    {
-        self.make_room(2)?;
-        self.out.push(digit)?;
-        self.out.push(tag)?;
+        let digits = usize::from(count > 1);
+        self.make_room(digits + 1)?;
+        self.line[self.used] = b'0' + count;
+        self.line[self.used + digits] = tag;
+        self.used += digits + 1;
         Ok(())
     }
 
@@ -72,8 +86,10 @@ impl<A: Allocator + Copy> ItemLines<A> {
         ensures { OnOk result ((items : List (List ℕ)) → written self.new items ≡ written self.old ((digits.now ++ tag ∷ []) ∷ items)) }
     {
         self.make_room(digits.len() + 1)?;
-        self.out.extend_from_slice(digits)?;
-        self.out.push(tag)?;
+        let end = self.used + digits.len();
+        self.line[self.used..end].copy_from_slice(digits);
+        self.line[end] = tag;
+        self.used = end + 1;
         Ok(())
     }
 
@@ -83,10 +99,8 @@ impl<A: Allocator + Copy> ItemLines<A> {
     {
         if count == 0 {
             Ok(())
-        } else if count == 1 {
-            self.put_tag(tag)
         } else if count < 10 {
-            self.put_digit(b'0' + count as u8, tag)
+            self.put_digit(count as u8, tag)
         } else {
             self.put(Buffer::new().format(count).as_bytes(), tag)
         }
@@ -163,8 +177,8 @@ fn write_body<A: Allocator + Copy>(
         body.cell(pair_of(*cell))?;
     }
     body.lines.item(body.live, b'o')?;
-    body.lines.put_tag(b'!')?;
-    body.lines.out.push(b'\n')?;
+    body.lines.put_digit(1, b'!')?;
+    body.lines.end_line()?;
     Ok(body.lines.out)
 }
 
@@ -234,28 +248,20 @@ fn header_line<A: Allocator>(
     Ok(())
 }
 
-/// One past the greatest column, and 0 where there are no cells.
-fn width_of(cells: &[Cell]) -> u64
+/// One past the greatest column and one past the greatest row, and 0 and 0 if there are no cells.
+fn size_of(cells: &[Cell]) -> (u64, u64)
     requires { All IsQuarterCell cells.now }
-    ensures { result ≡ width_of (map coordinates cells.now) }
+    ensures width { result.0 ≡ width_of (map coordinates cells.now) }
+    ensures height { result.1 ≡ height_of (map coordinates cells.now) }
 {
     let mut width = 0;
-    for cell in cells {
-        width = width.max(u64::from(pair_of(*cell).0) + 1);
-    }
-    width
-}
-
-/// One past the greatest row, and 0 where there are no cells.
-fn height_of(cells: &[Cell]) -> u64
-    requires { All IsQuarterCell cells.now }
-    ensures { result ≡ height_of (map coordinates cells.now) }
-{
     let mut height = 0;
     for cell in cells {
-        height = height.max(u64::from(pair_of(*cell).1) + 1);
+        let (x, y) = pair_of(*cell);
+        width = width.max(u64::from(x) + 1);
+        height = height.max(u64::from(y) + 1);
     }
-    height
+    (width, height)
 }
 
 /// The coordinates of a cell.
@@ -276,10 +282,11 @@ pub fn write<A: Allocator + Copy>(alloc: A, record: &Record<A>) -> Result<Vec<u8
 {
     let rule = record.rule.text(alloc)?;
     let cells = record.cells.cells();
+    let (width, height) = size_of(cells);
     let mut out = Vec::new(alloc);
     optional_line(&mut out, b'N', &record.name)?;
     optional_line(&mut out, b'O', &record.author)?;
     comment_lines(&mut out, record.comments.as_slice())?;
-    header_line(&mut out, width_of(cells), height_of(cells), rule.as_bytes())?;
+    header_line(&mut out, width, height, rule.as_bytes())?;
     Ok(write_body(out, cells)?)
 }

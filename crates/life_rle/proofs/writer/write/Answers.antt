@@ -8,11 +8,8 @@ use Rattle.life_rle.proofs.RecordPairs.{quarter_cells, pairs_in_order}
 use Rattle.life_rle.proofs.RoundText.{read_again}
 use Rattle.life_rle.proofs.writer.write.Goals as goal
 
-pub width_of-requires : goal.width_of-requires
-width_of-requires g c = quarter_cells c.record.inside.cells c.cells-cells.result.now c.record.invariant.cells c.cells-cells.ensures.cells c.cells-cells.ensures.inside
-
-pub height_of-requires : goal.height_of-requires
-height_of-requires g c = quarter_cells c.record.inside.cells c.cells-cells.result.now c.record.invariant.cells c.cells-cells.ensures.cells c.cells-cells.ensures.inside
+pub size_of-width-requires : goal.size_of-width-requires
+size_of-width-requires g c = quarter_cells c.record.inside.cells c.cells-cells.result.now c.record.invariant.cells c.cells-cells.ensures.cells c.cells-cells.ensures.inside
 
 pub write_body-requires-clause-inside : goal.write_body-requires-clause-inside
 write_body-requires-clause-inside g c = quarter_cells c.record.inside.cells c.cells-cells.result.now c.record.invariant.cells c.cells-cells.ensures.cells c.cells-cells.ensures.inside

@@ -1,8 +1,8 @@
-use Rattle.life_rle.proofs.WriterLemmas.{laid_fits, laid_next}
+use Rattle.life_rle.proofs.WriterLemmas.{room_fits, room_next}
 use Rattle.life_rle.proofs.writer.ItemLines.make_room.Goals as goal
 
-pub returns-then-self-len-le-WIDTH : goal.returns-then-self-len-le-WIDTH
-returns-then-self-len-le-WIDTH g c item items long = laid_fits _ item _ _ items long c.if-self-len-le-WIDTH.true
+pub returns-in_ok-end_line-clause-text : goal.returns-in_ok-end_line-clause-text
+returns-in_ok-end_line-clause-text g c item items long = room_next _ _ _ _ item _ _ _ items long c.if-self-len-gt-WIDTH.true c.in_ok-end_line.ensures.used c.in_ok-end_line.ensures.out
 
-pub returns-in_ok-push : goal.returns-in_ok-push
-returns-in_ok-push g c item items long = laid_next _ _ item _ _ items long c.if-self-len-le-WIDTH.false c.in_ok-push.ensures.items
+pub returns-else-self-len-gt-WIDTH-clause-text : goal.returns-else-self-len-gt-WIDTH-clause-text
+returns-else-self-len-gt-WIDTH-clause-text g c item items long = room_fits _ _ item _ _ items long c.if-self-len-gt-WIDTH.false

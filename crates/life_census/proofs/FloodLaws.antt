@@ -221,7 +221,7 @@ module _ (L : List Run) (i : ℕ) (r : Run) (order : AreRunsInOrder L) (low : i 
       nothing : (c : Cell) → set_of.contains (cells_in []) c ≡ true → ⊥
       nothing c h = let f = in_some [] c h in let none : f.0 < 0 = f.2 in omega arith
 
-  -- a flood goes on
+  -- a flood continues
   pub flood_goes_on : (s : Run) (K : List Run) → AreClose s r → 1 ≤ r.len → (X : Cells) (start : Cell) → 1 ≤ s.len → Contains K s
       → IsFlood X start (cells_in K) (cells_in L) → IsFlood X start (cells_in (K ++ r ∷ [])) (cells_in M)
   flood_goes_on s K close some_r X start some_s member f = record {

@@ -11,11 +11,10 @@ pub mod CountingRows
 pub mod CountingTotals
 pub mod TableLines
 pub mod CodeTextLaws
-pub mod KnownLaws
 pub mod NamesLaws
 pub mod SteadyPhases
+pub mod SurveyLaws
 pub mod SteadyVisits
-pub mod SteadyShapes
 pub mod SteadySweep
 pub mod SteadyLemmas
 pub mod SteadyEvolution

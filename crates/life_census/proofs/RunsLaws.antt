@@ -18,14 +18,13 @@ use Rattle.std.proofs.lemmas.List.Sorted.{list_any-IsPermutation}
 use Rattle.std.specs.FinSet as set
 use Rattle.life_core.specs.declared.cell.Cell.{Cell}
 use Rattle.life_core.specs.Cell.{cell_cmp, moved_cell}
-use Rattle.life_core.specs.Pattern.{Cells, normal}
-use Rattle.life_core.proofs.PatternCorners.{normal-moved}
+use Rattle.life_core.specs.Pattern.{Cells, image}
 use Rattle.life_core.proofs.CellLemmas.{same_coordinates}
 use Rattle.life_core.proofs.PatternMembers.{same_cell, has_cell, same_cell-true, same_cell-self, cell_cmp_total, cell_cmp_exact, contains-list, cells_by_members, same_answer, image-list}
 use Rattle.life_census.specs.declared.runs.Run.{Run}
 use Rattle.std.proofs.lemmas.Option.{none-some}
 use Rattle.std.specs.Option.{unwrap_or}
-use Rattle.life_census.specs.RunsState.{cells_from, run_cells, cells_in, first_cell, moved_run, IsRunBefore, AreMoved}
+use Rattle.life_census.specs.RunsState.{cells_from, run_cells, cells_in, first_cell, moved_run, IsRunBefore, AreMovedBy}
 
 -- ---- one run
 
@@ -265,32 +264,28 @@ moved_list dx dy [] = refl
 moved_list dx dy (r ∷ rs) = (λ i. moved_cells r.row r.first dx dy r.len i ++ moved_list dx dy rs i) ∙ sym (map-append (moved_cell dx dy) (run_cells r) (flat_map run_cells rs))
 
 -- a move of the runs is a move of their set
-pub one_normal : (dx dy : ℤ) (rs ss : List Run) → map (moved_run dx dy) rs ≡ ss → normal (cells_in ss) ≡ normal (cells_in rs)
+pub moved_runs : (v : Cell) (rs ss : List Run) → map (moved_run v.column v.row) rs ≡ ss → cells_in ss ≡ image (moved_cell v.column v.row) (cells_in rs)
 unfolding cells_in
-one_normal dx dy rs ss same =
-    ap (λ (ts : List Run). normal (set.from_list (flat_map run_cells ts))) (sym same)
-    ∙ ap (λ (cs : List Cell). normal (set.from_list cs)) (moved_list dx dy rs)
-    ∙ ap normal (sym (image-list (moved_cell dx dy) (flat_map run_cells rs)))
-    ∙ normal-moved (set.from_list (flat_map run_cells rs)) (record { row = dy; column = dx })
-
-pub same_run : (r s : Run) → r.row ≡ s.row → r.first ≡ s.first → r.len ≡ s.len → r ≡ s
-same_run r s row first len = λ i. record { row = row i; first = first i; len = len i }
+moved_runs v rs ss same =
+    ap (λ (ts : List Run). set.from_list {R = cell_cmp} (flat_map run_cells ts)) (sym same)
+    ∙ ap (set.from_list {R = cell_cmp}) (moved_list v.column v.row rs)
+    ∙ sym (image-list (moved_cell v.column v.row) (flat_map run_cells rs))
 
 -- ---- moves of runs
 
 -- the move that takes the first of the runs to the first of the others is the only one that may take all
-pub only_move : (runs others : List Run) (from to : Run) (dx dy : ℤ) → slice_get runs 0 ≡ Some from → slice_get others 0 ≡ Some to
-    → dx ≡ to.first -ℤ from.first → dy ≡ to.row -ℤ from.row → AreMoved runs others → map (moved_run dx dy) runs ≡ others
-only_move [] others from to dx dy f t columns rows h = absurd (h.some refl)
-only_move (r ∷ runs) others from to dx dy f t columns rows h =
-    let moved : moved_run h.dx h.dy r ≡ to = ap (λ o. unwrap_or o to) (ap (λ ss. slice_get ss 0) h.moved ∙ t) in
+pub only_move : (runs others : List Run) (from to : Run) (v w : Cell) → slice_get runs 0 ≡ Some from → slice_get others 0 ≡ Some to
+    → v.column ≡ to.first -ℤ from.first → v.row ≡ to.row -ℤ from.row → AreMovedBy w runs others → map (moved_run v.column v.row) runs ≡ others
+only_move [] others from to v w f t columns rows h = absurd (h.some refl)
+only_move (r ∷ runs) others from to v w f t columns rows h =
+    let moved : moved_run w.column w.row r ≡ to = ap (λ o. unwrap_or o to) (ap (λ ss. slice_get ss 0) h.moved ∙ t) in
     let same : r ≡ from = ap (λ o. unwrap_or o from) f in
-    let first : r.first +ℤ h.dx ≡ to.first = ap (λ (s : Run). s.first) moved in
-    let row : r.row +ℤ h.dy ≡ to.row = ap (λ (s : Run). s.row) moved in
+    let first : r.first +ℤ w.column ≡ to.first = ap (λ (s : Run). s.first) moved in
+    let row : r.row +ℤ w.row ≡ to.row = ap (λ (s : Run). s.row) moved in
     let from_first : r.first ≡ from.first = ap (λ (s : Run). s.first) same in
     let from_row : r.row ≡ from.row = ap (λ (s : Run). s.row) same in
-    let x : dx ≡ h.dx = omega (arith, ints) in
-    let y : dy ≡ h.dy = omega (arith, ints) in
+    let x : v.column ≡ w.column = omega (arith, ints) in
+    let y : v.row ≡ w.row = omega (arith, ints) in
     (λ i. map (moved_run (x i) (y i)) (r ∷ runs)) ∙ h.moved
 
 -- a list with a first run is not empty

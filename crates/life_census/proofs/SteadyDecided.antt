@@ -11,29 +11,19 @@ use Rattle.life_core.specs.Pattern.{Cells}
 use Rattle.life_core.specs.Rule.{RuleSets}
 use Rattle.life_core.specs.Generations.{generation_of}
 use Rattle.life_core.proofs.PatternMembers.{same_answer, contains-items, passing_cell, passed_by_member}
-use Rattle.life_code.specs.declared.kinds.Kind.{Kind}
-use Rattle.life_code.specs.declared.kinds.Kind.TheVariants.{Empty, Still, Oscillator, Ship, Unresolved}
-use Rattle.life_code.specs.Period.{HasKind, kind_of}
-use Rattle.life_code.proofs.PeriodKinds.{kind_is}
+use Rattle.life_code.specs.Period.{kind_of}
 use Rattle.life_code.proofs.ApartNear.{near_symmetric}
 use Rattle.life_code.proofs.ApartUnions.{IsIn, in_from_contains}
 use Rattle.life_code.specs.Apart.{AreApart}
 use Rattle.life_census.specs.Parts.{IsPart, IsBefore, AreInOrder, touches, parts}
-use Rattle.life_census.specs.Steady.{IsSteady, is_staying, stays, are_apart, first_generations, keep_apart, all_keep_apart, is_steady}
-use Rattle.life_census.specs.SteadyState.{StaysFor}
+use Rattle.life_census.specs.Steady.{IsSteady, stays, are_apart, first_generations, keep_apart, all_keep_apart, is_steady}
+use Rattle.life_census.specs.SurveyState.{StaysFor}
 use Rattle.life_census.specs.Laws.{SteadyIsDecided}
 use Rattle.life_census.proofs.PartsLaws.{contains_from_in, before_itself}
 use Rattle.life_census.proofs.PartsListing.{touching, touches_by, parts_are}
-use Rattle.life_census.proofs.SteadyPhases.{still_stays, oscillator_stays, others_go, phase}
+use Rattle.life_census.proofs.SteadyPhases.{stays_for, others_go, phase}
 
 -- ---- what stays
-
-stays_for : (r : RuleSets) (limit : ℕ) (P : Cells) (k : Kind) → HasKind r P limit k → is_staying k ≡ true → (p : ℕ) × StaysFor r limit P p
-stays_for r limit P Empty h e = absurd (false≢true e)
-stays_for r limit P Still h e = (1, still_stays r limit P Still refl h)
-stays_for r limit P (Oscillator p) h e = (p, oscillator_stays r limit p P (Oscillator p) refl h)
-stays_for r limit P (Ship p dx dy) h e = absurd (false≢true e)
-stays_for r limit P Unresolved h e = absurd (false≢true e)
 
 -- each generation of what stays is one of the first
 is_early : (r : RuleSets) (limit p : ℕ) (P : Cells) → StaysFor r limit P p → (i : ℕ) → (k : ℕ) × (k < limit) × (generation_of r P i ≡ generation_of r P k)
@@ -124,7 +114,7 @@ module _ (r : RuleSets) (X : Cells) (limit : ℕ) where
   }
     where
       stays_as : (P : Cells) → IsPart X P → (p : ℕ) × StaysFor r limit P p
-      stays_as P part = stays_for r limit P (kind_of r P limit) (kind_is r P limit) (passes_in (stays r limit) (parts X) P stay (listed P part))
+      stays_as P part = stays_for r limit P (kind_of r P limit) refl (passes_in (stays r limit) (parts X) P stay (listed P part))
 
   module _ (steady : IsSteady r X limit) where
     all_stay : (Ps : List Cells) → AllByRecursion (IsPart X) Ps → list_all (stays r limit) Ps ≡ true

@@ -1,8 +1,7 @@
 -- What the visits of all parts say of the field.
-use Rattle.std.specs.Prelude.{◌≡◌, ◌≢◌, ◌↔◌, ℕ, zero, suc, ◌<◌, Bool, true, false, IsTrue, List, [], ◌∷◌, length, refl}
+use Rattle.std.specs.Prelude.{◌≡◌, ◌≢◌, ◌↔◌, ℕ, zero, suc, ◌<◌, Bool, IsTrue, List, [], ◌∷◌, length}
 use Rattle.std.proofs.Common.{sym, ap, subst, ◌∙◌, inl, inr, get_or, arith}
-use Rattle.std.specs.Bool.{MatchBool}
-use Rattle.std.proofs.lemmas.Bool.{false≢true, cases_lt}
+use Rattle.std.proofs.lemmas.Bool.{cases_lt, true_from_ne_false}
 use Rattle.std.proofs.lemmas.List.Elements.{All-contains, All-from_recursion, at_from_Contains}
 use Rattle.std.proofs.lemmas.List.Sorted.{Contains-permutation, IsPermutation-sym}
 use Rattle.std.specs.List.{All}
@@ -11,12 +10,16 @@ use Rattle.std.specs.FinSet as set
 use Rattle.life_core.specs.Pattern.{Cells}
 use Rattle.life_core.specs.Rule.{RuleSets}
 use Rattle.life_core.specs.Generations.{generation_of}
+use Rattle.life_code.specs.declared.kinds.Kind.{Kind}
+use Rattle.life_code.specs.Period.{kind_of}
 use Rattle.life_code.proofs.ApartUnions.{in_from_contains}
 use Rattle.life_census.specs.declared.meeting.Visit.{Visit}
-use Rattle.life_census.specs.Parts.{IsPart, IsBefore, AreInOrder, ArePartsOf}
-use Rattle.life_census.specs.Steady.{Stays, IsSteady}
+use Rattle.life_census.specs.Parts.{IsPart, IsBefore, AreInOrder, ArePartsOf, parts}
+use Rattle.life_census.specs.Steady.{Stays, IsSteady, is_staying}
 use Rattle.life_census.specs.SteadyState.{visit_of, AreVisits, AreAllApart}
-use Rattle.life_census.proofs.PartsLaws.{before_itself, one_whole}
+use Rattle.life_census.proofs.PartsLaws.{before_itself}
+use Rattle.life_census.proofs.PartsListing.{parts_are}
+use Rattle.life_census.proofs.SteadyPhases.{stays_for, others_go}
 
 -- ---- parts at two places differ
 
@@ -74,22 +77,20 @@ module _ (r : RuleSets) (limit : ℕ) (X : Cells) (Ps : List Cells) (parts : Are
 
 -- ---- a field of one part
 
--- a field of one part is steady where it stays
-pub one_part_steady : (r : RuleSets) (limit : ℕ) (X : Cells) (Ps : List Cells) → ArePartsOf X Ps → length Ps ≡ 1 → (b : Bool) → MatchBool b (Stays r limit X) (Stays r limit X → ⊥) → IsTrue b ↔ IsSteady r X limit
-one_part_steady r limit X Ps parts one = go
+-- a field of one part is steady where its kind stays
+pub one_part_steady : (r : RuleSets) (limit : ℕ) (X : Cells) (k : Kind) (b : Bool) → X ∷ [] ≡ parts X → k ≡ kind_of r X limit → b ≡ is_staying k → IsTrue b ↔ IsSteady r X limit
+one_part_steady r limit X k b one is answer = (
+  λ t.
+      let stays = stays_for r limit X k is (sym answer ∙ t) in
+      record {
+        stay = λ P part. subst (Stays r limit) (same P part) stays.1.stays;
+        apart = λ P Q here there differ i j. absurd (differ (sym (same P here) ∙ same Q there));
+      },
+  λ steady. true_from_ne_false b (λ f. others_go r limit X k is (sym answer ∙ f) (steady.stay X alone.each.0)),
+)
   where
     alone : ArePartsOf X (X ∷ [])
-    alone = subst (ArePartsOf X) (one_whole X Ps parts one) parts
+    alone = subst (ArePartsOf X) (sym one) (parts_are X)
 
     same : (P : Cells) → IsPart X P → X ≡ P
     same P part = elim (in_from_contains (X ∷ []) P (alone.all P part)) [ inl here ↦ here | inr none ↦ absurd none ]
-
-    go : (b : Bool) → MatchBool b (Stays r limit X) (Stays r limit X → ⊥) → IsTrue b ↔ IsSteady r X limit
-    go true stays = (
-      λ t. record {
-        stay = λ P part. subst (Stays r limit) (same P part) stays;
-        apart = λ P Q here there differ i j. absurd (differ (sym (same P here) ∙ same Q there));
-      },
-      λ steady. refl,
-    )
-    go false goes = (λ t. absurd (false≢true t), λ steady. absurd (goes (steady.stay X alone.each.0)))

@@ -1,55 +1,39 @@
 -- Parts that stay: what their kinds say, and that their phases come again.
-use Rattle.std.specs.Prelude.{◌≡◌, ◌≢◌, ℕ, ◌+◌, ◌*◌, ◌%◌, ◌/◌, ◌≤◌, zero, suc, ℤ, pos, ◌+ℤ◌, false}
-use Rattle.std.proofs.Common.{sym, ap, ◌∙◌, inl, inr, arith}
+use Rattle.std.specs.Prelude.{◌≡◌, ◌≢◌, ℕ, ◌+◌, ◌*◌, ◌%◌, ◌/◌, ◌≤◌, zero, suc, true, false}
+use Rattle.std.proofs.Common.{refl, sym, ap, subst, ◌∙◌, inl, inr, arith}
 use Rattle.std.proofs.lemmas.Bool.{false≢true}
-use Rattle.std.proofs.lemmas.Int.{ints}
 use Rattle.std.specs.FinSet as set
 use Rattle.life_core.specs.declared.cell.Cell.{Cell}
-use Rattle.life_core.specs.Cell.{cell_cmp, moved_cell}
+use Rattle.life_core.specs.Cell.{cell_cmp}
 use Rattle.life_core.specs.declared.orientation.Orientation.TheVariants.{O0}
-use Rattle.life_core.proofs.Placements.{origin, moved, len-placed}
-use Rattle.life_core.specs.Pattern.{Cells, image}
+use Rattle.life_core.proofs.Placements.{origin, minus, moved, moved-moved, plus_back, plus_comm, len-placed}
+use Rattle.life_core.specs.Pattern.{Cells}
 use Rattle.life_core.specs.Rule.{RuleSets}
 use Rattle.life_core.specs.Generations.{generation_of}
-use Rattle.life_core.proofs.CellLemmas.{same_coordinates}
-use Rattle.life_core.proofs.PatternMembers.{cells_by_members, contains-image}
+use Rattle.life_core.proofs.PatternCorners.{moved_origin}
 use Rattle.life_code.specs.declared.kinds.Kind.{Kind}
-use Rattle.life_code.specs.declared.kinds.Kind.TheVariants.{Still, Oscillator}
+use Rattle.life_code.specs.declared.kinds.Kind.TheVariants.{Empty, Still, Oscillator, Ship, Unresolved}
 use Rattle.life_code.specs.Period.{HasKind, kind_of}
-use Rattle.life_code.proofs.PeriodKinds.{kind_one, some_len}
+use Rattle.life_code.proofs.PeriodKinds.{kind_is, kind_one, some_len}
 use Rattle.life_code.proofs.PeriodLemmas.{generation-add, period_of_placed}
 use Rattle.life_census.specs.Steady.{Stays, is_staying}
-use Rattle.life_census.specs.SteadyState.{StaysFor}
-
--- ---- a move by nothing
-
-zero_more : (a : ℤ) → (a +ℤ pos 0) ≡ a
-zero_more a = omega (arith, ints)
-
-still_there : (c : Cell) → moved_cell (pos 0) (pos 0) c ≡ c
-still_there c = same_coordinates _ _ (zero_more c.row) (zero_more c.column)
-
-not_moved : (P : Cells) → image (moved_cell (pos 0) (pos 0)) P ≡ P
-not_moved P = cells_by_members _ _ (λ c. contains-image (moved_cell (pos 0) (pos 0)) (moved_cell (pos 0) (pos 0)) twice twice P c ∙ ap (set.contains P) (still_there c))
-  where
-    twice : (d : Cell) → moved_cell (pos 0) (pos 0) (moved_cell (pos 0) (pos 0) d) ≡ d
-    twice d = still_there (moved_cell (pos 0) (pos 0) d) ∙ still_there d
+use Rattle.life_census.specs.SurveyState.{StaysFor}
 
 -- ---- kinds
 
-pub still_stays : (r : RuleSets) (limit : ℕ) (P : Cells) (k : Kind) → k ≡ Still → HasKind r P limit k → StaysFor r limit P 1
+pub still_stays : (r : RuleSets) (limit : ℕ) (P : Cells) (k : Kind) → k ≡ Still → k ≡ kind_of r P limit → StaysFor r limit P 1
 unfolding Stays
-still_stays r limit P k is h = by (rw is at h)
+still_stays r limit P k is from = by (subst (HasKind r P limit) (sym from ∙ is) (kind_is r P limit))
   where
     by : HasKind r P limit Still → StaysFor r limit P 1
-    by still = record { stays = inl still; from_one = omega arith; few = still.1; back = still.2.1 ∙ not_moved P }
+    by still = record { stays = inl still; from_one = omega arith; few = still.1; back = still.2.1 ∙ moved_origin P }
 
-pub oscillator_stays : (r : RuleSets) (limit p : ℕ) (P : Cells) (k : Kind) → k ≡ Oscillator p → HasKind r P limit k → StaysFor r limit P p
+pub oscillator_stays : (r : RuleSets) (limit p : ℕ) (P : Cells) (k : Kind) → k ≡ Oscillator p → k ≡ kind_of r P limit → StaysFor r limit P p
 unfolding Stays
-oscillator_stays r limit p P k is h = by (rw is at h)
+oscillator_stays r limit p P k is from = by (subst (HasKind r P limit) (sym from ∙ is) (kind_is r P limit))
   where
     by : HasKind r P limit (Oscillator p) → StaysFor r limit P p
-    by swings = record { stays = inr (p, swings); from_one = swings.3.0; few = swings.1; back = swings.3.1 ∙ not_moved P }
+    by swings = record { stays = inr (p, swings); from_one = swings.3.0; few = swings.1; back = swings.3.1 ∙ moved_origin P }
 
 pub others_go : (r : RuleSets) (limit : ℕ) (P : Cells) (k : Kind) → k ≡ kind_of r P limit → is_staying k ≡ false → Stays r limit P → ⊥
 unfolding Stays
@@ -57,6 +41,13 @@ others_go r limit P k is other stays = false≢true (sym other ∙ ap is_staying
   | inl still ↦ ap is_staying (kind_one r P limit Still still)
   | inr swings ↦ ap is_staying (kind_one r P limit (Oscillator swings.0) swings.1)
 ])
+
+pub stays_for : (r : RuleSets) (limit : ℕ) (P : Cells) (k : Kind) → k ≡ kind_of r P limit → is_staying k ≡ true → (p : ℕ) × StaysFor r limit P p
+stays_for r limit P Empty from e = absurd (false≢true e)
+stays_for r limit P Still from e = (1, still_stays r limit P Still refl from)
+stays_for r limit P (Oscillator p) from e = (p, oscillator_stays r limit p P (Oscillator p) refl from)
+stays_for r limit P (Ship p dx dy) from e = absurd (false≢true e)
+stays_for r limit P Unresolved from e = absurd (false≢true e)
 
 -- ---- the cycle of the phases
 
@@ -81,17 +72,18 @@ phase r P p k from_one back =
 
 -- ---- sets that are moved
 
-pub stays_some : (r : RuleSets) (limit : ℕ) (P : Cells) → Stays r limit P → P ≢ set.empty
-unfolding Stays
-stays_some r limit P stays = elim stays [ inl still ↦ still.0 | inr swings ↦ swings.1.0 ]
-
 full_moved : (X : Cells) (v : Cell) → X ≢ set.empty → moved v X ≢ set.empty
 full_moved X v full e = some_len X full (sym (len-placed O0 v X) ∙ ap set.len e ∙ set.len-empty cell_cmp)
 
 -- what stays stays wherever it is
-pub stays_moved : (r : RuleSets) (limit p : ℕ) (X : Cells) (v : Cell) → StaysFor r limit X p → Stays r limit (moved v X)
+pub stays_moved : (r : RuleSets) (limit : ℕ) (X : Cells) (v : Cell) → Stays r limit X → Stays r limit (moved v X)
 unfolding Stays
-stays_moved r limit p X v stays = elim stays.stays [
+stays_moved r limit X v stays = elim stays [
   | inl still ↦ inl (full_moved X v still.0, still.1, period_of_placed r X 1 origin O0 v still.2)
   | inr swings ↦ inr (swings.0, (full_moved X v swings.1.0, swings.1.1, swings.1.2, period_of_placed r X swings.0 origin O0 v swings.1.3))
 ]
+
+pub stays_back : (r : RuleSets) (limit : ℕ) (X : Cells) (v : Cell) → Stays r limit (moved v X) → Stays r limit X
+stays_back r limit X v stays =
+    subst (Stays r limit) (moved-moved (minus v) v X ∙ ap (λ (w : Cell). moved w X) (plus_comm v (minus v) ∙ plus_back v) ∙ moved_origin X)
+    (stays_moved r limit (moved v X) (minus v) stays)

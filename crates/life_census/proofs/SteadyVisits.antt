@@ -1,6 +1,6 @@
 -- The visits of the phases of some first parts.
 use Rattle.std.specs.Prelude.{◌≡◌, ℕ, ◌+◌, ◌%◌, ◌≤◌, ◌<◌, zero, suc, true, List, [], ◌∷◌, ◌++◌, map, slice_index_or}
-use Rattle.std.proofs.Common.{get_or, refl, sym, ap, subst, ◌∙◌, inl, inr, arith, add-one}
+use Rattle.std.proofs.Common.{get_or, refl, sym, ap, subst, ◌∙◌, inl, inr, arith}
 use Rattle.std.proofs.lemmas.Bool.{cases_lt}
 use Rattle.std.proofs.lemmas.List.Elements.{Contains-append_cases, Contains-append_left, Contains-append_right, All-append, All-map, All-same, Contains-get_or}
 use Rattle.std.proofs.lemmas.Map.Views.{Contains-from_any, list_any-from_Contains}
@@ -22,7 +22,8 @@ use Rattle.life_code.proofs.PeriodLemmas.{generation-moved}
 use Rattle.life_core.proofs.PatternOrder.{has_cell-in_order}
 use Rattle.life_code.proofs.ApartUnions.{IsIn, in_from_contains}
 use Rattle.life_census.specs.declared.meeting.Visit.{Visit}
-use Rattle.life_census.specs.SteadyState.{visit_of, phases_of, StaysFor, IsVisitInPlane, AreVisits}
+use Rattle.life_census.specs.SteadyState.{visit_of, IsVisitInPlane, AreVisits}
+use Rattle.life_census.specs.SurveyState.{phases_of, StaysFor}
 use Rattle.life_census.proofs.PartsLaws.{contains_from_in}
 use Rattle.life_census.proofs.SteadyPhases.{phase}
 
@@ -78,9 +79,6 @@ module _ (r : RuleSets) (X : Cells) (v : Cell) where
 
 -- ---- the visits of the first n parts
 
-pub visits_begin : (r : RuleSets) (Ps : List Cells) → AreVisits r Ps 0 []
-visits_begin r Ps = record { only = λ v h. absurd (in_from_contains [] v h); all = λ number i d c low. absurd (omega arith) }
-
 pub visits_go_on : (r : RuleSets) (limit : ℕ) (Ps : List Cells) (n p : ℕ) (v : Cell) (X P : Cells) (visits after : List Visit) → AreVisits r Ps n visits → ((d : Cells) → slice_index_or Ps n d ≡ P) → P ≡ moved v X → StaysFor r limit X p
     → after ≡ visits ++ visits_at n v (phases_of r X p) → AreVisits r Ps (n + 1) after
 visits_go_on r limit Ps n p v X P visits after old at is stay made = record {
@@ -123,14 +121,3 @@ phases_inside r X P v p cs is room few same k d low =
     let less : i < p = found.1 in
     let live : set.contains (generation_of r P i) (moved_cell v.column v.row c) ≡ true = ap (λ (Q : Cells). set.contains (generation_of r Q i) (moved_cell v.column v.row c)) is ∙ moved_phase r X v i c found.2 in
     within_more (400000000 + i) PLANE (generation_of r P i) (omega arith) (generation_within r 400000000 P i room) (moved_cell v.column v.row c) live
-
--- ---- the phases, as they are found
-
-pub no_phases : (r : RuleSets) (P : Cells) (cs : List Cell) → cs ≡ [] → cs ≡ phases_of r P 0
-unfolding phases_of
-no_phases r P cs none = none
-
-pub more_phases : (r : RuleSets) (P X : Cells) (i : ℕ) (cs after ds : List Cell) → X ≡ generation_of r P i → after ≡ cs ++ ds → ds ≡ in_order X → cs ≡ phases_of r P i → after ≡ phases_of r P (i + 1)
-unfolding phases_of
-more_phases r P X i cs after ds here made cells before =
-    made ∙ (λ k. before k ++ (cells ∙ ap in_order here) k) ∙ ap (phases_of r P) (sym (add-one i))

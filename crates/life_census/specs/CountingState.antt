@@ -1,12 +1,8 @@
--- Rows that are being counted, and the shapes whose codes are known.
-use Rattle.std.specs.Prelude.{◌≡◌, ℕ, ◌+◌, ◌<◌, ◌≤◌, List, [], ◌∷◌, length, slice_index_or, Option}
+-- Rows that are being counted.
+use Rattle.std.specs.Prelude.{◌≡◌, ℕ, ◌+◌, ◌<◌, ◌≤◌, List, [], ◌∷◌, length, slice_index_or}
 use Rattle.std.specs.declared.cmp.Ordering.TheVariants.{Less, Equal, Greater}
 use Rattle.std.specs.Ordering.{match_ordering}
-use Rattle.life_core.specs.Pattern.{Cells, normal}
-use Rattle.life_core.specs.Rule.{RuleSets}
-use Rattle.life_code.specs.Codes.{code_of}
 use Rattle.life_census.specs.declared.rows.Row.{Row}
-use Rattle.life_census.specs.declared.counting.Known.{Known}
 use Rattle.life_census.specs.Counting.{row_cmp}
 
 -- the rows with one more of a text
@@ -25,15 +21,3 @@ IsRowOf {A} rows t i = (i < length rows) × ((d : Row A) → row_cmp t (slice_in
 -- a row at place i, if there is one, has a greater code
 abbrev pub IsPlaceFor : {A : Type 0} → List (Row A) → List ℕ → ℕ → Type 0
 IsPlaceFor {A} rows t i = (i ≤ length rows) × (i < length rows → (d : Row A) → row_cmp t (slice_index_or rows i d).code ≡ Less)
-
--- what is known of a shape is its code under the rule and the limit
-abbrev pub IsKnown : {A : Type 0} → RuleSets → ℕ → Known A → Type 0
-IsKnown r limit one = one.code ≡ code_of r one.shape limit
-
--- the shape at place i is X, moved
-abbrev pub HasShapeAt : {A : Type 0} → List (Known A) → Cells → ℕ → Type 0
-HasShapeAt {A} known X i = (i < length known) × ((d : Known A) → normal X ≡ normal (slice_index_or known i d).shape)
-
--- what is known at place i is this code, or that there is none
-abbrev pub HasCodeAt : {A : Type 0} → List (Known A) → Option (List ℕ) → ℕ → Type 0
-HasCodeAt {A} known code i = (i < length known) × ((d : Known A) → (slice_index_or known i d).code ≡ code)

@@ -10,4 +10,5 @@ pub mod Table
 pub mod TableState
 pub mod Steady
 pub mod SteadyState
+pub mod SurveyState
 pub mod Laws

@@ -31,12 +31,10 @@ emptied r = record { row = r.row; first = r.first; len = 0 }
 abbrev pub moved_run : ℤ → ℤ → Run → Run
 moved_run dx dy r = record { row = r.row +ℤ dy; first = r.first +ℤ dx; len = r.len }
 
--- there are runs, and a move takes them, in their order, to the others
-pub record AreMoved (runs others : List Run) : Type 0 where
+-- there are runs, and the move by the columns and rows of v takes them, in their order, to the others
+pub record AreMovedBy (v : Cell) (runs others : List Run) : Type 0 where
   pub some : runs ≢ []
-  pub dx : ℤ
-  pub dy : ℤ
-  pub moved : map (moved_run dx dy) runs ≡ others
+  pub moved : map (moved_run v.column v.row) runs ≡ others
 
 -- r ends before s begins: in a row before it, or further to the left
 abbrev pub IsRunBefore : Run → Run → Type 0

@@ -1,5 +1,5 @@
 -- The cells that clusters come to in their phases.
-use Rattle.std.specs.Prelude.{◌≡◌, ◌≢◌, ℕ, zero, suc, ◌≤◌, ◌<◌, ℤ, ◌+ℤ◌, true, false, List, [], ◌++◌, slice_index_or, length}
+use Rattle.std.specs.Prelude.{◌≡◌, ◌≢◌, ℕ, ◌<◌, ℤ, ◌+ℤ◌, true, false, List, slice_index_or}
 use Rattle.std.specs.declared.cmp.Ordering.{Ordering}
 use Rattle.std.specs.Ordering.{is_lt, nat_cmp, ordering_then}
 use Rattle.std.specs.List.{Contains}
@@ -7,13 +7,11 @@ use Rattle.std.specs.FinSet as set
 use Rattle.life_core.specs.declared.cell.Cell.{Cell}
 use Rattle.life_core.specs.declared.cell.TheConstants.{PLANE}
 use Rattle.life_core.specs.Cell.{cell_cmp, IsCellWithin}
-use Rattle.life_core.specs.Pattern.{Cells, in_order, normal, corner}
+use Rattle.life_core.specs.Pattern.{Cells}
 use Rattle.life_core.specs.Rule.{RuleSets}
 use Rattle.life_core.specs.Generations.{generation_of}
 use Rattle.life_code.specs.Apart.{near}
 use Rattle.life_census.specs.declared.meeting.Visit.{Visit}
-use Rattle.life_census.specs.declared.shapes.Shape.{Shape}
-use Rattle.life_census.specs.Steady.{Stays}
 
 -- the order of visits: by their cells, and then by their clusters
 abbrev pub visit_cmp : Visit → Visit → Ordering
@@ -22,40 +20,6 @@ visit_cmp v w = ordering_then (cell_cmp v.cell w.cell) (nat_cmp v.cluster w.clus
 -- the visit of a cluster to a cell
 abbrev pub visit_of : ℕ → Cell → Visit
 visit_of number c = record { cell = c; cluster = number }
-
--- the cells of the first n phases of P
-unfoldable pub phases_of : RuleSets → Cells → ℕ → List Cell
-phases_of r P zero = []
-phases_of r P (suc i) = phases_of r P i ++ in_order (generation_of r P i)
-
--- P stays, and p is a number of generations after which it is back
-pub record StaysFor (r : RuleSets) (limit : ℕ) (P : Cells) (p : ℕ) : Type 0 where
-  pub stays : Stays r limit P
-  pub from_one : 1 ≤ p
-  pub few : p ≤ limit
-  pub back : generation_of r P p ≡ P
-
--- the shape is that of a set X that stays
-pub record IsShape {A : Type 0} (r : RuleSets) (limit : ℕ) (s : Shape A) : Type 0 where
-  pub X : Cells
-  pub p : ℕ
-  pub normal_is : s.normal ≡ normal X
-  pub corner_is : s.corner ≡ corner X
-  pub inside : IsCellWithin 400000000 s.corner
-  pub stays : StaysFor r limit X p
-  pub phases_are : s.phases.items ≡ phases_of r X p
-
--- the shape is that of Y, and of a set that stays
-abbrev pub IsShapeOf : {A : Type 0} → RuleSets → ℕ → Cells → Shape A → Type 0
-IsShapeOf {A} r limit Y s = IsShape r limit s × (s.normal ≡ normal Y)
-
--- the shape at place i has this normal set
-abbrev pub HasNormalAt : {A : Type 0} → List (Shape A) → Cells → ℕ → Type 0
-HasNormalAt {A} shapes N i = (i < length shapes) × ((d : Shape A) → (slice_index_or shapes i d).normal ≡ N)
-
--- the shape at place i is that of Y
-abbrev pub HasShapeFor : {A : Type 0} → List (Shape A) → Cells → ℕ → Type 0
-HasShapeFor {A} shapes Y i = HasNormalAt shapes (normal Y) i
 
 -- the cell of a visit lies in the plane
 abbrev pub IsVisitInPlane : Visit → Type 0

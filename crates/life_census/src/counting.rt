@@ -1,29 +1,24 @@
 //! How many clusters there are of each code.
-ghost use Rattle.std.specs.Prelude.{◌≡◌, ℕ, List, Option, ◌+◌, ◌<◌, ◌≤◌, ◌^◌, ◌++◌, ◌∷◌, [], map, IfOk, IfSome, OnOk, OnErr, MatchResult};
+ghost use Rattle.std.specs.Prelude.{◌≡◌, ℕ, List, Option, ◌+◌, ◌<◌, ◌≤◌, ◌^◌, ◌∷◌, [], false, map, IfOk, OnOk, MatchResult};
 ghost use Rattle.std.specs.List.{All};
 ghost use Rattle.life_core.specs.Pattern.{Cells, IsWithin};
 ghost use Rattle.life_code.specs.Codes.{code_of};
+ghost use Rattle.life_code.specs.Period.{kind_of};
 ghost use Rattle.life_census.specs.Parts.{parts};
 ghost use Rattle.life_census.specs.Rows.{row_seen};
 ghost use Rattle.life_census.specs.Counting.{IsTally};
-ghost use Rattle.life_census.specs.CountingState.{IsKnown, HasShapeAt, HasCodeAt, one_more, AreBelow, IsRowOf, IsPlaceFor};
+ghost use Rattle.life_census.specs.CountingState.{one_more, AreBelow, IsRowOf, IsPlaceFor};
+ghost use Rattle.life_census.specs.SurveyState.{IsSurvey};
 
 use crate::cluster::Cluster;
 use crate::code_text::CodeText;
 use crate::parts::parted;
 use crate::rows::{Row, Rows, Tally};
-use crate::runs::are_moved;
-use life_code::{PERIOD_LIMIT, code};
+use crate::survey::{Shape, code_of_cluster, shape_place};
+use life_code::{Kind, PERIOD_LIMIT, kind};
 use life_core::{Fault, Pattern, Rule};
 use std::alloc::{AllocError, Allocator};
 use std::cmp::Ordering;
-
-/// A cluster, and the code of all clusters that are this set moved, if they have one.
-#[derive(Drop)]
-pub struct Known<A: Allocator> {
-    pub shape: Cluster<A>,
-    pub code: Option<CodeText<A>>,
-}
 
 /// How many clusters of the pattern have each code under the rule and the limit of the period, and
 /// how many have none.
@@ -38,26 +33,28 @@ pub fn tally<A: Allocator + Copy>(
     requires room { IsWithin 400_000_000 pattern.now }
     ensures { IfOk result (IsTally (λ P. code_of rule.now P limit) (parts pattern.now)) }
 {
-    let clusters = parted(alloc, pattern.cells())?;
+    let clusters = parted(alloc, pattern)?;
     if clusters.len() == 1 {
-        return tally_of_one(alloc, rule, pattern, limit);
+        let kind = kind(alloc, rule, pattern, limit)?;
+        return tally_of_one(alloc, rule, pattern, limit, kind);
     }
-    tally_of(alloc, rule, &clusters, limit)
+    tally_of(alloc, rule, &clusters, limit, &mut Vec::new(alloc))
 }
 
-/// The tally of a field that is one cluster.
-fn tally_of_one<A: Allocator + Copy>(
+/// The tally of a field that is one cluster, of this kind.
+pub fn tally_of_one<A: Allocator + Copy>(
     alloc: A,
     rule: &Rule,
     cluster: &Pattern<A>,
     limit: u32,
+    kind: Kind,
 ) -> Result<Tally<A>, Fault>
-    requires from_one { 1 ≤ limit }
     requires few { limit ≤ PERIOD_LIMIT }
     requires room { IsWithin 400_000_000 cluster.now }
+    requires kind { kind ≡ kind_of rule.now cluster.now limit }
     ensures { IfOk result (IsTally (λ P. code_of rule.now P limit) (cluster.now ∷ [])) }
 {
-    let code = code_of_cluster(alloc, rule, cluster, limit)?;
+    let code = code_of_cluster(alloc, rule, cluster, limit, kind)?;
     Ok(counted_once(alloc, &code)?)
 }
 
@@ -81,24 +78,24 @@ fn counted_once<A: Allocator + Copy>(
     })
 }
 
-/// How many of the clusters have each code, and how many have none.
-fn tally_of<A: Allocator + Copy>(
+/// How many of the clusters have each code, and how many have none. Shapes that are new are added to
+/// the table.
+pub fn tally_of<A: Allocator + Copy>(
     alloc: A,
     rule: &Rule,
     clusters: &[Cluster<A>],
     limit: u32,
+    shapes: &mut Vec<Shape<A>, A>,
 ) -> Result<Tally<A>, Fault>
-    requires from_one { 1 ≤ limit }
-    requires few { limit ≤ PERIOD_LIMIT }
     requires room { All (IsWithin 400_000_000) clusters.now }
+    requires survey { IsSurvey rule.now limit false shapes.old.items }
     ensures { IfOk result (IsTally (λ P. code_of rule.now P limit) clusters.now) }
 {
-    let mut known = Vec::new(alloc);
     let mut rows = Vec::new(alloc);
     let mut unresolved = 0;
     for cluster in clusters {
-        let i = known_place(alloc, rule, cluster, limit, &mut known)?;
-        match &known[i].code {
+        let (i, _) = shape_place(alloc, rule, cluster, limit, false, shapes)?;
+        match &shapes[i].code {
             Some(code) => count_code(alloc, &mut rows, code)?,
             None => unresolved += 1,
         }
@@ -108,70 +105,6 @@ fn tally_of<A: Allocator + Copy>(
         unresolved,
         total: clusters.len() as u64,
     })
-}
-
-/// The place of a cluster's shape among those that are known; a new one gets the last place.
-pub fn known_place<A: Allocator + Copy>(
-    alloc: A,
-    rule: &Rule,
-    cluster: &Cluster<A>,
-    limit: u32,
-    known: &mut Vec<Known<A>, A>,
-) -> Result<usize, Fault>
-    requires from_one { 1 ≤ limit }
-    requires few { limit ≤ PERIOD_LIMIT }
-    requires room { IsWithin 400_000_000 cluster.now }
-    requires known { All (IsKnown rule.now limit) known.old.items }
-    ensures known { All (IsKnown rule.now limit) known.new.items }
-    ensures code { IfOk result (λ i. HasCodeAt known.new.items (code_of rule.now cluster.now limit) i) }
-{
-    if let Some(i) = place_of_shape(known, cluster) {
-        return Ok(i);
-    }
-    let code = code_of_cluster(alloc, rule, &cluster.pattern(alloc)?, limit)?;
-    let shape = cluster.copy(alloc)?;
-    let i = known.len();
-    learn(known, Known { shape, code })?;
-    Ok(i)
-}
-
-/// The place of a cluster's shape among those that are known, if it is found there.
-fn place_of_shape<A: Allocator + Copy>(known: &[Known<A>], cluster: &Cluster<A>) -> Option<usize>
-    ensures { IfSome result (λ i. HasShapeAt known.now cluster.now i) }
-{
-    for (i, one) in known.iter().enumerate() {
-        if are_moved(one.shape.runs(), cluster.runs()) {
-            return Some(i);
-        }
-    }
-    None
-}
-
-/// One more shape that is known.
-fn learn<A: Allocator>(known: &mut Vec<Known<A>, A>, one: Known<A>) -> Result<(), AllocError>
-    ensures learnt { OnOk result (known.new.items ≡ known.old.items ++ one ∷ []) }
-    ensures kept { OnErr result (known.new.items ≡ known.old.items) }
-{
-    known.push(one)?;
-    Ok(())
-}
-
-/// The code of a cluster, if it has one.
-fn code_of_cluster<A: Allocator + Copy>(
-    alloc: A,
-    rule: &Rule,
-    cluster: &Pattern<A>,
-    limit: u32,
-) -> Result<Option<CodeText<A>>, Fault>
-    requires from_one { 1 ≤ limit }
-    requires few { limit ≤ PERIOD_LIMIT }
-    requires room { IsWithin 400_000_000 cluster.now }
-    ensures { IfOk result (λ o. o ≡ code_of rule.now cluster.now limit) }
-{
-    match code(alloc, rule, cluster, limit)? {
-        Some(coded) => Ok(Some(CodeText::from_slice(alloc, coded.text())?)),
-        None => Ok(None),
-    }
 }
 
 /// Counts one more of a code.

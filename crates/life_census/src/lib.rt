@@ -11,13 +11,13 @@ mod names;
 mod parts;
 mod rows;
 mod runs;
-mod shapes;
+mod survey;
 mod table;
 
 pub use code_text::{CodeText, is_code_text};
 pub use counting::tally;
 pub use laws::{laws_of_clusters, laws_of_steady_fields, laws_of_tallies};
-pub use meeting::steady;
+pub use meeting::{steady, tally_and_steady};
 pub use names::Names;
 pub use parts::clusters;
 pub use rows::{Row, Rows, Tally};

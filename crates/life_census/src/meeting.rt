@@ -1,21 +1,26 @@
 //! Whether the clusters of a field ever meet.
-ghost use Rattle.std.specs.Prelude.{◌≡◌, ◌↔◌, ℕ, pos, ◌+◌, ◌≤◌, ◌<◌, ◌≤ℤ◌, ◌++◌, List, map, slice_index_or, IsTrue, IfOk, OnOk, length, IfSome, MatchOption};
+ghost use Rattle.std.specs.Prelude.{◌≡◌, ◌↔◌, ℕ, pos, ◌≤◌, ◌<◌, ◌≤ℤ◌, ◌++◌, true, map, slice_index_or, IsTrue, IfOk, OnOk, length, IfSome, MatchOption};
 ghost use Rattle.std.specs.Bool.{MatchBool};
 ghost use Rattle.std.specs.List.{All, Contains};
 ghost use Rattle.std.specs.List.Sorted.{IsSorted};
 ghost use Rattle.life_core.specs.Cell.{moved_cell, IsCellWithin};
 ghost use Rattle.life_core.specs.Pattern.{Cells, IsWithin};
-ghost use Rattle.life_core.specs.Rule.{RuleSets};
 ghost use Rattle.life_core.specs.declared.cell.TheConstants.{PLANE};
 ghost use Rattle.life_code.specs.Apart.{near};
+ghost use Rattle.life_code.specs.Codes.{code_of};
 ghost use Rattle.life_census.specs.declared.meeting.Visit.{Visit as VisitValue};
-ghost use Rattle.life_census.specs.Parts.{ArePartsOf};
+ghost use Rattle.life_census.specs.Parts.{parts};
+ghost use Rattle.life_census.specs.Counting.{IsTally};
 ghost use Rattle.life_census.specs.Steady.{Stays, IsSteady, is_steady};
-ghost use Rattle.life_census.specs.SteadyState.{visit_cmp, visit_of, IsShapeOf, IsVisitInPlane, AreVisits, ComesBefore, KeepApart, KeepApartUpTo, AreAllApart, AreRowsApart};
+ghost use Rattle.life_census.specs.SteadyState.{visit_cmp, visit_of, IsVisitInPlane, AreVisits, ComesBefore, KeepApart, KeepApartUpTo, AreAllApart, AreRowsApart};
+ghost use Rattle.life_census.specs.SurveyState.{IsSurvey};
 
-use crate::parts::{parted, patterns_of};
-use crate::shapes::{Shape, corner_of, shape_place, stays, way};
-use life_code::PERIOD_LIMIT;
+use crate::cluster::Cluster;
+use crate::counting::{tally_of, tally_of_one};
+use crate::parts::parted;
+use crate::rows::Tally;
+use crate::survey::{Shape, shape_place, stays};
+use life_code::{PERIOD_LIMIT, kind};
 use life_core::{Cell, Fault, Pattern, Rule};
 use std::alloc::{AllocError, Allocator};
 
@@ -28,7 +33,7 @@ struct Visit {
 
 /// Whether the field is steady under the rule and the limit of the period: whether each cluster is a
 /// still life or an oscillator, and no cell of any phase of one is at most 2 columns and 2 rows from a
-/// cell of any phase of another. Then each cluster goes on for ever as if it were alone. The empty
+/// cell of any phase of another. Then each cluster evolves for ever as if it were alone. The empty
 /// field is steady. The cells of all phases are held at once.
 pub fn steady<A: Allocator + Copy>(
     alloc: A,
@@ -42,76 +47,87 @@ pub fn steady<A: Allocator + Copy>(
     ensures steady { IfOk result (λ b. IsTrue b ↔ IsSteady rule.now pattern.now limit) }
     ensures computed { IfOk result (λ b. b ≡ is_steady rule.now pattern.now limit) }
 {
-    let clusters = parted(alloc, pattern.cells())?;
+    let clusters = parted(alloc, pattern)?;
     if clusters.len() == 1 {
-        return stays(alloc, rule, pattern, limit);
+        return Ok(stays(kind(alloc, rule, pattern, limit)?));
     }
-    never_meet(alloc, rule, &patterns_of(alloc, &clusters)?, limit)
+    never_meet(alloc, rule, &clusters, limit, &mut Vec::new(alloc))
 }
 
-/// Whether these clusters stay, and never come near each other.
+/// The tally of a field, as [`tally`](crate::tally) gives it, and whether the field is steady, as
+/// [`steady`] answers. The field is parted once, and each shape of its clusters is surveyed once.
+pub fn tally_and_steady<A: Allocator + Copy>(
+    alloc: A,
+    rule: &Rule,
+    pattern: &Pattern<A>,
+    limit: u32,
+) -> Result<(Tally<A>, bool), Fault>
+    requires from_one { 1 ≤ limit }
+    requires few { limit ≤ PERIOD_LIMIT }
+    requires room { IsWithin 400_000_000 pattern.now }
+    ensures tally { IfOk result (λ p. IsTally (λ P. code_of rule.now P limit) (parts pattern.now) p.0) }
+    ensures steady { IfOk result (λ p. IsTrue p.1 ↔ IsSteady rule.now pattern.now limit) }
+    ensures computed { IfOk result (λ p. p.1 ≡ is_steady rule.now pattern.now limit) }
+{
+    let clusters = parted(alloc, pattern)?;
+    if clusters.len() == 1 {
+        let kind = kind(alloc, rule, pattern, limit)?;
+        let tally = tally_of_one(alloc, rule, pattern, limit, kind)?;
+        return Ok((tally, stays(kind)));
+    }
+    let mut shapes = Vec::new(alloc);
+    // It ends at the first cluster that does not stay, so no phases of later shapes are listed.
+    let steady = never_meet(alloc, rule, &clusters, limit, &mut shapes)?;
+    let tally = tally_of(alloc, rule, &clusters, limit, &mut shapes)?;
+    Ok((tally, steady))
+}
+
+/// Whether these clusters stay, and never come near each other. Shapes that are new are added to the
+/// table, with their phases.
 fn never_meet<A: Allocator + Copy>(
     alloc: A,
     rule: &Rule,
-    clusters: &[Pattern<A>],
+    clusters: &[Cluster<A>],
     limit: u32,
+    shapes: &mut Vec<Shape<A>, A>,
 ) -> Result<bool, Fault>
-    requires from_one { 1 ≤ limit }
-    requires few { limit ≤ PERIOD_LIMIT }
     requires room { All (IsWithin 400_000_000) clusters.now }
-    ensures { IfOk result (λ b. (X : Cells) → ArePartsOf X clusters.now → (IsTrue b ↔ IsSteady rule.now X limit)) }
+    requires survey { IsSurvey rule.now limit true shapes.old.items }
+    ensures survey { IsSurvey rule.now limit true shapes.new.items }
+    ensures answer { IfOk result (λ b. (X : Cells) → parts X ≡ clusters.now → (IsTrue b ↔ IsSteady rule.now X limit)) }
 {
-    let Some(mut visits) = all_visits(alloc, rule, clusters, limit)? else {
+    let Some(mut visits) = all_visits(alloc, rule, clusters, limit, shapes)? else {
         return Ok(false);
     };
     visits.sort_unstable();
     Ok(are_apart(&visits))
 }
 
-/// The cells of all phases of the clusters, if all of them stay.
+/// The cells of all phases of the clusters, if all of them stay: up to the first that does not, each
+/// new shape is added to the table.
 fn all_visits<A: Allocator + Copy>(
     alloc: A,
     rule: &Rule,
-    clusters: &[Pattern<A>],
+    clusters: &[Cluster<A>],
     limit: u32,
+    shapes: &mut Vec<Shape<A>, A>,
 ) -> Result<Option<Vec<Visit, A>>, Fault>
-    requires from_one { 1 ≤ limit }
-    requires few { limit ≤ PERIOD_LIMIT }
     requires room { All (IsWithin 400_000_000) clusters.now }
+    requires survey { IsSurvey rule.now limit true shapes.old.items }
+    ensures survey { IsSurvey rule.now limit true shapes.new.items }
     ensures stay { IfOk result (λ o. MatchOption o (All (Stays rule.now limit) clusters.now → ⊥) (λ v. All (Stays rule.now limit) clusters.now)) }
     ensures visits { IfOk result (λ o. IfSome o (λ v. AreVisits rule.now clusters.now (length clusters.now) v.items)) }
     ensures inside { IfOk result (λ o. IfSome o (λ v. All IsVisitInPlane v.items)) }
 {
-    let mut shapes = Vec::new(alloc);
     let mut visits = Vec::new(alloc);
     for (number, cluster) in clusters.iter().enumerate() {
-        let Some(i) = shape_place(alloc, rule, cluster, limit, &mut shapes)? else {
+        let (i, move_by) = shape_place(alloc, rule, cluster, limit, true, shapes)?;
+        let Some(phases) = &shapes[i].phases else {
             return Ok(None);
         };
-        visit_cluster(cluster, &shapes[i], number, &mut visits)?;
+        visit_cells(phases, move_by, number, &mut visits)?;
     }
     Ok(Some(visits))
-}
-
-/// Adds the cells of all phases of a cluster of this shape, moved from where the shape was found.
-fn visit_cluster<A: Allocator + Copy>(
-    cluster: &Pattern<A>,
-    shape: &Shape<A>,
-    number: usize,
-    visits: &mut Vec<Visit, A>,
-) -> Result<(), AllocError>
-    requires room { IsWithin 400_000_000 cluster.now }
-    requires shape { (r : RuleSets) × (limit : ℕ) × (limit ≤ PERIOD_LIMIT) × IsShapeOf r limit cluster.now shape.now }
-    ensures stays { OnOk result ((r : RuleSets) (limit : ℕ) → IsShapeOf r limit cluster.now shape.now → Stays r limit cluster.now) }
-    ensures visits { OnOk result ((r : RuleSets) (limit : ℕ) → IsShapeOf r limit cluster.now shape.now → (Ps : List Cells) → ((d : Cells) → slice_index_or Ps number d ≡ cluster.now) → AreVisits r Ps number visits.old.items → AreVisits r Ps (number + 1) visits.new.items) }
-    ensures inside { OnOk result (All IsVisitInPlane visits.old.items → All IsVisitInPlane visits.new.items) }
-{
-    let Some(corner) = corner_of(cluster) else {
-        return Ok(());
-    };
-    let move_by = way(shape.corner, corner);
-    visit_cells(&shape.phases, move_by, number, visits)?;
-    Ok(())
 }
 
 /// Adds the cells of the phases of one cluster, each of them moved.

@@ -1,15 +1,15 @@
 //! The codes of the clusters of pattern after pattern.
-ghost use Rattle.std.specs.Prelude.{◌≡◌, ◌≤◌, ◌++◌, ◌∷◌, [], map, IfOk, OnOk};
+ghost use Rattle.std.specs.Prelude.{◌≡◌, ◌≤◌, false, ◌++◌, ◌∷◌, [], map, IfOk, OnOk};
 ghost use Rattle.std.specs.List.{All};
 ghost use Rattle.life_core.specs.Pattern.{IsWithin};
 ghost use Rattle.life_code.specs.Codes.{code_of};
 ghost use Rattle.life_census.specs.Parts.{parts};
-ghost use Rattle.life_census.specs.NamesState.{IsNaming};
+ghost use Rattle.life_census.specs.SurveyState.{IsSurvey};
 
 use crate::cluster::Cluster;
 use crate::code_text::CodeText;
-use crate::counting::{Known, known_place};
 use crate::parts::parted;
+use crate::survey::{Shape, shape_place};
 use life_code::PERIOD_LIMIT;
 use life_core::{Fault, Pattern, Rule};
 use std::alloc::{AllocError, Allocator};
@@ -21,11 +21,13 @@ use std::marker::Model;
 pub struct Names<A: Allocator> {
     rule: Rule,
     limit: u32,
-    known: Vec<Known<A>, A>,
+    shapes: Vec<Shape<A>, A>,
 }
 
 impl<A: Allocator> Model for Names<A> {
-    ghost use Rattle.life_census.specs.NamesState.{Naming, coded_naming, IsNaming};
+    ghost use Rattle.std.specs.Prelude.{false};
+    ghost use Rattle.life_census.specs.NamesState.{Naming, coded_naming};
+    ghost use Rattle.life_census.specs.SurveyState.{IsSurvey};
 
     ghost Value = { Naming };
 
@@ -33,7 +35,7 @@ impl<A: Allocator> Model for Names<A> {
 
     ghost view = { λ a. record { rule = a.rule; limit = a.limit } };
 
-    ghost invariant = { λ a. IsNaming a.rule a.limit a.known.items };
+    ghost invariant = { λ a. IsSurvey a.rule a.limit false a.shapes.items };
 }
 
 impl<A: Allocator + Copy> Names<A> {
@@ -46,7 +48,7 @@ impl<A: Allocator + Copy> Names<A> {
         Names {
             rule,
             limit,
-            known: Vec::new(alloc),
+            shapes: Vec::new(alloc),
         }
     }
 
@@ -60,8 +62,8 @@ impl<A: Allocator + Copy> Names<A> {
         ensures same { self.new ≡ self.old }
         ensures codes { IfOk result (λ v. v.items ≡ map (λ P. code_of self.old.rule P self.old.limit) (parts pattern.now)) }
     {
-        let clusters = parted(alloc, pattern.cells())?;
-        named(alloc, &self.rule, self.limit, &clusters, &mut self.known)
+        let clusters = parted(alloc, pattern)?;
+        named(alloc, &self.rule, self.limit, &clusters, &mut self.shapes)
     }
 }
 
@@ -71,17 +73,17 @@ fn named<A: Allocator + Copy>(
     rule: &Rule,
     limit: u32,
     clusters: &[Cluster<A>],
-    known: &mut Vec<Known<A>, A>,
+    shapes: &mut Vec<Shape<A>, A>,
 ) -> Result<Vec<Option<CodeText<A>>, A>, Fault>
-    requires naming { IsNaming rule.now limit known.old.items }
+    requires survey { IsSurvey rule.now limit false shapes.old.items }
     requires room { All (IsWithin 400_000_000) clusters.now }
-    ensures naming { IsNaming rule.now limit known.new.items }
+    ensures survey { IsSurvey rule.now limit false shapes.new.items }
     ensures codes { IfOk result (λ v. v.items ≡ map (λ P. code_of rule.now P limit) clusters.now) }
 {
     let mut codes = Vec::new(alloc);
     for cluster in clusters {
-        let i = known_place(alloc, rule, cluster, limit, known)?;
-        put_code(alloc, &mut codes, &known[i].code)?;
+        let (i, _) = shape_place(alloc, rule, cluster, limit, false, shapes)?;
+        put_code(alloc, &mut codes, &shapes[i].code)?;
     }
     Ok(codes)
 }

@@ -1,18 +1,15 @@
 //! The clusters of a pattern: the parts of its set of cells.
 ghost use Rattle.std.specs.Prelude.{◌≡◌, IfOk};
 ghost use Rattle.std.specs.List.{All};
-ghost use Rattle.std.specs.List.Sorted.{IsStrictlySortedBy};
-ghost use Rattle.std.specs.FinSet as set;
-ghost use Rattle.life_core.specs.Cell.{cell_cmp, IsCellWithin};
 ghost use Rattle.life_core.specs.Pattern.{IsWithin};
 ghost use Rattle.life_core.specs.declared.cell.TheConstants.{PLANE};
-ghost use Rattle.life_census.specs.Parts.{ArePartsOf};
+ghost use Rattle.life_census.specs.Parts.{ArePartsOf, parts};
 ghost use Rattle.life_census.specs.RunsState.{cells_in, AreRunsInOrder};
 
 use crate::cluster::Cluster;
 use crate::flood::flooded;
 use crate::runs::{Run, runs_of};
-use life_core::{Cell, Fault, Pattern};
+use life_core::{Fault, Pattern};
 use std::alloc::{AllocError, Allocator};
 
 /// The clusters of the pattern, each in its place and once, by their least cells: row before column.
@@ -24,11 +21,11 @@ pub fn clusters<A: Allocator + Copy>(
 ) -> Result<Vec<Pattern<A>, A>, Fault>
     ensures { IfOk result (λ v. ArePartsOf pattern.now v.items) }
 {
-    Ok(patterns_of(alloc, &parted(alloc, pattern.cells())?)?)
+    Ok(patterns_of(alloc, &parted(alloc, pattern)?)?)
 }
 
 /// The clusters as patterns.
-pub fn patterns_of<A: Allocator + Copy>(
+fn patterns_of<A: Allocator + Copy>(
     alloc: A,
     clusters: &[Cluster<A>],
 ) -> Result<Vec<Pattern<A>, A>, AllocError>
@@ -42,16 +39,15 @@ pub fn patterns_of<A: Allocator + Copy>(
     Ok(patterns)
 }
 
-/// The clusters of sorted cells, by runs.
+/// The clusters of the pattern, by runs.
 pub fn parted<A: Allocator + Copy>(
     alloc: A,
-    cells: &[Cell],
+    pattern: &Pattern<A>,
 ) -> Result<Vec<Cluster<A>, A>, AllocError>
-    requires sorted { IsStrictlySortedBy cell_cmp cells.now }
-    requires inside { All (IsCellWithin PLANE) cells.now }
-    ensures { IfOk result (λ v. ArePartsOf (set.from_list cells.now) v.items) }
+    ensures parts { IfOk result (λ v. v.items ≡ parts pattern.now) }
+    ensures inside { IfOk result (λ v. All (IsWithin PLANE) v.items) }
 {
-    parted_runs(alloc, &mut runs_of(alloc, cells)?)
+    parted_runs(alloc, &mut runs_of(alloc, pattern.cells())?)
 }
 
 /// The clusters of the cells of runs, which it takes out.

@@ -1,12 +1,13 @@
 //! Runs of cells: cells of one row that stand side by side.
-ghost use Rattle.std.specs.Prelude.{◌≡◌, ◌↔◌, pos, ◌+ℤ◌, ◌-ℤ◌, IsTrue, IfOk, OnOk, ◌++◌, map};
+ghost use Rattle.std.specs.Prelude.{◌≡◌, ◌↔◌, pos, ◌+ℤ◌, ◌-ℤ◌, IsTrue, IfOk, IfSome, OnOk, MatchOption, ◌++◌, map};
 ghost use Rattle.std.specs.List.{All};
 ghost use Rattle.std.specs.List.Sorted.{IsStrictlySortedBy};
 ghost use Rattle.std.specs.FinSet as set;
-ghost use Rattle.life_core.specs.Cell.{cell_cmp, IsCellWithin};
-ghost use Rattle.life_core.specs.Pattern.{normal};
+ghost use Rattle.life_core.specs.declared.cell.Cell.{Cell as CellValue};
+ghost use Rattle.life_core.specs.Cell.{cell_cmp, moved_cell, IsCellWithin};
+ghost use Rattle.life_core.specs.Pattern.{image};
 ghost use Rattle.life_core.specs.declared.cell.TheConstants.{PLANE};
-ghost use Rattle.life_census.specs.RunsState.{run_cells, cells_in, moved_run, AreMoved, AreRunsInOrder};
+ghost use Rattle.life_census.specs.RunsState.{run_cells, cells_in, moved_run, AreMovedBy, AreRunsInOrder};
 
 use life_core::Cell;
 use std::alloc::{AllocError, Allocator};
@@ -102,52 +103,56 @@ pub fn list_run<A: Allocator>(cells: &mut Vec<Cell, A>, run: Run) -> Result<(), 
     Ok(())
 }
 
-/// Whether there are runs, and one move takes them, in their order, to the others.
-pub fn are_moved(runs: &[Run], others: &[Run]) -> bool
-    ensures decides { IsTrue result ↔ AreMoved runs.now others.now }
-    ensures normal { IsTrue result → normal (cells_in others.now) ≡ normal (cells_in runs.now) }
+/// The move that takes the runs, in their order, to the others, if there are runs and one move does.
+pub fn move_between(runs: &[Run], others: &[Run]) -> Option<Cell>
+    ensures decides { MatchOption result ((v : CellValue) → AreMovedBy v runs.now others.now → ⊥) (λ v. AreMovedBy v runs.now others.now) }
+    ensures cells { IfSome result (λ v. cells_in others.now ≡ image (moved_cell v.column v.row) (cells_in runs.now)) }
 {
     let Some(from) = runs.first() else {
-        return false;
+        return None;
     };
     let Some(to) = others.first() else {
-        return false;
+        return None;
     };
-    are_moved_by(runs, others, shift_of(*from, *to))
+    let move_by = way(*from, *to);
+    if !are_moved_by(runs, others, move_by) {
+        return None;
+    }
+    Some(move_by)
 }
 
-/// Whether the shift takes the runs, in their order, to the others.
-fn are_moved_by(runs: &[Run], others: &[Run], shift: (i64, i64)) -> bool
-    ensures { IsTrue result ↔ (map (moved_run shift.0 shift.1) runs.now ≡ others.now) }
+/// Whether the move takes the runs, in their order, to the others.
+fn are_moved_by(runs: &[Run], others: &[Run], move_by: Cell) -> bool
+    ensures { IsTrue result ↔ (map (moved_run move_by.column move_by.row) runs.now ≡ others.now) }
 {
     runs.len() == others.len()
         && runs
             .iter()
             .zip(others)
-            .all(|(run, other)| goes_to(*run, *other, shift))
+            .all(|(run, other)| goes_to(*run, *other, move_by))
 }
 
-/// Whether the shift takes the run to the other.
-fn goes_to(run: Run, other: Run, shift: (i64, i64)) -> bool
-    ensures { IsTrue result ↔ (moved_run shift.0 shift.1 run ≡ other) }
+/// Whether the move takes the run to the other.
+fn goes_to(run: Run, other: Run, move_by: Cell) -> bool
+    ensures { IsTrue result ↔ (moved_run move_by.column move_by.row run ≡ other) }
 {
-    let (dx, dy) = shift_of(run, other);
-    if dx != shift.0 {
+    let own = way(run, other);
+    if own.column != move_by.column {
         return false;
     }
-    if dy != shift.1 {
+    if own.row != move_by.row {
         return false;
     }
     run.len == other.len
 }
 
 /// The columns and rows from the first cell of a run to that of another.
-fn shift_of(from: Run, to: Run) -> (i64, i64)
-    ensures columns { result.0 ≡ to.first -ℤ from.first }
-    ensures rows { result.1 ≡ to.row -ℤ from.row }
+fn way(from: Run, to: Run) -> Cell
+    ensures columns { result.column ≡ to.first -ℤ from.first }
+    ensures rows { result.row ≡ to.row -ℤ from.row }
 {
-    (
-        i64::from(to.first) - i64::from(from.first),
-        i64::from(to.row) - i64::from(from.row),
-    )
+    Cell {
+        row: i64::from(to.row) - i64::from(from.row),
+        column: i64::from(to.first) - i64::from(from.first),
+    }
 }

@@ -1,4 +1,4 @@
--- Near cells and sets that are apart. Cells at most 2 apart can have a neighbour in common; sets without near cells have none, so each goes on for itself
+-- Near cells and sets that are apart. Cells at most 2 apart can have a neighbour in common; sets without near cells have none, so each evolves for itself
 -- (Life Lexicon, "cluster" and "interaction").
 use Rattle.std.specs.Prelude.{◌≡◌, ℤ, pos, ◌+ℤ◌, Bool, true, false, ◌&&◌, int_le, List, [], ◌∷◌}
 use Rattle.std.specs.List.{AllByRecursion}

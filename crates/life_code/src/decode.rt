@@ -28,7 +28,7 @@ fn value_of(c: u8) -> u8
 /// A place in a text that is read for one cell.
 #[derive(Clone, Copy)]
 struct Place {
-    /// The column of the strip at which the text goes on.
+    /// The column of the strip at which the text continues.
     column: u128,
     /// Whether the byte before was `y`.
     behind_y: bool,

@@ -23,7 +23,7 @@ pub enum CodeFault {
     NotCanonical = 2,
     /// The pattern that it spells is not back within the limit.
     NotWithinLimit = 3,
-    /// A growth was refused.
+    /// An allocation was refused.
     Memory = 4,
 }
 
@@ -153,7 +153,7 @@ fn read_code<A: Allocator + Copy>(alloc: A, text: &[u8]) -> Result<Option<Patter
     read_wechsler(alloc, &text[mark + 1..])
 }
 
-/// The pattern that a code spells. A text that is refused, want of memory apart, is no pattern's code
+/// The pattern that a code spells. A text that is refused, but for out of memory, is no pattern's code
 /// under the rule and the limit.
 pub fn open_code<A: Allocator + Copy>(
     alloc: A,

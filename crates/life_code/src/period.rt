@@ -36,7 +36,7 @@ pub fn kind_by<A: Allocator + Copy, P: Plane<A>>(
     }
     let start = P::from_pattern(alloc, pattern)?;
     let mut plane = P::from_pattern(alloc, pattern)?;
-    // Generation `mark`. Where it comes again and the pattern has not, the pattern never does.
+    // Generation `mark`. If it repeats and the pattern has not, the pattern never does.
     let mut kept = P::from_pattern(alloc, pattern)?;
     let mut mark = 0;
     for period in 1..limit + 1 {

@@ -1,5 +1,7 @@
 //! The clusters of a field in their order, and fields that are steady.
-use life_census::{clusters, laws_of_clusters, laws_of_steady_fields, laws_of_tallies, steady};
+use life_census::{
+    clusters, laws_of_clusters, laws_of_steady_fields, laws_of_tallies, steady, tally_and_steady,
+};
 use life_code::PERIOD_LIMIT;
 use life_core::{Cell, Fault, Pattern, Rule};
 use life_rle::read;
@@ -107,14 +109,16 @@ const STEADY: [(&str, u32, bool); 10] = [
     ("x = 0, y = 0\nbo$2bo$3o!", 4, false),
 ];
 
-/// Whether the field is steady under Life and the limit, if both are within their bounds.
+/// Whether the field is steady under Life and the limit, if both are within their bounds and a census
+/// answers the same.
 fn is_steady(alloc: Global, field: &Pattern, limit: u32) -> Option<bool> {
     if limit < 1 || limit > PERIOD_LIMIT || !field.within(400_000_000) {
         return None;
     }
-    match steady(alloc, &Rule::LIFE, field, limit) {
-        Ok(answer) => Some(answer),
-        Err(_) => None,
+    let answer = steady(alloc, &Rule::LIFE, field, limit);
+    match tally_and_steady(alloc, &Rule::LIFE, field, limit) {
+        Ok((_, is_steady)) if answer == Ok(is_steady) => Some(is_steady),
+        _ => None,
     }
 }
 

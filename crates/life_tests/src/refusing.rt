@@ -1,22 +1,22 @@
-//! An allocator that refuses one growth, so that a test can refuse each growth of a call in turn.
+//! An allocator that refuses one allocation, so that a test can refuse each allocation of a call in turn.
 ghost use Rattle.std.specs.Prelude.{◌<◌};
 
 use std::alloc::{AllocError, Allocator, Global};
 use std::cell::Cell;
 
-/// An allocator that refuses one of the growths that are asked of it, and passes each other call on.
+/// An allocator that refuses one of the allocations that are asked of it, and passes each other call on.
 ///
 /// A test lends it: a `&Refusing` is an allocator, and is `Copy`. A block that grows or shrinks
-/// counts as a growth.
+/// counts as an allocation.
 #[derive(Drop)]
 pub struct Refusing<A: Allocator = Global> {
     inner: A,
-    // The growths up to the one to refuse, with it; 0 once it was refused.
+    // The allocations up to the one to refuse, with it; 0 once it was refused.
     left: Cell<u64>,
 }
 
 impl<A: Allocator> Refusing<A> {
-    /// Refuses the growth of this number, counted from 1.
+    /// Refuses the allocation of this number, counted from 1.
     pub fn new(inner: A, refused: u64) -> Refusing<A>
         requires { 0 < refused }
     {
@@ -26,20 +26,20 @@ impl<A: Allocator> Refusing<A> {
         }
     }
 
-    /// Refuses the growth of this number from now on, counted from 1.
+    /// Refuses the allocation of this number from now on, counted from 1.
     pub fn refuse(&self, refused: u64)
         requires { 0 < refused }
     {
         self.left.set(refused);
     }
 
-    /// Whether the growth to refuse was refused.
+    /// Whether the allocation to refuse was refused.
     pub fn has_refused(&self) -> bool {
         self.left.get() == 0
     }
 }
 
-// Counts a growth, and tells whether it is the one to refuse.
+// Counts an allocation, and says whether it is the one to refuse.
 fn is_refused(left: &Cell<u64>) -> bool {
     let growths = left.get();
     left.set(growths.saturating_sub(1));
@@ -74,7 +74,7 @@ mod tests {
         Ok(numbers)
     }
 
-    // Whether the nine numbers come in memory whose growth of this number is refused, and whether it was.
+    // Whether the nine numbers come in memory whose allocation of this number is refused, and whether it was.
     fn answers(alloc: Global, refused: u64) -> (bool, bool)
         requires { 0 < refused }
     {

@@ -40,7 +40,7 @@ fn goes_on_to(alloc: Global, file: &str, text: &str) -> bool {
     }
 }
 
-/// Whether a row of so many cells goes on as it should.
+/// Whether a row of so many cells evolves as it should.
 fn row_goes_on(alloc: Global, width: u64) -> bool {
     match (row_file(alloc, width), rows_text(alloc, width)) {
         (Ok(file), Ok(text)) => goes_on_to(alloc, file.as_str(), text.as_str()),

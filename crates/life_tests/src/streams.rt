@@ -1,4 +1,4 @@
-//! A file from a stream and its text into one, in pieces, with each growth, each take and each put
+//! A file from a stream and its text into one, in pieces, with each allocation, each take and each put
 //! refused in turn.
 ghost use Rattle.std.specs.Prelude.{◌<◌};
 
@@ -10,7 +10,7 @@ use life_rle::{
 use std::alloc::{AllocError, Global};
 use std::process::Abort;
 
-/// More growths, takes and puts than any of the calls asks for.
+/// More allocations, takes and puts than any of the calls asks for.
 const MANY: u64 = 1000;
 
 /// A file, and its canonical text.
@@ -109,7 +109,7 @@ fn write_pieces<'a>(
     }
 }
 
-/// What comes of a reading whose growth of this number is refused, and of the next, which has memory.
+/// What comes of a reading whose allocation of this number is refused, and of the next, which has memory.
 fn read_twice(
     alloc: Global,
     refusing: &Refusing,
@@ -125,7 +125,7 @@ fn read_twice(
     Ok((first, read_pieces(alloc, refusing, file, piece, None)?))
 }
 
-/// How many growths of a reading in pieces of so many bytes were refused, one after the other, each of
+/// How many allocations of a reading in pieces of so many bytes were refused, one after the other, each of
 /// which was answered, and was right when it was made again with memory.
 fn refused_readings(
     rt: &impl Abort,
@@ -192,7 +192,7 @@ fn each_take_can_fail(rt: HostRuntime) {
     }
 }
 
-/// How many growths of a writing were refused, one after the other, each of which was answered.
+/// How many allocations of a writing were refused, one after the other, each of which was answered.
 fn refused_writings<'a>(
     rt: &impl Abort,
     alloc: Global,

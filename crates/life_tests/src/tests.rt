@@ -1,15 +1,15 @@
-//! Each growth of a call refused in turn: the call answers want of memory, or goes on in less room, and
+//! Each allocation of a call refused in turn: the call answers out of memory, or succeeds in less room, and
 //! gives its answer when it is made again with memory.
 ghost use Rattle.std.specs.Prelude.{◌<◌};
 
 use crate::refusing::Refusing;
-use life_census::{Tally, clusters, csv, steady, tally};
+use life_census::{Tally, clusters, csv, steady, tally, tally_and_steady};
 use life_code::{CodeFault, Kind, code, kind, open_code};
 use life_core::{Fault, PLANE, Pattern, Rule, generation};
 use life_rle::{Record, RleFault, read, write};
 use std::process::Abort;
 
-/// More growths than any of the calls asks for.
+/// More allocations than any of the calls asks for.
 const MANY: u64 = 1000;
 
 /// A file with every kind of text, and its canonical text.
@@ -113,6 +113,8 @@ enum Calls {
     Tallies(Field),
     /// `steady`.
     SteadyFields(Field),
+    /// `tally_and_steady`.
+    Censuses(Field),
 }
 
 impl Calls {
@@ -127,6 +129,7 @@ impl Calls {
             Calls::Clusters(field) => clusters_are_right(alloc, field),
             Calls::Tallies(field) => tally_is_right(alloc, field),
             Calls::SteadyFields(field) => steady_is_right(alloc, field),
+            Calls::Censuses(field) => census_is_right(alloc, field),
         }
     }
 }
@@ -241,8 +244,18 @@ fn steady_is_right(alloc: &Refusing, field: Field) -> Result<bool, Fault> {
     steady(alloc, &Rule::LIFE, &pattern, 2)
 }
 
-/// Refuses this growth of the calls, which are right then or want memory, and makes them again with memory, when they
-/// are right. Whether no growth was refused, since they ask for fewer.
+/// Each of the fields has its table, and is steady, in one census.
+fn census_is_right(alloc: &Refusing, field: Field) -> Result<bool, Fault> {
+    let pattern = field.pattern(alloc)?;
+    if !pattern.within(400_000_000) {
+        return Ok(false);
+    }
+    let (counts, is_steady) = tally_and_steady(alloc, &Rule::LIFE, &pattern, 2)?;
+    Ok(has_table(alloc, &counts, field.table())? && is_steady)
+}
+
+/// Refuses this allocation of the calls, which are right then or run out of memory, and makes them again with memory, when they
+/// are right. Whether no allocation was refused, since they ask for fewer.
 fn refuse_growth(rt: &impl Abort, refusing: &Refusing, calls: Calls, growth: u64) -> bool
     requires { 0 < growth }
 {
@@ -259,7 +272,7 @@ fn refuse_growth(rt: &impl Abort, refusing: &Refusing, calls: Calls, growth: u64
     ended
 }
 
-/// Refuses the first growth of the calls, then the second, and so on until none is left to refuse.
+/// Refuses the first allocation of the calls, then the second, and so on until none is left to refuse.
 fn refuse_each_growth(rt: &impl Abort, refusing: &Refusing, calls: Calls) {
     for growth in 1..MANY {
         if refuse_growth(rt, refusing, calls, growth) {
@@ -290,5 +303,6 @@ fn calls_with_each_growth_refused(rt: HostRuntime) {
         refuse_each_growth(&rt, &refusing, Calls::Clusters(field));
         refuse_each_growth(&rt, &refusing, Calls::Tallies(field));
         refuse_each_growth(&rt, &refusing, Calls::SteadyFields(field));
+        refuse_each_growth(&rt, &refusing, Calls::Censuses(field));
     }
 }

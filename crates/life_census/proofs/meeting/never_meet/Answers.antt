@@ -1,28 +1,17 @@
 use Rattle.std.proofs.Common.{true≢false, sym, subst}
-use Rattle.std.proofs.lemmas.Result.{IfOk-from_err}
 use Rattle.std.proofs.lemmas.List.Elements.{All-same}
 use Rattle.std.proofs.lemmas.List.Sorted.{All-permutation}
 use Rattle.std.specs.List.Sorted.{IsSorted, IsPermutation}
+use Rattle.life_census.specs.Parts.{ArePartsOf}
 use Rattle.life_census.specs.SteadyState.{visit_cmp, IsVisitInPlane}
+use Rattle.life_census.proofs.PartsListing.{parts_are}
 use Rattle.life_census.proofs.SteadyLemmas.{not_steady, steady_if_apart}
 use Rattle.life_census.proofs.meeting.never_meet.Goals as goal
 
-pub all_visits-requires-clause-from_one : goal.all_visits-requires-clause-from_one
-all_visits-requires-clause-from_one g c = c.requires.from_one
-
-pub all_visits-requires-clause-few : goal.all_visits-requires-clause-few
-all_visits-requires-clause-few g c = c.requires.few
-
-pub all_visits-requires-clause-room : goal.all_visits-requires-clause-room
-all_visits-requires-clause-room g c = c.requires.room
-
-pub returns-in_err-visits : goal.returns-in_err-visits
-returns-in_err-visits g c = IfOk-from_err c.from_residual.result _ c.from_residual.ensures.0
-
-pub returns-in_default : goal.returns-in_default
-returns-in_default g c X parts =
+pub returns-in_default-clause-answer : goal.returns-in_default-clause-answer
+returns-in_default-clause-answer g c X same =
     let goes = rw c.in_default.is at c.in_ok-visits.ensures.stay in
-    (λ wrong. absurd (true≢false (sym wrong)), λ steady. absurd (not_steady c.args.rule.now c.args.limit X c.args.clusters.now parts goes steady))
+    (λ wrong. absurd (true≢false (sym wrong)), λ steady. absurd (not_steady c.args.rule.now c.args.limit X c.args.clusters.now (subst (ArePartsOf X) same (parts_are X)) goes steady))
 
 pub are_apart-requires-clause-sorted : goal.are_apart-requires-clause-sorted
 are_apart-requires-clause-sorted g c = subst (IsSorted visit_cmp) (sym c.deref.ensures.value) c.sort_unstable.ensures.sorted
@@ -32,9 +21,9 @@ are_apart-requires-clause-inside g c =
     let inside = rw c.in-Some.is at c.in_ok-visits.ensures.inside in
     All-same IsVisitInPlane _ _ c.deref.ensures.value (All-permutation IsVisitInPlane _ _ c.sort_unstable.ensures.permutation inside)
 
-pub returns : goal.returns
-returns g c X parts =
+pub returns-clause-answer : goal.returns-clause-answer
+returns-clause-answer g c X same =
     let stay = rw c.in-Some.is at c.in_ok-visits.ensures.stay in
     let visits = rw c.in-Some.is at c.in_ok-visits.ensures.visits in
-    steady_if_apart c.args.rule.now c.args.limit X c.args.clusters.now parts stay c.in-Some.visits.items visits c.deref.result.now c.are_apart.result
+    steady_if_apart c.args.rule.now c.args.limit X c.args.clusters.now (subst (ArePartsOf X) same (parts_are X)) stay c.in-Some.visits.items visits c.deref.result.now c.are_apart.result
     (subst (IsPermutation c.in-Some.visits.items) (sym c.deref.ensures.value) c.sort_unstable.ensures.permutation) c.are_apart.ensures

@@ -13,7 +13,7 @@ loop-cluster-preserved g c =
     let item = c.cluster-item.result in
     let answer = ap (λ one. one.code) c.index.ensures ∙ c.in_ok-i.ensures.code.1 c.index.result.now ∙ ap code c.cluster-item.is in
     record {
-      naming = record { from_one = c.requires.naming.from_one; few = c.requires.naming.few; codes = c.known_place.ensures.known };
+      survey = c.shape_place.ensures.survey;
       codes =
           c.in_ok-put_code.ensures
           ∙ ap (λ (os : List (Option (List ℕ))). os ++ c.index.result.now.code ∷ []) c.loop-cluster.invariant.codes

@@ -1,0 +1,183 @@
+//! The shapes of clusters, each surveyed once, where it is met first.
+ghost use Rattle.std.specs.Prelude.{◌≡◌, ℕ, ◌≤◌, ◌++◌, ◌∷◌, [], IfOk, IfSome, IsTrue, OnOk, OnErr, MatchOption};
+ghost use Rattle.life_core.specs.Pattern.{IsWithin};
+ghost use Rattle.life_code.specs.Codes.{code_of};
+ghost use Rattle.life_code.specs.Period.{kind_of};
+ghost use Rattle.life_census.specs.Steady.{Stays, is_staying};
+ghost use Rattle.life_census.specs.SurveyState.{phases_of, ArePhases, IsShape, IsSurvey, HasShapeAt, HasCodeAt};
+
+use crate::cluster::Cluster;
+use crate::code_text::CodeText;
+use crate::runs::move_between;
+use life_code::{Kind, PERIOD_LIMIT, code_of_kind, kind};
+use life_core::{Cell, CellList, Fault, PackedRows, Pattern, Plane, Rule, is_packed};
+use std::alloc::{AllocError, Allocator};
+
+/// A shape that was met: the first cluster that has it, its code, if it has one, and the cells of all
+/// phases of that cluster, if they are listed and it stays.
+#[derive(Drop)]
+pub struct Shape<A: Allocator> {
+    pub cluster: Cluster<A>,
+    pub code: Option<CodeText<A>>,
+    pub phases: Option<Vec<Cell, A>>,
+}
+
+/// The place of a cluster's shape in the table, and the move that takes the first cluster of this
+/// shape to it. A new shape gets the last place. `listed` says whether its phases are listed.
+pub fn shape_place<A: Allocator + Copy>(
+    alloc: A,
+    rule: &Rule,
+    cluster: &Cluster<A>,
+    limit: u32,
+    listed: bool,
+    shapes: &mut Vec<Shape<A>, A>,
+) -> Result<(usize, Cell), Fault>
+    requires room { IsWithin 400_000_000 cluster.now }
+    requires survey { IsSurvey rule.now limit listed shapes.old.items }
+    ensures survey { IsSurvey rule.now limit listed shapes.new.items }
+    ensures place { IfOk result (λ p. HasShapeAt shapes.new.items cluster.now p.0 p.1) }
+    ensures code { IfOk result (λ p. HasCodeAt shapes.new.items (code_of rule.now cluster.now limit) p.0) }
+{
+    if let Some(place) = known_place(shapes, cluster) {
+        return Ok(place);
+    }
+    let shape = surveyed(alloc, rule, cluster, limit, listed)?;
+    let i = shapes.len();
+    learn(shapes, shape)?;
+    Ok((i, Cell { row: 0, column: 0 }))
+}
+
+/// The place of a cluster's shape and the move, if the shape is known.
+fn known_place<A: Allocator + Copy>(
+    shapes: &[Shape<A>],
+    cluster: &Cluster<A>,
+) -> Option<(usize, Cell)>
+    ensures { IfSome result (λ p. HasShapeAt shapes.now cluster.now p.0 p.1) }
+{
+    for (i, shape) in shapes.iter().enumerate() {
+        if let Some(move_by) = move_between(shape.cluster.runs(), cluster.runs()) {
+            return Some((i, move_by));
+        }
+    }
+    None
+}
+
+/// One more shape that is known.
+fn learn<A: Allocator>(shapes: &mut Vec<Shape<A>, A>, shape: Shape<A>) -> Result<(), AllocError>
+    ensures learnt { OnOk result (shapes.new.items ≡ shapes.old.items ++ shape ∷ []) }
+    ensures kept { OnErr result (shapes.new.items ≡ shapes.old.items) }
+{
+    shapes.push(shape)?;
+    Ok(())
+}
+
+/// The shape of a cluster. Its kind is searched once.
+fn surveyed<A: Allocator + Copy>(
+    alloc: A,
+    rule: &Rule,
+    cluster: &Cluster<A>,
+    limit: u32,
+    listed: bool,
+) -> Result<Shape<A>, Fault>
+    requires from_one { 1 ≤ limit }
+    requires few { limit ≤ PERIOD_LIMIT }
+    requires room { IsWithin 400_000_000 cluster.now }
+    ensures cluster { IfOk result (λ s. s.cluster ≡ cluster.now) }
+    ensures shape { IfOk result (IsShape rule.now limit listed) }
+{
+    let pattern = cluster.pattern(alloc)?;
+    let kind = kind(alloc, rule, &pattern, limit)?;
+    Ok(Shape {
+        cluster: cluster.copy(alloc)?,
+        code: code_of_cluster(alloc, rule, &pattern, limit, kind)?,
+        phases: listed_phases(alloc, rule, &pattern, limit, kind, listed)?,
+    })
+}
+
+/// The code of a cluster of this kind, if it has one.
+pub fn code_of_cluster<A: Allocator + Copy>(
+    alloc: A,
+    rule: &Rule,
+    cluster: &Pattern<A>,
+    limit: u32,
+    kind: Kind,
+) -> Result<Option<CodeText<A>>, Fault>
+    requires few { limit ≤ PERIOD_LIMIT }
+    requires room { IsWithin 400_000_000 cluster.now }
+    requires kind { kind ≡ kind_of rule.now cluster.now limit }
+    ensures { IfOk result (λ o. o ≡ code_of rule.now cluster.now limit) }
+{
+    match code_of_kind(alloc, rule, cluster, limit, kind)? {
+        Some(coded) => Ok(Some(CodeText::from_slice(alloc, coded.text())?)),
+        None => Ok(None),
+    }
+}
+
+/// Whether a cluster of this kind stays.
+pub fn stays(kind: Kind) -> bool
+    ensures { result ≡ is_staying kind }
+{
+    matches!(kind, Kind::Still | Kind::Oscillator(_))
+}
+
+/// The cells of all phases of a cluster of this kind, if they are listed and it stays.
+fn listed_phases<A: Allocator + Copy>(
+    alloc: A,
+    rule: &Rule,
+    cluster: &Pattern<A>,
+    limit: u32,
+    kind: Kind,
+    listed: bool,
+) -> Result<Option<Vec<Cell, A>>, Fault>
+    requires few { limit ≤ PERIOD_LIMIT }
+    requires room { IsWithin 400_000_000 cluster.now }
+    requires kind { kind ≡ kind_of rule.now cluster.now limit }
+    ensures { IfOk result (λ o. IsTrue listed → MatchOption o (Stays rule.now limit cluster.now → ⊥) (λ v. ArePhases rule.now limit cluster.now v.items)) }
+{
+    if !listed {
+        return Ok(None);
+    }
+    match kind {
+        Kind::Still => Ok(Some(phases(alloc, rule, cluster, 1)?)),
+        Kind::Oscillator(period) => Ok(Some(phases(alloc, rule, cluster, period)?)),
+        Kind::Empty | Kind::Ship(..) | Kind::Unresolved => Ok(None),
+    }
+}
+
+/// The cells of as many phases of a cluster as its period says.
+fn phases<A: Allocator + Copy>(
+    alloc: A,
+    rule: &Rule,
+    cluster: &Pattern<A>,
+    period: u32,
+) -> Result<Vec<Cell, A>, Fault>
+    requires few { period ≤ PERIOD_LIMIT }
+    requires room { IsWithin 400_000_000 cluster.now }
+    ensures { IfOk result (λ v. v.items ≡ phases_of rule.now cluster.now period) }
+{
+    if is_packed(cluster.bounds(), period) {
+        phases_by::<A, PackedRows<A>>(alloc, rule, cluster, period)
+    } else {
+        phases_by::<A, CellList<A>>(alloc, rule, cluster, period)
+    }
+}
+
+/// The cells of as many phases, made on one plane of the kind `P`.
+fn phases_by<A: Allocator + Copy, P: Plane<A>>(
+    alloc: A,
+    rule: &Rule,
+    cluster: &Pattern<A>,
+    period: u32,
+) -> Result<Vec<Cell, A>, Fault>
+    requires few { period ≤ PERIOD_LIMIT }
+    requires room { IsWithin 400_000_000 cluster.now }
+    ensures { IfOk result (λ v. v.items ≡ phases_of rule.now cluster.now period) }
+{
+    let mut cells = Vec::new(alloc);
+    let mut plane = P::from_pattern(alloc, cluster)?;
+    for _i in 0..period {
+        cells.extend_from_slice(plane.to_pattern(alloc)?.cells())?;
+        plane.step(rule)?;
+    }
+    Ok(cells)
+}

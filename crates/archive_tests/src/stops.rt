@@ -1,4 +1,4 @@
-//! A stop at each call of a file: as a deposit and a census are kept, and as an archive of layout 1 is carried over.
+//! A stop at each call of a file: as a deposit and a census are kept, and as an archive of layout 1 is migrated.
 use crate::files::{Outcome, Stopping, blank, made_by, over, schema_of, stopping};
 use crate::requests::{Asked, FIELD, FIELD_SHOWN, Row, Said};
 use life_store::Unavailable;
@@ -70,7 +70,7 @@ const KEPT: [Row; 8] = [
     (Asked::ShowCensus(2), Said::Refused(2)),
 ];
 
-/// What an archive of layout 1 answers once it is carried over: its deposits and censuses are there with their flags, and
+/// What an archive of layout 1 answers once it is migrated: its deposits and censuses are there with their flags, and
 /// nothing else.
 const CARRIED: [Row; 6] = [
     (Asked::ListAfter(0), Said::Deposits(&[(1, 8), (2, 6)])),
@@ -84,7 +84,7 @@ const CARRIED: [Row; 6] = [
 /// A run that is stopped.
 #[derive(Clone, Copy)]
 struct Run<'a> {
-    /// Whether an archive of layout 1 is carried over as it is opened; or else it is a new one.
+    /// Whether an archive of layout 1 is migrated as it is opened; or else it is a new one.
     carries_over: bool,
     /// What is asked.
     asked: &'a [Row],

@@ -38,7 +38,7 @@ PutsReply (says.Refused refusal) old new answer = answer ≡ Err (desk_stop refu
 -- to a deposit no other reply comes
 PutsReply reply old new answer = answer ≡ Err (Job Unavailable)
 
--- the answer as the streams of the job see it: what the archive refuses comes of no stream, no more than want of memory does
+-- the answer as the streams of the job see it: what the archive refuses comes of no stream, and neither does out of memory
 abbrev pub by_streams : {X : Type 0} → Result X ArchiveStop → Result X Stop
 by_streams (Ok x) = Ok x
 by_streams (Err (Job stop)) = Err stop

@@ -23,7 +23,7 @@ use Rattle.life_pages.specs.Archive.{StoreAnswers, AnswersFirmly, ByArchive, IsL
 
 -- ---- connections
 
--- One connection that was served: all that it sent, where that is told; the first messages of it, which were answered; what was put of their replies,
+-- One connection that was served: all that it sent, if that is known; the first messages of it, which were answered; what was put of their replies,
 -- and the rest of them; and whether it was served to its end: then all its messages were answered, and nothing is left of the replies.
 pub record Exchange : Type 0 where
   pub sent : Option (List ℕ)
@@ -44,7 +44,7 @@ abbrev pub replies_of : List Exchange → List ℕ
 replies_of [] = []
 replies_of (e ∷ es) = (e.put ++ e.rest) ++ replies_of es
 
--- What is told of connections: what each of those to come will send, what was put to each that was served, and how many were not served to their end.
+-- What is known of connections: what each of those to come will send, what was put to each that was served, and how many were not served to their end.
 pub record Traffic : Type 0 where
   pub to_come : Option (List (List ℕ))
   pub put : Option (List (List ℕ))
@@ -54,13 +54,13 @@ pub record Traffic : Type 0 where
 abbrev pub untold : ℕ → Traffic
 untold n = record { to_come = None; put = None; failures = n }
 
--- where it is told what they send, the next sends this; or none came, and nothing was sent
+-- if it is known what they send, the next sends this; or none came, and nothing was sent
 abbrev pub ComesNext : Option (List (List ℕ)) → Option (List (List ℕ)) → Exchange → Type 0
 ComesNext None new e = ⊤
 ComesNext (Some old) None e = ⊥
 ComesNext (Some old) (Some new) e = (sent : List ℕ) × (e.sent ≡ Some sent) × ((old ≡ sent ∷ new) ⊎ ((sent ≡ []) × (e.ended ≡ false) × (new ≡ old)))
 
--- where it is told what was put to each, this was put to one more
+-- if it is known what was put to each, this was put to one more
 abbrev pub TellsOne : Option (List (List ℕ)) → Option (List (List ℕ)) → List ℕ → Type 0
 TellsOne None new put = ⊤
 TellsOne (Some old) None put = ⊥
@@ -178,7 +178,7 @@ SessionsCompose {D} g =
 abbrev pub LeavesAfter : {D : Type 0} (g : disk.Ghosts D) {files : Files D} {capacity count : ℕ} {x y : Traffic} {left : Result (Files D) (Files D)} → IsSession g files capacity count x y left → Archive → Type 0
 LeavesAfter g {capacity = capacity} {left = left} it A = Leaves g (under capacity A) (messages_of it.exchanges) (replies_of it.exchanges) left
 
--- how an archive goes on after a session that began with A, by the answer of the session
+-- how an archive develops after a session that began with A, by the answer of the session
 abbrev pub GoesOn : {X : Type 0} → Archive → List Message → List ℕ → (Archive → Type 0) → Result X X → Type 0
 GoesOn A ms bytes Next (Ok mid) = (B : Archive) × Runs ms bytes A B × Next B
 GoesOn A ms bytes Next (Err mid) = ∥ IsLeftOf A ms bytes Next ∥₁

@@ -81,7 +81,7 @@ fn put_decimal<O: Outlet>(output: &mut O, n: u64) -> Result<(), Failed>
     put_all(output, Buffer::new().format(n).as_bytes())
 }
 
-/// Puts the line of a deposit. It takes no growth.
+/// Puts the line of a deposit. It allocates nothing.
 fn put_number<O: Outlet>(output: &mut O, id: u64) -> Result<(), Failed>
     ensures all { OnOk result (Gains (O.already output.old) (O.already output.new) (deposit_line id)) }
     ensures some { OnErr result (GainsSome (O.already output.old) (O.already output.new) (deposit_line id)) }

@@ -42,7 +42,7 @@ CensusesStay = (A B : Archive) (member token : List ℕ) (deposit generation lim
     → IsLater (after A (ask.Census member token deposit generation limit)) B
     → numbered B.censuses n ≡ Some (record { member = member; token = token; deposit = deposit; generation = generation; limit = limit })
 
--- A deposit that was answered by a number, and comes again, then or later, with a file of the same content, is answered by that
+-- A deposit that was answered by a number, and is sent again, then or later, with a file of the same content, is answered by that
 -- number and changes nothing.
 abbrev pub DepositsActOnce : Type 0
 DepositsActOnce = (A B : Archive) (member token file again : List ℕ) (n : ℕ) → IsReply A (ask.Deposit member token file) (says.Deposited n)

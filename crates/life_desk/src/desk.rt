@@ -26,15 +26,15 @@ use crate::content::same_contents;
 use crate::headline::law_of_the_archive;
 use crate::judging::judge;
 use crate::looking::{
-    add_census, add_deposit, counted_census, counts_of, deposit_of, deposits_after, find_census,
-    find_deposit, has_census_room, has_room,
+    add_census, add_deposit, counted_census, counts_of, deposit_of, deposits_after, file_of,
+    find_census, find_deposit, has_census_room, has_room,
 };
 use crate::refusal::Refusal;
 use crate::request::{Judged, Reply, Request, Shown};
-use life_census::{Tally, csv, laws_of_tallies, steady, tally};
+use life_census::{Tally, csv, laws_of_tallies, tally_and_steady};
 use life_code::{CodeFault, Kind, PERIOD_LIMIT, code_of_kind, kind, open_code};
 use life_core::{Fault, GENERATION_LIMIT, Pattern, Rule, generation};
-use life_rle::{Record, RleFault, Text, into_plain, read, write};
+use life_rle::{RleFault, Text, into_plain, read, write};
 use life_store::{Archive, Census, Deposit, FoundCensus, FoundDeposit, Unavailable};
 use sqlite::{Alter, MemStore};
 use std::alloc::Global;
@@ -125,13 +125,6 @@ fn deposit<S: Alter>(
     }
 }
 
-/// The reply with the file of a record.
-fn file_of(alloc: Global, content: &Record) -> Result<Reply, Unavailable>
-    ensures { IfOk result (λ r. r ≡ says.File (writer.text content.now)) }
-{
-    Ok(Reply::File(Bytes::of(write(alloc, content)?)))
-}
-
 /// Answers with the file of a deposit.
 fn show<S: Alter>(archive: &mut Archive<S>, alloc: Global, id: u64) -> Result<Reply, Unavailable>
     ensures goes { IsTransition S.Store NoMore archive.old archive.new }
@@ -139,9 +132,9 @@ fn show<S: Alter>(archive: &mut Archive<S>, alloc: Global, id: u64) -> Result<Re
     ensures sure { OnOk result (IsSureIfClean S.Store archive.new) }
     ensures acts { Acts archive.old archive.new result (λ A r. r ≡ file_reply (numbered A.deposits id)) (λ A. A) }
 {
-    match deposit_of(archive, alloc, id)? {
+    match file_of(archive, alloc, id)? {
         None => Ok(Reply::Refused(Refusal::NoSuchDeposit)),
-        Some(deposit) => file_of(alloc, &deposit.content),
+        Some(file) => Ok(Reply::File(Bytes::of(file))),
     }
 }
 
@@ -168,7 +161,7 @@ fn file_at(alloc: Global, deposit: &Deposit, n: u32) -> Result<Reply, Unavailabl
     let rule = deposit.content.rule;
     let later = generation(alloc, &rule, &deposit.content.cells, n)?;
     let content = into_plain(alloc, rule, later);
-    file_of(alloc, &content)
+    Ok(Reply::File(Bytes::of(write(alloc, &content)?)))
 }
 
 /// Answers with the file of a generation of a deposit.
@@ -257,9 +250,7 @@ fn count(
     ensures ordered { IfOk result (λ p. HasOrder p.0) }
 {
     laws_of_tallies();
-    let tally = tally(alloc, rule, cells, limit)?;
-    let steady = steady(alloc, rule, cells, limit)?;
-    Ok((tally, steady))
+    Ok(tally_and_steady(alloc, rule, cells, limit)?)
 }
 
 /// The census of a deposit, counted, and whether the generation that it counts is steady.

@@ -173,7 +173,7 @@ fn judge_total(rule: Bytes, code: Bytes, limit: u64) -> Result<Judged, Refusal>
     }
 }
 
-/// The request with its words judged, in the order member, token, limits, rule. It takes no growth.
+/// The request with its words judged, in the order member, token, limits, rule. It allocates nothing.
 pub(crate) fn judge(request: Request) -> Result<Judged, Refusal>
     ensures value { result ≡ judged request }
     ensures within { IfOk result IsGood }

@@ -1,6 +1,7 @@
 //! What an archive tells, as the desk asks it.
 ghost use Rattle.std.specs.Prelude.{◌≡◌, ◌+◌, ◌++◌, ◌∷◌, [], Some, nat_lt, length, option_map, IfOk, IfSome, OnOk, OnErr};
 ghost use Rattle.life_rle.specs.Record.{IsInside};
+ghost use Rattle.life_rle.specs.Writer.{text};
 ghost use Rattle.life_store.specs.Kept.{numbered, deposit_by, listed_after, kept_census};
 ghost use Rattle.life_store.specs.Crash.{NoMore};
 ghost use Rattle.life_store.specs.Tables.{IsTransition, HasOrder, IsSureIfClean};
@@ -31,6 +32,20 @@ pub(crate) fn deposit_of<S: Alter>(
     ensures inside { IfOk result (λ o. IfSome o (λ d. IsInside 1024 d.content.cells)) }
 {
     archive.deposit_of(alloc, id)
+}
+
+/// The pattern file of the deposit of the number.
+pub(crate) fn file_of<S: Alter>(
+    archive: &mut Archive<S>,
+    alloc: Global,
+    id: u64,
+) -> Result<Option<Vec<u8>>, Unavailable>
+    ensures goes { IsTransition S.Store NoMore archive.old archive.new }
+    ensures sure { OnOk result (IsSureIfClean S.Store archive.new) }
+    ensures same { MeansTheSame archive.old archive.new }
+    ensures value { ForAllMeant archive.old archive.new (λ A. IfOk result (λ file. option_map (λ v. v.items) file ≡ option_map (λ d. text d.content) (numbered A.deposits id))) }
+{
+    archive.file_of(alloc, id)
 }
 
 /// The deposit under the member and the token.

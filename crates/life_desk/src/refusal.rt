@@ -32,7 +32,7 @@ pub enum Refusal {
 
 impl Refusal {
     ghost use Rattle.std.specs.Prelude.{◌≡◌};
-    ghost use Rattle.life_desk.specs.Refusals.{number_of, name_of, status_of};
+    ghost use Rattle.life_desk.specs.Refusals.{number_of, name_of};
 
     /// Its number.
     pub fn number(&self) -> u8
@@ -69,19 +69,6 @@ impl Refusal {
             Refusal::BadCode => "bad-code",
             Refusal::Full => "full",
             Refusal::Unavailable => "unavailable",
-        }
-    }
-
-    /// The HTTP status that it is answered with.
-    pub fn status(&self) -> u16
-        ensures { result ≡ status_of self.now }
-    {
-        match self {
-            Refusal::NoSuchDeposit | Refusal::NoSuchCensus => 404,
-            Refusal::BadMember | Refusal::BadToken | Refusal::OutOfLimit => 400,
-            Refusal::TokenReused | Refusal::Full => 409,
-            Refusal::BadPattern(_) | Refusal::BadRule | Refusal::BadCode => 422,
-            Refusal::Unavailable => 503,
         }
     }
 }

@@ -1,4 +1,4 @@
--- Words of the code alone: what stands in the tables while they are carried over, and while flags are added, census by census.
+-- Words of the code alone: what stands in the tables while they are migrated, and while flags are added, census by census.
 use Rattle.std.specs.Prelude.{◌≡◌, ℕ, List, map, take, IsTrue}
 use Rattle.std.specs.List.{AllByRecursion}
 use Rattle.sqlite.specs.Effect.{Database}

@@ -4,6 +4,7 @@ ghost use Rattle.std.specs.Prelude.{◌≡◌, ◌+◌, ◌++◌, ◌∷◌, [],
 ghost use Rattle.sqlite_trees.specs.Tree.{Trees};
 ghost use Rattle.sqlite.specs.Held.{state};
 ghost use Rattle.life_rle.specs.Record.{IsInside};
+ghost use Rattle.life_rle.specs.Writer.{text};
 ghost use Rattle.life_store.specs.Kept.{Kept, numbered, deposit_by, listed_after, kept_census, census_by, total_of};
 ghost use Rattle.life_store.specs.Crash.{NoMore};
 ghost use Rattle.life_store.specs.Tables.{tables_of, IsTransition, IsSureIfClean, HoldsTheSame, ForAllHeld, HasOrder, AddsDeposit, AddsCensus, HoldChanged, TreesHold, Holds};
@@ -11,7 +12,7 @@ ghost use Rattle.life_store.specs.Tables.{tables_of, IsTransition, IsSureIfClean
 use crate::fault::Unavailable;
 use crate::kept::{Census, Deposit, FoundCensus, FoundDeposit, KeptCensus, Listing};
 use crate::reading::{
-    all_lines, all_rows, count_in, first_census, first_deposit, first_flag, total_in,
+    all_lines, all_rows, count_in, first_census, first_deposit, first_flag, first_text, total_in,
 };
 use crate::{censuses, deposits, flags};
 use life_census::{Rows, Tally};
@@ -110,6 +111,23 @@ impl<S: Alter> Archive<S> {
             Some(found) => Ok(Some(found.deposit)),
             None => Ok(None),
         }
+    }
+
+    /// The pattern file of the deposit of the number, or none: the canonical text that is stored. It is compared with what is
+    /// written of the record that it is read as, and given as it is.
+    pub fn file_of(&mut self, alloc: Global, id: u64) -> Result<Option<Vec<u8>>, Unavailable>
+        ensures goes { IsTransition S.Store NoMore self.old self.new }
+        ensures sure { OnOk result (IsSureIfClean S.Store self.new) }
+        ensures same { HoldsTheSame self.old.tables self.new.tables }
+        ensures value { ForAllHeld self.old.tables self.new.tables (λ k. IfOk result (λ file. option_map (λ v. v.items) file ≡ option_map (λ d. text d.content) (numbered k.deposits id))) }
+    {
+        let Ok(place) = i64::try_from(id) else {
+            // No row has such a number. The store is asked all the same: one that is shut answers nothing.
+            let _count = self.count_deposits()?;
+            return Ok(None);
+        };
+        let rows = deposits::show(&mut self.conn, place)?;
+        first_text(alloc, rows.as_slice())
     }
 
     /// The deposit of the member and the token, with its number, or none.

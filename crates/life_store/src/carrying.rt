@@ -1,4 +1,4 @@
-//! Archives of layout 1, which keep no flags, as they are carried over to layout 2.
+//! Archives of layout 1, which keep no flags, as they are migrated to layout 2.
 
 ghost use Rattle.std.specs.Prelude.{◌≡◌, ◌≤◌, ◌+◌, ◌↔◌, Bool, false, [], Some, length, option_map, IsTrue, IfOk, OnOk, OnErr};
 ghost use Rattle.std.specs.List.{AllByRecursion};

@@ -44,7 +44,7 @@ pub enum OpenFault {
     /// Some of an archive's tables stand, and `layout` is none of them or has not exactly one row: of version 2, or where
     /// there is no table of flags, of version 1.
     NotOurs = 2,
-    /// The store refused, or a growth did, or the files hold no database; or an archive of layout 1 has a row that no
+    /// The store refused, or an allocation did, or the files hold no database; or an archive of layout 1 has a row that no
     /// archive writes.
     Unavailable = 3,
 }

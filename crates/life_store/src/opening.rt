@@ -1,5 +1,5 @@
 //! Archives as they are opened and closed. In a database in which none of the tables stands they are made, and the tables
-//! of layout 1 are carried over.
+//! of layout 1 are migrated.
 
 ghost use Rattle.std.specs.Prelude.{◌≡◌, ◌≢◌, ◌↔◌, ◌≤◌, Ok, Err, false, List, [], IsTrue, IfOk, IfErr, OnOk};
 ghost use Rattle.sqlite_value.specs.declared.value.Value.{Value};
@@ -401,7 +401,7 @@ fn remove_unmade<D: Disk + Drop>(rt: &HostRuntime, unmade: Option<String>, files
 
 impl<T: Start> Archive<FileStore<FileFrom<T>>> {
     /// The archive in the file of the path, and in the log beside it; where they hold none of its tables, a new one. An
-    /// archive of layout 1 is carried over, as `open_files` does it. `start` says what the two files are taken to hold:
+    /// archive of layout 1 is migrated, as `open_files` does it. `start` says what the two files are taken to hold:
     /// `sqlite::Unknown` says nothing of files that are not empty. A refused opening drops the files, and where it made a
     /// log that has no commit, beside a file that was there, it removes it.
     pub fn open_path(

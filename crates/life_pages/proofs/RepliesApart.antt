@@ -10,11 +10,10 @@ use Rattle.life_desk.specs.declared.refusal.Refusal.{Refusal}
 use Rattle.life_desk.specs.declared.refusal.Refusal.TheVariants.{NoSuchDeposit, NoSuchCensus, BadMember, BadToken, TokenReused, OutOfLimit, BadPattern, BadRule, BadCode, Full, Unavailable}
 use Rattle.life_desk.specs.declared.request.Reply.{Reply}
 use Rattle.life_desk.specs.declared.request.Reply.TheVariants as replies
-use Rattle.life_desk.specs.Refusals.{status_of}
 use Rattle.life_pages.specs.declared.asked.PageRefusal.{PageRefusal}
 use Rattle.life_pages.specs.declared.asked.PageRefusal.TheVariants.{NoSuchPage, BadMethod, BadMessage}
 use Rattle.life_pages.specs.Asked.{refusal_name, refusal_number}
-use Rattle.life_pages.specs.Reply.{phrase, refusal_body, reply_bytes, page_bytes, reply_status, type_of, reply_body, page_status, json}
+use Rattle.life_pages.specs.Reply.{phrase, refusal_body, reply_bytes, page_bytes, refusal_status, reply_status, type_of, reply_body, page_status, json}
 use Rattle.life_pages.specs.Laws.{AreReplyBytes, RepliesAreReadInOneWay}
 
 -- ---- the first CR
@@ -127,7 +126,7 @@ apart a b x y one two same =
 abbrev page_body : PageRefusal → List ℕ
 page_body refusal = refusal_body (refusal_name refusal) (refusal_number refusal) []
 
-refusal_line : (refusal : Refusal) → is_free (first_line (status_of refusal)) ≡ true
+refusal_line : (refusal : Refusal) → is_free (first_line (refusal_status refusal)) ≡ true
 unfolding phrase
 refusal_line NoSuchDeposit = refl
 refusal_line NoSuchCensus = refl

@@ -171,7 +171,7 @@ module _ {K : Type 0} where
   sorted_rows [] = true
   sorted_rows ((t, k) ∷ rs) = all_after t rs && sorted_rows rs
 
-  -- each row goes on with a slash or ends
+  -- each row continues with a slash or ends
   abbrev slashed_or_end : RowsOf K → Bool
   slashed_or_end [] = true
   slashed_or_end ((t, k) ∷ rs) = slash_or_end t && slashed_or_end rs

@@ -21,7 +21,7 @@ abbrev pub first_of : List (List ℕ) → Option (List ℕ)
 first_of [] = None
 first_of (v ∷ vs) = Some v
 
--- the greatest number that is told from others
+-- the greatest number that is distinguished from others
 abbrev pub most : ℕ
 most = 2 ^ 64 - 1
 

@@ -97,7 +97,7 @@ Grows old new = (more : List ℕ) × Gains old new more
 abbrev pub LosesAtLeast : ℕ → Option (List ℕ) → Option (List ℕ) → Type 0
 LosesAtLeast least old new = (bytes : List ℕ) × (least ≤ length bytes) × Loses old new bytes
 
--- a take that failed is told at once, and nothing else is
+-- a take that failed is answered at once, and nothing else is
 abbrev pub ReportsTakeFailures : ℕ → ℕ → Result (Unit {0}) IoFault → Type 0
 ReportsTakeFailures old new (Ok u) = new ≡ old
 ReportsTakeFailures old new (Err Read) = new ≡ raised old

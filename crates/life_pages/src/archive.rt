@@ -75,7 +75,7 @@ pub fn serve<S: Alter, I: Inlet, O: Outlet>(
     // At most 1,048,576 takes are made, and at most 4,096 times as many bytes are taken.
     ensures takes { I.takes input.new ≤ I.takes input.old + TAKES }
     ensures most { LosesUpTo (TAKES * MOST_TAKEN) (I.to_come input.old) (I.to_come input.new) }
-    // A failed take is told at once, a failed put is told, and nothing else is.
+    // A failed take is answered at once, a failed put is answered, and nothing else is.
     ensures heard { ReportsTakeFailures (I.failures input.old) (I.failures input.new) result }
     ensures puts { ReportsPutFailures (O.failures output.old) (O.failures output.new) (O.last_failed output.new) result }
     ensures read { result ≡ Err IoFault.Read → FailedBetween (I.failures input.old) (I.failures input.new) }

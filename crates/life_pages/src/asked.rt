@@ -242,7 +242,7 @@ fn request_of(
 pub(crate) enum Unasked {
     /// The message makes no request.
     Message(PageRefusal),
-    /// The request is refused: for its own words, or for want of memory to copy them.
+    /// The request is refused: for its own words, or since there is no memory to copy them.
     Request(Refusal),
 }
 

@@ -39,7 +39,7 @@ pub enum IoFault {
     Write = 2,
     /// A take past the limit would be needed.
     TooManyReads = 3,
-    /// A growth was refused before the first take.
+    /// An allocation was refused before the first take.
     Memory = 4,
 }
 
@@ -59,7 +59,7 @@ impl IoFault {
 pub(crate) enum Step {
     /// It has not come whole.
     Wants,
-    /// It was answered, and the stream goes on.
+    /// It was answered, and the stream continues.
     Goes,
     /// It was answered, and ends the stream.
     Ends,
@@ -403,7 +403,7 @@ pub(crate) fn serve_desk<I: Inlet, O: Outlet, D: Desk>(
     // At most 1,048,576 takes are made, and at most 4,096 times as many bytes are taken.
     ensures takes { I.takes input.new ≤ I.takes input.old + TAKES }
     ensures most { LosesUpTo (TAKES * MOST_TAKEN) (I.to_come input.old) (I.to_come input.new) }
-    // A failed take is told at once, a failed put is told, and nothing else is.
+    // A failed take is answered at once, a failed put is answered, and nothing else is.
     ensures heard { ReportsTakeFailures (I.failures input.old) (I.failures input.new) result }
     ensures puts { ReportsPutFailures (O.failures output.old) (O.failures output.new) (O.last_failed output.new) result }
     ensures read { result ≡ Err IoFault.Read → FailedBetween (I.failures input.old) (I.failures input.new) }

@@ -35,7 +35,7 @@ const NAMES: [(&str, Symmetry); 7] = [
     ("D2_+2", Symmetry::D2Plus2),
 ];
 
-/// Words, the program's name first, and the job that they name; none where they are bad words.
+/// Words, the program's name first, and the job that they name; none if they are a usage error.
 const WORDS: [(&[&str], Option<Job<'static>>); 18] = [
     (&["life-haul"], None),
     (&["life-haul", "abc", "1", "1000", "2048"], None),
@@ -135,7 +135,7 @@ const WORDS: [(&[&str], Option<Job<'static>>); 18] = [
     ),
 ];
 
-/// Whether the words name the job, or are bad words where there is none.
+/// Whether the words name the job, or are a usage error if there is none.
 fn name(alloc: Global, words: &'static [&'static str], job: Option<Job<'static>>) -> bool {
     match read_words(alloc, words) {
         Ok(named) => job == Some(named),

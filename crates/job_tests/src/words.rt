@@ -1,11 +1,11 @@
 //! Words of the command line, and the jobs that they name.
 
-use life_words::{Job, WordFault, read_words};
+use life_words::{Job, WordFault, explanation, read_words, refusal_names};
 use std::alloc::Global;
 use std::test::Fail;
 
-/// Words behind the program's name, and the job that they name; none where they are bad words.
-const WORDS: [(&[&str], Option<Job<'static>>); 16] = [
+/// Words behind the program's name, and the job that they name; none if they are a usage error.
+const WORDS: [(&[&str], Option<Job<'static>>); 20] = [
     (&[], None),
     (&["generation"], None),
     (&["generation", "x"], None),
@@ -18,6 +18,9 @@ const WORDS: [(&[&str], Option<Job<'static>>); 16] = [
         None,
     ),
     (&["deposit", "ann", "t1"], None),
+    (&["explain"], None),
+    (&["explain", "no-ned"], None),
+    (&["explain", "no-end", "full"], None),
     (&["generation", "2049"], Some(Job::Generation(2049))),
     (
         &["generation", "18446744073709551615"],
@@ -57,6 +60,7 @@ const WORDS: [(&[&str], Option<Job<'static>>); 16] = [
             connections: 3,
         }),
     ),
+    (&["explain", "no-end"], Some(Job::Explain("no-end"))),
 ];
 
 /// The words with the program's name before them.
@@ -67,7 +71,7 @@ fn with_name(alloc: Global, words: &'static [&'static str]) -> Option<Vec<&'stat
     Some(all)
 }
 
-/// Whether the words name the job, or are bad words where there is none.
+/// Whether the words name the job, or are a usage error if there is none.
 fn name(alloc: Global, words: &'static [&'static str], job: Option<Job<'static>>) -> bool {
     let Some(all) = with_name(alloc, words) else {
         return false;
@@ -92,5 +96,16 @@ fn other(alloc: Global) -> Option<usize> {
 #[test]
 fn words_name_jobs(rt: HostRuntime) -> Result<(), Fail> {
     assert_eq!(rt; other(rt.alloc()), None);
+    Ok(())
+}
+
+#[test]
+fn each_name_is_explained(rt: HostRuntime) -> Result<(), Fail> {
+    let names = refusal_names(rt.alloc())?;
+    assert_eq!(rt; names.len(), 33);
+    for name in &names {
+        assert!(rt; explanation(name).is_some(), "{name}");
+    }
+    assert!(rt; explanation("Full").is_none());
     Ok(())
 }

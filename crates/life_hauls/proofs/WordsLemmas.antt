@@ -21,7 +21,7 @@ is_haul_free : is_simple_and_free haul_app ≡ true
 unfolding clap_on_literals
 is_haul_free = refl
 
--- where an error has one of the kinds and is not want of memory, there is a kind
+-- where an error has one of the kinds and is not out of memory, there is a kind
 faulty : (kinds : Kinds) (e : Error) (job : Option Asked) → HasKind kinds e → kind_of e ≢ OutOfMemory → unless_fault kinds job ≡ None
 faulty [] e job (inl memory) other = absurd (other memory)
 faulty [] e job (inr among) other = absurd among

@@ -101,7 +101,7 @@ unless_fault (first ∷ others) job = None
 unfoldable pub words_job : List Text → Option Asked
 words_job words = unless_fault (fault_of haul_app words) (job_of (matches_of haul_app words) (subcommand_of haul_app words))
 
--- the answer to words: their job, or bad words where they name none; want of memory may come with any words
+-- the answer to arguments: their job, or a usage error if they name none; out of memory may come with any arguments
 abbrev pub Answers : List Text → Result Job WordFault → Type 0
 Answers words (Ok job) = words_job words ≡ Some (asked_by job)
 Answers words (Err (BadWords error)) = words_job words ≡ None

@@ -52,7 +52,7 @@ fn codes_of_soup<A: Allocator + Copy>(
 }
 
 /// The haul over `count` soups of a symmetry and a root text, from the number `first` on: how many clusters of their generation `n` have each code under
-/// the rule and the limit of the period, and the number of the first soup that has one. After each soup the watch is told how many there are.
+/// the rule and the limit of the period, and the number of the first soup that has one. After each soup the watch hears how many there are.
 pub fn haul<A: Allocator + Copy, W: Watch>(
     alloc: A,
     symmetry: Symmetry,

@@ -137,7 +137,7 @@ fn table<W: Watch>(
     csv(alloc, symmetry, root, rule, n, limit, first, &haul)
 }
 
-/// Puts the table of the haul of the words. The numbers and the root are judged before the rule. The watch is told how far the haul is.
+/// Puts the table of the haul of the words. The numbers and the root are judged before the rule. The watch hears how far the haul is.
 pub fn run_haul<O: Outlet, W: Watch>(
     alloc: Global,
     words: HaulWords<'_>,

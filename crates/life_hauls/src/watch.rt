@@ -1,4 +1,4 @@
-//! Who is told how far a haul is.
+//! Who hears how far a haul is.
 
 /// What a haul tells how far it is. Nothing that the haul answers or puts depends on it.
 pub trait Watch {
@@ -6,7 +6,7 @@ pub trait Watch {
     fn counted(&mut self, done: u64, count: u64);
 }
 
-/// Nobody, who is told nothing.
+/// Nobody, who hears nothing.
 #[derive(Clone, Copy, Debug)]
 pub struct Unwatched;
 

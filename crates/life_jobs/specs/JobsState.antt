@@ -28,7 +28,7 @@ IsPrint (Generation n) = n ≤ GENERATION_LIMIT
 IsPrint (Kind limit) = IsPeriodLimit limit
 IsPrint (Census n limit) = AreCensusNumbers n limit
 
--- the stop for a code that is not opened; want of memory says nothing of the code
+-- the stop for a code that is not opened; out of memory says nothing about the code
 abbrev pub code_stop : CodeFault → Stop
 code_stop code_faults.Memory = Unavailable
 code_stop fault = BadCode fault

@@ -43,7 +43,7 @@ pub record TakesFile {X : Type 0} (told_old told_new : Option (List ℕ)) (faile
 
 -- ---- the stream that a text is put into
 
--- the text was put, or a beginning of it before a put that failed; want of memory says nothing of it
+-- the text was put, or a beginning of it before a put that failed; out of memory says nothing about it
 abbrev pub PutsText : Option (List ℕ) → Option (List ℕ) → List ℕ → Result (Unit {0}) Stop → Type 0
 PutsText old new bytes (Ok done) = Gains old new bytes
 PutsText old new bytes (Err Unwritable) = GainsSome old new bytes

@@ -20,14 +20,18 @@ use life_core::{Fault, GENERATION_LIMIT, Pattern, Rule, generation};
 use life_rle::{Inlet, Outlet, Record, WriteFault, into_plain, write_to};
 use std::alloc::{AllocError, Global};
 
-/// Generation `n` of a record, without its texts and in normal form.
-fn later(alloc: Global, record: &Record, n: u32) -> Result<Record, Fault>
+/// Generation `n` of a record, without its texts and in normal form. Generation 0 is in the memory that the record has.
+fn later(alloc: Global, record: Record, n: u32) -> Result<Record, Fault>
     requires few { n ≤ GENERATION_LIMIT }
-    requires inside { IsInside 1024 «record».now.cells }
-    ensures { IfOk result (λ r. r ≡ later n «record».now) }
+    requires inside { IsInside 1024 «record».cells }
+    ensures { IfOk result (λ r. r ≡ later n «record») }
 {
-    let cells = generation(alloc, &record.rule, &record.cells, n)?;
-    Ok(into_plain(alloc, record.rule, cells))
+    let Record { rule, cells, .. } = record;
+    if n == 0 {
+        return Ok(into_plain(alloc, rule, cells));
+    }
+    let cells = generation(alloc, &rule, &cells, n)?;
+    Ok(into_plain(alloc, rule, cells))
 }
 
 /// The words of a kind with a code.
@@ -147,12 +151,12 @@ fn put_made<O: Outlet>(output: &mut O, made: Result<Vec<u8>, Fault>) -> Result<(
 fn put_for<O: Outlet>(
     alloc: Global,
     print: Print,
-    record: &Record,
+    record: Record,
     output: &mut O,
 ) -> Result<(), Stop>
     requires numbers { IsPrint print }
-    requires inside { IsInside 1024 «record».now.cells }
-    ensures puts { PutsText (O.already output.old) (O.already output.new) (printed print «record».now) result }
+    requires inside { IsInside 1024 «record».cells }
+    ensures puts { PutsText (O.already output.old) (O.already output.new) (printed print «record») result }
     ensures once { PutsOnce output.old output.new (O.failures output.old) (O.failures output.new) (O.last_failed output.new) result }
 {
     match print {
@@ -160,8 +164,8 @@ fn put_for<O: Outlet>(
             Ok(later) => put_record(alloc, &later, output),
             Err(_) => Err(Stop::Unavailable),
         },
-        Print::Kind(limit) => put_made(output, kind_of_record(alloc, record, limit)),
-        Print::Census { n, limit } => { put_made(output, census_table(alloc, record, n, limit)) }
+        Print::Kind(limit) => put_made(output, kind_of_record(alloc, &record, limit)),
+        Print::Census { n, limit } => { put_made(output, census_table(alloc, &record, n, limit)) }
     }
 }
 
@@ -180,7 +184,7 @@ fn print_file<I: Inlet, O: Outlet>(
     ensures once { PutsOnce output.old output.new (O.failures output.old) (O.failures output.new) (O.last_failed output.new) result }
 {
     match read_input(alloc, input) {
-        Ok(record) => put_for(alloc, print, &record, output),
+        Ok(record) => put_for(alloc, print, record, output),
         Err(stop) => Err(stop),
     }
 }

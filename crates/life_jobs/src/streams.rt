@@ -24,6 +24,7 @@ pub fn read_input<I: Inlet>(alloc: Global, input: &mut I) -> Result<Record, Stop
 
 /// Puts a text whole.
 pub fn put_text<O: Outlet>(output: &mut O, text: &[u8]) -> Result<(), Stop>
+    ensures fails { IfErr result (λ stop. stop ≡ Stop.Unwritable) }
     ensures puts { PutsText (O.already output.old) (O.already output.new) text.now result }
     ensures once { PutsOnce output.old output.new (O.failures output.old) (O.failures output.new) (O.last_failed output.new) result }
 {

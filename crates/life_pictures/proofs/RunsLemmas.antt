@@ -80,7 +80,7 @@ pub none_yet : (column row : ℕ) (cells : List (ℕ × ℕ)) → path_from (run
 unfolding run
 none_yet column row cells = refl
 
--- the next cell goes on with the run
+-- the next cell continues the run
 longer : (column row n : ℕ) (cells : List (ℕ × ℕ)) → run column row (n + 1) ++ cells ≡ run column row n ++ (column + n, row) ∷ cells
 longer column row n cells = ap (λ front. front ++ cells) (run_more column row n) ∙ append_assoc (run column row n) ((column + n, row) ∷ []) cells
 

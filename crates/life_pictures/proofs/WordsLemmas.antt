@@ -21,7 +21,7 @@ is_draw_free : is_simple_and_free draw ≡ true
 unfolding clap_on_literals
 is_draw_free = refl
 
--- where an error has one of the kinds and is not want of memory, there is a kind
+-- where an error has one of the kinds and is not out of memory, there is a kind
 faulty : (kinds : Kinds) (e : Error) (picture : Option Picture) → HasKind kinds e → kind_of e ≢ OutOfMemory → unless_fault kinds picture ≡ None
 faulty [] e picture (inl memory) other = absurd (other memory)
 faulty [] e picture (inr among) other = absurd among

@@ -57,7 +57,7 @@ unless_fault (first ∷ others) picture = None
 unfoldable pub words_picture : List Text → Option Picture
 words_picture words = unless_fault (fault_of draw words) (picture_of (subcommand_of draw words))
 
--- the answer to words: their picture, or bad words where they name none; want of memory may come with any words
+-- the answer to arguments: their picture, or a usage error if they name none; out of memory may come with any arguments
 abbrev pub Answers : List Text → Result Picture WordFault → Type 0
 Answers words (Ok picture) = words_picture words ≡ Some picture
 Answers words (Err (BadWords error)) = words_picture words ≡ None

@@ -1,13 +1,15 @@
 -- What the job that the arguments of a program name does: which text is put, and which line is printed if it stops. What the arguments name is said by
 -- `Answers` of life_words.
-use Rattle.std.specs.Prelude.{◌≡◌, ◌↔◌, ◌<◌, ◌≤◌, ℕ, List, Option, None, Some, Result, Ok, Err}
-use Rattle.life_words.specs.Words.{Asked, AsksGeneration, AsksKind, AsksObject, AsksCensus, AsksDeposit, AsksServe}
+use Rattle.std.specs.Prelude.{◌≡◌, ◌↔◌, ◌<◌, ◌≤◌, ℕ, List, Option, None, Some, Result, Ok, Err, IfErr}
+use Rattle.life_words.specs.Words.{Asked, AsksGeneration, AsksKind, AsksObject, AsksCensus, AsksDeposit, AsksServe, AsksExplain}
 use Rattle.life_jobs.specs.declared.stop.Stop.{Stop}
-use Rattle.life_jobs.specs.declared.stop.Stop.TheVariants.{OutOfLimit}
+use Rattle.life_jobs.specs.declared.stop.Stop.TheVariants.{OutOfLimit, Unwritable}
 use Rattle.life_jobs.specs.Stop.{line_of}
+use Rattle.life_words.specs.Explain.{explanation_text}
 use Rattle.life_jobs.specs.Jobs.{generation_text, kind_text, census_text, IsPeriodLimit, AreCensusNumbers, PutsTold, PutsObject}
+use Rattle.life_jobs.specs.Streams.{PutsText}
 
--- a job over a file or a code: its numbers are judged first, and then it puts its text or says why there is none
+-- a job over a file or a code, or of a name: its numbers are judged first, and then it puts its text or says why there is none
 abbrev pub DoesFileJob : Asked → Option (List ℕ) → Option (List ℕ) → Option (List ℕ) → Result (Unit {0}) Stop → Type 0
 DoesFileJob (AsksGeneration n) told old new answer = ((answer ≡ Err OutOfLimit) ↔ (2048 < n)) × (n ≤ 2048 → PutsTold (generation_text n) told old new answer)
 DoesFileJob (AsksKind limit) told old new answer =
@@ -15,6 +17,8 @@ DoesFileJob (AsksKind limit) told old new answer =
 DoesFileJob (AsksCensus n limit) told old new answer =
     ((answer ≡ Err OutOfLimit) ↔ ¬ AreCensusNumbers n limit) × (AreCensusNumbers n limit → PutsTold (census_text n limit) told old new answer)
 DoesFileJob (AsksObject rule code limit) told old new answer = PutsObject rule code limit old new answer
+-- an explanation needs no memory, so it stops only if a put fails
+DoesFileJob (AsksExplain name) told old new answer = PutsText old new (explanation_text name) answer × IfErr answer (λ stop. stop ≡ Unwritable)
 -- no other is a job over a file
 DoesFileJob asked told old new answer = Unit {0}
 

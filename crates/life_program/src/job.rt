@@ -5,6 +5,7 @@ ghost use Rattle.life_jobs.specs.declared.stop.Stop.{Stop as StopValue};
 ghost use Rattle.life_words.specs.Words.{asked_by};
 ghost use Rattle.life_program.specs.Job.{DoesFileJob, DoesJob, line_after};
 
+use crate::explain::run_explain;
 use life_jobs::{Stop, run_census, run_generation, run_kind, run_object};
 use life_rle::{Inlet, Outlet};
 use life_words::Job;
@@ -46,7 +47,7 @@ fn or_line(done: Result<(), Stop>) -> Result<(), &'static str>
     }
 }
 
-/// Does a job over a file or a code.
+/// Does a job over a file or a code, or explains a refusal.
 fn do_file_job<I: Inlet, O: Outlet>(
     alloc: Global,
     job: Job<'_>,
@@ -60,6 +61,7 @@ fn do_file_job<I: Inlet, O: Outlet>(
         Job::Kind(limit) => run_kind(alloc, limit, input, output),
         Job::Object { rule, code, limit } => run_object(alloc, rule, code, limit, output),
         Job::Census { n, limit } => run_census(alloc, n, limit, input, output),
+        Job::Explain(name) => run_explain(name, output),
         _ => Err(Stop::Unavailable),
     }
 }

@@ -61,7 +61,7 @@ is_life_free : is_simple_and_free life_app ≡ true
 unfolding clap_on_literals
 is_life_free = refl
 
--- where an error has one of the kinds and is not want of memory, there is a kind
+-- where an error has one of the kinds and is not out of memory, there is a kind
 faulty : (kinds : Kinds) (e : Error) (job : Option Asked) → HasKind kinds e → kind_of e ≢ OutOfMemory → unless_fault kinds job ≡ None
 faulty [] e job (inl memory) other = absurd (other memory)
 faulty [] e job (inr among) other = absurd among
@@ -83,14 +83,31 @@ answer_by : (words : List Text) (job : Option Job) (r : Result Job WordFault) �
 answer_by words None r named is = rw is named
 answer_by words (Some job) r named is = rw is named
 
+-- the job of the words, where `clap` gives matches
+job_by_matches : (app : App) (words : List Text) (m : ArgMatches) → app ≡ life_app → (is_simple_and_free app ≡ true → fault_of app words ≡ [])
+    → HasMatchesOf app words m → words_job words ≡ job_of (subcommand_rows_of m)
+job_by_matches app words m is kinds matches =
+    let none : fault_of life_app words ≡ [] = rw is at (kinds (ap is_simple_and_free is ∙ is_life_free)) in
+    let met : subcommand_rows_of m ≡ subcommand_of life_app words = rw is at (matches (ap is_simple is ∙ is_life_simple)).1 in
+    words_job-met words (subcommand_rows_of m) none met
+
 -- the answer, where `clap` gives matches
 pub answer_to_matches : (app : App) (words : List Text) (m : ArgMatches) (job : Option Job) (r : Result Job WordFault) → app ≡ life_app
     → (is_simple_and_free app ≡ true → fault_of app words ≡ []) → HasMatchesOf app words m
     → option_map asked_by job ≡ job_of (subcommand_rows_of m) → r ≡ ok_or job (BadWords None) → Answers words r
-answer_to_matches app words m job r is kinds matches named answers =
-    let none : fault_of life_app words ≡ [] = rw is at (kinds (ap is_simple_and_free is ∙ is_life_free)) in
-    let met : subcommand_rows_of m ≡ subcommand_of life_app words = rw is at (matches (ap is_simple is ∙ is_life_simple)).1 in
-    answer_by words job r (words_job-met words (subcommand_rows_of m) none met ∙ sym named) answers
+answer_to_matches app words m job r is kinds matches named answers = answer_by words job r (job_by_matches app words m is kinds matches ∙ sym named) answers
+
+-- any fault is an answer to words that name no job
+answer_by_fault : (words : List Text) (r : Result Job WordFault) (P : WordFault → Type 0) → words_job words ≡ None → IsErrAnd r P → Answers words r
+answer_by_fault words (Ok job) P none failed = absurd failed
+answer_by_fault words (Err Memory) P none failed = tt
+answer_by_fault words (Err (BadWords error)) P none failed = none
+
+-- the answer, where the matches that `clap` gives name no job
+pub answer_to_no_job : (app : App) (words : List Text) (m : ArgMatches) (r : Result Job WordFault) (P : WordFault → Type 0) → app ≡ life_app
+    → (is_simple_and_free app ≡ true → fault_of app words ≡ []) → HasMatchesOf app words m
+    → None ≡ job_of (subcommand_rows_of m) → IsErrAnd r P → Answers words r
+answer_to_no_job app words m r P is kinds matches named failed = answer_by_fault words r P (job_by_matches app words m is kinds matches ∙ sym named) failed
 
 -- the answer, where `clap` gives an error
 pub answer_to_error : (app : App) (words : List Text) (e : Error) (r : Result Job WordFault) → app ≡ life_app

@@ -11,7 +11,7 @@ abbrev pub number_of : WordFault → ℕ
 number_of (BadWords error) = 1
 number_of Memory = 2
 
--- the fault that an error of `clap` becomes: it is kept, unless it is want of memory
+-- the fault that an error of `clap` becomes: it is kept, unless it is out of memory
 abbrev pub ComesFrom : Error → WordFault → Type 0
 ComesFrom error Memory = kind_of error ≡ OutOfMemory
 ComesFrom error (BadWords None) = ⊥

@@ -1,2 +1,3 @@
+pub mod Explain
 pub mod Fault
 pub mod Words

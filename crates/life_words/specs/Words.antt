@@ -9,8 +9,9 @@ use Rattle.clap.specs.Words.{fault_of, first_of, one_of, subcommand_of}
 use Rattle.clap.specs.Simple.{on_top}
 use Rattle.clap.specs.ValueTests.{is_unsigned_in}
 use Rattle.clap.specs.declared.builder.value_parser.ValueParser.TheVariants as vp
+use Rattle.life_words.specs.Explain.{is_refusal}
 use Rattle.life_words.specs.declared.words.Job.{Job}
-use Rattle.life_words.specs.declared.words.Job.TheVariants.{Generation, Kind, Object, Census, Deposit, Serve}
+use Rattle.life_words.specs.declared.words.Job.TheVariants.{Generation, Kind, Object, Census, Deposit, Serve, Explain}
 use Rattle.life_words.specs.declared.fault.WordFault.{WordFault}
 use Rattle.life_words.specs.declared.fault.WordFault.TheVariants.{BadWords, Memory}
 
@@ -60,9 +61,13 @@ deposit = with_rule (with_rule (with_rule (new_app (codes "deposit")) file_rule)
 abbrev pub serve : App
 serve = with_rule (with_rule (with_rule (new_app (codes "serve")) file_rule) (number_rule_in (codes "P") (codes "port") 65535)) (number_rule_in (codes "N") (codes "connections") 1000000)
 
+-- `explain NAME`
+abbrev pub explain : App
+explain = with_rule (new_app (codes "explain")) (text_rule (codes "NAME"))
+
 -- the subcommands, in the order in which help lists them
 abbrev pub subcommands : List App
-subcommands = generation ∷ kind ∷ object ∷ census ∷ deposit ∷ serve ∷ []
+subcommands = generation ∷ kind ∷ object ∷ census ∷ deposit ∷ serve ∷ explain ∷ []
 
 -- a command that has a version, which `--version` asks for
 abbrev pub with_version : App → App
@@ -86,6 +91,7 @@ pub data Asked : Type 0 where
   AsksCensus : (n limit : ℕ) → Asked
   AsksDeposit : (file member token : Text) → Asked
   AsksServe : (file : Text) (port connections : ℕ) → Asked
+  AsksExplain : (name : Text) → Asked
 
 -- what a job asks for
 abbrev pub asked_by : Job → Asked
@@ -95,6 +101,7 @@ asked_by (Object rule code limit) = AsksObject rule.now code.now limit
 asked_by (Census n limit) = AsksCensus n limit
 asked_by (Deposit file member token) = AsksDeposit file.now member.now token.now
 asked_by (Serve file port connections) = AsksServe file.now port connections
+asked_by (Explain name) = AsksExplain name.now
 
 -- the number that a text writes in decimal digits, before which a `+` may stand
 abbrev pub number_text : Text → Option ℕ
@@ -128,6 +135,11 @@ abbrev pub serve_of : Option Text → Option ℕ → Option ℕ → Option Asked
 serve_of (Some file) (Some port) (Some connections) = Some (AsksServe file port connections)
 serve_of file port connections = None
 
+-- the explanation of this word, if it is there and a refusal has this name
+abbrev pub explain_of : Option Text → Option Asked
+explain_of (Some name) = if is_refusal name then Some (AsksExplain name) else None
+explain_of None = None
+
 -- the job of the subcommand of this name with these matches
 abbrev pub job_named : Text → List Row → Option Asked
 job_named name rows =
@@ -137,6 +149,7 @@ job_named name rows =
     else if bytes_eq name (codes "census") then census_of (number_at (codes "N") rows) (number_at (codes "LIMIT") rows)
     else if bytes_eq name (codes "deposit") then deposit_of (text_at (codes "F") rows) (text_at (codes "MEMBER") rows) (text_at (codes "TOKEN") rows)
     else if bytes_eq name (codes "serve") then serve_of (text_at (codes "F") rows) (number_at (codes "P") rows) (number_at (codes "N") rows)
+    else if bytes_eq name (codes "explain") then explain_of (text_at (codes "NAME") rows)
     else None
 
 -- the job of the subcommand that was met, which comes with its matches
@@ -155,7 +168,7 @@ words_job words = unless_fault (fault_of life_app words) (job_of (subcommand_of 
 
 -- ---- the answer
 
--- the answer to words: their job, or bad words where they name none; want of memory may come with any words
+-- the answer to arguments: their job, or a usage error if they name none; out of memory may come with any arguments
 abbrev pub Answers : List Text → Result Job WordFault → Type 0
 Answers words (Ok job) = words_job words ≡ Some (asked_by job)
 Answers words (Err (BadWords error)) = words_job words ≡ None

@@ -11,12 +11,12 @@ use std::alloc::AllocError;
 pub enum WordFault {
     /// The words are not the command's, or ask for help or for the version. The error has the text for the user.
     BadWords(Option<Error>),
-    /// A growth was refused.
+    /// An allocation was refused.
     Memory,
 }
 
 impl WordFault {
-    /// The number of the fault: 1 for bad words, 2 for want of memory.
+    /// The number of the fault: 1 for a usage error, 2 for out of memory.
     pub fn number(&self) -> u8
         ensures { result ≡ number_of self.now }
     {

@@ -1,12 +1,14 @@
-//! The words of the command line of `life`, read by `clap`, and what the commands of all programs have in common.
+//! The words of the command line of `life`, read by `clap`, what the commands of all programs have in common, and what explains a refusal.
 #![tactic(auto)]
 
 mod commands;
+mod explain;
 mod fault;
 mod words;
 
 pub use commands::{
     VERSION, named_command, number_arg, program_command, text_arg, with_arg, with_command, words_of,
 };
+pub use explain::{explanation, refusal_names};
 pub use fault::WordFault;
 pub use words::{Job, life_command, number_in, read_words, text_in};

@@ -3,12 +3,13 @@ ghost use Rattle.std.specs.Prelude.{◌≡◌, codes, map, option_map, IfOk, fal
 ghost use Rattle.clap.specs.Simple.{App};
 ghost use Rattle.clap.specs.Words.{Rule, app_of, rule_of, rows_of, found_of, subcommand_rows_of, with_rule, with_subcommand};
 ghost use Rattle.clap.specs.declared.builder.command.Command.TheViews.{out-Command as fields_of};
-ghost use Rattle.life_words.specs.Words.{number_rule, number_rule_in, text_rule, file_rule, generation, kind, object, census, deposit, serve, life_alone, life_app, asked_by};
-ghost use Rattle.life_words.specs.Words.{AsksGeneration, AsksKind, number_at, text_at, object_of, census_of, deposit_of, serve_of, job_of, Answers};
+ghost use Rattle.life_words.specs.Words.{number_rule, number_rule_in, text_rule, file_rule, generation, kind, object, census, deposit, serve, explain, life_alone, life_app, asked_by};
+ghost use Rattle.life_words.specs.Words.{AsksGeneration, AsksKind, number_at, text_at, object_of, census_of, deposit_of, serve_of, explain_of, job_of, Answers};
 
 use crate::commands::{
     named_command, number_arg, program_command, text_arg, with_arg, with_command,
 };
+use crate::explain::{explanation, refusal_names};
 use crate::fault::WordFault;
 use clap::builder::ValueParser;
 use clap::{Arg, ArgMatches, Command};
@@ -55,8 +56,21 @@ Prints:  'listening on 127.0.0.1:P', and a line for each connection that ended e
 Refuses: not-ours, no-port, unavailable
 Example: life serve --db club.db --port 8080 --connections 100";
 
+const EXPLAIN_HELP: &str = "\
+Reads:   nothing
+Prints:  what NAME means and what to do: a line for each kind of refusal that has it, which are those
+         over HTTP, the faults of pattern files and of codes, and those of the programs and the gateway
+Names:   bad-code, bad-count, bad-header, bad-member, bad-message, bad-method, bad-pattern, bad-rule,
+         bad-text, bad-token, birth-zero, full, no-end, no-header, no-port, no-reply, no-such-census,
+         no-such-deposit, no-such-page, not-canonical, not-ours, not-within-limit, other-tag,
+         out-of-limit, password, text-limit, token-reused, too-long, too-many-requests, too-wide,
+         unavailable, unknown, unreadable
+Refuses: unavailable
+Example: life explain no-end";
+
 const LIFE_HELP: &str = "\
 A refusal is one line 'refused: NAME' on standard error, with status 1.
+What it means, and what to do, is said by 'life explain NAME'.
 Bad words, and a request for help, end with status 2.
 Example: life generation 1 < glider.rle";
 
@@ -91,6 +105,8 @@ pub enum Job<'a> {
         port: u64,
         connections: u64,
     },
+    /// Print what the refusals of this name mean.
+    Explain(&'a str),
 }
 
 // The word that is the number of a generation.
@@ -253,6 +269,29 @@ fn serve_command<'a>(alloc: Global) -> Result<Command<'a>, AllocError>
     with_arg(command, connections_arg(alloc))
 }
 
+// The name of a refusal or a fault.
+fn name_arg<'a>(alloc: Global) -> Arg<'a>
+    ensures rule { rule_of result ≡ text_rule (codes "NAME") }
+    ensures local { result.global ≡ false }
+{
+    text_arg(alloc, "NAME").help("The name of a refusal or a fault, as no-end")
+}
+
+// The command that takes this argument for its name.
+fn explain_command<'a>(alloc: Global, name: Arg<'a>) -> Result<Command<'a>, AllocError>
+    requires { name.global ≡ false }
+    ensures app { rule_of name.entry ≡ text_rule (codes "NAME") → IfOk result (λ command. app_of command ≡ explain) }
+    ensures local { IfOk result (λ command. (fields_of command).has_globals ≡ false) }
+{
+    let command = Ok(named_command(
+        alloc,
+        "explain",
+        "Prints what a refusal means and what to do",
+        EXPLAIN_HELP,
+    ));
+    with_arg(command, name)
+}
+
 // The command without its subcommands.
 fn command_alone<'a>(alloc: Global) -> Command<'a>
     ensures { app_of result ≡ life_alone }
@@ -275,7 +314,8 @@ pub fn life_command<'a>(alloc: Global) -> Result<Command<'a>, AllocError>
     let command = with_command(command, object_command(alloc));
     let command = with_command(command, census_command(alloc));
     let command = with_command(command, deposit_command(alloc));
-    with_command(command, serve_command(alloc))
+    let command = with_command(command, serve_command(alloc));
+    with_command(command, explain_command(alloc, name_arg(alloc)))
 }
 
 /// The number of the argument with this id.
@@ -343,6 +383,18 @@ fn serve_in<'a>(found: &ArgMatches<'a>) -> Option<Job<'a>>
     })
 }
 
+// A name that no refusal has is none.
+fn explain_in<'a>(found: &ArgMatches<'a>) -> Option<Job<'a>>
+    ensures { option_map asked_by result ≡ explain_of (text_at (codes "NAME") (rows_of (found_of found.now))) }
+{
+    let name = text_in(found, "NAME")?;
+    if explanation(name).is_some() {
+        Some(Job::Explain(name))
+    } else {
+        None
+    }
+}
+
 fn job_in<'a>(matches: &ArgMatches<'a>) -> Option<Job<'a>>
     ensures { option_map asked_by result ≡ job_of (subcommand_rows_of matches.now) }
 {
@@ -354,8 +406,18 @@ fn job_in<'a>(matches: &ArgMatches<'a>) -> Option<Job<'a>>
         "census" => census_in(found),
         "deposit" => deposit_in(found),
         "serve" => serve_in(found),
+        "explain" => explain_in(found),
         _ => None,
     }
+}
+
+// Fails for words that have no name of a refusal where one is wanted: `clap` lists the names, and suggests one that is near.
+fn refuse_name<S: AsStr>(alloc: Global, words: &[S]) -> Result<(), WordFault> {
+    let names = refusal_names(alloc)?;
+    let name = name_arg(alloc).value_parser(ValueParser::Names(names.as_slice()));
+    let command = with_command(Ok(command_alone(alloc)), explain_command(alloc, name))?;
+    command.try_get_matches_from(words)?;
+    Ok(())
 }
 
 /// The job that the words name. The first of them is the program's name, as in `env::args`.
@@ -366,6 +428,7 @@ pub fn read_words<'a, S: AsStr>(alloc: Global, words: &'a [S]) -> Result<Job<'a>
 {
     let matches = life_command(alloc)?.try_get_matches_from(words)?;
     let Some(job) = job_in(&matches) else {
+        refuse_name(alloc, words)?;
         return Err(WordFault::BadWords(None));
     };
     Ok(job)

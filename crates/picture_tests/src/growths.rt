@@ -1,4 +1,4 @@
-//! Each growth of a picture refused in turn.
+//! Each allocation of a picture refused in turn.
 ghost use Rattle.std.specs.Prelude.{◌<◌};
 
 use life_core::Fault;
@@ -7,10 +7,10 @@ use life_rle::{Record, RleFault, read};
 use life_tests::refusing::Refusing;
 use std::process::Abort;
 
-/// More growths than any picture asks for.
+/// More allocations than any picture asks for.
 const MANY: u64 = 1000;
 
-/// A file whose document is longer than a few growths give room for.
+/// A file whose document is longer than a few allocations give room for.
 const FILE: &[u8] = b"#N A & B\nx = 9, y = 3\nobobobobo2$bobobobo!\n";
 
 const TEXT: &str = "▀ ▀ ▀ ▀ ▀\n ▀ ▀ ▀ ▀\n";
@@ -59,8 +59,8 @@ fn is_right(alloc: &Refusing, picture: Picture) -> Result<bool, Fault> {
     }
 }
 
-/// Refuses this growth of a picture, which is right then or wants memory, and draws it again with memory, when it is right. Whether no
-/// growth was refused, since it asks for fewer.
+/// Refuses this allocation of a picture, which is right then or runs out of memory, and draws it again with memory, when it is right. Whether no
+/// allocation was refused, since it asks for fewer.
 fn refuse_growth(rt: &impl Abort, refusing: &Refusing, picture: Picture, growth: u64) -> bool
     requires { 0 < growth }
 {
@@ -77,7 +77,7 @@ fn refuse_growth(rt: &impl Abort, refusing: &Refusing, picture: Picture, growth:
     ended
 }
 
-/// Refuses the first growth of a picture, then the second, and so on until none is left to refuse.
+/// Refuses the first allocation of a picture, then the second, and so on until none is left to refuse.
 fn refuse_each_growth(rt: &impl Abort, refusing: &Refusing, picture: Picture) {
     for growth in 1..MANY {
         if refuse_growth(rt, refusing, picture, growth) {

@@ -5,7 +5,7 @@ use life_words::WordFault;
 use std::alloc::Global;
 use std::test::Fail;
 
-/// Words, the program's name first, and the picture that they name; none where they are bad words.
+/// Words, the program's name first, and the picture that they name; none if they are a usage error.
 const WORDS: [(&[&str], Option<Picture>); 10] = [
     (&["life-draw"], None),
     (&["life-draw", "png"], None),
@@ -22,7 +22,7 @@ const WORDS: [(&[&str], Option<Picture>); 10] = [
     ),
 ];
 
-/// Whether the words name the picture, or are bad words where there is none.
+/// Whether the words name the picture, or are a usage error if there is none.
 fn name(alloc: Global, words: &[&'static str], picture: Option<Picture>) -> bool {
     match read_words(alloc, words) {
         Ok(named) => picture == Some(named),

@@ -7,4 +7,5 @@ returns c =
     let third = c.with_command-command-3.ensures _ _ second c.object_command.ensures.app in
     let fourth = c.with_command-command-4.ensures _ _ third c.census_command.ensures.app in
     let fifth = c.with_command-command-5.ensures _ _ fourth c.deposit_command.ensures.app in
-    c.with_command.ensures _ _ fifth c.serve_command.ensures.app
+    let sixth = c.with_command-command-6.ensures _ _ fifth c.serve_command.ensures.app in
+    c.with_command.ensures _ _ sixth (c.explain_command.ensures.app c.name_arg.ensures.rule)

@@ -1,0 +1,99 @@
+//! The line that follows a usage error if a file is named where its pattern comes on standard input.
+
+use crate::printing::print_fault;
+use clap::error::ErrorKind;
+use life_words::WordFault;
+use std::alloc::{AllocError, Global};
+use std::io;
+use std::process::ExitCode;
+
+/// Whether a shell takes the character as it is.
+fn is_plain(c: char) -> bool {
+    c.is_ascii_alphanumeric() || matches!(c, '+' | ',' | '-' | '.' | '/' | ':' | '=' | '@' | '_')
+}
+
+/// Adds a word as a shell reads it: between single quotes, unless it is plain.
+fn push_word(line: &mut String, word: &str) -> Result<(), AllocError> {
+    if !word.is_empty() && word.chars().all(is_plain) {
+        return line.push_str(word);
+    }
+    line.push('\'')?;
+    for c in word.chars() {
+        if c == '\'' {
+            line.push_str("'\\''")?;
+        } else {
+            line.push(c)?;
+        }
+    }
+    line.push('\'')
+}
+
+/// The line for these words, whose pattern is in the file.
+fn line_of(alloc: Global, words: &[String], file: &str) -> Result<String, AllocError> {
+    let mut line = "The pattern comes on standard input:".to_string(alloc)?;
+    for word in words {
+        line.push(' ')?;
+        push_word(&mut line, word.as_str())?;
+    }
+    line.push_str(" < ")?;
+    push_word(&mut line, file)?;
+    Ok(line)
+}
+
+/// Whether a word may be the name of a file: it is no option and no number.
+fn may_be_file(word: &str) -> bool {
+    !word.starts_with('-') && word.parse::<u64>().is_err()
+}
+
+/// The last word, if `clap` met it as one too many and it may be a file, and the words before it.
+fn one_too_many<'a>(fault: &WordFault, words: &'a [String]) -> Option<(&'a str, &'a [String])> {
+    let WordFault::BadWords(Some(error)) = fault else {
+        return None;
+    };
+    let (last, before) = words.split_last()?;
+    if error.kind() == ErrorKind::UnknownArgument && may_be_file(last.as_str()) {
+        Some((last.as_str(), before))
+    } else {
+        None
+    }
+}
+
+/// The line for words with this fault, if they are one too many for a job that reads a pattern.
+fn line_for<F>(
+    alloc: Global,
+    fault: &WordFault,
+    words: &[String],
+    reads_pattern: F,
+) -> Option<String>
+where
+    F: FnOnce(&[String]) -> bool,
+    requires { F.IsAlwaysCallable reads_pattern }
+{
+    let (file, before) = one_too_many(fault, words)?;
+    if reads_pattern(before) {
+        line_of(alloc, before, file).ok()
+    } else {
+        None
+    }
+}
+
+/// As [`print_fault`], for the words that have the fault. If they are one too many for a job that reads a pattern, the last is taken for its
+/// file, and a line says how a shell gives it.
+pub fn print_fault_of<F>(
+    rt: &HostRuntime,
+    fault: WordFault,
+    words: &[String],
+    reads_pattern: F,
+) -> io::Result<ExitCode>
+where
+    F: FnOnce(&[String]) -> bool,
+    requires { F.IsAlwaysCallable reads_pattern }
+{
+    let line = line_for(rt.alloc(), &fault, words, reads_pattern);
+    let status = print_fault(rt, fault)?;
+    if let Some(line) = line {
+        // If standard error fails there is nobody to tell, and the status still says it.
+        let _told = eprintln!(rt; "{line}");
+    }
+    Ok(status)
+}

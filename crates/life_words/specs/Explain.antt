@@ -1,0 +1,77 @@
+-- What explains a refusal: the names are stated here, and the texts are those of the table in `src/explain.rt`.
+use Rattle.std.specs.Prelude.{ℕ, Bool, List, [], ◌∷◌, codes, bytes_eq, find, map, Option, option_map, unwrap_or}
+use Rattle.std.specs.Borrow.{Bor}
+use Rattle.std.specs.List.{list_any}
+use Rattle.life_words.specs.declared.explain.TheConstants.{EXPLANATIONS}
+
+-- ---- names
+
+-- the names of all refusals and faults: over HTTP, of pattern files, of codes, of the programs and of the gateway
+unfoldable pub refusal_names : List (List ℕ)
+refusal_names =
+    codes "bad-code" ∷
+    codes "bad-count" ∷
+    codes "bad-header" ∷
+    codes "bad-member" ∷
+    codes "bad-message" ∷
+    codes "bad-method" ∷
+    codes "bad-pattern" ∷
+    codes "bad-rule" ∷
+    codes "bad-text" ∷
+    codes "bad-token" ∷
+    codes "birth-zero" ∷
+    codes "full" ∷
+    codes "no-end" ∷
+    codes "no-header" ∷
+    codes "no-port" ∷
+    codes "no-reply" ∷
+    codes "no-such-census" ∷
+    codes "no-such-deposit" ∷
+    codes "no-such-page" ∷
+    codes "not-canonical" ∷
+    codes "not-ours" ∷
+    codes "not-within-limit" ∷
+    codes "other-tag" ∷
+    codes "out-of-limit" ∷
+    codes "password" ∷
+    codes "text-limit" ∷
+    codes "token-reused" ∷
+    codes "too-long" ∷
+    codes "too-many-requests" ∷
+    codes "too-wide" ∷
+    codes "unavailable" ∷
+    codes "unknown" ∷
+    codes "unreadable" ∷ []
+
+-- a refusal or a fault has this name
+unfoldable pub is_refusal : List ℕ → Bool
+is_refusal name = list_any (λ known. bytes_eq known name) refusal_names
+
+-- ---- texts
+
+-- rows of names and their texts
+abbrev pub Rows : Type 0
+Rows = List (List ℕ × List ℕ)
+
+-- the rows of a table in memory
+abbrev pub rows_of : List (Bor (List ℕ) × Bor (List ℕ)) → Rows
+rows_of = map (λ row. (row.0.now, row.1.now))
+
+abbrev pub names_of : Rows → List (List ℕ)
+names_of = map (λ row. row.0)
+
+-- the text of the first row that has this name
+abbrev pub text_in : Rows → List ℕ → Option (List ℕ)
+text_in rows name = option_map (λ row. row.1) (find (λ row. bytes_eq row.0 name) rows)
+
+-- the rows of the program's table
+unfoldable pub explanations : Rows
+explanations = map (λ row. (row.0.now, row.1.now)) EXPLANATIONS
+
+-- what explains a name, if there is something
+unfoldable pub explanation_of : List ℕ → Option (List ℕ)
+explanation_of name = text_in explanations name
+
+-- what is put to explain a name: nothing, if no refusal has it
+abbrev pub explanation_text : List ℕ → List ℕ
+explanation_text name = unwrap_or (explanation_of name) []

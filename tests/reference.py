@@ -1,17 +1,27 @@
 """What the archive answers, worked out anew from docs/API.md and docs/FORMATS.md for the tests: it shares no code with the program.
+Numbers, names and statuses of refusals and faults are those of docs/refusals.csv.
 
 `Archive.replies(stream)` gives the bytes that a stream of messages is answered with. Sets of cells are python's sets of
 (column, row); nothing here is fast.
 """
+import csv
 import json
+import os
 import re
 
 LONGEST_FILE = 1_048_576
 GREATEST = 2048
 BLANKS = b" \t\r"
-RLE_NAMES = {1: "too-long", 2: "text-limit", 3: "no-header", 4: "bad-header", 5: "bad-rule", 6: "birth-zero",
-             7: "other-tag", 8: "bad-count", 9: "too-wide", 10: "no-end"}
 LIFE = (frozenset({3}), frozenset({2, 3}))
+
+
+def of_kind(kind):
+    """The rows of docs/refusals.csv that are of a kind."""
+    with open(os.path.join(os.path.dirname(os.path.abspath(__file__)), "..", "docs", "refusals.csv"), newline="", encoding="ascii") as table:
+        return [row for row in csv.DictReader(table) if row["kind"] == kind]
+
+
+RLE_NAMES = {int(row["number"]): row["name"] for row in of_kind("file")}
 
 
 class Refused(Exception):
@@ -344,9 +354,7 @@ def is_steady(rule, cells, limit):
 
 # ---- the archive
 
-NAMES = {1: ("no-such-deposit", 404), 2: ("no-such-census", 404), 3: ("bad-member", 400), 4: ("bad-token", 400),
-         5: ("token-reused", 409), 6: ("out-of-limit", 400), 7: ("bad-pattern", 422), 8: ("bad-rule", 422),
-         9: ("bad-code", 422), 10: ("full", 409), 12: ("no-such-page", 404), 13: ("bad-method", 405), 14: ("bad-message", 400)}
+NAMES = {int(row["number"]): (row["name"], int(row["status"])) for row in of_kind("refusal")}
 PHRASES = {200: "OK", 201: "Created", 400: "Bad Request", 404: "Not Found", 405: "Method Not Allowed", 409: "Conflict",
            422: "Unprocessable Entity"}
 

@@ -1,28 +1,28 @@
-// Why something was refused, and what to do: a sentence for each name and number of docs/API.md and docs/FORMATS.md, and for what the gateway says.
+// Why something was refused, and what to do: the sentences of docs/refusals.csv for the replies of the archive, for files, and for the gateway.
 
 export const REFUSALS = {
   'no-such-deposit': 'There is no deposit of this number. Look at the newest deposits, or compare the number with what was cited.',
-  'no-such-census': 'There is no census of this number. Compare it with what was cited, or ask for a census at a deposit.',
-  'bad-member': 'This is no member’s name: take 1 to 32 of the letters a to z, digits and "-".',
-  'bad-token': 'This is no token: take 1 to 64 of the letters A to Z and a to z, digits and "-", or leave the one that was made.',
-  'token-reused': 'You have used this token for something else, and that is kept. Take another token, as the one that is made of the file.',
+  'no-such-census': 'There is no census of this number. Compare it with what was cited, or ask for a census of a deposit.',
+  'bad-member': 'This is no name of a member: take 1 to 32 of the letters a to z, digits and "-".',
+  'bad-token': 'This is no token: take 1 to 64 of the letters A to Z and a to z, digits and "-". The SHA-256 digest of the file is one.',
+  'token-reused': 'This member has used the token for something else, and that stays. Take another token, as the SHA-256 digest of the file.',
   'out-of-limit': 'A generation is 0 to 2048, and a limit of the period 1 to 2048. Take a number in that range.',
-  'bad-pattern': 'The file is no pattern that is taken. Mend what is named, and send it again.',
+  'bad-pattern': 'The file is no pattern that is taken: a fault is named with this refusal. Mend it, and send the file again.',
   'bad-rule': 'This is no rule that is taken: write it in digits, as B3/S23, with no 0 among the births.',
-  'bad-code': 'This is no object’s code under this rule. Compare it with what was cited: each object has one code alone, in lower case, and another rule has other objects.',
+  'bad-code': 'This is no code of an object under this rule. Compare it with what was cited: each object has one code alone, in lower case, and another rule has other objects.',
   full: 'The archive takes no more. Tell whoever runs it; what is in it stays.',
-  unavailable: 'The archive could not do this now. Wait a little and ask again: with the same token, nothing is kept twice. If that is no help, tell whoever runs it.',
-  'no-such-page': 'There is no such page. Compare the address with what was cited, or begin at the newest deposits.',
-  'bad-method': 'This page of the archive is asked in another way. Load these pages anew; if that is no help, tell whoever runs the archive.',
-  'bad-message': 'The archive could not read what came: a file has at most 1,048,576 bytes. Take a smaller one, or load these pages anew.',
+  unavailable: 'The archive could not do this now. Wait a little and ask again: with the same token, nothing is stored twice. If that is no help, tell whoever runs it.',
+  'no-such-page': 'There is no such page of the archive. Compare the address with what was cited, or begin at the newest deposits.',
+  'bad-method': 'This page of the archive is asked in another way: by GET to read, by POST to store. If a web page says this, load it anew; if that is no help, tell whoever runs the archive.',
+  'bad-message': 'The archive could not read what came: a file has at most 1,048,576 bytes. Take a smaller one. If a web page says this of another file, load the page anew.',
 };
 
 /** What the gateway says in place of the archive, and what comes from no reply at all. */
 export const GATEWAY = {
-  'too-many-requests': 'You have asked too much in a short time. Wait some seconds and ask again; nothing is lost.',
-  'no-reply': 'No reply came. What you sent may have been kept all the same: send it again with the same token, and it is kept once.',
+  'no-reply': 'No reply came. What you sent may have been stored all the same: send it again with the same token, and it is stored once.',
   password: 'The club knows its members by passwords. Send it again, and give the name and the password that you were given.',
-  unknown: 'The reply is not that of an archive. Load these pages anew; if that is no help, tell whoever runs the archive.',
+  'too-many-requests': 'You have asked too much in a short time. Wait some seconds and ask again; nothing is lost.',
+  unknown: 'The reply is not that of an archive. Compare the address, or load the web page anew; if that is no help, tell whoever runs the archive.',
 };
 
 /** What a read says if no reply came: it sends nothing that the archive would keep. */
@@ -38,7 +38,7 @@ export const FAULTS = [
   ['bad-rule', 'The rule is not taken. Write it in digits, as B3/S23, without a name and without a bounded grid such as ":T100,100".'],
   ['birth-zero', 'The rule has 0 among its births and would make cells of nothing. Take another rule.'],
   ['other-tag', 'The body has a byte that is none of "b", "o", "$" and "!". For a rule of two states write "b" for "." and "o" for "A".'],
-  ['bad-count', 'A count is 0 or over 1,000,000, or stands before "!" or at the end of the file. Mend the count; a file that was cut is copied again.'],
+  ['bad-count', 'A count is 0 or over 1,000,000, or it is before "!" or at the end of the file. Mend the count; a file that was cut is copied again.'],
   ['too-wide', 'A live cell is in a column or row over 1023. Move the cells, or take a part of the pattern.'],
   ['no-end', 'The body ends without "!". Put it at the end; a file that was cut is copied again.'],
 ];

@@ -29,9 +29,8 @@ use Rattle.life_store.specs.Layout.{archive_schema, first_schema, census_flags_t
 use Rattle.life_store.specs.LayingState.{census_flags_text}
 use Rattle.life_store.specs.Stored.{IsFiled, rows_by, census_cells, count_cells, counts_from, tagged}
 use Rattle.life_store.specs.Tables.{tables_of, version_2, HasOrder}
-use Rattle.life_store.proofs.KeepLemmas.{Answered, not_answered, shown_unchanged}
+use Rattle.life_store.proofs.KeepLemmas.{Answered, not_answered, shown_unchanged, keeps_then}
 use Rattle.life_store.proofs.LayLemmas.{creates, makes_census_flags}
-use Rattle.life_store.proofs.CensusLemmas.{keeps_then}
 use Rattle.sqlite_tied.specs.Compute.{everything}
 
 -- ---- a query inside a transaction

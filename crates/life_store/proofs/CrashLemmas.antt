@@ -46,17 +46,6 @@ crash_both a b c one two before after = record {
 pub crash_last : {S : Type 0} {g : Ghosts S} {Last Adds : Trees → Type 0} (a b c : S) → (IsClean (g.view b) → (db : Trees) → Last db → Adds db) → CrashLeaves g NoMore a b → CrashLeaves g Last b c → CrashLeaves g Adds a c
 crash_last a b c two before after = crash_both a b c (λ db none. absurd none) two before after
 
-pub crash_then : {S : Type 0} {g : Ghosts S} {Adds : Trees → Type 0} (a b c : S) → CrashLeaves g NoMore a b → CrashLeaves g Adds b c → CrashLeaves g Adds a c
-crash_then a b c before after = crash_last a b c (λ clean db more. more) before after
-
--- what a call adds, said otherwise
-pub crash_as : {S : Type 0} {g : Ghosts S} {Last Adds : Trees → Type 0} (a b : S) → (IsClean (g.view a) → (db : Trees) → Last db → Adds db) → CrashLeaves g Last a b → CrashLeaves g Adds a b
-crash_as a b says it = crash_last a a b says (crash_none a) it
-
--- a call that adds nothing adds no more than another may
-pub crash_more : {S : Type 0} {g : Ghosts S} {Adds : Trees → Type 0} (a b : S) → CrashLeaves g NoMore a b → CrashLeaves g Adds a b
-crash_more a b it = crash_as a b (λ clean db none. absurd none) it
-
 -- what a call of the kit's connection adds
 pub crash_by : {S : Type 0} (g : Ghosts S) (old new : Held S) (Commits : Trees → Type 0) → Survives (state g old) (state g new) Commits → CrashLeaves g Commits old.store new.store
 crash_by g old new Commits it = record { honest = λ clean. let was = it.clean in omega (arith, was, clean); found = it.crash }

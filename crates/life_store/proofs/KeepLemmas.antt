@@ -16,7 +16,7 @@ use Rattle.sqlite.specs.Clock.{timed}
 use Rattle.sqlite_catalog.specs.Listing.{IsSound}
 use Rattle.sqlite.specs.Effect.{Database, IsDatabase}
 use Rattle.sqlite.specs.Listing.{understood}
-use Rattle.sqlite.specs.State.{State, HasCleanDisk, IsUnchanged, IsNotRun, RunsCommand, Runs, ReleasesAt, text_of, Executes, ExecutesIn, shows_rows, FailsToQuery, FailsToShow, Shown, ShowsRows}
+use Rattle.sqlite.specs.State.{State, HasCleanDisk, IsUnchanged, IsNotRun, KeepsCommit, RunsCommand, Runs, ReleasesAt, text_of, Executes, ExecutesIn, shows_rows, FailsToQuery, FailsToShow, Shown, ShowsRows}
 use Rattle.sqlite.proofs.Callers.{IsPlain}
 use Rattle.sqlite_schema.specs.declared.schema.Schema.{Schema}
 use Rattle.life_store.specs.Carrying.{HoldsFirst}
@@ -166,6 +166,10 @@ pub ran : (sql : List ℕ) (params : Row) (old new : State) (r : Result ℕ Erro
 ran sql params old new (Ok count) h = h
 ran sql params old new (Err e) h = tt
 
+-- what two steps inside a transaction keep
+pub keeps_then : (a b c : State) → KeepsCommit a b → KeepsCommit b c → KeepsCommit a c
+keeps_then a b c p q = record { was_open = λ up. p.was_open (q.was_open up); committed = λ up. q.committed up ∙ p.committed (q.was_open up) }
+
 -- ---- what tables hold, through a call
 
 both : (a b : Bool) → IsTrue (a && b) → (a ≡ true) × (b ≡ true)
@@ -265,12 +269,6 @@ module _ (old new : State) (clean : doubt old.is_clean ≤ doubt new.is_clean) w
   pub keeps_seen : (HasCleanDisk new → IsSeenAgain old new) → HoldsTheSame (tables_of old) (tables_of new)
   keeps_seen seen k sure holds = let now = sure_is new sure in held_again old new k (seen now.0).mode ((seen now.0).now_is now.1) holds
 
-  -- what a query of the archive does, and what it tells of what the tables hold
-  pub record HasAsked (r : Answered) (Q : Kept → List Row → Type 0) : Type 0 where
-    pub lost : WasSure (tables_of old) (tables_of new)
-    pub keeps : HoldsTheSame (tables_of old) (tables_of new)
-    pub tells : ForAllHeld (tables_of old) (tables_of new) (λ k. IfOk r (λ rows. Q k rows.items))
-
   module _ (sql : List ℕ) (params : Row) (plain : IsPlain (understood archive_schema sql)) where
     was_up : (r : Answered) → IfOk r (λ rows. Shown sql params old new rows.items) → OnErr r (IsSeenAgain old new) → IsTrue new.is_open → IsTrue old.is_open
     was_up (Ok rows) shown seen up = open_if_shown sql params old new rows.items shown
@@ -284,25 +282,11 @@ module _ (old new : State) (clean : doubt old.is_clean ≤ doubt new.is_clean) w
     same_mode (Ok rows) k holds shown seen none = (shown_unchanged sql params old new rows.items (subst (λ s. IsPlain (understood s sql)) (sym holds.schema) plain) shown).0.mode ∙ none
     same_mode (Err e) k holds shown seen none = seen.mode none
 
-    answers : (Q : Kept → List Row → Type 0) → ((k : Kept) (rows : List Row) → Holds (tables_of old) k → Shown sql params old new rows → Q k rows) → (r : Answered) (k : Kept) → Holds (tables_of old) k
-        → IfOk r (λ rows. Shown sql params old new rows.items) → IfOk r (λ rows. Q k rows.items)
-    answers Q tells (Ok rows) k holds shown = tells k rows.items holds shown
-    answers Q tells (Err e) k holds shown = tt
+    pub lost_asked : (r : Answered) → (HasCleanDisk new → IfOk r (λ rows. Shown sql params old new rows.items)) → (HasCleanDisk new → OnErr r (IsSeenAgain old new)) → WasSure (tables_of old) (tables_of new)
+    lost_asked r shown seen = stays_lost (λ now up. was_up r (shown now) (seen now) up)
 
-    pub asked : (Q : Kept → List Row → Type 0) → ((k : Kept) (rows : List Row) → Holds (tables_of old) k → Shown sql params old new rows → Q k rows) → (r : Answered)
-        → (HasCleanDisk new → IfOk r (λ rows. Shown sql params old new rows.items)) → (HasCleanDisk new → OnErr r (IsSeenAgain old new)) → HasAsked r Q
-    asked Q tells r shown seen = record {
-      lost = stays_lost (λ now up. was_up r (shown now) (seen now) up);
-      keeps = λ k sure holds. let now = sure_is new sure in held_again old new k (same_mode r k holds (shown now.0) (seen now.0)) (same_now r k holds (shown now.0) (seen now.0) now.1) holds;
-      tells = λ k sure holds. answers Q tells r k holds (shown (sure_is new sure).0);
-    }
-
-  -- the same of a query with one number
-  pub asked_of : (sql : List ℕ) (id : ℤ) (n : ℕ) → id ≡ pos n → IsPlain (understood archive_schema sql) → (Q : Kept → List Row → Type 0)
-      → ((k : Kept) (rows : List Row) → Holds (tables_of old) k → Shown sql (Int (pos n) ∷ []) old new rows → Q k rows) → (r : Answered)
-      → (HasCleanDisk new → IfOk r (λ rows. Shown sql (Int id ∷ []) old new rows.items)) → (HasCleanDisk new → OnErr r (IsSeenAgain old new)) → HasAsked r Q
-  asked_of sql id n is plain Q tells r shown seen =
-      asked sql (Int (pos n) ∷ []) plain Q tells r (λ now. subst (λ z. IfOk r (λ rows. Shown sql (Int z ∷ []) old new rows.items)) is (shown now)) seen
+    pub keeps_asked : (r : Answered) → (HasCleanDisk new → IfOk r (λ rows. Shown sql params old new rows.items)) → (HasCleanDisk new → OnErr r (IsSeenAgain old new)) → HoldsTheSame (tables_of old) (tables_of new)
+    keeps_asked r shown seen k sure holds = let now = sure_is new sure in held_again old new k (same_mode r k holds (shown now.0) (seen now.0)) (same_now r k holds (shown now.0) (seen now.0) now.1) holds
 
 pub was_clean : (old new : State) → doubt old.is_clean ≤ doubt new.is_clean → IsTrue (tables_of new).is_sure → HasCleanDisk old
 was_clean old new clean sure = let now = (sure_is new sure).0 in omega (arith, clean, now)
@@ -312,3 +296,13 @@ pub told : (s : State) (sql : List ℕ) (params : Row) (old : State) (Q : List R
     → (HasCleanDisk s → IfOk r (λ rows. Shown sql params old s rows.items)) → IsTrue (tables_of s).is_sure → IfOk r (λ rows. Q rows.items)
 told s sql params old Q (Ok rows) tells shown sure = tells rows.items (shown (sure_is s sure).0)
 told s sql params old Q (Err e) tells shown sure = tt
+
+-- what the answer to a query shows of what the tables hold
+pub tells_held : (sql : List ℕ) (params : Row) (old new : State) (Q : Kept → List Row → Type 0) → ((k : Kept) (rows : List Row) → Holds (tables_of old) k → Shown sql params old new rows → Q k rows) → (r : Answered)
+    → (HasCleanDisk new → IfOk r (λ rows. Shown sql params old new rows.items)) → ForAllHeld (tables_of old) (tables_of new) (λ k. IfOk r (λ rows. Q k rows.items))
+tells_held sql params old new Q tells r shown k sure holds = told new sql params old (Q k) r (λ rows. tells k rows holds) shown sure
+
+-- the same of a query with one number
+pub tells_held_at : (sql : List ℕ) (id : ℤ) (n : ℕ) → id ≡ pos n → (old new : State) (Q : Kept → List Row → Type 0) → ((k : Kept) (rows : List Row) → Holds (tables_of old) k → Shown sql (Int (pos n) ∷ []) old new rows → Q k rows) → (r : Answered)
+    → (HasCleanDisk new → IfOk r (λ rows. Shown sql (Int id ∷ []) old new rows.items)) → ForAllHeld (tables_of old) (tables_of new) (λ k. IfOk r (λ rows. Q k rows.items))
+tells_held_at sql id n is old new Q tells r shown = tells_held sql (Int (pos n) ∷ []) old new Q tells r (λ now. subst (λ z. IfOk r (λ rows. Shown sql (Int z ∷ []) old new rows.items)) is (shown now))

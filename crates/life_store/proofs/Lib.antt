@@ -2,6 +2,7 @@ pub mod Texts
 pub mod KeepLemmas
 pub mod LastingLemmas
 pub mod CrashLemmas
+pub mod StatementLemmas
 pub mod QueryLemmas
 pub mod InsertLemmas
 pub mod RowLemmas

@@ -5,9 +5,10 @@ pub mod PickingState
 pub mod Kept
 pub mod Fault
 pub mod Stored
-pub mod DepositsState
 pub mod Crash
 pub mod Tables
+pub mod Statements
+pub mod DepositsState
 pub mod CensusesState
 pub mod AskingState
 pub mod ReadingState

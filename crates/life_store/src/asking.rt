@@ -4,13 +4,12 @@ ghost use Rattle.std.specs.Prelude.{◌≡◌, ◌≤◌, pos, false, Ok, IsTrue
 ghost use Rattle.sqlite_value.specs.declared.value.Value.TheVariants.{Int, Text, Blob};
 ghost use Rattle.sqlite_value.specs.Value.{owned};
 ghost use Rattle.sqlite_trees.specs.View.{doubt};
-ghost use Rattle.sqlite.specs.State.{HasCleanDisk, Shown, Executes, KeepsCommit, CommitsShowing, CommitsBy};
+ghost use Rattle.sqlite.specs.State.{HasCleanDisk, Shown, Executes, CommitsShowing, CommitsBy};
 ghost use Rattle.sqlite.specs.Held.{state};
 ghost use Rattle.sqlite.specs.Values.{bound};
 ghost use Rattle.life_store.specs.AskingState.{IsSeenAgain};
-ghost use Rattle.life_store.specs.Crash.{CrashLeaves};
 ghost use Rattle.life_store.specs.Stored.{flag_number};
-ghost use Rattle.life_store.specs.Tables.{tables_of, StaysSure};
+ghost use Rattle.life_store.specs.Statements.{Withstands, StaysInside};
 
 use crate::fault::Unavailable;
 use sqlite::types::ValueRef;
@@ -58,8 +57,7 @@ pub(crate) fn ask<S: Alter>(
     ensures refused { HasCleanDisk (state S.Store conn.new) → OnErr result (IsSeenAgain (state S.Store conn.old) (state S.Store conn.new)) }
     ensures clean { doubt (state S.Store conn.old).is_clean ≤ doubt (state S.Store conn.new).is_clean }
     ensures mode { conn.old.in_transaction ≡ false → conn.new.in_transaction ≡ false }
-    ensures lasts { StaysSure (tables_of (state S.Store conn.old)) (tables_of (state S.Store conn.new)) }
-    ensures crash { CrashLeaves S.Store (CommitsShowing sql.now (bound params.now) (state S.Store conn.old)) conn.old.store conn.new.store }
+    ensures withstands { Withstands S.Store (CommitsShowing sql.now (bound params.now) (state S.Store conn.old)) conn.old conn.new }
 {
     if !conn.is_autocommit() {
         return Err(Error::SqliteFailure(ErrorCode::TransactionState));
@@ -76,8 +74,7 @@ pub(crate) fn write<S: Alter>(
     ensures ran { HasCleanDisk (state S.Store conn.new) → IfOk result (λ count. Executes sql.now (bound params.now) (state S.Store conn.old) (state S.Store conn.new) (Ok count)) }
     ensures refused { HasCleanDisk (state S.Store conn.new) → OnErr result (IsSeenAgain (state S.Store conn.old) (state S.Store conn.new)) }
     ensures clean { doubt (state S.Store conn.old).is_clean ≤ doubt (state S.Store conn.new).is_clean }
-    ensures lasts { StaysSure (tables_of (state S.Store conn.old)) (tables_of (state S.Store conn.new)) }
-    ensures crash { CrashLeaves S.Store (CommitsBy sql.now (bound params.now) (state S.Store conn.old)) conn.old.store conn.new.store }
+    ensures withstands { Withstands S.Store (CommitsBy sql.now (bound params.now) (state S.Store conn.old)) conn.old conn.new }
     ensures up { HasCleanDisk (state S.Store conn.new) → OnOk result (IsTrue (state S.Store conn.new).is_open) }
 {
     if !conn.is_autocommit() {
@@ -93,10 +90,8 @@ pub(crate) fn ask_inside<S: Alter>(
     params: &[ValueRef<'_>],
 ) -> Result<Vec<Row>, Unavailable>
     ensures same_reference { tx.new.conn.ghost_name ≡ tx.old.conn.ghost_name }
+    ensures stays { StaysInside S.Store tx.old.conn.now tx.new.conn.now result }
     ensures shown { HasCleanDisk (state S.Store tx.new.conn.now) → IfOk result (λ rows. Shown sql.now (bound params.now) (state S.Store tx.old.conn.now) (state S.Store tx.new.conn.now) rows.items) }
-    ensures inside { HasCleanDisk (state S.Store tx.new.conn.now) → IsTrue tx.old.conn.now.in_transaction → OnOk result (IsTrue tx.new.conn.now.in_transaction) }
-    ensures kept { HasCleanDisk (state S.Store tx.new.conn.now) → IsTrue tx.old.conn.now.in_transaction → KeepsCommit (state S.Store tx.old.conn.now) (state S.Store tx.new.conn.now) }
-    ensures clean { doubt (state S.Store tx.old.conn.now).is_clean ≤ doubt (state S.Store tx.new.conn.now).is_clean }
 {
     Ok(tx.query_all(sql, params)?)
 }

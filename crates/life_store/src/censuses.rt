@@ -3,17 +3,18 @@
 ghost use Rattle.std.specs.Prelude.{◌≡◌, ◌<◌, ◌≤◌, ◌+◌, ◌^◌, ◌++◌, ℕ, pos, Bool, false, [], ◌∷◌, length, map, option_map, IsTrue, IfOk, IfSome, OnOk, OnErr};
 ghost use Rattle.sqlite_trees.specs.View.{doubt};
 ghost use Rattle.sqlite.specs.Effect.{IsDatabase};
-ghost use Rattle.sqlite.specs.State.{HasCleanDisk, KeepsCommit};
+ghost use Rattle.sqlite.specs.State.{HasCleanDisk};
 ghost use Rattle.sqlite.specs.Held.{state};
 ghost use Rattle.life_core.specs.Rule.{RuleSets, IsRule};
 ghost use Rattle.life_core.specs.RuleText.{rule_text};
 ghost use Rattle.life_census.specs.Rows.{row_seen};
 ghost use Rattle.life_store.specs.ReadingState.{newest_rows, ShowsCensus, ShowsTotal, row_shown};
 ghost use Rattle.life_store.specs.Kept.{Kept, Tallied, numbered, tallied_from, total_of};
-ghost use Rattle.life_store.specs.Crash.{NoMore, CrashLeaves};
+ghost use Rattle.life_store.specs.Crash.{NoMore};
 ghost use Rattle.life_store.specs.CensusesState.{Parts, HoldsParts, MeansParts, with_census, with_flag, HoldNewParts, HoldNewCensus};
 ghost use Rattle.life_store.specs.Stored.{tagged};
-ghost use Rattle.life_store.specs.Tables.{tables_of, HasOrder, Holds, WasSure, StaysSure, HoldsTheSame, ForAllHeld};
+ghost use Rattle.life_store.specs.Statements.{Withstands, Looks, StaysInside};
+ghost use Rattle.life_store.specs.Tables.{tables_of, HasOrder, Holds, WasSure, HoldsTheSame, ForAllHeld};
 
 use crate::asking::{ask, text, whole};
 use crate::fault::Unavailable;
@@ -24,12 +25,8 @@ use sqlite::{Alter, Connection, Error, Row, Transaction};
 
 /// The greatest number.
 pub(crate) fn newest<S: Alter>(conn: &mut Connection<S>) -> Result<Vec<Row>, Error>
-    ensures lost { WasSure (tables_of (state S.Store conn.old)) (tables_of (state S.Store conn.new)) }
-    ensures lasts { StaysSure (tables_of (state S.Store conn.old)) (tables_of (state S.Store conn.new)) }
-    ensures crash { CrashLeaves S.Store NoMore conn.old.store conn.new.store }
-    ensures keeps { HoldsTheSame (tables_of (state S.Store conn.old)) (tables_of (state S.Store conn.new)) }
+    ensures looks { Looks S.Store conn.old conn.new result }
     ensures tells { ForAllHeld (tables_of (state S.Store conn.old)) (tables_of (state S.Store conn.new)) (λ k. IfOk result (λ rows. rows.items ≡ newest_rows (length k.censuses))) }
-    ensures up { HasCleanDisk (state S.Store conn.new) → OnOk result (IsTrue (state S.Store conn.new).is_open) }
 {
     ask(
         conn,
@@ -40,11 +37,7 @@ pub(crate) fn newest<S: Alter>(conn: &mut Connection<S>) -> Result<Vec<Row>, Err
 
 /// The census of the number.
 pub(crate) fn show<S: Alter>(conn: &mut Connection<S>, id: i64) -> Result<Vec<Row>, Error>
-    ensures lost { WasSure (tables_of (state S.Store conn.old)) (tables_of (state S.Store conn.new)) }
-    ensures lasts { StaysSure (tables_of (state S.Store conn.old)) (tables_of (state S.Store conn.new)) }
-    ensures crash { CrashLeaves S.Store NoMore conn.old.store conn.new.store }
-    ensures up { HasCleanDisk (state S.Store conn.new) → OnOk result (IsTrue (state S.Store conn.new).is_open) }
-    ensures keeps { HoldsTheSame (tables_of (state S.Store conn.old)) (tables_of (state S.Store conn.new)) }
+    ensures looks { Looks S.Store conn.old conn.new result }
     ensures tells { (n : ℕ) → id ≡ pos n → ForAllHeld (tables_of (state S.Store conn.old)) (tables_of (state S.Store conn.new)) (λ k. IfOk result (λ rows. ShowsCensus (option_map (λ t. (n, t)) (numbered k.censuses n)) rows.items)) }
 {
     ask(
@@ -60,11 +53,7 @@ pub(crate) fn find<'a, S: Alter>(
     member: &'a [u8],
     token: &'a [u8],
 ) -> Result<Vec<Row>, Error>
-    ensures lost { WasSure (tables_of (state S.Store conn.old)) (tables_of (state S.Store conn.new)) }
-    ensures lasts { StaysSure (tables_of (state S.Store conn.old)) (tables_of (state S.Store conn.new)) }
-    ensures crash { CrashLeaves S.Store NoMore conn.old.store conn.new.store }
-    ensures up { HasCleanDisk (state S.Store conn.new) → OnOk result (IsTrue (state S.Store conn.new).is_open) }
-    ensures keeps { HoldsTheSame (tables_of (state S.Store conn.old)) (tables_of (state S.Store conn.new)) }
+    ensures looks { Looks S.Store conn.old conn.new result }
     ensures tells { ForAllHeld (tables_of (state S.Store conn.old)) (tables_of (state S.Store conn.new)) (λ k. IfOk result (λ rows. ShowsCensus (tallied_from 1 member.now token.now k.censuses) rows.items)) }
 {
     ask(
@@ -76,11 +65,7 @@ pub(crate) fn find<'a, S: Alter>(
 
 /// The rows of the tally of the census of the number.
 pub(crate) fn rows_of<S: Alter>(conn: &mut Connection<S>, id: i64) -> Result<Vec<Row>, Error>
-    ensures lost { WasSure (tables_of (state S.Store conn.old)) (tables_of (state S.Store conn.new)) }
-    ensures lasts { StaysSure (tables_of (state S.Store conn.old)) (tables_of (state S.Store conn.new)) }
-    ensures crash { CrashLeaves S.Store NoMore conn.old.store conn.new.store }
-    ensures up { HasCleanDisk (state S.Store conn.new) → OnOk result (IsTrue (state S.Store conn.new).is_open) }
-    ensures keeps { HoldsTheSame (tables_of (state S.Store conn.old)) (tables_of (state S.Store conn.new)) }
+    ensures looks { Looks S.Store conn.old conn.new result }
     ensures tells { (n : ℕ) → id ≡ pos n → ForAllHeld (tables_of (state S.Store conn.old)) (tables_of (state S.Store conn.new)) (λ k. IfOk result (λ rows. IfSome (numbered k.censuses n) (λ t. rows.items ≡ map row_shown t.tally.rows))) }
 {
     ask(
@@ -98,13 +83,10 @@ fn insert_census<S: Alter>(
     tally: &Tally,
 ) -> Result<(), Unavailable>
     ensures same_reference { tx.new.conn.ghost_name ≡ tx.old.conn.ghost_name }
+    ensures stays { StaysInside S.Store tx.old.conn.now tx.new.conn.now result }
+    ensures withstands { Withstands S.Store NoMore tx.old.conn.now tx.new.conn.now }
     ensures added { HasCleanDisk (state S.Store tx.new.conn.now) → IsTrue tx.old.conn.now.in_transaction
         → (p : Parts) (steady : Bool) → HoldsParts (state S.Store tx.old.conn.now).now p → id ≡ length p.censuses + 1 → OnOk result (IsTrue tx.new.conn.now.in_transaction × HoldsParts (state S.Store tx.new.conn.now).now (record p { censuses = p.censuses ++ record { census = census.now; tally = tally.now; steady = steady } ∷ [] })) }
-    ensures inside { HasCleanDisk (state S.Store tx.new.conn.now) → IsTrue tx.old.conn.now.in_transaction → OnOk result (IsTrue tx.new.conn.now.in_transaction) }
-    ensures kept { HasCleanDisk (state S.Store tx.new.conn.now) → IsTrue tx.old.conn.now.in_transaction → KeepsCommit (state S.Store tx.old.conn.now) (state S.Store tx.new.conn.now) }
-    ensures clean { doubt (state S.Store tx.old.conn.now).is_clean ≤ doubt (state S.Store tx.new.conn.now).is_clean }
-    ensures lasts { StaysSure (tables_of (state S.Store tx.old.conn.now)) (tables_of (state S.Store tx.new.conn.now)) }
-    ensures crash { CrashLeaves S.Store NoMore tx.old.conn.now.store tx.new.conn.now.store }
     ensures few { OnOk result (id < 2 ^ 63) }
 {
     let (Ok(id), Ok(deposit), Ok(total), Ok(unresolved)) = (
@@ -138,13 +120,10 @@ fn insert_row<S: Alter>(
     row: &Counted,
 ) -> Result<(), Unavailable>
     ensures same_reference { tx.new.conn.ghost_name ≡ tx.old.conn.ghost_name }
+    ensures stays { StaysInside S.Store tx.old.conn.now tx.new.conn.now result }
+    ensures withstands { Withstands S.Store NoMore tx.old.conn.now tx.new.conn.now }
     ensures added { HasCleanDisk (state S.Store tx.new.conn.now) → IsTrue tx.old.conn.now.in_transaction
         → (p : Parts) → HoldsParts (state S.Store tx.old.conn.now).now p → OnOk result (IsTrue tx.new.conn.now.in_transaction × HoldsParts (state S.Store tx.new.conn.now).now (record p { counts = p.counts ++ (id, row_seen row.now) ∷ [] })) }
-    ensures inside { HasCleanDisk (state S.Store tx.new.conn.now) → IsTrue tx.old.conn.now.in_transaction → OnOk result (IsTrue tx.new.conn.now.in_transaction) }
-    ensures kept { HasCleanDisk (state S.Store tx.new.conn.now) → IsTrue tx.old.conn.now.in_transaction → KeepsCommit (state S.Store tx.old.conn.now) (state S.Store tx.new.conn.now) }
-    ensures clean { doubt (state S.Store tx.old.conn.now).is_clean ≤ doubt (state S.Store tx.new.conn.now).is_clean }
-    ensures lasts { StaysSure (tables_of (state S.Store tx.old.conn.now)) (tables_of (state S.Store tx.new.conn.now)) }
-    ensures crash { CrashLeaves S.Store NoMore tx.old.conn.now.store tx.new.conn.now.store }
 {
     let (Ok(id), Ok(count)) = (i64::try_from(id), i64::try_from(row.count)) else {
         return Err(Unavailable);
@@ -163,13 +142,10 @@ fn insert_rows<S: Alter>(
     rows: &[Counted],
 ) -> Result<(), Unavailable>
     ensures same_reference { tx.new.conn.ghost_name ≡ tx.old.conn.ghost_name }
+    ensures stays { StaysInside S.Store tx.old.conn.now tx.new.conn.now result }
+    ensures withstands { Withstands S.Store NoMore tx.old.conn.now tx.new.conn.now }
     ensures added { HasCleanDisk (state S.Store tx.new.conn.now) → IsTrue tx.old.conn.now.in_transaction
         → (p : Parts) → HoldsParts (state S.Store tx.old.conn.now).now p → OnOk result (IsTrue tx.new.conn.now.in_transaction × HoldsParts (state S.Store tx.new.conn.now).now (record p { counts = p.counts ++ tagged id (map row_seen rows.now) })) }
-    ensures inside { HasCleanDisk (state S.Store tx.new.conn.now) → IsTrue tx.old.conn.now.in_transaction → OnOk result (IsTrue tx.new.conn.now.in_transaction) }
-    ensures kept { HasCleanDisk (state S.Store tx.new.conn.now) → IsTrue tx.old.conn.now.in_transaction → KeepsCommit (state S.Store tx.old.conn.now) (state S.Store tx.new.conn.now) }
-    ensures clean { doubt (state S.Store tx.old.conn.now).is_clean ≤ doubt (state S.Store tx.new.conn.now).is_clean }
-    ensures lasts { StaysSure (tables_of (state S.Store tx.old.conn.now)) (tables_of (state S.Store tx.new.conn.now)) }
-    ensures crash { CrashLeaves S.Store NoMore tx.old.conn.now.store tx.new.conn.now.store }
 {
     for row in rows {
         insert_row(tx, id, row)?;
@@ -184,13 +160,10 @@ fn insert_tally<S: Alter>(
     tally: &Tally,
 ) -> Result<(), Unavailable>
     ensures same_reference { tx.new.conn.ghost_name ≡ tx.old.conn.ghost_name }
+    ensures stays { StaysInside S.Store tx.old.conn.now tx.new.conn.now result }
+    ensures withstands { Withstands S.Store NoMore tx.old.conn.now tx.new.conn.now }
     ensures added { HasCleanDisk (state S.Store tx.new.conn.now) → IsTrue tx.old.conn.now.in_transaction
         → (p : Parts) → HoldsParts (state S.Store tx.old.conn.now).now p → OnOk result (IsTrue tx.new.conn.now.in_transaction × HoldsParts (state S.Store tx.new.conn.now).now (record p { counts = p.counts ++ tagged id tally.now.rows })) }
-    ensures inside { HasCleanDisk (state S.Store tx.new.conn.now) → IsTrue tx.old.conn.now.in_transaction → OnOk result (IsTrue tx.new.conn.now.in_transaction) }
-    ensures kept { HasCleanDisk (state S.Store tx.new.conn.now) → IsTrue tx.old.conn.now.in_transaction → KeepsCommit (state S.Store tx.old.conn.now) (state S.Store tx.new.conn.now) }
-    ensures clean { doubt (state S.Store tx.old.conn.now).is_clean ≤ doubt (state S.Store tx.new.conn.now).is_clean }
-    ensures lasts { StaysSure (tables_of (state S.Store tx.old.conn.now)) (tables_of (state S.Store tx.new.conn.now)) }
-    ensures crash { CrashLeaves S.Store NoMore tx.old.conn.now.store tx.new.conn.now.store }
 {
     insert_rows(tx, id, tally.rows.as_slice())
 }
@@ -203,14 +176,11 @@ fn insert_with_rows<S: Alter>(
     tally: &Tally,
 ) -> Result<(), Unavailable>
     ensures same_reference { tx.new.conn.ghost_name ≡ tx.old.conn.ghost_name }
+    ensures stays { StaysInside S.Store tx.old.conn.now tx.new.conn.now result }
+    ensures withstands { Withstands S.Store NoMore tx.old.conn.now tx.new.conn.now }
     ensures added { HasCleanDisk (state S.Store tx.new.conn.now) → IsTrue tx.old.conn.now.in_transaction
         → (p : Parts) (steady : Bool) → HoldsParts (state S.Store tx.old.conn.now).now p → id ≡ length p.censuses + 1
         → OnOk result (IsTrue tx.new.conn.now.in_transaction × HoldsParts (state S.Store tx.new.conn.now).now (with_census id (record { census = census.now; tally = tally.now; steady = steady }) p)) }
-    ensures inside { HasCleanDisk (state S.Store tx.new.conn.now) → IsTrue tx.old.conn.now.in_transaction → OnOk result (IsTrue tx.new.conn.now.in_transaction) }
-    ensures kept { HasCleanDisk (state S.Store tx.new.conn.now) → IsTrue tx.old.conn.now.in_transaction → KeepsCommit (state S.Store tx.old.conn.now) (state S.Store tx.new.conn.now) }
-    ensures clean { doubt (state S.Store tx.old.conn.now).is_clean ≤ doubt (state S.Store tx.new.conn.now).is_clean }
-    ensures lasts { StaysSure (tables_of (state S.Store tx.old.conn.now)) (tables_of (state S.Store tx.new.conn.now)) }
-    ensures crash { CrashLeaves S.Store NoMore tx.old.conn.now.store tx.new.conn.now.store }
     ensures few { OnOk result (id < 2 ^ 63) }
 {
     insert_census(tx, id, census, tally)?;
@@ -226,15 +196,12 @@ fn insert_with_flag<S: Alter>(
     steady: bool,
 ) -> Result<(), Unavailable>
     ensures same_reference { tx.new.conn.ghost_name ≡ tx.old.conn.ghost_name }
+    ensures stays { StaysInside S.Store tx.old.conn.now tx.new.conn.now result }
+    ensures withstands { Withstands S.Store NoMore tx.old.conn.now tx.new.conn.now }
     ensures added { HasCleanDisk (state S.Store tx.new.conn.now) → IsTrue tx.old.conn.now.in_transaction
         → (p : Parts) (t : Tallied) → t ≡ record { census = census.now; tally = tally.now; steady = steady } → HoldsParts (state S.Store tx.old.conn.now).now p → id ≡ length p.censuses + 1 → id ≡ length p.flagged + 1
         → OnOk result (IsTrue tx.new.conn.now.in_transaction × HoldsParts (state S.Store tx.new.conn.now).now (with_flag t (with_census id t p))) }
     ensures sound { HasCleanDisk (state S.Store tx.new.conn.now) → IsTrue tx.old.conn.now.in_transaction → (p : Parts) → HoldsParts (state S.Store tx.old.conn.now).now p → id ≡ length p.censuses + 1 → OnOk result (IsDatabase (state S.Store tx.new.conn.now).now) }
-    ensures inside { HasCleanDisk (state S.Store tx.new.conn.now) → IsTrue tx.old.conn.now.in_transaction → OnOk result (IsTrue tx.new.conn.now.in_transaction) }
-    ensures kept { HasCleanDisk (state S.Store tx.new.conn.now) → IsTrue tx.old.conn.now.in_transaction → KeepsCommit (state S.Store tx.old.conn.now) (state S.Store tx.new.conn.now) }
-    ensures clean { doubt (state S.Store tx.old.conn.now).is_clean ≤ doubt (state S.Store tx.new.conn.now).is_clean }
-    ensures lasts { StaysSure (tables_of (state S.Store tx.old.conn.now)) (tables_of (state S.Store tx.new.conn.now)) }
-    ensures crash { CrashLeaves S.Store NoMore tx.old.conn.now.store tx.new.conn.now.store }
     ensures few { OnOk result (id < 2 ^ 63) }
 {
     insert_with_rows(tx, id, census, tally)?;
@@ -256,8 +223,7 @@ fn insert_all<S: Alter>(
     ensures few { OnOk result (id < 2 ^ 63) }
     ensures was_open { HasCleanDisk (state S.Store conn.new) → IsTrue (state S.Store conn.new).is_open → IsTrue (state S.Store conn.old).is_open }
     ensures clean { doubt (state S.Store conn.old).is_clean ≤ doubt (state S.Store conn.new).is_clean }
-    ensures lasts { StaysSure (tables_of (state S.Store conn.old)) (tables_of (state S.Store conn.new)) }
-    ensures crash { CrashLeaves S.Store (HoldNewParts (state S.Store conn.old).now id (record { census = census.now; tally = tally.now; steady = steady })) conn.old.store conn.new.store }
+    ensures withstands { Withstands S.Store (HoldNewParts (state S.Store conn.old).now id (record { census = census.now; tally = tally.now; steady = steady })) conn.old conn.new }
     ensures up { HasCleanDisk (state S.Store conn.new) → OnOk result (IsTrue (state S.Store conn.new).is_open) }
 {
     let mut tx = conn.transaction();
@@ -280,8 +246,7 @@ pub(crate) fn insert<S: Alter>(
 ) -> Result<(), Unavailable>
     requires { HasOrder tally.now }
     ensures lost { WasSure (tables_of (state S.Store conn.old)) (tables_of (state S.Store conn.new)) }
-    ensures lasts { StaysSure (tables_of (state S.Store conn.old)) (tables_of (state S.Store conn.new)) }
-    ensures crash { CrashLeaves S.Store (HoldNewCensus (tables_of (state S.Store conn.old)) id (record { census = census.now; tally = tally.now; steady = steady })) conn.old.store conn.new.store }
+    ensures withstands { Withstands S.Store (HoldNewCensus (tables_of (state S.Store conn.old)) id (record { census = census.now; tally = tally.now; steady = steady })) conn.old conn.new }
     ensures up { HasCleanDisk (state S.Store conn.new) → OnOk result (IsTrue (state S.Store conn.new).is_open) }
     ensures ok { OnOk result ((k : Kept) → IsTrue (tables_of (state S.Store conn.new)).is_sure → Holds (tables_of (state S.Store conn.old)) k → id ≡ length k.censuses + 1 → Holds (tables_of (state S.Store conn.new)) (record k { censuses = k.censuses ++ record { census = census.now; tally = tally.now; steady = steady } ∷ [] })) }
     ensures err { OnErr result (HoldsTheSame (tables_of (state S.Store conn.old)) (tables_of (state S.Store conn.new))) }
@@ -298,11 +263,7 @@ pub(crate) fn total<'a, S: Alter>(
     rule: &'a [u8],
     code: &'a [u8],
 ) -> Result<Vec<Row>, Error>
-    ensures lost { WasSure (tables_of (state S.Store conn.old)) (tables_of (state S.Store conn.new)) }
-    ensures lasts { StaysSure (tables_of (state S.Store conn.old)) (tables_of (state S.Store conn.new)) }
-    ensures crash { CrashLeaves S.Store NoMore conn.old.store conn.new.store }
-    ensures up { HasCleanDisk (state S.Store conn.new) → OnOk result (IsTrue (state S.Store conn.new).is_open) }
-    ensures keeps { HoldsTheSame (tables_of (state S.Store conn.old)) (tables_of (state S.Store conn.new)) }
+    ensures looks { Looks S.Store conn.old conn.new result }
     ensures tells { (r : RuleSets) → IsRule r → rule.now ≡ rule_text r → ForAllHeld (tables_of (state S.Store conn.old)) (tables_of (state S.Store conn.new)) (λ k. IfOk result (λ rows. ShowsTotal (total_of k r code.now) rows.items)) }
 {
     ask(

@@ -1,15 +1,14 @@
 //! The statements on the table of deposits, one function for each.
 
-ghost use Rattle.std.specs.Prelude.{◌≡◌, ◌+◌, ◌++◌, ℕ, pos, [], ◌∷◌, length, map, option_map, IsTrue, IfOk, OnErr, OnOk};
+ghost use Rattle.std.specs.Prelude.{◌≡◌, ℕ, pos, length, map, option_map, IfOk};
 ghost use Rattle.std.specs.String.{string_bytes};
-ghost use Rattle.sqlite.specs.State.{HasCleanDisk};
 ghost use Rattle.sqlite.specs.Held.{state};
 ghost use Rattle.life_rle.specs.Record.{IsInside};
 ghost use Rattle.life_store.specs.ReadingState.{newest_rows, ShowsDeposit, line_shown};
-ghost use Rattle.life_store.specs.Kept.{Kept, numbered, deposit_by, listed_after};
-ghost use Rattle.life_store.specs.Crash.{NoMore, CrashLeaves};
-ghost use Rattle.life_store.specs.DepositsState.{AreValuesOf, HoldNewDeposit};
-ghost use Rattle.life_store.specs.Tables.{tables_of, Holds, WasSure, StaysSure, HoldsTheSame, ForAllHeld};
+ghost use Rattle.life_store.specs.Kept.{numbered, deposit_by, listed_after};
+ghost use Rattle.life_store.specs.DepositsState.{AreValuesOf, AddsUnder};
+ghost use Rattle.life_store.specs.Statements.{Looks};
+ghost use Rattle.life_store.specs.Tables.{tables_of, ForAllHeld};
 
 use crate::asking::{ask, blob, text, whole, write};
 use crate::fault::Unavailable;
@@ -19,12 +18,8 @@ use std::alloc::Global;
 
 /// The greatest number.
 pub(crate) fn newest<S: Alter>(conn: &mut Connection<S>) -> Result<Vec<Row>, Error>
-    ensures lost { WasSure (tables_of (state S.Store conn.old)) (tables_of (state S.Store conn.new)) }
-    ensures lasts { StaysSure (tables_of (state S.Store conn.old)) (tables_of (state S.Store conn.new)) }
-    ensures crash { CrashLeaves S.Store NoMore conn.old.store conn.new.store }
-    ensures keeps { HoldsTheSame (tables_of (state S.Store conn.old)) (tables_of (state S.Store conn.new)) }
+    ensures looks { Looks S.Store conn.old conn.new result }
     ensures tells { ForAllHeld (tables_of (state S.Store conn.old)) (tables_of (state S.Store conn.new)) (λ k. IfOk result (λ rows. rows.items ≡ newest_rows (length k.deposits))) }
-    ensures up { HasCleanDisk (state S.Store conn.new) → OnOk result (IsTrue (state S.Store conn.new).is_open) }
 {
     ask(
         conn,
@@ -35,11 +30,7 @@ pub(crate) fn newest<S: Alter>(conn: &mut Connection<S>) -> Result<Vec<Row>, Err
 
 /// The deposit of the number.
 pub(crate) fn show<S: Alter>(conn: &mut Connection<S>, id: i64) -> Result<Vec<Row>, Error>
-    ensures lost { WasSure (tables_of (state S.Store conn.old)) (tables_of (state S.Store conn.new)) }
-    ensures lasts { StaysSure (tables_of (state S.Store conn.old)) (tables_of (state S.Store conn.new)) }
-    ensures crash { CrashLeaves S.Store NoMore conn.old.store conn.new.store }
-    ensures up { HasCleanDisk (state S.Store conn.new) → OnOk result (IsTrue (state S.Store conn.new).is_open) }
-    ensures keeps { HoldsTheSame (tables_of (state S.Store conn.old)) (tables_of (state S.Store conn.new)) }
+    ensures looks { Looks S.Store conn.old conn.new result }
     ensures tells { (n : ℕ) → id ≡ pos n → ForAllHeld (tables_of (state S.Store conn.old)) (tables_of (state S.Store conn.new)) (λ k. IfOk result (λ rows. ShowsDeposit (option_map (λ d. record { id = n; deposit = d }) (numbered k.deposits n)) rows.items)) }
 {
     ask(
@@ -55,11 +46,7 @@ pub(crate) fn find<'a, S: Alter>(
     member: &'a [u8],
     token: &'a [u8],
 ) -> Result<Vec<Row>, Error>
-    ensures lost { WasSure (tables_of (state S.Store conn.old)) (tables_of (state S.Store conn.new)) }
-    ensures lasts { StaysSure (tables_of (state S.Store conn.old)) (tables_of (state S.Store conn.new)) }
-    ensures crash { CrashLeaves S.Store NoMore conn.old.store conn.new.store }
-    ensures up { HasCleanDisk (state S.Store conn.new) → OnOk result (IsTrue (state S.Store conn.new).is_open) }
-    ensures keeps { HoldsTheSame (tables_of (state S.Store conn.old)) (tables_of (state S.Store conn.new)) }
+    ensures looks { Looks S.Store conn.old conn.new result }
     ensures tells { ForAllHeld (tables_of (state S.Store conn.old)) (tables_of (state S.Store conn.new)) (λ k. IfOk result (λ rows. ShowsDeposit (deposit_by member.now token.now k.deposits) rows.items)) }
 {
     ask(
@@ -71,11 +58,7 @@ pub(crate) fn find<'a, S: Alter>(
 
 /// The first hundred deposits with a greater number.
 pub(crate) fn list_after<S: Alter>(conn: &mut Connection<S>, id: i64) -> Result<Vec<Row>, Error>
-    ensures lost { WasSure (tables_of (state S.Store conn.old)) (tables_of (state S.Store conn.new)) }
-    ensures lasts { StaysSure (tables_of (state S.Store conn.old)) (tables_of (state S.Store conn.new)) }
-    ensures crash { CrashLeaves S.Store NoMore conn.old.store conn.new.store }
-    ensures up { HasCleanDisk (state S.Store conn.new) → OnOk result (IsTrue (state S.Store conn.new).is_open) }
-    ensures keeps { HoldsTheSame (tables_of (state S.Store conn.old)) (tables_of (state S.Store conn.new)) }
+    ensures looks { Looks S.Store conn.old conn.new result }
     ensures tells { (n : ℕ) → id ≡ pos n → ForAllHeld (tables_of (state S.Store conn.old)) (tables_of (state S.Store conn.new)) (λ k. IfOk result (λ rows. rows.items ≡ map line_shown (listed_after n k.deposits))) }
 {
     ask(
@@ -120,12 +103,7 @@ fn insert<S: Alter>(
     file: &[u8],
 ) -> Result<usize, Error>
     requires { AreValuesOf deposit.now rule.now population file.now }
-    ensures lost { WasSure (tables_of (state S.Store conn.old)) (tables_of (state S.Store conn.new)) }
-    ensures lasts { StaysSure (tables_of (state S.Store conn.old)) (tables_of (state S.Store conn.new)) }
-    ensures crash { CrashLeaves S.Store (HoldNewDeposit (tables_of (state S.Store conn.old)) id deposit.now) conn.old.store conn.new.store }
-    ensures up { HasCleanDisk (state S.Store conn.new) → OnOk result (IsTrue (state S.Store conn.new).is_open) }
-    ensures ok { OnOk result ((k : Kept) → IsTrue (tables_of (state S.Store conn.new)).is_sure → Holds (tables_of (state S.Store conn.old)) k → id ≡ pos (length k.deposits + 1) → Holds (tables_of (state S.Store conn.new)) (record k { deposits = k.deposits ++ deposit.now ∷ [] })) }
-    ensures err { OnErr result (HoldsTheSame (tables_of (state S.Store conn.old)) (tables_of (state S.Store conn.new))) }
+    ensures { AddsUnder S.Store id deposit.now conn.old conn.new result }
 {
     write(
         conn,
@@ -149,12 +127,7 @@ pub(crate) fn add<S: Alter>(
     deposit: &Deposit,
 ) -> Result<(), Unavailable>
     requires { IsInside 1024 deposit.now.content.cells }
-    ensures lost { WasSure (tables_of (state S.Store conn.old)) (tables_of (state S.Store conn.new)) }
-    ensures lasts { StaysSure (tables_of (state S.Store conn.old)) (tables_of (state S.Store conn.new)) }
-    ensures crash { CrashLeaves S.Store (HoldNewDeposit (tables_of (state S.Store conn.old)) id deposit.now) conn.old.store conn.new.store }
-    ensures up { HasCleanDisk (state S.Store conn.new) → OnOk result (IsTrue (state S.Store conn.new).is_open) }
-    ensures ok { OnOk result ((k : Kept) → IsTrue (tables_of (state S.Store conn.new)).is_sure → Holds (tables_of (state S.Store conn.old)) k → id ≡ pos (length k.deposits + 1) → Holds (tables_of (state S.Store conn.new)) (record k { deposits = k.deposits ++ deposit.now ∷ [] })) }
-    ensures err { OnErr result (HoldsTheSame (tables_of (state S.Store conn.old)) (tables_of (state S.Store conn.new))) }
+    ensures { AddsUnder S.Store id deposit.now conn.old conn.new result }
 {
     let values = values_of(alloc, deposit)?;
     match insert(

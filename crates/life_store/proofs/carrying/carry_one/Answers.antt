@@ -2,20 +2,17 @@ use Rattle.std.proofs.Common.{arith, refl}
 use Rattle.sqlite.specs.State.{HasCleanDisk}
 use Rattle.sqlite.specs.Held.{state}
 use Rattle.life_store.proofs.CarryLemmas.{carried_by}
-use Rattle.life_store.proofs.CensusLemmas.{keeps_then}
+use Rattle.life_store.proofs.StatementLemmas.{stays_then}
 use Rattle.life_store.proofs.carrying.carry_one.Goals as goal
 
 pub returns-clause-carried : goal.returns-clause-carried
 returns-clause-carried g c clean begun p t filed stands is there =
     let middle = state g.S.Store c.flag_at.new.tx.conn.now in
-    let clean_1 : HasCleanDisk middle = omega (arith, c.insert.ensures.clean, clean) in
-    let inside_1 = c.in_ok-steady.ensures.inside clean_1 begun in
+    let clean_1 : HasCleanDisk middle = omega (arith, c.insert.ensures.stays.clean, clean) in
+    let inside_1 = c.in_ok-steady.ensures.stays.inside clean_1 begun in
     let it = c.in_ok-steady.ensures.computed clean_1 p t filed stands there in
     let b = c.in_ok-steady.steady in
     carried_by c.insert.result _ p t b (state g.S.Store c.insert.new.tx.conn.now).now it.0 (c.insert.ensures.added clean inside_1 p (record t { steady = b }) it.1 refl is)
 
-pub returns-clause-kept : goal.returns-clause-kept
-returns-clause-kept g c clean inside =
-    let middle = state g.S.Store c.flag_at.new.tx.conn.now in
-    let clean_1 : HasCleanDisk middle = omega (arith, c.insert.ensures.clean, clean) in
-    keeps_then (state g.S.Store c.args.tx.now.conn.now) middle (state g.S.Store c.insert.new.tx.conn.now) (c.flag_at.ensures.kept clean_1 inside) (c.insert.ensures.kept clean (c.in_ok-steady.ensures.inside clean_1 inside))
+pub returns-clause-stays : goal.returns-clause-stays
+returns-clause-stays g c = stays_then _ _ _ c.in_ok-steady.ensures.stays c.insert.ensures.stays

@@ -1,9 +1,6 @@
-use Rattle.life_store.proofs.CrashLemmas.{crash_none}
-use Rattle.life_store.proofs.LastingLemmas.{lasts_none}
+use Rattle.std.proofs.Common.{rules}
+use Rattle.life_store.proofs.StatementLemmas.{withstands_none}
 use Rattle.life_store.proofs.deposits.add.Goals as goal
 
-pub returns-in_err-values-clause-lasts : goal.returns-in_err-values-clause-lasts
-returns-in_err-values-clause-lasts g c = lasts_none _
-
-pub returns-in_err-values-clause-crash : goal.returns-in_err-values-clause-crash
-returns-in_err-values-clause-crash g c = crash_none _
+pub returns-in_err-values : goal.returns-in_err-values
+returns-in_err-values g c = record { lost = search rules; up = search rules; withstands = withstands_none _; ok = search rules; err = search rules }

@@ -7,8 +7,7 @@ use Rattle.life_store.specs.CensusesState.{given_flag}
 use Rattle.life_store.specs.StatementsState.{add_flag_text}
 use Rattle.life_store.specs.Stored.{flag_number}
 use Rattle.life_store.proofs.CensusLemmas.{adds_flag, sound_after}
-use Rattle.life_store.proofs.CrashLemmas.{crash_by, crash_none}
-use Rattle.life_store.proofs.LastingLemmas.{lasts_none, lasts_by}
+use Rattle.life_store.proofs.StatementLemmas.{withstands_none, withstands_by}
 use Rattle.life_store.proofs.flags.insert.Goals as goal
 
 pub returns-clause-added : goal.returns-clause-added
@@ -22,23 +21,14 @@ returns-clause-added g c clean begun p t stands same is =
     let next : c.args.id ≡ 1 + length p.flagged = omega (arith, is) in
     (ran.1.mode, adds_flag old new p stands count t (subst (λ n. ExecutesInside 0 add_flag_text (given_flag n t.steady) old new (Ok count)) next ran).0)
 
-pub returns-in_default-clause-lasts : goal.returns-in_default-clause-lasts
-returns-in_default-clause-lasts g c = lasts_none _
+pub returns-in_default-clause-withstands : goal.returns-in_default-clause-withstands
+returns-in_default-clause-withstands g c = withstands_none _
 
-pub returns-in_default-clause-crash : goal.returns-in_default-clause-crash
-returns-in_default-clause-crash g c = crash_none _
+pub returns-in_err-execute-clause-withstands : goal.returns-in_err-execute-clause-withstands
+returns-in_err-execute-clause-withstands g c = withstands_by g.S.Store c.args.tx.now.conn.now c.execute.new.self.conn.now _ c.execute.ensures.survives
 
-pub returns-in_err-execute-clause-lasts : goal.returns-in_err-execute-clause-lasts
-returns-in_err-execute-clause-lasts g c = lasts_by (state g.S.Store c.args.tx.now.conn.now) (state g.S.Store c.execute.new.self.conn.now) _ c.execute.ensures.survives
-
-pub returns-in_err-execute-clause-crash : goal.returns-in_err-execute-clause-crash
-returns-in_err-execute-clause-crash g c = crash_by g.S.Store c.args.tx.now.conn.now c.execute.new.self.conn.now _ c.execute.ensures.survives
-
-pub returns-clause-lasts : goal.returns-clause-lasts
-returns-clause-lasts g c = lasts_by (state g.S.Store c.args.tx.now.conn.now) (state g.S.Store c.execute.new.self.conn.now) _ c.execute.ensures.survives
-
-pub returns-clause-crash : goal.returns-clause-crash
-returns-clause-crash g c = crash_by g.S.Store c.args.tx.now.conn.now c.execute.new.self.conn.now _ c.execute.ensures.survives
+pub returns-clause-withstands : goal.returns-clause-withstands
+returns-clause-withstands g c = withstands_by g.S.Store c.args.tx.now.conn.now c.execute.new.self.conn.now _ c.execute.ensures.survives
 
 pub returns-clause-sound : goal.returns-clause-sound
 returns-clause-sound g c clean begun p stands =

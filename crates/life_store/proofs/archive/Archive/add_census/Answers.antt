@@ -13,8 +13,8 @@ pub returns-in_err-insert-clause-goes : goal.returns-in_err-insert-clause-goes
 returns-in_err-insert-clause-goes g c =
     let counted = c.count_censuses.ensures in
     let t : Tallied = record { census = c.args.census.now; tally = c.args.tally.now; steady = c.args.steady } in
-    let added : StaysSure c.count_censuses.new.self.tables (tables_of (state g.S.Store c.insert.new.conn)) = search (rules, c.insert.ensures.lasts) in
-    let left : CrashLeaves g.S.Store (HoldNewCensus c.count_censuses.new.self.tables c.in-Some.id t) c.count_censuses.new.self.store c.insert.new.conn.store = search (rules, c.insert.ensures.crash) in
+    let added : StaysSure c.count_censuses.new.self.tables (tables_of (state g.S.Store c.insert.new.conn)) = search (rules, c.insert.ensures.withstands.lasts) in
+    let left : CrashLeaves g.S.Store (HoldNewCensus c.count_censuses.new.self.tables c.in-Some.id t) c.count_censuses.new.self.store c.insert.new.conn.store = search (rules, c.insert.ensures.withstands.crash) in
     let next : c.in-Some.id ≡ c.in_ok-count.count + 1 = search rules in
     record {
       was_sure = search rules;
@@ -29,8 +29,8 @@ pub returns-clause-goes : goal.returns-clause-goes
 returns-clause-goes g c =
     let counted = c.count_censuses.ensures in
     let t : Tallied = record { census = c.args.census.now; tally = c.args.tally.now; steady = c.args.steady } in
-    let added : StaysSure c.count_censuses.new.self.tables (tables_of (state g.S.Store c.insert.new.conn)) = search (rules, c.insert.ensures.lasts) in
-    let left : CrashLeaves g.S.Store (HoldNewCensus c.count_censuses.new.self.tables c.in-Some.id t) c.count_censuses.new.self.store c.insert.new.conn.store = search (rules, c.insert.ensures.crash) in
+    let added : StaysSure c.count_censuses.new.self.tables (tables_of (state g.S.Store c.insert.new.conn)) = search (rules, c.insert.ensures.withstands.lasts) in
+    let left : CrashLeaves g.S.Store (HoldNewCensus c.count_censuses.new.self.tables c.in-Some.id t) c.count_censuses.new.self.store c.insert.new.conn.store = search (rules, c.insert.ensures.withstands.crash) in
     let next : c.in-Some.id ≡ c.in_ok-count.count + 1 = search rules in
     record {
       was_sure = search rules;

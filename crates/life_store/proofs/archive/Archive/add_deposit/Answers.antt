@@ -11,8 +11,8 @@ use Rattle.life_store.proofs.archive.Archive.add_deposit.Goals as goal
 pub returns-in_err-add-clause-goes : goal.returns-in_err-add-clause-goes
 returns-in_err-add-clause-goes g c =
     let counted = c.count_deposits.ensures in
-    let added : StaysSure c.count_deposits.new.self.tables (tables_of (state g.S.Store c.add.new.conn)) = search (rules, c.add.ensures.lasts) in
-    let left : CrashLeaves g.S.Store (HoldNewDeposit c.count_deposits.new.self.tables c.in-Ok.place c.args.deposit.now) c.count_deposits.new.self.store c.add.new.conn.store = search (rules, c.add.ensures.crash) in
+    let added : StaysSure c.count_deposits.new.self.tables (tables_of (state g.S.Store c.add.new.conn)) = search (rules, c.add.ensures.withstands.lasts) in
+    let left : CrashLeaves g.S.Store (HoldNewDeposit c.count_deposits.new.self.tables c.in-Ok.place c.args.deposit.now) c.count_deposits.new.self.store c.add.new.conn.store = search (rules, c.add.ensures.withstands.crash) in
     let place : c.in-Ok.place ≡ pos (c.in_ok-count.count + 1) = search rules in
     record {
       was_sure = search rules;
@@ -26,8 +26,8 @@ returns-in_err-add-clause-goes g c =
 pub returns-clause-goes : goal.returns-clause-goes
 returns-clause-goes g c =
     let counted = c.count_deposits.ensures in
-    let added : StaysSure c.count_deposits.new.self.tables (tables_of (state g.S.Store c.add.new.conn)) = search (rules, c.add.ensures.lasts) in
-    let left : CrashLeaves g.S.Store (HoldNewDeposit c.count_deposits.new.self.tables c.in-Ok.place c.args.deposit.now) c.count_deposits.new.self.store c.add.new.conn.store = search (rules, c.add.ensures.crash) in
+    let added : StaysSure c.count_deposits.new.self.tables (tables_of (state g.S.Store c.add.new.conn)) = search (rules, c.add.ensures.withstands.lasts) in
+    let left : CrashLeaves g.S.Store (HoldNewDeposit c.count_deposits.new.self.tables c.in-Ok.place c.args.deposit.now) c.count_deposits.new.self.store c.add.new.conn.store = search (rules, c.add.ensures.withstands.crash) in
     let place : c.in-Ok.place ≡ pos (c.in_ok-count.count + 1) = search rules in
     record {
       was_sure = search rules;

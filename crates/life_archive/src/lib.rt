@@ -3,12 +3,11 @@
 
 mod deposit;
 mod path;
-mod serving;
 mod session;
 mod stop;
 
 pub use deposit::run_deposit;
+pub use life_pages::serve as run_serve;
 pub use path::{deposit_path, serve_path};
-pub use serving::run_serve;
 pub use session::{Connections, law_of_sessions, serve_connections, serve_files};
 pub use stop::ArchiveStop;

@@ -4,10 +4,10 @@ use Rattle.life_rle.specs.Stream.{IsEnded, Loses}
 use Rattle.life_pages.specs.Head.{Head}
 use Rattle.life_pages.specs.Message.{HasNone, are_line_breaks}
 use Rattle.life_pages.specs.MessageState.{NeverHas, held_limit}
-use Rattle.life_pages.specs.Serving.{RepliesCutShort, Served, LosesAtLeast, Grows}
+use Rattle.life_pages.specs.Serving.{most_takes, RepliesCutShort, Served, LosesAtLeast, Grows}
 use Rattle.life_pages.specs.declared.serving.IoFault.{IoFault}
 use Rattle.life_pages.specs.declared.serving.IoFault.TheVariants as faults
-use Rattle.life_pages.specs.ServingState.{Ended, AtEnd, IsOutcome, IsBlankEnd, most_takes}
+use Rattle.life_pages.specs.ServingState.{Ended, AtEnd, IsOutcome, IsBlankEnd}
 use Rattle.life_pages.proofs.ServingRunning.{cut_broke}
 use Rattle.life_pages.proofs.ServingReading.{Reading, reading_ended, reading_end, reading_cut_end, served_broke, so_far_broke}
 use Rattle.life_pages.proofs.ServingPassing.{many_passed, blank_end, other_end, other_cut, passed_paused}

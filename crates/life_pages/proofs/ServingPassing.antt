@@ -11,8 +11,8 @@ use Rattle.life_pages.specs.Head.{Head}
 use Rattle.life_pages.specs.Reply.{bad_bytes}
 use Rattle.life_pages.specs.Message.{Message, bad, Messages, Starts, MessageRun, are_line_breaks}
 use Rattle.life_pages.specs.MessageState.{NeverHas}
-use Rattle.life_pages.specs.Serving.{AreFirstUpTo, Fronts, Served, LastReplyCutShort, ServedSoFar, LosesAtLeast}
-use Rattle.life_pages.specs.ServingState.{Feeds, PassesBlank, PassesThen, IsBlankRest, most_takes, most_taken}
+use Rattle.life_pages.specs.Serving.{most_takes, most_taken, AreFirstUpTo, Fronts, Served, LastReplyCutShort, ServedSoFar, LosesAtLeast}
+use Rattle.life_pages.specs.ServingState.{Feeds, PassesBlank, PassesThen, IsBlankRest}
 use Rattle.life_pages.proofs.ServingRunning.{front_messages, front_starts, run_then, then_cut}
 use Rattle.life_pages.proofs.ServingReading.{Reading, reading_more, paused, fronts_more, whole_before}
 

@@ -1,7 +1,9 @@
 -- What serving a stream does.
-use Rattle.std.specs.Prelude.{◌≡◌, Bool, ℕ, ◌≤◌, List, [], ◌∷◌, ◌++◌, length, Option, None, Some, Result, Ok, Err, IfSome}
+use Rattle.std.specs.Prelude.{◌≡◌, Bool, ℕ, ◌+◌, ◌*◌, ◌≤◌, List, [], ◌∷◌, ◌++◌, length, Option, None, Some, Result, Ok, Err, OnOk, IfSome}
+use Rattle.life_rle.specs.declared.stream.Inlet as inlet
+use Rattle.life_rle.specs.declared.stream.Outlet as outlet
+use Rattle.life_rle.specs.Stream.{raised, FailedBetween, FailsLast, Loses, LosesUpTo, Gains, GainsSome}
 use Rattle.life_pages.specs.Head.{Head}
-use Rattle.life_rle.specs.Stream.{raised, FailsLast, Loses, Gains, GainsSome}
 use Rattle.life_pages.specs.Message.{Message, Messages, Front, Starts, MessageRun, HasNone, IsAwaited}
 use Rattle.life_pages.specs.declared.serving.IoFault.{IoFault}
 use Rattle.life_pages.specs.declared.serving.IoFault.TheVariants.{Read, Write, TooManyReads, Memory}
@@ -12,6 +14,14 @@ io_fault_number Read = 1
 io_fault_number Write = 2
 io_fault_number TooManyReads = 3
 io_fault_number Memory = 4
+
+-- the most takes of one call
+abbrev pub most_takes : ℕ
+most_takes = 1048576
+
+-- the most bytes of one
+abbrev pub most_taken : ℕ
+most_taken = 4096
 
 -- all the messages that were sent, where the stream tells its bytes
 abbrev pub AreAllOf : Option (List ℕ) → List Message → Type 0
@@ -112,3 +122,34 @@ ReportsPutFailures old new last (Err Read) = new ≡ old
 ReportsPutFailures old new last (Err Write) = FailsLast old new last
 ReportsPutFailures old new last (Err TooManyReads) = new ≡ old
 ReportsPutFailures old new last (Err Memory) = new ≡ old
+
+-- ---- a call
+
+-- What a call does to what answers the messages. `by P` says that this went from what it was before the call to what it is after it as P says: a desk that
+-- was old and is new by λ P. P old new, and an archive in a database by `ByArchive` or `InMemory`.
+pub record IsServed {D I O : Type 0} (answers : D → Head → List ℕ → List ℕ → D → Type 0) (by : (D → D → Type 0) → Type 0) (i : inlet.Ghosts I) (o : outlet.Ghosts O) (input rest : I) (output sent : O) (result : Result (Unit {0}) IoFault) : Type 0 where
+  -- Ok: all messages of the stream were answered, and what was put is their replies.
+  pub told : OnOk result (by (λ A B. Served answers (i.to_come input) A B (o.already output) (o.already sent)))
+  -- Whatever the answer: the first of them were answered, and no more than their replies was put.
+  pub some : by (λ A B. RepliesCutShort answers (i.to_come input) A B (o.already output) (o.already sent))
+  -- A failed take: what was taken whole was answered, and the replies were put whole.
+  pub paused : result ≡ Err Read → by (λ A B. ServedSoFar answers (i.to_come input) (i.to_come rest) A B (o.already output) (o.already sent))
+  -- The same if one more take would be too many.
+  pub full : result ≡ Err TooManyReads → by (λ A B. ServedSoFar answers (i.to_come input) (i.to_come rest) A B (o.already output) (o.already sent))
+  -- A failed put: of the last reply a beginning was put, and those before it whole.
+  pub cut : result ≡ Err Write → by (λ A B. LastReplyCutShort answers (AreFirstUpTo (i.to_come input) (i.to_come rest) (i.last_take rest)) A B (o.already output) (o.already sent))
+
+-- What a call does to its streams, whatever answers the messages.
+pub record UsesStreams {I O : Type 0} (i : inlet.Ghosts I) (o : outlet.Ghosts O) (input rest : I) (output sent : O) (result : Result (Unit {0}) IoFault) : Type 0 where
+  -- Too many takes: at least 1,048,576 known bytes were taken.
+  pub many : result ≡ Err TooManyReads → LosesAtLeast most_takes (i.to_come input) (i.to_come rest)
+  -- What is put only grows: what was put before the call is a beginning of what is put after it.
+  pub grows : Grows (o.already output) (o.already sent)
+  -- At most 1,048,576 takes are made, and at most 4,096 times as many bytes are taken.
+  pub takes : i.takes rest ≤ i.takes input + most_takes
+  pub most : LosesUpTo (most_takes * most_taken) (i.to_come input) (i.to_come rest)
+  -- A failed take is answered at once, a failed put is answered, and nothing else is.
+  pub heard : ReportsTakeFailures (i.failures input) (i.failures rest) result
+  pub puts : ReportsPutFailures (o.failures output) (o.failures sent) (o.last_failed sent) result
+  pub read : result ≡ Err Read → FailedBetween (i.failures input) (i.failures rest)
+  pub write : result ≡ Err Write → FailedBetween (o.failures output) (o.failures sent)

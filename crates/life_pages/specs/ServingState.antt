@@ -11,15 +11,7 @@ use Rattle.life_pages.specs.Head.{Head}
 use Rattle.life_pages.specs.Message.{Message, Messages, Front, Starts, MessageRun, are_line_breaks}
 use Rattle.life_pages.specs.MessageState.{IsWanting}
 use Rattle.life_pages.specs.Reply.{bad_bytes}
-use Rattle.life_pages.specs.Serving.{AreFirstUpTo, LastReplyCutShort, Served, ServedSoFar, LosesAtLeast}
-
--- the most takes of one call
-abbrev pub most_takes : ℕ
-most_takes = 1048576
-
--- the most bytes of one
-abbrev pub most_taken : ℕ
-most_taken = 4096
+use Rattle.life_pages.specs.Serving.{most_takes, AreFirstUpTo, LastReplyCutShort, Served, ServedSoFar, LosesAtLeast}
 
 -- a take of more bytes behind those that are held
 abbrev pub Feeds : {E : Type 0} → Option (List ℕ) → Option (List ℕ) → List ℕ → List ℕ → Result ℕ E → Type 0
@@ -53,11 +45,11 @@ module _ {D : Type 0} (answers : D → Head → List ℕ → List ℕ → D → 
   IsStep (Err e) held rest old new before after = LastReplyCutShort answers (λ ms. (more : List ℕ) → Starts (held ++ more) ms) old new before after
 
   -- all the messages that are held
-  abbrev pub IsServed : {E : Type 0} → Result Bool E → List ℕ → List ℕ → D → D → Option (List ℕ) → Option (List ℕ) → Type 0
-  IsServed (Ok false) held rest old new before after =
+  abbrev pub IsHeldServed : {E : Type 0} → Result Bool E → List ℕ → List ℕ → D → D → Option (List ℕ) → Option (List ℕ) → Type 0
+  IsHeldServed (Ok false) held rest old new before after =
       Went held rest old new before after × IsWanting rest
-  IsServed (Ok true) held rest old new before after = Ended held old new before after
-  IsServed (Err e) held rest old new before after = LastReplyCutShort answers (λ ms. (more : List ℕ) → Starts (held ++ more) ms) old new before after
+  IsHeldServed (Ok true) held rest old new before after = Ended held old new before after
+  IsHeldServed (Err e) held rest old new before after = LastReplyCutShort answers (λ ms. (more : List ℕ) → Starts (held ++ more) ms) old new before after
 
   -- at the end of the input
   abbrev pub AtEnd : Result (Unit {0}) IoFault → List ℕ → D → Option (List ℕ) → Option (List ℕ) → Type 0

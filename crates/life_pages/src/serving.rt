@@ -1,6 +1,6 @@
 //! Serving the messages of a stream.
 ghost use Rattle.std.specs.Prelude.{◌⊎◌, ◌≡◌, ℕ, ◌+◌, ◌-◌, ◌*◌, ◌<◌, ◌≤◌, List, [], ◌∷◌, ◌++◌, length, drop, true, false, vec_len, vec_capacity, Err, OnOk, OnErr, IfOk};
-ghost use Rattle.life_rle.specs.Stream.{counted, moved, raised, FailedBetween, FailsLast, LosesUpTo, Gains, GainsSome};
+ghost use Rattle.life_rle.specs.Stream.{counted, moved, raised, FailsLast, LosesUpTo, Gains, GainsSome};
 ghost use Rattle.life_pages.specs.Head.{Head};
 ghost use Rattle.life_pages.specs.HeadState.{said};
 ghost use Rattle.life_pages.specs.RouteState.{page_rows};
@@ -8,8 +8,8 @@ ghost use Rattle.life_pages.specs.Reply.{bad_bytes};
 ghost use Rattle.life_pages.specs.Message.{are_line_breaks, HasMessageInFront, HasNone, AnswersMessage};
 ghost use Rattle.life_pages.specs.MessageState.{held_limit, NeverHas, IsWanting, WantsUntil};
 ghost use Rattle.life_pages.specs.AnswerState.{HasRoom};
-ghost use Rattle.life_pages.specs.Serving.{AreFirstUpTo, Grows, ServedSoFar, LastReplyCutShort, Served, RepliesCutShort, LosesAtLeast, ReportsTakeFailures, ReportsPutFailures};
-ghost use Rattle.life_pages.specs.ServingState.{AtEnd, IsStep, IsServed, IsOutcome, Feeds, IsPassed, HearsPassed, IsBlankEnd};
+ghost use Rattle.life_pages.specs.Serving.{IsServed, UsesStreams, ReportsTakeFailures, ReportsPutFailures};
+ghost use Rattle.life_pages.specs.ServingState.{AtEnd, IsStep, IsHeldServed, IsOutcome, Feeds, IsPassed, HearsPassed, IsBlankEnd};
 
 use crate::answer::{ReplyBuffers, answer_message};
 use crate::asked::PageRefusal;
@@ -25,10 +25,10 @@ use std::alloc::{AllocError, Global};
 const HELD_LIMIT: usize = 1_056_768;
 
 /// The most takes of one call.
-pub(crate) const TAKES: u64 = 1_048_576;
+const TAKES: u64 = 1_048_576;
 
 /// The most bytes of one take.
-pub(crate) const MOST_TAKEN: usize = 4096;
+const MOST_TAKEN: usize = 4096;
 
 /// Why serving a stream stopped before its end.
 #[derive(Clone, Copy, Debug, PartialEq, Eq)]
@@ -153,7 +153,7 @@ fn serve_held<O: Outlet, D: Desk>(
     requires below { WantsUntil wanted.old held.old.items }
     ensures count { OnOk result (O.failures output.new ≡ O.failures output.old) }
     ensures failed { OnErr result (FailsLast (O.failures output.old) (O.failures output.new) (O.last_failed output.new)) }
-    ensures served { IsServed (AnswersMessage D.answers) result held.old.items held.new.items desk.old desk.new (O.already output.old) (O.already output.new) }
+    ensures served { IsHeldServed (AnswersMessage D.answers) result held.old.items held.new.items desk.old desk.new (O.already output.old) (O.already output.new) }
     ensures room { vec_capacity held.old ≤ vec_capacity held.new }
     ensures draft { HasRoom draft.new }
     ensures below { WantsUntil wanted.new held.new.items }
@@ -384,30 +384,9 @@ pub(crate) fn serve_desk<I: Inlet, O: Outlet, D: Desk>(
     input: &mut I,
     output: &mut O,
 ) -> Result<(), IoFault>
-    // Ok: what was put is the replies to all messages of the stream.
-    ensures told { OnOk result (Served (AnswersMessage D.answers) (I.to_come input.old) desk.old desk.new (O.already output.old) (O.already output.new)) }
-    // Whatever the answer: the first of them were answered, and no more than their replies was put.
-    ensures some { RepliesCutShort (AnswersMessage D.answers) (I.to_come input.old) desk.old desk.new (O.already output.old) (O.already output.new) }
-    // A failed take: what was taken whole was answered, and the replies were put whole.
-    ensures paused { result ≡ Err IoFault.Read → ServedSoFar (AnswersMessage D.answers) (I.to_come input.old) (I.to_come input.new)
-        desk.old desk.new (O.already output.old) (O.already output.new) }
-    ensures full { result ≡ Err IoFault.TooManyReads → ServedSoFar (AnswersMessage D.answers) (I.to_come input.old) (I.to_come input.new)
-        desk.old desk.new (O.already output.old) (O.already output.new) }
-    ensures many { result ≡ Err IoFault.TooManyReads → LosesAtLeast TAKES (I.to_come input.old) (I.to_come input.new) }
-    // A failed put: the replies to all answered messages but the last were put whole, and of the last a beginning.
-    ensures cut { result ≡ Err IoFault.Write → LastReplyCutShort (AnswersMessage D.answers) (AreFirstUpTo (I.to_come input.old) (I.to_come input.new) (I.last_take input.new))
-        desk.old desk.new (O.already output.old) (O.already output.new) }
-    // What is put only grows: what was put before the call is a beginning of what is put after it.
-    ensures grows { Grows (O.already output.old) (O.already output.new) }
+    ensures served { IsServed (AnswersMessage D.answers) (λ P. P desk.old desk.new) I.Inlet O.Outlet input.old input.new output.old output.new result }
+    ensures streams { UsesStreams I.Inlet O.Outlet input.old input.new output.old output.new result }
     ensures memory { result ≡ Err IoFault.Memory → (desk.new ≡ desk.old) × (input.new ≡ input.old) × (output.new ≡ output.old) }
-    // At most 1,048,576 takes are made, and at most 4,096 times as many bytes are taken.
-    ensures takes { I.takes input.new ≤ I.takes input.old + TAKES }
-    ensures most { LosesUpTo (TAKES * MOST_TAKEN) (I.to_come input.old) (I.to_come input.new) }
-    // A failed take is answered at once, a failed put is answered, and nothing else is.
-    ensures heard { ReportsTakeFailures (I.failures input.old) (I.failures input.new) result }
-    ensures puts { ReportsPutFailures (O.failures output.old) (O.failures output.new) (O.last_failed output.new) result }
-    ensures read { result ≡ Err IoFault.Read → FailedBetween (I.failures input.old) (I.failures input.new) }
-    ensures write { result ≡ Err IoFault.Write → FailedBetween (O.failures output.old) (O.failures output.new) }
 {
     match prepared(alloc) {
         Ok(mut ready) => serve_stream(alloc, &mut ready, desk, input, output),

@@ -5,7 +5,7 @@ pub returns-in_default : goal.returns-in_default
 returns-in_default g c = λ n. none_came g.S.Store _ n
 
 pub returns : goal.returns
-returns g c = λ n. one_untold g.S.Store _ _ _ _ c.run_serve-served.result n c.run_serve-served.ensures.steps
+returns g c = λ n. one_untold g.S.Store _ _ _ _ c.serve-served.result n c.serve-served.ensures.steps
 
 pub returns-in_default-accept : goal.returns-in_default-accept
 returns-in_default-accept g c = λ n. none_came g.S.Store _ n

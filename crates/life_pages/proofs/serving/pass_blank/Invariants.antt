@@ -1,6 +1,7 @@
 use Rattle.std.proofs.Common.{◌≡◌, ◌≤◌, ◌+◌, ◌*◌, length}
 use Rattle.life_rle.specs.Stream.{LosesUpTo}
-use Rattle.life_pages.specs.ServingState.{PassesBlank, most_taken}
+use Rattle.life_pages.specs.Serving.{most_taken}
+use Rattle.life_pages.specs.ServingState.{PassesBlank}
 use Rattle.life_pages.proofs.serving.pass_blank.Given as goal
 
 abbrev pub invariant-passed : goal.invariant-passed

@@ -3,8 +3,7 @@ use Rattle.life_pages.specs.RouteState.{page_rows}
 use Rattle.life_pages.specs.Message.{AnswersMessage}
 use Rattle.life_pages.specs.MessageState.{held_limit, WantsUntil}
 use Rattle.life_pages.specs.AnswerState.{HasRoom}
-use Rattle.life_pages.specs.Serving.{LosesAtLeast}
-use Rattle.life_pages.specs.ServingState.{most_takes, most_taken}
+use Rattle.life_pages.specs.Serving.{most_takes, most_taken, LosesAtLeast}
 use Rattle.life_rle.specs.Stream.{LosesUpTo}
 use Rattle.life_pages.proofs.ServingReading.{Reading, Reached}
 use Rattle.life_pages.proofs.serving.serve_stream.Given as goal

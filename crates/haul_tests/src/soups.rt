@@ -149,19 +149,11 @@ fn runs_so(alloc: Global, run: Run) -> bool {
     run_soup(alloc, words, &mut output) == answer && output.bytes() == text.as_bytes()
 }
 
-/// The first of the runs that goes otherwise.
-fn other(alloc: Global) -> Option<usize> {
-    for (at, run) in RUNS.into_iter().enumerate() {
-        if !runs_so(alloc, run) {
-            return Some(at);
-        }
-    }
-    None
-}
-
 #[test]
 fn soups_are_put(rt: HostRuntime) -> Result<(), Fail> {
-    assert_eq!(rt; other(rt.alloc()), None);
+    for run in RUNS {
+        assert!(rt; runs_so(rt.alloc(), run));
+    }
     Ok(())
 }
 

@@ -65,7 +65,7 @@ Deposits g old new member token told before after answer =
 
 -- ---- crashes
 
--- Where the archive was asked: the database was sure and its disk has returned what was written, then a crash in the middle of the job leaves the archive as it was
+-- Where the archive was asked: the database was sure and its disk has returned what was written, then a crash during the job leaves the archive as it was
 -- or with the deposit of the file that was asked for; and where the reply of which the number was put says that it is kept, it is there.
 abbrev pub IsDepositSafe : {S : Type 0} → Ghosts S → ArchiveView S → ArchiveView S → List ℕ → List ℕ → Option (List ℕ) → Option (List ℕ) → Option (List ℕ) → Result (Unit {0}) ArchiveStop → Type 0
 IsDepositSafe g old new member token told before after answer =

@@ -68,7 +68,7 @@ LeavesClosed g A ms bytes (Some files) = AreClean g files.log files.db
 LeavesClosed g A ms bytes None = ⊤
 
 -- A session over the files of a path: they were opened as an archive, which served so many connections, and were closed. What serving did to the archive,
--- what a crash in the middle of it leaves, and what it leaves at its end, are of one list of connections.
+-- what a crash during it leaves, and what it leaves at its end, are of one list of connections.
 pub record IsPathSession {D : Type 0} (g : disk.Ghosts D) (image : Image) (capacity count : ℕ) (before after : Traffic) (left : Option (Files D)) : Type 0 where
   pub opened : ArchiveView (FileStore D g)
   pub last : ArchiveView (FileStore D g)

@@ -98,7 +98,7 @@ abbrev pub Runs : List Message → List ℕ → Archive → Archive → Type 0
 Runs ms bytes A B = MessageRun (AnswersMessage RequestStep) A ms bytes B
 
 -- What serving so many connections does to a database: each archive that it meant went through a run over the messages of all of them; a request that is refused
--- for its own words is answered by that refusal, whatever the database does; and a crash in the middle leaves the archive after a beginning of the messages, or
+-- for its own words is answered by that refusal, whatever the database does; and a crash during the call leaves the archive after a beginning of the messages, or
 -- after the one that follows as well, behind which no reply says that something is kept.
 pub record ServesConnections {S : Type 0} (g : Ghosts S) (count : ℕ) (old new : ArchiveView S) (before after : Traffic) : Type 0 where
   pub exchanges : List Exchange
@@ -140,7 +140,7 @@ AreUsable g files = IsTrue (g.is_usable files.log) × IsTrue (g.is_usable files.
 -- A session over files: what they meant was taken over the messages of so many connections, to each of which a beginning of its replies was put, and all of them
 -- where it was served to its end. So the next session may begin with what it leaves, and where the disk was honest to the end of that, it was in this.
 --
--- Of a crash in the middle it is read off the side of Err (docs/DEFINITIONS.md, `life_store`): what the peers had then is a beginning of what was put by
+-- What a crash during the session leaves is read off the side of Err (docs/DEFINITIONS.md, `life_store`): what the peers had then is a beginning of what was put by
 -- the end of that run, since each put only adds.
 pub record IsSession {D : Type 0} (g : disk.Ghosts D) (files : Files D) (capacity count : ℕ) (before after : Traffic) (left : Result (Files D) (Files D)) : Type 0 where
   pub exchanges : List Exchange

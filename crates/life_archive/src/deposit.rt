@@ -161,7 +161,7 @@ pub fn run_deposit<S: Alter, I: Inlet, O: Outlet>(
 ) -> Result<(), ArchiveStop>
     // The archive is as it was, or was asked once, and its answer is told: where it was asked, it was for the file that came in.
     ensures deposits { Deposits S.Store archive.old archive.new member.now token.now (I.to_come input.old) (O.already output.old) (O.already output.new) result }
-    // A crash in the middle of it leaves the archive as it was or with the deposit, and with it where its number was put.
+    // A crash during the call leaves the archive as it was or with the deposit; with it, if its number was put.
     ensures crash { IsDepositSafe S.Store archive.old archive.new member.now token.now (I.to_come input.old) (O.already output.old) (O.already output.new) result }
     ensures takes { TakesFile (I.to_come input.old) (I.to_come input.new) (I.failures input.old) (I.failures input.new) (I.ends input.old) (I.ends input.new) (I.last_take input.new) (by_streams result) }
     ensures once { PutsOnce output.old output.new (O.failures output.old) (O.failures output.new) (O.last_failed output.new) (by_streams result) }

@@ -107,8 +107,8 @@ pub fn serve_files<D: Disk + Drop, C: Connections>(
     // Files in an Ok may be opened again: each sync of them went well.
     ensures usable { IfOk result (λ left. IfOk left (AreUsable D.Disk)) }
     ensures session { IfOk result (IsSession D.Disk files capacity count (C.traffic connections.old) (C.traffic connections.new)) }
-    // Where the opening was refused nobody was served; and the refusals and the files are those of `Archive::open_files`. What a crash in the
-    // middle of an opening leaves is not said.
+    // Where the opening was refused nobody was served; and the refusals and the files are those of `Archive::open_files`. What a crash during
+    // an opening leaves is not said.
     ensures unserved { OnErr result (connections.new ≡ connections.old) }
     ensures bad { IfErr result (λ e. (e.0 ≡ OpenFault.BadCapacity) ↔ (is_capacity capacity ≡ false)) }
     ensures back { IfErr result (λ e. e.0 ≡ OpenFault.BadCapacity → e.1 ≡ files) }

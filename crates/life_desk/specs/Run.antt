@@ -84,7 +84,7 @@ pub record Answered {S : Type 0} (g : Ghosts S) (old new : ArchiveView S) (qs : 
 -- ---- crashes
 
 module _ {S : Type 0} (g : Ghosts S) where
-  -- Where the database was sure and its disk has returned what was written, a crash in the middle of the call leaves the archive after
+  -- Where the database was sure and its disk has returned what was written, a crash during the call leaves the archive after
   -- a beginning of the requests, or after the one that follows as well; and whatever was said to be kept is there.
   abbrev pub IsCrashSafe : ArchiveView S → ArchiveView S → List Request → List Reply → Type 0
   IsCrashSafe old new qs rs = (A : Archive) → IsTrue old.tables.is_sure → Means old A → IsClean (g.view new.store) → (db : Trees) → g.recovers new.store db → IsCrashOf A qs rs db

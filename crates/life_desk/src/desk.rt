@@ -466,7 +466,7 @@ pub fn answer<S: Alter>(archive: &mut Archive<S>, alloc: Global, request: Reques
     ensures sure { IsSureIfClean S.Store archive.new ⊎ IsIdle request result }
     // Where the reply shows what is kept, nothing has changed, and it might have been withheld.
     ensures withheld { is_shown result ≡ true → Answered S.Store archive.old archive.new (request ∷ []) (says.Refused refusals.Unavailable ∷ []) }
-    // A crash in the middle of the call leaves the archive before the request or the one after it.
+    // A crash during the call leaves the archive before the request or the one after it.
     ensures crash { IsCrashSafe S.Store archive.old archive.new (request ∷ []) (result ∷ []) }
     // What a request's own words are refused for comes whatever the store does.
     ensures firm { IfErr (judged request) (λ refusal. (result ≡ says.Refused refusal) × (archive.new ≡ archive.old)) }
@@ -517,8 +517,8 @@ pub fn answer_all<S: Alter>(
     ensures headline { IfOk result (λ replies. IsTheArchive archive.old archive.new requests.items replies.items) }
     // A database that is sure before the call is sure after it, unless its disk failed in the call; the replies are those of a run in either case.
     ensures lasting { IfOk result (λ replies. IsTheArchiveOrFaults S.Store archive.old archive.new requests.items replies.items) }
-    // A crash in the middle of the call leaves the archive after a beginning of the requests, or after the one that follows as well, and no
-    // other reply says that something is stored.
+    // A crash during the call leaves the archive after a beginning of the requests, or after the one that follows as well, and no other reply
+    // says that something is stored.
     ensures crash { IfOk result (λ replies. IsCrashSafe S.Store archive.old archive.new requests.items replies.items) }
     ensures err { OnErr result (archive.new ≡ archive.old) }
 {

@@ -25,7 +25,7 @@ pub(crate) struct ReplyBuffers {
 }
 
 impl ReplyBuffers {
-    /// A draft with room for each short reply.
+    /// Empty buffers with room for each short reply.
     pub(crate) fn with_room(alloc: Global) -> Result<ReplyBuffers, AllocError>
         ensures { IfOk result (λ d. HasRoom d) }
     {

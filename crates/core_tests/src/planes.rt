@@ -287,7 +287,8 @@ fn has_normal(alloc: Global, pattern: &Pattern, cells: &[Cell]) -> Result<bool, 
         return Ok(false);
     }
     let normal = pattern.normal(alloc)?;
-    Ok(normal.cells() == cells && !normal.same(pattern))
+    let listed = normal.cells().list(alloc)?;
+    Ok(listed.as_slice() == cells && !normal.same(pattern))
 }
 
 /// Whether each call of a pattern answers what it should.

@@ -6,7 +6,7 @@ ghost use Rattle.life_core.specs.Cell.{IsCellWithin};
 use life_core::{
     Cell, CellList, Fault, GENERATION_LIMIT, PLANE, PackedRows, Pattern, Plane, Rule, generation_by,
 };
-use std::alloc::{AllocError, Global};
+use std::alloc::Global;
 
 /// A box of the plane.
 #[derive(Clone, Copy)]
@@ -37,7 +37,7 @@ fn are_inside(cells: &[Cell]) -> bool
 }
 
 /// The set of the cells; none where one lies outside the plane.
-fn pattern_of(mut cells: Vec<Cell>) -> Pattern {
+fn pattern_of(mut cells: Vec<Cell>) -> Result<Pattern, Fault> {
     if !are_inside(&cells) {
         cells.clear();
     }
@@ -45,14 +45,14 @@ fn pattern_of(mut cells: Vec<Cell>) -> Pattern {
 }
 
 /// The set of all cells of the box; none outside the plane.
-fn filled(alloc: Global, field: Field) -> Result<Pattern, AllocError> {
+fn filled(alloc: Global, field: Field) -> Result<Pattern, Fault> {
     let mut cells = Vec::new(alloc);
     for row in field.top..field.top.saturating_add(field.height) {
         for column in field.left..field.left.saturating_add(field.width) {
             cells.push(Cell { row, column })?;
         }
     }
-    Ok(pattern_of(cells))
+    pattern_of(cells)
 }
 
 /// Whether the first box's cells go on to the second's under Life, on planes of the kind `P`.

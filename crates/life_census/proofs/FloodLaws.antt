@@ -1,29 +1,26 @@
 -- How a flood grows, run by run.
-use Rattle.std.specs.Prelude.{◌≡◌, ℕ, zero, suc, ◌+◌, ◌<◌, ◌≤◌, ℤ, pos, negsuc, nat_abs, ◌+ℤ◌, ◌-ℤ◌, ◌≤ℤ◌, ◌<ℤ◌, int_lt, int_le, Bool, true, false, cond, ◌&&◌, List, [], ◌∷◌, ◌++◌, length, refl, ◌⊎◌}
-use Rattle.std.proofs.Common.{T, sym, ap, subst, ◌∙◌, inl, inr, append_assoc, append-nil, length-append, get_or, set, take, arith}
+use Rattle.std.specs.Prelude.{◌≡◌, ℕ, zero, suc, ◌+◌, ◌<◌, ◌≤◌, ℤ, pos, negsuc, nat_abs, ◌+ℤ◌, ◌-ℤ◌, ◌≤ℤ◌, ◌<ℤ◌, Bool, true, false, cond, List, [], ◌∷◌, ◌++◌, length, refl, ◌⊎◌}
+use Rattle.std.proofs.Common.{sym, ap, subst, ◌∙◌, inl, inr, append_assoc, append-nil, length-append, get_or, set, take, arith}
 use Rattle.std.specs.Bool.{MatchBool}
-use Rattle.std.specs.Ordering.{int_eq}
-use Rattle.std.specs.Cmp.{signed_Decides}
-use Rattle.std.proofs.lemmas.Bool.{false≢true, cases_Bool, cases_eq, cases_lt, or_cases, or_left, or_right, and_parts, and_from, true_from_ne_false}
+use Rattle.std.proofs.lemmas.Bool.{false≢true, cases_Bool, cases_eq, cases_lt}
 use Rattle.std.proofs.lemmas.List.Sums.{sum_by-set}
 use Rattle.std.proofs.lemmas.Int.{ints, by_lt_z}
 use Rattle.std.proofs.lemmas.List.{get_or-set_other, get_or-set_same, get_or_default, length_push, length-set, take-append-le, get_or_append_left}
 use Rattle.std.proofs.lemmas.List.Elements.{All-push, All-more, All-same, All-weaker, Contains-append_left}
 use Rattle.std.specs.List.{All, Contains, count_by}
-use Rattle.std.specs.List.Sorted.{IsPartitionedBy}
 use Rattle.std.specs.FinSet as set_of
 use Rattle.life_core.specs.declared.cell.Cell.{Cell}
 use Rattle.life_core.specs.Pattern.{Cells}
 use Rattle.life_core.proofs.CellLemmas.{same_coordinates}
 use Rattle.life_code.proofs.ApartNear.{within_near, near_within}
 use Rattle.life_code.specs.Apart.{within_two, near}
-use Rattle.life_census.specs.declared.runs.Run.{Run}
+use Rattle.life_core.specs.declared.runs.Run.{Run}
 use Rattle.life_census.specs.Parts.{AreJoined}
-use Rattle.life_census.specs.RunsState.{cells_in, first_cell, emptied, IsRunBefore, AreRunsInOrder}
-use Rattle.life_census.specs.FloodState.{is_filled, ends_before, IsClear, IsFlood, IsRound, IsTaken, IsBehind, IsAhead, Begins, IsBeyond, IsKept, AreKept, HasGrown}
+use Rattle.life_core.specs.Runs.{cells_in, first_cell, IsInRun, IsBehind, IsAhead, IsRunBefore, AreRunsInOrder}
+use Rattle.life_census.specs.FloodState.{emptied, is_filled, IsClear, IsFlood, IsRound, IsTaken, Begins, IsBeyond, IsKept, AreKept, HasGrown}
 use Rattle.life_census.proofs.NearLaws.{two_apart}
 use Rattle.life_census.proofs.PartsLaws.{joined_self, joined_then, joined_trans, joined_back}
-use Rattle.life_census.proofs.RunsLaws.{IsInRun, in_some, in_any, none_in, push_cases, push_old, push_new, first_in_run}
+use Rattle.life_core.proofs.RunsLaws.{in_some, in_any, none_in, push_cases, push_old, push_new, first_in_run}
 
 -- ---- what keeps its place
 
@@ -297,48 +294,6 @@ taken_empty r L K M N i d low item (inr some) = ap (λ (xs : List Run). (get_or 
 pub taken_other : (r : Run) (L K M N : List Run) (i k : ℕ) (d : Run) → (k ≡ i → ⊥) → IsTaken r i L K M N → get_or M k d ≡ get_or L k d
 taken_other r L K M N i k d differs (inl none) = ap (λ (xs : List Run). get_or xs k d) none.1
 taken_other r L K M N i k d differs (inr some) = ap (λ (xs : List Run). get_or xs k d) some.1 ∙ get_or-set_other L i k (emptied r) d differs
-
--- ---- rows
-
-lt_from : {a b : ℤ} → a <ℤ b → int_lt a b ≡ true
-lt_from {a} {b} h = true_from_ne_false (int_lt a b) (λ e. subst T e h.lt)
-
-le_from : {a b : ℤ} → a ≤ℤ b → int_le a b ≡ true
-le_from {a} {b} h = true_from_ne_false (int_le a b) (λ e. subst T e h.le)
-
-pub behind_true : (r : Run) (row column : ℤ) → ends_before r row column ≡ true → IsBehind r row column
-behind_true r row column h = elim (or_cases (int_lt r.row row) (int_eq r.row row && int_le (r.first +ℤ pos r.len) column) h) [
-  | inl above ↦ inl (record { lt = subst T (sym above) tt })
-  | inr left ↦ let both = and_parts _ _ left in inr ((signed_Decides r.row row).0 both.0, record { le = subst T (sym both.1) tt })
-]
-
-pub ahead_false : (r : Run) (row column : ℤ) → ends_before r row column ≡ false → IsAhead r row column
-ahead_false r row column h = by_lt_z row r.row (λ below. inl below) (λ up. by_lt_z r.row row
-    (λ above. absurd (false≢true (sym h ∙ or_left _ _ (lt_from above))))
-    (λ down.
-    let on : r.row ≡ row = omega (arith, ints) in
-    inr (
-      on,
-      by_lt_z column (r.first +ℤ pos r.len) (λ high. high)
-          (λ low. absurd (false≢true (sym h ∙ or_right (int_lt r.row row) _ (and_from _ _ ((signed_Decides r.row row).1 on) (le_from low))))),
-    )))
-
-pub true_behind : (r : Run) (row column : ℤ) → IsBehind r row column → ends_before r row column ≡ true
-true_behind r row column (inl above) = or_left _ _ (lt_from above)
-true_behind r row column (inr left) = or_right (int_lt r.row row) _ (and_from _ _ ((signed_Decides r.row row).1 left.0) (le_from left.1))
-
--- the runs that end before a place stand before the others
-pub rows_parted : (rs : List Run) (row column : ℤ) → AreRunsInOrder rs → IsPartitionedBy (λ r. ends_before r row column) rs
-rows_parted rs row column order i j d before low h = elim (cases_lt i j) [
-  | inl less ↦ true_behind (get_or rs i d) row column (earlier (get_or rs i d) (get_or rs j d) (order i j d less low) (behind_true (get_or rs j d) row column h))
-  | inr same ↦ let one : i ≡ j = omega arith in ap (λ n. ends_before (get_or rs n d) row column) one ∙ h
-]
-  where
-    earlier : (r s : Run) → IsRunBefore r s → IsBehind s row column → IsBehind r row column
-    earlier r s (inl p) (inl q) = inl (omega (arith, ints))
-    earlier r s (inl p) (inr q) = inl (let e = q.0 in omega (arith, ints))
-    earlier r s (inr p) (inl q) = inl (let e = p.0 in omega (arith, ints))
-    earlier r s (inr p) (inr q) = inr (p.0 ∙ q.0, let a = p.1 in let b = q.1 in omega (arith, ints))
 
 -- ---- round a run
 

@@ -1,6 +1,5 @@
 pub mod NearLaws
 pub mod PartsLaws
-pub mod RunsLaws
 pub mod FloodLaws
 pub mod PartsSteps
 pub mod PartsListing

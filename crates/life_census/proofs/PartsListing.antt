@@ -1,14 +1,14 @@
 -- The list of parts is that of the definition.
-use Rattle.std.specs.Prelude.{◌≡◌, ℕ, Bool, true, false, cond, not, ◌&&◌, ◌||◌, List, [], ◌∷◌, length, ◌⊎◌, refl}
+use Rattle.std.specs.Prelude.{◌≡◌, Bool, true, false, cond, not, ◌&&◌, ◌||◌, List, [], ◌∷◌, length, ◌⊎◌, refl}
 use Rattle.std.proofs.Common.{sym, ap, subst, ◌∙◌, inl, inr}
 use Rattle.std.specs.declared.cmp.Ordering.TheVariants.{Less}
-use Rattle.std.specs.List.{All, AllByRecursion, filter}
+use Rattle.std.specs.List.{AllByRecursion, filter}
 use Rattle.std.specs.List.Sorted.{IsStrictlySortedBy}
 use Rattle.std.specs.FinSet as set
 use Rattle.std.proofs.lemmas.Bool.{false≢true, cases_Bool, or_cases, or_left, or_right, and_parts, and_from, false_from_ne_true}
 use Rattle.life_core.specs.declared.cell.Cell.{Cell}
 use Rattle.life_core.specs.Cell.{cell_cmp}
-use Rattle.life_core.specs.Pattern.{Cells, IsWithin, in_order}
+use Rattle.life_core.specs.Pattern.{Cells, in_order}
 use Rattle.life_core.proofs.PatternMembers.{same_cell, has_cell, same_cell-true, same_cell-self, cell_cmp_total, contains-list, contains-items, passing_cell, passed_by_member}
 use Rattle.life_code.proofs.ApartNear.{near_symmetric}
 use Rattle.life_code.proofs.ApartUnions.{IsIn, in_from_contains}
@@ -17,7 +17,7 @@ use Rattle.life_census.specs.Parts.{AreJoined, IsPart, IsBefore, AreInOrder, Are
 use Rattle.life_census.specs.Parts.{touches, joined_with, parts_in, parts}
 use Rattle.life_census.specs.Laws.{OnePartEach}
 use Rattle.life_core.proofs.PatternOrder.{in_order-sorted, from_list-in_order}
-use Rattle.life_census.proofs.PartsLaws.{joined_self, joined_then, joined_trans, joined_back, near_stays, one_part, one_whole, one_list_of_parts, parts_within, contains_from_in, all_in, all_from_in}
+use Rattle.life_census.proofs.PartsLaws.{joined_self, joined_then, joined_trans, joined_back, near_stays, one_part, one_whole, one_list_of_parts, contains_from_in, all_in, all_from_in}
 use Rattle.life_census.proofs.PartsSteps.{chain_in_more}
 
 -- ---- what touches
@@ -215,16 +215,13 @@ pub parts_are : (X : Cells) → ArePartsOf X (parts X)
 unfolding parts
 parts_are X = subst (λ (Y : Cells). ArePartsOf Y (parts_in (in_order X))) (from_list-in_order X) (parts_in_are (in_order X) (in_order-sorted X))
 
-pub parts_listed : (X Y : Cells) (Ps : List Cells) → Y ≡ X → ArePartsOf Y Ps → Ps ≡ parts X
-parts_listed X Y Ps same are = one_list_of_parts X Ps (parts X) (subst (λ (Z : Cells). ArePartsOf Z Ps) same are) (parts_are X)
-
--- the parts of X lie where X does
-pub parts_inside : (k : ℕ) (X : Cells) (Ps : List Cells) → Ps ≡ parts X → IsWithin k X → All (IsWithin k) Ps
-parts_inside k X Ps same room = parts_within k X Ps (subst (ArePartsOf X) (sym same) (parts_are X)) room
+-- and no other list is theirs
+pub parts_listed : (X : Cells) (Ps : List Cells) → ArePartsOf X Ps → Ps ≡ parts X
+parts_listed X Ps are = one_list_of_parts X Ps (parts X) are (parts_are X)
 
 -- a set with one part is that part
-pub whole_part : (X : Cells) (Ps : List Cells) → Ps ≡ parts X → length Ps ≡ 1 → X ∷ [] ≡ parts X
-whole_part X Ps same one = sym (one_whole X Ps (subst (ArePartsOf X) (sym same) (parts_are X)) one) ∙ same
+pub whole_part : (X : Cells) (Ps : List Cells) → ArePartsOf X Ps → length Ps ≡ 1 → X ∷ [] ≡ parts X
+whole_part X Ps are one = sym (one_whole X Ps are one) ∙ parts_listed X Ps are
 
 -- each cell of X is in one of its parts, and in no other
 pub one_part_each : OnePartEach

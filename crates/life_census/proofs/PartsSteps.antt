@@ -1,24 +1,28 @@
 -- How the parts come off a set, one after another.
-use Rattle.std.specs.Prelude.{◌≡◌, ℕ, zero, suc, ◌+◌, ◌<◌, ◌≤◌, true, false, List, [], ◌∷◌, ◌++◌, length, refl, ◌⊎◌}
+use Rattle.std.specs.Prelude.{◌≡◌, ℕ, zero, suc, ◌+◌, ◌<◌, ◌≤◌, pos, ◌+ℤ◌, ◌≤ℤ◌, true, false, List, [], ◌∷◌, ◌++◌, length, refl, ◌⊎◌}
 use Rattle.std.proofs.Common.{sym, ap, subst, ◌∙◌, inl, inr, get_or, arith}
 use Rattle.std.specs.declared.cmp.Ordering.TheVariants.{Less}
 use Rattle.std.proofs.lemmas.Bool.{false≢true, cases_Bool, cases_lt}
 use Rattle.std.proofs.lemmas.Int.{ints}
 use Rattle.std.proofs.lemmas.List.{get_or_default}
-use Rattle.std.specs.List.{AllByRecursion}
+use Rattle.std.proofs.lemmas.List.Sorted.{All-permutation}
+use Rattle.std.specs.List.Sorted.{IsPermutation}
+use Rattle.std.specs.List.{All, AllByRecursion}
 use Rattle.std.specs.FinSet as set
 use Rattle.life_core.specs.declared.cell.Cell.{Cell}
-use Rattle.life_core.specs.Cell.{cell_cmp}
-use Rattle.life_core.specs.Pattern.{Cells}
+use Rattle.life_core.specs.declared.cell.TheConstants.{PLANE}
+use Rattle.life_core.specs.Cell.{cell_cmp, IsCellWithin}
+use Rattle.life_core.specs.Pattern.{Cells, IsWithin, in_order}
 use Rattle.life_code.proofs.ApartNear.{near_symmetric}
 use Rattle.life_code.proofs.ApartUnions.{IsIn}
 use Rattle.life_code.specs.Apart.{near}
-use Rattle.life_census.specs.declared.runs.Run.{Run}
+use Rattle.life_core.specs.declared.runs.Run.{Run}
 use Rattle.life_census.specs.Parts.{IsChain, AreJoined, IsPart, IsBefore, AreInOrder, ArePartsOf}
-use Rattle.life_census.specs.RunsState.{cells_in, first_cell, IsRunBefore, AreRunsInOrder}
+use Rattle.life_core.specs.Runs.{runs_cells, cells_in, first_cell, last_cell, IsInRun, IsRun, IsRunBefore, AreRunsInOrder}
 use Rattle.life_census.specs.FloodState.{IsClear, IsFlood, IsKept, AreKept}
 use Rattle.life_census.proofs.PartsLaws.{joined_trans, joined_back, near_stays, one_part, contains_from_in, all_in}
-use Rattle.life_census.proofs.RunsLaws.{IsInRun, in_some, in_any, none_in, comes_first}
+use Rattle.life_core.proofs.RunsLaws.{in_some, in_any, none_in, comes_first, first_in_run, set_of_runs, cells_in-permuted}
+use Rattle.life_core.proofs.PatternOrder.{from_list_of}
 use Rattle.life_census.proofs.FloodLaws.{in_kept}
 
 -- Ps are the first parts of X, and L is what is left of X
@@ -191,3 +195,34 @@ start_gone L M i e low kept gone = go (get_or M i e).len refl
         let k = kept.each i e in
         let first = k.first in
         absurd (false≢true (sym gone ∙ in_any M i e (first_cell (get_or L i e)) low (record { row = sym k.row; low = omega (arith, ints); high = omega (arith, ints) })))
+
+-- ---- the runs of the field, and those of a cluster
+
+-- the cells of X in order, by runs
+pub field_is : (X : Cells) (left rs : List Run) → left ≡ rs → runs_cells rs ≡ in_order X → cells_in left ≡ X
+field_is X left rs same cells = ap cells_in same ∙ sym (set_of_runs rs) ∙ from_list_of X (runs_cells rs) cells
+
+-- what was taken lies where X does
+pub taken_within : (X : Cells) (Ps : List Cells) (L : Cells) (start : Cell) (P M : Cells) → IsParting X Ps L → IsFlood L start P M → IsWithin PLANE X → IsWithin PLANE P
+taken_within X Ps L start P M p f room c here = room c (p.inside c (f.taken c here))
+
+-- a run that can be put at the end of a list of cells
+pub record CanBePut (r : Run) : Type 0 where
+  pub run : IsRun r
+  pub end : (r.first +ℤ pos r.len) ≤ℤ pos 1100000001
+
+-- the runs of a cluster can, in any order
+pub can_be_put : (rs ss : List Run) → IsPermutation rs ss → All (λ r. 1 ≤ r.len) rs → IsWithin PLANE (cells_in rs) → All CanBePut ss
+can_be_put rs ss sorted filled room i d low =
+    let r = get_or ss i d in
+    let some : 1 ≤ r.len = All-permutation (λ (s : Run). 1 ≤ s.len) rs ss sorted filled i d low in
+    let first = inside (first_cell r) (first_in_run r some) in
+    let last = inside (last_cell r) (record { row = refl; low = omega (arith, ints, some); high = omega (arith, ints, some) }) in
+    record { run = record { some = some; from = omega (arith, ints, first.left) }; end = omega (arith, ints, last.right) }
+  where
+    inside : (c : Cell) → IsInRun (get_or ss i d) c → IsCellWithin PLANE c
+    inside c h = room c (ap (λ (X : Cells). set.contains X c) (cells_in-permuted rs ss sorted) ∙ in_any ss i d c low h)
+
+-- their cells are those of the cluster
+pub put_all : (rs ss : List Run) (cells : List Cell) → IsPermutation rs ss → cells ≡ runs_cells ss → set.from_list cells ≡ cells_in rs
+put_all rs ss cells sorted same = ap set.from_list same ∙ set_of_runs ss ∙ sym (cells_in-permuted rs ss sorted)

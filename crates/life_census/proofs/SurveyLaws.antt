@@ -1,16 +1,19 @@
 -- Shapes that are known: their codes, and the phases of the clusters that have them.
-use Rattle.std.proofs.Common.{◌≡◌, ℕ, ◌+◌, ◌≤◌, Bool, true, false, List, [], ◌∷◌, ◌++◌, length, Option, Some, None, MatchOption, Vec, refl, sym, ap, subst, ◌∙◌, arith, get_or, add-one}
+use Rattle.std.proofs.Common.{◌≡◌, ℕ, ◌+◌, ◌<◌, ℤ, Bool, true, false, List, [], ◌∷◌, ◌++◌, length, Option, Some, None, MatchOption, Vec, refl, sym, ap, subst, ◌∙◌, arith, get_or, take, append_assoc, add-one}
 use Rattle.std.specs.List.{All}
 use Rattle.std.proofs.lemmas.Bool.{false≢true}
-use Rattle.std.proofs.lemmas.List.{length_push, get_or_push}
+use Rattle.std.proofs.lemmas.List.{length_push, get_or_push, get_or_default, take_more}
 use Rattle.std.proofs.lemmas.List.Elements.{All-push, All-weaker}
 use Rattle.life_core.specs.declared.cell.Cell.{Cell}
-use Rattle.life_core.specs.Pattern.{Cells, in_order}
+use Rattle.life_core.specs.declared.runs.Run.{Run}
+use Rattle.life_core.specs.Cell.{moved_cell}
+use Rattle.life_core.specs.Pattern.{Cells, image, in_order}
 use Rattle.life_core.specs.Rule.{RuleSets}
+use Rattle.life_core.specs.Runs.{run_cells, runs_cells}
 use Rattle.life_core.specs.Generations.{generation_of}
 use Rattle.life_core.proofs.PatternCorners.{moved_origin}
 use Rattle.life_core.proofs.Placements.{origin, moved}
-use Rattle.life_code.specs.declared.period.TheConstants.{PERIOD_LIMIT}
+use Rattle.life_core.proofs.RunsLemmas.{push_cells}
 use Rattle.life_code.specs.Codes.{code_of}
 use Rattle.life_code.proofs.CodesNormal.{code_moved}
 use Rattle.life_census.specs.declared.survey.Shape.{Shape}
@@ -29,12 +32,15 @@ unfolding phases_of
 more_phases r P X i cells after ds here made listed before =
     made ∙ (λ k. before k ++ (listed ∙ ap in_order here) k) ∙ ap (phases_of r P) (sym (add-one i))
 
+-- the cells of one run more
+pub run_listed : (old cells after : List Cell) (rs : List Run) (i : ℕ) (d : Run) → i < length rs → cells ≡ old ++ runs_cells (take i rs) → after ≡ cells ++ run_cells (get_or rs i d) → after ≡ old ++ runs_cells (take (i + 1) rs)
+run_listed old cells after rs i d low before made =
+    made ∙ ap (λ (cs : List Cell). cs ++ run_cells (get_or rs i d)) before ∙ append_assoc old (runs_cells (take i rs)) (run_cells (get_or rs i d))
+    ∙ ap (λ (cs : List Cell). old ++ cs) (sym (push_cells (take i rs) (get_or rs i d)) ∙ ap runs_cells (sym (take_more rs i d low)))
+
 -- ---- the table of shapes
 
 module _ {A : Type 0} (r : RuleSets) (limit : ℕ) where
-  pub survey_begins : (listed : Bool) (shapes : List (Shape A)) → 1 ≤ limit → limit ≤ PERIOD_LIMIT → shapes ≡ [] → IsSurvey r limit listed shapes
-  survey_begins listed shapes from_one few none = record { from_one = from_one; few = few; each = rw none (λ k d low. absurd (omega arith)) }
-
   pub survey_more : (listed : Bool) (shapes after : List (Shape A)) (s : Shape A) → IsSurvey r limit listed shapes → IsShape r limit listed s → after ≡ shapes ++ s ∷ [] → IsSurvey r limit listed after
   survey_more listed shapes after s are is made = record {
     from_one = are.from_one;
@@ -74,3 +80,8 @@ pub shape_last : {A : Type 0} (shapes after : List (Shape A)) (s : Shape A) (X :
 shape_last {A = A} shapes after s X i made end is =
     subst (λ (ss : List (Shape A)). HasShapeAt ss X i origin) (sym made)
     (let long = length_push shapes s in omega (arith, long, end), λ d. sym is ∙ sym (moved_origin s.cluster) ∙ ap (λ (t : Shape A). moved origin t.cluster) (sym (get_or_push shapes s d i (sym end))))
+
+-- a shape that a move takes to a cluster, by its columns and rows
+pub shape_moved : {A : Type 0} (shapes : List (Shape A)) (s : Shape A) (X : Cells) (i : ℕ) (x y dx dy : ℤ) → i < length shapes → s ≡ get_or shapes i s → x ≡ dx → y ≡ dy → image (moved_cell dx dy) s.cluster ≡ X
+    → HasShapeAt shapes X i (record { row = y; column = x })
+shape_moved shapes s X i x y dx dy low item columns rows is = (low, λ d. sym is ∙ (λ k. image (moved_cell (sym columns k) (sym rows k)) (item k).cluster) ∙ ap (λ t. image (moved_cell x y) t.cluster) (get_or_default shapes i s d low))

@@ -1,14 +1,13 @@
 -- A flood: the cells that chains join to a start go from a set to another, run by run.
-use Rattle.std.specs.Prelude.{◌≡◌, ◌⊎◌, ℕ, zero, suc, ◌+◌, ◌≤◌, ◌<◌, ℤ, pos, ◌+ℤ◌, ◌≤ℤ◌, ◌<ℤ◌, int_lt, int_le, Bool, true, false, ◌||◌, ◌&&◌, List, [], ◌∷◌, ◌++◌, length, slice_index_or, slice_set}
+use Rattle.std.specs.Prelude.{◌≡◌, ◌⊎◌, ℕ, zero, suc, ◌+◌, ◌≤◌, ◌<◌, ℤ, pos, ◌+ℤ◌, ◌≤ℤ◌, ◌<ℤ◌, Bool, true, false, List, [], ◌∷◌, ◌++◌, length, slice_index_or, slice_set}
 use Rattle.std.specs.List.{All, Contains, count_by}
-use Rattle.std.specs.Ordering.{int_eq}
 use Rattle.std.specs.FinSet as set
 use Rattle.life_core.specs.declared.cell.Cell.{Cell}
 use Rattle.life_core.specs.Pattern.{Cells}
 use Rattle.life_code.specs.Apart.{near}
-use Rattle.life_census.specs.declared.runs.Run.{Run}
+use Rattle.life_core.specs.declared.runs.Run.{Run}
 use Rattle.life_census.specs.Parts.{AreJoined}
-use Rattle.life_census.specs.RunsState.{cells_in, emptied}
+use Rattle.life_core.specs.Runs.{cells_in}
 
 -- ---- sets
 
@@ -32,6 +31,10 @@ abbrev pub is_some_number : ℕ → Bool
 is_some_number zero = false
 is_some_number (suc n) = true
 
+-- what is left of a run whose cells were taken
+abbrev pub emptied : Run → Run
+emptied r = record { row = r.row; first = r.first; len = 0 }
+
 -- whether the run has a cell
 abbrev pub is_filled : Run → Bool
 is_filled r = is_some_number r.len
@@ -39,10 +42,6 @@ is_filled r = is_some_number r.len
 -- there is a run at place i, and it has a cell
 abbrev pub IsFilledAt : List Run → ℕ → Type 0
 IsFilledAt rs i = (i < length rs) × ((d : Run) → 1 ≤ (slice_index_or rs i d).len)
-
--- a run ends before a column of a row, or in a row before it
-abbrev pub IsBehind : Run → ℤ → ℤ → Type 0
-IsBehind r row column = (r.row <ℤ row) ⊎ ((r.row ≡ row) × ((r.first +ℤ pos r.len) ≤ℤ column))
 
 -- c is at most 2 rows and 2 columns from a cell of r, if r has one
 pub record IsRound (r : Run) (c : Cell) : Type 0 where
@@ -73,14 +72,6 @@ pub record HasGrown (r : Run) (left cluster after grown : List Run) : Type 0 whe
 -- the run at place i of the first list has gone to the end of the second, unless it has no cell
 abbrev pub IsTaken : Run → ℕ → List Run → List Run → List Run → List Run → Type 0
 IsTaken r i left cluster after grown = ((r.len ≡ 0) × (after ≡ left) × (grown ≡ cluster)) ⊎ ((1 ≤ r.len) × (after ≡ slice_set left i (emptied r)) × (grown ≡ cluster ++ r ∷ []))
-
--- whether a run ends before a column of a row, or in a row before it
-abbrev pub ends_before : Run → ℤ → ℤ → Bool
-ends_before r row column = int_lt r.row row || (int_eq r.row row && int_le (r.first +ℤ pos r.len) column)
-
--- a run ends behind the column of the row, or in a row after it
-abbrev pub IsAhead : Run → ℤ → ℤ → Type 0
-IsAhead r row column = (row <ℤ r.row) ⊎ ((r.row ≡ row) × (column <ℤ (r.first +ℤ pos r.len)))
 
 -- a run begins before the column of the row, or in a row before it
 abbrev pub Begins : Run → ℤ → ℤ → Type 0

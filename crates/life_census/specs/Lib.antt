@@ -1,5 +1,4 @@
 pub mod Parts
-pub mod RunsState
 pub mod FloodState
 pub mod CodeText
 pub mod Rows

@@ -10,9 +10,8 @@ ghost use Rattle.life_census.specs.Counting.{IsTally};
 ghost use Rattle.life_census.specs.CountingState.{one_more, AreBelow, IsRowOf, IsPlaceFor};
 ghost use Rattle.life_census.specs.SurveyState.{IsSurvey};
 
-use crate::cluster::Cluster;
 use crate::code_text::CodeText;
-use crate::parts::parted;
+use crate::parts::clusters;
 use crate::rows::{Row, Rows, Tally};
 use crate::survey::{Shape, code_of_cluster, shape_place};
 use life_code::{Kind, PERIOD_LIMIT, kind};
@@ -33,7 +32,7 @@ pub fn tally<A: Allocator + Copy>(
     requires room { IsWithin 400_000_000 pattern.now }
     ensures { IfOk result (IsTally (λ P. code_of rule.now P limit) (parts pattern.now)) }
 {
-    let clusters = parted(alloc, pattern)?;
+    let clusters = clusters(alloc, pattern)?;
     if clusters.len() == 1 {
         let kind = kind(alloc, rule, pattern, limit)?;
         return tally_of_one(alloc, rule, pattern, limit, kind);
@@ -83,7 +82,7 @@ fn counted_once<A: Allocator + Copy>(
 pub fn tally_of<A: Allocator + Copy>(
     alloc: A,
     rule: &Rule,
-    clusters: &[Cluster<A>],
+    clusters: &[Pattern<A>],
     limit: u32,
     shapes: &mut Vec<Shape<A>, A>,
 ) -> Result<Tally<A>, Fault>

@@ -1,14 +1,16 @@
 //! A cluster, from one of its runs on.
-ghost use Rattle.std.specs.Prelude.{◌≡◌, ◌<◌, ◌≤◌, ℕ, true, false, IfOk, OnOk, length, slice_index_or};
+ghost use Rattle.std.specs.Prelude.{◌≡◌, ◌<◌, ◌≤◌, pos, ◌+ℤ◌, ◌-ℤ◌, true, false, IfOk, OnOk, length, slice_index_or};
 ghost use Rattle.std.specs.Bool.{MatchBool};
+ghost use Rattle.std.specs.List.{All};
 ghost use Rattle.std.specs.FinSet as set;
-ghost use Rattle.life_core.specs.declared.cell.Cell.{Cell};
+ghost use Rattle.life_core.specs.declared.cell.Cell.{Cell as CellValue};
 ghost use Rattle.life_code.specs.Apart.{within_two};
-ghost use Rattle.life_census.specs.declared.runs.Run.{Run as RunValue};
-ghost use Rattle.life_census.specs.RunsState.{cells_in, first_cell, AreRunsInOrder};
-ghost use Rattle.life_census.specs.FloodState.{ends_before, IsFlood, IsClear, IsRound, IsTaken, HasGrown, AreKept, IsBehind, IsAhead, Begins, IsBeyond, IsFilledAt};
+ghost use Rattle.life_core.specs.declared.runs.Run.{Run as RunValue};
+ghost use Rattle.life_core.specs.Runs.{cells_in, first_cell, AreRunsInOrder};
+ghost use Rattle.life_census.specs.FloodState.{IsFlood, IsClear, IsRound, IsTaken, HasGrown, AreKept, Begins, IsBeyond, IsFilledAt};
 
-use crate::runs::Run;
+use life_core::runs::first_from;
+use life_core::{Cell, Run};
 use std::alloc::{AllocError, Allocator};
 
 /// Takes out the runs that are joined to the start by cells that are left. What is left of a run that
@@ -22,6 +24,7 @@ pub fn flooded<A: Allocator + Copy>(
     requires order { AreRunsInOrder left.old }
     ensures flood { IfOk result (λ v. (d : RunValue) → IsFlood (cells_in left.old) (first_cell (slice_index_or left.old start d)) (cells_in v.items) (cells_in left.new)) }
     ensures clear { IfOk result (λ v. IsClear (cells_in v.items) (cells_in left.new)) }
+    ensures filled { IfOk result (λ v. All (λ r. 1 ≤ r.len) v.items) }
     ensures kept { OnOk result (AreKept left.old left.new) }
 {
     let mut cluster = Vec::new(alloc);
@@ -43,7 +46,7 @@ fn take_near<A: Allocator + Copy>(
 ) -> Result<(), AllocError>
     requires { AreRunsInOrder left.old }
     ensures grown { OnOk result (HasGrown run left.old cluster.old.items left.new cluster.new.items) }
-    ensures clear { OnOk result ((c : Cell) → IsRound run c → set.contains (cells_in left.new) c ≡ false) }
+    ensures clear { OnOk result ((c : CellValue) → IsRound run c → set.contains (cells_in left.new) c ≡ false) }
 {
     let row = i64::from(run.row);
     for near in row - 2..row + 3 {
@@ -62,10 +65,10 @@ fn take_row<A: Allocator + Copy>(
     requires order { AreRunsInOrder left.old }
     requires row { within_two run.row row ≡ true }
     ensures grown { OnOk result (HasGrown run left.old cluster.old.items left.new cluster.new.items) }
-    ensures clear { OnOk result ((c : Cell) → IsRound run c → c.row ≡ row → set.contains (cells_in left.new) c ≡ false) }
+    ensures clear { OnOk result ((c : CellValue) → IsRound run c → c.row ≡ row → set.contains (cells_in left.new) c ≡ false) }
 {
-    let (from, to) = run.reach();
-    let mut i = first_from(left, row, from);
+    let (from, to) = reach(run);
+    let mut i = first_from(left, Cell { row, column: from });
     while i < left.len() && begins_before(left[i], row, to) {
         take_run(left, cluster, i)?;
         i += 1;
@@ -90,22 +93,12 @@ fn take_run<A: Allocator + Copy>(
     Ok(())
 }
 
-/// The place of the first run that does not end before a column of a row, or in a row before it.
-fn first_from(runs: &[Run], row: i64, column: i64) -> usize
-    requires { AreRunsInOrder runs.now }
-    ensures bound { result ≤ length runs.now }
-    ensures behind { (k : ℕ) (d : RunValue) → k < result → IsBehind (slice_index_or runs.now k d) row column }
-    ensures ahead { (k : ℕ) (d : RunValue) → result ≤ k → k < length runs.now → IsAhead (slice_index_or runs.now k d) row column }
+/// The first column that is at most 2 away from a column of the run, and the one behind the last.
+fn reach(run: Run) -> (i64, i64)
+    ensures from { result.0 ≡ run.first -ℤ pos 2 }
+    ensures to { result.1 ≡ (run.first +ℤ pos run.len) +ℤ pos 2 }
 {
-    runs.partition_point(|run| ends_before(*run, row, column))
-}
-
-/// Whether the run ends before a column of a row, or in a row before it.
-fn ends_before(run: Run, row: i64, column: i64) -> bool
-    ensures { result ≡ ends_before run row column }
-{
-    let own = i64::from(run.row);
-    own < row || own == row && run.end() <= column
+    (i64::from(run.first) - 2, run.end() + 2)
 }
 
 /// Whether the run begins before a column of a row, or in a row before it.

@@ -1,7 +1,6 @@
 //! The clusters of a pattern, how many of them have each code, and whether they ever meet.
 #![tactic(auto)]
 
-mod cluster;
 mod code_text;
 mod counting;
 mod flood;
@@ -10,7 +9,6 @@ mod meeting;
 mod names;
 mod parts;
 mod rows;
-mod runs;
 mod survey;
 mod table;
 

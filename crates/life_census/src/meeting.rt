@@ -15,9 +15,8 @@ ghost use Rattle.life_census.specs.Steady.{Stays, IsSteady, is_steady};
 ghost use Rattle.life_census.specs.SteadyState.{visit_cmp, visit_of, IsVisitInPlane, AreVisits, ComesBefore, KeepApart, KeepApartUpTo, AreAllApart, AreRowsApart};
 ghost use Rattle.life_census.specs.SurveyState.{IsSurvey};
 
-use crate::cluster::Cluster;
 use crate::counting::{tally_of, tally_of_one};
-use crate::parts::parted;
+use crate::parts::clusters;
 use crate::rows::Tally;
 use crate::survey::{Shape, shape_place, stays};
 use life_code::{PERIOD_LIMIT, kind};
@@ -47,7 +46,7 @@ pub fn steady<A: Allocator + Copy>(
     ensures steady { IfOk result (λ b. IsTrue b ↔ IsSteady rule.now pattern.now limit) }
     ensures computed { IfOk result (λ b. b ≡ is_steady rule.now pattern.now limit) }
 {
-    let clusters = parted(alloc, pattern)?;
+    let clusters = clusters(alloc, pattern)?;
     if clusters.len() == 1 {
         return Ok(stays(kind(alloc, rule, pattern, limit)?));
     }
@@ -69,7 +68,7 @@ pub fn tally_and_steady<A: Allocator + Copy>(
     ensures steady { IfOk result (λ p. IsTrue p.1 ↔ IsSteady rule.now pattern.now limit) }
     ensures computed { IfOk result (λ p. p.1 ≡ is_steady rule.now pattern.now limit) }
 {
-    let clusters = parted(alloc, pattern)?;
+    let clusters = clusters(alloc, pattern)?;
     if clusters.len() == 1 {
         let kind = kind(alloc, rule, pattern, limit)?;
         let tally = tally_of_one(alloc, rule, pattern, limit, kind)?;
@@ -87,7 +86,7 @@ pub fn tally_and_steady<A: Allocator + Copy>(
 fn never_meet<A: Allocator + Copy>(
     alloc: A,
     rule: &Rule,
-    clusters: &[Cluster<A>],
+    clusters: &[Pattern<A>],
     limit: u32,
     shapes: &mut Vec<Shape<A>, A>,
 ) -> Result<bool, Fault>
@@ -108,7 +107,7 @@ fn never_meet<A: Allocator + Copy>(
 fn all_visits<A: Allocator + Copy>(
     alloc: A,
     rule: &Rule,
-    clusters: &[Cluster<A>],
+    clusters: &[Pattern<A>],
     limit: u32,
     shapes: &mut Vec<Shape<A>, A>,
 ) -> Result<Option<Vec<Visit, A>>, Fault>

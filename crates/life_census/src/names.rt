@@ -6,9 +6,8 @@ ghost use Rattle.life_code.specs.Codes.{code_of};
 ghost use Rattle.life_census.specs.Parts.{parts};
 ghost use Rattle.life_census.specs.SurveyState.{IsSurvey};
 
-use crate::cluster::Cluster;
 use crate::code_text::CodeText;
-use crate::parts::parted;
+use crate::parts::clusters;
 use crate::survey::{Shape, shape_place};
 use life_code::PERIOD_LIMIT;
 use life_core::{Fault, Pattern, Rule};
@@ -62,7 +61,7 @@ impl<A: Allocator + Copy> Names<A> {
         ensures same { self.new ≡ self.old }
         ensures codes { IfOk result (λ v. v.items ≡ map (λ P. code_of self.old.rule P self.old.limit) (parts pattern.now)) }
     {
-        let clusters = parted(alloc, pattern)?;
+        let clusters = clusters(alloc, pattern)?;
         named(alloc, &self.rule, self.limit, &clusters, &mut self.shapes)
     }
 }
@@ -72,7 +71,7 @@ fn named<A: Allocator + Copy>(
     alloc: A,
     rule: &Rule,
     limit: u32,
-    clusters: &[Cluster<A>],
+    clusters: &[Pattern<A>],
     shapes: &mut Vec<Shape<A>, A>,
 ) -> Result<Vec<Option<CodeText<A>>, A>, Fault>
     requires survey { IsSurvey rule.now limit false shapes.old.items }

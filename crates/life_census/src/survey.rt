@@ -6,10 +6,9 @@ ghost use Rattle.life_code.specs.Period.{kind_of};
 ghost use Rattle.life_census.specs.Steady.{Stays, is_staying};
 ghost use Rattle.life_census.specs.SurveyState.{phases_of, ArePhases, IsShape, IsSurvey, HasShapeAt, HasCodeAt};
 
-use crate::cluster::Cluster;
 use crate::code_text::CodeText;
-use crate::runs::move_between;
 use life_code::{Kind, PERIOD_LIMIT, code_of_kind, kind};
+use life_core::runs::list_runs;
 use life_core::{Cell, CellList, Fault, PackedRows, Pattern, Plane, Rule, is_packed};
 use std::alloc::{AllocError, Allocator};
 
@@ -17,7 +16,7 @@ use std::alloc::{AllocError, Allocator};
 /// phases of that cluster, if they are listed and it stays.
 #[derive(Drop)]
 pub struct Shape<A: Allocator> {
-    pub cluster: Cluster<A>,
+    pub cluster: Pattern<A>,
     pub code: Option<CodeText<A>>,
     pub phases: Option<Vec<Cell, A>>,
 }
@@ -27,7 +26,7 @@ pub struct Shape<A: Allocator> {
 pub fn shape_place<A: Allocator + Copy>(
     alloc: A,
     rule: &Rule,
-    cluster: &Cluster<A>,
+    cluster: &Pattern<A>,
     limit: u32,
     listed: bool,
     shapes: &mut Vec<Shape<A>, A>,
@@ -50,13 +49,13 @@ pub fn shape_place<A: Allocator + Copy>(
 /// The place of a cluster's shape and the move, if the shape is known.
 fn known_place<A: Allocator + Copy>(
     shapes: &[Shape<A>],
-    cluster: &Cluster<A>,
+    cluster: &Pattern<A>,
 ) -> Option<(usize, Cell)>
     ensures { IfSome result (λ p. HasShapeAt shapes.now cluster.now p.0 p.1) }
 {
     for (i, shape) in shapes.iter().enumerate() {
-        if let Some(move_by) = move_between(shape.cluster.runs(), cluster.runs()) {
-            return Some((i, move_by));
+        if let Some((column, row)) = shape.cluster.shift_to(cluster) {
+            return Some((i, Cell { row, column }));
         }
     }
     None
@@ -75,7 +74,7 @@ fn learn<A: Allocator>(shapes: &mut Vec<Shape<A>, A>, shape: Shape<A>) -> Result
 fn surveyed<A: Allocator + Copy>(
     alloc: A,
     rule: &Rule,
-    cluster: &Cluster<A>,
+    cluster: &Pattern<A>,
     limit: u32,
     listed: bool,
 ) -> Result<Shape<A>, Fault>
@@ -85,12 +84,11 @@ fn surveyed<A: Allocator + Copy>(
     ensures cluster { IfOk result (λ s. s.cluster ≡ cluster.now) }
     ensures shape { IfOk result (IsShape rule.now limit listed) }
 {
-    let pattern = cluster.pattern(alloc)?;
-    let kind = kind(alloc, rule, &pattern, limit)?;
+    let kind = kind(alloc, rule, cluster, limit)?;
     Ok(Shape {
         cluster: cluster.copy(alloc)?,
-        code: code_of_cluster(alloc, rule, &pattern, limit, kind)?,
-        phases: listed_phases(alloc, rule, &pattern, limit, kind, listed)?,
+        code: code_of_cluster(alloc, rule, cluster, limit, kind)?,
+        phases: listed_phases(alloc, rule, cluster, limit, kind, listed)?,
     })
 }
 
@@ -176,7 +174,7 @@ fn phases_by<A: Allocator + Copy, P: Plane<A>>(
     let mut cells = Vec::new(alloc);
     let mut plane = P::from_pattern(alloc, cluster)?;
     for _i in 0..period {
-        cells.extend_from_slice(plane.to_pattern(alloc)?.cells())?;
+        list_runs(&mut cells, plane.to_pattern(alloc)?.cells().runs())?;
         plane.step(rule)?;
     }
     Ok(cells)

@@ -112,10 +112,11 @@ fn orbit_of<A: Allocator + Copy, P: Plane<A>>(
     requires room { IsWithin 500_000_000 part.now }
     ensures { IfOk result (λ o. IfSome o (IsOrbit rule.now part.now)) }
 {
-    let Some(first) = part.cells().first() else {
+    let runs = part.cells().runs();
+    let Some(first) = runs.first() else {
         return Ok(None);
     };
-    let mut frame = Frame::of(*first).with_cells(part.cells());
+    let mut frame = Frame::of(*first).with_runs(runs);
     let start = P::from_pattern(alloc, part)?;
     let mut plane = P::from_pattern(alloc, part)?;
     for period in 1..limit + 1 {
@@ -128,7 +129,7 @@ fn orbit_of<A: Allocator + Copy, P: Plane<A>>(
                 frame,
             }));
         }
-        frame = frame.with_cells(plane.to_pattern(alloc)?.cells());
+        frame = frame.with_runs(plane.to_pattern(alloc)?.cells().runs());
     }
     Ok(None)
 }
@@ -179,7 +180,7 @@ fn moving_part<A: Allocator + Copy, P: Plane<A>>(
     ensures moving { IfOk result (λ o. IfSome o (IsMoving rule.now)) }
     ensures apart { IfOk result (λ o. IfSome o (λ m. KeepsApartFrom parts.now m.orbit)) }
 {
-    let part = Pattern::from_list(cells);
+    let part = Pattern::from_list(cells)?;
     let Some(orbit) = orbit_of::<A, P>(alloc, rule, &part, limit)? else {
         return Ok(None);
     };
@@ -217,10 +218,10 @@ fn moving_parts<A: Allocator + Copy, P: Plane<A>>(
     ensures moving { IfOk result (λ o. IfSome o (λ v. AreMoving rule.now v.items)) }
     ensures whole { IfOk result (λ o. IfSome o (λ v. union_of (parts_of v.items) ≡ pattern.now)) }
 {
-    let Some(frames) = frames_of(alloc, pattern.cells(), MOST_PARTS)? else {
+    let Some(frames) = frames_of(alloc, pattern.cells().runs(), MOST_PARTS)? else {
         return Ok(None);
     };
-    let mut rest = Vec::from_slice(alloc, pattern.cells())?;
+    let mut rest = pattern.cells().list(alloc)?;
     let mut parts = Vec::new(alloc);
     for frame in frames.as_slice() {
         let (inside, outside) = parted(alloc, &rest, frame)?;
@@ -228,10 +229,7 @@ fn moving_parts<A: Allocator + Copy, P: Plane<A>>(
         let Some(part) = moving_part::<A, P>(alloc, rule, inside, limit, &parts)? else {
             return Ok(None);
         };
-        match parts.push(part) {
-            Ok(()) => {}
-            Err(_) => return Err(Fault::Memory),
-        }
+        parts.push(part)?;
     }
     if !rest.as_slice().is_empty() {
         return Ok(None);

@@ -5,7 +5,7 @@ ghost use Rattle.std.specs.List.{filter, range_with_len};
 ghost use Rattle.life_code.specs.DecodeState.{value_of, spells_cell, cell_of_place, decoded};
 
 use crate::codes::LARGEST_BOX;
-use life_core::{Cell, Pattern};
+use life_core::{Cell, Fault, Pattern};
 use std::alloc::{AllocError, Allocator};
 
 /// The columns of the box.
@@ -133,8 +133,8 @@ fn spelled_cells<A: Allocator>(
 }
 
 /// The cells of the box of 40 by 40 that the text spells.
-pub(crate) fn decoded<A: Allocator>(alloc: A, text: &[u8]) -> Result<Pattern<A>, AllocError>
+pub(crate) fn decoded<A: Allocator + Copy>(alloc: A, text: &[u8]) -> Result<Pattern<A>, Fault>
     ensures { IfOk result (λ X. X ≡ decoded text.now) }
 {
-    Ok(Pattern::from_list(spelled_cells(alloc, text, PLACES)?))
+    Pattern::from_list(spelled_cells(alloc, text, PLACES)?)
 }

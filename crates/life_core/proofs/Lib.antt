@@ -6,6 +6,12 @@ pub mod RuleTextLemmas
 pub mod SortedLemmas
 pub mod PatternMembers
 pub mod PatternOrder
+pub mod RunsLemmas
+pub mod RunsLaws
+pub mod RunsPlaces
+pub mod RunsMoves
+pub mod PatternRuns
+pub mod PatternRunBoxes
 pub mod PatternBoxes
 pub mod GenerationsLaws
 pub mod CellListStep
@@ -22,6 +28,7 @@ pub mod PackedPlaces
 pub mod PackedSteps
 pub mod FrameBounds
 pub mod PackedCells
+pub mod PackedRuns
 pub mod PackedJoins
 pub mod PackedShifts
 pub mod PackedGrowth

@@ -1,24 +1,26 @@
 -- The cells of rows in a frame.
-use Rattle.std.proofs.Common.{◌≡◌, ◌≢◌, ℕ, ℤ, pos, negsuc, zero, suc, ◌+◌, ◌-◌, ◌*◌, ◌/◌, ◌%◌, ◌^◌, ◌<◌, ◌≤◌, ◌+ℤ◌, ◌-ℤ◌, Bool, true, false, ◌||◌, nat_eq, nat_lt, if◌then◌else◌, cond, List, [], ◌∷◌, ◌++◌, take, map, length, get_or, set, get_or-set_other, get_or-set_same, sym, ap, ◌∙◌, inl, inr, refl, arith, w64, bit_or}
-use Rattle.std.specs.Int.{bit_at, trailing_zeros}
+use Rattle.std.proofs.Common.{◌≡◌, ℕ, ℤ, pos, negsuc, zero, suc, ◌+◌, ◌-◌, ◌*◌, ◌/◌, ◌%◌, ◌^◌, ◌<◌, ◌≤◌, ◌+ℤ◌, ◌-ℤ◌, Bool, true, false, nat_eq, nat_lt, if◌then◌else◌, cond, List, [], ◌∷◌, ◌++◌, map, length, get_or, append_assoc, sym, ap, ◌∙◌, inl, inr, refl, arith, w64}
+use Rattle.std.specs.Int.{bit_at, trailing_zeros, trailing_ones}
+use Rattle.std.specs.Int.Count.{count_trailing_zeros}
 use Rattle.std.specs.List.{filter, range_with_len}
-use Rattle.std.proofs.lemmas.List.{take_more, map-append}
+use Rattle.std.proofs.lemmas.List.{map-append}
 use Rattle.std.proofs.lemmas.List.FromFn.{map-range_with_len_more}
 use Rattle.std.proofs.lemmas.List.Elements.{filter-append}
-use Rattle.std.proofs.lemmas.List.Folds.{list_any-append}
+use Rattle.std.proofs.Math.Numerals.{suc-eq-add-one}
 use Rattle.std.proofs.lemmas.Int.{ints}
 use Rattle.std.proofs.lemmas.Nat.{mul-le, div-mul-add, mod-mul-add, shr-shr, shr_le}
-use Rattle.std.proofs.lemmas.Nat.Bits.{bit_at_set_same, bit_at_set_other, bit_at-zero, bit_at_above, bit_at-trailing_zeros}
-use Rattle.std.proofs.lemmas.Bool.{false≢true, cases_lt, cases_eq, or_cases, or_left, or_right, and_parts, and_from, lt-ltb, ltb-true, eq-eqb, eqb-true, ne_eqb}
+use Rattle.std.proofs.lemmas.Nat.Bits.{bit_at-zero, bit_at_above, bit_at_lowest, bit_at_ones, bit_at-trailing_zeros, bit_at-trailing_ones}
+use Rattle.std.proofs.lemmas.Bool.{false≢true, cases_lt, and_parts, and_from, lt-ltb, ltb-true, eq-eqb, eqb-true, ne_eqb}
 use Rattle.std.specs.FinSet as fset
 use Rattle.life_core.specs.declared.cell.Cell.{Cell}
 use Rattle.life_core.proofs.CellLemmas.{same_coordinates}
-use Rattle.life_core.proofs.PatternMembers.{same_cell, has_cell, same_answer, same_cell-true, same_cell-self}
+use Rattle.life_core.proofs.PatternMembers.{same_answer}
 use Rattle.life_core.specs.declared.packed.frame.Frame.{Frame}
 use Rattle.life_core.specs.PackedRow.{place}
 use Rattle.std.proofs.lemmas.List.{append-nil}
 use Rattle.std.proofs.Common.{add-zero}
 use Rattle.life_core.specs.Cell.{moved_cell}
+use Rattle.life_core.specs.Runs.{cells_from}
 use Rattle.life_core.specs.PackedFrameState.{cell_of, places_below}
 use Rattle.life_core.proofs.WordShifts.{place_at}
 use Rattle.life_core.proofs.PackedPlaces.{contains-rows}
@@ -87,67 +89,6 @@ live_in f rows wide size c h =
     let p = live_place f rows wide size c h in
     record { from_left = omega (arith, ints, p.column); to_right = omega (arith, ints, p.column, p.narrow); from_top = omega (arith, ints, p.row); to_bottom = omega (arith, ints, p.row, p.low) }
 
--- a bit is set
-pub place_set : (rows : List ℕ) (P p : ℕ) → P / 64 < length rows → place (set rows (P / 64) (bit_or (get_or rows (P / 64) 0) (1 * 2 ^ (P % 64) % 2 ^ 64))) p ≡ (if nat_eq p P then 1 else place rows p)
-place_set rows P p inside = elim (cases_eq p P) [
-  | inl same ↦
-      let within : P % 64 < 64 = omega arith in
-      ap (place new) same ∙ ap (λ w. bit_at w (P % 64)) (get_or-set_same rows (P / 64) w 0 inside) ∙ bit_at_set_same w64 (get_or rows (P / 64) 0) (P % 64) within ∙ sym (ap (λ b. if b then 1 else place rows p) (eq-eqb p P same))
-  | inr other ↦ (elim (cases_eq (p / 64) (P / 64)) [
-    | inl word ↦
-        let within : P % 64 < 64 = omega arith in
-        let bit : p % 64 ≢ P % 64 = λ e. other (omega arith) in
-        ap (λ k. bit_at (get_or new k 0) (p % 64)) word ∙ ap (λ w. bit_at w (p % 64)) (get_or-set_same rows (P / 64) w 0 inside) ∙ bit_at_set_other w64 (get_or rows (P / 64) 0) (P % 64) within (p % 64) bit ∙ ap (λ k. bit_at (get_or rows k 0) (p % 64)) (sym word)
-    | inr apart ↦ ap (λ w. bit_at w (p % 64)) (get_or-set_other rows (P / 64) (p / 64) w 0 apart)
-  ]) ∙ sym (ap (λ b. if b then 1 else place rows p) (ne_eqb p P other))
-]
-  where
-    w : ℕ
-    w = bit_or (get_or rows (P / 64) 0) (1 * 2 ^ (P % 64) % 2 ^ 64)
-
-    new : List ℕ
-    new = set rows (P / 64) w
-
--- a bit is set, and its cell joins
-pub cell_joins : (f : Frame) (rows new : List ℕ) (cell : Cell) (x y : ℕ) → 0 < f.words → f.height * f.words ≡ length rows → length new ≡ length rows → x < 64 * f.words → y < f.height
-    → cell ≡ cell_in f.left f.top x y
-    → ((p : ℕ) → place new p ≡ (if nat_eq p (y * (64 * f.words) + x) then 1 else place rows p))
-    → (c : Cell) → fset.contains (framed f new) c ≡ (same_cell c cell || fset.contains (framed f rows) c)
-cell_joins f rows new cell x y wide size long narrow low at set_at c = same_answer _ _
-    (λ h.
-    let p = live_place f new wide (size ∙ sym long) c h in
-    let P = p.y * (64 * f.words) + p.x in
-    elim (cases_eq P (y * (64 * f.words) + x)) [
-      | inl same ↦
-          let column : p.x ≡ x = sym (mod-mul-add p.y (64 * f.words) p.x p.narrow) ∙ ap (λ n. n % (64 * f.words)) same ∙ mod-mul-add y (64 * f.words) x narrow in
-          let row : p.y ≡ y = sym (div-mul-add p.y (64 * f.words) p.x p.narrow) ∙ ap (λ n. n / (64 * f.words)) same ∙ div-mul-add y (64 * f.words) x narrow in
-          let is : c ≡ cell = same_coordinates c (cell_in f.left f.top x y) (p.row ∙ ap (λ n. f.top +ℤ pos n) row) (p.column ∙ ap (λ n. f.left +ℤ pos n) column) ∙ sym at in
-          or_left _ _ (ap (λ d. same_cell d cell) is ∙ same_cell-self cell)
-      | inr other ↦ or_right (same_cell c cell) _ (place_lives f rows wide size c p.x p.y p.column p.row p.narrow p.low (ap (λ b. if b then 1 else place rows P) (sym (ne_eqb P _ other)) ∙ sym (set_at P) ∙ p.live))
-    ])
-    (λ h. elim (or_cases (same_cell c cell) (fset.contains (framed f rows) c) h) [
-      | inl same ↦
-          let is : c ≡ cell_in f.left f.top x y = same_cell-true c cell same ∙ at in
-          place_lives f new wide (size ∙ sym long) c x y (ap (λ (d : Cell). d.column) is) (ap (λ (d : Cell). d.row) is) narrow low (set_at _ ∙ ap (λ b. if b then 1 else place rows (y * (64 * f.words) + x)) (eq-eqb _ _ refl))
-      | inr old ↦
-          let p = live_place f rows wide size c old in
-          let P = p.y * (64 * f.words) + p.x in
-          place_lives f new wide (size ∙ sym long) c p.x p.y p.column p.row p.narrow p.low (set_at P ∙ one (nat_eq P (y * (64 * f.words) + x)) (place rows P) p.live)
-    ])
-  where
-    one : (b : Bool) (n : ℕ) → n ≡ 1 → (if b then 1 else n) ≡ 1
-    one true n h = refl
-    one false n h = h
-
--- one more cell of a list is put
-pub cells_join : (cells : List Cell) (i : ℕ) (none d : Cell) (old : Bool) → i < length cells → (same_cell d (get_or cells i none) || (has_cell (take i cells) d || old)) ≡ (has_cell (take (i + 1) cells) d || old)
-cells_join cells i none d old lt =
-    turned (same_cell d (get_or cells i none)) (has_cell (take i cells) d) old
-    ∙ ap (λ b. b || old) (sym (ap (λ (cs : List Cell). has_cell cs d) (take_more cells i none lt) ∙ list_any-append (same_cell d) (take i cells) (get_or cells i none ∷ [])))
-  where
-    turned : (a b c : Bool) → (a || (b || c)) ≡ ((b || (a || false)) || c)
-    turned a b c = grind arith
-
 -- rows without a bit have no cell
 pub no_live : (f : Frame) (rows : List ℕ) → 0 < f.words → f.height * f.words ≡ length rows → ((j : ℕ) → get_or rows j 0 ≡ 0) → (c : Cell) → fset.contains (framed f rows) c ≡ false
 no_live f rows wide size blank c = same_answer _ _ (λ h. let p = live_place f rows wide size c h in
@@ -185,34 +126,92 @@ bit_of_rest rows k i j lt =
     let at : 64 * k + i + j ≡ 64 * k + (i + j) = omega arith in
     ap (place rows) at ∙ place_at rows k (i + j) lt ∙ ap (λ n. n % 2) (sym (shr-shr (get_or rows k 0) i j))
 
--- from one live cell of a word to the next
-pub next_live : (F : ℕ → Cell) (rows : List ℕ) (k i dead : ℕ) → i + dead < 64 → bit_at (get_or rows k 0 / 2 ^ i) dead ≡ 1 → ((j : ℕ) → j < dead → bit_at (get_or rows k 0 / 2 ^ i) j ≡ 0)
-    → map F (places_below rows (64 * k + (i + (dead + 1)))) ≡ map F (places_below rows (64 * k + i)) ++ F (64 * k + (i + dead)) ∷ []
-next_live F rows k i dead lt live none =
-    let p = 64 * k + i + dead in
-    let next : 64 * k + (i + (dead + 1)) ≡ p + 1 = omega arith in
-    let at : p ≡ 64 * k + (i + dead) = omega arith in
-    ap (λ n. map F (places_below rows n)) next ∙ places_more F (λ q. nat_eq (place rows q) 1) p
-    ∙ ap (λ b. map F (places_below rows p) ++ (if b then F p ∷ [] else [])) (eq-eqb (place rows p) 1 (bit_of_rest rows k i dead lt ∙ live))
-    ∙ ap (λ cs. cs ++ F p ∷ []) (places_skip F rows (64 * k + i) dead (λ j low. bit_of_rest rows k i j (omega arith) ∙ none j low))
-    ∙ ap (λ n. map F (places_below rows (64 * k + i)) ++ F n ∷ []) at
+-- so many places from one on, as cells
+pub places_listed : (F : ℕ → Cell) (row column : ℤ) (a n : ℕ) → ((j : ℕ) → j < n → F (a + j) ≡ record { row = row; column = column +ℤ pos j }) → map F (range_with_len a n) ≡ cells_from row column n
+places_listed F row column a zero at = refl
+places_listed F row column a (suc n) at =
+    let first : F a ≡ record { row = row; column = column } = ap F (sym (add-zero a)) ∙ at 0 (omega arith) ∙ same_coordinates _ _ refl (omega (arith, ints)) in
+    let rest : map F (range_with_len (a + 1) n) ≡ cells_from row (column +ℤ pos 1) n =
+    places_listed F row (column +ℤ pos 1) (a + 1) n (λ j low. ap F (let e : (a + 1) + j ≡ a + (j + 1) = omega arith in e) ∙ at (j + 1) (omega arith) ∙ same_coordinates _ _ refl (omega (arith, ints))) in
+    λ t. first t ∷ rest t
 
--- the lowest bit of what is left of a word is one of the word's
-pub lowest_left : (w i left : ℕ) → w < 2 ^ 64 → left ≡ w / 2 ^ i → 0 < left
-    → (i + trailing_zeros w64 left < 64) × (trailing_zeros w64 left < 64) × (bit_at left (trailing_zeros w64 left) ≡ 1) × ((j : ℕ) → j < trailing_zeros w64 left → bit_at left j ≡ 0)
-lowest_left w i left fits is some =
+-- from a run of live places to what follows it
+module _ (F : ℕ → Cell) (rows : List ℕ) (p : ℕ) where
+  pub places_run : (n : ℕ) → ((j : ℕ) → j < n → place rows (p + j) ≡ 1) → map F (places_below rows (p + n)) ≡ map F (places_below rows p) ++ map F (range_with_len p n)
+  places_run zero live = ap (λ k. map F (places_below rows k)) (add-zero p) ∙ sym (append-nil _)
+  places_run (suc n) live =
+      let next : p + suc n ≡ p + n + 1 = omega arith in
+      ap (λ k. map F (places_below rows k)) next ∙ places_more F (λ q. nat_eq (place rows q) 1) (p + n)
+      ∙ ap (λ b. map F (places_below rows (p + n)) ++ (if b then F (p + n) ∷ [] else [])) (eq-eqb (place rows (p + n)) 1 (live n (omega arith)))
+      ∙ ap (λ cs. cs ++ F (p + n) ∷ []) (places_run n (λ j low. live j (omega arith)))
+      ∙ append_assoc (map F (places_below rows p)) (map F (range_with_len p n)) (F (p + n) ∷ [])
+      ∙ ap (λ cs. map F (places_below rows p) ++ cs) (sym (map-range_with_len_more F p n (p + n) refl) ∙ ap (λ m. map F (range_with_len p m)) (sym (suc-eq-add-one n)))
+
+-- from one run of live cells of a word to the next
+pub next_run : (F : ℕ → Cell) (rows : List ℕ) (k i dead n : ℕ) → i + (dead + n) ≤ 64 → ((j : ℕ) → j < dead → bit_at (get_or rows k 0 / 2 ^ i) j ≡ 0) → ((j : ℕ) → j < n → bit_at (get_or rows k 0 / 2 ^ i) (dead + j) ≡ 1)
+    → map F (places_below rows (64 * k + (i + (dead + n)))) ≡ map F (places_below rows (64 * k + i)) ++ map F (range_with_len (64 * k + (i + dead)) n)
+next_run F rows k i dead n fits none live =
+    let next : 64 * k + (i + (dead + n)) ≡ 64 * k + i + dead + n = omega arith in
+    let at : 64 * k + i + dead ≡ 64 * k + (i + dead) = omega arith in
+    ap (λ m. map F (places_below rows m)) next
+    ∙ places_run F rows (64 * k + i + dead) n (λ j low. ap (place rows) (let e : 64 * k + i + dead + j ≡ 64 * k + i + (dead + j) = omega arith in e) ∙ bit_of_rest rows k i (dead + j) (omega arith) ∙ live j low)
+    ∙ ap (λ cs. cs ++ map F (range_with_len (64 * k + i + dead) n)) (places_skip F rows (64 * k + i) dead (λ j low. bit_of_rest rows k i j (omega arith) ∙ none j low))
+    ∙ ap (λ m. map F (places_below rows (64 * k + i)) ++ map F (range_with_len m n)) at
+
+-- the ones at the low end of a number that is odd
+all_ones : trailing_ones w64 18446744073709551615 ≡ 64
+unfolding count_trailing_zeros
+all_ones = refl
+
+pub low_ones : (n : ℕ) → n < 2 ^ 64 → bit_at n 0 ≡ 1 → (1 ≤ trailing_ones w64 n) × (trailing_ones w64 n ≤ 64) × ((j : ℕ) → j < trailing_ones w64 n → bit_at n j ≡ 1)
+low_ones n fits odd = elim (cases_lt (n + 1) (2 ^ 64)) [
+  | inl some ↦
+      let ends = bit_at-trailing_ones w64 n some in (
+        elim (cases_lt 0 (trailing_ones w64 n)) [
+          | inl more ↦ omega (arith, more)
+          | inr none ↦ let zero : trailing_ones w64 n ≡ 0 = omega (arith, none) in absurd (omega (arith, odd, ap (bit_at n) (sym zero) ∙ ends.1))
+        ],
+        omega (arith, ends.0),
+        ends.2,
+      )
+  | inr all ↦
+      let is : n ≡ 18446744073709551615 = omega (arith, fits, all) in
+      let count : trailing_ones w64 n ≡ 64 = ap (trailing_ones w64) is ∙ all_ones in (
+        omega (arith, count),
+        omega (arith, count),
+        λ j low. ap (λ m. bit_at m j) is ∙ bit_at_ones 64 j (omega (arith, low, count)),
+      )
+]
+
+-- the lowest run of what is left of a word is one of the word's
+pub record LowestRun (w i left : ℕ) : Type 0 where
+  pub some : 1 ≤ trailing_ones w64 (left / 2 ^ trailing_zeros w64 left)
+  pub fits : i + (trailing_zeros w64 left + trailing_ones w64 (left / 2 ^ trailing_zeros w64 left)) ≤ 64
+  pub none : (j : ℕ) → j < trailing_zeros w64 left → bit_at (w / 2 ^ i) j ≡ 0
+  pub live : (j : ℕ) → j < trailing_ones w64 (left / 2 ^ trailing_zeros w64 left) → bit_at (w / 2 ^ i) (trailing_zeros w64 left + j) ≡ 1
+
+pub lowest_run : (w i left : ℕ) → w < 2 ^ 64 → left ≡ w / 2 ^ i → 0 < left → LowestRun w i left
+lowest_run w i left fits is some =
     let below : left < 2 ^ 64 = omega (arith, is, shr_le w i) in
     let lowest = bit_at-trailing_zeros w64 left some below in
     let d = trailing_zeros w64 left in
-    let bit : bit_at w (i + d) ≡ 1 = ap (λ n. n % 2) (sym (shr-shr w i d)) ∙ ap (λ n. bit_at n d) (sym is) ∙ lowest.1 in (
-      elim (cases_lt (i + d) 64) [
-        | inl within ↦ within
-        | inr past ↦ absurd (omega (arith, bit, bit_at_above w 64 (i + d) fits past))
-      ],
-      lowest.0,
-      lowest.1,
-      lowest.2,
-    )
+    let q = left / 2 ^ d in
+    let q_below : q < 2 ^ 64 = omega (arith, below, shr_le left d) in
+    let odd : bit_at q 0 ≡ 1 = bit_at_lowest q ∙ lowest.1 in
+    let ones = low_ones q q_below odd in
+    let live : (j : ℕ) → j < trailing_ones w64 q → bit_at (w / 2 ^ i) (d + j) ≡ 1 = λ j low. ap (λ m. bit_at m (d + j)) (sym is) ∙ ap (λ m. m % 2) (sym (shr-shr left d j)) ∙ ones.2 j low in
+    record {
+      some = ones.0;
+      fits = elim (cases_lt 64 (i + (d + trailing_ones w64 q))) [
+        | inl past ↦
+            let last : trailing_ones w64 q - 1 < trailing_ones w64 q = omega (arith, ones.0) in
+            let bit : bit_at w (i + (d + (trailing_ones w64 q - 1))) ≡ 1 = ap (λ m. m % 2) (sym (shr-shr w i (d + (trailing_ones w64 q - 1)))) ∙ live (trailing_ones w64 q - 1) last in
+            absurd (omega (arith, bit, bit_at_above w 64 (i + (d + (trailing_ones w64 q - 1))) fits (omega (arith, past))))
+        | inr within ↦ omega (arith, within)
+      ];
+      none = λ j low. ap (λ m. bit_at m j) (sym is) ∙ lowest.2 j low;
+      live = live;
+    }
 
 -- no bit of a word is left
 pub none_left : (F : ℕ → Cell) (rows : List ℕ) (k i : ℕ) → i ≤ 64 → get_or rows k 0 / 2 ^ i ≡ 0 → map F (places_below rows (64 * (k + 1))) ≡ map F (places_below rows (64 * k + i))
@@ -235,3 +234,11 @@ cell_of-word left top w k i wide lt =
     let column : (64 * k + i) % (64 * w) ≡ 64 * k % (64 * w) + i =
     ap (λ n. n % (64 * w)) at ∙ mod-mul-add q (64 * w) (64 * r + i) (omega arith) ∙ ap (λ n. n + i) (sym (ap (λ n. n % (64 * w)) start ∙ mod-mul-add q (64 * w) (64 * r) (omega arith))) in
     same_coordinates _ _ (omega (arith, ints, row)) (omega (arith, ints, column))
+
+-- so do so many of them, from one on
+pub cells_of-word : (left top : ℤ) (w k i n : ℕ) (first : Cell) → 0 < w → i + n ≤ 64 → first ≡ moved_cell (pos i) (pos 0) (cell_of left top (64 * w) (64 * k)) → map (cell_of left top (64 * w)) (range_with_len (64 * k + i) n) ≡ cells_from first.row first.column n
+cells_of-word left top w k i n first wide fits is =
+    let row = ap (λ (d : Cell). d.row) is in
+    let column = ap (λ (d : Cell). d.column) is in
+    places_listed (cell_of left top (64 * w)) first.row first.column (64 * k + i) n
+    (λ j low. ap (cell_of left top (64 * w)) (let e : 64 * k + i + j ≡ 64 * k + (i + j) = omega arith in e) ∙ cell_of-word left top w k (i + j) wide (omega arith) ∙ same_coordinates _ _ (omega (arith, ints, row)) (omega (arith, ints, column)))

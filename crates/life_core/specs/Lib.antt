@@ -6,6 +6,7 @@ pub mod RuleEquality
 pub mod RuleText
 pub mod RuleTextState
 pub mod Pattern
+pub mod Runs
 pub mod PatternState
 pub mod Generations
 pub mod Orientation

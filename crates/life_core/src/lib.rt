@@ -13,6 +13,7 @@ pub mod pattern;
 pub mod plane;
 pub mod rule;
 pub mod rule_text;
+pub mod runs;
 mod sorted;
 
 pub use cell::{Cell, PLANE};
@@ -29,3 +30,4 @@ pub use pattern::{Bounds, Pattern, laws_of_patterns};
 pub use plane::Plane;
 pub use rule::Rule;
 pub use rule_text::{RuleFault, laws_of_rule_texts};
+pub use runs::{Run, Runs};

@@ -7,11 +7,13 @@ ghost use Rattle.life_core.specs.Cell.{cell_at, moved_cell, IsCellWithin};
 ghost use Rattle.life_core.specs.Orientation.{turned_cell};
 ghost use Rattle.life_core.specs.Pattern.{image, in_order, IsWithin, IsBox, normal, ShiftsTo, InOrderAscends, InOrderHasMembers, NormalAtOrigin};
 ghost use Rattle.life_core.specs.PatternState.{IsCellList, ShiftsListTo};
+ghost use Rattle.life_core.specs.Runs.{runs_cells, moved_run, IsRunWithin, AreLongest};
 
 use crate::cell::{Cell, PLANE};
 use crate::fault::Fault;
 use crate::orientation::Orientation;
-use crate::sorted::{find_cell, sort_cells};
+use crate::runs::{Run, Runs, are_in_order, find_cell};
+use crate::sorted::sort_cells;
 use std::alloc::{AllocError, Allocator, Global};
 use std::marker::Model;
 
@@ -27,7 +29,7 @@ pub struct Bounds {
 /// A finite set of cells.
 #[derive(Debug, Drop)]
 pub struct Pattern<A: Allocator = Global> {
-    cells: Vec<Cell, A>,
+    cells: Runs<A>,
 }
 
 impl<A: Allocator> Model for Pattern<A> {
@@ -40,34 +42,59 @@ impl<A: Allocator> Model for Pattern<A> {
 
     ghost coded = { coded_cells };
 
-    ghost view = { λ a. set.from_list a.cells.items };
+    ghost view = { λ a. set.from_list a.cells };
 
-    ghost invariant = { λ a. IsCellList PLANE a.cells.items };
+    ghost invariant = { λ a. IsCellList PLANE a.cells };
 }
 
-impl<A: Allocator> Pattern<A> {
+impl<A: Allocator + Copy> Pattern<A> {
     /// The set of the cells of the pairs (column, row). Repeats count once.
     pub fn from_cells(alloc: A, cells: &[(i64, i64)]) -> Result<Pattern<A>, Fault>
         requires { All (λ p. IsCellWithin PLANE (cell_at p)) cells.now }
         ensures { IfOk result (λ X. X ≡ set.from_list (map cell_at cells.now)) }
     {
-        Ok(Pattern::from_list(cells_of(alloc, cells)?))
+        Pattern::from_list(cells_of(alloc, cells)?)
     }
 
     /// The set of the cells of a list, in any order and with repeats.
-    pub fn from_list(cells: Vec<Cell, A>) -> Pattern<A>
+    pub fn from_list(cells: Vec<Cell, A>) -> Result<Pattern<A>, Fault>
         requires { All (IsCellWithin PLANE) cells.items }
-        ensures { result ≡ set.from_list cells.items }
+        ensures { IfOk result (λ X. X ≡ set.from_list cells.items) }
     {
+        let alloc = *cells.allocator();
         let mut cells = cells;
         sort_cells(&mut cells);
-        Pattern { cells }
+        Ok(Pattern {
+            cells: Runs::of(alloc, &cells)?,
+        })
     }
 
+    /// The set of the cells of a list that is kept by its runs, in any order and with repeats. A list in order is taken as it is.
+    pub fn from_runs(cells: Runs<A>) -> Result<Pattern<A>, Fault>
+        requires { All (IsCellWithin PLANE) cells }
+        ensures { IfOk result (λ X. X ≡ set.from_list cells) }
+    {
+        if are_in_order(cells.runs()) {
+            return Ok(Pattern::from_sorted(cells));
+        }
+        let alloc = *cells.allocator();
+        Pattern::from_list(cells.list(alloc)?)
+    }
+
+    /// The set turned about the origin.
+    pub fn turned(&self, alloc: A, orientation: Orientation) -> Result<Pattern<A>, Fault>
+        ensures { IfOk result (λ X. X ≡ image (turned_cell orientation) self.now) }
+    {
+        let cells = self.cells.list(alloc)?;
+        Pattern::from_list(turned_cells(alloc, &cells, orientation)?)
+    }
+}
+
+impl<A: Allocator> Pattern<A> {
     /// The set of the cells of a list that is strictly sorted already.
-    pub(crate) fn from_sorted(cells: Vec<Cell, A>) -> Pattern<A>
-        requires { IsCellList PLANE cells.items }
-        ensures { result ≡ set.from_list cells.items }
+    pub(crate) fn from_sorted(cells: Runs<A>) -> Pattern<A>
+        requires { IsCellList PLANE cells }
+        ensures { result ≡ set.from_list cells }
     {
         Pattern { cells }
     }
@@ -81,22 +108,22 @@ impl<A: Allocator> Pattern<A> {
     pub fn contains(&self, cell: Cell) -> bool
         ensures { result ≡ set.contains self.now cell }
     {
-        find_cell(&self.cells, cell)
+        find_cell(self.cells.runs(), cell)
     }
 
     /// The live cells, by row and then by column.
-    pub fn cells(&self) -> &[Cell]
+    pub fn cells(&self) -> &Runs<A>
         ensures cells { result.now ≡ in_order self.now }
         ensures inside { All (IsCellWithin PLANE) result.now }
     {
-        self.cells.as_slice()
+        &self.cells
     }
 
     /// Whether both coordinates of every live cell lie between `-k` and `k`.
     pub fn within(&self, k: u32) -> bool
         ensures { IsTrue result ↔ IsWithin k self.now }
     {
-        all_within(&self.cells, k)
+        all_within(self.cells.runs(), k)
     }
 
     /// The same set again.
@@ -104,7 +131,7 @@ impl<A: Allocator> Pattern<A> {
         ensures { IfOk result (λ X. X ≡ self.now) }
     {
         Ok(Pattern {
-            cells: Vec::from_slice(alloc, &self.cells)?,
+            cells: self.cells.copy(alloc)?,
         })
     }
 
@@ -116,19 +143,12 @@ impl<A: Allocator> Pattern<A> {
         Ok(self.copy(alloc)?.into_moved(dx, dy))
     }
 
-    /// The set turned about the origin.
-    pub fn turned(&self, alloc: A, orientation: Orientation) -> Result<Pattern<A>, Fault>
-        ensures { IfOk result (λ X. X ≡ image (turned_cell orientation) self.now) }
-    {
-        Ok(Pattern::from_list(turned_cells(alloc, &self.cells, orientation)?))
-    }
-
     /// The box of the live cells, if there are any.
     pub fn bounds(&self) -> Option<Bounds>
         ensures none { IsNone result ↔ (self.now ≡ set.empty) }
         ensures is_box { IfSome result (λ b. IsBox self.now b.left b.top b.width b.height) }
     {
-        bounds_of(&self.cells)
+        bounds_of(self.cells.runs())
     }
 
     /// The set moved so that its least column and its least row are 0.
@@ -158,24 +178,26 @@ impl<A: Allocator> Pattern<A> {
         if dx == 0 && dy == 0 {
             return self;
         }
-        let Pattern { mut cells } = self;
-        move_cells(&mut cells, dx, dy);
-        Pattern::from_sorted(cells)
+        let Pattern { cells } = self;
+        Pattern::from_sorted(cells.into_moved(Cell {
+            row: dy,
+            column: dx,
+        }))
     }
 
     /// Whether the sets are equal.
     pub fn same(&self, other: &Pattern<A>) -> bool
         ensures { IsTrue result ↔ (self.now ≡ other.now) }
     {
-        self.cells == other.cells
+        self.cells.runs() == other.cells.runs()
     }
 
     /// The one move, columns and rows, that takes this set to the other; none where this set is
     /// empty, or where no move does.
-    pub(crate) fn shift_to(&self, other: &Pattern<A>) -> Option<(i64, i64)>
+    pub fn shift_to(&self, other: &Pattern<A>) -> Option<(i64, i64)>
         ensures { ShiftsTo self.now other.now result }
     {
-        shift_between(&self.cells, &other.cells)
+        shift_between(self.cells.runs(), other.cells.runs())
     }
 
     /// How many cells are live.
@@ -207,22 +229,11 @@ fn cells_of<A: Allocator>(alloc: A, pairs: &[(i64, i64)]) -> Result<Vec<Cell, A>
         .collect(alloc)
 }
 
-/// Whether both coordinates of each cell lie between `-k` and `k`.
-fn all_within(cells: &[Cell], k: u32) -> bool
-    ensures { IsTrue result ↔ All (IsCellWithin k) cells.now }
+/// Whether both coordinates of each cell of the runs lie between `-k` and `k`.
+fn all_within(runs: &[Run], k: u32) -> bool
+    ensures { IsTrue result ↔ All (IsRunWithin k) runs.now }
 {
-    cells.iter().all(|c| c.is_within(k))
-}
-
-/// Moves the cells `dx` columns to the right and `dy` rows down.
-fn move_cells(cells: &mut [Cell], dx: i64, dy: i64)
-    requires here { All (IsCellWithin PLANE) cells.old }
-    requires there { All (λ c. IsCellWithin PLANE (moved_cell dx dy c)) cells.old }
-    ensures { cells.new ≡ map (moved_cell dx dy) cells.old }
-{
-    for cell in cells.iter_mut() {
-        *cell = cell.moved(dx, dy);
-    }
+    runs.iter().all(|run| run.is_within(k))
 }
 
 /// The cells turned about the origin.
@@ -237,66 +248,69 @@ fn turned_cells<A: Allocator>(
     cells.iter().map(|c| orientation.turned(*c)).collect(alloc)
 }
 
-/// The move that takes the cells of one list, in their order, to those of the other.
-fn shift_between(cells: &[Cell], others: &[Cell]) -> Option<(i64, i64)>
-    requires here { All (IsCellWithin PLANE) cells.now }
-    requires there { All (IsCellWithin PLANE) others.now }
-    ensures { ShiftsListTo cells.now others.now result }
+/// The move that takes the cells of longest runs, in their order, to those of the others.
+fn shift_between(runs: &[Run], others: &[Run]) -> Option<(i64, i64)>
+    requires runs { AreLongest runs.now }
+    requires others { AreLongest others.now }
+    ensures { ShiftsListTo (runs_cells runs.now) (runs_cells others.now) result }
 {
-    let from = cells.first()?;
+    let from = runs.first()?;
     let to = others.first()?;
-    let shift = shift_of(*from, *to);
-    if are_moved(cells, others, shift) {
+    let shift = way(*from, *to);
+    if are_moved(runs, others, shift) {
         Some(shift)
     } else {
         None
     }
 }
 
-/// The columns and rows from one cell to another.
-pub(crate) fn shift_of(from: Cell, to: Cell) -> (i64, i64)
-    requires from { IsCellWithin PLANE from }
-    requires to { IsCellWithin PLANE to }
-    ensures columns { result.0 ≡ to.column -ℤ from.column }
+/// The columns and rows from the first cell of one run to that of another.
+fn way(from: Run, to: Run) -> (i64, i64)
+    ensures columns { result.0 ≡ to.first -ℤ from.first }
     ensures rows { result.1 ≡ to.row -ℤ from.row }
 {
-    (to.column - from.column, to.row - from.row)
+    (
+        i64::from(to.first) - i64::from(from.first),
+        i64::from(to.row) - i64::from(from.row),
+    )
 }
 
-/// Whether the shift takes the cells of one list, in their order, to those of the other.
-fn are_moved(cells: &[Cell], others: &[Cell], shift: (i64, i64)) -> bool
-    requires here { All (IsCellWithin PLANE) cells.now }
-    requires columns { (neg_ℤ (pos (2 * PLANE)) ≤ℤ shift.0) × (shift.0 ≤ℤ pos (2 * PLANE)) }
-    requires rows { (neg_ℤ (pos (2 * PLANE)) ≤ℤ shift.1) × (shift.1 ≤ℤ pos (2 * PLANE)) }
-    ensures { IsTrue result ↔ (map (moved_cell shift.0 shift.1) cells.now ≡ others.now) }
+/// Whether the shift takes the runs of one list, in their order, to those of the other.
+fn are_moved(runs: &[Run], others: &[Run], shift: (i64, i64)) -> bool
+    ensures { IsTrue result ↔ (map (moved_run shift.0 shift.1) runs.now ≡ others.now) }
 {
-    cells.len() == others.len()
-        && cells
+    runs.len() == others.len()
+        && runs
             .iter()
             .zip(others)
-            .all(|(cell, other)| goes_to(*cell, *other, shift))
+            .all(|(run, other)| goes_to(*run, *other, shift))
 }
 
-/// Whether the shift takes the cell to the other.
-fn goes_to(cell: Cell, other: Cell, shift: (i64, i64)) -> bool
-    requires here { IsCellWithin PLANE cell }
-    requires columns { (neg_ℤ (pos (2 * PLANE)) ≤ℤ shift.0) × (shift.0 ≤ℤ pos (2 * PLANE)) }
-    requires rows { (neg_ℤ (pos (2 * PLANE)) ≤ℤ shift.1) × (shift.1 ≤ℤ pos (2 * PLANE)) }
-    ensures { IsTrue result ↔ (moved_cell shift.0 shift.1 cell ≡ other) }
+/// Whether the shift takes the run to the other.
+fn goes_to(run: Run, other: Run, shift: (i64, i64)) -> bool
+    ensures { IsTrue result ↔ (moved_run shift.0 shift.1 run ≡ other) }
 {
-    cell.moved(shift.0, shift.1) == other
+    let own = way(run, other);
+    if own.0 != shift.0 {
+        return false;
+    }
+    if own.1 != shift.1 {
+        return false;
+    }
+    run.len == other.len
 }
 
-/// The box of the cells, if there are any.
-fn bounds_of(cells: &[Cell]) -> Option<Bounds>
-    requires { All (IsCellWithin PLANE) cells.now }
-    ensures none { IsNone result ↔ (cells.now ≡ []) }
-    ensures is_box { IfSome result (λ b. IsBox (set.from_list cells.now) b.left b.top b.width b.height) }
+/// The box of the cells of runs, if there are any.
+fn bounds_of(runs: &[Run]) -> Option<Bounds>
+    requires runs { AreLongest runs.now }
+    requires inside { All (IsCellWithin PLANE) (runs_cells runs.now) }
+    ensures none { IsNone result ↔ (runs_cells runs.now ≡ []) }
+    ensures is_box { IfSome result (λ b. IsBox (set.from_list (runs_cells runs.now)) b.left b.top b.width b.height) }
 {
-    let first = cells.first()?;
-    let mut corners = Corners::of(*first);
-    for c in cells {
-        corners.include(*c);
+    let first = runs.first()?;
+    let mut corners = Corners::of(first.first_cell(), first.last_cell());
+    for run in runs {
+        corners.include(run.first_cell(), run.last_cell());
     }
     Some(corners.bounds())
 }
@@ -311,30 +325,30 @@ struct Corners {
 }
 
 impl Corners {
-    fn of(cell: Cell) -> Corners
-        ensures left { result.left ≡ cell.column }
-        ensures right { result.right ≡ cell.column }
-        ensures top { result.top ≡ cell.row }
-        ensures bottom { result.bottom ≡ cell.row }
+    fn of(first: Cell, last: Cell) -> Corners
+        ensures left { result.left ≡ first.column }
+        ensures right { result.right ≡ last.column }
+        ensures top { result.top ≡ first.row }
+        ensures bottom { result.bottom ≡ last.row }
     {
         Corners {
-            left: cell.column,
-            right: cell.column,
-            top: cell.row,
-            bottom: cell.row,
+            left: first.column,
+            right: last.column,
+            top: first.row,
+            bottom: last.row,
         }
     }
 
-    fn include(&mut self, cell: Cell)
-        ensures left { self.new.left ≡ int_min self.old.left cell.column }
-        ensures right { self.new.right ≡ int_max self.old.right cell.column }
-        ensures top { self.new.top ≡ int_min self.old.top cell.row }
-        ensures bottom { self.new.bottom ≡ int_max self.old.bottom cell.row }
+    fn include(&mut self, first: Cell, last: Cell)
+        ensures left { self.new.left ≡ int_min self.old.left first.column }
+        ensures right { self.new.right ≡ int_max self.old.right last.column }
+        ensures top { self.new.top ≡ int_min self.old.top first.row }
+        ensures bottom { self.new.bottom ≡ int_max self.old.bottom last.row }
     {
-        self.left = self.left.min(cell.column);
-        self.right = self.right.max(cell.column);
-        self.top = self.top.min(cell.row);
-        self.bottom = self.bottom.max(cell.row);
+        self.left = self.left.min(first.column);
+        self.right = self.right.max(last.column);
+        self.top = self.top.min(first.row);
+        self.bottom = self.bottom.max(last.row);
     }
 
     fn bounds(self) -> Bounds

@@ -25,7 +25,7 @@ pub fn soup<A: Allocator + Copy>(
     ensures inside { IfOk result (IsWithin 256) }
 {
     let digest = digest_of(root, number);
-    Ok(Pattern::from_list(soup_cells(alloc, symmetry, &digest)?))
+    Pattern::from_list(soup_cells(alloc, symmetry, &digest)?)
 }
 
 /// The cells of the soup of a digest.

@@ -1,4 +1,5 @@
 pub mod DocumentLemmas
+pub mod ExtentLemmas
 pub mod FramesLemmas
 pub mod LawsLemmas
 mod LinesLemmas

@@ -1,13 +1,20 @@
--- Runs of cells, and a path that is written run by run.
-use Rattle.std.proofs.Common.{◌≡◌, ℕ, zero, suc, ◌+◌, Bool, true, false, ◌&&◌, cond, eqb, List, [], ◌∷◌, ◌++◌, refl, ap, ◌∙◌, sym, arith, add-one}
-use Rattle.std.specs.List.{flat_map}
-use Rattle.std.proofs.lemmas.List.{append_assoc, append-nil}
+-- The longest runs of cells, and the path that is drawn from those of a pattern.
+use Rattle.std.proofs.Common.{◌≡◌, ℕ, zero, suc, ◌+◌, ◌<◌, ◌≤◌, Bool, true, false, ◌&&◌, cond, eqb, List, [], ◌∷◌, ◌++◌, map, take, length, get_or, refl, ap, ◌∙◌, sym, subst, arith, add-one}
+use Rattle.std.specs.List.{All, flat_map}
+use Rattle.std.proofs.lemmas.Int.{ints}
+use Rattle.std.proofs.lemmas.List.{append_assoc, append-nil, map-append, take_more}
+use Rattle.std.proofs.lemmas.List.Concat.{flat_map-append}
+use Rattle.std.proofs.lemmas.List.Elements.{All-head, All-tail}
 use Rattle.std.proofs.lemmas.Bool.{eq-eqb}
+use Rattle.life_core.specs.declared.runs.Run.{Run as CellRun}
+use Rattle.life_core.specs.Runs.{cells_from, runs_cells, first_cell, NoneJoins, AreLongest}
 use Rattle.life_rle.specs.Body.{run}
-use Rattle.life_rle.proofs.BodyPositions.{run_more}
+use Rattle.life_rle.specs.Writer.{coordinates}
+use Rattle.life_rle.specs.WriterState.{IsQuarterCell, IsQuarterRun, column_of, row_of}
+use Rattle.life_rle.proofs.RunPairs.{run_pairs, runs_pairs}
 use Rattle.life_pictures.specs.declared.runs.Run.{Run}
-use Rattle.life_pictures.specs.Runs.{is_right_of, run_from, before_runs, cells_of_run, runs_of, run_path}
-use Rattle.life_pictures.specs.RunsState.{path_from}
+use Rattle.life_pictures.specs.Runs.{is_right_of, run_from, before_runs, runs_of, run_path}
+use Rattle.life_pictures.specs.RunsState.{drawn}
 
 -- the list is empty or begins elsewhere than at this column and row
 abbrev pub BeginsElsewhere : ℕ → ℕ → List (ℕ × ℕ) → Type 0
@@ -55,50 +62,41 @@ front (suc n) column row cells elsewhere =
     elsewhere_at [] elsewhere = tt
     elsewhere_at (cell ∷ cells) elsewhere = λ same_row same_column. elsewhere same_row (omega arith)
 
--- ---- a path
+-- ---- the runs of a pattern
 
--- a run that goes no further, and has a cell
-pub whole_run : (r : Run) → (r.length ≡ 0 → ⊥) → run_path r ≡ path_from r []
+-- the cells of longest runs begin elsewhere than right behind a run that none of them joins
+elsewhere : (r : CellRun) (rs : List CellRun) → IsQuarterRun r → All IsQuarterRun rs → NoneJoins r rs → BeginsElsewhere (column_of r + r.len) (row_of r) (map coordinates (runs_cells rs))
+elsewhere r [] quarter all none = tt
+elsewhere r (s ∷ rs) quarter all none =
+    let here = All-head IsQuarterRun s rs all in
+    go here.first s.len refl here.some
+  where
+    go : IsQuarterCell (first_cell s) → (n : ℕ) → s.len ≡ n → 1 ≤ n → BeginsElsewhere (column_of r + r.len) (row_of r) (map coordinates (cells_from s.row s.first n ++ runs_cells rs))
+    go here zero is some = absurd (omega (arith, some))
+    go here (suc n) is some = λ row column. none (omega (arith, ints, row, quarter.first.row_low, here.row_low), omega (arith, ints, column, quarter.first.column_low, here.column_low))
+
+-- the longest runs that a pattern is kept by are those of its cells
+pub runs_are_drawn : (rs : List CellRun) → AreLongest rs → All IsQuarterRun rs → runs_of (map coordinates (runs_cells rs)) ≡ map drawn rs
 unfolding runs_of
-whole_run r some = go r.length refl some
+runs_are_drawn [] longest all = refl
+runs_are_drawn (r ∷ rs) longest all =
+    let here = All-head IsQuarterRun r rs all in
+    let rest = All-tail IsQuarterRun r rs all in
+    ap runs_of (runs_pairs r rs ∙ ap (λ (ps : List (ℕ × ℕ)). ps ++ map coordinates (runs_cells rs)) (run_pairs r.row r.first r.len here.first.column_low))
+    ∙ go r.len refl here.some (elsewhere r rs here rest longest.1) ∙ ap (λ (qs : List Run). drawn r ∷ qs) (runs_are_drawn rs longest.2 rest)
   where
-    go : (n : ℕ) → r.length ≡ n → (n ≡ 0 → ⊥) → run_path r ≡ path_from r []
-    go zero is some = absurd (some refl)
-    go (suc n) is some =
-        sym (append-nil (run_path r))
-        ∙ ap (λ k. run_path (run_from (r.column, r.row) k) ++ []) is
-        ∙ ap (flat_map run_path) (sym (front n r.column r.row [] tt))
-        ∙ ap (λ k. path_from (run_from (r.column, r.row) k) []) (sym is)
+    go : (n : ℕ) → r.len ≡ n → 1 ≤ n → BeginsElsewhere (column_of r + r.len) (row_of r) (map coordinates (runs_cells rs)) → runs_of (run (column_of r) (row_of r) r.len ++ map coordinates (runs_cells rs)) ≡ drawn r ∷ runs_of (map coordinates (runs_cells rs))
+    go zero is some apart = absurd (omega (arith, some))
+    go (suc n) is some apart =
+        ap (λ k. runs_of (run (column_of r) (row_of r) k ++ map coordinates (runs_cells rs))) is
+        ∙ front n (column_of r) (row_of r) (map coordinates (runs_cells rs)) (subst (λ k. BeginsElsewhere (column_of r + k) (row_of r) (map coordinates (runs_cells rs))) is apart)
+        ∙ ap (λ k. run_from (column_of r, row_of r) k ∷ runs_of (map coordinates (runs_cells rs))) (sym is)
 
--- a run without a cell
-pub no_run : (r : Run) → r.length ≡ 0 → path_from r [] ≡ []
-unfolding runs_of run
-no_run r none = ap (λ k. path_from (run_from (r.column, r.row) k) []) none
-
--- before the first cell
-pub none_yet : (column row : ℕ) (cells : List (ℕ × ℕ)) → path_from (run_from (column, row) 0) cells ≡ flat_map run_path (runs_of cells)
-unfolding run
-none_yet column row cells = refl
-
--- the next cell continues the run
-longer : (column row n : ℕ) (cells : List (ℕ × ℕ)) → run column row (n + 1) ++ cells ≡ run column row n ++ (column + n, row) ∷ cells
-longer column row n cells = ap (λ front. front ++ cells) (run_more column row n) ∙ append_assoc (run column row n) ((column + n, row) ∷ []) cells
-
-pub joined : (r : Run) (cell : ℕ × ℕ) (cells : List (ℕ × ℕ)) → cell.1 ≡ r.row → cell.0 ≡ r.column + r.length → path_from (run_from (r.column, r.row) (r.length + 1)) cells ≡ path_from r (cell ∷ cells)
-joined r cell cells same_row same_column =
-    ap (λ all. flat_map run_path (runs_of all)) (longer r.column r.row r.length cells ∙ ap (λ (next : ℕ × ℕ). cells_of_run r ++ next ∷ cells) (λ i. (sym same_column i, sym same_row i)))
-
--- the next cell stands elsewhere
-pub parted : (r : Run) (cell : ℕ × ℕ) (cells : List (ℕ × ℕ)) → (cell.1 ≡ r.row → cell.0 ≡ r.column + r.length → ⊥) → path_from r [] ++ path_from (run_from cell 1) cells ≡ path_from r (cell ∷ cells)
-unfolding runs_of run
-parted r cell cells elsewhere = go r.length refl
-  where
-    go : (n : ℕ) → r.length ≡ n → path_from r [] ++ path_from (run_from cell 1) cells ≡ path_from r (cell ∷ cells)
-    go zero is =
-        ap (λ front. front ++ path_from (run_from cell 1) cells) (no_run r is)
-        ∙ ap (λ k. path_from (run_from (r.column, r.row) k) (cell ∷ cells)) (sym is)
-    go (suc n) is =
-        ap (λ front. front ++ path_from (run_from cell 1) cells) (sym (whole_run r (λ none. omega arith)))
-        ∙ ap (λ k. run_path (run_from (r.column, r.row) k) ++ path_from (run_from cell 1) cells) is
-        ∙ ap (flat_map run_path) (sym (front n r.column r.row (cell ∷ cells) (λ same_row same_column. elsewhere same_row (omega arith))))
-        ∙ ap (λ k. path_from (run_from (r.column, r.row) k) (cell ∷ cells)) (sym is)
+-- one run more is drawn
+pub one_more_run : (rs : List CellRun) (i : ℕ) (d : CellRun) (o₀ o₁ o₂ : List ℕ) → i < length rs → o₁ ≡ o₀ ++ flat_map run_path (map drawn (take i rs)) → o₂ ≡ o₁ ++ run_path (drawn (get_or rs i d)) → o₂ ≡ o₀ ++ flat_map run_path (map drawn (take (i + 1) rs))
+one_more_run rs i d o₀ o₁ o₂ low before next =
+    next ∙ ap (λ o. o ++ run_path (drawn (get_or rs i d))) before ∙ append_assoc o₀ _ _
+    ∙ ap (λ text. o₀ ++ text) (
+    ap (λ text. flat_map run_path (map drawn (take i rs)) ++ text) (sym (append-nil (run_path (drawn (get_or rs i d)))))
+    ∙ sym (flat_map-append run_path (map drawn (take i rs)) (drawn (get_or rs i d) ∷ []))
+    ∙ ap (flat_map run_path) (sym (ap (map drawn) (take_more rs i d low) ∙ map-append drawn (take i rs) (get_or rs i d ∷ []))))

@@ -11,6 +11,7 @@ use crate::document::put_front;
 use crate::extent::extent_of;
 use crate::numbers::put_numbered;
 use crate::runs::put_path;
+use life_core::runs::list_runs;
 use life_core::{Cell, Fault, GENERATION_LIMIT, Pattern, Rule, generation};
 use life_rle::{Record, Text};
 use std::alloc::Allocator;
@@ -49,10 +50,10 @@ fn trail<A: Allocator + Copy>(
     let mut cells = Vec::new(alloc);
     let mut now = start.copy(alloc)?;
     for _i in 0..count {
-        cells.extend_from_slice(now.cells())?;
+        list_runs(&mut cells, now.cells().runs())?;
         now = generation(alloc, rule, &now, 1)?;
     }
-    Ok(Pattern::from_list(cells))
+    Pattern::from_list(cells)
 }
 
 /// Writes the frame of a pattern in a box with this upper left cell.

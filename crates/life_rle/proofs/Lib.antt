@@ -3,6 +3,7 @@ pub mod RecordCells
 pub mod RecordLaws
 pub mod HeaderLemmas
 pub mod BodyPositions
+pub mod RunPairs
 pub mod BodyCounts
 pub mod BodyLaws
 pub mod BodySteps

@@ -79,7 +79,7 @@ gap_cell_read cell cells live row from before order inside fits low gap =
     let down = counted (cell.1 - row) 36 in
     let along = counted (cell.0 - cond (eqb cell.1 row) (from + live) 0) 98 in
     let others = texts_from 1 cell.1 (cell.0 + 1) cells in
-    ap (λ t. body_from (between row from before) (joined t ++ 33 ∷ [])) (texts_gap live row (from + live) _ cell cells refl (some_gap row (from + live) cell order.0 order.1 gap))
+    ap (λ t. body_from (between row from before) (joined t ++ 33 ∷ [])) (texts_gap live row (from + live) _ cell cells refl (λ _. some_gap row (from + live) cell order.0 order.1 gap))
     ∙ ap (λ t. body_from (between row from before) t) (joined_four (counted live 111) down along others (33 ∷ []))
     ∙ live_read live row from before (joined down ++ (joined along ++ (joined others ++ 33 ∷ []))) fits low
     ∙ gap_read row (from + live) cell (before ++ run from row live) (joined others ++ 33 ∷ []) order.0 order.1 inside.0 inside.1

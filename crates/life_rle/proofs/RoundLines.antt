@@ -137,7 +137,7 @@ texts_plain (cell ∷ cells) live row from order inside fits =
           ∙ ap (λ c. texts_from (live + 1) row c cells) (let e : cell.0 + 1 ≡ from + (live + 1) = omega arith in e)))
           (texts_plain cells (live + 1) row from (order_on cells live row from cell here.0 here.1 order.2) inside.2 (omega arith))
       | inr gap ↦
-          subst PlainTexts (sym (texts_gap live row (from + live) _ cell cells refl (some_gap row (from + live) cell order.0 order.1 gap)))
+          subst PlainTexts (sym (texts_gap live row (from + live) _ cell cells refl (λ _. some_gap row (from + live) cell order.0 order.1 gap)))
           (gap_plain (counted live 111) (counted (cell.1 - row) 36) (counted (cell.0 - cond (eqb cell.1 row) (from + live) 0) 98) (texts_from 1 cell.1 (cell.0 + 1) cells)
           (counted_plain live 111 (omega arith) refl) (counted_plain (cell.1 - row) 36 (omega arith) refl) (counted_plain _ 98 (small_gap cell.0 _ (omega arith)) refl)
           (texts_plain cells 1 cell.1 cell.0 order.2 inside.2 (omega arith)))

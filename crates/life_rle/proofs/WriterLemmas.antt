@@ -1,16 +1,20 @@
--- One more item laid into lines, and one more cell written.
-use Rattle.std.proofs.Common.{◌≡◌, ℕ, ◌<◌, ◌≤◌, ◌+◌, ◌-◌, cond, eqb, nat_lt, List, [], ◌∷◌, ◌++◌, take, set, length, refl, ap, ◌∙◌, sym, inl, inr, arith}
+-- One more item laid into lines, and one more run written.
+use Rattle.std.proofs.Common.{◌≡◌, ℕ, ◌<◌, ◌≤◌, ◌+◌, ◌-◌, cond, eqb, nat_lt, List, [], ◌∷◌, ◌++◌, take, set, length, map, subst, ◌⊎◌, ap, ◌∙◌, sym, inl, inr, arith}
 use Rattle.std.proofs.lemmas.List.{append_assoc, take_more_set, take-set, length-set, length-append}
 use Rattle.std.proofs.Math.Seq.{take-append_seam}
 use Rattle.std.specs.Int.{from_bool}
 use Rattle.std.specs.Fmt.{decimal}
-use Rattle.std.proofs.lemmas.Bool.{cases_lt, eq-eqb, ne_eqb, le-leb, lt-leb, lt-ltb, le-ltb}
+use Rattle.std.proofs.lemmas.Bool.{cases_lt, cases_eq, eq-eqb, ne_eqb, le-leb, lt-leb, lt-ltb, le-ltb}
 use Rattle.std.proofs.lemmas.Fmt.{decimal_digit}
 use Rattle.life_rle.specs.declared.writer.ItemLines.{ItemLines}
-use Rattle.life_rle.specs.Writer.{laid, item_text}
-use Rattle.life_rle.specs.WriterState.{counted, texts_from}
+use Rattle.life_core.specs.declared.runs.Run.{Run}
+use Rattle.life_core.specs.Runs.{run_cells}
+use Rattle.life_rle.specs.Body.{run}
+use Rattle.life_rle.specs.Writer.{laid, item_text, coordinates}
+use Rattle.life_rle.specs.WriterState.{counted, texts_from, column_of, row_of, IsNextRun}
 use Rattle.life_rle.specs.ItemLinesState.{written}
-use Rattle.life_rle.proofs.WriterRuns.{texts_same, texts_gap}
+use Rattle.life_rle.proofs.RunPairs.{run_pairs}
+use Rattle.life_rle.proofs.WriterRuns.{texts_run}
 
 -- ---- items
 
@@ -84,28 +88,10 @@ more_digits line digits rest used n tag front long inside =
     ∙ ap (λ l. l ++ tag ∷ []) (take-append_seam (take used line ++ digits) rest)
     ∙ append_assoc (take used line) digits (tag ∷ [])
 
--- ---- cells
-
-pub cell_same : {A : Type 0} (lines : ItemLines A) (row column here live : ℕ) (cell : ℕ × ℕ) (cells : List (ℕ × ℕ)) (items : List (List ℕ)) → cell.1 ≡ row → here ≡ column → here ≡ cell.0 →
-    written lines (texts_from (live + 1) row (here + 1) cells ++ items) ≡ written lines (texts_from live row column (cell ∷ cells) ++ items)
-cell_same lines row column here live cell cells items same_row same_column same =
-    ap (λ r. written lines (texts_from (live + 1) r (here + 1) cells ++ items)) (sym same_row)
-    ∙ ap (λ c. written lines (texts_from (live + 1) cell.1 (c + 1) cells ++ items)) same
-    ∙ ap (λ t. written lines (t ++ items)) (texts_same live row column cell cells same_row (sym same ∙ same_column))
+-- ---- runs
 
 four_parts : (a b c d e : List (List ℕ)) → a ++ (b ++ (c ++ (d ++ e))) ≡ (a ++ (b ++ (c ++ d))) ++ e
 four_parts a b c d e = simp append_assoc
-
-pub cell_gap : {A : Type 0} (new old : ItemLines A) (row column here live one : ℕ) (cell : ℕ × ℕ) (cells : List (ℕ × ℕ)) (items : List (List ℕ)) → one ≡ 1 → here ≡ cell.0 →
-    0 < (cell.1 - row) + (cell.0 - cond (eqb cell.1 row) column 0) →
-    ((items : List (List ℕ)) → written new items ≡ written old (counted live 111 ++ (counted (cell.1 - row) 36 ++ (counted (cell.0 - cond (eqb cell.1 row) column 0) 98 ++ items)))) →
-    written new (texts_from one cell.1 (here + 1) cells ++ items) ≡ written old (texts_from live row column (cell ∷ cells) ++ items)
-cell_gap new old row column here live one cell cells items is_one same some gap =
-    ap (λ n. written new (texts_from n cell.1 (here + 1) cells ++ items)) is_one
-    ∙ ap (λ c. written new (texts_from 1 cell.1 (c + 1) cells ++ items)) same
-    ∙ gap (texts_from 1 cell.1 (cell.0 + 1) cells ++ items)
-    ∙ ap (λ t. written old t) (four_parts (counted live 111) (counted (cell.1 - row) 36) (counted (cell.0 - cond (eqb cell.1 row) column 0) 98) (texts_from 1 cell.1 (cell.0 + 1) cells) items)
-    ∙ ap (λ t. written old (t ++ items)) (sym (texts_gap live row column _ cell cells refl some))
 
 -- a cell elsewhere is behind a gap
 pub some_gap_row : (row column x y : ℕ) → row ≤ y → (y ≡ row → ⊥) → 0 < (y - row) + (x - cond (eqb y row) column 0)
@@ -113,3 +99,23 @@ some_gap_row row column x y low other = omega arith
 
 pub some_gap_column : (row column x y : ℕ) → y ≡ row → column ≤ x → (x ≡ column → ⊥) → 0 < (y - row) + (x - cond (eqb y row) column 0)
 some_gap_column row column x y same low other = let e : cond (eqb y row) column 0 ≡ column = ap (λ b. cond b column 0) (eq-eqb y row same) in omega arith
+
+some_gap : (row column x y : ℕ) → row ≤ y → (row < y) ⊎ (column < x) → 0 < (y - row) + (x - cond (eqb y row) column 0)
+some_gap row column x y low (inl below) = some_gap_row row column x y low (λ same. absurd (omega (arith, below, same)))
+some_gap row column x y low (inr right) = elim (cases_eq y row) [
+  | inl same ↦ some_gap_column row column x y same (omega (arith, right)) (λ here. absurd (omega (arith, right, here)))
+  | inr other ↦ some_gap_row row column x y low other
+]
+
+-- one more run is written
+pub run_written : {A : Type 0} (new old : ItemLines A) (row column live x y end length : ℕ) (r : Run) (cells : List (ℕ × ℕ)) (items : List (List ℕ)) → IsNextRun row column live r → x ≡ column_of r → y ≡ row_of r → length ≡ r.len → end ≡ x + length →
+    ((items : List (List ℕ)) → written new items ≡ written old (counted live 111 ++ (counted (y - row) 36 ++ (counted (x - cond (eqb y row) column 0) 98 ++ items)))) →
+    written new (texts_from length y end cells ++ items) ≡ written old (texts_from live row column (map coordinates (run_cells r) ++ cells) ++ items)
+run_written new old row column live x y end length r cells items next at_column at_row is_long is_end gap =
+    let below : row ≤ y = omega (arith, next.below, at_row) in
+    let apart : 0 < live → (row < y) ⊎ (column < x) = λ some. subst (λ z. (row < z) ⊎ (column < x)) (sym at_row) (subst (λ z. (row < row_of r) ⊎ (column < z)) (sym at_column) (next.apart some)) in
+    let pairs : map coordinates (run_cells r) ≡ run x y r.len = run_pairs r.row r.first r.len next.cells.first.column_low ∙ sym (λ i. run (at_column i) (at_row i) r.len) in
+    (λ i. written new (texts_from (is_long i) y ((is_end ∙ ap (λ n. x + n) is_long) i) cells ++ items))
+    ∙ gap (texts_from r.len y (x + r.len) cells ++ items)
+    ∙ ap (λ t. written old t) (four_parts (counted live 111) (counted (y - row) 36) (counted (x - cond (eqb y row) column 0) 98) (texts_from r.len y (x + r.len) cells) items)
+    ∙ ap (λ t. written old (t ++ items)) (sym (texts_run live row column x y r.len cells next.cells.some (λ some. some_gap row column x y below (apart some))) ∙ ap (λ ps. texts_from live row column (ps ++ cells)) (sym pairs))

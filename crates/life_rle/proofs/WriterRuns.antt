@@ -1,7 +1,8 @@
 -- The longest runs of tags, and their texts.
-use Rattle.std.proofs.Common.{◌≡◌, ◌≢◌, ℕ, zero, suc, ◌<◌, ◌+◌, ◌-◌, Bool, true, false, cond, eqb, List, [], ◌∷◌, ◌++◌, map, replicate, refl, ap, ◌∙◌, sym, arith, add-one}
+use Rattle.std.proofs.Common.{◌≡◌, ◌≢◌, ℕ, zero, suc, ◌<◌, ◌≤◌, ◌+◌, ◌-◌, Bool, true, false, cond, eqb, List, [], ◌∷◌, ◌++◌, map, replicate, refl, ap, ◌∙◌, sym, arith, add-one}
 use Rattle.std.proofs.lemmas.List.{append_assoc, append-nil, replicate_more}
 use Rattle.std.proofs.lemmas.Bool.{ne_eqb, eq-eqb}
+use Rattle.life_rle.specs.Body.{run}
 use Rattle.life_rle.specs.Writer.{tags_from, onto_run, runs_of, item_text}
 use Rattle.life_rle.specs.WriterState.{counted, texts_from}
 
@@ -78,20 +79,50 @@ other_row : (along : ℕ) (tags : List ℕ) → Other 36 (replicate along 98 ++ 
 other_row zero tags = λ e. omega arith
 other_row (suc along) tags = λ e. omega arith
 
-gap_texts : (live down along : ℕ) (tags : List ℕ) → 0 < down + along → map item_text (runs_of (replicate live 111 ++ tags_gap down along tags)) ≡ counted live 111 ++ (counted down 36 ++ (counted along 98 ++ map item_text (runs_of (111 ∷ tags))))
+-- live cells before a gap
+live_texts : (live down along : ℕ) (tags : List ℕ) → (0 < live → 0 < down + along) → map item_text (runs_of (replicate live 111 ++ tags_gap down along tags)) ≡ counted live 111 ++ map item_text (runs_of (tags_gap down along tags))
+live_texts zero down along tags some = refl
+live_texts (suc live) down along tags some = texts_front (suc live) 111 (tags_gap down along tags) (other_gap down along tags (some (omega arith)))
+
+gap_texts : (live down along : ℕ) (tags : List ℕ) → (0 < live → 0 < down + along) → map item_text (runs_of (replicate live 111 ++ tags_gap down along tags)) ≡ counted live 111 ++ (counted down 36 ++ (counted along 98 ++ map item_text (runs_of (111 ∷ tags))))
 gap_texts live down along tags some =
-    texts_front live 111 (tags_gap down along tags) (other_gap down along tags some)
+    live_texts live down along tags some
     ∙ ap (λ ts. counted live 111 ++ ts)
     (ap (λ ts. map item_text (runs_of ts)) (append_assoc (replicate down 36) (replicate along 98) (111 ∷ tags))
     ∙ texts_front down 36 (replicate along 98 ++ 111 ∷ tags) (other_row along tags)
     ∙ ap (λ ts. counted down 36 ++ ts) (texts_front along 98 (111 ∷ tags) (λ e. omega arith)))
 
--- a cell behind a gap
-pub texts_gap : (live row column from : ℕ) (cell : ℕ × ℕ) (cells : List (ℕ × ℕ)) → from ≡ cond (eqb cell.1 row) column 0 → 0 < (cell.1 - row) + (cell.0 - from) →
+-- a cell behind a gap, or the first
+pub texts_gap : (live row column from : ℕ) (cell : ℕ × ℕ) (cells : List (ℕ × ℕ)) → from ≡ cond (eqb cell.1 row) column 0 → (0 < live → 0 < (cell.1 - row) + (cell.0 - from)) →
     texts_from live row column (cell ∷ cells) ≡ counted live 111 ++ (counted (cell.1 - row) 36 ++ (counted (cell.0 - from) 98 ++ texts_from 1 cell.1 (cell.0 + 1) cells))
 texts_gap live row column from cell cells is some =
     ap (λ ts. map item_text (runs_of (replicate live 111 ++ ts))) (tags_cell row column cell cells ∙ ap (λ n. tags_gap (cell.1 - row) (cell.0 - n) (tags_from cell.1 (cell.0 + 1) cells)) (sym is))
     ∙ gap_texts live (cell.1 - row) (cell.0 - from) (tags_from cell.1 (cell.0 + 1) cells) some
+
+-- the other cells of a run
+texts_on : (n live row column : ℕ) (cells : List (ℕ × ℕ)) → texts_from live row column (run column row n ++ cells) ≡ texts_from (live + n) row (column + n) cells
+unfolding run
+texts_on zero live row column cells =
+    let length : live ≡ live + 0 = omega arith in
+    let end : column ≡ column + 0 = omega arith in
+    λ i. texts_from (length i) row (end i) cells
+texts_on (suc n) live row column cells =
+    let length : live + 1 + n ≡ live + suc n = omega arith in
+    let end : column + 1 + n ≡ column + suc n = omega arith in
+    sym (texts_same live row column (column, row) (run (column + 1) row n ++ cells) refl refl)
+    ∙ texts_on n (live + 1) row (column + 1) cells
+    ∙ (λ i. texts_from (length i) row (end i) cells)
+
+-- a run behind a gap, or the first
+pub texts_run : (live row column x y n : ℕ) (cells : List (ℕ × ℕ)) → 1 ≤ n → (0 < live → 0 < (y - row) + (x - cond (eqb y row) column 0)) →
+    texts_from live row column (run x y n ++ cells) ≡ counted live 111 ++ (counted (y - row) 36 ++ (counted (x - cond (eqb y row) column 0) 98 ++ texts_from n y (x + n) cells))
+unfolding run
+texts_run live row column x y zero cells one some = absurd (omega (arith, one))
+texts_run live row column x y (suc n) cells one some =
+    let length : 1 + n ≡ suc n = omega arith in
+    let end : x + 1 + n ≡ x + suc n = omega arith in
+    texts_gap live row column _ (x, y) (run (x + 1) y n ++ cells) refl some
+    ∙ ap (λ ts. counted live 111 ++ (counted (y - row) 36 ++ (counted (x - cond (eqb y row) column 0) 98 ++ ts))) (texts_on n 1 y (x + 1) cells ∙ (λ i. texts_from (length i) y (end i) cells))
 
 -- behind the last cell
 pub texts_none : (live row column : ℕ) → texts_from live row column [] ≡ counted live 111

@@ -90,7 +90,7 @@ body_from p (b ∷ bytes) = going (step p b) (λ q. body_from q bytes)
 
 -- what a body so far means
 abbrev pub place_reached : {A : Type 0} → Body A → Place
-place_reached b = record { row = b.row; column = b.column; count = b.count; cells = map coordinates b.cells.items }
+place_reached b = record { row = b.row; column = b.column; count = b.count; cells = map coordinates b.cells }
 
 -- the cells or the fault by how far the body has come, if these bytes are what is left
 abbrev pub outcome_at : Progress → Place → List ℕ → Result (List (ℕ × ℕ)) RleFault

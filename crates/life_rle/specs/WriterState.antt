@@ -1,8 +1,10 @@
--- Cells that are written in their order, and the items that they make.
-use Rattle.std.specs.Prelude.{ℕ, List, ◌++◌, ◌≡◌, ◌≤◌, ◌+◌, ◌==◌, if◌then◌else◌, pos, ◌≤ℤ◌, [], ◌∷◌, replicate, map}
+-- Cells that are written in their order, their runs, and the items that they make.
+use Rattle.std.specs.Prelude.{ℕ, List, ◌++◌, ◌≡◌, ◌⊎◌, ◌≤◌, ◌<◌, ◌+◌, ◌==◌, if◌then◌else◌, pos, nat_abs, ◌≤ℤ◌, [], ◌∷◌, replicate, map}
 use Rattle.life_rle.specs.Writer.{item_text, runs_of, tags_from}
 use Rattle.life_core.specs.declared.cell.Cell.{Cell}
 use Rattle.life_core.specs.declared.cell.TheConstants.{PLANE}
+use Rattle.life_core.specs.declared.runs.Run.{Run}
+use Rattle.life_core.specs.Runs.{first_cell}
 
 -- the cells stand in the order of rows and columns, from this row and column on, each once
 abbrev pub InOrder : ℕ → ℕ → List (ℕ × ℕ) → Type 0
@@ -23,3 +25,28 @@ pub record IsQuarterCell (c : Cell) : Type 0 where
   pub row_high : c.row ≤ℤ pos PLANE
   pub column_low : pos 0 ≤ℤ c.column
   pub column_high : c.column ≤ℤ pos PLANE
+
+-- the column of a run's first cell
+abbrev pub column_of : Run → ℕ
+column_of r = nat_abs r.first
+
+-- its row
+abbrev pub row_of : Run → ℕ
+row_of r = nat_abs r.row
+
+-- a run of cells of a normal set: there is a first, and it is such a cell
+pub record IsQuarterRun (r : Run) : Type 0 where
+  pub some : 1 ≤ r.len
+  pub first : IsQuarterCell (first_cell r)
+
+-- a run that may follow so many live cells, which end in this row at this column: it comes later in the order of rows and columns, and if there are such cells, it does not touch them
+pub record IsNextRun (row column live : ℕ) (r : Run) : Type 0 where
+  pub cells : IsQuarterRun r
+  pub below : row ≤ row_of r
+  pub right : row ≡ row_of r → column ≤ column_of r
+  pub apart : 0 < live → (row < row_of r) ⊎ (column < column_of r)
+
+-- runs that follow one another so, the first of them after these live cells
+abbrev pub AreNextRuns : ℕ → ℕ → ℕ → List Run → Type 0
+AreNextRuns row column live [] = Unit {0}
+AreNextRuns row column live (r ∷ rs) = IsNextRun row column live r × AreNextRuns (row_of r) (column_of r + r.len) r.len rs

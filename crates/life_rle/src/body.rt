@@ -2,12 +2,11 @@
 ghost use Rattle.std.specs.Prelude.{◌≡◌, ◌++◌, ◌<◌, ◌≤◌, ◌+◌, map, OnOk, IfErr, IfOk, unwrap_or, Some};
 ghost use Rattle.std.specs.List.{All};
 ghost use Rattle.life_rle.specs.Body.{run, IsPlaced};
-ghost use Rattle.life_rle.specs.File.{cell_of};
 ghost use Rattle.life_rle.specs.Writer.{coordinates};
 
 use crate::fault::RleFault;
 use crate::lines::is_blank;
-use life_core::Cell;
+use life_core::{Run, Runs};
 use std::alloc::{AllocError, Allocator};
 
 /// The greatest count of an item.
@@ -15,34 +14,25 @@ const MOST: u32 = 1_000_000;
 /// How many columns and rows hold live cells.
 const SIDE: u32 = 1024;
 
-/// The cell in this column and row.
-fn cell_of(column: u32, row: u32) -> Cell
-    ensures { result ≡ cell_of (column, row) }
-{
-    Cell {
-        row: i64::from(row),
-        column: i64::from(column),
-    }
-}
-
 /// Places `count` cells of a row from a column on.
-#[tactic(auto, using(crate::proofs::BodyPositions::run_more))]
 fn push_run<A: Allocator>(
-    cells: &mut Vec<Cell, A>,
+    cells: &mut Runs<A>,
     column: u32,
     row: u32,
     count: u32,
 ) -> Result<(), AllocError>
+    requires some { 1 ≤ count }
     requires columns { column + count ≤ 1024 }
     requires row { row < 1024 }
-    requires inside { All IsPlaced cells.old.items }
-    ensures run { OnOk result (map coordinates cells.new.items ≡ map coordinates cells.old.items ++ run column row count) }
-    ensures inside { All IsPlaced cells.new.items }
+    requires inside { All IsPlaced cells.old }
+    ensures run { OnOk result (map coordinates cells.new ≡ map coordinates cells.old ++ run column row count) }
+    ensures inside { All IsPlaced cells.new }
 {
-    for k in 0..count {
-        cells.push(cell_of(column + k, row))?;
-    }
-    Ok(())
+    cells.push_run(Run {
+        row: row as i32,
+        first: column as i32,
+        len: count,
+    })
 }
 
 /// The body so far: where the next item stands, its count as far as it has come, and the cells.
@@ -51,8 +41,8 @@ pub(crate) struct Body<A: Allocator> {
     row: u32,
     column: u32,
     count: Option<u32>,
-    cells: Vec<Cell, A>,
-    ghost inside: { All IsPlaced cells.items },
+    cells: Runs<A>,
+    ghost inside: { All IsPlaced cells },
     ghost row_in: { row ≤ 1024 },
     ghost column_in: { column ≤ 1024 },
     ghost count_in: { unwrap_or count 0 ≤ 1000001 },
@@ -72,7 +62,7 @@ impl<A: Allocator> Body<A> {
             row: 0,
             column: 0,
             count: None,
-            cells: Vec::new(alloc),
+            cells: Runs::new(alloc),
         }
     }
 
@@ -115,7 +105,8 @@ impl<A: Allocator> Body<A> {
 
     /// Takes the item of this count and byte.
     fn item(&mut self, count: u32, tag: u8) -> Result<(), RleFault>
-        requires { count ≤ 1000000 }
+        requires some { 1 ≤ count }
+        requires few { count ≤ 1000000 }
         ensures { Acts (item_step (place_reached self.old) count tag) (place_reached self.new) result }
     {
         match tag {
@@ -199,9 +190,9 @@ impl<A: Allocator> BodyReader<A> {
 
     /// The cells, or the first fault, where nothing is left.
     #[tactic(auto, unfolding(crate::specs::BodyState::body_from))]
-    pub(crate) fn finish(self) -> Result<Vec<Cell, A>, RleFault>
-        ensures cells { MatchResult result (λ cells. outcome self [] ≡ Ok (map coordinates cells.items)) (λ e. outcome self [] ≡ Err e) }
-        ensures inside { IfOk result (λ cells. All IsPlaced cells.items) }
+    pub(crate) fn finish(self) -> Result<Runs<A>, RleFault>
+        ensures cells { MatchResult result (λ cells. outcome self [] ≡ Ok (map coordinates cells)) (λ e. outcome self [] ≡ Err e) }
+        ensures inside { IfOk result (λ cells. All IsPlaced cells) }
     {
         match self.progress {
             Progress::More if self.body.count.is_some() => Err(RleFault::BadCount),

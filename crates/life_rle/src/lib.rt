@@ -26,4 +26,4 @@ pub use putting::{WriteFault, write_to};
 pub use record::{Record, into_plain, plain};
 pub use stream::{Failed, FromRead, FromWrite, Inlet, Outlet, put_all};
 pub use text::{Text, Texts};
-pub use writer::write;
+pub use writer::{size_of, write};

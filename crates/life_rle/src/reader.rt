@@ -16,7 +16,7 @@ use crate::header::header_rule;
 use crate::lines::{LineKind, is_blank, is_mark_line, line_kind};
 use crate::notes::Notes;
 use crate::record::Record;
-use life_core::{Cell, Pattern, Rule};
+use life_core::{Pattern, Rule, Runs};
 use std::alloc::{AllocError, Allocator};
 
 /// How far a file has come.
@@ -178,7 +178,7 @@ impl<A: Allocator + Copy> Reader<A> {
                 }
             }
             Stage::Body => {
-                let cells = normal_of(body.finish()?);
+                let cells = normal_of(body.finish()?)?;
                 let Notes {
                     name,
                     author,
@@ -198,9 +198,9 @@ impl<A: Allocator + Copy> Reader<A> {
 }
 
 /// The set of the cells, moved so that its least column and row are 0.
-fn normal_of<A: Allocator>(cells: Vec<Cell, A>) -> Pattern<A>
-    requires { All IsPlaced cells.items }
-    ensures { result ≡ normal (set.from_list (map cell_of (map coordinates cells.items))) }
+fn normal_of<A: Allocator + Copy>(cells: Runs<A>) -> Result<Pattern<A>, RleFault>
+    requires { All IsPlaced cells }
+    ensures { MatchResult result (λ X. X ≡ normal (set.from_list (map cell_of (map coordinates cells)))) (λ e. e ≡ Memory) }
 {
-    Pattern::from_list(cells).into_normal()
+    Ok(Pattern::from_runs(cells)?.into_normal())
 }

@@ -1,15 +1,16 @@
 //! The text of a record.
-ghost use Rattle.std.specs.Prelude.{◌≡◌, ◌≤◌, ◌<◌, ◌+◌, ◌-◌, ◌^◌, ◌==◌, if◌then◌else◌, ℕ, List, [], ◌∷◌, ◌++◌, length, map, Ok, IfOk, OnOk};
+ghost use Rattle.std.specs.Prelude.{◌≡◌, ◌≤◌, ◌<◌, ◌+◌, ◌-◌, ◌==◌, if◌then◌else◌, ℕ, List, [], ◌∷◌, ◌++◌, length, map, Ok, IfOk, OnOk};
 ghost use Rattle.std.specs.List.{All, flat_map};
+ghost use Rattle.life_core.specs.Runs.{run_cells, runs_cells};
 ghost use Rattle.life_rle.specs.File.{kept};
 ghost use Rattle.life_rle.specs.Record.{IsInside};
 ghost use Rattle.life_rle.specs.Writer.{item_texts, laid, text_line, optional_line, comment_line, width_of, height_of, header_line, coordinates, text};
-ghost use Rattle.life_rle.specs.WriterState.{InOrder, counted, IsQuarterCell};
+ghost use Rattle.life_rle.specs.WriterState.{counted, column_of, row_of, IsQuarterRun, IsNextRun, AreNextRuns};
 
 use crate::record::Record;
 use crate::text::Text;
 use itoa::Buffer;
-use life_core::{Cell, Fault};
+use life_core::{Fault, Run};
 use std::alloc::{AllocError, Allocator};
 
 /// The most bytes of a line of items.
@@ -107,7 +108,7 @@ impl<A: Allocator + Copy> ItemLines<A> {
     }
 }
 
-/// A body so far: where the next cell may stand, and how many live cells are right before it.
+/// A body so far: where the next run may begin, and how many live cells are right before it.
 #[derive(Drop)]
 struct BodyWriter<A: Allocator> {
     lines: ItemLines<A>,
@@ -119,26 +120,19 @@ struct BodyWriter<A: Allocator> {
 impl<A: Allocator + Copy> BodyWriter<A> {
     ghost use Rattle.life_rle.specs.ItemLinesState.{written, body_written};
 
-    /// Takes the next cell.
-    fn cell(&mut self, cell: (u32, u32)) -> Result<(), AllocError>
-        requires row { self.old.row ≤ cell.1 }
-        requires column { self.old.row ≡ cell.1 → self.old.column ≤ cell.0 }
-        requires live { self.old.live < 2 ^ 63 }
-        ensures text { OnOk result ((cells : List (ℕ × ℕ)) (items : List (List ℕ)) → body_written self.new cells items ≡ body_written self.old (cell ∷ cells) items) }
-        ensures row_after { OnOk result (self.new.row ≡ cell.1) }
-        ensures column_after { OnOk result (self.new.column ≡ cell.0 + 1) }
-        ensures live_after { OnOk result (self.new.live ≤ self.old.live + 1) }
+    /// Takes the next run.
+    fn run(&mut self, run: Run) -> Result<(), AllocError>
+        requires { IsNextRun self.old.row self.old.column self.old.live run }
+        ensures text { OnOk result ((cells : List (ℕ × ℕ)) (items : List (List ℕ)) → body_written self.new cells items ≡ body_written self.old (map coordinates (run_cells run) ++ cells) items) }
+        ensures row_after { OnOk result (self.new.row ≡ row_of run) }
+        ensures column_after { OnOk result (self.new.column ≡ column_of run + run.len) }
+        ensures live_after { OnOk result (self.new.live ≡ run.len) }
     {
-        let (x, y) = cell;
-        let here = u64::from(x);
-        if y == self.row && here == self.column {
-            self.live += 1;
-            self.column = here + 1;
-            return Ok(());
-        }
+        let (x, y) = start_of(run);
         self.gap(x, y)?;
         self.row = y;
-        self.column = here + 1;
+        self.live = u64::from(run.len);
+        self.column = u64::from(x) + self.live;
         Ok(())
     }
 
@@ -146,26 +140,19 @@ impl<A: Allocator + Copy> BodyWriter<A> {
     fn gap(&mut self, x: u32, y: u32) -> Result<(), AllocError>
         requires row { self.old.row ≤ y }
         requires column { self.old.row ≡ y → self.old.column ≤ x }
-        ensures text { OnOk result ((items : List (List ℕ)) → written self.new.lines items ≡ written self.old.lines (counted self.old.live 111 ++ (counted (y - self.old.row) 36 ++ (counted (x - (if y == self.old.row then self.old.column else 0)) 98 ++ items)))) }
-        ensures live_after { OnOk result (self.new.live ≡ 1) }
+        ensures { OnOk result ((items : List (List ℕ)) → written self.new.lines items ≡ written self.old.lines (counted self.old.live 111 ++ (counted (y - self.old.row) 36 ++ (counted (x - (if y == self.old.row then self.old.column else 0)) 98 ++ items)))) }
     {
         let from = if y == self.row { self.column } else { 0 };
         self.lines.item(self.live, b'o')?;
         self.lines.item(u64::from(y - self.row), b'$')?;
-        self.lines.item(u64::from(x) - from, b'b')?;
-        self.live = 1;
-        Ok(())
+        self.lines.item(u64::from(x) - from, b'b')
     }
 }
 
-/// Writes the body for cells in the order of rows and columns.
-fn write_body<A: Allocator + Copy>(
-    out: Vec<u8, A>,
-    cells: &[Cell],
-) -> Result<Vec<u8, A>, AllocError>
-    requires inside { All IsQuarterCell cells.now }
-    requires order { InOrder 0 0 (map coordinates cells.now) }
-    ensures { IfOk result (λ text. text.items ≡ out.items ++ laid 0 (item_texts (map coordinates cells.now))) }
+/// Writes the body for the longest runs of cells in the order of rows and columns.
+fn write_body<A: Allocator + Copy>(out: Vec<u8, A>, runs: &[Run]) -> Result<Vec<u8, A>, AllocError>
+    requires { AreNextRuns 0 0 0 runs.now }
+    ensures { IfOk result (λ text. text.items ≡ out.items ++ laid 0 (item_texts (map coordinates (runs_cells runs.now)))) }
 {
     let mut body = BodyWriter {
         lines: ItemLines::new(out),
@@ -173,8 +160,8 @@ fn write_body<A: Allocator + Copy>(
         column: 0,
         live: 0,
     };
-    for cell in cells {
-        body.cell(pair_of(*cell))?;
+    for run in runs {
+        body.run(*run)?;
     }
     body.lines.item(body.live, b'o')?;
     body.lines.put_digit(1, b'!')?;
@@ -249,27 +236,28 @@ fn header_line<A: Allocator>(
 }
 
 /// One past the greatest column and one past the greatest row, and 0 and 0 if there are no cells.
-fn size_of(cells: &[Cell]) -> (u64, u64)
-    requires { All IsQuarterCell cells.now }
-    ensures width { result.0 ≡ width_of (map coordinates cells.now) }
-    ensures height { result.1 ≡ height_of (map coordinates cells.now) }
+pub fn size_of(runs: &[Run]) -> (u64, u64)
+    requires { All IsQuarterRun runs.now }
+    ensures width { result.0 ≡ width_of (map coordinates (runs_cells runs.now)) }
+    ensures height { result.1 ≡ height_of (map coordinates (runs_cells runs.now)) }
 {
     let mut width = 0;
     let mut height = 0;
-    for cell in cells {
-        let (x, y) = pair_of(*cell);
-        width = width.max(u64::from(x) + 1);
+    for run in runs {
+        let (x, y) = start_of(*run);
+        width = width.max(u64::from(x) + u64::from(run.len));
         height = height.max(u64::from(y) + 1);
     }
     (width, height)
 }
 
-/// The coordinates of a cell.
-fn pair_of(cell: Cell) -> (u32, u32)
-    requires { IsQuarterCell cell }
-    ensures { result ≡ coordinates cell }
+/// The column and the row of a run's first cell.
+fn start_of(run: Run) -> (u32, u32)
+    requires { IsQuarterRun run }
+    ensures column { result.0 ≡ column_of run }
+    ensures row { result.1 ≡ row_of run }
 {
-    (cell.column as u32, cell.row as u32)
+    (run.first as u32, run.row as u32)
 }
 
 /// The text of a record: its texts, its header and its body. Cells stand in the longest runs, and a
@@ -281,12 +269,12 @@ pub fn write<A: Allocator + Copy>(alloc: A, record: &Record<A>) -> Result<Vec<u8
     ensures again { IfOk result (λ v. IsInside 1024 «record».now.cells → kept v.items ≡ Ok «record».now) }
 {
     let rule = record.rule.text(alloc)?;
-    let cells = record.cells.cells();
-    let (width, height) = size_of(cells);
+    let runs = record.cells.cells().runs();
+    let (width, height) = size_of(runs);
     let mut out = Vec::new(alloc);
     optional_line(&mut out, b'N', &record.name)?;
     optional_line(&mut out, b'O', &record.author)?;
     comment_lines(&mut out, record.comments.as_slice())?;
     header_line(&mut out, width, height, rule.as_bytes())?;
-    Ok(write_body(out, cells)?)
+    Ok(write_body(out, runs)?)
 }

@@ -9,7 +9,7 @@ ghost use Rattle.std.specs.List.{All};
 ghost use Rattle.life_core.specs.Cell.{IsCellWithin};
 
 use life_core::{Cell, CellList, Fault, PLANE, PackedRows, Pattern, Plane, Rule};
-use std::alloc::{AllocError, Global};
+use std::alloc::Global;
 use std::{env, io};
 
 const SETS: u64 = 1000;
@@ -60,7 +60,7 @@ fn field_of(set: u64) -> Field {
 }
 
 /// A set that fills its box to one, two or three quarters, with two corners live; none outside the plane.
-fn set_of(alloc: Global, set: u64, field: Field) -> Result<Pattern, AllocError> {
+fn set_of(alloc: Global, set: u64, field: Field) -> Result<Pattern, Fault> {
     let most = 1 + set / 170 % 3;
     let mut cells = Vec::new(alloc);
     let mut state = set;
@@ -83,7 +83,7 @@ fn set_of(alloc: Global, set: u64, field: Field) -> Result<Pattern, AllocError> 
     if !are_inside(&cells) {
         cells.clear();
     }
-    Ok(Pattern::from_list(cells))
+    Pattern::from_list(cells)
 }
 
 /// Whether all cells lie in the plane.
@@ -174,6 +174,18 @@ fn compared(alloc: Global, rules: &Turns, start: &Pattern) -> Result<(u32, Patte
     Ok((different, last))
 }
 
+/// In how many generations the two planes differ from a start on, and the population and the digest of the last.
+fn outcome(
+    alloc: Global,
+    rules: &Turns,
+    start: &Pattern,
+    field: Field,
+) -> Result<(u32, usize, u128), Fault> {
+    let (different, last) = compared(alloc, rules, start)?;
+    let cells = last.cells().list(alloc)?;
+    Ok((different, last.population(), digest(&cells, field)))
+}
+
 /// Runs the sets under a rule, or two.
 fn run_rule(rt: &HostRuntime, name: &str) -> io::Result<()> {
     let Some(rules) = turns_of(name) else {
@@ -184,10 +196,8 @@ fn run_rule(rt: &HostRuntime, name: &str) -> io::Result<()> {
         let Ok(start) = set_of(rt.alloc(), set, field) else {
             return println!(rt; "no memory");
         };
-        match compared(rt.alloc(), &rules, &start) {
-            Ok((different, last)) => {
-                let sum = digest(last.cells(), field);
-                let population = last.population();
+        match outcome(rt.alloc(), &rules, &start, field) {
+            Ok((different, population, sum)) => {
                 println!(rt; "{set} {name} {different} {population} {sum}")?;
             }
             Err(_) => println!(rt; "no memory")?,

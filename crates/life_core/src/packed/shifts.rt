@@ -1,5 +1,5 @@
 //! Moves from one set in packed words to another.
-ghost use Rattle.std.specs.Prelude.{◌≡◌, ◌↔◌, ◌+◌, ◌*◌, ◌<◌, nat_eq, ◌≤◌, ◌≤ℤ◌, neg_ℤ, pos, false, IfSome, IsNone, IsTrue, length};
+ghost use Rattle.std.specs.Prelude.{◌≡◌, ◌↔◌, ◌+◌, ◌*◌, ◌<◌, nat_eq, ◌≤◌, ◌-ℤ◌, ◌≤ℤ◌, neg_ℤ, pos, false, IfSome, IsNone, IsTrue, length};
 ghost use Rattle.std.specs.FinSet as set;
 ghost use Rattle.life_core.specs.declared.cell.Cell.{Cell};
 ghost use Rattle.life_core.specs.Cell.{IsCellWithin, moved_cell};
@@ -11,7 +11,6 @@ ghost use Rattle.life_core.specs.PackedShiftsState.{IsFirst, Covers, CoversWord}
 use crate::cell::{Cell, PLANE};
 use crate::packed::frame::Frame;
 use crate::packed::words::to_the_right;
-use crate::pattern::shift_of;
 
 /// The one move, columns and rows, that takes the set of the words to that of the others; none where
 /// it is empty, or where no move does.
@@ -125,4 +124,14 @@ fn is_set(rows: &[u64], words: usize, x: usize, y: usize) -> bool
     ensures { result ≡ nat_eq (place rows.now (y * (64 * words) + x)) 1 }
 {
     rows[y * words + x / 64] >> (x % 64) & 1 == 1
+}
+
+/// The columns and rows from one cell to another.
+fn shift_of(from: Cell, to: Cell) -> (i64, i64)
+    requires from { IsCellWithin PLANE from }
+    requires to { IsCellWithin PLANE to }
+    ensures columns { result.0 ≡ to.column -ℤ from.column }
+    ensures rows { result.1 ≡ to.row -ℤ from.row }
+{
+    (to.column - from.column, to.row - from.row)
 }

@@ -1,50 +1,62 @@
 //! Sets of cells put into packed words, and listed from them.
-ghost use Rattle.std.specs.Prelude.{◌≡◌, ℕ, ◌+◌, ◌*◌, ◌<◌, ◌≤◌, ◌||◌, IfOk, OnOk, FitsSigned, take, drop, ◌++◌, pos, ◌+ℤ◌, length, map, nat_eq, slice_index_or, if◌then◌else◌};
+ghost use Rattle.std.specs.Prelude.{◌≡◌, ◌⊎◌, ℕ, ◌+◌, ◌*◌, ◌^◌, ◌<◌, ◌≤◌, ◌||◌, IfOk, OnOk, FitsSigned, take, drop, ◌++◌, pos, ◌+ℤ◌, length, map, slice_index_or};
 ghost use Rattle.std.specs.Int.{w64};
 ghost use Rattle.std.specs.List.{All};
 ghost use Rattle.std.specs.FinSet as set;
 ghost use Rattle.life_core.specs.declared.cell.Cell.{Cell};
-ghost use Rattle.life_core.specs.Cell.{cell_cmp, moved_cell};
+ghost use Rattle.life_core.specs.Cell.{moved_cell};
 ghost use Rattle.life_core.specs.PackedRow.{place};
 ghost use Rattle.life_core.specs.PackedFrameState.{cell_of, set_places, places_below, framed, IsFrame, IsIn};
 ghost use Rattle.life_core.specs.PackedMarginsState.{IsWider};
+ghost use Rattle.life_core.specs.Runs.{has_cell, run_cells, runs_cells, AreLongest};
 
 use crate::cell::Cell;
 use crate::packed::frame::Frame;
 use crate::packed::margins::Wider;
+use crate::runs::{Run, Runs};
 use std::alloc::{AllocError, Allocator};
 
-/// Sets the bit in column `x` and row `y`.
-pub(crate) fn set_bit(words: usize, rows: &mut [u64], x: usize, y: usize)
-    requires x { x < 64 * words }
-    requires y { y * words + words ≤ length rows.old }
+/// Sets so many bits from place `from` on: in each word that they reach, all at once.
+fn set_bits(rows: &mut [u64], from: usize, len: usize)
+    requires within { from + len ≤ 64 * length rows.old }
+    requires few { from + len < 2 ^ 63 }
     ensures len { length rows.new ≡ length rows.old }
-    ensures bit { (p : ℕ) → place rows.new p ≡ (if nat_eq p (y * (64 * words) + x) then 1 else place rows.old p) }
+    ensures inside { (p : ℕ) → from ≤ p → p < from + len → place rows.new p ≡ 1 }
+    ensures outside { (p : ℕ) → (p < from) ⊎ (from + len ≤ p) → place rows.new p ≡ place rows.old p }
 {
-    rows[y * words + x / 64] |= 1 << (x % 64);
+    let end = from + len;
+    let mut next = from;
+    while next < end {
+        let count = (64 - next % 64).min(end - next);
+        rows[next / 64] |= (u64::MAX >> (64 - count)) << (next % 64);
+        next += count;
+    }
 }
 
-/// Makes the cell live.
-pub(crate) fn put_cell(frame: Frame, cell: Cell, rows: &mut [u64])
+/// Makes the cells of the run live.
+fn put_run(frame: Frame, run: Run, rows: &mut [u64])
     requires frame { IsFrame frame }
     requires rows { frame.height * frame.words ≡ length rows.old }
-    requires cell { IsIn frame.left frame.top (64 * frame.words) frame.height cell }
-    ensures { (c : Cell) → set.contains (framed frame rows.new) c ≡ set.contains (set.insert (framed frame rows.old) cell) c }
+    requires some { 1 ≤ run.len }
+    requires cells { All (IsIn frame.left frame.top (64 * frame.words) frame.height) (run_cells run) }
+    ensures len { length rows.new ≡ length rows.old }
+    ensures cells { (c : Cell) → set.contains (framed frame rows.new) c ≡ (has_cell (run_cells run) c || set.contains (framed frame rows.old) c) }
 {
-    let (x, y) = frame.offset(cell);
-    set_bit(frame.words, rows, x, y);
+    let (x, y) = frame.offset(run.first_cell());
+    set_bits(rows, y * (64 * frame.words) + x, run.len as usize);
 }
 
-/// Makes the cells live.
-pub(crate) fn put_cells(frame: Frame, cells: &[Cell], rows: &mut [u64])
+/// Makes the cells of the runs live.
+fn put_runs(frame: Frame, runs: &[Run], rows: &mut [u64])
     requires frame { IsFrame frame }
+    requires longest { AreLongest runs.now }
     requires rows { frame.height * frame.words ≡ length rows.old }
-    requires cells { All (IsIn frame.left frame.top (64 * frame.words) frame.height) cells.now }
+    requires cells { All (IsIn frame.left frame.top (64 * frame.words) frame.height) (runs_cells runs.now) }
     ensures len { length rows.new ≡ length rows.old }
-    ensures cells { (c : Cell) → set.contains (framed frame rows.new) c ≡ (set.contains (set.from_list {R = cell_cmp} cells.now) c || set.contains (framed frame rows.old) c) }
+    ensures cells { (c : Cell) → set.contains (framed frame rows.new) c ≡ (has_cell (runs_cells runs.now) c || set.contains (framed frame rows.old) c) }
 {
-    for cell in cells {
-        put_cell(frame, *cell, rows);
+    for run in runs {
+        put_run(frame, *run, rows);
     }
 }
 
@@ -60,7 +72,7 @@ pub(crate) fn zeros<A: Allocator>(alloc: A, n: usize) -> Result<Vec<u64, A>, All
 pub(crate) fn words_of<A: Allocator>(
     alloc: A,
     frame: Frame,
-    cells: &[Cell],
+    cells: &Runs<A>,
 ) -> Result<Vec<u64, A>, AllocError>
     requires frame { IsFrame frame }
     requires cells { All (IsIn frame.left frame.top (64 * frame.words) frame.height) cells.now }
@@ -68,7 +80,7 @@ pub(crate) fn words_of<A: Allocator>(
     ensures cells { IfOk result (λ v. framed frame v.items ≡ set.from_list cells.now) }
 {
     let mut rows = zeros(alloc, frame.height * frame.words)?;
-    put_cells(frame, cells, &mut rows);
+    put_runs(frame, cells.runs(), &mut rows);
     Ok(rows)
 }
 
@@ -77,31 +89,31 @@ pub(crate) fn list_cells<A: Allocator>(
     alloc: A,
     frame: Frame,
     rows: &[u64],
-) -> Result<Vec<Cell, A>, AllocError>
+) -> Result<Runs<A>, AllocError>
     requires frame { IsFrame frame }
     requires rows { frame.height * frame.words ≡ length rows.now }
-    ensures { IfOk result (λ v. v.items ≡ map (cell_of frame.left frame.top (64 * frame.words)) (set_places rows.now)) }
+    ensures { IfOk result (λ v. v ≡ map (cell_of frame.left frame.top (64 * frame.words)) (set_places rows.now)) }
 {
-    let mut cells = Vec::new(alloc);
+    let mut cells = Runs::new(alloc);
     for k in 0..rows.len() {
         list_word(frame, rows, k, &mut cells)?;
     }
     Ok(cells)
 }
 
-/// Adds the cells of word `k` to those of the words before it. It goes from one live cell to the next, so that no branch depends on
-/// a single bit.
+/// Adds the cells of word `k` to those of the words before it. It goes from one run of live cells to the next, so that no branch depends
+/// on a single bit.
 fn list_word<A: Allocator>(
     frame: Frame,
     rows: &[u64],
     k: usize,
-    cells: &mut Vec<Cell, A>,
+    cells: &mut Runs<A>,
 ) -> Result<(), AllocError>
     requires frame { IsFrame frame }
     requires rows { frame.height * frame.words ≡ length rows.now }
     requires word { k < length rows.now }
-    requires cells { cells.old.items ≡ map (cell_of frame.left frame.top (64 * frame.words)) (places_below rows.now (64 * k)) }
-    ensures { OnOk result (cells.new.items ≡ map (cell_of frame.left frame.top (64 * frame.words)) (places_below rows.now (64 * (k + 1)))) }
+    requires cells { cells.old ≡ map (cell_of frame.left frame.top (64 * frame.words)) (places_below rows.now (64 * k)) }
+    ensures { OnOk result (cells.new ≡ map (cell_of frame.left frame.top (64 * frame.words)) (places_below rows.now (64 * (k + 1)))) }
 {
     let mut left = rows[k];
     if left == 0 {
@@ -111,9 +123,12 @@ fn list_word<A: Allocator>(
     let mut i = 0;
     while left != 0 {
         let dead = left.trailing_zeros();
-        cells.push(to_the_right(start, i + dead))?;
-        left = left >> dead >> 1;
-        i += dead + 1;
+        let from_live = left >> dead;
+        let len = from_live.trailing_ones();
+        let first = Run::of(to_the_right(start, i + dead));
+        cells.push_run(first.with_len(len))?;
+        left = from_live >> (len - 1) >> 1;
+        i += dead + len;
     }
     Ok(())
 }

@@ -1,7 +1,7 @@
 use Rattle.std.proofs.Common.{◌≡◌, ◌<◌, ◌≤◌, length, get_or, pos, sym, subst, arith}
 use Rattle.std.proofs.lemmas.List.{take_all, get_or_default}
 use Rattle.std.proofs.lemmas.List.Elements.{All-same}
-use Rattle.life_census.specs.declared.runs.Run.{Run}
+use Rattle.life_core.specs.declared.runs.Run.{Run}
 use Rattle.life_census.proofs.FloodLaws.{IsClearRound, clear_more, as_long, kept_trans, order_kept, HasBegun, has_begun, all_clear}
 use Rattle.life_census.proofs.flood.flooded.Goals as goal
 

@@ -2,8 +2,8 @@ use Rattle.std.proofs.Common.{◌≡◌, ◌+◌, ◌-◌, ◌≤◌, length, ge
 use Rattle.std.specs.List.{All, count_by}
 use Rattle.std.specs.FinSet as set
 use Rattle.life_core.specs.declared.cell.Cell.{Cell}
-use Rattle.life_census.specs.declared.runs.Run.{Run}
-use Rattle.life_census.specs.RunsState.{cells_in, first_cell}
+use Rattle.life_core.specs.declared.runs.Run.{Run}
+use Rattle.life_core.specs.Runs.{cells_in, first_cell}
 use Rattle.life_census.specs.FloodState.{is_filled, IsFlood, IsRound, AreKept}
 use Rattle.life_census.proofs.flood.flooded.Given as goal
 

@@ -1,7 +1,7 @@
 use Rattle.std.proofs.Common.{◌≡◌, ◌-ℤ◌, ◌≤ℤ◌, ◌<ℤ◌, pos, false}
 use Rattle.std.specs.FinSet as set
 use Rattle.life_core.specs.declared.cell.Cell.{Cell}
-use Rattle.life_census.specs.RunsState.{cells_in}
+use Rattle.life_core.specs.Runs.{cells_in}
 use Rattle.life_census.specs.FloodState.{IsRound, HasGrown}
 use Rattle.life_census.proofs.flood.take_near.Given as goal
 

@@ -1,8 +1,9 @@
 use Rattle.std.proofs.Common.{rules, SFits, ◌≡◌, ◌<◌, ◌≤◌, length, get_or, pos, ◌-ℤ◌, to_z, of_z, w64, sym, subst, ◌∙◌, arith}
 use Rattle.std.proofs.lemmas.Int.{ints, to_z-of_z}
 use Rattle.std.proofs.lemmas.List.{get_or_default}
-use Rattle.life_census.specs.declared.runs.Run.{Run}
-use Rattle.life_census.specs.FloodState.{IsTaken, IsAhead, HasGrown}
+use Rattle.life_core.specs.declared.runs.Run.{Run}
+use Rattle.life_core.specs.Runs.{IsAhead}
+use Rattle.life_census.specs.FloodState.{IsTaken, HasGrown}
 use Rattle.life_census.proofs.FloodLaws.{AreClose, grown_none, grown_trans, grown_taken, order_kept, none_behind, close_in_row, none_beyond, clear_past, clear_row, taken_empty, taken_other, from_true, from_false}
 use Rattle.life_census.proofs.flood.take_row.Goals as goal
 

@@ -1,8 +1,8 @@
 use Rattle.std.proofs.Common.{◌≡◌, ℕ, ◌<◌, ◌≤◌, ◌-◌, length, get_or, pos, ◌-ℤ◌}
 use Rattle.life_core.specs.declared.cell.Cell.{Cell}
-use Rattle.life_census.specs.declared.runs.Run.{Run}
-use Rattle.life_census.specs.FloodState.{IsRound, IsAhead, HasGrown}
-use Rattle.life_census.proofs.RunsLaws.{IsInRun}
+use Rattle.life_core.specs.declared.runs.Run.{Run}
+use Rattle.life_census.specs.FloodState.{IsRound, HasGrown}
+use Rattle.life_core.specs.Runs.{IsInRun, IsAhead}
 use Rattle.life_census.proofs.flood.take_row.Given as goal
 
 abbrev pub invariant-loop-i : goal.invariant-loop-i

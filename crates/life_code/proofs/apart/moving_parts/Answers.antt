@@ -10,7 +10,7 @@ use Rattle.life_code.proofs.apart.moving_parts.Goals as goal
 
 pub loop-frame-init : goal.loop-frame-init
 loop-frame-init g c = record {
-  taken = taken_none c.args.pattern.now c.new-parts.result.items c.in_ok-rest.rest.items c.new-parts.ensures.items (from_list_of c.args.pattern.now _ (c.in_ok-rest.ensures.items ∙ c.cells-2.ensures.cells));
+  taken = taken_none c.args.pattern.now c.new-parts.result.items c.in_ok-rest.rest.items c.new-parts.ensures.items (from_list_of c.args.pattern.now _ (c.in_ok-rest.ensures ∙ c.cells-2.ensures.cells));
   moving = moving_none c.args.rule.now c.new-parts.result.items c.new-parts.ensures.items;
 }
 
@@ -21,7 +21,7 @@ moving_part-requires-clause-room g c = taken_room 500000000 c.args.pattern.now c
 pub loop-frame-preserved : goal.loop-frame-preserved
 loop-frame-preserved g c =
     let m = c.in-Some-2.part in
-    let pushed : c.push.new.self.items ≡ c.loop-frame.parts.items ++ m ∷ [] = c.in-Ok.ensures.items in
+    let pushed : c.push.new.self.items ≡ c.loop-frame.parts.items ++ m ∷ [] = c.in_ok-push.ensures.items in
     let cells : m.part ≡ set.from_list c.in_ok-inside.inside.items = subst (λ o. IfSome o (λ n. n.part ≡ set.from_list c.in_ok-inside.inside.items)) c.in-Some-2.is c.in_ok-part.ensures.cells in
     let moving : IsMoving c.args.rule.now m = subst (λ o. IfSome o (IsMoving c.args.rule.now)) c.in-Some-2.is c.in_ok-part.ensures.moving in
     let apart : KeepsApartFrom c.loop-frame.parts.items m.orbit =

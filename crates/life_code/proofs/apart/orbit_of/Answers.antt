@@ -10,7 +10,7 @@ use Rattle.life_code.proofs.apart.orbit_of.Goals as goal
 pub loop-period-init : goal.loop-period-init
 loop-period-init g c = record {
   now = c.in_ok-plane.ensures;
-  inside = λ i d first has. has_all c.args.part.now _ c.cells-2.result.now c.cells-2.ensures.cells c.with_cells-frame.ensures.inside d
+  inside = λ i d first has. has_all c.args.part.now _ _ (c.runs-runs.ensures.cells ∙ c.cells.ensures.cells) c.with_runs-frame.ensures.inside d
       (subst (λ k. set.contains (generation_of c.args.rule.now c.args.part.now k) d ≡ true) (let e : i ≡ 0 = omega arith in e) has);
 }
 
@@ -35,6 +35,6 @@ loop-period-preserved g c =
     generation_more rule cells (g.P.Plane.cells c.loop-period.plane) (g.P.Plane.cells c.step.new.self) c.loop-period.period c.loop-period.auto.period c.loop-period.invariant.now c.in_ok-step.ensures.ok in
     record {
       now = now ∙ ap (generation_of rule cells) (let e : c.loop-period.period ≡ c.loop-period.period + 1 - 1 = omega arith in e);
-      inside = has_more rule cells c.loop-period.frame _ c.loop-period.period c.loop-period.invariant.inside c.with_cells-frame-in-loop-period.ensures.wider
-          (has_all _ _ c.cells-in-loop-period-2.result.now (c.cells-in-loop-period-2.ensures.cells ∙ ap in_order (c.in_ok-to_pattern.ensures ∙ now)) c.with_cells-frame-in-loop-period.ensures.inside);
+      inside = has_more rule cells c.loop-period.frame _ c.loop-period.period c.loop-period.invariant.inside c.with_runs-frame-in-loop-period.ensures.wider
+          (has_all _ _ _ (c.runs.ensures.cells ∙ c.cells-in-loop-period-2.ensures.cells ∙ ap in_order (c.in_ok-to_pattern.ensures ∙ now)) c.with_runs-frame-in-loop-period.ensures.inside);
     }

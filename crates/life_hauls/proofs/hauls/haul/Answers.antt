@@ -1,4 +1,4 @@
-use Rattle.std.proofs.Common.{ℕ, ◌+◌, List, Option, map, sym, ap, subst, ◌∙◌}
+use Rattle.std.proofs.Common.{◌≡◌, ℕ, ◌+◌, List, Option, map, sym, ap, subst, ◌∙◌, arith}
 use Rattle.std.specs.List.{range_with_len}
 use Rattle.life_core.specs.Generations.{generation_of}
 use Rattle.life_code.specs.Codes.{code_of}
@@ -40,3 +40,8 @@ loop-i-preserved g c =
           ∙ ap (counts_over all) (sym (range-push c.args.first c.loop-i.i));
       names = c.codes_of_soup.ensures.same ∙ names;
     }
+
+pub returns : goal.returns
+returns g c =
+    let end : c.loop-i.i ≡ c.args.count = omega (arith, c.loop-i-test.false, c.loop-i.auto.i-end) in
+    c.loop-i.invariant.counted ∙ ap (λ k. counts_over (soup_codes c.args.symmetry c.args.root.now c.args.rule.now c.args.n c.args.limit) (range_with_len c.args.first k)) end

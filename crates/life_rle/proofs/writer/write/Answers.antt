@@ -1,22 +1,19 @@
-use Rattle.std.proofs.Common.{◌≡◌, ◌∙◌, sym, ap, map, subst, rules}
+use Rattle.std.proofs.Common.{◌≡◌, ◌∙◌, ap, subst, rules}
 use Rattle.life_core.specs.Rule.{IsRule}
 use Rattle.life_rle.specs.Record.{Contents, IsRecord}
 use Rattle.life_rle.specs.File.{kept}
-use Rattle.life_rle.specs.Writer.{coordinates, text}
-use Rattle.life_rle.specs.WriterState.{InOrder}
-use Rattle.life_rle.proofs.RecordPairs.{quarter_cells, pairs_in_order}
+use Rattle.life_rle.specs.Writer.{text}
+use Rattle.life_rle.proofs.RunPairs.{normal_runs}
 use Rattle.life_rle.proofs.RoundText.{read_again}
 use Rattle.life_rle.proofs.writer.write.Goals as goal
 
 pub size_of-width-requires : goal.size_of-width-requires
-size_of-width-requires g c = quarter_cells c.record.inside.cells c.cells-cells.result.now c.record.invariant.cells c.cells-cells.ensures.cells c.cells-cells.ensures.inside
+size_of-width-requires g c =
+    (normal_runs c.record.inside.cells c.cells.result.now c.runs-runs.result.now c.record.invariant.cells c.cells.ensures.cells c.cells.ensures.inside c.runs-runs.ensures.cells c.runs-runs.ensures.longest).0
 
-pub write_body-requires-clause-inside : goal.write_body-requires-clause-inside
-write_body-requires-clause-inside g c = quarter_cells c.record.inside.cells c.cells-cells.result.now c.record.invariant.cells c.cells-cells.ensures.cells c.cells-cells.ensures.inside
-
-pub write_body-requires-clause-order : goal.write_body-requires-clause-order
-write_body-requires-clause-order g c =
-    subst (λ ps. InOrder 0 0 ps) (sym (ap (λ cs. map coordinates cs) c.cells-cells.ensures.cells)) (pairs_in_order c.record.inside.cells c.record.invariant.cells)
+pub write_body-requires : goal.write_body-requires
+write_body-requires g c =
+    (normal_runs c.record.inside.cells c.cells.result.now c.runs-runs.result.now c.record.invariant.cells c.cells.ensures.cells c.cells.ensures.inside c.runs-runs.ensures.cells c.runs-runs.ensures.longest).1
 
 pub returns-clause-again : goal.returns-clause-again
 unfolding text

@@ -1,18 +1,20 @@
 use Rattle.std.proofs.Common.{◌≡◌, List, map, IfOk, subst, ◌∙◌}
-use Rattle.life_core.specs.Pattern.{Cells}
+use Rattle.std.proofs.lemmas.List.Elements.{All-same}
+use Rattle.life_core.specs.Pattern.{Cells, IsWithin}
 use Rattle.life_code.specs.Codes.{code_of}
 use Rattle.life_census.specs.Parts.{parts}
 use Rattle.life_census.specs.NamesState.{Naming}
-use Rattle.life_census.proofs.PartsListing.{parts_inside}
+use Rattle.life_census.proofs.PartsLaws.{parts_within}
+use Rattle.life_census.proofs.PartsListing.{parts_listed}
 use Rattle.life_census.proofs.names.Names.codes.Goals as goal
 
 pub named-requires-clause-room : goal.named-requires-clause-room
-named-requires-clause-room g c = parts_inside 400000000 c.args.pattern.now c.deref.result.now (c.deref.ensures.value ∙ c.in_ok-clusters.ensures.parts) c.requires.room
+named-requires-clause-room g c = All-same (IsWithin 400000000) _ _ c.deref.ensures.value (parts_within 400000000 c.args.pattern.now _ c.in_ok-clusters.ensures c.requires.room)
 
 pub returns-clause-codes : goal.returns-clause-codes
 returns-clause-codes g c =
     let X = c.args.pattern.now in
-    let same : c.deref.result.now ≡ parts X = c.deref.ensures.value ∙ c.in_ok-clusters.ensures.parts in
+    let same : c.deref.result.now ≡ parts X = c.deref.ensures.value ∙ parts_listed _ _ c.in_ok-clusters.ensures in
     let terms : record { rule = c.self.inside.rule; limit = c.self.inside.limit } ≡ c.args.self.now = c.self.view_is in
     subst (λ (v : Naming). IfOk c.named.result (λ v'. v'.items ≡ map (λ P. code_of v.rule P v.limit) (parts X))) terms
     (subst (λ (Qs : List Cells). IfOk c.named.result (λ v'. v'.items ≡ map (λ P. code_of c.self.inside.rule P c.self.inside.limit) Qs)) same c.named.ensures.codes)

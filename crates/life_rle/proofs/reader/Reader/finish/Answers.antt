@@ -8,10 +8,10 @@ use Rattle.life_rle.proofs.reader.Reader.finish.Goals as goal
 pub invariant_of-result : goal.invariant_of-result
 invariant_of-result g c =
     let self = c.args.self in
-    let pairs = map coordinates c.in_ok-finish-in-Body.field-0.items in
-    is_record_with (notes self.notes) self.rule pairs c.normal_of-cells.result c.normal_of-cells.ensures
+    let pairs = map coordinates c.in_ok-finish-in-Body.field-0 in
+    is_record_with (notes self.notes) self.rule pairs c.in_ok-cells-in-Body.cells c.in_ok-cells-in-Body.ensures
     (c.requires (contents (notes self.notes) self.rule pairs) (body_end self pairs c.in-Body.is c.in_ok-finish-in-Body.ensures.cells))
 
 pub returns-clause-inside : goal.returns-clause-inside
 returns-clause-inside g c =
-    is_inside_with c.in_ok-finish-in-Body.field-0.items c.normal_of-cells.result c.normal_of-cells.ensures c.in_ok-finish-in-Body.ensures.inside
+    is_inside_with c.in_ok-finish-in-Body.field-0 c.in_ok-cells-in-Body.cells c.in_ok-cells-in-Body.ensures c.in_ok-finish-in-Body.ensures.inside

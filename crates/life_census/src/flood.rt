@@ -93,7 +93,7 @@ fn take_run<A: Allocator + Copy>(
     Ok(())
 }
 
-/// The first column that is at most 2 away from a column of the run, and the one behind the last.
+/// The first column that is at most 2 away from a column of the run, and the one following the last.
 fn reach(run: Run) -> (i64, i64)
     ensures from { result.0 ≡ run.first -ℤ pos 2 }
     ensures to { result.1 ≡ (run.first +ℤ pos run.len) +ℤ pos 2 }

@@ -1,9 +1,9 @@
 -- The cells of runs.
-use Rattle.std.specs.Prelude.{◌≡◌, ℕ, zero, suc, ◌+◌, ◌<◌, ◌≤◌, ℤ, pos, ◌+ℤ◌, ◌-ℤ◌, ◌≤ℤ◌, ◌<ℤ◌, Bool, true, false, ◌||◌, ◌⊎◌, List, [], ◌∷◌, ◌++◌, length, map, refl, ⊤}
+use Rattle.std.specs.Prelude.{◌≡◌, ℕ, zero, suc, ◌+◌, ◌-◌, ◌<◌, ◌≤◌, ℤ, pos, ◌+ℤ◌, ◌-ℤ◌, ◌≤ℤ◌, ◌<ℤ◌, Bool, true, false, ◌||◌, ◌⊎◌, List, [], ◌∷◌, ◌++◌, length, map, take, drop, refl, ⊤}
 use Rattle.std.proofs.Common.{sym, ap, ◌∙◌, inl, inr, get_or, subst, append_assoc, arith}
 use Rattle.std.specs.List.{list_any, flat_map}
 use Rattle.std.specs.List.Sorted.{IsPermutation, IsStrictlySortedBy}
-use Rattle.std.proofs.lemmas.List.{map-append}
+use Rattle.std.proofs.lemmas.List.{map-append, take-append-drop, take_more}
 use Rattle.std.proofs.Math.Numerals.{suc-eq-add-one}
 use Rattle.std.proofs.lemmas.Map.Keys.{sorted_tail, sorted_from_all_adjacent, Less-from_sorted}
 use Rattle.std.specs.Ordering.{int_cmp, ordering_then, is_lt, MatchOrdering}
@@ -20,7 +20,9 @@ use Rattle.life_core.specs.Cell.{cell_cmp, moved_cell}
 use Rattle.life_core.proofs.CellLemmas.{same_coordinates}
 use Rattle.life_core.proofs.PatternMembers.{same_cell, has_cell, same_cell-true, same_cell-self, cell_cmp_total, contains-list, cells_by_members}
 use Rattle.life_core.specs.declared.runs.Run.{Run}
-use Rattle.life_core.specs.Runs.{cells_from, run_cells, runs_cells, cells_in, first_cell, last_cell, moved_run, IsInRun, IsRunBefore, AreRunsInOrder, IsRun, AreLongest}
+use Rattle.life_core.specs.Runs.{cells_from, run_cells, runs_cells, cells_in, first_cell, last_cell, moved_run, IsInRun, IsRunBefore, AreRunsInOrder, IsRun, AreLongest, GainsBeginning}
+use Rattle.std.proofs.lemmas.List.Concat.{flat_map-append}
+use Rattle.life_core.proofs.RunsLemmas.{cells_both, push_cells}
 use Rattle.life_core.proofs.PatternOrder.{above_first}
 
 -- ---- one run
@@ -247,6 +249,29 @@ pub list_more : (old cells after : List Cell) (r : Run) (i : ℕ) (c : Cell) →
 list_more old cells after r i c before at push =
     push ∙ (λ j. before j ++ at j ∷ []) ∙ append_assoc old (cells_from r.row r.first i) (record { row = r.row; column = r.first +ℤ pos i } ∷ [])
     ∙ ap (λ (cs : List Cell). old ++ cs) (sym (cells_from_more r.row r.first i)) ∙ ap (λ n. old ++ cells_from r.row r.first n) (suc-eq-add-one i)
+
+-- the first cells of a run were listed
+pub list_begun : (old new : List Cell) (r : Run) (i : ℕ) → i < r.len → new ≡ old ++ cells_from r.row r.first i → GainsBeginning (run_cells r) old new
+list_begun old new r i low listed =
+    let parts : r.len ≡ i + (r.len - i) = omega (arith, low) in
+    (cells_from r.row r.first i, cells_from r.row (r.first +ℤ pos i) (r.len - i), ap (cells_from r.row r.first) parts ∙ cells_both r.row r.first i (r.len - i), listed)
+
+-- the first runs were listed, and of the next one a beginning
+pub runs_begun : (old cells new : List Cell) (rs : List Run) (i : ℕ) (d : Run) → i < length rs → cells ≡ old ++ runs_cells (take i rs) → GainsBeginning (run_cells (get_or rs i d)) cells new
+    → GainsBeginning (runs_cells rs) old new
+runs_begun old cells new rs i d low before (done, rest, whole, gained) =
+    let r = get_or rs i d in
+    let first = runs_cells (take i rs) in
+    let others = runs_cells (drop (i + 1) rs) in
+    let split : runs_cells rs ≡ (first ++ run_cells r) ++ others =
+      ap runs_cells (sym (take-append-drop (i + 1) rs)) ∙ flat_map-append run_cells (take (i + 1) rs) (drop (i + 1) rs)
+      ∙ ap (λ (cs : List Cell). cs ++ others) (ap runs_cells (take_more rs i d low) ∙ push_cells (take i rs) r) in
+    (
+      first ++ done,
+      rest ++ others,
+      split ∙ ap (λ (cs : List Cell). (first ++ cs) ++ others) whole ∙ ap (λ (cs : List Cell). cs ++ others) (sym (append_assoc first done rest)) ∙ append_assoc (first ++ done) rest others,
+      gained ∙ ap (λ (cs : List Cell). cs ++ done) before ∙ append_assoc old first done,
+    )
 
 -- ---- runs that are moved
 

@@ -12,7 +12,8 @@ use Rattle.std.specs.List.{All}
 use Rattle.std.specs.Option.{unwrap_or}
 use Rattle.life_core.specs.declared.cell.Cell.{Cell}
 use Rattle.life_core.specs.declared.runs.Run.{Run}
-use Rattle.life_core.specs.Runs.{cells_from, run_cells, runs_cells, IsRun, Joins, NoneJoins, AreLongest, JoinsLast}
+use Rattle.life_core.specs.Runs.{cells_from, run_cells, runs_cells, IsRun, Joins, NoneJoins, AreLongest}
+use Rattle.life_core.specs.RunsState.{JoinsLast}
 
 -- ---- the last run
 

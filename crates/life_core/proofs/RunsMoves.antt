@@ -10,7 +10,8 @@ use Rattle.life_core.specs.declared.cell.Cell.{Cell}
 use Rattle.life_core.specs.declared.cell.TheConstants.{PLANE}
 use Rattle.life_core.specs.declared.runs.Run.{Run}
 use Rattle.life_core.specs.Cell.{moved_cell, IsCellWithin}
-use Rattle.life_core.specs.Runs.{runs_cells, first_cell, moved_run, IsNear, NoneJoins, AreLongest, IsRunList}
+use Rattle.life_core.specs.Runs.{runs_cells, first_cell, moved_run, NoneJoins, AreLongest}
+use Rattle.life_core.specs.RunsState.{IsNear, IsRunList}
 use Rattle.life_core.proofs.PatternMembers.{same_cell-true}
 use Rattle.life_core.proofs.RunsLaws.{first_listed, moved_list}
 

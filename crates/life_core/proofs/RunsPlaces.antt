@@ -10,7 +10,8 @@ use Rattle.std.specs.List.Sorted.{IsPartitionedBy}
 use Rattle.std.specs.FinSet as set
 use Rattle.life_core.specs.declared.cell.Cell.{Cell}
 use Rattle.life_core.specs.declared.runs.Run.{Run}
-use Rattle.life_core.specs.Runs.{cells_in, ends_before, IsBehind, IsAhead, in_run, IsInRun, IsRunBefore, AreRunsInOrder}
+use Rattle.life_core.specs.Runs.{cells_in, IsBehind, IsAhead, in_run, IsInRun, IsRunBefore, AreRunsInOrder}
+use Rattle.life_core.specs.RunsState.{ends_before}
 use Rattle.life_core.proofs.RunsLaws.{none_in}
 
 lt_from : {a b : ℤ} → a <ℤ b → int_lt a b ≡ true

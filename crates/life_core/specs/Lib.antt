@@ -7,6 +7,7 @@ pub mod RuleText
 pub mod RuleTextState
 pub mod Pattern
 pub mod Runs
+pub mod RunsState
 pub mod PatternState
 pub mod Generations
 pub mod Orientation

@@ -50,15 +50,11 @@ IsRunBefore r s = (r.row <ℤ s.row) ⊎ ((r.row ≡ s.row) × ((r.first +ℤ po
 abbrev pub AreRunsInOrder : List Run → Type 0
 AreRunsInOrder = AllPairs IsRunBefore
 
--- whether a run ends before a column of a row, or in a row before it
-abbrev pub ends_before : Run → ℤ → ℤ → Bool
-ends_before r row column = int_lt r.row row || (int_eq r.row row && int_le (r.first +ℤ pos r.len) column)
-
--- it does
+-- a run ends before a column of a row, or in a row before it
 abbrev pub IsBehind : Run → ℤ → ℤ → Type 0
 IsBehind r row column = (r.row <ℤ row) ⊎ ((r.row ≡ row) × ((r.first +ℤ pos r.len) ≤ℤ column))
 
--- a run ends behind the column of the row, or in a row after it
+-- a run ends after the column of the row, or in a row after it
 abbrev pub IsAhead : Run → ℤ → ℤ → Type 0
 IsAhead r row column = (row <ℤ r.row) ⊎ ((r.row ≡ row) × (column <ℤ (r.first +ℤ pos r.len)))
 
@@ -86,13 +82,6 @@ abbrev pub NoneJoins : Run → List Run → Type 0
 NoneJoins r [] = ⊤
 NoneJoins r (s ∷ rs) = Joins r s → ⊥
 
--- a run begins in the plane
-pub record IsNear (r : Run) : Type 0 where
-  pub top : neg_ℤ (pos 1000000000) ≤ℤ r.row
-  pub bottom : r.row ≤ℤ pos 1000000000
-  pub left : neg_ℤ (pos 1000000000) ≤ℤ r.first
-  pub right : r.first ≤ℤ pos 1000000000
-
 -- a run has a cell, and begins in a part of the plane where no sum wraps
 pub record IsRun (r : Run) : Type 0 where
   pub some : 1 ≤ r.len
@@ -103,27 +92,6 @@ abbrev pub AreLongest : List Run → Type 0
 AreLongest [] = ⊤
 AreLongest (r ∷ rs) = IsRun r × NoneJoins r rs × AreLongest rs
 
--- lists of cells, as they are stored
-abbrev pub coded_cell_list : Coded (List Cell)
-coded_cell_list = coded_list coded_cell
-
--- the longest runs of as many cells
-pub record IsRunList (rs : List Run) (n : ℕ) : Type 0 where
-  pub longest : AreLongest rs
-  pub count : n ≡ length (runs_cells rs)
-
--- the run begins where the last of these ends
-pub record JoinsLast (rs : List Run) (s : Run) : Type 0 where
-  pub front : List Run
-  pub last : Run
-  pub all : rs ≡ front ++ last ∷ []
-  pub joins : Joins last s
-
--- there is a last run, and it can be longer by so many cells
-pub record LastFits (rs : List Run) (n : ℕ) : Type 0 where
-  pub some : 0 < length rs
-  pub fits : (front : List Run) (last : Run) → rs ≡ front ++ last ∷ [] → last.len + n < 2 ^ 32
-
--- the last run is longer by so many cells
-abbrev pub IsLonger : List Run → List Run → ℕ → Type 0
-IsLonger old new n = (front : List Run) (last : Run) → old ≡ front ++ last ∷ [] → new ≡ front ++ record { row = last.row; first = last.first; len = last.len + n } ∷ []
+-- a beginning of these cells was put at the end of a list
+abbrev pub GainsBeginning : List Cell → List Cell → List Cell → Type 0
+GainsBeginning cells old new = (done : List Cell) × (rest : List Cell) × (cells ≡ done ++ rest) × (new ≡ old ++ done)

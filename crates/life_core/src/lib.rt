@@ -13,7 +13,7 @@ pub mod pattern;
 pub mod plane;
 pub mod rule;
 pub mod rule_text;
-pub mod runs;
+mod runs;
 mod sorted;
 
 pub use cell::{Cell, PLANE};
@@ -30,4 +30,4 @@ pub use pattern::{Bounds, Pattern, laws_of_patterns};
 pub use plane::Plane;
 pub use rule::Rule;
 pub use rule_text::{RuleFault, laws_of_rule_texts};
-pub use runs::{Run, Runs};
+pub use runs::{Run, Runs, first_from, list_run, list_runs};

@@ -5,7 +5,8 @@ ghost use Rattle.std.specs.List.Sorted.{IsStrictlySortedBy};
 ghost use Rattle.std.specs.FinSet as set;
 ghost use Rattle.life_core.specs.declared.runs.Run.{Run as RunValue};
 ghost use Rattle.life_core.specs.Cell.{cell_cmp, moved_cell, IsCellWithin};
-ghost use Rattle.life_core.specs.Runs.{run_cells, runs_cells, first_cell, last_cell, moved_run, cells_in, ends_before, IsBehind, IsAhead, in_run, IsRunWithin, IsNear, IsRunBefore, AreRunsInOrder, IsRun, Joins, AreLongest, JoinsLast, LastFits, IsLonger};
+ghost use Rattle.life_core.specs.Runs.{run_cells, runs_cells, first_cell, last_cell, moved_run, cells_in, IsBehind, IsAhead, in_run, IsRunWithin, IsRunBefore, AreRunsInOrder, IsRun, Joins, AreLongest, GainsBeginning};
+ghost use Rattle.life_core.specs.RunsState.{ends_before, IsNear, JoinsLast, LastFits, IsLonger};
 
 use crate::cell::{Cell, PLANE};
 use std::alloc::{AllocError, Allocator, Global};
@@ -41,7 +42,7 @@ impl Run {
         Run { len, ..self }
     }
 
-    /// The column behind the last.
+    /// The column following the last.
     pub fn end(&self) -> i64
         ensures { result ≡ self.now.first +ℤ pos self.now.len }
     {
@@ -133,7 +134,8 @@ pub struct Runs<A: Allocator = Global> {
 impl<A: Allocator> Model for Runs<A> {
     ghost use Rattle.std.specs.Prelude.{List};
     ghost use Rattle.life_core.specs.declared.cell.Cell.{Cell};
-    ghost use Rattle.life_core.specs.Runs.{runs_cells, coded_cell_list, IsRunList};
+    ghost use Rattle.life_core.specs.Runs.{runs_cells};
+    ghost use Rattle.life_core.specs.RunsState.{coded_cell_list, IsRunList};
 
     ghost Value = { List Cell };
 
@@ -195,15 +197,6 @@ impl<A: Allocator> Runs<A> {
         let Runs { mut runs, len } = self;
         move_runs(&mut runs, by);
         Runs { runs, len }
-    }
-
-    /// The runs themselves.
-    pub fn into_runs(self) -> Vec<Run, A>
-        ensures cells { runs_cells result.items ≡ self }
-        ensures longest { AreLongest result.items }
-    {
-        let Runs { runs, len: _ } = self;
-        runs
     }
 
     /// What the list's memory comes from.
@@ -289,7 +282,8 @@ fn lengthen_last(runs: &mut [Run], more: u32)
 
 /// Puts the cells of the runs at the end of a list.
 pub fn list_runs<A: Allocator>(cells: &mut Vec<Cell, A>, runs: &[Run]) -> Result<(), AllocError>
-    ensures { OnOk result (cells.new.items ≡ cells.old.items ++ runs_cells runs.now) }
+    ensures cells { OnOk result (cells.new.items ≡ cells.old.items ++ runs_cells runs.now) }
+    ensures begun { OnErr result (GainsBeginning (runs_cells runs.now) cells.old.items cells.new.items) }
 {
     for run in runs {
         list_run(cells, *run)?;
@@ -299,7 +293,8 @@ pub fn list_runs<A: Allocator>(cells: &mut Vec<Cell, A>, runs: &[Run]) -> Result
 
 /// Puts the cells of the run at the end of a list.
 pub fn list_run<A: Allocator>(cells: &mut Vec<Cell, A>, run: Run) -> Result<(), AllocError>
-    ensures { OnOk result (cells.new.items ≡ cells.old.items ++ run_cells run) }
+    ensures cells { OnOk result (cells.new.items ≡ cells.old.items ++ run_cells run) }
+    ensures begun { OnErr result (GainsBeginning (run_cells run) cells.old.items cells.new.items) }
 {
     for i in 0..run.len {
         cells.push(run.cell(i))?;

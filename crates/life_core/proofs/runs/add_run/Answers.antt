@@ -2,7 +2,8 @@ use Rattle.std.proofs.Common.{◌≡◌, List, ◌++◌, ◌∷◌, [], length, 
 use Rattle.std.proofs.lemmas.Bool.{false≢true}
 use Rattle.std.proofs.lemmas.List.{take_at, length-append}
 use Rattle.life_core.specs.declared.runs.Run.{Run}
-use Rattle.life_core.specs.Runs.{AreLongest, JoinsLast, runs_cells, run_cells}
+use Rattle.life_core.specs.Runs.{AreLongest, runs_cells, run_cells}
+use Rattle.life_core.specs.RunsState.{JoinsLast}
 use Rattle.life_core.proofs.RunsLemmas.{longer, longer_cells, push_longest, longer_longest, longer_fits, joins_split}
 use Rattle.life_core.proofs.runs.add_run.Given as given
 use Rattle.life_core.proofs.runs.add_run.Goals as goal

@@ -1,6 +1,6 @@
 use Rattle.std.proofs.Common.{rules, arith, get_or}
 use Rattle.std.proofs.lemmas.List.Sorted.{IsPartitionPoint-from_clause}
-use Rattle.life_core.specs.Runs.{ends_before}
+use Rattle.life_core.specs.RunsState.{ends_before}
 use Rattle.life_core.proofs.RunsPlaces.{rows_parted, behind_true, ahead_false}
 use Rattle.life_core.proofs.runs.first_from.Goals as goal
 

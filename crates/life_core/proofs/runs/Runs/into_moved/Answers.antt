@@ -4,7 +4,8 @@ use Rattle.std.proofs.lemmas.List.Elements.{All-same}
 use Rattle.life_core.specs.declared.cell.TheConstants.{PLANE}
 use Rattle.life_core.specs.declared.runs.Run.{Run}
 use Rattle.life_core.specs.Cell.{moved_cell, IsCellWithin}
-use Rattle.life_core.specs.Runs.{runs_cells, moved_run, IsNear, IsRunList}
+use Rattle.life_core.specs.Runs.{runs_cells, moved_run}
+use Rattle.life_core.specs.RunsState.{IsNear, IsRunList}
 use Rattle.life_core.proofs.RunsLaws.{moved_list}
 use Rattle.life_core.proofs.RunsMoves.{near_runs, near_moved, moved_run_list}
 use Rattle.life_core.proofs.runs.Runs.into_moved.Given as given

@@ -1,0 +1,44 @@
+-- What lists of runs and their calls need.
+use Rattle.std.specs.Prelude.{◌≡◌, ℕ, ◌<◌, ◌+◌, ◌^◌, ℤ, pos, neg_ℤ, ◌+ℤ◌, ◌≤ℤ◌, int_lt, int_le, Bool, ◌||◌, ◌&&◌, List, [], ◌∷◌, ◌++◌, length}
+use Rattle.std.specs.Coded.{Coded, coded_list}
+use Rattle.std.specs.Ordering.{int_eq}
+use Rattle.life_core.specs.declared.cell.Cell.{Cell}
+use Rattle.life_core.specs.declared.runs.Run.{Run}
+use Rattle.life_core.specs.Cell.{coded_cell}
+use Rattle.life_core.specs.Runs.{runs_cells, Joins, AreLongest}
+
+-- whether a run ends before a column of a row, or in a row before it
+abbrev pub ends_before : Run → ℤ → ℤ → Bool
+ends_before r row column = int_lt r.row row || (int_eq r.row row && int_le (r.first +ℤ pos r.len) column)
+
+-- a run begins in the plane
+pub record IsNear (r : Run) : Type 0 where
+  pub top : neg_ℤ (pos 1000000000) ≤ℤ r.row
+  pub bottom : r.row ≤ℤ pos 1000000000
+  pub left : neg_ℤ (pos 1000000000) ≤ℤ r.first
+  pub right : r.first ≤ℤ pos 1000000000
+
+-- lists of cells, as they are stored
+abbrev pub coded_cell_list : Coded (List Cell)
+coded_cell_list = coded_list coded_cell
+
+-- the longest runs of as many cells
+pub record IsRunList (rs : List Run) (n : ℕ) : Type 0 where
+  pub longest : AreLongest rs
+  pub count : n ≡ length (runs_cells rs)
+
+-- the run begins where the last of these ends
+pub record JoinsLast (rs : List Run) (s : Run) : Type 0 where
+  pub front : List Run
+  pub last : Run
+  pub all : rs ≡ front ++ last ∷ []
+  pub joins : Joins last s
+
+-- there is a last run, and it can be longer by so many cells
+pub record LastFits (rs : List Run) (n : ℕ) : Type 0 where
+  pub some : 0 < length rs
+  pub fits : (front : List Run) (last : Run) → rs ≡ front ++ last ∷ [] → last.len + n < 2 ^ 32
+
+-- the last run is longer by so many cells
+abbrev pub IsLonger : List Run → List Run → ℕ → Type 0
+IsLonger old new n = (front : List Run) (last : Run) → old ≡ front ++ last ∷ [] → new ≡ front ++ record { row = last.row; first = last.first; len = last.len + n } ∷ []

@@ -264,9 +264,8 @@ runs_begun old cells new rs i d low before (done, rest, whole, gained) =
     let first = runs_cells (take i rs) in
     let others = runs_cells (drop (i + 1) rs) in
     let split : runs_cells rs ≡ (first ++ run_cells r) ++ others =
-      ap runs_cells (sym (take-append-drop (i + 1) rs)) ∙ flat_map-append run_cells (take (i + 1) rs) (drop (i + 1) rs)
-      ∙ ap (λ (cs : List Cell). cs ++ others) (ap runs_cells (take_more rs i d low) ∙ push_cells (take i rs) r) in
-    (
+    ap runs_cells (sym (take-append-drop (i + 1) rs)) ∙ flat_map-append run_cells (take (i + 1) rs) (drop (i + 1) rs)
+    ∙ ap (λ (cs : List Cell). cs ++ others) (ap runs_cells (take_more rs i d low) ∙ push_cells (take i rs) r) in (
       first ++ done,
       rest ++ others,
       split ∙ ap (λ (cs : List Cell). (first ++ cs) ++ others) whole ∙ ap (λ (cs : List Cell). cs ++ others) (sym (append_assoc first done rest)) ∙ append_assoc (first ++ done) rest others,

@@ -1,12 +1,11 @@
 -- Runs: cells of one row that stand side by side (as in run-length encoding, LifeWiki, "Run Length Encoded"), and lists of cells by their longest runs.
-use Rattle.std.specs.Prelude.{◌≡◌, ◌⊎◌, ℕ, zero, suc, ◌<◌, ◌≤◌, ◌+◌, ◌^◌, ℤ, pos, neg_ℤ, ◌+ℤ◌, ◌-ℤ◌, ◌≤ℤ◌, ◌<ℤ◌, int_lt, int_le, Bool, ◌||◌, ◌&&◌, List, [], ◌∷◌, ◌++◌, length, ⊤}
-use Rattle.std.specs.Coded.{Coded, coded_list}
+use Rattle.std.specs.Prelude.{◌≡◌, ◌⊎◌, ℕ, zero, suc, ◌≤◌, ℤ, pos, neg_ℤ, ◌+ℤ◌, ◌-ℤ◌, ◌≤ℤ◌, ◌<ℤ◌, int_lt, int_le, Bool, ◌&&◌, List, [], ◌∷◌, ◌++◌, ⊤}
 use Rattle.std.specs.List.{flat_map, list_any, AllPairs}
 use Rattle.std.specs.FinSet as set
 use Rattle.std.specs.Ordering.{int_eq, eq_by_cmp}
 use Rattle.life_core.specs.declared.cell.Cell.{Cell}
 use Rattle.life_core.specs.declared.runs.Run.{Run}
-use Rattle.life_core.specs.Cell.{coded_cell, cell_cmp, IsCellWithin}
+use Rattle.life_core.specs.Cell.{cell_cmp, IsCellWithin}
 use Rattle.life_core.specs.Pattern.{Cells}
 
 -- so many cells of a row, from a column on

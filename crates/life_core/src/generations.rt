@@ -1,7 +1,6 @@
 //! Generations of a pattern.
-ghost use Rattle.std.specs.Prelude.{◌≡◌, ◌↔◌, ◌+◌, ◌*◌, ◌-◌, ◌≤◌, ℕ, IfOk, IsTrue, MatchOption};
-ghost use Rattle.life_core.specs.Pattern.{IsWithin};
-ghost use Rattle.life_core.specs.Generations.{generation_of, NextByCells, GrowsByOne};
+ghost use Rattle.std.specs.Prelude.{◌↔◌, ◌+◌, ◌*◌, ◌≤◌, IsTrue, MatchOption};
+ghost use Rattle.life_core.specs.Generations.{HasRoomFor, GivesGeneration, NextByCells, GrowsByOne};
 
 use crate::cell::PLANE;
 use crate::cell_list::CellList;
@@ -25,10 +24,8 @@ pub fn generation_by<A: Allocator + Copy, P: Plane<A>>(
     pattern: &Pattern<A>,
     n: u32,
 ) -> Result<Pattern<A>, Fault>
-    requires few { n ≤ GENERATION_LIMIT }
-    requires room { IsWithin (PLANE - n) pattern.now }
-    ensures value { IfOk result (λ X. X ≡ generation_of rule.now pattern.now n) }
-    ensures grown { IfOk result (λ X. (k : ℕ) → IsWithin k pattern.now → IsWithin (k + n) X) }
+    requires { HasRoomFor n pattern.now }
+    ensures { GivesGeneration rule.now pattern.now n result }
 {
     let mut plane = P::from_pattern(alloc, pattern)?;
     for _i in 0..n {
@@ -44,10 +41,8 @@ pub fn generation<A: Allocator + Copy>(
     pattern: &Pattern<A>,
     n: u32,
 ) -> Result<Pattern<A>, Fault>
-    requires few { n ≤ GENERATION_LIMIT }
-    requires room { IsWithin (PLANE - n) pattern.now }
-    ensures value { IfOk result (λ X. X ≡ generation_of rule.now pattern.now n) }
-    ensures grown { IfOk result (λ X. (k : ℕ) → IsWithin k pattern.now → IsWithin (k + n) X) }
+    requires { HasRoomFor n pattern.now }
+    ensures { GivesGeneration rule.now pattern.now n result }
 {
     if n == 0 {
         return pattern.copy(alloc);

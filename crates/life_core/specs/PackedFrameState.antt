@@ -4,12 +4,13 @@ use Rattle.std.specs.List.{filter, range_with_len}
 use Rattle.std.specs.FinSet as set
 use Rattle.life_core.specs.declared.cell.Cell.{Cell}
 use Rattle.life_core.specs.declared.packed.frame.Frame.{Frame}
+use Rattle.life_core.specs.Cell.{cell_at}
 use Rattle.life_core.specs.Pattern.{Cells}
 use Rattle.life_core.specs.PackedRow.{place}
 
 -- the cell in column x and row y of a box
 abbrev pub cell_in : ℤ → ℤ → ℕ → ℕ → Cell
-cell_in left top x y = record { row = top +ℤ pos y; column = left +ℤ pos x }
+cell_in left top x y = cell_at (left +ℤ pos x, top +ℤ pos y)
 
 -- the cell of place p, in rows of width places
 abbrev pub cell_of : ℤ → ℤ → ℕ → ℕ → Cell

@@ -3,7 +3,7 @@ ghost use Rattle.std.specs.Prelude.{◌≡◌, ℕ, List, Option, ◌+◌, ◌<�
 ghost use Rattle.std.specs.List.{All};
 ghost use Rattle.life_core.specs.Pattern.{Cells, IsWithin};
 ghost use Rattle.life_code.specs.Codes.{code_of};
-ghost use Rattle.life_code.specs.Period.{kind_of};
+ghost use Rattle.life_code.specs.Period.{kind_of, IsSearchable};
 ghost use Rattle.life_census.specs.Parts.{parts};
 ghost use Rattle.life_census.specs.Rows.{row_seen};
 ghost use Rattle.life_census.specs.Counting.{IsTally};
@@ -27,9 +27,7 @@ pub fn tally<A: Allocator + Copy>(
     pattern: &Pattern<A>,
     limit: u32,
 ) -> Result<Tally<A>, Fault>
-    requires from_one { 1 ≤ limit }
-    requires few { limit ≤ PERIOD_LIMIT }
-    requires room { IsWithin 400_000_000 pattern.now }
+    requires { IsSearchable limit pattern.now }
     ensures { IfOk result (IsTally (λ P. code_of rule.now P limit) (parts pattern.now)) }
 {
     let clusters = clusters(alloc, pattern)?;

@@ -8,6 +8,7 @@ ghost use Rattle.life_core.specs.Pattern.{Cells, IsWithin};
 ghost use Rattle.life_core.specs.declared.cell.TheConstants.{PLANE};
 ghost use Rattle.life_code.specs.Apart.{near};
 ghost use Rattle.life_code.specs.Codes.{code_of};
+ghost use Rattle.life_code.specs.Period.{IsSearchable};
 ghost use Rattle.life_census.specs.declared.meeting.Visit.{Visit as VisitValue};
 ghost use Rattle.life_census.specs.Parts.{parts};
 ghost use Rattle.life_census.specs.Counting.{IsTally};
@@ -40,9 +41,7 @@ pub fn steady<A: Allocator + Copy>(
     pattern: &Pattern<A>,
     limit: u32,
 ) -> Result<bool, Fault>
-    requires from_one { 1 ≤ limit }
-    requires few { limit ≤ PERIOD_LIMIT }
-    requires room { IsWithin 400_000_000 pattern.now }
+    requires { IsSearchable limit pattern.now }
     ensures steady { IfOk result (λ b. IsTrue b ↔ IsSteady rule.now pattern.now limit) }
     ensures computed { IfOk result (λ b. b ≡ is_steady rule.now pattern.now limit) }
 {
@@ -61,9 +60,7 @@ pub fn tally_and_steady<A: Allocator + Copy>(
     pattern: &Pattern<A>,
     limit: u32,
 ) -> Result<(Tally<A>, bool), Fault>
-    requires from_one { 1 ≤ limit }
-    requires few { limit ≤ PERIOD_LIMIT }
-    requires room { IsWithin 400_000_000 pattern.now }
+    requires { IsSearchable limit pattern.now }
     ensures tally { IfOk result (λ p. IsTally (λ P. code_of rule.now P limit) (parts pattern.now) p.0) }
     ensures steady { IfOk result (λ p. IsTrue p.1 ↔ IsSteady rule.now pattern.now limit) }
     ensures computed { IfOk result (λ p. p.1 ≡ is_steady rule.now pattern.now limit) }

@@ -2,14 +2,15 @@
 ghost use Rattle.std.specs.Prelude.{◌≡◌, ℕ, ◌≤◌, ◌++◌, ◌∷◌, [], IfOk, IfSome, IsTrue, OnOk, OnErr, MatchOption};
 ghost use Rattle.life_core.specs.Pattern.{IsWithin};
 ghost use Rattle.life_code.specs.Codes.{code_of};
-ghost use Rattle.life_code.specs.Period.{kind_of};
+ghost use Rattle.life_code.specs.Period.{kind_of, IsSearchable};
 ghost use Rattle.life_census.specs.Steady.{Stays, is_staying};
 ghost use Rattle.life_census.specs.SurveyState.{phases_of, ArePhases, IsShape, IsSurvey, HasShapeAt, HasCodeAt};
 
 use crate::code_text::CodeText;
 use life_code::{Kind, PERIOD_LIMIT, code_of_kind, kind};
-use life_core::runs::list_runs;
-use life_core::{Cell, CellList, Fault, PackedRows, Pattern, Plane, Rule, is_packed};
+use life_core::{
+    Cell, CellList, Fault, PackedRows, Pattern, Plane, Rule, is_packed, list_runs,
+};
 use std::alloc::{AllocError, Allocator};
 
 /// A shape that was met: the first cluster that has it, its code, if it has one, and the cells of all
@@ -78,9 +79,7 @@ fn surveyed<A: Allocator + Copy>(
     limit: u32,
     listed: bool,
 ) -> Result<Shape<A>, Fault>
-    requires from_one { 1 ≤ limit }
-    requires few { limit ≤ PERIOD_LIMIT }
-    requires room { IsWithin 400_000_000 cluster.now }
+    requires { IsSearchable limit cluster.now }
     ensures cluster { IfOk result (λ s. s.cluster ≡ cluster.now) }
     ensures shape { IfOk result (IsShape rule.now limit listed) }
 {

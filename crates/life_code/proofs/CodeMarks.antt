@@ -8,7 +8,8 @@ use Rattle.std.proofs.lemmas.Grind.{common_steps}
 use Rattle.std.proofs.lemmas.List.{take_all, length-drop}
 use Rattle.std.specs.Fmt.{decimal, digits, digits_onto, digit_glyph}
 use Rattle.std.proofs.lemmas.Bool.{cond-true, lt-ltb, le-leb, ne_eqb, eqb-true, eqb-false, and_from, and_parts, leb-true}
-use Rattle.life_code.specs.Open.{IsPrefix, is_digit, is_number, IsFront}
+use Rattle.life_code.specs.Open.{IsPrefix, is_number, IsFront}
+use Rattle.std.specs.Char.{is_ascii_digit}
 
 -- no byte is the mark
 abbrev pub NoMark : List ℕ → Type 0
@@ -39,7 +40,7 @@ pub decimal_unmarked : (n : ℕ) → NoMark (decimal n)
 unfolding digits
 decimal_unmarked n = digits_unmarked 64 n [] tt
 
-glyph_is_digit : (d : ℕ) → d < 10 → is_digit (digit_glyph false d) ≡ true
+glyph_is_digit : (d : ℕ) → d < 10 → is_ascii_digit (digit_glyph false d) ≡ true
 glyph_is_digit d h = let g = glyph d h in and_from _ _ (le-leb 48 (digit_glyph false d) (omega arith)) (le-leb (digit_glyph false d) 57 (omega arith))
 
 -- 10 to the power of k
@@ -47,13 +48,13 @@ abbrev tens : ℕ → ℕ
 tens zero = 1
 tens (suc k) = 10 * tens k
 
-number_onto : (k j n : ℕ) (cs : List ℕ) → 1 ≤ n → n < tens j → j ≤ k → j + length cs ≤ 6 → list_all is_digit cs ≡ true → is_number (digits_onto k 10 false n cs) ≡ true
+number_onto : (k j n : ℕ) (cs : List ℕ) → 1 ≤ n → n < tens j → j ≤ k → j + length cs ≤ 6 → list_all is_ascii_digit cs ≡ true → is_number (digits_onto k 10 false n cs) ≡ true
 number_onto zero zero n cs from below le short all = absurd (omega arith)
 number_onto zero (suc j) n cs from below le short all = absurd (omega arith)
 number_onto (suc k) zero n cs from below le short all = absurd (omega arith)
 number_onto (suc k) (suc j) n cs from below le short all =
-    let digit : is_digit (digit_glyph false (n % 10)) ≡ true = glyph_is_digit (n % 10) (omega arith) in
-    let more : list_all is_digit (digit_glyph false (n % 10) ∷ cs) ≡ true = and_from _ _ digit all in
+    let digit : is_ascii_digit (digit_glyph false (n % 10)) ≡ true = glyph_is_digit (n % 10) (omega arith) in
+    let more : list_all is_ascii_digit (digit_glyph false (n % 10) ∷ cs) ≡ true = and_from _ _ digit all in
     elim (nat_eq (n / 10) 0) as (λ b. nat_eq (n / 10) 0 ≡ b → is_number (cond b (digit_glyph false (n % 10) ∷ cs) (digits_onto k 10 false (n / 10) (digit_glyph false (n % 10) ∷ cs))) ≡ true) [
       | true ↦ λ e.
           let last : n / 10 ≡ 0 = eqb-true (n / 10) 0 e in
@@ -69,10 +70,10 @@ pub is_number-decimal : (n : ℕ) → 1 ≤ n → n ≤ 999999 → is_number (de
 unfolding digits
 is_number-decimal n from below = number_onto 64 6 n [] from (omega arith) (omega arith) (omega arith) refl
 
-all_unmarked : (cs : List ℕ) → list_all is_digit cs ≡ true → NoMark cs
+all_unmarked : (cs : List ℕ) → list_all is_ascii_digit cs ≡ true → NoMark cs
 all_unmarked [] h = tt
 all_unmarked (c ∷ cs) h =
-    let parts = and_parts (is_digit c) (list_all is_digit cs) h in
+    let parts = and_parts (is_ascii_digit c) (list_all is_ascii_digit cs) h in
     let at_most = leb-true c 57 (and_parts (nat_le 48 c) (nat_le c 57) parts.0).1 in
     ((λ e. omega arith), all_unmarked cs parts.1)
 

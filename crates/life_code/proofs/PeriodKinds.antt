@@ -1,5 +1,5 @@
 -- A kind says what it means, and no other kind does.
-use Rattle.std.specs.Prelude.{◌≡◌, ◌≢◌, ℕ, zero, suc, ◌+◌, ◌<◌, ◌≤◌, Bool, true, false, cond, ◌&&◌, nat_eq, Option, Some, None, MatchOption, ℤ, pos, ◌+ℤ◌, ◌-ℤ◌, neg_ℤ, refl}
+use Rattle.std.specs.Prelude.{◌≡◌, ◌≢◌, ℕ, zero, suc, ◌+◌, ◌<◌, ◌≤◌, Bool, true, false, cond, ◌&&◌, nat_eq, Option, Some, None, MatchOption, Ok, ℤ, pos, ◌+ℤ◌, ◌-ℤ◌, neg_ℤ, refl}
 use Rattle.std.specs.List.{range_with_len, find}
 use Rattle.std.specs.Ordering.{int_eq}
 use Rattle.std.proofs.Common.{sym, ap, ◌∙◌, subst, arith, true≢false, ⊎_elim}
@@ -18,7 +18,7 @@ use Rattle.life_core.proofs.Placements.{moved}
 use Rattle.life_code.specs.declared.kinds.Kind.{Kind}
 use Rattle.life_code.specs.declared.kinds.Kind.TheVariants.{Empty, Still, Oscillator, Ship, Unresolved}
 use Rattle.life_code.specs.Laws.{OneKind}
-use Rattle.life_code.specs.Period.{Returns, HasPeriod, HasKind, returns, period_of, kind_of_period, kind_at, kind_of}
+use Rattle.life_code.specs.Period.{Returns, HasPeriod, HasKind, returns, period_of, kind_of_period, kind_at, kind_of, GivesKind}
 use Rattle.life_code.proofs.PeriodLemmas.{same_cells-eq, Returns-returns, returns-Returns}
 
 -- ---- the first number that passes
@@ -151,6 +151,10 @@ kind_one r X limit (Ship p dx dy) (some, below, goes, is) = kind_found r X limit
     by true e false h = λ i. e i && h i
     by true e true h = absurd (goes ((Decides-int_eq dx (pos 0)).0 e, (Decides-int_eq dy (pos 0)).0 h))
 kind_one r X limit Unresolved (some, none) = kind_unresolved r X limit some none
+
+-- a kind that says what holds is the answer of a search
+pub given : {E : Type 0} (r : RuleSets) (X : Cells) (limit : ℕ) (k : Kind) → HasKind r X limit k → GivesKind {E = E} r X limit (Ok k)
+given r X limit k has = record { value = sym (kind_one r X limit k has); meaning = has }
 
 pub one_kind : OneKind
 one_kind r X limit k = (kind_one r X limit k, λ e. subst (HasKind r X limit) e (kind_is r X limit))

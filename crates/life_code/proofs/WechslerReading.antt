@@ -4,7 +4,8 @@ use Rattle.std.specs.Prelude.{nat_eq, nat_lt}
 use Rattle.std.specs.List.{AllByRecursion}
 use Rattle.std.proofs.lemmas.Bool.{le-ltb, lt-ltb, ne_eqb, eq-eqb, cond-true, cond-false, cases_lt, cases_eq, and_left, and_right, and_from}
 use Rattle.std.proofs.lemmas.Bool.Decides.{nat_tests}
-use Rattle.life_code.specs.DecodeState.{value_of, has_bit, spells_cell}
+use Rattle.life_code.specs.DecodeState.{has_bit, spells_cell}
+use Rattle.life_code.specs.Wechsler.{value_of}
 use Rattle.life_code.specs.Wechsler.{character, zero_run, spelled}
 
 pub read_end : (k x y : ℕ) → spells_cell k false [] x y ≡ false

@@ -3,11 +3,9 @@ use Rattle.std.specs.Prelude.{ℕ, ◌+◌, ◌-◌, ◌/◌, ◌%◌, ◌^◌, 
 use Rattle.std.specs.List.{filter, range_with_len}
 use Rattle.std.specs.FinSet as set
 use Rattle.life_core.specs.declared.cell.Cell.{Cell}
+use Rattle.life_core.specs.Cell.{cell_at}
 use Rattle.life_core.specs.Pattern.{Cells}
-
--- the value of a character
-abbrev pub value_of : ℕ → ℕ
-value_of c = if nat_lt c 58 then c - 48 else c - 87
+use Rattle.life_code.specs.Wechsler.{value_of}
 
 -- whether the bit of this number is set
 abbrev pub has_bit : ℕ → ℕ → Bool
@@ -28,7 +26,7 @@ spells_cell k false (c ∷ text) x y =
 
 -- the cell of place i of a box of 40 columns, row by row
 abbrev pub cell_of_place : ℕ → Cell
-cell_of_place i = record { row = pos (i / 40); column = pos (i % 40) }
+cell_of_place i = cell_at (pos (i % 40), pos (i / 40))
 
 -- the cells of the box of 40 by 40 that a text spells
 unfoldable pub decoded : List ℕ → Cells

@@ -1,5 +1,5 @@
 -- What makes the definitions of kinds and codes believable, and what a code is good for.
-use Rattle.std.specs.Prelude.{◌≡◌, ◌≢◌, ◌↔◌, ℕ, ◌+◌, ◌-◌, ◌<◌, ◌≤◌, ◌%◌, nat_lt, ◌==◌, if◌then◌else◌, MatchOption, ℤ, pos, ◌*ℤ◌, Bool, true, false, None, Some, List, [], ◌∷◌, ◌++◌, map, replicate}
+use Rattle.std.specs.Prelude.{◌≡◌, ◌≢◌, ◌↔◌, ℕ, ◌+◌, ◌<◌, ◌≤◌, ◌%◌, ◌==◌, if◌then◌else◌, MatchOption, ℤ, pos, ◌*ℤ◌, Bool, true, false, None, Some, List, [], ◌∷◌, ◌++◌, map, replicate}
 use Rattle.std.specs.List.{range_with_len, last_or, Contains}
 use Rattle.std.specs.Ordering.{is_gt}
 use Rattle.std.specs.FinSet as set
@@ -11,7 +11,7 @@ use Rattle.life_core.specs.Generations.{generation_of}
 use Rattle.life_code.specs.declared.kinds.Kind.{Kind}
 use Rattle.life_code.specs.Apart.{AreAllApart, union_of}
 use Rattle.life_code.specs.Period.{Returns, HasPeriod, HasKind, kind_of}
-use Rattle.life_code.specs.Wechsler.{width, height, column_value, strip, wechsler}
+use Rattle.life_code.specs.Wechsler.{value_of, width, height, column_value, strip, wechsler}
 use Rattle.life_code.specs.Codes.{fits, shape, candidates, text_cmp, least_text, code_of, IsPeriodic, Same}
 use Rattle.life_code.specs.Open.{Spells}
 
@@ -53,13 +53,13 @@ BoxesHaveOneSize = (X : Cells) (left top : ℤ) (columns rows : ℕ) → normal 
 -- it says, and another character for a column of its value; the flag says that the character before was `y`
 unfoldable pub columns_of : Bool → List ℕ → List ℕ
 columns_of behind_y [] = []
-columns_of true (c ∷ text) = replicate (4 + (if nat_lt c 58 then c - 48 else c - 87)) 0 ++ columns_of false text
+columns_of true (c ∷ text) = replicate (4 + value_of c) 0 ++ columns_of false text
 columns_of false (c ∷ text) =
     if c == 48 then replicate 1 0 ++ columns_of false text
     else if c == 119 then replicate 2 0 ++ columns_of false text
     else if c == 120 then replicate 3 0 ++ columns_of false text
     else if c == 121 then columns_of true text
-    else (if nat_lt c 58 then c - 48 else c - 87) ∷ columns_of false text
+    else value_of c ∷ columns_of false text
 
 -- The text of a strip, spelled out, is its columns up to the last that is not zero.
 abbrev pub StripsAreTheirColumns : Type 0

@@ -1,5 +1,6 @@
 -- Which set of cells a code spells, and what a refusal of a code says.
 use Rattle.std.specs.Prelude.{◌≡◌, ◌≢◌, ◌⊎◌, ℕ, Bool, true, false, not, ◌&&◌, ◌==◌, nat_le, Some, List, [], ◌∷◌, ◌++◌, length, codes}
+use Rattle.std.specs.Char.{is_ascii_digit}
 use Rattle.std.specs.List.{list_all}
 use Rattle.std.specs.FinSet as set
 use Rattle.life_core.specs.Pattern.{Cells, normal}
@@ -29,14 +30,10 @@ fault_name Memory = codes "memory"
 abbrev pub IsPrefix : List ℕ → Type 0
 IsPrefix prefix = (prefix ≡ codes "xs") ⊎ ((prefix ≡ codes "xp") ⊎ (prefix ≡ codes "xq"))
 
--- a digit from `0` to `9`
-abbrev pub is_digit : ℕ → Bool
-is_digit b = nat_le 48 b && nat_le b 57
-
 -- a number in a code: one to six digits, the first of them not `0`
 abbrev pub is_number : List ℕ → Bool
 is_number [] = false
-is_number (digit ∷ digits) = not (digit == 48) && nat_le (length digits) 5 && list_all is_digit (digit ∷ digits)
+is_number (digit ∷ digits) = not (digit == 48) && nat_le (length digits) 5 && list_all is_ascii_digit (digit ∷ digits)
 
 -- a prefix and a number
 pub record IsFront (front : List ℕ) : Type 0 where

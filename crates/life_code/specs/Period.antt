@@ -1,14 +1,15 @@
 -- Periods and kinds of patterns (LifeWiki, "Period", "Still life", "Oscillator" and "Spaceship").
-use Rattle.std.specs.Prelude.{◌≡◌, ◌≢◌, ℕ, ◌<◌, ◌≤◌, Bool, ◌&&◌, ◌==◌, if◌then◌else◌, Option, Some, None, ℤ, pos, ◌-ℤ◌}
+use Rattle.std.specs.Prelude.{◌≡◌, ◌≢◌, ℕ, ◌<◌, ◌≤◌, Bool, ◌&&◌, ◌==◌, if◌then◌else◌, Option, Some, None, Result, IfOk, ℤ, pos, ◌-ℤ◌}
 use Rattle.std.specs.List.{find, range_with_len}
 use Rattle.std.specs.Ordering.{int_eq}
 use Rattle.std.specs.FinSet as set
 use Rattle.life_core.specs.Cell.{moved_cell}
-use Rattle.life_core.specs.Pattern.{Cells, image, corner, normal}
+use Rattle.life_core.specs.Pattern.{Cells, IsWithin, image, corner, normal}
 use Rattle.life_core.specs.Rule.{RuleSets}
 use Rattle.life_core.specs.Generations.{generation_of}
 use Rattle.life_code.specs.declared.kinds.Kind.{Kind}
 use Rattle.life_code.specs.declared.kinds.Kind.TheVariants.{Empty, Still, Oscillator, Ship, Unresolved}
+use Rattle.life_code.specs.declared.period.TheConstants.{PERIOD_LIMIT}
 
 -- ---- what a kind says
 
@@ -54,3 +55,16 @@ kind_at r X (Some p) = kind_of_period p ((corner (generation_of r X p)).column -
 -- the kind of X under a limit of the period
 unfoldable pub kind_of : RuleSets → Cells → ℕ → Kind
 kind_of r X limit = if set.len X == 0 then Empty else kind_at r X (period_of r X limit)
+
+-- ---- what a call asks and gives
+
+-- a period of X can be searched for: the limit is one that may be asked for, and no generation up to it leaves the plane
+pub record IsSearchable (limit : ℕ) (X : Cells) : Type 0 where
+  pub from_one : 1 ≤ limit
+  pub few : limit ≤ PERIOD_LIMIT
+  pub room : IsWithin 400000000 X
+
+-- Ok with the kind of X under the limit, and with what the kind says, or an Err
+pub record GivesKind {E : Type 0} (r : RuleSets) (X : Cells) (limit : ℕ) (result : Result Kind E) : Type 0 where
+  pub value : IfOk result (λ k. k ≡ kind_of r X limit)
+  pub meaning : IfOk result (HasKind r X limit)

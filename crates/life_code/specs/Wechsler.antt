@@ -3,6 +3,7 @@
 use Rattle.std.specs.Prelude.{ℕ, ◌+◌, ◌-◌, ◌*◌, ◌/◌, ◌==◌, nat_lt, if◌then◌else◌, List, [], ◌∷◌, ◌++◌, map, pos}
 use Rattle.std.specs.List.{range_with_len, join_with_byte}
 use Rattle.std.specs.FinSet as set
+use Rattle.life_core.specs.Cell.{cell_at}
 use Rattle.life_core.specs.Pattern.{Cells, past_greatest}
 
 -- ---- the box of a normal set
@@ -20,6 +21,10 @@ height X = past_greatest (λ c. c.row) X
 -- the character of a value up to 35: `0` to `9`, then `a` to `z`
 abbrev pub character : ℕ → ℕ
 character n = if nat_lt n 10 then 48 + n else 87 + n
+
+-- the value of such a character
+abbrev pub value_of : ℕ → ℕ
+value_of c = if nat_lt c 58 then c - 48 else c - 87
 
 -- a run of n zero columns before another column: `0`, `w` and `x` for one, two and three, and `y` with a character for 4 to 39
 abbrev pub zero_run : ℕ → List ℕ
@@ -39,7 +44,7 @@ spelled n (value ∷ columns) = if value == 0 then spelled (n + 1) columns else 
 
 -- 1 where the cell in this column and row is live
 abbrev pub bit_at : Cells → ℕ → ℕ → ℕ
-bit_at X x y = if set.contains X (record { row = pos y; column = pos x }) then 1 else 0
+bit_at X x y = if set.contains X (cell_at (pos x, pos y)) then 1 else 0
 
 -- the value of column x of strip s: its top row is the bit of value 1
 unfoldable pub column_value : Cells → ℕ → ℕ → ℕ

@@ -2,7 +2,8 @@
 ghost use Rattle.std.specs.Prelude.{◌≡◌, ◌<◌, ◌≤◌, ◌+◌, ◌^◌, ◌∷◌, List, ℕ, MatchOption, IfOk, length, false, map};
 ghost use Rattle.std.specs.Prelude.{◌%◌, ◌/◌};
 ghost use Rattle.std.specs.List.{filter, range_with_len};
-ghost use Rattle.life_code.specs.DecodeState.{value_of, spells_cell, cell_of_place, decoded};
+ghost use Rattle.life_code.specs.DecodeState.{spells_cell, cell_of_place, decoded};
+ghost use Rattle.life_code.specs.Wechsler.{value_of};
 
 use crate::codes::LARGEST_BOX;
 use life_core::{Cell, Fault, Pattern};

@@ -1,7 +1,7 @@
 //! Patterns with their codes.
 ghost use Rattle.std.specs.Prelude.{◌≡◌, ◌≢◌, ◌≤◌, ◌↔◌, None, Some, IfOk, IsTrue, MatchOption};
 ghost use Rattle.life_core.specs.Pattern.{Cells, IsWithin};
-ghost use Rattle.life_code.specs.Period.{kind_of};
+ghost use Rattle.life_code.specs.Period.{kind_of, IsSearchable};
 ghost use Rattle.life_code.specs.Codes.{code_of, Same};
 ghost use Rattle.life_code.specs.Object.{IsCodeOf};
 
@@ -76,9 +76,7 @@ pub fn code<A: Allocator + Copy>(
     pattern: &Pattern<A>,
     limit: u32,
 ) -> Result<Option<Coded<A>>, Fault>
-    requires from_one { 1 ≤ limit }
-    requires few { limit ≤ PERIOD_LIMIT }
-    requires room { IsWithin 400_000_000 pattern.now }
+    requires { IsSearchable limit pattern.now }
     ensures value { IfOk result (IsCodeOf rule.now pattern.now limit) }
     // All patterns that are the same object have the same code, or none each.
     ensures object { IfOk result (λ o. (X : Cells) → Same rule.now X pattern.now → MatchOption o (code_of rule.now X limit ≡ None) (λ c. code_of rule.now X limit ≡ Some c.text)) }

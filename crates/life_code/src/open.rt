@@ -1,10 +1,11 @@
 //! From a code to the pattern that it spells.
 ghost use Rattle.std.specs.Prelude.{◌≡◌, ◌≢◌, ◌≤◌, ◌↔◌, Some, IfOk, IfErr, IsTrue, MatchOption};
 ghost use Rattle.std.specs.Prelude.{◌==◌};
+ghost use Rattle.std.specs.Char.{is_ascii_digit};
 ghost use Rattle.std.specs.List.{list_all, position};
 ghost use Rattle.life_core.specs.Pattern.{Cells};
 ghost use Rattle.life_code.specs.Codes.{code_of};
-ghost use Rattle.life_code.specs.Open.{IsPrefix, is_digit, is_number, IsFront, IsWechsler, Spells, Refuses};
+ghost use Rattle.life_code.specs.Open.{IsPrefix, is_number, IsFront, IsWechsler, Spells, Refuses};
 
 use crate::codes::{LARGEST_BOX, text_of};
 use crate::decode::decoded;
@@ -72,7 +73,7 @@ impl From<Fault> for CodeFault {
 
 /// Whether the bytes are digits.
 fn are_digits(bytes: &[u8]) -> bool
-    ensures { result ≡ list_all is_digit bytes.now }
+    ensures { result ≡ list_all is_ascii_digit bytes.now }
 {
     bytes.iter().all(|b| b.is_ascii_digit())
 }

@@ -1,7 +1,6 @@
 //! The search for the period of a pattern.
 ghost use Rattle.std.specs.Prelude.{◌≡◌, ◌↔◌, ◌≤◌, ◌+◌, ◌*◌, IfOk, IsTrue};
-ghost use Rattle.life_core.specs.Pattern.{IsWithin};
-ghost use Rattle.life_code.specs.Period.{kind_of, HasKind};
+ghost use Rattle.life_code.specs.Period.{IsSearchable, GivesKind};
 
 use crate::apart::moves_apart;
 use crate::kinds::{Kind, kind_of_period};
@@ -21,11 +20,8 @@ pub fn kind_by<A: Allocator + Copy, P: Plane<A>>(
     pattern: &Pattern<A>,
     limit: u32,
 ) -> Result<Kind, Fault>
-    requires from_one { 1 ≤ limit }
-    requires few { limit ≤ PERIOD_LIMIT }
-    requires room { IsWithin 400_000_000 pattern.now }
-    ensures value { IfOk result (λ k. k ≡ kind_of rule.now pattern.now limit) }
-    ensures meaning { IfOk result (HasKind rule.now pattern.now limit) }
+    requires { IsSearchable limit pattern.now }
+    ensures { GivesKind rule.now pattern.now limit result }
 {
     if pattern.population() == 0 {
         return Ok(Kind::Empty);
@@ -72,11 +68,8 @@ pub fn kind<A: Allocator + Copy>(
     pattern: &Pattern<A>,
     limit: u32,
 ) -> Result<Kind, Fault>
-    requires from_one { 1 ≤ limit }
-    requires few { limit ≤ PERIOD_LIMIT }
-    requires room { IsWithin 400_000_000 pattern.now }
-    ensures value { IfOk result (λ k. k ≡ kind_of rule.now pattern.now limit) }
-    ensures meaning { IfOk result (HasKind rule.now pattern.now limit) }
+    requires { IsSearchable limit pattern.now }
+    ensures { GivesKind rule.now pattern.now limit result }
 {
     if is_packed(pattern.bounds(), limit) {
         kind_by::<A, PackedRows<A>>(alloc, rule, pattern, limit)

@@ -26,3 +26,4 @@ pub mod LawsOne
 pub mod LawsTexts
 pub mod Vectors
 pub mod PieceLemmas
+pub mod ResultLemmas

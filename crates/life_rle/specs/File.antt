@@ -3,6 +3,7 @@ use Rattle.std.specs.Prelude.{ℕ, pos, map, List, [], ◌∷◌, length, take, 
 use Rattle.std.specs.List.{flat_map, position_or_len}
 use Rattle.std.specs.FinSet as set
 use Rattle.life_core.specs.declared.cell.Cell.{Cell}
+use Rattle.life_core.specs.Cell.{cell_at}
 use Rattle.life_core.specs.Rule.{RuleSets, life}
 use Rattle.life_core.specs.RuleText.{without_blanks, read_rule}
 use Rattle.life_core.specs.Pattern.{normal}
@@ -35,7 +36,7 @@ body_part line = if is_mark_line line then [] else without_blanks line
 
 -- the cell of a pair (column, row)
 abbrev pub cell_of : ℕ × ℕ → Cell
-cell_of p = record { row = pos p.1; column = pos p.0 }
+cell_of p = cell_at (pos p.0, pos p.1)
 
 -- the record of these texts, this rule and the cells that a body places, moved so that the least column and the least row are 0
 abbrev pub contents : Notes → RuleSets → List (ℕ × ℕ) → Contents

@@ -1,6 +1,7 @@
 -- The form of the header line: `x = W, y = H`, and `, rule = R` where a rule is given (LifeWiki, "Run Length Encoded").
 use Rattle.std.specs.Prelude.{ℕ, codes, Bool, not, ◌||◌, List, [], ◌∷◌, length, ◌==◌, if◌then◌else◌, slice_index, Option, Some, None, Result, Ok, Err}
 use Rattle.std.specs.Char.{is_ascii_digit, to_ascii_lowercase}
+use Rattle.life_core.specs.RuleText.{after_while}
 use Rattle.life_rle.specs.declared.fault.RleFault.{RleFault}
 use Rattle.life_rle.specs.declared.fault.RleFault.TheVariants.{NoHeader, BadHeader}
 
@@ -12,8 +13,7 @@ after_words (word ∷ words) (b ∷ text) = if to_ascii_lowercase b == word then
 
 -- what follows the digits at the front
 abbrev pub past_digits : List ℕ → List ℕ
-past_digits [] = []
-past_digits (b ∷ text) = if is_ascii_digit b then past_digits text else b ∷ text
+past_digits text = after_while is_ascii_digit text
 
 -- what follows a number of one digit or more
 abbrev pub after_number : List ℕ → Option (List ℕ)

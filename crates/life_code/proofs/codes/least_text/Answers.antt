@@ -11,8 +11,11 @@ loop-i-init g c = record { phase = c.in_ok-phase.ensures; best = keep_none c.arg
 pub keep_phase-requires : goal.keep_phase-requires
 keep_phase-requires g c = phase_within c.args.rule.now c.args.pattern.now _ c.loop-i._i _ c.loop-i.invariant.phase c.requires.room (omega (arith, c.loop-i-test.true, c.requires.few))
 
-pub generation-requires-clause-room : goal.generation-requires-clause-room
-generation-requires-clause-room g c = phase_within c.args.rule.now c.args.pattern.now _ c.loop-i._i _ c.loop-i.invariant.phase c.requires.room (omega (arith, c.loop-i-test.true, c.requires.few))
+pub generation-requires : goal.generation-requires
+generation-requires g c = record {
+  few = omega arith;
+  room = phase_within c.args.rule.now c.args.pattern.now _ c.loop-i._i _ c.loop-i.invariant.phase c.requires.room (omega (arith, c.loop-i-test.true, c.requires.few));
+}
 
 pub loop-i-preserved : goal.loop-i-preserved
 loop-i-preserved g c = record {

@@ -10,8 +10,12 @@ use Rattle.life_code.proofs.open.open_code.Goals as goal
 pub returns-in_default-clause-no_code : goal.returns-in_default-clause-no_code
 returns-in_default-clause-no_code g c = refused_is_no_code c.args.rule.now c.args.text.now c.args.limit (omega (arith, c.requires.few)) BadText (rw c.in_default.is at c.in_ok-pattern.ensures)
 
-pub kind-requires-clause-room : goal.kind-requires-clause-room
-kind-requires-clause-room g c = spelled_room c.args.text.now _ 400000000 (omega arith) (rw c.in-Some.is at c.in_ok-pattern.ensures)
+pub kind-requires : goal.kind-requires
+kind-requires g c = record {
+  from_one = c.requires.from_one;
+  few = c.requires.few;
+  room = spelled_room c.args.text.now _ 400000000 (omega arith) (rw c.in-Some.is at c.in_ok-pattern.ensures);
+}
 
 pub code_of_kind-requires-clause-room : goal.code_of_kind-requires-clause-room
 code_of_kind-requires-clause-room g c = spelled_room c.args.text.now _ 400000000 (omega arith) (rw c.in-Some.is at c.in_ok-pattern.ensures)

@@ -1,14 +1,9 @@
-use Rattle.std.specs.Prelude.{Result, Ok, Err, OnOk, OnErr}
 use Rattle.std.proofs.lemmas.List.Elements.{All-same}
 use Rattle.std.proofs.lemmas.Result.{on_ok_weaker, on_err_weaker}
 use Rattle.life_rle.specs.Body.{IsPlaced}
+use Rattle.life_rle.proofs.ResultLemmas.{either_way}
 use Rattle.life_rle.proofs.RunPairs.{placed_run}
 use Rattle.life_rle.proofs.body.push_run.Goals as goal
-
--- what holds after an Ok and after an Err
-either_way : {X E P : Type 0} (r : Result X E) → OnOk r P → OnErr r P → P
-either_way (Ok x) ok err = ok
-either_way (Err e) ok err = err
 
 pub returns-clause-run : goal.returns-clause-run
 returns-clause-run g c =

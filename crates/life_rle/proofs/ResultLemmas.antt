@@ -1,0 +1,7 @@
+-- Answers of calls, whatever these are about.
+use Rattle.std.specs.Prelude.{Result, Ok, Err, OnOk, OnErr}
+
+-- what holds after an Ok and after an Err
+pub either_way : {X E P : Type 0} (r : Result X E) → OnOk r P → OnErr r P → P
+either_way (Ok x) ok err = ok
+either_way (Err e) ok err = err

@@ -1,19 +1,16 @@
 -- Shapes that are known: their codes, and the phases of the clusters that have them.
-use Rattle.std.proofs.Common.{◌≡◌, ℕ, ◌+◌, ◌<◌, ℤ, Bool, true, false, List, [], ◌∷◌, ◌++◌, length, Option, Some, None, MatchOption, Vec, refl, sym, ap, subst, ◌∙◌, arith, get_or, take, append_assoc, add-one}
+use Rattle.std.proofs.Common.{◌≡◌, ℕ, ◌+◌, ◌<◌, ℤ, Bool, true, false, List, [], ◌∷◌, ◌++◌, length, Option, Some, None, MatchOption, Vec, refl, sym, ap, subst, ◌∙◌, arith, get_or, add-one}
 use Rattle.std.specs.List.{All}
 use Rattle.std.proofs.lemmas.Bool.{false≢true}
-use Rattle.std.proofs.lemmas.List.{length_push, get_or_push, get_or_default, take_more}
+use Rattle.std.proofs.lemmas.List.{length_push, get_or_push, get_or_default}
 use Rattle.std.proofs.lemmas.List.Elements.{All-push, All-weaker}
 use Rattle.life_core.specs.declared.cell.Cell.{Cell}
-use Rattle.life_core.specs.declared.runs.Run.{Run}
 use Rattle.life_core.specs.Cell.{moved_cell}
 use Rattle.life_core.specs.Pattern.{Cells, image, in_order}
 use Rattle.life_core.specs.Rule.{RuleSets}
-use Rattle.life_core.specs.Runs.{run_cells, runs_cells}
 use Rattle.life_core.specs.Generations.{generation_of}
 use Rattle.life_core.proofs.PatternCorners.{moved_origin}
 use Rattle.life_core.proofs.Placements.{origin, moved}
-use Rattle.life_core.proofs.RunsLemmas.{push_cells}
 use Rattle.life_code.specs.Codes.{code_of}
 use Rattle.life_code.proofs.CodesNormal.{code_moved}
 use Rattle.life_census.specs.declared.survey.Shape.{Shape}
@@ -31,12 +28,6 @@ pub more_phases : (r : RuleSets) (P X : Cells) (i : ℕ) (cells after ds : List 
 unfolding phases_of
 more_phases r P X i cells after ds here made listed before =
     made ∙ (λ k. before k ++ (listed ∙ ap in_order here) k) ∙ ap (phases_of r P) (sym (add-one i))
-
--- the cells of one run more
-pub run_listed : (old cells after : List Cell) (rs : List Run) (i : ℕ) (d : Run) → i < length rs → cells ≡ old ++ runs_cells (take i rs) → after ≡ cells ++ run_cells (get_or rs i d) → after ≡ old ++ runs_cells (take (i + 1) rs)
-run_listed old cells after rs i d low before made =
-    made ∙ ap (λ (cs : List Cell). cs ++ run_cells (get_or rs i d)) before ∙ append_assoc old (runs_cells (take i rs)) (run_cells (get_or rs i d))
-    ∙ ap (λ (cs : List Cell). old ++ cs) (sym (push_cells (take i rs) (get_or rs i d)) ∙ ap runs_cells (sym (take_more rs i d low)))
 
 -- ---- the table of shapes
 

@@ -9,8 +9,7 @@ ghost use Rattle.life_core.specs.declared.runs.Run.{Run as RunValue};
 ghost use Rattle.life_core.specs.Runs.{cells_in, first_cell, AreRunsInOrder};
 ghost use Rattle.life_census.specs.FloodState.{IsFlood, IsClear, IsRound, IsTaken, HasGrown, AreKept, Begins, IsBeyond, IsFilledAt};
 
-use life_core::runs::first_from;
-use life_core::{Cell, Run};
+use life_core::{Cell, Run, first_from};
 use std::alloc::{AllocError, Allocator};
 
 /// Takes out the runs that are joined to the start by cells that are left. What is left of a run that

@@ -8,9 +8,7 @@ ghost use Rattle.life_census.specs.SurveyState.{phases_of, ArePhases, IsShape, I
 
 use crate::code_text::CodeText;
 use life_code::{Kind, PERIOD_LIMIT, code_of_kind, kind};
-use life_core::{
-    Cell, CellList, Fault, PackedRows, Pattern, Plane, Rule, is_packed, list_runs,
-};
+use life_core::{Cell, CellList, Fault, PackedRows, Pattern, Plane, Rule, is_packed, list_runs};
 use std::alloc::{AllocError, Allocator};
 
 /// A shape that was met: the first cluster that has it, its code, if it has one, and the cells of all

@@ -11,8 +11,7 @@ use crate::document::put_front;
 use crate::extent::extent_of;
 use crate::numbers::put_numbered;
 use crate::runs::put_path;
-use life_core::runs::list_runs;
-use life_core::{Cell, Fault, GENERATION_LIMIT, Pattern, Rule, generation};
+use life_core::{Cell, Fault, GENERATION_LIMIT, Pattern, Rule, generation, list_runs};
 use life_rle::{Record, Text};
 use std::alloc::Allocator;
 

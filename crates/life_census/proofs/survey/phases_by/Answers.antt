@@ -15,5 +15,5 @@ loop-i-preserved g c =
     let more : suc c.loop-i._i ≡ c.loop-i._i + 1 = omega arith in
     record {
       phase = c.in_ok-step.ensures.ok ∙ ap (next c.args.rule.now) c.loop-i.invariant.phase ∙ ap (generation_of c.args.rule.now c.args.cluster.now) more;
-      cells = more_phases c.args.rule.now c.args.cluster.now c.in_ok-to_pattern.field-0 c.loop-i._i _ _ _ (c.in_ok-to_pattern.ensures ∙ c.loop-i.invariant.phase) c.in_ok-list_runs.ensures (c.runs.ensures.cells ∙ c.cells-in-loop-i.ensures.cells) c.loop-i.invariant.cells;
+      cells = more_phases c.args.rule.now c.args.cluster.now c.in_ok-to_pattern.field-0 c.loop-i._i _ _ _ (c.in_ok-to_pattern.ensures ∙ c.loop-i.invariant.phase) c.in_ok-list_runs.ensures.cells (c.runs.ensures.cells ∙ c.cells-in-loop-i.ensures.cells) c.loop-i.invariant.cells;
     }

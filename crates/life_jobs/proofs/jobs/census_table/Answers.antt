@@ -6,10 +6,14 @@ use Rattle.life_rle.specs.Record.{Contents}
 use Rattle.life_jobs.proofs.JobsLemmas.{table_of_record}
 use Rattle.life_jobs.proofs.jobs.census_table.Goals as goal
 
-pub tally-requires-clause-room : goal.tally-requires-clause-room
-tally-requires-clause-room c =
+pub tally-requires : goal.tally-requires
+tally-requires c =
     let inside = subst (λ (X : Cells). IsWithin (1024 - 1) X) (sym (ap (λ (r : Contents). r.cells) c.record.view_is)) c.requires.inside in
-    within_more ((1024 - 1) + c.args.n) 400000000 _ (omega (arith, c.requires.few)) (c.in_ok-cells.ensures.grown (1024 - 1) inside)
+    record {
+      from_one = c.requires.limit.0;
+      few = c.requires.limit.1;
+      room = within_more ((1024 - 1) + c.args.n) 400000000 _ (omega (arith, c.requires.few)) (c.in_ok-cells.ensures.grown (1024 - 1) inside);
+    }
 
 pub returns : goal.returns
 returns c =

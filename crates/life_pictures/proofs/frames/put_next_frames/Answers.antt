@@ -3,9 +3,11 @@ use Rattle.life_pictures.specs.FramesState.{IsCornerOf}
 use Rattle.life_pictures.proofs.FramesLemmas.{roomy, in_plane, next_one, one_more_frame}
 use Rattle.life_pictures.proofs.frames.put_next_frames.Goals as goal
 
-pub generation-requires-clause-room : goal.generation-requires-clause-room
-generation-requires-clause-room g c =
-    in_plane c.loop-i.now (roomy c.args.rule.now c.args.start.now c.loop-i.now c.loop-i._i c.loop-i.invariant.now (omega (arith, c.loop-i-test.true, c.requires.few)) c.requires.within)
+pub generation-requires : goal.generation-requires
+generation-requires g c = record {
+  few = omega arith;
+  room = in_plane c.loop-i.now (roomy c.args.rule.now c.args.start.now c.loop-i.now c.loop-i._i c.loop-i.invariant.now (omega (arith, c.loop-i-test.true, c.requires.few)) c.requires.within);
+}
 
 pub put_frame-requires-clause-pattern : goal.put_frame-requires-clause-pattern
 put_frame-requires-clause-pattern g c =

@@ -10,13 +10,15 @@ use Rattle.life_pictures.specs.Frames.{trail_cells, trail}
 use Rattle.life_pictures.proofs.FramesLemmas.{roomy, in_plane, near_cells, next_one, one_more}
 use Rattle.life_pictures.proofs.frames.trail.Goals as goal
 
-pub generation-requires-clause-room : goal.generation-requires-clause-room
-generation-requires-clause-room g c =
-    in_plane c.loop-i.now (roomy c.args.rule.now c.args.start.now c.loop-i.now c.loop-i._i c.loop-i.invariant.now (omega (arith, c.loop-i-test.true, c.requires.few)) c.requires.within)
+pub generation-requires : goal.generation-requires
+generation-requires g c = record {
+  few = omega arith;
+  room = in_plane c.loop-i.now (roomy c.args.rule.now c.args.start.now c.loop-i.now c.loop-i._i c.loop-i.invariant.now (omega (arith, c.loop-i-test.true, c.requires.few)) c.requires.within);
+}
 
 pub loop-i-preserved : goal.loop-i-preserved
 loop-i-preserved g c =
-    let listed = c.in_ok-list_runs.ensures ∙ ap (λ (cs : List Cell). c.loop-i.cells.items ++ cs) c.runs.ensures.cells in
+    let listed = c.in_ok-list_runs.ensures.cells ∙ ap (λ (cs : List Cell). c.loop-i.cells.items ++ cs) c.runs.ensures.cells in
     record {
       cells = listed ∙ one_more c.args.rule.now c.args.start.now c.loop-i.now c.loop-i._i _ _ c.loop-i.invariant.cells c.loop-i.invariant.now c.cells.ensures.cells;
       within =

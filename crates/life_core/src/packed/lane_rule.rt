@@ -1,4 +1,4 @@
-//! Rules by which several words of a row go on at once.
+//! Rules by which several words of a row evolve at once.
 ghost use Rattle.std.specs.Prelude.{◌≡◌};
 ghost use Rattle.life_core.specs.Rule.{RuleSets, life};
 ghost use Rattle.life_core.specs.PackedLanesState.{AreNextLanes};
@@ -6,11 +6,14 @@ ghost use Rattle.life_core.specs.PackedLanesState.{AreNextLanes};
 use crate::packed::lanes::life_lanes;
 use std::simd::prelude::*;
 
-/// A rule by which `N` words of a row go on at once.
-pub(crate) trait LaneRule<const N: usize> {
-    // It evolves by this rule.
+/// A form of a rule, of whatever number of words that evolve at once.
+pub(crate) trait Evolves {
+    // It is a form of this rule.
     ghost is_of: { Self → RuleSets → Type 0 };
+}
 
+/// A form of a rule, by which `N` words of a row evolve at once.
+pub(crate) trait LaneRule<const N: usize>: Evolves {
     /// The places that are live next, by the digits of the sums of the row above, of the two beside
     /// each place, and of the row below.
     fn next_lanes(
@@ -23,16 +26,18 @@ pub(crate) trait LaneRule<const N: usize> {
         below: Simd<u64, N>,
         below2: Simd<u64, N>,
     ) -> Simd<u64, N>
-        ensures { (r : RuleSets) → is_of self.now r → AreNextLanes r N here.entry above.entry above2.entry sides.entry sides2.entry below.entry below2.entry result };
+        ensures { (r : RuleSets) → Self.is_of self.now r → AreNextLanes r N here.entry above.entry above2.entry sides.entry sides2.entry below.entry below2.entry result };
 }
 
 /// Conway's Life, which has a shorter way of its own.
 #[derive(Clone, Copy)]
 pub(crate) struct ConwayLife;
 
-impl<const N: usize> LaneRule<N> for ConwayLife {
+impl Evolves for ConwayLife {
     ghost is_of = { λ s r. r ≡ life };
+}
 
+impl<const N: usize> LaneRule<N> for ConwayLife {
     #[inline(always)]
     fn next_lanes(
         &self,

@@ -62,8 +62,8 @@ fn column_step<R: LaneRule<2>>(
 
 /// Steps two marked blocks that are neighbours in a line, at once. Their marks are cleared.
 #[inline(always)]
-fn pair_step<W: LaneRule<4>>(
-    wide: &W,
+fn pair_step<R: LaneRule<4>>(
+    rule: &R,
     columns: usize,
     line: usize,
     column: usize,
@@ -86,14 +86,14 @@ fn pair_step<W: LaneRule<4>>(
     ensures next_lines { KeepsMarks next_lines.old next_lines.new }
     ensures others { (j : ℕ) → j ≢ mark_at columns line column → j ≢ mark_at columns line (column + 1) → slice_index_or marks.new j false ≡ slice_index_or marks.old j false }
     ensures rest { (j : ℕ) → IsOutside 4 (block_at columns line column) (2 * columns) 16 j → slice_index_or out.new j 0 ≡ slice_index_or out.old j 0 }
-    ensures left { (r : RuleSets) → W.is_of wide.now r → IsStepped (flat_next r rows.now (64 * (2 * columns))) columns line column marks.old out.old out.new next_marks.new next_lines.new }
-    ensures right { (r : RuleSets) → W.is_of wide.now r → IsStepped (flat_next r rows.now (64 * (2 * columns))) columns line (column + 1) marks.old out.old out.new next_marks.new next_lines.new }
+    ensures left { (r : RuleSets) → R.is_of rule.now r → IsStepped (flat_next r rows.now (64 * (2 * columns))) columns line column marks.old out.old out.new next_marks.new next_lines.new }
+    ensures right { (r : RuleSets) → R.is_of rule.now r → IsStepped (flat_next r rows.now (64 * (2 * columns))) columns line (column + 1) marks.old out.old out.new next_marks.new next_lines.new }
 {
     let b = 1 + line * columns + column;
     marks[b] = false;
     marks[b + 1] = false;
     let changes = wide_step(
-        wide,
+        rule,
         rows,
         2 * columns,
         16 * line * (2 * columns) + 2 * column,
@@ -135,9 +135,8 @@ fn are_marked(columns: usize, line: usize, column: usize, marks: &[bool]) -> boo
 /// Steps the block in a line and a column, together with its right neighbour if both are marked. The result is the column that
 /// follows.
 #[inline(always)]
-fn columns_step<R: LaneRule<2>, W: LaneRule<4>>(
+fn columns_step<R: LaneRule<2> + LaneRule<4>>(
     rule: &R,
-    wide: &W,
     columns: usize,
     line: usize,
     column: usize,
@@ -160,11 +159,11 @@ fn columns_step<R: LaneRule<2>, W: LaneRule<4>>(
     ensures next_lines { KeepsMarks next_lines.old next_lines.new }
     ensures others { (j : ℕ) → mark_at columns line result ≤ j → slice_index_or marks.new j false ≡ slice_index_or marks.old j false }
     ensures rest { (j : ℕ) → ((c : ℕ) → column ≤ c → c < result → IsOutside 2 (block_at columns line c) (2 * columns) 16 j) → slice_index_or out.new j 0 ≡ slice_index_or out.old j 0 }
-    ensures blocks { (r : RuleSets) (c : ℕ) → R.is_of rule.now r → W.is_of wide.now r → column ≤ c → c < result → IsStepped (flat_next r rows.now (64 * (2 * columns))) columns line c marks.old out.old out.new next_marks.new next_lines.new }
+    ensures blocks { (r : RuleSets) (c : ℕ) → R.is_of rule.now r → column ≤ c → c < result → IsStepped (flat_next r rows.now (64 * (2 * columns))) columns line c marks.old out.old out.new next_marks.new next_lines.new }
 {
     if are_marked(columns, line, column, marks) {
         pair_step(
-            wide, columns, line, column, rows, marks, out, next_marks, next_lines,
+            rule, columns, line, column, rows, marks, out, next_marks, next_lines,
         );
         return column + 2;
     }
@@ -175,9 +174,8 @@ fn columns_step<R: LaneRule<2>, W: LaneRule<4>>(
 }
 
 /// The blocks of a line that are marked.
-fn line_step<R: LaneRule<2>, W: LaneRule<4>>(
+fn line_step<R: LaneRule<2> + LaneRule<4>>(
     rule: &R,
-    wide: &W,
     columns: usize,
     line: usize,
     rows: &[u64],
@@ -197,20 +195,19 @@ fn line_step<R: LaneRule<2>, W: LaneRule<4>>(
     ensures next_lines { KeepsMarks next_lines.old next_lines.new }
     ensures others { (j : ℕ) → mark_at columns (line + 1) 0 ≤ j → slice_index_or marks.new j false ≡ slice_index_or marks.old j false }
     ensures rest { (j : ℕ) → (j < block_at columns line 0) ⊎ (block_at columns (line + 1) 0 ≤ j) → slice_index_or out.new j 0 ≡ slice_index_or out.old j 0 }
-    ensures blocks { (r : RuleSets) (column : ℕ) → R.is_of rule.now r → W.is_of wide.now r → column < columns → IsStepped (flat_next r rows.now (64 * (2 * columns))) columns line column marks.old out.old out.new next_marks.new next_lines.new }
+    ensures blocks { (r : RuleSets) (column : ℕ) → R.is_of rule.now r → column < columns → IsStepped (flat_next r rows.now (64 * (2 * columns))) columns line column marks.old out.old out.new next_marks.new next_lines.new }
 {
     let mut column = 0;
     while column < columns {
         column = columns_step(
-            rule, wide, columns, line, column, rows, marks, out, next_marks, next_lines,
+            rule, columns, line, column, rows, marks, out, next_marks, next_lines,
         );
     }
 }
 
 /// The blocks of a line that are marked, if the line is. Its mark is taken away.
-fn marked_line_step<R: LaneRule<2>, W: LaneRule<4>>(
+fn marked_line_step<R: LaneRule<2> + LaneRule<4>>(
     rule: &R,
-    wide: &W,
     columns: usize,
     line: usize,
     rows: &[u64],
@@ -234,21 +231,20 @@ fn marked_line_step<R: LaneRule<2>, W: LaneRule<4>>(
     ensures others { (j : ℕ) → mark_at columns (line + 1) 0 ≤ j → slice_index_or marks.new j false ≡ slice_index_or marks.old j false }
     ensures later { (j : ℕ) → line < j → slice_index_or lines.new j false ≡ slice_index_or lines.old j false }
     ensures rest { (j : ℕ) → (j < block_at columns line 0) ⊎ (block_at columns (line + 1) 0 ≤ j) → slice_index_or out.new j 0 ≡ slice_index_or out.old j 0 }
-    ensures blocks { (r : RuleSets) (column : ℕ) → R.is_of rule.now r → W.is_of wide.now r → column < columns → IsAdvanced (flat_next r rows.now (64 * (2 * columns))) columns line column marks.old lines.old out.old out.new next_marks.new next_lines.new }
+    ensures blocks { (r : RuleSets) (column : ℕ) → R.is_of rule.now r → column < columns → IsAdvanced (flat_next r rows.now (64 * (2 * columns))) columns line column marks.old lines.old out.old out.new next_marks.new next_lines.new }
 {
     if !lines[line] {
         return;
     }
     lines[line] = false;
     line_step(
-        rule, wide, columns, line, rows, marks, out, next_marks, next_lines,
+        rule, columns, line, rows, marks, out, next_marks, next_lines,
     );
 }
 
 /// All lines but the first and the last.
-pub(crate) fn advance_blocks<R: LaneRule<2>, W: LaneRule<4>>(
+pub(crate) fn advance_blocks<R: LaneRule<2> + LaneRule<4>>(
     rule: &R,
-    wide: &W,
     columns: usize,
     rows: &[u64],
     marks: &mut [bool],
@@ -268,11 +264,11 @@ pub(crate) fn advance_blocks<R: LaneRule<2>, W: LaneRule<4>>(
     ensures next_marks { KeepsMarks next_marks.old next_marks.new }
     ensures next_lines { KeepsMarks next_lines.old next_lines.new }
     ensures guards { (j : ℕ) → (j < block_at columns 1 0) ⊎ (block_at columns (length lines.old - 1) 0 ≤ j) → slice_index_or out.new j 0 ≡ slice_index_or out.old j 0 }
-    ensures blocks { (r : RuleSets) (line column : ℕ) → R.is_of rule.now r → W.is_of wide.now r → 1 ≤ line → line + 2 ≤ length lines.old → column < columns → IsAdvanced (flat_next r rows.now (64 * (2 * columns))) columns line column marks.old lines.old out.old out.new next_marks.new next_lines.new }
+    ensures blocks { (r : RuleSets) (line column : ℕ) → R.is_of rule.now r → 1 ≤ line → line + 2 ≤ length lines.old → column < columns → IsAdvanced (flat_next r rows.now (64 * (2 * columns))) columns line column marks.old lines.old out.old out.new next_marks.new next_lines.new }
 {
     for line in 1..lines.len() - 1 {
         marked_line_step(
-            rule, wide, columns, line, rows, marks, lines, out, next_marks, next_lines,
+            rule, columns, line, rows, marks, lines, out, next_marks, next_lines,
         );
     }
 }

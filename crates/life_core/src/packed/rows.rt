@@ -254,7 +254,6 @@ fn rule_blocks(
     if rule.is_life() {
         advance_blocks(
             &ConwayLife,
-            &ConwayLife,
             columns,
             rows,
             marks,
@@ -267,6 +266,6 @@ fn rule_blocks(
     }
     let form = RuleForm::of(rule);
     advance_blocks(
-        &form, &form, columns, rows, marks, lines, out, next_marks, next_lines,
+        &form, columns, rows, marks, lines, out, next_marks, next_lines,
     );
 }

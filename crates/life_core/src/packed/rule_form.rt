@@ -1,4 +1,4 @@
-//! Rules as normal forms, by which several words of a row go on at once.
+//! Rules as normal forms, by which several words of a row evolve at once.
 ghost use Rattle.std.specs.Prelude.{◌≡◌, ℕ, ◌+◌, ◌*◌, ◌%◌, ◌≤◌, ◌<◌, length, min, nat_eq, slice_index_or, if◌then◌else◌};
 ghost use Rattle.std.specs.Int.{bit_at};
 ghost use Rattle.life_core.specs.PackedRow.{place, one_if};
@@ -6,7 +6,7 @@ ghost use Rattle.life_core.specs.Rule.{RuleSets};
 ghost use Rattle.life_core.specs.PackedLanesState.{AreNextLanes};
 ghost use Rattle.life_core.specs.PackedRuleFormState.{toggled_bit, part_bit, form_bit, AreParts, IsForm};
 
-use crate::packed::lane_rule::LaneRule;
+use crate::packed::lane_rule::{Evolves, LaneRule};
 use crate::packed::lanes::{carry, odd};
 use crate::rule::Rule;
 use std::simd::prelude::*;
@@ -175,9 +175,11 @@ fn rule_lanes<const N: usize>(
     )
 }
 
-impl<const N: usize> LaneRule<N> for RuleForm {
+impl Evolves for RuleForm {
     ghost is_of = { λ m r. IsForm r m };
+}
 
+impl<const N: usize> LaneRule<N> for RuleForm {
     #[inline(always)]
     fn next_lanes(
         &self,

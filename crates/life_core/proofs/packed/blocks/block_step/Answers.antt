@@ -30,7 +30,7 @@ loop-i-preserved g c =
     let k = c.loop-i.k in
     let i = c.loop-i._i in
     let inv = c.loop-i.invariant in
-    let row : (r : RuleSets) → g.R.LaneRule.is_of c.args.rule.now r → IsRowStep 2 (flat_next r rows (64 * words)) k c.loop-i.out c.block_row-changed.new.out c.block_row-changed.result =
+    let row : (r : RuleSets) → g.R.Evolves.is_of c.args.rule.now r → IsRowStep 2 (flat_next r rows (64 * words)) k c.loop-i.out c.block_row-changed.new.out c.block_row-changed.result =
     (λ r is. c.block_row-changed.ensures.row r rows words is (omega (arith, inv.at, c.requires.first)) inv.above inv.here c.row_sums-below.ensures) in
     let back : k ≡ k + words - words = omega arith in
     let size : length c.loop-i.all ≡ length c.block_row-changed.result = omega arith in

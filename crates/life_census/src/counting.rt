@@ -3,7 +3,7 @@ ghost use Rattle.std.specs.Prelude.{◌≡◌, ℕ, List, Option, ◌+◌, ◌<�
 ghost use Rattle.std.specs.List.{All};
 ghost use Rattle.life_core.specs.Pattern.{Cells, IsWithin};
 ghost use Rattle.life_code.specs.Codes.{code_of};
-ghost use Rattle.life_code.specs.Period.{kind_of, IsSearchable};
+ghost use Rattle.life_code.specs.Period.{kind_of, IsSearchable, IsKindOf};
 ghost use Rattle.life_census.specs.Parts.{parts};
 ghost use Rattle.life_census.specs.Rows.{row_seen};
 ghost use Rattle.life_census.specs.Counting.{IsTally};
@@ -46,9 +46,7 @@ pub fn tally_of_one<A: Allocator + Copy>(
     limit: u32,
     kind: Kind,
 ) -> Result<Tally<A>, Fault>
-    requires few { limit ≤ PERIOD_LIMIT }
-    requires room { IsWithin 400_000_000 cluster.now }
-    requires kind { kind ≡ kind_of rule.now cluster.now limit }
+    requires { IsKindOf rule.now cluster.now limit kind }
     ensures { IfOk result (IsTally (λ P. code_of rule.now P limit) (cluster.now ∷ [])) }
 {
     let code = code_of_cluster(alloc, rule, cluster, limit, kind)?;

@@ -2,7 +2,7 @@
 ghost use Rattle.std.specs.Prelude.{◌≡◌, ℕ, ◌≤◌, ◌++◌, ◌∷◌, [], IfOk, IfSome, IsTrue, OnOk, OnErr, MatchOption};
 ghost use Rattle.life_core.specs.Pattern.{IsWithin};
 ghost use Rattle.life_code.specs.Codes.{code_of};
-ghost use Rattle.life_code.specs.Period.{kind_of, IsSearchable};
+ghost use Rattle.life_code.specs.Period.{kind_of, IsSearchable, IsKindOf};
 ghost use Rattle.life_census.specs.Steady.{Stays, is_staying};
 ghost use Rattle.life_census.specs.SurveyState.{phases_of, ArePhases, IsShape, IsSurvey, HasShapeAt, HasCodeAt};
 
@@ -97,9 +97,7 @@ pub fn code_of_cluster<A: Allocator + Copy>(
     limit: u32,
     kind: Kind,
 ) -> Result<Option<CodeText<A>>, Fault>
-    requires few { limit ≤ PERIOD_LIMIT }
-    requires room { IsWithin 400_000_000 cluster.now }
-    requires kind { kind ≡ kind_of rule.now cluster.now limit }
+    requires { IsKindOf rule.now cluster.now limit kind }
     ensures { IfOk result (λ o. o ≡ code_of rule.now cluster.now limit) }
 {
     match code_of_kind(alloc, rule, cluster, limit, kind)? {
@@ -124,9 +122,7 @@ fn listed_phases<A: Allocator + Copy>(
     kind: Kind,
     listed: bool,
 ) -> Result<Option<Vec<Cell, A>>, Fault>
-    requires few { limit ≤ PERIOD_LIMIT }
-    requires room { IsWithin 400_000_000 cluster.now }
-    requires kind { kind ≡ kind_of rule.now cluster.now limit }
+    requires { IsKindOf rule.now cluster.now limit kind }
     ensures { IfOk result (λ o. IsTrue listed → MatchOption o (Stays rule.now limit cluster.now → ⊥) (λ v. ArePhases rule.now limit cluster.now v.items)) }
 {
     if !listed {

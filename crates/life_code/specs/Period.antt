@@ -64,6 +64,12 @@ pub record IsSearchable (limit : ℕ) (X : Cells) : Type 0 where
   pub few : limit ≤ PERIOD_LIMIT
   pub room : IsWithin 400000000 X
 
+-- the kind of X under a limit that may be asked for, and no generation up to that leaves the plane
+pub record IsKindOf (r : RuleSets) (X : Cells) (limit : ℕ) (k : Kind) : Type 0 where
+  pub few : limit ≤ PERIOD_LIMIT
+  pub room : IsWithin 400000000 X
+  pub kind : k ≡ kind_of r X limit
+
 -- Ok with the kind of X under the limit, and with what the kind says, or an Err
 pub record GivesKind {E : Type 0} (r : RuleSets) (X : Cells) (limit : ℕ) (result : Result Kind E) : Type 0 where
   pub value : IfOk result (λ k. k ≡ kind_of r X limit)

@@ -1,7 +1,7 @@
 //! Patterns with their codes.
 ghost use Rattle.std.specs.Prelude.{◌≡◌, ◌≢◌, ◌≤◌, ◌↔◌, None, Some, IfOk, IsTrue, MatchOption};
 ghost use Rattle.life_core.specs.Pattern.{Cells, IsWithin};
-ghost use Rattle.life_code.specs.Period.{kind_of, IsSearchable};
+ghost use Rattle.life_code.specs.Period.{kind_of, IsSearchable, IsKindOf};
 ghost use Rattle.life_code.specs.Codes.{code_of, Same};
 ghost use Rattle.life_code.specs.Object.{IsCodeOf};
 
@@ -52,9 +52,7 @@ pub fn code_of_kind<A: Allocator + Copy>(
     limit: u32,
     kind: Kind,
 ) -> Result<Option<Coded<A>>, Fault>
-    requires few { limit ≤ PERIOD_LIMIT }
-    requires room { IsWithin 400_000_000 pattern.now }
-    requires kind { kind ≡ kind_of rule.now pattern.now limit }
+    requires { IsKindOf rule.now pattern.now limit kind }
     ensures { IfOk result (IsCodeOf rule.now pattern.now limit) }
 {
     match code_by_kind(alloc, rule, pattern, kind)? {

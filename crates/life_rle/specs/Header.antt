@@ -1,7 +1,7 @@
 -- The form of the header line: `x = W, y = H`, and `, rule = R` where a rule is given (LifeWiki, "Run Length Encoded").
 use Rattle.std.specs.Prelude.{ℕ, codes, Bool, not, ◌||◌, List, [], ◌∷◌, length, ◌==◌, if◌then◌else◌, slice_index, Option, Some, None, Result, Ok, Err}
 use Rattle.std.specs.Char.{is_ascii_digit, to_ascii_lowercase}
-use Rattle.life_core.specs.RuleText.{after_while}
+use Rattle.life_core.specs.RuleText.{after_while, ◌>>=◌}
 use Rattle.life_rle.specs.declared.fault.RleFault.{RleFault}
 use Rattle.life_rle.specs.declared.fault.RleFault.TheVariants.{NoHeader, BadHeader}
 
@@ -19,13 +19,6 @@ past_digits text = after_while is_ascii_digit text
 abbrev pub after_number : List ℕ → Option (List ℕ)
 after_number [] = None
 after_number (b ∷ text) = if is_ascii_digit b then Some (past_digits text) else None
-
--- nothing, or what follows from what was read
-infixl 10 ◌>>=◌
--- nothing, or what follows from what was read
-abbrev pub ◌>>=◌ : {A B : Type 0} → Option A → (A → Option B) → Option B
-None >>= f = None
-(Some x) >>= f = f x
 
 -- nothing, or `,rule=` and a rule text
 unfoldable pub rule_part : List ℕ → Option (Option (List ℕ))

@@ -17,8 +17,12 @@ kind-requires g c = record {
   room = spelled_room c.args.text.now _ 400000000 (omega arith) (rw c.in-Some.is at c.in_ok-pattern.ensures);
 }
 
-pub code_of_kind-requires-clause-room : goal.code_of_kind-requires-clause-room
-code_of_kind-requires-clause-room g c = spelled_room c.args.text.now _ 400000000 (omega arith) (rw c.in-Some.is at c.in_ok-pattern.ensures)
+pub code_of_kind-requires : goal.code_of_kind-requires
+code_of_kind-requires g c = record {
+  few = c.requires.few;
+  room = spelled_room c.args.text.now _ 400000000 (omega arith) (rw c.in-Some.is at c.in_ok-pattern.ensures);
+  kind = c.in_ok-kind.ensures.value;
+}
 
 pub returns-in-Unresolved-clause-refused : goal.returns-in-Unresolved-clause-refused
 returns-in-Unresolved-clause-refused g c = (c.in-Some.pattern, rw c.in-Some.is at c.in_ok-pattern.ensures, sym c.in_ok-kind.ensures.value ∙ c.in-Unresolved.is)

@@ -11,8 +11,8 @@ use crate::symmetry::Symmetry;
 use clap::error::ErrorKind;
 use clap::{Arg, ArgMatches, Command, Error};
 use life_words::{
-    WordFault, named_command, number_arg, number_in, program_command, text_arg, text_in, with_arg,
-    with_command,
+    WordFault, generation_arg, limit_arg, named_command, number_arg, number_in, program_command,
+    text_arg, text_in, with_arg, with_command,
 };
 use std::alloc::{AllocError, Global};
 use std::convert::AsStr;
@@ -80,47 +80,7 @@ fn root_arg<'a>(alloc: Global) -> Arg<'a>
     ensures rule { rule_of result ≡ text_rule (codes "ROOT") }
     ensures local { result.global ≡ false }
 {
-    text_arg(alloc, "ROOT").help("The root of the soups, 1 to 64 characters of graphic ASCII")
-}
-
-// The number of the first soup.
-fn first_arg<'a>(alloc: Global) -> Arg<'a>
-    ensures rule { rule_of result ≡ number_rule (codes "FIRST") }
-    ensures local { result.global ≡ false }
-{
-    number_arg(alloc, "FIRST").help("The number of the first soup, from 0 to 9007199254740992")
-}
-
-// How many soups there are.
-fn count_arg<'a>(alloc: Global) -> Arg<'a>
-    ensures rule { rule_of result ≡ number_rule (codes "COUNT") }
-    ensures local { result.global ≡ false }
-{
-    number_arg(alloc, "COUNT").help("How many soups there are, from 1 to 1000000")
-}
-
-// The number of the generation.
-fn generation_arg<'a>(alloc: Global) -> Arg<'a>
-    ensures rule { rule_of result ≡ number_rule (codes "N") }
-    ensures local { result.global ≡ false }
-{
-    number_arg(alloc, "N").help("The number of the generation, from 0 to 2048")
-}
-
-// The limit of the period.
-fn limit_arg<'a>(alloc: Global) -> Arg<'a>
-    ensures rule { rule_of result ≡ number_rule (codes "LIMIT") }
-    ensures local { result.global ≡ false }
-{
-    number_arg(alloc, "LIMIT").help("The limit of the period, from 1 to 2048")
-}
-
-// The number of a soup.
-fn soup_number_arg<'a>(alloc: Global) -> Arg<'a>
-    ensures rule { rule_of result ≡ number_rule (codes "NUMBER") }
-    ensures local { result.global ≡ false }
-{
-    number_arg(alloc, "NUMBER").help("The number of the soup, from 0 to 9007199255740991")
+    text_arg(alloc, "ROOT", "The root of the soups, 1 to 64 characters of graphic ASCII")
 }
 
 // The command of a soup.
@@ -130,7 +90,10 @@ fn soup_command<'a>(alloc: Global) -> Result<Command<'a>, AllocError>
 {
     let command = Ok(named_command(alloc, "soup", "Prints a soup as a pattern file", SOUP_HELP));
     let command = with_arg(command, root_arg(alloc));
-    let command = with_arg(command, soup_number_arg(alloc));
+    let command = with_arg(
+        command,
+        number_arg(alloc, "NUMBER", "The number of the soup, from 0 to 9007199255740991"),
+    );
     let command = with_arg(command, rule_arg(alloc));
     with_arg(command, symmetry_arg(alloc))
 }
@@ -155,8 +118,14 @@ pub fn haul_command<'a>(alloc: Global) -> Result<Command<'a>, AllocError>
     ensures { IfOk result (λ command. app_of command ≡ haul_app) }
 {
     let command = with_arg(Ok(command_alone(alloc)), root_arg(alloc));
-    let command = with_arg(command, first_arg(alloc));
-    let command = with_arg(command, count_arg(alloc));
+    let command = with_arg(
+        command,
+        number_arg(alloc, "FIRST", "The number of the first soup, from 0 to 9007199254740992"),
+    );
+    let command = with_arg(
+        command,
+        number_arg(alloc, "COUNT", "How many soups there are, from 1 to 1000000"),
+    );
     let command = with_arg(command, generation_arg(alloc));
     let command = with_arg(command, limit_arg(alloc));
     let command = with_arg(command, rule_arg(alloc));

@@ -78,22 +78,6 @@ fn command_alone<'a>(alloc: Global) -> Command<'a>
     .subcommand_required(true)
 }
 
-// The number of the first generation.
-fn first_arg<'a>(alloc: Global) -> Arg<'a>
-    ensures rule { rule_of result ≡ number_rule (codes "FIRST") }
-    ensures local { result.global ≡ false }
-{
-    number_arg(alloc, "FIRST").help("The number of the first generation, from 0 to 2048")
-}
-
-// The number of the last generation.
-fn last_arg<'a>(alloc: Global) -> Arg<'a>
-    ensures rule { rule_of result ≡ number_rule (codes "LAST") }
-    ensures local { result.global ≡ false }
-{
-    number_arg(alloc, "LAST").help("The number of the last generation, at most FIRST + 239")
-}
-
 fn animation_command<'a>(alloc: Global) -> Result<Command<'a>, AllocError>
     ensures app { IfOk result (λ command. app_of command ≡ animation_app) }
     ensures local { IfOk result (λ command. (fields_of command).has_globals ≡ false) }
@@ -104,8 +88,14 @@ fn animation_command<'a>(alloc: Global) -> Result<Command<'a>, AllocError>
         "Prints generations of the pattern on standard input as an animated SVG document",
         ANIMATION_HELP,
     ));
-    let command = with_arg(command, first_arg(alloc));
-    with_arg(command, last_arg(alloc))
+    let command = with_arg(
+        command,
+        number_arg(alloc, "FIRST", "The number of the first generation, from 0 to 2048"),
+    );
+    with_arg(
+        command,
+        number_arg(alloc, "LAST", "The number of the last generation, at most FIRST + 239"),
+    )
 }
 
 /// The command of `life-draw`, with its subcommands in the order in which help lists them.

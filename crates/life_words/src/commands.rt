@@ -1,5 +1,5 @@
 //! What the commands of all programs have in common: how they begin, and the words of the process that they are given.
-ghost use Rattle.std.specs.Prelude.{◌≡◌, IfOk, false};
+ghost use Rattle.std.specs.Prelude.{◌≡◌, codes, IfOk, false};
 ghost use Rattle.clap.specs.Simple.{App};
 ghost use Rattle.clap.specs.Words.{Rule, new_app, app_of, rule_of, with_rule, with_subcommand};
 ghost use Rattle.life_words.specs.Words.{number_rule, text_rule, with_version};
@@ -35,20 +35,36 @@ pub fn program_command<'a>(
     named_command(alloc, name, about, help).version(VERSION)
 }
 
-/// A required argument that is a text.
-pub fn text_arg<'a>(alloc: Global, id: &'a str) -> Arg<'a>
+/// A required argument that is a text, and what help says of it.
+pub fn text_arg<'a>(alloc: Global, id: &'a str, help: &'a str) -> Arg<'a>
     ensures rule { rule_of result ≡ text_rule id.entry.now }
     ensures local { result.global ≡ false }
 {
-    Arg::new(alloc, id).required(true)
+    Arg::new(alloc, id).required(true).help(help)
 }
 
-/// A required argument that is a number.
-pub fn number_arg<'a>(alloc: Global, id: &'a str) -> Arg<'a>
+/// A required argument that is a number, and what help says of it.
+pub fn number_arg<'a>(alloc: Global, id: &'a str, help: &'a str) -> Arg<'a>
     ensures rule { rule_of result ≡ number_rule id.entry.now }
     ensures local { result.global ≡ false }
 {
-    text_arg(alloc, id).value_parser(clap::value_parser!(u64))
+    text_arg(alloc, id, help).value_parser(clap::value_parser!(u64))
+}
+
+/// The argument that is the number of a generation.
+pub fn generation_arg<'a>(alloc: Global) -> Arg<'a>
+    ensures rule { rule_of result ≡ number_rule (codes "N") }
+    ensures local { result.global ≡ false }
+{
+    number_arg(alloc, "N", "The number of the generation, from 0 to 2048")
+}
+
+/// The argument that is a limit of the period.
+pub fn limit_arg<'a>(alloc: Global) -> Arg<'a>
+    ensures rule { rule_of result ≡ number_rule (codes "LIMIT") }
+    ensures local { result.global ≡ false }
+{
+    number_arg(alloc, "LIMIT", "The limit of the period, from 1 to 2048")
 }
 
 /// The command with one more argument, if the command was made.

@@ -7,7 +7,7 @@ ghost use Rattle.life_words.specs.Words.{number_rule, number_rule_in, text_rule,
 ghost use Rattle.life_words.specs.Words.{AsksGeneration, AsksKind, number_at, text_at, object_of, census_of, deposit_of, serve_of, explain_of, job_of, Answers};
 
 use crate::commands::{
-    named_command, number_arg, program_command, text_arg, with_arg, with_command,
+    generation_arg, limit_arg, named_command, program_command, text_arg, with_arg, with_command,
 };
 use crate::explain::{explanation, refusal_names};
 use crate::fault::WordFault;
@@ -109,14 +109,6 @@ pub enum Job<'a> {
     Explain(&'a str),
 }
 
-// The word that is the number of a generation.
-fn generation_arg<'a>(alloc: Global) -> Arg<'a>
-    ensures rule { rule_of result ≡ number_rule (codes "N") }
-    ensures local { result.global ≡ false }
-{
-    number_arg(alloc, "N").help("The number of the generation, from 0 to 2048")
-}
-
 fn generation_command<'a>(alloc: Global) -> Result<Command<'a>, AllocError>
     ensures app { IfOk result (λ command. app_of command ≡ generation) }
     ensures local { IfOk result (λ command. (fields_of command).has_globals ≡ false) }
@@ -128,14 +120,6 @@ fn generation_command<'a>(alloc: Global) -> Result<Command<'a>, AllocError>
         GENERATION_HELP,
     )
     .arg(generation_arg(alloc))
-}
-
-// The word that is a limit of the period.
-fn limit_arg<'a>(alloc: Global) -> Arg<'a>
-    ensures rule { rule_of result ≡ number_rule (codes "LIMIT") }
-    ensures local { result.global ≡ false }
-{
-    number_arg(alloc, "LIMIT").help("The limit of the period, from 1 to 2048")
 }
 
 fn kind_command<'a>(alloc: Global) -> Result<Command<'a>, AllocError>
@@ -151,29 +135,13 @@ fn kind_command<'a>(alloc: Global) -> Result<Command<'a>, AllocError>
     .arg(limit_arg(alloc))
 }
 
-// The rule of a code.
-fn rule_arg<'a>(alloc: Global) -> Arg<'a>
-    ensures rule { rule_of result ≡ text_rule (codes "RULE") }
-    ensures local { result.global ≡ false }
-{
-    text_arg(alloc, "RULE").help("The rule, as B3/S23")
-}
-
-// A code.
-fn code_arg<'a>(alloc: Global) -> Arg<'a>
-    ensures rule { rule_of result ≡ text_rule (codes "CODE") }
-    ensures local { result.global ≡ false }
-{
-    text_arg(alloc, "CODE").help("The code, as xs4_33")
-}
-
 fn object_command<'a>(alloc: Global) -> Result<Command<'a>, AllocError>
     ensures app { IfOk result (λ command. app_of command ≡ object) }
     ensures local { IfOk result (λ command. (fields_of command).has_globals ≡ false) }
 {
     let command = Ok(named_command(alloc, "object", "Prints the pattern of a code", OBJECT_HELP));
-    let command = with_arg(command, rule_arg(alloc));
-    let command = with_arg(command, code_arg(alloc));
+    let command = with_arg(command, text_arg(alloc, "RULE", "The rule, as B3/S23"));
+    let command = with_arg(command, text_arg(alloc, "CODE", "The code, as xs4_33"));
     with_arg(command, limit_arg(alloc))
 }
 
@@ -196,25 +164,7 @@ fn file_arg<'a>(alloc: Global) -> Arg<'a>
     ensures rule { rule_of result ≡ file_rule }
     ensures local { result.global ≡ false }
 {
-    text_arg(alloc, "F")
-        .long("db")
-        .help("The file of the archive")
-}
-
-// The member of a deposit.
-fn member_arg<'a>(alloc: Global) -> Arg<'a>
-    ensures rule { rule_of result ≡ text_rule (codes "MEMBER") }
-    ensures local { result.global ≡ false }
-{
-    text_arg(alloc, "MEMBER").help("The member, as ann")
-}
-
-// The token of a deposit.
-fn token_arg<'a>(alloc: Global) -> Arg<'a>
-    ensures rule { rule_of result ≡ text_rule (codes "TOKEN") }
-    ensures local { result.global ≡ false }
-{
-    text_arg(alloc, "TOKEN").help("The member's token of the deposit, as t1")
+    text_arg(alloc, "F", "The file of the archive").long("db")
 }
 
 fn deposit_command<'a>(alloc: Global) -> Result<Command<'a>, AllocError>
@@ -228,8 +178,8 @@ fn deposit_command<'a>(alloc: Global) -> Result<Command<'a>, AllocError>
         DEPOSIT_HELP,
     ));
     let command = with_arg(command, file_arg(alloc));
-    let command = with_arg(command, member_arg(alloc));
-    with_arg(command, token_arg(alloc))
+    let command = with_arg(command, text_arg(alloc, "MEMBER", "The member, as ann"));
+    with_arg(command, text_arg(alloc, "TOKEN", "The member's token of the deposit, as t1"))
 }
 
 // The option `--port`.
@@ -237,10 +187,9 @@ fn port_arg<'a>(alloc: Global) -> Arg<'a>
     ensures rule { rule_of result ≡ number_rule_in (codes "P") (codes "port") 65535 }
     ensures local { result.global ≡ false }
 {
-    text_arg(alloc, "P")
+    text_arg(alloc, "P", "The port on 127.0.0.1, from 1 to 65535")
         .value_parser(ValueParser::unsigned(1, 65_535))
         .long("port")
-        .help("The port on 127.0.0.1, from 1 to 65535")
 }
 
 // The option `--connections`.
@@ -248,10 +197,9 @@ fn connections_arg<'a>(alloc: Global) -> Arg<'a>
     ensures rule { rule_of result ≡ number_rule_in (codes "N") (codes "connections") 1000000 }
     ensures local { result.global ≡ false }
 {
-    text_arg(alloc, "N")
+    text_arg(alloc, "N", "How many connections are served, from 1 to 1000000")
         .value_parser(ValueParser::unsigned(1, 1_000_000))
         .long("connections")
-        .help("How many connections are served, from 1 to 1000000")
 }
 
 fn serve_command<'a>(alloc: Global) -> Result<Command<'a>, AllocError>
@@ -274,7 +222,7 @@ fn name_arg<'a>(alloc: Global) -> Arg<'a>
     ensures rule { rule_of result ≡ text_rule (codes "NAME") }
     ensures local { result.global ≡ false }
 {
-    text_arg(alloc, "NAME").help("The name of a refusal or a fault, as no-end")
+    text_arg(alloc, "NAME", "The name of a refusal or a fault, as no-end")
 }
 
 // The command that takes this argument for its name.

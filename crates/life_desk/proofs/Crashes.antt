@@ -1,68 +1,48 @@
--- What a crash leaves of the private calls that answer a deposit or a census.
-use Rattle.std.proofs.Common.{◌≡◌, nat_lt, ℕ, Bool, true, List, [], ◌∷◌, ◌++◌, length, Option, None, Some, if◌then◌else◌, sym, ◌∙◌, ap, subst}
+-- What a crash leaves of the private calls that answer a submission.
+use Rattle.std.proofs.Common.{◌≡◌, nat_lt, ℕ, Bool, true, List, [], ◌∷◌, ◌++◌, length, Option, None, Some, if◌then◌else◌, sym, ◌∙◌, subst}
 use Rattle.sqlite_trees.specs.Tree.{Trees}
 use Rattle.life_store.specs.declared.kept.Deposit.{Deposit}
 use Rattle.life_store.specs.declared.kept.Census.{Census}
-use Rattle.life_store.specs.declared.kept.FoundDeposit.{FoundDeposit}
-use Rattle.life_store.specs.declared.kept.FoundCensus.{FoundCensus}
-use Rattle.life_store.specs.Kept.{numbered, deposit_by}
+use Rattle.life_store.specs.Kept.{numbered, census_by}
 use Rattle.life_store.specs.Tables.{ArchiveView, WasSure}
 use Rattle.life_desk.specs.declared.refusal.Refusal.TheVariants as no
-use Rattle.life_desk.specs.Archive.{Archive, census_by}
+use Rattle.life_desk.specs.Archive.{Archive}
 use Rattle.life_desk.specs.DeskState.{MeanChanged, MeanChangedWhere}
 use Rattle.life_desk.specs.LookingState.{ForAllMeant, MeansTheSame}
 use Rattle.life_desk.specs.Means.{TreesMean}
-use Rattle.life_desk.specs.Replies.{Adds, Refuses, deposit_by_token, with_deposit, census_by_token, census_of_deposit, census_verdict, with_census}
-
--- what is found under the words of a census is what is found under the bytes that are asked for
-pub census_kept_by : (A : Archive) (c : Census) (found : Option FoundCensus) (member token : List ℕ) → member ≡ c.member → token ≡ c.token → found ≡ census_by member token A.censuses
-    → found ≡ census_by c.member c.token A.censuses
-census_kept_by A c found member token one other is = is ∙ ap (λ w. census_by w token A.censuses) one ∙ ap (λ w. census_by c.member w A.censuses) other
+use Rattle.life_desk.specs.Submission.{Adds, Refuses, by_token, stored_after}
+use Rattle.life_desk.proofs.Submissions.{Kind}
+use Rattle.life_desk.specs.Replies.{has_room, with_census, census_by_token, census_of_deposit, census_verdict}
 
 -- a call that only looks, and then one that adds
 module _ {S : Type 0} (old mid : ArchiveView S) (was : WasSure old.tables mid.tables) (same : MeansTheSame old mid) (db : Trees) where
-  -- there was room for the deposit
-  pub room_for : (d : Deposit) (room : Bool) → ForAllMeant old mid (λ A. room ≡ nat_lt (length A.deposits) A.capacity) → room ≡ true
-      → MeanChanged mid (λ A. record A { deposits = A.deposits ++ d ∷ [] }) db → MeanChanged old (λ A. with_deposit A (deposit_by_token A d None)) db
-  room_for d room tells is h = (
-    was h.0,
-    λ A m.
-        let yes : nat_lt (length A.deposits) A.capacity ≡ true = sym (tells A h.0 m) ∙ is in
-        subst (λ b. TreesMean db (with_deposit A (if b then Adds d else Refuses no.Full))) (sym yes) (h.1 A (same A h.0 m)),
-  )
+  module _ {X : Type 0} (k : Kind X) (IsThere : Archive → Type 0) (x : X) where
+    -- what is stored, by what is found under the token
+    abbrev after_token : Option (ℕ × X) → Archive → Archive
+    after_token found A = k.with_list A (stored_after (k.list A) (by_token k.is_same (has_room A (k.list A)) x found))
 
-  -- its token is new
-  pub token_new : (d : Deposit) (found : Option FoundDeposit) → ForAllMeant old mid (λ A. found ≡ deposit_by d.member d.token A.deposits) → found ≡ None
-      → MeanChanged mid (λ A. with_deposit A (deposit_by_token A d None)) db → MeanChanged old (λ A. with_deposit A (deposit_by_token A d (deposit_by d.member d.token A.deposits))) db
-  token_new d found tells is h = (was h.0, λ A m. subst (λ o. TreesMean db (with_deposit A (deposit_by_token A d o))) (sym is ∙ tells A h.0 m) (h.1 A (same A h.0 m)))
-
-  module _ (c : Census) (d : Deposit) where
-    abbrev IsThere : Archive → Type 0
-    IsThere A = numbered A.deposits c.deposit ≡ Some d
-
-    -- there was room for the census
-    pub census_room_for : (room : Bool) → ForAllMeant old mid (λ A. room ≡ nat_lt (length A.censuses) A.capacity) → room ≡ true
-        → MeanChangedWhere mid IsThere (λ A. with_census A (Adds c)) db → MeanChangedWhere old IsThere (λ A. with_census A (census_by_token A c None)) db
-    census_room_for room tells is h = (
+    -- there was room
+    pub room_for : (room : Bool) → ForAllMeant old mid (λ A. room ≡ has_room A (k.list A)) → room ≡ true
+        → MeanChangedWhere mid IsThere (λ A. k.with_list A (k.list A ++ x ∷ [])) db → MeanChangedWhere old IsThere (after_token None) db
+    room_for room tells is h = (
       was h.0,
       λ A m there.
-          let yes : nat_lt (length A.censuses) A.capacity ≡ true = sym (tells A h.0 m) ∙ is in
-          subst (λ b. TreesMean db (with_census A (if b then Adds c else Refuses no.Full))) (sym yes) (h.1 A (same A h.0 m) there),
+          let yes : has_room A (k.list A) ≡ true = sym (tells A h.0 m) ∙ is in
+          subst (λ b. TreesMean db (k.with_list A (stored_after (k.list A) (if b then Adds x else Refuses no.Full)))) (sym yes) (h.1 A (same A h.0 m) there),
     )
 
     -- its token is new
-    pub census_token_new : (found : Option FoundCensus) → ForAllMeant old mid (λ A. found ≡ census_by c.member c.token A.censuses) → found ≡ None
-        → MeanChangedWhere mid IsThere (λ A. with_census A (census_by_token A c None)) db
-        → MeanChangedWhere old IsThere (λ A. with_census A (census_by_token A c (census_by c.member c.token A.censuses))) db
-    census_token_new found tells is h =
-        (was h.0, λ A m there. subst (λ o. TreesMean db (with_census A (census_by_token A c o))) (sym is ∙ tells A h.0 m) (h.1 A (same A h.0 m) there))
+    pub token_new : (found : Option (ℕ × X)) (find : Archive → Option (ℕ × X)) → ForAllMeant old mid (λ A. found ≡ find A) → found ≡ None
+        → MeanChangedWhere mid IsThere (after_token None) db → MeanChangedWhere old IsThere (λ A. after_token (find A) A) db
+    token_new found find tells is h =
+        (was h.0, λ A m there. subst (λ o. TreesMean db (after_token o A)) (sym is ∙ tells A h.0 m) (h.1 A (same A h.0 m) there))
 
-    -- its deposit is there
-    pub deposit_there : (found : Option Deposit) → ForAllMeant old mid (λ A. found ≡ numbered A.deposits c.deposit) → found ≡ Some d
-        → MeanChangedWhere mid IsThere (λ A. with_census A (census_by_token A c (census_by c.member c.token A.censuses))) db → MeanChanged old (λ A. with_census A (census_verdict A c)) db
-    deposit_there found tells is h = (
-      was h.0,
-      λ A m.
-          let there : Some d ≡ numbered A.deposits c.deposit = sym is ∙ tells A h.0 m in
-          subst (λ o. TreesMean db (with_census A (census_of_deposit A c o))) there (h.1 A (same A h.0 m) (sym there)),
-    )
+  -- the deposit of the census is there
+  pub deposit_there : (c : Census) (d : Deposit) (found : Option Deposit) → ForAllMeant old mid (λ A. found ≡ numbered A.deposits c.deposit) → found ≡ Some d
+      → MeanChangedWhere mid (λ A. numbered A.deposits c.deposit ≡ Some d) (λ A. with_census A (census_by_token A c (census_by c.member c.token A.censuses))) db → MeanChanged old (λ A. with_census A (census_verdict A c)) db
+  deposit_there c d found tells is h = (
+    was h.0,
+    λ A m any.
+        let there : Some d ≡ numbered A.deposits c.deposit = sym is ∙ tells A h.0 m in
+        subst (λ o. TreesMean db (with_census A (census_of_deposit A c o))) there (h.1 A (same A h.0 m) (sym there)),
+  )

@@ -2,6 +2,7 @@ pub mod ContentSame
 pub mod Meaning
 pub mod Runs
 pub mod Later
+pub mod Submissions
 pub mod Once
 pub mod OnceCensus
 pub mod Steps

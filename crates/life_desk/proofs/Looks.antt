@@ -4,41 +4,42 @@ use Rattle.std.specs.Result.{MatchResult}
 use Rattle.life_census.specs.Table.{csv_text}
 use Rattle.life_store.specs.declared.kept.Deposit.{Deposit}
 use Rattle.life_store.specs.declared.kept.Census.{Census}
-use Rattle.life_store.specs.declared.kept.FoundDeposit.{FoundDeposit}
-use Rattle.life_store.specs.Kept.{deposit_by}
 use Rattle.life_store.specs.Tables.{ArchiveView}
 use Rattle.life_desk.specs.declared.refusal.Refusal.TheVariants as no
 use Rattle.life_desk.specs.declared.request.Reply.{Reply}
 use Rattle.life_desk.specs.declared.request.Reply.TheVariants as says
-use Rattle.life_desk.specs.Content.{same_contents}
 use Rattle.life_desk.specs.declared.looking.CountedCensus.{CountedCensus}
 use Rattle.life_desk.specs.Archive.{Archive, tally_at, steady_at}
 use Rattle.life_desk.specs.Means.{Means}
-use Rattle.life_desk.specs.Replies.{Repeats, Refuses, deposit_by_token, deposit_reply, with_deposit, csv_reply}
+use Rattle.life_desk.specs.Submission.{Repeats, Refuses, by_token, reply_of, stored_after}
+use Rattle.life_desk.specs.Replies.{has_room, csv_reply}
+use Rattle.life_desk.proofs.Submissions.{Kind}
 
--- ---- deposits
+-- ---- submissions
 
--- the reply and the archive, by what is kept under the token
-abbrev pub Leaves : {S : Type 0} → Archive → ArchiveView S → Deposit → Option FoundDeposit → Reply → Type 0
-Leaves A new d o r = (r ≡ deposit_reply A (deposit_by_token A d o)) × Means new (with_deposit A (deposit_by_token A d o))
+module _ {X : Type 0} (k : Kind X) where
+  -- the reply and the archive, by what is stored under the token
+  abbrev pub Leaves : {S : Type 0} → Archive → ArchiveView S → X → Option (ℕ × X) → Reply → Type 0
+  Leaves A new x o r =
+      let v = by_token k.is_same (has_room A (k.list A)) x o in
+      (r ≡ reply_of k.number (k.list A) v) × Means new (k.with_list A (stored_after (k.list A) v))
 
-again_if : {S : Type 0} (A : Archive) (new : ArchiveView S) (id : ℕ) (same : Bool) (r : Reply) → r ≡ (if same then says.Deposited id else says.Refused no.TokenReused) → Means new A
-    → (r ≡ deposit_reply A (if same then Repeats id else Refuses no.TokenReused)) × Means new (with_deposit A (if same then Repeats id else Refuses no.TokenReused))
-again_if A new id true r is m = (is, m)
-again_if A new id false r is m = (is, m)
+  again_if : {S : Type 0} (A : Archive) (new : ArchiveView S) (id : ℕ) (same : Bool) (r : Reply) → r ≡ (if same then k.number id else says.Refused no.TokenReused) → Means new (k.with_list A (k.list A))
+      → (r ≡ reply_of k.number (k.list A) (if same then Repeats id else Refuses no.TokenReused)) × Means new (k.with_list A (stored_after (k.list A) (if same then Repeats id else Refuses no.TokenReused)))
+  again_if A new id true r is m = (is, m)
+  again_if A new id false r is m = (is, m)
 
-pub kept_by : (A : Archive) (d : Deposit) (found : Option FoundDeposit) (member token : List ℕ) → member ≡ d.member → token ≡ d.token → found ≡ deposit_by member token A.deposits
-    → found ≡ deposit_by d.member d.token A.deposits
-kept_by A d found member token one other is = is ∙ ap (λ w. deposit_by w token A.deposits) one ∙ ap (λ w. deposit_by d.member w A.deposits) other
+  pub told_again : {S : Type 0} (A : Archive) (new : ArchiveView S) (x : X) (found o : Option (ℕ × X)) (id : ℕ) (stored : X) (r : Reply) → found ≡ Some (id, stored) → found ≡ o
+      → r ≡ (if k.is_same stored x then k.number id else says.Refused no.TokenReused) → Means new (k.with_list A (k.list A)) → Leaves A new x o r
+  told_again A new x found o id stored r is tells told m = subst (λ o. Leaves A new x o r) (sym is ∙ tells) (again_if A new id (k.is_same stored x) r told m)
 
-pub deposit_again : {S : Type 0} (A : Archive) (new : ArchiveView S) (d : Deposit) (found o : Option FoundDeposit) (f : FoundDeposit) (r : Reply) → found ≡ Some f → found ≡ o
-    → r ≡ (if same_contents f.deposit.content d.content then says.Deposited f.id else says.Refused no.TokenReused) → Means new A → Leaves A new d o r
-deposit_again A new d found o f r is tells told m =
-    subst (λ o. Leaves A new d o r) (sym is ∙ tells) (again_if A new f.id (same_contents f.deposit.content d.content) r told m)
+  pub told_new : {E S : Type 0} (A : Archive) (new : ArchiveView S) (x : X) (found o : Option (ℕ × X)) (r : Result Reply E) → found ≡ None → found ≡ o
+      → MatchResult r (λ y. Leaves A new x None y) (λ _. Means new A) → MatchResult r (λ y. Leaves A new x o y) (λ _. Means new A)
+  told_new A new x found o r is tells done = subst (λ o. MatchResult r (λ y. Leaves A new x o y) (λ _. Means new A)) (sym is ∙ tells) done
 
-pub deposit_new : {E S : Type 0} → (A : Archive) (new : ArchiveView S) (d : Deposit) (found o : Option FoundDeposit) (r : Result Reply E) → found ≡ None → found ≡ o
-    → MatchResult r (λ x. Leaves A new d None x) (λ _. Means new A) → MatchResult r (λ x. Leaves A new d o x) (λ _. Means new A)
-deposit_new A new d found o r is tells done = subst (λ o. MatchResult r (λ x. Leaves A new d o x) (λ _. Means new A)) (sym is ∙ tells) done
+-- what is found under the words of a deposit, or a census, is what is found under the bytes that are asked for
+pub kept_by : {X : Type 0} (found : Option X) (member token member' token' : List ℕ) (find : List ℕ → List ℕ → Option X) → member ≡ member' → token ≡ token' → found ≡ find member token → found ≡ find member' token'
+kept_by found member token member' token' find one other is = is ∙ ap (λ w. find w token) one ∙ ap (λ w. find member' w) other
 
 -- ---- tallies
 

@@ -8,12 +8,10 @@ use Rattle.sqlite_trees.specs.declared.store.Store.{Ghosts}
 use Rattle.sqlite_trees.specs.Tree.{Trees}
 use Rattle.life_store.specs.declared.kept.Deposit.{Deposit}
 use Rattle.life_store.specs.declared.kept.Census.{Census}
-use Rattle.life_store.specs.Kept.{numbered, share, total_of}
+use Rattle.life_store.specs.Kept.{Tallied, numbered, share, total_of}
 use Rattle.life_store.specs.Tables.{ArchiveView, Holds, TreesHold, HoldChanged, IsTransition, HoldsTheSame, AddsDeposit, AddsCensus}
-use Rattle.life_desk.specs.Archive.{Archive, census_from, tally_at, tally_for, steady_at, steady_for, clusters_in, clusters_with}
+use Rattle.life_desk.specs.Archive.{Archive, tally_at, tally_for, steady_at, steady_for, clusters_in, clusters_with}
 use Rattle.life_census.specs.Rows.{TallyCounts}
-use Rattle.life_store.specs.declared.kept.FoundCensus.{FoundCensus}
-use Rattle.life_store.specs.Kept.{Tallied, tallied_from, found_census, is_census_of}
 use Rattle.life_desk.specs.Means.{Means, NewIsEmpty, EachHasDeposit, tallied, kept_of}
 use Rattle.life_desk.specs.DeskState.{MeanChanged, MeanChangedWhere}
 use Rattle.life_desk.specs.LookingState.{ForAllMeant, MeansTheSame}
@@ -85,17 +83,10 @@ means_census old new A c goes adds some sure m = record {
   holds = subst (λ cs. Holds new.tables (record { deposits = A.deposits; censuses = cs })) (tallied_push A.deposits A.censuses c) (adds (kept_of A) sure m.holds);
 }
 
-found_if : (b : Bool) (p : ℕ × Tallied) (o : Option (ℕ × Tallied)) (x : FoundCensus) (q : Option FoundCensus) → found_census p ≡ x → option_map found_census o ≡ q
-    → option_map found_census (if b then Some p else o) ≡ (if b then Some x else q)
-found_if true p o x q head rest = ap Some head
-found_if false p o x q head rest = rest
-
--- what is found among the censuses with their tallies is what is found among the censuses
-pub found_from : (ds : List Deposit) (id : ℕ) (member token : List ℕ) (cs : List Census)
-    → option_map found_census (tallied_from id member token (map (tallied ds) cs)) ≡ census_from id member token cs
-unfolding tallied_from census_from
-found_from ds id member token [] = refl
-found_from ds id member token (c ∷ cs) = found_if (is_census_of member token c) (id, tallied ds c) _ (record { id = id; census = c }) _ refl (found_from ds (id + 1) member token cs)
+-- the censuses without their tallies are those of the archive
+pub censuses_back : (ds : List Deposit) (cs : List Census) → map (λ (t : Tallied). t.census) (map (tallied ds) cs) ≡ cs
+censuses_back ds [] = refl
+censuses_back ds (c ∷ cs) = ap (λ (rest : List Census). c ∷ rest) (censuses_back ds cs)
 
 -- one census with its tally
 pub numbered_tallied : (ds : List Deposit) (cs : List Census) (id : ℕ) → numbered (map (tallied ds) cs) id ≡ option_map (tallied ds) (numbered cs id)
@@ -133,7 +124,7 @@ length_tallied ds (c ∷ cs) = ap suc (length_tallied ds cs)
 
 -- what a crash may leave of a deposit that is added
 pub trees_deposit : {S : Type 0} (old : ArchiveView S) (d : Deposit) (db : Trees) → HoldChanged old.tables (λ k. record k { deposits = k.deposits ++ d ∷ [] }) db → MeanChanged old (λ A. record A { deposits = A.deposits ++ d ∷ [] }) db
-trees_deposit old d db h = (h.0, λ A m. subst (λ cs. TreesHold db (record { deposits = A.deposits ++ d ∷ []; censuses = cs })) (tallied_longer A.deposits d A.censuses (each_of old A m)) (h.1 (kept_of A) (holds_of old A m)))
+trees_deposit old d db h = (h.0, λ A m any. subst (λ cs. TreesHold db (record { deposits = A.deposits ++ d ∷ []; censuses = cs })) (tallied_longer A.deposits d A.censuses (each_of old A m)) (h.1 (kept_of A) (holds_of old A m)))
 
 -- and of a census, with the tally and the flag of the deposit that is there
 pub trees_census : {S : Type 0} (old : ArchiveView S) (c : Census) (t : TallyCounts) (b : Bool) (db : Trees)

@@ -4,8 +4,7 @@ use Rattle.std.specs.List.{slice_get}
 use Rattle.std.proofs.lemmas.List.{append-nil}
 use Rattle.life_store.specs.declared.kept.Deposit.{Deposit}
 use Rattle.life_store.specs.declared.kept.Census.{Census}
-use Rattle.life_store.specs.declared.kept.FoundCensus.{FoundCensus}
-use Rattle.life_store.specs.Kept.{numbered}
+use Rattle.life_store.specs.Kept.{numbered, census_by}
 use Rattle.life_desk.specs.declared.refusal.Refusal.{Refusal}
 use Rattle.life_desk.specs.declared.refusal.Refusal.TheVariants as no
 use Rattle.life_desk.specs.declared.request.Request.{Request}
@@ -13,26 +12,28 @@ use Rattle.life_desk.specs.declared.request.Judged.{Judged}
 use Rattle.life_desk.specs.declared.request.Judged.TheVariants as good
 use Rattle.life_desk.specs.declared.request.Reply.{Reply}
 use Rattle.life_desk.specs.declared.request.Reply.TheVariants as says
-use Rattle.life_desk.specs.Archive.{Archive, census_by}
+use Rattle.life_desk.specs.Archive.{Archive}
 use Rattle.life_desk.specs.Judging.{judged}
-use Rattle.life_desk.specs.Replies.{Verdict, Refuses, Repeats, Adds, deposit_verdict, with_deposit, is_same_content, census_by_token, census_of_deposit, census_verdict, with_census, IsReply, after, after_by}
+use Rattle.life_desk.specs.Submission.{Verdict, Refuses, Repeats, Adds}
+use Rattle.life_desk.specs.Replies.{has_room, deposit_verdict, with_deposit, is_same_census, census_by_token, census_of_deposit, census_verdict, with_census, IsReply, after, after_by}
 use Rattle.life_desk.specs.Means.{EachHasDeposit}
 use Rattle.life_desk.specs.Run.{RequestStep, answers, gives_up, RequestRun, IsAnswered, IsLater}
 use Rattle.life_desk.proofs.Meaning.{each_longer, each_push}
 use Rattle.life_desk.proofs.Later.{later_same, later_later}
+use Rattle.life_desk.proofs.Submissions.{after_longer}
 use Rattle.life_desk.specs.Laws.{NothingIsLost}
 
 -- ---- nothing is lost
 
 deposit_later : (A : Archive) (v : Verdict Deposit) → IsLater A (with_deposit A v)
-deposit_later A (Refuses refusal) = later_same A
-deposit_later A (Repeats id) = later_same A
-deposit_later A (Adds d) = record { new_deposits = d ∷ []; deposits = refl; new_censuses = []; censuses = sym (append-nil A.censuses); capacity = refl }
+deposit_later A v =
+    let longer = after_longer A.deposits v in
+    record { new_deposits = longer.0; deposits = longer.1; new_censuses = []; censuses = sym (append-nil A.censuses); capacity = refl }
 
 census_later : (A : Archive) (v : Verdict Census) → IsLater A (with_census A v)
-census_later A (Refuses refusal) = later_same A
-census_later A (Repeats id) = later_same A
-census_later A (Adds c) = record { new_deposits = []; deposits = sym (append-nil A.deposits); new_censuses = c ∷ []; censuses = refl; capacity = refl }
+census_later A v =
+    let longer = after_longer A.censuses v in
+    record { new_deposits = []; deposits = sym (append-nil A.deposits); new_censuses = longer.0; censuses = longer.1; capacity = refl }
 
 after_later : (A : Archive) (w : Result Judged Refusal) → IsLater A (after_by A w)
 after_later A (Err refusal) = later_same A
@@ -66,12 +67,12 @@ deposit_each A (Refuses refusal) each = each
 deposit_each A (Repeats id) each = each
 deposit_each A (Adds d) each = each_longer A.deposits d A.censuses each
 
-census_each_token : (A : Archive) (c : Census) (o : Option FoundCensus) → IsSome (numbered A.deposits c.deposit) → EachHasDeposit A.deposits A.censuses
-    → EachHasDeposit (with_census A (census_by_token A c o)).deposits (with_census A (census_by_token A c o)).censuses
-census_each_token A c (Some found) there each =
-    elim (is_same_content found.census c) as (λ b. EachHasDeposit (with_census A (if b then Repeats found.id else Refuses no.TokenReused)).deposits (with_census A (if b then Repeats found.id else Refuses no.TokenReused)).censuses) [ true ↦ each | false ↦ each ]
+census_each_token : (A : Archive) (c : Census) (o : Option (ℕ × Census)) → IsSome (numbered A.deposits c.deposit) → EachHasDeposit A.deposits A.censuses
+    → EachHasDeposit A.deposits (with_census A (census_by_token A c o)).censuses
+census_each_token A c (Some stored) there each =
+    elim (is_same_census stored.1 c) as (λ b. EachHasDeposit A.deposits (with_census A (if b then Repeats stored.0 else Refuses no.TokenReused)).censuses) [ true ↦ each | false ↦ each ]
 census_each_token A c None there each =
-    elim (nat_lt (length A.censuses) A.capacity) as (λ b. EachHasDeposit (with_census A (if b then Adds c else Refuses no.Full)).deposits (with_census A (if b then Adds c else Refuses no.Full)).censuses) [
+    elim (has_room A A.censuses) as (λ b. EachHasDeposit A.deposits (with_census A (if b then Adds c else Refuses no.Full)).censuses) [
       | true ↦ each_push A.deposits A.censuses c each there
       | false ↦ each
     ]

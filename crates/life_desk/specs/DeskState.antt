@@ -30,13 +30,13 @@ SpeaksSurely g new result gives leaves = IfOk result (λ r. IsSureIfClean g new 
 
 -- ---- what a crash may leave of such a call
 
--- the database was sure, and whatever archive its tables meant, the trees mean what the change makes of it
-abbrev pub MeanChanged : {S : Type 0} → ArchiveView S → (Archive → Archive) → Trees → Type 0
-MeanChanged old change db = IsTrue old.tables.is_sure × ((A : Archive) → Means old A → TreesMean db (change A))
-
--- the same, where this holds of the archive
+-- the database was sure, and whatever archive its tables meant, of which this holds, the trees mean what the change makes of it
 abbrev pub MeanChangedWhere : {S : Type 0} → ArchiveView S → (Archive → Type 0) → (Archive → Archive) → Trees → Type 0
 MeanChangedWhere old where_this change db = IsTrue old.tables.is_sure × ((A : Archive) → Means old A → where_this A → TreesMean db (change A))
+
+-- the same of every archive
+abbrev pub MeanChanged : {S : Type 0} → ArchiveView S → (Archive → Archive) → Trees → Type 0
+MeanChanged old change db = MeanChangedWhere old (λ A. Unit {0}) change db
 
 -- what is acknowledged was done by a database that is sure, unless its disk has lied
 abbrev pub Promises : {S : Type 0} → Ghosts S → ArchiveView S → Result Reply Unavailable → Type 0

@@ -2,6 +2,7 @@ pub mod Refusals
 pub mod Content
 pub mod Archive
 pub mod Judging
+pub mod Submission
 pub mod Replies
 pub mod Means
 pub mod JudgingState

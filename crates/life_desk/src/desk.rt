@@ -1,12 +1,13 @@
 //! The desk: a request is judged by its own words, the archive is asked, and a reply is made.
 ghost use Rattle.std.specs.Prelude.{◌≡◌, ◌≤◌, ◌∷◌, ◌⊎◌, [], if◌then◌else◌, None, IfErr, IfOk, IsTrue, OnErr, OnOk, length, option_map, Some, true};
 ghost use Rattle.life_rle.specs.Record.{IsInside};
-ghost use Rattle.life_store.specs.Kept.{numbered, deposit_by, listed_after};
+ghost use Rattle.life_store.specs.Kept.{numbered, deposit_by, census_by, listed_after};
 ghost use Rattle.life_store.specs.Crash.{NoMore};
 ghost use Rattle.life_store.specs.Tables.{IsTransition, IsSureIfClean, HoldsTheSame, HasOrder};
 ghost use Rattle.life_desk.specs.declared.request.Reply.TheVariants as says;
 ghost use Rattle.life_desk.specs.declared.refusal.Refusal.TheVariants as refusals;
-ghost use Rattle.life_desk.specs.Replies.{Adds, deposit_by_token, deposit_verdict, deposit_reply, with_deposit, is_same_content, census_by_token, census_verdict, census_reply, with_census, file_reply, at_reply, kind_reply, shown_reply, csv_reply, IsTotal, IsReplyTo, after_all_of, is_shown};
+ghost use Rattle.life_desk.specs.Submission.{Adds};
+ghost use Rattle.life_desk.specs.Replies.{deposit_by_token, deposit_verdict, deposit_reply, with_deposit, is_same_census, census_by_token, census_verdict, census_reply, with_census, file_reply, at_reply, kind_reply, shown_reply, csv_reply, IsTotal, IsReplyTo, after_all_of, is_shown};
 ghost use Rattle.life_core.specs.Pattern.{IsWithin};
 ghost use Rattle.life_code.specs.Codes as codes;
 ghost use Rattle.life_code.specs.Period as periods;
@@ -16,7 +17,7 @@ ghost use Rattle.life_desk.specs.JudgingState.{IsGood};
 ghost use Rattle.life_desk.specs.DeskState.{Acts, ActsWhere, MeanChanged, MeanChangedWhere, Promises, SpeaksSurely};
 ghost use Rattle.life_desk.specs.Headline.{IsTheArchive, IsTheArchiveOrFaults, IsTheArchiveInMemory};
 ghost use Rattle.life_desk.specs.Run.{Answered, IsIdle, IsCrashSafe};
-ghost use Rattle.life_desk.specs.Archive.{census_by, tally_for, tally_at, tally_of_cells, steady_for};
+ghost use Rattle.life_desk.specs.Archive.{tally_for, tally_at, tally_of_cells, steady_for};
 ghost use Rattle.life_rle.specs.Writer as writer;
 ghost use Rattle.life_census.specs.Steady.{is_steady};
 ghost use Rattle.life_census.specs.Table.{csv_text};
@@ -35,16 +36,16 @@ use life_census::{Tally, csv, laws_of_tallies, tally_and_steady};
 use life_code::{CodeFault, Kind, PERIOD_LIMIT, code_of_kind, kind, open_code};
 use life_core::{Fault, GENERATION_LIMIT, Pattern, Rule, generation};
 use life_rle::{RleFault, Text, into_plain, read, write};
-use life_store::{Archive, Census, Deposit, FoundCensus, FoundDeposit, Unavailable};
+use life_store::{Archive, Census, Deposit, Unavailable};
 use sqlite::{Alter, MemStore};
 use std::alloc::Global;
 
-/// The reply to a deposit whose token is kept.
-fn kept_again(found: &FoundDeposit, deposit: &Deposit) -> Reply
-    ensures { result ≡ (if same_contents found.now.deposit.content deposit.now.content then says.Deposited found.now.id else says.Refused refusals.TokenReused) }
+/// The reply to something whose token is used: the number of what is stored under it, if that is the same.
+fn repeated(is_same: bool, number: Reply) -> Reply
+    ensures { result ≡ (if is_same then number else says.Refused refusals.TokenReused) }
 {
-    if same_contents(&found.deposit.content, &deposit.content) {
-        Reply::Deposited(found.id)
+    if is_same {
+        number
     } else {
         Reply::Refused(Refusal::TokenReused)
     }
@@ -90,7 +91,10 @@ fn keep_deposit<S: Alter>(
         deposit.member.as_bytes(),
         deposit.token.as_bytes(),
     )? {
-        Some(found) => Ok(kept_again(&found, deposit)),
+        Some((id, stored)) => Ok(repeated(
+            same_contents(&stored.content, &deposit.content),
+            Reply::Deposited(id),
+        )),
         None => keep_new(archive, alloc, deposit),
     }
 }
@@ -291,6 +295,31 @@ fn add_counted<S: Alter>(
     Ok(Reply::Counted(add_census(archive, census, &tally, steady)?))
 }
 
+/// Answers a census whose deposit is there and whose token is new.
+fn count_new<S: Alter>(
+    archive: &mut Archive<S>,
+    alloc: Global,
+    deposit: &Deposit,
+    census: &Census,
+) -> Result<Reply, Unavailable>
+    requires small { IsInside 1024 deposit.now.content.cells }
+    requires few { census.now.generation ≤ GENERATION_LIMIT }
+    requires some { 1 ≤ census.now.limit }
+    requires short { census.now.limit ≤ PERIOD_LIMIT }
+    ensures goes { IsTransition S.Store (MeanChangedWhere archive.old (λ A. numbered A.deposits census.now.deposit ≡ Some deposit.now) (λ A. with_census A (census_by_token A census.now None))) archive.old archive.new }
+    ensures told { Promises S.Store archive.new result }
+    ensures sure { OnOk result (IsSureIfClean S.Store archive.new) }
+    ensures acts { ActsWhere archive.old archive.new result
+        (λ A. numbered A.deposits census.now.deposit ≡ Some deposit.now)
+        (λ A r. r ≡ census_reply A (census_by_token A census.now None))
+        (λ A. with_census A (census_by_token A census.now None)) }
+{
+    if !has_census_room(archive)? {
+        return Ok(Reply::Refused(Refusal::Full));
+    }
+    add_counted(archive, alloc, deposit, census)
+}
+
 /// Answers a census of a deposit that is there.
 fn keep_census<S: Alter>(
     archive: &mut Archive<S>,
@@ -316,24 +345,17 @@ fn keep_census<S: Alter>(
         census.member.as_bytes(),
         census.token.as_bytes(),
     )? {
-        Some(found) => Ok(if is_same_content(&found.census, census) {
-            Reply::Counted(found.id)
-        } else {
-            Reply::Refused(Refusal::TokenReused)
-        }),
-        None => {
-            if has_census_room(archive)? {
-                add_counted(archive, alloc, deposit, census)
-            } else {
-                Ok(Reply::Refused(Refusal::Full))
-            }
-        }
+        Some((id, stored)) => Ok(repeated(
+            is_same_census(&stored, census),
+            Reply::Counted(id),
+        )),
+        None => count_new(archive, alloc, deposit, census),
     }
 }
 
-/// Whether two censuses have one content.
-fn is_same_content(a: &Census, b: &Census) -> bool
-    ensures { result ≡ is_same_content a.now b.now }
+/// Whether two censuses count the same.
+fn is_same_census(a: &Census, b: &Census) -> bool
+    ensures { result ≡ is_same_census a.now b.now }
 {
     a.deposit == b.deposit && a.generation == b.generation && a.limit == b.limit
 }

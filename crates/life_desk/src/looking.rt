@@ -2,20 +2,18 @@
 ghost use Rattle.std.specs.Prelude.{◌≡◌, ◌+◌, ◌++◌, ◌∷◌, [], Some, nat_lt, length, option_map, IfOk, IfSome, OnOk, OnErr};
 ghost use Rattle.life_rle.specs.Record.{IsInside};
 ghost use Rattle.life_rle.specs.Writer.{text};
-ghost use Rattle.life_store.specs.Kept.{numbered, deposit_by, listed_after, kept_census};
+ghost use Rattle.life_store.specs.Kept.{numbered, deposit_by, census_by, listed_after, kept_census};
 ghost use Rattle.life_store.specs.Crash.{NoMore};
 ghost use Rattle.life_store.specs.Tables.{IsTransition, HasOrder, IsSureIfClean};
 ghost use Rattle.life_store.specs.declared.kept.Deposit.{Deposit as Kept};
-ghost use Rattle.life_desk.specs.Archive.{census_by, clusters_with, tally_at, tally_for, steady_at, steady_for};
+ghost use Rattle.life_desk.specs.Archive.{clusters_with, tally_at, tally_for, steady_at, steady_for};
 ghost use Rattle.life_desk.specs.Means.{Means, tallied};
 ghost use Rattle.life_desk.specs.DeskState.{MeanChanged, MeanChangedWhere};
 ghost use Rattle.life_desk.specs.LookingState.{ForAllMeant, MeansTheSame};
 
 use life_census::{Rows, Tally};
 use life_core::Rule;
-use life_store::{
-    Archive, Census, Deposit, FoundCensus, FoundDeposit, KeptCensus, Listing, Unavailable,
-};
+use life_store::{Archive, Census, Deposit, KeptCensus, Listing, Unavailable};
 use sqlite::Alter;
 use std::alloc::Global;
 
@@ -54,7 +52,7 @@ pub(crate) fn find_deposit<S: Alter>(
     alloc: Global,
     member: &[u8],
     token: &[u8],
-) -> Result<Option<FoundDeposit>, Unavailable>
+) -> Result<Option<(u64, Deposit)>, Unavailable>
     ensures goes { IsTransition S.Store NoMore archive.old archive.new }
     ensures sure { OnOk result (IsSureIfClean S.Store archive.new) }
     ensures same { MeansTheSame archive.old archive.new }
@@ -83,7 +81,7 @@ pub(crate) fn find_census<S: Alter>(
     alloc: Global,
     member: &[u8],
     token: &[u8],
-) -> Result<Option<FoundCensus>, Unavailable>
+) -> Result<Option<(u64, Census)>, Unavailable>
     ensures goes { IsTransition S.Store NoMore archive.old archive.new }
     ensures sure { OnOk result (IsSureIfClean S.Store archive.new) }
     ensures same { MeansTheSame archive.old archive.new }

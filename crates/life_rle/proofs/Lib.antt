@@ -27,3 +27,4 @@ pub mod LawsTexts
 pub mod Vectors
 pub mod PieceLemmas
 pub mod ResultLemmas
+pub mod ReadAgain

@@ -1,15 +1,19 @@
 -- Words of the code alone: what the rows of the tables stand for (Tables.antt), part by part, as a transaction writes them.
-use Rattle.std.specs.Prelude.{◌≡◌, ◌<◌, ◌+◌, ◌^◌, ℕ, pos, Bool, false, List, [], ◌∷◌, ◌++◌, IsTrue, length}
+use Rattle.std.specs.Prelude.{◌≡◌, ◌<◌, ◌+◌, ◌^◌, ℕ, pos, Bool, false, List, [], ◌∷◌, ◌++◌, Option, IsTrue, length}
 use Rattle.sqlite_value.specs.declared.value.Value.TheVariants.{Int, Text}
 use Rattle.sqlite_value.specs.Order.{Row}
 use Rattle.sqlite_trees.specs.Tree.{Trees}
 use Rattle.sqlite.specs.Effect.{Database, IsDatabase}
 use Rattle.sqlite.specs.State.{State}
 use Rattle.life_store.specs.declared.kept.Deposit.{Deposit}
-use Rattle.life_store.specs.Kept.{Kept, Tallied}
+use Rattle.life_store.specs.Kept.{Kept, Tallied, is_census_of, first_from}
 use Rattle.life_store.specs.Layout.{archive_schema}
 use Rattle.life_store.specs.Stored.{rows_by, deposit_cells, census_cells, count_cells, flag_cells, flag_number, tagged}
 use Rattle.life_store.specs.Tables.{Tables, Holds, TreesHold}
+
+-- the first census of the member and the token, with its number, its tally and its flag
+abbrev pub tallied_by : List ℕ → List ℕ → List Tallied → Option (ℕ × Tallied)
+tallied_by member token ts = first_from (λ t. is_census_of member token t.census) 1 ts
 
 -- the rows of `layout`, and what the rows of the other tables stand for, each for a list of its own
 pub record Parts : Type 0 where

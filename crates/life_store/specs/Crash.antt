@@ -1,5 +1,5 @@
 -- What a crash leaves of a store of `sqlite`: its `recovers` is what an opening after a crash at this moment may find.
--- A crash in the middle of a call is read off the call's clause: the call that the crash cut off went as the same call does over a disk that fails from that
+-- A crash during a call is read off the call's clause: the call that the crash cut off went as the same call does over a disk that fails from that
 -- moment on. That call returns, and the clause speaks of it as of every call ("The crash argument" of the kit's `sqlite_wal`).
 use Rattle.std.specs.Prelude.{◌⊎◌}
 use Rattle.sqlite_trees.specs.declared.store.Store.{Ghosts}

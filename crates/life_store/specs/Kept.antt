@@ -1,14 +1,13 @@
 -- What is kept: deposits, and censuses each with a tally and a flag. A number is a place in its list, from 1.
-use Rattle.std.specs.Prelude.{◌&&◌, ◌+◌, ℕ, zero, suc, Bool, List, [], ◌∷◌, Option, None, Some, option_map, map, filter, take, sum_by, slice_get, nat_lt, bytes_eq, false, if◌then◌else◌}
+use Rattle.std.specs.Prelude.{◌&&◌, ◌+◌, ℕ, zero, suc, Bool, List, [], ◌∷◌, Option, None, Some, map, filter, take, sum_by, slice_get, nat_lt, bytes_eq, false, if◌then◌else◌}
 use Rattle.std.specs.FinSet as set
 use Rattle.life_core.specs.Rule.{RuleSets}
 use Rattle.life_core.specs.RuleEquality.{same_rule}
 use Rattle.life_core.specs.RuleText.{rule_text}
+use Rattle.life_rle.specs.Writer.{text}
 use Rattle.life_census.specs.Rows.{TallyCounts}
 use Rattle.life_store.specs.declared.kept.Deposit.{Deposit}
 use Rattle.life_store.specs.declared.kept.Census.{Census}
-use Rattle.life_store.specs.declared.kept.FoundDeposit.{FoundDeposit}
-use Rattle.life_store.specs.declared.kept.FoundCensus.{FoundCensus}
 use Rattle.life_store.specs.declared.kept.KeptCensus.{KeptCensus}
 use Rattle.life_store.specs.declared.kept.Listed.{Listed}
 
@@ -33,35 +32,33 @@ abbrev pub numbered : {X : Type 0} → List X → ℕ → Option X
 numbered xs zero = None
 numbered xs (suc i) = slice_get xs i
 
+-- the first element that passes the test, with its number, if the first of the list has the number `id`
+unfoldable pub first_from : {X : Type 0} → (X → Bool) → ℕ → List X → Option (ℕ × X)
+first_from test id [] = None
+first_from test id (x ∷ xs) = if test x then Some (id, x) else first_from test (id + 1) xs
+
 -- whether it is under the member and the token
 abbrev pub is_of : List ℕ → List ℕ → Deposit → Bool
 is_of member token d = bytes_eq d.member member && bytes_eq d.token token
 
--- the first deposit of the member and the token, with its number, where the first of the list has the number `id`
-unfoldable pub deposit_from : ℕ → List ℕ → List ℕ → List Deposit → Option FoundDeposit
-deposit_from id member token [] = None
-deposit_from id member token (d ∷ ds) = if is_of member token d then Some (record { id = id; deposit = d }) else deposit_from (id + 1) member token ds
-
--- the first deposit of the member and the token, with its number
-abbrev pub deposit_by : List ℕ → List ℕ → List Deposit → Option FoundDeposit
-deposit_by member token ds = deposit_from 1 member token ds
-
--- whether it is under the member and the token
 abbrev pub is_census_of : List ℕ → List ℕ → Census → Bool
 is_census_of member token c = bytes_eq c.member member && bytes_eq c.token token
 
--- the same of censuses
-unfoldable pub tallied_from : ℕ → List ℕ → List ℕ → List Tallied → Option (ℕ × Tallied)
-tallied_from id member token [] = None
-tallied_from id member token (t ∷ ts) = if is_census_of member token t.census then Some (id, t) else tallied_from (id + 1) member token ts
+-- the first deposit of the member and the token, with its number
+abbrev pub deposit_by : List ℕ → List ℕ → List Deposit → Option (ℕ × Deposit)
+deposit_by member token ds = first_from (is_of member token) 1 ds
 
--- a census as it is found, with its number
-abbrev pub found_census : ℕ × Tallied → FoundCensus
-found_census p = record { id = p.0; census = p.1.census }
+-- the canonical text of a deposit, with its number
+abbrev pub file_of_deposit : ℕ × Deposit → ℕ × List ℕ
+file_of_deposit p = (p.0, text p.1.content)
 
 -- the first census of the member and the token, with its number
-abbrev pub census_by : List ℕ → List ℕ → List Tallied → Option FoundCensus
-census_by member token ts = option_map found_census (tallied_from 1 member token ts)
+abbrev pub census_by : List ℕ → List ℕ → List Census → Option (ℕ × Census)
+census_by member token cs = first_from (is_census_of member token) 1 cs
+
+-- the censuses without their tallies and flags
+abbrev pub censuses_of : Kept → List Census
+censuses_of k = map (λ (t : Tallied). t.census) k.censuses
 
 -- the line of a deposit: number, member, population, canonical rule text
 abbrev pub listed_as : ℕ × Deposit → Listed

@@ -5,7 +5,7 @@ use Rattle.sqlite_value.specs.declared.value.Value.TheVariants.{Null, Int, Text,
 use Rattle.sqlite_value.specs.Order.{Row}
 use Rattle.life_core.specs.RuleText.{rule_text}
 use Rattle.life_rle.specs.Writer.{text}
-use Rattle.life_store.specs.declared.kept.FoundDeposit.{FoundDeposit}
+use Rattle.life_store.specs.declared.kept.Deposit.{Deposit}
 use Rattle.life_store.specs.declared.kept.Listed.{Listed}
 use Rattle.life_store.specs.Kept.{Tallied}
 use Rattle.life_store.specs.Stored.{IsFiled, flag_number}
@@ -15,15 +15,14 @@ abbrev pub newest_rows : ℕ → List Row
 newest_rows zero = []
 newest_rows (suc n) = (Int (pos (suc n)) ∷ []) ∷ []
 
-abbrev pub deposit_shown : FoundDeposit → Row
-deposit_shown f =
-    Int (pos f.id) ∷ Text f.deposit.member ∷ Text f.deposit.token ∷ Text (rule_text f.deposit.content.rule) ∷ Int (pos (set.len f.deposit.content.cells))
-    ∷ Blob (text f.deposit.content) ∷ []
+abbrev pub deposit_shown : ℕ × Deposit → Row
+deposit_shown p =
+    Int (pos p.0) ∷ Text p.1.member ∷ Text p.1.token ∷ Text (rule_text p.1.content.rule) ∷ Int (pos (set.len p.1.content.cells)) ∷ Blob (text p.1.content) ∷ []
 
 -- the first row shows the deposit, or there is no row
-abbrev pub ShowsDeposit : Option FoundDeposit → List Row → Type 0
+abbrev pub ShowsDeposit : Option (ℕ × Deposit) → List Row → Type 0
 ShowsDeposit None rows = rows ≡ []
-ShowsDeposit (Some f) rows = IsFiled f.deposit × (more : List Row) × (rows ≡ deposit_shown f ∷ more)
+ShowsDeposit (Some p) rows = IsFiled p.1 × (more : List Row) × (rows ≡ deposit_shown p ∷ more)
 
 abbrev pub line_shown : Listed → Row
 line_shown l = Int (pos l.id) ∷ Text l.member ∷ Int (pos l.population) ∷ Text l.rule ∷ []

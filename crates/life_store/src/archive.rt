@@ -1,18 +1,18 @@
 //! The archive, over any store.
 
-ghost use Rattle.std.specs.Prelude.{◌≡◌, ◌+◌, ◌++◌, ◌∷◌, [], length, option_map, IsTrue, IfOk, IfSome, OnOk, OnErr};
+ghost use Rattle.std.specs.Prelude.{◌≡◌, ◌+◌, ◌++◌, ◌∷◌, [], ℕ, List, length, option_map, IsTrue, IfOk, IfSome, OnOk, OnErr};
 ghost use Rattle.sqlite_trees.specs.Tree.{Trees};
 ghost use Rattle.sqlite.specs.Held.{state};
 ghost use Rattle.life_rle.specs.Record.{IsInside};
 ghost use Rattle.life_rle.specs.Writer.{text};
-ghost use Rattle.life_store.specs.Kept.{Kept, numbered, deposit_by, listed_after, kept_census, census_by, total_of};
+ghost use Rattle.life_store.specs.Kept.{Kept, numbered, deposit_by, file_of_deposit, listed_after, kept_census, census_by, censuses_of, total_of};
 ghost use Rattle.life_store.specs.Crash.{NoMore};
 ghost use Rattle.life_store.specs.Tables.{tables_of, IsTransition, IsSureIfClean, HoldsTheSame, ForAllHeld, HasOrder, AddsDeposit, AddsCensus, HoldChanged, TreesHold, Holds};
 
 use crate::fault::Unavailable;
-use crate::kept::{Census, Deposit, FoundCensus, FoundDeposit, KeptCensus, Listing};
+use crate::kept::{Census, Deposit, KeptCensus, Listing};
 use crate::reading::{
-    all_lines, all_rows, count_in, first_census, first_deposit, first_flag, first_text, total_in,
+    all_lines, all_rows, count_in, first_census, first_deposit, first_file, first_flag, total_in,
 };
 use crate::{censuses, deposits, flags};
 use life_census::{Rows, Tally};
@@ -108,7 +108,7 @@ impl<S: Alter> Archive<S> {
         };
         let rows = deposits::show(&mut self.conn, place)?;
         match first_deposit(alloc, rows.as_slice())? {
-            Some(found) => Ok(Some(found.deposit)),
+            Some((_, deposit)) => Ok(Some(deposit)),
             None => Ok(None),
         }
     }
@@ -127,7 +127,10 @@ impl<S: Alter> Archive<S> {
             return Ok(None);
         };
         let rows = deposits::show(&mut self.conn, place)?;
-        first_text(alloc, rows.as_slice())
+        match first_file(alloc, rows.as_slice())? {
+            Some((_, file)) => Ok(Some(file)),
+            None => Ok(None),
+        }
     }
 
     /// The deposit of the member and the token, with its number, or none.
@@ -136,15 +139,32 @@ impl<S: Alter> Archive<S> {
         alloc: Global,
         member: &[u8],
         token: &[u8],
-    ) -> Result<Option<FoundDeposit>, Unavailable>
+    ) -> Result<Option<(u64, Deposit)>, Unavailable>
         ensures goes { IsTransition S.Store NoMore self.old self.new }
         ensures sure { OnOk result (IsSureIfClean S.Store self.new) }
         ensures same { HoldsTheSame self.old.tables self.new.tables }
         ensures value { ForAllHeld self.old.tables self.new.tables (λ k. IfOk result (λ d. d ≡ deposit_by member.now token.now k.deposits)) }
-        ensures inside { IfOk result (λ o. IfSome o (λ d. IsInside 1024 d.deposit.content.cells)) }
+        ensures inside { IfOk result (λ o. IfSome o (λ d. IsInside 1024 d.1.content.cells)) }
     {
         let rows = deposits::find(&mut self.conn, member, token)?;
         first_deposit(alloc, rows.as_slice())
+    }
+
+    /// The number and the pattern file of the deposit of the member and the token, or none. The file is the canonical text
+    /// that is stored, compared as [`Archive::file_of`] does.
+    pub fn find_file(
+        &mut self,
+        alloc: Global,
+        member: &[u8],
+        token: &[u8],
+    ) -> Result<Option<(u64, Vec<u8>)>, Unavailable>
+        ensures goes { IsTransition S.Store NoMore self.old self.new }
+        ensures sure { OnOk result (IsSureIfClean S.Store self.new) }
+        ensures same { HoldsTheSame self.old.tables self.new.tables }
+        ensures value { ForAllHeld self.old.tables self.new.tables (λ k. IfOk result (λ f. option_map {U = ℕ × List ℕ} (λ p. (p.0, p.1.items)) f ≡ option_map file_of_deposit (deposit_by member.now token.now k.deposits))) }
+    {
+        let found = deposits::find(&mut self.conn, member, token)?;
+        first_file(alloc, found.as_slice())
     }
 
     /// The first hundred deposits with a greater number, a line each. Any number is good.
@@ -220,18 +240,15 @@ impl<S: Alter> Archive<S> {
         alloc: Global,
         member: &[u8],
         token: &[u8],
-    ) -> Result<Option<FoundCensus>, Unavailable>
+    ) -> Result<Option<(u64, Census)>, Unavailable>
         ensures goes { IsTransition S.Store NoMore self.old self.new }
         ensures sure { OnOk result (IsSureIfClean S.Store self.new) }
         ensures same { HoldsTheSame self.old.tables self.new.tables }
-        ensures value { ForAllHeld self.old.tables self.new.tables (λ k. IfOk result (λ c. c ≡ census_by member.now token.now k.censuses)) }
+        ensures value { ForAllHeld self.old.tables self.new.tables (λ k. IfOk result (λ c. c ≡ census_by member.now token.now (censuses_of k))) }
     {
         let rows = censuses::find(&mut self.conn, member, token)?;
         match first_census(alloc, rows.as_slice())? {
-            Some((id, kept)) => Ok(Some(FoundCensus {
-                id,
-                census: kept.census,
-            })),
+            Some((id, kept)) => Ok(Some((id, kept.census))),
             None => Ok(None),
         }
     }

@@ -76,7 +76,7 @@ fn show_deposit<S: Alter>(tx: &mut Transaction<'_, S>, id: u64) -> Result<Vec<Ro
     ensures same_reference { tx.new.conn.ghost_name ≡ tx.old.conn.ghost_name }
     ensures stays { StaysInside S.Store tx.old.conn.now tx.new.conn.now result }
     ensures tells { HasCleanDisk (state S.Store tx.new.conn.now) → (p : Parts) → AllByRecursion IsFiled p.deposits → HoldsParts (state S.Store tx.old.conn.now).now p
-        → IfOk result (λ rows. ShowsDeposit (option_map (λ d. record { id = id; deposit = d }) (numbered p.deposits id)) rows.items × HoldsParts (state S.Store tx.new.conn.now).now p) }
+        → IfOk result (λ rows. ShowsDeposit (option_map (λ d. (id, d)) (numbered p.deposits id)) rows.items × HoldsParts (state S.Store tx.new.conn.now).now p) }
 {
     let Ok(id) = i64::try_from(id) else {
         return Err(Unavailable);
@@ -132,7 +132,7 @@ fn deposit_at<S: Alter>(
 {
     let rows = show_deposit(tx, id)?;
     match first_deposit(alloc, rows.as_slice())? {
-        Some(found) => Ok(found.deposit),
+        Some((_, deposit)) => Ok(deposit),
         None => Err(Unavailable),
     }
 }

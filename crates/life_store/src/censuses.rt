@@ -9,9 +9,9 @@ ghost use Rattle.life_core.specs.Rule.{RuleSets, IsRule};
 ghost use Rattle.life_core.specs.RuleText.{rule_text};
 ghost use Rattle.life_census.specs.Rows.{row_seen};
 ghost use Rattle.life_store.specs.ReadingState.{newest_rows, ShowsCensus, ShowsTotal, row_shown};
-ghost use Rattle.life_store.specs.Kept.{Kept, Tallied, numbered, tallied_from, total_of};
+ghost use Rattle.life_store.specs.Kept.{Kept, Tallied, numbered, total_of};
 ghost use Rattle.life_store.specs.Crash.{NoMore};
-ghost use Rattle.life_store.specs.CensusesState.{Parts, HoldsParts, MeansParts, with_census, with_flag, HoldNewParts, HoldNewCensus};
+ghost use Rattle.life_store.specs.CensusesState.{tallied_by, Parts, HoldsParts, MeansParts, with_census, with_flag, HoldNewParts, HoldNewCensus};
 ghost use Rattle.life_store.specs.Stored.{tagged};
 ghost use Rattle.life_store.specs.Statements.{Withstands, Looks, StaysInside};
 ghost use Rattle.life_store.specs.Tables.{tables_of, HasOrder, Holds, WasSure, HoldsTheSame, ForAllHeld};
@@ -54,7 +54,7 @@ pub(crate) fn find<'a, S: Alter>(
     token: &'a [u8],
 ) -> Result<Vec<Row>, Error>
     ensures looks { Looks S.Store conn.old conn.new result }
-    ensures tells { ForAllHeld (tables_of (state S.Store conn.old)) (tables_of (state S.Store conn.new)) (λ k. IfOk result (λ rows. ShowsCensus (tallied_from 1 member.now token.now k.censuses) rows.items)) }
+    ensures tells { ForAllHeld (tables_of (state S.Store conn.old)) (tables_of (state S.Store conn.new)) (λ k. IfOk result (λ rows. ShowsCensus (tallied_by member.now token.now k.censuses) rows.items)) }
 {
     ask(
         conn,

@@ -31,7 +31,7 @@ pub(crate) fn newest<S: Alter>(conn: &mut Connection<S>) -> Result<Vec<Row>, Err
 /// The deposit of the number.
 pub(crate) fn show<S: Alter>(conn: &mut Connection<S>, id: i64) -> Result<Vec<Row>, Error>
     ensures looks { Looks S.Store conn.old conn.new result }
-    ensures tells { (n : ℕ) → id ≡ pos n → ForAllHeld (tables_of (state S.Store conn.old)) (tables_of (state S.Store conn.new)) (λ k. IfOk result (λ rows. ShowsDeposit (option_map (λ d. record { id = n; deposit = d }) (numbered k.deposits n)) rows.items)) }
+    ensures tells { (n : ℕ) → id ≡ pos n → ForAllHeld (tables_of (state S.Store conn.old)) (tables_of (state S.Store conn.new)) (λ k. IfOk result (λ rows. ShowsDeposit (option_map (λ d. (n, d)) (numbered k.deposits n)) rows.items)) }
 {
     ask(
         conn,

@@ -32,24 +32,6 @@ pub struct Census {
     pub limit: u32,
 }
 
-/// A deposit and its number.
-#[derive(Debug, Drop)]
-pub struct FoundDeposit {
-    /// Its number, from 1.
-    pub id: u64,
-    /// The deposit.
-    pub deposit: Deposit,
-}
-
-/// A census and its number.
-#[derive(Debug, Drop)]
-pub struct FoundCensus {
-    /// Its number, from 1.
-    pub id: u64,
-    /// The census.
-    pub census: Census,
-}
-
 /// A census, and the numbers of its tally. The tally's rows are asked for by `rows_of`.
 #[derive(Debug, Drop)]
 pub struct KeptCensus {

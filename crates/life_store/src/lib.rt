@@ -20,5 +20,5 @@ mod reading;
 
 pub use archive::Archive;
 pub use fault::{OpenFault, Unavailable};
-pub use kept::{Census, Deposit, FoundCensus, FoundDeposit, KeptCensus, Listed, Listing};
+pub use kept::{Census, Deposit, KeptCensus, Listed, Listing};
 pub use laws::laws_of_archives;

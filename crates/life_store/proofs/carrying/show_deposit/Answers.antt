@@ -15,5 +15,5 @@ returns-clause-tells g c clean p filed stands =
     let old = state g.S.Store c.args.tx.now.conn.now in
     let new = state g.S.Store c.ask_inside.new.tx.conn.now in
     let id : owned c.whole.result ≡ Int (pos c.args.id) = search rules in
-    answers_inside deposit_text (Int (pos c.args.id) ∷ []) old new c.ask_inside.result p (λ rows. ShowsDeposit (option_map (λ d. record { id = c.args.id; deposit = d }) (numbered p.deposits c.args.id)) rows) deposit_is.plain stands
+    answers_inside deposit_text (Int (pos c.args.id) ∷ []) old new c.ask_inside.result p (λ rows. ShowsDeposit (option_map (λ d. (c.args.id, d)) (numbered p.deposits c.args.id)) rows) deposit_is.plain stands
     (rw id at (c.ask_inside.ensures.shown clean)) (λ rows h. deposit_shown_at old new p.deposits rows c.args.id stands.schema stands.deposits filed h)

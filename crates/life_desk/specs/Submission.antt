@@ -1,0 +1,32 @@
+-- A submission: something is handed in under a member and a token. It is refused, or it repeats what is stored under that token, or it is added.
+use Rattle.std.specs.Prelude.{ℕ, ◌+◌, ◌++◌, Bool, List, [], ◌∷◌, length, Option, None, Some, if◌then◌else◌}
+use Rattle.life_desk.specs.declared.refusal.Refusal.{Refusal}
+use Rattle.life_desk.specs.declared.refusal.Refusal.TheVariants as no
+use Rattle.life_desk.specs.declared.request.Reply.{Reply}
+use Rattle.life_desk.specs.declared.request.Reply.TheVariants as says
+
+-- what becomes of it
+pub data Verdict (X : Type 0) : Type 0 where
+  -- it is refused
+  Refuses : Refusal → Verdict X
+  -- it is stored already, under the number
+  Repeats : ℕ → Verdict X
+  -- it is new, and there is room
+  Adds : X → Verdict X
+
+-- by when two are the same, by whether there is room, and by what is stored under its token, with its number: the token comes before the room
+abbrev pub by_token : {X : Type 0} → (X → X → Bool) → Bool → X → Option (ℕ × X) → Verdict X
+by_token is_same has_room x (Some stored) = if is_same stored.1 x then Repeats stored.0 else Refuses no.TokenReused
+by_token is_same has_room x None = if has_room then Adds x else Refuses no.Full
+
+-- the reply, where these are stored: `number` says a number
+abbrev pub reply_of : {X : Type 0} → (ℕ → Reply) → List X → Verdict X → Reply
+reply_of number xs (Refuses refusal) = says.Refused refusal
+reply_of number xs (Repeats id) = number id
+reply_of number xs (Adds x) = number (length xs + 1)
+
+-- what is stored after it
+abbrev pub stored_after : {X : Type 0} → List X → Verdict X → List X
+stored_after xs (Refuses refusal) = xs
+stored_after xs (Repeats id) = xs
+stored_after xs (Adds x) = xs ++ x ∷ []

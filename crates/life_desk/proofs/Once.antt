@@ -31,6 +31,12 @@ both_refl xs ys = rw (bytes_eq-refl xs, bytes_eq-refl ys) refl
 pub both_are : (xs ys us vs : List ℕ) → (bytes_eq xs us && bytes_eq ys vs) ≡ true → (xs ≡ us) × (ys ≡ vs)
 both_are xs ys us vs is = let parts = and_parts (bytes_eq xs us) (bytes_eq ys vs) is in ((bytes_eq-Decides xs us).0 parts.0, (bytes_eq-Decides ys vs).0 parts.1)
 
+pub one_number : (m n : ℕ) → says.Deposited m ≡ says.Deposited n → m ≡ n
+one_number m n e = cc
+
+pub no_refusal : (n : ℕ) (refusal : Refusal) → says.Deposited n ≡ says.Refused refusal → ⊥
+no_refusal n refusal e = cc
+
 abbrev pub deposits : Kind Deposit
 deposits = record {
   list = λ A. A.deposits;
@@ -40,8 +46,8 @@ deposits = record {
   number = says.Deposited;
   under_itself = λ d. both_refl d.member d.token;
   same_itself = λ d. contents_same d.content;
-  one_number = λ m n e. cc;
-  no_refusal = λ n refusal e. cc;
+  one_number = one_number;
+  no_refusal = no_refusal;
 }
 
 -- ---- what the archive is after it

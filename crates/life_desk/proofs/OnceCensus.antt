@@ -20,8 +20,14 @@ use Rattle.life_desk.proofs.Later.{deposit_stays}
 use Rattle.life_desk.proofs.Once.{both_refl, both_are}
 use Rattle.life_desk.proofs.Submissions.{Kind, IsStored, found_numbered, answered_stored, stored_longer, stored_repeats}
 
-same_itself : (c : Census) → is_same_census c c ≡ true
+pub same_itself : (c : Census) → is_same_census c c ≡ true
 same_itself c = grind (arith, common_steps)
+
+pub one_number : (m n : ℕ) → says.Counted m ≡ says.Counted n → m ≡ n
+one_number m n e = cc
+
+pub no_refusal : (n : ℕ) (refusal : Refusal) → says.Counted n ≡ says.Refused refusal → ⊥
+no_refusal n refusal e = cc
 
 abbrev pub censuses : Kind Census
 censuses = record {
@@ -32,8 +38,8 @@ censuses = record {
   number = says.Counted;
   under_itself = λ c. both_refl c.member c.token;
   same_itself = same_itself;
-  one_number = λ m n e. cc;
-  no_refusal = λ n refusal e. cc;
+  one_number = one_number;
+  no_refusal = no_refusal;
 }
 
 -- ---- what the archive is after it

@@ -345,10 +345,7 @@ fn keep_census<S: Alter>(
         census.member.as_bytes(),
         census.token.as_bytes(),
     )? {
-        Some((id, stored)) => Ok(repeated(
-            is_same_census(&stored, census),
-            Reply::Counted(id),
-        )),
+        Some((id, stored)) => Ok(repeated(is_same_census(&stored, census), Reply::Counted(id))),
         None => count_new(archive, alloc, deposit, census),
     }
 }

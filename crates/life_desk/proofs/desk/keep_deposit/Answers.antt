@@ -8,20 +8,20 @@ use Rattle.life_desk.proofs.desk.keep_deposit.Goals as goal
 pub returns-in-Some-clause-acts : goal.returns-in-Some-clause-acts
 returns-in-Some-clause-acts g c = λ A sure m.
     let d = c.args.deposit.now in
-    let asked = c.in_ok-find_deposit.ensures in
+    let asked = c.in_ok-id.ensures in
     let kept = kept_by _ _ _ d.member d.token (λ m t. deposit_by m t A.deposits) c.as_bytes.ensures c.as_bytes-2.ensures (asked.value A sure m) in
-    told_again deposits A _ d _ _ c.in-Some.id c.in-Some.stored _ c.in-Some.is kept c.repeated.ensures (asked.same A sure m)
+    told_again deposits A _ d _ _ c.in-Some.id c.in-Some.stored _ c.in-Some.is kept (rw c.same_contents.ensures at c.repeated.ensures) (asked.same A sure m)
 
 pub returns-in-None-clause-acts : goal.returns-in-None-clause-acts
 returns-in-None-clause-acts g c = λ A sure m.
     let d = c.args.deposit.now in
-    let asked = c.in_ok-find_deposit.ensures in
+    let asked = c.in_ok-id.ensures in
     let before = c.keep_new.ensures.goes.was_sure sure in
     let kept = kept_by _ _ _ d.member d.token (λ m t. deposit_by m t A.deposits) c.as_bytes.ensures c.as_bytes-2.ensures (asked.value A before m) in
     told_new deposits A _ d _ _ _ c.in-None.is kept (c.keep_new.ensures.acts A sure (asked.same A before m))
 
-pub returns-in_err-find_deposit-clause-goes : goal.returns-in_err-find_deposit-clause-goes
-returns-in_err-find_deposit-clause-goes g c = goes_more _ _ c.find_deposit.ensures.goes
+pub returns-in_err-id-clause-goes : goal.returns-in_err-id-clause-goes
+returns-in_err-id-clause-goes g c = goes_more _ _ c.find_deposit.ensures.goes
 
 pub returns-in-Some-clause-goes : goal.returns-in-Some-clause-goes
 returns-in-Some-clause-goes g c = goes_more _ _ c.find_deposit.ensures.goes
@@ -32,5 +32,5 @@ returns-in-None-clause-goes g c =
     let looked = c.find_deposit.ensures in
     goes_last _ _ _
     (λ clean db. token_new c.args.archive.now c.find_deposit.new.archive looked.goes.was_sure looked.same db deposits (λ A. Unit {0}) d _ (λ A. deposit_by d.member d.token A.deposits)
-    (λ A sure m. kept_by _ _ _ d.member d.token (λ m t. deposit_by m t A.deposits) c.as_bytes.ensures c.as_bytes-2.ensures (c.in_ok-find_deposit.ensures.value A sure m)) c.in-None.is)
+    (λ A sure m. kept_by _ _ _ d.member d.token (λ m t. deposit_by m t A.deposits) c.as_bytes.ensures c.as_bytes-2.ensures (c.in_ok-id.ensures.value A sure m)) c.in-None.is)
     looked.goes c.keep_new.ensures.goes

@@ -32,10 +32,8 @@ module _ {S : Type 0} (old mid : ArchiveView S) (was : WasSure old.tables mid.ta
     )
 
     -- its token is new
-    pub token_new : (found : Option (ℕ × X)) (find : Archive → Option (ℕ × X)) → ForAllMeant old mid (λ A. found ≡ find A) → found ≡ None
-        → MeanChangedWhere mid IsThere (after_token None) db → MeanChangedWhere old IsThere (λ A. after_token (find A) A) db
-    token_new found find tells is h =
-        (was h.0, λ A m there. subst (λ o. TreesMean db (after_token o A)) (sym is ∙ tells A h.0 m) (h.1 A (same A h.0 m) there))
+    pub token_new : (find : Archive → Option (ℕ × X)) → ForAllMeant old mid (λ A. None ≡ find A) → MeanChangedWhere mid IsThere (after_token None) db → MeanChangedWhere old IsThere (λ A. after_token (find A) A) db
+    token_new find tells h = (was h.0, λ A m there. subst (λ o. TreesMean db (after_token o A)) (tells A h.0 m) (h.1 A (same A h.0 m) there))
 
   -- the deposit of the census is there
   pub deposit_there : (c : Census) (d : Deposit) (found : Option Deposit) → ForAllMeant old mid (λ A. found ≡ numbered A.deposits c.deposit) → found ≡ Some d

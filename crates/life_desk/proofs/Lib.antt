@@ -1,4 +1,3 @@
-pub mod ContentSame
 pub mod Meaning
 pub mod Runs
 pub mod Later

@@ -1,9 +1,12 @@
 -- What the looks at a kept deposit and at a kept tally tell of the reply.
-use Rattle.std.proofs.Common.{◌≡◌, ℕ, List, Bool, true, false, if◌then◌else◌, Option, None, Some, option_map, Result, Ok, Err, IfOk, sym, ◌∙◌, ap, subst}
+use Rattle.std.proofs.Common.{◌≡◌, ℕ, List, Bool, true, false, if◌then◌else◌, Option, None, Some, option_map, Result, Ok, Err, IfOk, refl, sym, ◌∙◌, ap, subst}
 use Rattle.std.specs.Result.{MatchResult}
+use Rattle.std.specs.Str.{bytes_eq}
+use Rattle.life_rle.specs.Writer.{text}
 use Rattle.life_census.specs.Table.{csv_text}
 use Rattle.life_store.specs.declared.kept.Deposit.{Deposit}
 use Rattle.life_store.specs.declared.kept.Census.{Census}
+use Rattle.life_store.specs.Kept.{file_of_deposit}
 use Rattle.life_store.specs.Tables.{ArchiveView}
 use Rattle.life_desk.specs.declared.refusal.Refusal.TheVariants as no
 use Rattle.life_desk.specs.declared.request.Reply.{Reply}
@@ -11,31 +14,37 @@ use Rattle.life_desk.specs.declared.request.Reply.TheVariants as says
 use Rattle.life_desk.specs.declared.looking.CountedCensus.{CountedCensus}
 use Rattle.life_desk.specs.Archive.{Archive, tally_at, steady_at}
 use Rattle.life_desk.specs.Means.{Means}
-use Rattle.life_desk.specs.Submission.{Repeats, Refuses, by_token, reply_of, stored_after}
-use Rattle.life_desk.specs.Replies.{has_room, csv_reply}
-use Rattle.life_desk.proofs.Submissions.{Kind}
+use Rattle.life_desk.specs.Submission.{Repeats, Refuses}
+use Rattle.life_desk.specs.Replies.{is_same_deposit, deposit_by_token, deposit_reply, with_deposit, csv_reply}
 
--- ---- submissions
+-- ---- deposits
 
-module _ {X : Type 0} (k : Kind X) where
-  -- the reply and the archive, by what is stored under the token
-  abbrev pub Leaves : {S : Type 0} → Archive → ArchiveView S → X → Option (ℕ × X) → Reply → Type 0
-  Leaves A new x o r =
-      let v = by_token k.is_same (has_room A (k.list A)) x o in
-      (r ≡ reply_of k.number (k.list A) v) × Means new (k.with_list A (stored_after (k.list A) v))
+-- the reply and the archive, by what is stored under the token
+abbrev pub Leaves : {S : Type 0} → Archive → ArchiveView S → Deposit → Option (ℕ × Deposit) → Reply → Type 0
+Leaves A new d o r = (r ≡ deposit_reply A (deposit_by_token A d o)) × Means new (with_deposit A (deposit_by_token A d o))
 
-  again_if : {S : Type 0} (A : Archive) (new : ArchiveView S) (id : ℕ) (same : Bool) (r : Reply) → r ≡ (if same then k.number id else says.Refused no.TokenReused) → Means new (k.with_list A (k.list A))
-      → (r ≡ reply_of k.number (k.list A) (if same then Repeats id else Refuses no.TokenReused)) × Means new (k.with_list A (stored_after (k.list A) (if same then Repeats id else Refuses no.TokenReused)))
-  again_if A new id true r is m = (is, m)
-  again_if A new id false r is m = (is, m)
+again_if : {S : Type 0} (A : Archive) (new : ArchiveView S) (id : ℕ) (same : Bool) (r : Reply) → r ≡ (if same then says.Deposited id else says.Refused no.TokenReused) → Means new A
+    → (r ≡ deposit_reply A (if same then Repeats id else Refuses no.TokenReused)) × Means new (with_deposit A (if same then Repeats id else Refuses no.TokenReused))
+again_if A new id true r is m = (is, m)
+again_if A new id false r is m = (is, m)
 
-  pub told_again : {S : Type 0} (A : Archive) (new : ArchiveView S) (x : X) (found o : Option (ℕ × X)) (id : ℕ) (stored : X) (r : Reply) → found ≡ Some (id, stored) → found ≡ o
-      → r ≡ (if k.is_same stored x then k.number id else says.Refused no.TokenReused) → Means new (k.with_list A (k.list A)) → Leaves A new x o r
-  told_again A new x found o id stored r is tells told m = subst (λ o. Leaves A new x o r) (sym is ∙ tells) (again_if A new id (k.is_same stored x) r told m)
+-- its token is used: its text is compared with the one that is stored
+pub told_again : {E S : Type 0} (A : Archive) (new : ArchiveView S) (d : Deposit) (o : Option (ℕ × Deposit)) (id : ℕ) (file : List ℕ) (r : Result Reply E) → ◌≡◌ {A = Option (ℕ × List ℕ)} (Some (id, file)) (option_map file_of_deposit o)
+    → IfOk r (λ x. x ≡ (if bytes_eq file (text d.content) then says.Deposited id else says.Refused no.TokenReused)) → Means new A → MatchResult r (λ x. Leaves A new d o x) (λ _. Means new A)
+told_again A new d None id file r is told m = absurd cc
+told_again A new d (Some stored) id file (Ok x) is told m =
+    let same : ◌≡◌ {A = ℕ × List ℕ} (id, file) (file_of_deposit stored) = cc in
+    again_if A new stored.0 (is_same_deposit stored.1 d) x (subst (λ (p : ℕ × List ℕ). x ≡ (if bytes_eq p.1 (text d.content) then says.Deposited p.0 else says.Refused no.TokenReused)) same told) m
+told_again A new d (Some stored) id file (Err e) is told m = m
 
-  pub told_new : {E S : Type 0} (A : Archive) (new : ArchiveView S) (x : X) (found o : Option (ℕ × X)) (r : Result Reply E) → found ≡ None → found ≡ o
-      → MatchResult r (λ y. Leaves A new x None y) (λ _. Means new A) → MatchResult r (λ y. Leaves A new x o y) (λ _. Means new A)
-  told_new A new x found o r is tells done = subst (λ o. MatchResult r (λ y. Leaves A new x o y) (λ _. Means new A)) (sym is ∙ tells) done
+-- it is new
+pub told_new : {E S : Type 0} (A : Archive) (new : ArchiveView S) (d : Deposit) (o : Option (ℕ × Deposit)) (r : Result Reply E) → None ≡ o
+    → MatchResult r (λ x. Leaves A new d None x) (λ _. Means new A) → MatchResult r (λ x. Leaves A new d o x) (λ _. Means new A)
+told_new A new d o r is done = subst (λ o. MatchResult r (λ x. Leaves A new d o x) (λ _. Means new A)) is done
+
+pub no_file : (o : Option (ℕ × Deposit)) → ◌≡◌ {A = Option (ℕ × List ℕ)} None (option_map file_of_deposit o) → None ≡ o
+no_file None is = refl
+no_file (Some stored) is = absurd cc
 
 -- what is found under the words of a deposit, or a census, is what is found under the bytes that are asked for
 pub kept_by : {X : Type 0} (found : Option X) (member token member' token' : List ℕ) (find : List ℕ → List ℕ → Option X) → member ≡ member' → token ≡ token' → found ≡ find member token → found ≡ find member' token'

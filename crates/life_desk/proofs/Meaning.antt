@@ -1,6 +1,6 @@
 -- What stays of a meaning as an archive grows, and what its tables tell.
 use Rattle.std.proofs.Common.{◌≡◌, nat_lt, ℕ, zero, suc, List, [], ◌∷◌, ◌++◌, ◌+◌, length, Option, None, Some, option_map, Result, Ok, Err, OnOk, OnErr, map, sum_by, IsTrue, IsSome, Bool, false, if◌then◌else◌, refl, sym, ◌∙◌, ap, subst, true}
-use Rattle.std.specs.List.{slice_get}
+use Rattle.std.specs.List.{slice_get, AllByRecursion}
 use Rattle.std.proofs.lemmas.Option.{slice_get-map}
 use Rattle.std.proofs.lemmas.List.Sums.{sum_by-cons}
 use Rattle.life_core.specs.Rule.{RuleSets}
@@ -9,10 +9,12 @@ use Rattle.sqlite_trees.specs.Tree.{Trees}
 use Rattle.life_store.specs.declared.kept.Deposit.{Deposit}
 use Rattle.life_store.specs.declared.kept.Census.{Census}
 use Rattle.life_store.specs.Kept.{Tallied, numbered, share, total_of}
+use Rattle.life_store.specs.Stored.{IsFiled}
 use Rattle.life_store.specs.Tables.{ArchiveView, Holds, TreesHold, HoldChanged, IsTransition, HoldsTheSame, AddsDeposit, AddsCensus}
 use Rattle.life_desk.specs.Archive.{Archive, tally_at, tally_for, steady_at, steady_for, clusters_in, clusters_with}
 use Rattle.life_census.specs.Rows.{TallyCounts}
-use Rattle.life_desk.specs.Means.{Means, NewIsEmpty, EachHasDeposit, tallied, kept_of}
+use Rattle.life_desk.specs.Means.{Means, NewIsEmpty, EachHasDeposit, EachIsReadAgain, IsRepresentable, tallied, kept_of}
+use Rattle.life_desk.proofs.Submissions.{all_push}
 use Rattle.life_desk.specs.DeskState.{MeanChanged, MeanChangedWhere}
 use Rattle.life_desk.specs.LookingState.{ForAllMeant, MeansTheSame}
 
@@ -50,6 +52,14 @@ pub each_of : {S : Type 0} (t : ArchiveView S) (A : Archive) → Means t A → E
 unfolding Means
 each_of t A m = m.each
 
+each_again : (ds : List Deposit) → AllByRecursion IsFiled ds → EachIsReadAgain ds
+each_again [] filed = tt
+each_again (d ∷ ds) filed = (filed.0.again, each_again ds filed.1)
+
+pub representable_of : {S : Type 0} (t : ArchiveView S) (A : Archive) → Means t A → IsRepresentable A
+unfolding Means
+representable_of t A m = record { again = each_again A.deposits m.holds.filed; each = m.each }
+
 -- nothing changed
 pub means_same : {S : Type 0} {g : Ghosts S} {More : Trees → Type 0} (old new : ArchiveView S) (A : Archive) → IsTransition g More old new → HoldsTheSame old.tables new.tables → IsTrue new.tables.is_sure → Means old A → Means new A
 unfolding Means
@@ -65,10 +75,6 @@ means_deposit old new A d goes adds sure m = record {
   holds = subst (λ cs. Holds new.tables (record { deposits = A.deposits ++ d ∷ []; censuses = cs })) (tallied_longer A.deposits d A.censuses m.each) (adds (kept_of A) sure m.holds);
 }
 
-pub each_push : (ds : List Deposit) (cs : List Census) (c : Census) → EachHasDeposit ds cs → IsSome (numbered ds c.deposit) → EachHasDeposit ds (cs ++ c ∷ [])
-each_push ds [] c each some = (some, tt)
-each_push ds (x ∷ cs) c each some = (each.0, each_push ds cs c each.1 some)
-
 tallied_push : (ds : List Deposit) (cs : List Census) (c : Census) → map (tallied ds) cs ++ tallied ds c ∷ [] ≡ map (tallied ds) (cs ++ c ∷ [])
 tallied_push ds [] c = refl
 tallied_push ds (x ∷ cs) c = ap (λ ts. tallied ds x ∷ ts) (tallied_push ds cs c)
@@ -79,7 +85,7 @@ pub means_census : {S : Type 0} {g : Ghosts S} {More : Trees → Type 0} (old ne
 unfolding Means
 means_census old new A c goes adds some sure m = record {
   capacity = goes.capacity ∙ m.capacity;
-  each = each_push A.deposits A.censuses c m.each some;
+  each = all_push (λ c. IsSome (numbered A.deposits c.deposit)) A.censuses c m.each some;
   holds = subst (λ cs. Holds new.tables (record { deposits = A.deposits; censuses = cs })) (tallied_push A.deposits A.censuses c) (adds (kept_of A) sure m.holds);
 }
 

@@ -6,6 +6,9 @@ use Rattle.std.proofs.lemmas.Slice.Eq.{bytes_eq-Decides}
 use Rattle.life_rle.specs.Record.{Contents}
 use Rattle.life_rle.specs.declared.fault.RleFault.{RleFault}
 use Rattle.life_rle.specs.File as files
+use Rattle.life_rle.specs.File.{kept}
+use Rattle.life_rle.specs.Writer.{text}
+use Rattle.life_rle.proofs.ReadAgain.{file_read_again}
 use Rattle.life_store.specs.declared.kept.Deposit.{Deposit}
 use Rattle.life_store.specs.Kept.{numbered, is_of}
 use Rattle.life_desk.specs.declared.refusal.Refusal.{Refusal}
@@ -15,11 +18,13 @@ use Rattle.life_desk.specs.declared.request.Judged.{Judged}
 use Rattle.life_desk.specs.declared.request.Judged.TheVariants as good
 use Rattle.life_desk.specs.declared.request.Reply.TheVariants as says
 use Rattle.life_desk.specs.Archive.{Archive}
-use Rattle.life_desk.specs.Judging.{is_member, is_token}
+use Rattle.life_desk.specs.Judging.{is_member, is_token, judged}
 use Rattle.life_desk.specs.Replies.{is_same_deposit, has_room, deposit_of_file, deposit_reply, with_deposit, IsReply, after, IsReplyBy, after_by}
 use Rattle.life_desk.specs.Run.{IsLater}
-use Rattle.life_desk.specs.Laws.{DepositsActOnce, DepositsStay}
-use Rattle.life_desk.proofs.ContentSame.{contents_same, same_contents-Decides}
+use Rattle.life_desk.specs.Laws.{EqualTexts, DepositsActOnce, DepositsStay}
+use Rattle.life_desk.specs.Means.{IsReadAgain, EachIsReadAgain, IsRepresentable}
+use Rattle.life_desk.proofs.Later.{deposit_stays}
+use Rattle.life_desk.proofs.Steps.{after_again, numbered_again}
 use Rattle.life_desk.proofs.Submissions.{Kind, IsStored, found_numbered, answered_stored, stored_longer, stored_repeats}
 
 pub bytes_eq-refl : (xs : List ℕ) → bytes_eq xs xs ≡ true
@@ -45,17 +50,27 @@ deposits = record {
   is_same = is_same_deposit;
   number = says.Deposited;
   under_itself = λ d. both_refl d.member d.token;
-  same_itself = λ d. contents_same d.content;
+  same_itself = λ d. bytes_eq-refl (text d.content);
   one_number = one_number;
   no_refusal = no_refusal;
 }
 
 -- ---- what the archive is after it
 
-one_deposit : (d stored : Deposit) → is_of d.member d.token stored ≡ true → is_same_deposit stored d ≡ true → stored ≡ d
-one_deposit d stored under same =
+-- records that are read from their texts again are equal if their texts are
+equal_by_texts : (a b : Contents) → IsReadAgain a → IsReadAgain b → bytes_eq (text a) (text b) ≡ true → a ≡ b
+equal_by_texts a b one other is =
+    let both : ◌≡◌ {A = Result Contents RleFault} (Ok a) (Ok b) = sym one ∙ ap kept ((bytes_eq-Decides (text a) (text b)).0 is) ∙ other in
+    cc
+
+pub equal_texts : EqualTexts
+equal_texts a b one other = (equal_by_texts a b one other, λ same. (bytes_eq-Decides (text a) (text b)).1 (ap text same))
+
+one_deposit : (d stored : Deposit) → IsReadAgain stored.content → IsReadAgain d.content → is_of d.member d.token stored ≡ true → is_same_deposit stored d ≡ true → stored ≡ d
+one_deposit d stored one other under same =
     let words = both_are stored.member stored.token d.member d.token under in
-    λ i. record { member = words.0 i; token = words.1 i; content = (same_contents-Decides stored.content d.content).0 same i }
+    let content = equal_by_texts stored.content d.content one other same in
+    λ i. record { member = words.0 i; token = words.1 i; content = content i }
 
 -- the words are good, the file is read, and the token finds it
 pub record IsDeposited (A : Archive) (member token file : List ℕ) (n : ℕ) : Type 0 where
@@ -104,10 +119,13 @@ deposited_later A B member token file n later d = record {
 }
 
 pub deposits_stay_lem : DepositsStay
-deposits_stay_lem A B member token file n h later =
-    let d = deposited_later (after A (ask.Deposit member token file)) B member token file n later (deposited A member token file n h) in
-    let found = found_numbered (is_of member token) B.deposits (n, d.found.0) d.found.1 in
-    (d.content, d.read, found.1 ∙ ap Some (one_deposit (record { member = member; token = token; content = d.content }) d.found.0 found.0 d.found.2))
+deposits_stay_lem A B member token file n again h later =
+    let M = after A (ask.Deposit member token file) in
+    let d = deposited A member token file n h in
+    let found = found_numbered (is_of member token) M.deposits (n, d.found.0) d.found.1 in
+    let one = numbered_again M.deposits n d.found.0 (after_again A (judged (ask.Deposit member token file)) again) found.1 in
+    let same = one_deposit (record { member = member; token = token; content = d.content }) d.found.0 one (file_read_again file d.content d.read) found.0 d.found.2 in
+    (d.content, d.read, deposit_stays M B later n _ (found.1 ∙ ap Some same))
 
 -- it is stored: the number is answered, and nothing changes
 by_file : (B : Archive) (member token : List ℕ) (n : ℕ) (it : Contents) (f : Result Contents RleFault) → f ≡ Ok it

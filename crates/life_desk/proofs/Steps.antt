@@ -2,9 +2,13 @@
 use Rattle.std.proofs.Common.{◌≡◌, ◌≢◌, inl, inr, nat_lt, ℕ, zero, suc, List, [], ◌∷◌, true, false, Option, None, Some, IsSome, Result, Ok, Err, length, refl, sym, subst, if◌then◌else◌}
 use Rattle.std.specs.List.{slice_get}
 use Rattle.std.proofs.lemmas.List.{append-nil}
+use Rattle.life_rle.specs.declared.fault.RleFault.{RleFault}
+use Rattle.life_rle.specs.File as files
+use Rattle.life_rle.specs.Record.{Contents}
+use Rattle.life_rle.proofs.ReadAgain.{file_read_again}
 use Rattle.life_store.specs.declared.kept.Deposit.{Deposit}
 use Rattle.life_store.specs.declared.kept.Census.{Census}
-use Rattle.life_store.specs.Kept.{numbered, census_by}
+use Rattle.life_store.specs.Kept.{numbered, deposit_by, census_by}
 use Rattle.life_desk.specs.declared.refusal.Refusal.{Refusal}
 use Rattle.life_desk.specs.declared.refusal.Refusal.TheVariants as no
 use Rattle.life_desk.specs.declared.request.Request.{Request}
@@ -15,12 +19,12 @@ use Rattle.life_desk.specs.declared.request.Reply.TheVariants as says
 use Rattle.life_desk.specs.Archive.{Archive}
 use Rattle.life_desk.specs.Judging.{judged}
 use Rattle.life_desk.specs.Submission.{Verdict, Refuses, Repeats, Adds}
-use Rattle.life_desk.specs.Replies.{has_room, deposit_verdict, with_deposit, is_same_census, census_by_token, census_of_deposit, census_verdict, with_census, IsReply, after, after_by}
-use Rattle.life_desk.specs.Means.{EachHasDeposit}
+use Rattle.life_desk.specs.Replies.{has_room, is_same_deposit, deposit_of_file, deposit_verdict, with_deposit, is_same_census, census_of_deposit, census_verdict, with_census, IsReply, after, after_by}
+use Rattle.life_desk.specs.Means.{EachHasDeposit, IsReadAgain, EachIsReadAgain, IsRepresentable}
 use Rattle.life_desk.specs.Run.{RequestStep, answers, gives_up, RequestRun, IsAnswered, IsLater}
-use Rattle.life_desk.proofs.Meaning.{each_longer, each_push}
+use Rattle.life_desk.proofs.Meaning.{each_longer}
 use Rattle.life_desk.proofs.Later.{later_same, later_later}
-use Rattle.life_desk.proofs.Submissions.{after_longer}
+use Rattle.life_desk.proofs.Submissions.{after_longer, all_after}
 use Rattle.life_desk.specs.Laws.{NothingIsLost}
 
 -- ---- nothing is lost
@@ -60,27 +64,35 @@ run_later A B (q ∷ qs) [] run = absurd run
 pub nothing_is_lost : NothingIsLost
 nothing_is_lost A B qs rs run = run_later A B qs rs run
 
--- ---- each census is of a deposit
+-- ---- an archive that tables can stand for stays one
 
-deposit_each : (A : Archive) (v : Verdict Deposit) → EachHasDeposit A.deposits A.censuses → EachHasDeposit (with_deposit A v).deposits (with_deposit A v).censuses
+deposit_each : (A : Archive) (v : Verdict Deposit) → EachHasDeposit A.deposits A.censuses → EachHasDeposit (with_deposit A v).deposits A.censuses
 deposit_each A (Refuses refusal) each = each
 deposit_each A (Repeats id) each = each
 deposit_each A (Adds d) each = each_longer A.deposits d A.censuses each
 
-census_each_token : (A : Archive) (c : Census) (o : Option (ℕ × Census)) → IsSome (numbered A.deposits c.deposit) → EachHasDeposit A.deposits A.censuses
-    → EachHasDeposit A.deposits (with_census A (census_by_token A c o)).censuses
-census_each_token A c (Some stored) there each =
-    elim (is_same_census stored.1 c) as (λ b. EachHasDeposit A.deposits (with_census A (if b then Repeats stored.0 else Refuses no.TokenReused)).censuses) [ true ↦ each | false ↦ each ]
-census_each_token A c None there each =
-    elim (has_room A A.censuses) as (λ b. EachHasDeposit A.deposits (with_census A (if b then Adds c else Refuses no.Full)).censuses) [
-      | true ↦ each_push A.deposits A.censuses c each there
-      | false ↦ each
-    ]
+deposit_again : (A : Archive) (member token file : List ℕ) (read : Result Contents RleFault) → files.file file ≡ read → EachIsReadAgain A.deposits → EachIsReadAgain (with_deposit A (deposit_of_file A member token read)).deposits
+deposit_again A member token file (Err fault) is again = again
+deposit_again A member token file (Ok it) is again =
+    let d : Deposit = record { member = member; token = token; content = it } in
+    all_after (λ (d : Deposit). IsReadAgain d.content) is_same_deposit (has_room A A.deposits) A.deposits d (deposit_by member token A.deposits) again (file_read_again file it is)
 
-census_each : (A : Archive) (c : Census) (o : Option Deposit) → numbered A.deposits c.deposit ≡ o → EachHasDeposit A.deposits A.censuses
-    → EachHasDeposit (with_census A (census_of_deposit A c o)).deposits (with_census A (census_of_deposit A c o)).censuses
+census_each : (A : Archive) (c : Census) (o : Option Deposit) → numbered A.deposits c.deposit ≡ o → EachHasDeposit A.deposits A.censuses → EachHasDeposit A.deposits (with_census A (census_of_deposit A c o)).censuses
 census_each A c None is each = each
-census_each A c (Some d) is each = census_each_token A c (census_by c.member c.token A.censuses) (subst (λ o. IsSome o) (sym is) refl) each
+census_each A c (Some d) is each =
+    all_after (λ (c : Census). IsSome (numbered A.deposits c.deposit)) is_same_census (has_room A A.censuses) A.censuses c (census_by c.member c.token A.censuses) each (subst (λ o. IsSome o) (sym is) refl)
+
+pub after_again : (A : Archive) (w : Result Judged Refusal) → EachIsReadAgain A.deposits → EachIsReadAgain (after_by A w).deposits
+after_again A (Err refusal) again = again
+after_again A (Ok (good.Deposit member token file)) again = deposit_again A member token file (files.file file) refl again
+after_again A (Ok (good.Show id)) again = again
+after_again A (Ok (good.ListAfter id)) again = again
+after_again A (Ok (good.At id n)) again = again
+after_again A (Ok (good.KindOf id limit)) again = again
+after_again A (Ok (good.Census c)) again = again
+after_again A (Ok (good.ShowCensus id)) again = again
+after_again A (Ok (good.CensusCsv id)) again = again
+after_again A (Ok (good.Total rule code limit)) again = again
 
 pub after_each : (A : Archive) (w : Result Judged Refusal) → EachHasDeposit A.deposits A.censuses → EachHasDeposit (after_by A w).deposits (after_by A w).censuses
 after_each A (Err refusal) each = each
@@ -94,9 +106,12 @@ after_each A (Ok (good.ShowCensus id)) each = each
 after_each A (Ok (good.CensusCsv id)) each = each
 after_each A (Ok (good.Total rule code limit)) each = each
 
-pub step_each : (A : Archive) (q : Request) (r : Reply) (B : Archive) → RequestStep A q r B → EachHasDeposit A.deposits A.censuses → EachHasDeposit B.deposits B.censuses
-step_each A q r B (answers s is) each = after_each A (judged q) each
-step_each A q r B (gives_up is) each = each
+pub after_representable : (A : Archive) (w : Result Judged Refusal) → IsRepresentable A → IsRepresentable (after_by A w)
+after_representable A w can = record { again = after_again A w can.again; each = after_each A w can.each }
+
+pub step_representable : (A : Archive) (q : Request) (r : Reply) (B : Archive) → RequestStep A q r B → IsRepresentable A → IsRepresentable B
+step_representable A q r B (answers s is) can = after_representable A (judged q) can
+step_representable A q r B (gives_up is) can = can
 
 -- the deposit of a census that is kept
 get_each : (ds : List Deposit) (cs : List Census) (i : ℕ) (c : Census) → EachHasDeposit ds cs → slice_get cs i ≡ Some c → IsSome (numbered ds c.deposit)
@@ -108,33 +123,43 @@ pub census_has : (ds : List Deposit) (cs : List Census) (n : ℕ) (c : Census) �
 census_has ds cs zero c each is = let bad : None ≡ Some c = is in absurd (cc)
 census_has ds cs (suc i) c each is = get_each ds cs i c each is
 
+-- the deposit of a number
+get_again : (ds : List Deposit) (i : ℕ) (d : Deposit) → EachIsReadAgain ds → slice_get ds i ≡ Some d → IsReadAgain d.content
+get_again [] i d again is = let bad : None ≡ Some d = is in absurd (cc)
+get_again (x ∷ ds) zero d again is = let same : x ≡ d = cc in subst (λ (y : Deposit). IsReadAgain y.content) same again.0
+get_again (x ∷ ds) (suc i) d again is = get_again ds i d again.1 is
+
+pub numbered_again : (ds : List Deposit) (n : ℕ) (d : Deposit) → EachIsReadAgain ds → numbered ds n ≡ Some d → IsReadAgain d.content
+numbered_again ds zero d again is = let bad : None ≡ Some d = is in absurd (cc)
+numbered_again ds (suc i) d again is = get_again ds i d again is
+
 -- ---- the moment at which a request was answered
 
 pub record Moment (A : Archive) (q : Request) (r : Reply) (B : Archive) : Type 0 where
   pub before : Archive
   pub behind : Archive
   pub earlier : IsLater A before
-  pub each : EachHasDeposit before.deposits before.censuses
+  pub representable : IsRepresentable before
   pub step : RequestStep before q r behind
   pub later : IsLater behind B
 
 here : (A : Archive) (p q : Request) (s r : Reply) (mid : Archive) → p ≡ q → s ≡ r → RequestStep A p s mid → RequestStep A q r mid
 here A p q s r mid asked given step = subst (λ x. RequestStep A q x mid) given (subst (λ x. RequestStep A x s mid) asked step)
 
-pub moment : (A B : Archive) (qs : List Request) (rs : List Reply) (q : Request) (r : Reply) → EachHasDeposit A.deposits A.censuses → RequestRun A qs rs B → IsAnswered qs rs q r → Moment A q r B
-moment A B (p ∷ qs) (s ∷ rs) q r each run (inl same) = record {
+pub moment : (A B : Archive) (qs : List Request) (rs : List Reply) (q : Request) (r : Reply) → IsRepresentable A → RequestRun A qs rs B → IsAnswered qs rs q r → Moment A q r B
+moment A B (p ∷ qs) (s ∷ rs) q r can run (inl same) = record {
   before = A;
   behind = run.0;
   earlier = later_same A;
-  each = each;
+  representable = can;
   step = here A p q s r run.0 same.0 same.1 run.1;
   later = run_later run.0 B qs rs run.2;
 }
-moment A B (p ∷ qs) (s ∷ rs) q r each run (inr more) =
-    let m = moment run.0 B qs rs q r (step_each A p s run.0 run.1 each) run.2 more in
-    record { before = m.before; behind = m.behind; earlier = later_later A run.0 m.before (step_later A p s run.0 run.1) m.earlier; each = m.each; step = m.step; later = m.later }
-moment A B [] rs q r each run answered = absurd answered
-moment A B (p ∷ qs) [] q r each run answered = absurd answered
+moment A B (p ∷ qs) (s ∷ rs) q r can run (inr more) =
+    let m = moment run.0 B qs rs q r (step_representable A p s run.0 run.1 can) run.2 more in
+    record { before = m.before; behind = m.behind; earlier = later_later A run.0 m.before (step_later A p s run.0 run.1) m.earlier; representable = m.representable; step = m.step; later = m.later }
+moment A B [] rs q r can run answered = absurd answered
+moment A B (p ∷ qs) [] q r can run answered = absurd answered
 
 -- a reply that is not unavailable is the reply, and the archive is the one after it
 pub step_answers : (A : Archive) (q : Request) (r : Reply) (B : Archive) → RequestStep A q r B → r ≢ says.Refused no.Unavailable → IsReply A q r × (B ≡ after A q)

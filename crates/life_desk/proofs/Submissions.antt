@@ -1,6 +1,6 @@
 -- Submissions to a list: what was answered by a number is found under it, then and in every longer list, and repeats.
 use Rattle.std.proofs.Common.{◌≡◌, ◌+◌, ℕ, zero, suc, List, [], ◌∷◌, ◌++◌, Bool, true, false, Option, None, Some, length, refl, sym, ◌∙◌, ap, subst, arith, if◌then◌else◌}
-use Rattle.std.specs.List.{slice_get}
+use Rattle.std.specs.List.{slice_get, AllByRecursion}
 use Rattle.std.proofs.lemmas.List.{append-nil}
 use Rattle.life_store.specs.Kept.{numbered, first_from}
 use Rattle.life_desk.specs.declared.refusal.Refusal.{Refusal}
@@ -71,6 +71,17 @@ pub after_longer : {X : Type 0} (xs : List X) (v : Verdict X) → (more : List X
 after_longer xs (Refuses refusal) = ([], sym (append-nil xs))
 after_longer xs (Repeats id) = ([], sym (append-nil xs))
 after_longer xs (Adds x) = (x ∷ [], refl)
+
+pub all_push : {X : Type 0} (P : X → Type 0) (xs : List X) (x : X) → AllByRecursion P xs → P x → AllByRecursion P (xs ++ x ∷ [])
+all_push P [] x all is = (is, tt)
+all_push P (y ∷ xs) x all is = (all.0, all_push P xs x all.1 is)
+
+-- what holds of all that is stored, and of what is handed in, holds of all that is stored after it
+pub all_after : {X : Type 0} (P : X → Type 0) (is_same : X → X → Bool) (room : Bool) (xs : List X) (x : X) (o : Option (ℕ × X)) → AllByRecursion P xs → P x → AllByRecursion P (stored_after xs (by_token is_same room x o))
+all_after P is_same room xs x (Some stored) all is =
+    elim (is_same stored.1 x) as (λ b. AllByRecursion P (stored_after xs (if b then Repeats stored.0 else Refuses no.TokenReused))) [ true ↦ all | false ↦ all ]
+all_after P is_same true xs x None all is = all_push P xs x all is
+all_after P is_same false xs x None all is = all
 
 -- ---- kinds of submissions
 

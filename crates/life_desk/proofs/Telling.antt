@@ -29,25 +29,25 @@ use Rattle.life_desk.specs.declared.request.Shown.{Shown}
 use Rattle.life_desk.specs.Archive.{Archive, clusters_with, tally_at, tally_for, tally_of_cells, steady_at, steady_for}
 use Rattle.life_desk.specs.Judging.{is_generation, is_limit, judged_rule}
 use Rattle.life_desk.specs.Replies.{IsReply, IsReplyBy, after, at_reply, file_reply, kind_reply, shown_reply}
-use Rattle.life_desk.specs.Means.{EachHasDeposit}
+use Rattle.life_desk.specs.Means.{EachHasDeposit, IsRepresentable}
 use Rattle.life_store.specs.Tables.{ArchiveView, StaysSure}
 use Rattle.life_desk.specs.Run.{RequestRun, IsAnswered, IsLater, Answered}
 use Rattle.life_desk.specs.Laws.{FlagTellsSteady}
 use Rattle.life_desk.specs.Headline.{CountsEachOnce, ShowsCensus, HeadlineHolds, IsTheArchive, IsTheArchiveOrFaults, IsTheArchiveInMemory}
-use Rattle.life_desk.proofs.Meaning.{each_of}
+use Rattle.life_desk.proofs.Meaning.{representable_of}
 use Rattle.life_desk.proofs.Later.{later_later, deposit_stays, census_stays}
 use Rattle.life_desk.proofs.Steps.{moment, step_answers, step_later, run_later, census_has}
 use Rattle.life_desk.proofs.Once.{deposits_stay_lem}
 
 -- the reply at its moment, and the archives before and after
 abbrev At : Archive → Request → Reply → Archive → Type 0
-At A q r B = (M : Archive) × EachHasDeposit M.deposits M.censuses × IsReply M q r × IsLater M B × IsLater (after M q) B
+At A q r B = (M : Archive) × IsRepresentable M × IsReply M q r × IsLater M B × IsLater (after M q) B
 
-at : (A B : Archive) (qs : List Request) (rs : List Reply) (q : Request) (r : Reply) → EachHasDeposit A.deposits A.censuses → RequestRun A qs rs B → IsAnswered qs rs q r → r ≢ says.Refused no.Unavailable → At A q r B
-at A B qs rs q r each run answered other =
-    let m = moment A B qs rs q r each run answered in
+at : (A B : Archive) (qs : List Request) (rs : List Reply) (q : Request) (r : Reply) → IsRepresentable A → RequestRun A qs rs B → IsAnswered qs rs q r → r ≢ says.Refused no.Unavailable → At A q r B
+at A B qs rs q r can run answered other =
+    let m = moment A B qs rs q r can run answered in
     let says_so = step_answers m.before q r m.behind m.step other in
-    (m.before, m.each, says_so.0, later_later m.before m.behind B (step_later m.before q r m.behind m.step) m.later, subst (λ X. IsLater X B) says_so.1 m.later)
+    (m.before, m.representable, says_so.0, later_later m.before m.behind B (step_later m.before q r m.behind m.step) m.later, subst (λ X. IsLater X B) says_so.1 m.later)
 
 -- ---- generations
 
@@ -72,10 +72,10 @@ code_case : (limit : ℕ) (k : Kind) (code : List ℕ) (o : Option Deposit) → 
 code_case limit k code None is = absurd cc
 code_case limit k code (Some d) is = (d, refl, cc)
 
-coded : (A B : Archive) (qs : List Request) (rs : List Reply) → EachHasDeposit A.deposits A.censuses → RequestRun A qs rs B → (id limit : ℕ) (k : Kind) (code : List ℕ) (d : Deposit)
+coded : (A B : Archive) (qs : List Request) (rs : List Reply) → IsRepresentable A → RequestRun A qs rs B → (id limit : ℕ) (k : Kind) (code : List ℕ) (d : Deposit)
     → IsAnswered qs rs (ask.KindOf id limit) (says.Kinded k (Some code)) → numbered B.deposits id ≡ Some d → code_of d.content.rule d.content.cells limit ≡ Some code
-coded A B qs rs each run id limit k code d answered is =
-    let m = at A B qs rs (ask.KindOf id limit) (says.Kinded k (Some code)) each run answered (λ e. cc) in
+coded A B qs rs can run id limit k code d answered is =
+    let m = at A B qs rs (ask.KindOf id limit) (says.Kinded k (Some code)) can run answered (λ e. cc) in
     let found = code_case limit k code (numbered m.0.deposits id) (limit_case m.0 id limit (says.Kinded k (Some code)) k (Some code) (is_limit limit) refl m.2) in
     let stays : numbered B.deposits id ≡ Some found.0 = deposit_stays m.0 B m.3 id found.0 found.1 in
     let same : found.0 ≡ d = cc in
@@ -171,40 +171,40 @@ total_case M text code limit n false is = absurd cc
 -- ---- all
 
 pub headline_holds : RowsAreCounts → TalliesAddUp → SteadyIsDecided → CodeIsComplete → HeadlineHolds
-headline_holds rows add decided complete A B qs rs each run = record {
+headline_holds rows add decided complete A B qs rs can run = record {
   later = run_later A B qs rs run;
   deposited = λ member token file n answered.
-      let m = at A B qs rs (ask.Deposit member token file) (says.Deposited n) each run answered (λ e. cc) in
-      deposits_stay_lem m.0 B member token file n m.2 m.4;
+      let m = at A B qs rs (ask.Deposit member token file) (says.Deposited n) can run answered (λ e. cc) in
+      deposits_stay_lem m.0 B member token file n m.1.again m.2 m.4;
   shows = λ id bytes answered.
-      let m = at A B qs rs (ask.Show id) (says.File bytes) each run answered (λ e. cc) in
+      let m = at A B qs rs (ask.Show id) (says.File bytes) can run answered (λ e. cc) in
       let found = show_case bytes (numbered m.0.deposits id) m.2 in
       (found.0, deposit_stays m.0 B m.3 id found.0 found.1, found.2);
   kinds = λ id limit k code answered.
-      let m = at A B qs rs (ask.KindOf id limit) (says.Kinded k code) each run answered (λ e. cc) in
+      let m = at A B qs rs (ask.KindOf id limit) (says.Kinded k code) can run answered (λ e. cc) in
       let found = kind_case limit k code (numbered m.0.deposits id) (limit_case m.0 id limit (says.Kinded k code) k code (is_limit limit) refl m.2) in
       (found.0, deposit_stays m.0 B m.3 id found.0 found.1, found.2, found.3);
   totals = λ text code limit n answered.
-      let m = moment A B qs rs (ask.Total text code limit) (says.Total n) each run answered in
+      let m = moment A B qs rs (ask.Total text code limit) (says.Total n) can run answered in
       let is = (step_answers m.before (ask.Total text code limit) (says.Total n) m.behind m.step (λ e. cc)).0 in
       let found = total_case m.before text code limit n (is_limit limit) is in
       (found.0, m.before, found.1, m.earlier, later_later m.before m.behind B (step_later m.before (ask.Total text code limit) (says.Total n) m.behind m.step) m.later, found.2);
   generations = λ id n bytes answered.
-      let m = at A B qs rs (ask.At id n) (says.File bytes) each run answered (λ e. cc) in
+      let m = at A B qs rs (ask.At id n) (says.File bytes) can run answered (λ e. cc) in
       let found = file_case n bytes (numbered m.0.deposits id) (generation_case m.0 id n bytes (is_generation n) m.2) in
       (found.0, deposit_stays m.0 B m.3 id found.0 found.1, found.2);
   codes = λ i j limit other k l s t d e first second is also rule.
-      one_object complete d e limit other s t rule (coded A B qs rs each run i limit k s d first is) (coded A B qs rs each run j other l t e second also);
+      one_object complete d e limit other s t rule (coded A B qs rs can run i limit k s d first is) (coded A B qs rs can run j other l t e second also);
   censuses = λ id shown answered.
-      let m = at A B qs rs (ask.ShowCensus id) (says.Shown shown) each run answered (λ e. cc) in
-      shows_census rows add decided m.0 B id shown m.1 m.3 m.2;
+      let m = at A B qs rs (ask.ShowCensus id) (says.Shown shown) can run answered (λ e. cc) in
+      shows_census rows add decided m.0 B id shown m.1.each m.3 m.2;
 }
 
 -- what was answered is what the archive says
 pub told_by : {S : Type 0} {g : Ghosts S} → HeadlineHolds → (old new : ArchiveView S) (qs : List Request) (rs : List Reply) → Answered g old new qs rs → IsTheArchive old new qs rs
 told_by holds old new qs rs done = λ A sure m.
     let run = done.run sure A m in
-    (run.0, run.1, run.2, holds A run.0 qs rs (each_of old A m) run.1)
+    (run.0, run.1, run.2, holds A run.0 qs rs (representable_of old A m) run.1)
 
 pub all_told_by : {X E S : Type 0} → (g : Ghosts S) → HeadlineHolds → (old new : ArchiveView S) (qs : List Request) (replies : X → List Reply) (r : Result X E) → IfOk r (λ x. Answered g old new qs (replies x))
     → IfOk r (λ x. IsTheArchive old new qs (replies x))
@@ -215,7 +215,7 @@ lasting_by : {S : Type 0} {g : Ghosts S} → HeadlineHolds → (old new : Archiv
 unfolding StaysSure
 lasting_by holds old new qs rs done A sure m = elim (done.goes.lasts.is_sure sure) [
   | inl still ↦ inl (still, told_by holds old new qs rs done A still m)
-  | inr more ↦ inr (more, λ clean. let run = done.replied clean sure A m in (run.0, run.1, holds A run.0 qs rs (each_of old A m) run.1))
+  | inr more ↦ inr (more, λ clean. let run = done.replied clean sure A m in (run.0, run.1, holds A run.0 qs rs (representable_of old A m) run.1))
 ]
 
 pub all_lasting_by : {X E S : Type 0} → (g : Ghosts S) → HeadlineHolds → (old new : ArchiveView S) (qs : List Request) (replies : X → List Reply) (r : Result X E) → IfOk r (λ x. Answered g old new qs (replies x))

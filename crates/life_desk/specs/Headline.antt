@@ -27,7 +27,7 @@ use Rattle.life_desk.specs.declared.request.Reply.{Reply}
 use Rattle.life_desk.specs.declared.request.Reply.TheVariants as says
 use Rattle.life_desk.specs.declared.request.Shown.{Shown}
 use Rattle.life_desk.specs.Archive.{Archive, clusters_with}
-use Rattle.life_desk.specs.Means.{EachHasDeposit, Means}
+use Rattle.life_desk.specs.Means.{IsRepresentable, Means}
 use Rattle.life_desk.specs.Run.{RequestRun, IsAnswered, IsLater}
 
 -- The tally counts every cluster of X once, under its code or as unresolved. The clusters are `parts X`: that each live cell is in exactly one of
@@ -77,9 +77,9 @@ pub record Headline (A : Archive) (qs : List Request) (rs : List Reply) (B : Arc
   pub totals : (text code : List ℕ) (limit n : ℕ) → IsAnswered qs rs (ask.Total text code limit) (says.Total n)
       → (rule : RuleSets) × (M : Archive) × (read_rule text ≡ Ok rule) × IsLater A M × IsLater M B × (n ≡ clusters_with M rule code)
 
--- It holds of every run from an archive in which each census is of a deposit.
+-- It holds of every run from an archive that tables can stand for.
 abbrev pub HeadlineHolds : Type 0
-HeadlineHolds = (A B : Archive) (qs : List Request) (rs : List Reply) → EachHasDeposit A.deposits A.censuses → RequestRun A qs rs B → Headline A qs rs B
+HeadlineHolds = (A B : Archive) (qs : List Request) (rs : List Reply) → IsRepresentable A → RequestRun A qs rs B → Headline A qs rs B
 
 -- A was taken by a run to an archive that the tables mean, and these replies say so of it.
 abbrev pub IsTakenByRun : {S : Type 0} → Archive → ArchiveView S → List Request → List Reply → Type 0

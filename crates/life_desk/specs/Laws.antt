@@ -1,10 +1,11 @@
 -- What makes the definitions of the archive believable: one reply to each request, numbers that stay, repeats that act once, flags
 -- that tell what is steady.
-use Rattle.std.specs.Prelude.{◌≡◌, ◌≢◌, ◌↔◌, true, ℕ, List, Ok, Some, IsTrue}
+use Rattle.std.specs.Prelude.{◌≡◌, ◌≢◌, ◌↔◌, true, ℕ, List, Ok, Some, IsTrue, bytes_eq}
 use Rattle.std.specs.List.{AllByRecursion}
 use Rattle.life_core.specs.Generations.{generation_of}
 use Rattle.life_rle.specs.Record.{Contents}
 use Rattle.life_rle.specs.File as files
+use Rattle.life_rle.specs.Writer as writer
 use Rattle.life_census.specs.Steady.{IsSteady}
 use Rattle.life_store.specs.declared.kept.Deposit.{Deposit}
 use Rattle.life_store.specs.Kept.{numbered}
@@ -14,14 +15,18 @@ use Rattle.life_desk.specs.declared.request.Request.TheVariants as ask
 use Rattle.life_desk.specs.declared.request.Reply.{Reply}
 use Rattle.life_desk.specs.declared.request.Reply.TheVariants as says
 use Rattle.life_desk.specs.declared.request.Shown.{Shown}
-use Rattle.life_desk.specs.Content.{same_contents}
 use Rattle.life_desk.specs.Archive.{Archive}
+use Rattle.life_desk.specs.Means.{IsReadAgain, EachIsReadAgain}
 use Rattle.life_desk.specs.Replies.{IsReply, after}
 use Rattle.life_desk.specs.Run.{RequestRun, IsLater}
 
--- Records are one content exactly where they are equal.
-abbrev pub SameIsEqual : Type 0
-SameIsEqual = (a b : Contents) → (same_contents a b ≡ true) ↔ (a ≡ b)
+-- What a file is read as is read from its text again ..
+abbrev pub FilesAreReadAgain : Type 0
+FilesAreReadAgain = (bytes : List ℕ) (r : Contents) → files.file bytes ≡ Ok r → IsReadAgain r
+
+-- .. and the texts of such records are equal exactly if the records are.
+abbrev pub EqualTexts : Type 0
+EqualTexts = (a b : Contents) → IsReadAgain a → IsReadAgain b → (bytes_eq (writer.text a) (writer.text b) ≡ true) ↔ (a ≡ b)
 
 -- Each request has one reply: something is its reply, and nothing else is.
 abbrev pub OneReply : Type 0
@@ -33,7 +38,7 @@ NothingIsLost = (A B : Archive) (qs : List Request) (rs : List Reply) → Reques
 
 -- The number that answers a deposit names it, then and in every later archive: the member, the token, and the record of the file.
 abbrev pub DepositsStay : Type 0
-DepositsStay = (A B : Archive) (member token file : List ℕ) (n : ℕ) → IsReply A (ask.Deposit member token file) (says.Deposited n) → IsLater (after A (ask.Deposit member token file)) B
+DepositsStay = (A B : Archive) (member token file : List ℕ) (n : ℕ) → EachIsReadAgain A.deposits → IsReply A (ask.Deposit member token file) (says.Deposited n) → IsLater (after A (ask.Deposit member token file)) B
     → (content : Contents) × (files.file file ≡ Ok content) × (numbered B.deposits n ≡ Some (record { member = member; token = token; content = content }))
 
 -- The same of a census.

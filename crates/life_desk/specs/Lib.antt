@@ -1,5 +1,4 @@
 pub mod Refusals
-pub mod Content
 pub mod Archive
 pub mod Judging
 pub mod Submission

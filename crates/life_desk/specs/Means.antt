@@ -1,8 +1,11 @@
 -- When the tables of a store mean an archive: their rows stand for its deposits and its censuses, each census with the tally of its
 -- own generation of its own deposit, and with whether that generation is steady. The archive itself keeps no tallies and no flags.
-use Rattle.std.specs.Prelude.{◌≡◌, ℕ, List, [], map, IsSome}
+use Rattle.std.specs.Prelude.{◌≡◌, ℕ, List, [], Ok, map, IsSome}
 use Rattle.std.specs.List.{AllByRecursion}
 use Rattle.sqlite_trees.specs.Tree.{Trees}
+use Rattle.life_rle.specs.File.{kept}
+use Rattle.life_rle.specs.Record.{Contents}
+use Rattle.life_rle.specs.Writer.{text}
 use Rattle.life_store.specs.declared.kept.Deposit.{Deposit}
 use Rattle.life_store.specs.declared.kept.Census.{Census}
 use Rattle.life_store.specs.Kept.{Kept, Tallied, numbered}
@@ -20,6 +23,19 @@ kept_of A = record { deposits = A.deposits; censuses = map (tallied A.deposits) 
 -- each census is of a deposit
 abbrev pub EachHasDeposit : List Deposit → List Census → Type 0
 EachHasDeposit ds cs = AllByRecursion (λ c. IsSome (numbered ds c.deposit)) cs
+
+-- the text of a record is read as the record again
+abbrev pub IsReadAgain : Contents → Type 0
+IsReadAgain r = kept (text r) ≡ Ok r
+
+-- the record of each deposit is read from its text again
+abbrev pub EachIsReadAgain : List Deposit → Type 0
+EachIsReadAgain ds = AllByRecursion (λ d. IsReadAgain d.content) ds
+
+-- an archive that tables can stand for
+pub record IsRepresentable (A : Archive) : Type 0 where
+  pub again : EachIsReadAgain A.deposits
+  pub each : EachHasDeposit A.deposits A.censuses
 
 -- tables that stand for its deposits and its censuses, each with a tally and a flag computed anew, and its capacity
 pub record IsMeant (t : Tables) (most : ℕ) (A : Archive) : Type 0 where

@@ -1,5 +1,5 @@
 //! The desk: a request is judged by its own words, the archive is asked, and a reply is made.
-ghost use Rattle.std.specs.Prelude.{◌≡◌, ◌≤◌, ◌∷◌, ◌⊎◌, [], if◌then◌else◌, None, IfErr, IfOk, IsTrue, OnErr, OnOk, length, option_map, Some, true};
+ghost use Rattle.std.specs.Prelude.{◌≡◌, ◌≤◌, ◌∷◌, ◌⊎◌, [], bytes_eq, if◌then◌else◌, None, IfErr, IfOk, IsTrue, OnErr, OnOk, length, option_map, Some, true};
 ghost use Rattle.life_rle.specs.Record.{IsInside};
 ghost use Rattle.life_store.specs.Kept.{numbered, deposit_by, census_by, listed_after};
 ghost use Rattle.life_store.specs.Crash.{NoMore};
@@ -11,24 +11,22 @@ ghost use Rattle.life_desk.specs.Replies.{deposit_by_token, deposit_verdict, dep
 ghost use Rattle.life_core.specs.Pattern.{IsWithin};
 ghost use Rattle.life_code.specs.Codes as codes;
 ghost use Rattle.life_code.specs.Period as periods;
-ghost use Rattle.life_desk.specs.Content.{same_contents};
 ghost use Rattle.life_desk.specs.Judging.{judged};
 ghost use Rattle.life_desk.specs.JudgingState.{IsGood};
 ghost use Rattle.life_desk.specs.DeskState.{Acts, ActsWhere, MeanChanged, MeanChangedWhere, Promises, SpeaksSurely};
 ghost use Rattle.life_desk.specs.Headline.{IsTheArchive, IsTheArchiveOrFaults, IsTheArchiveInMemory};
 ghost use Rattle.life_desk.specs.Run.{Answered, IsIdle, IsCrashSafe};
 ghost use Rattle.life_desk.specs.Archive.{tally_for, tally_at, tally_of_cells, steady_for};
-ghost use Rattle.life_rle.specs.Writer as writer;
+ghost use Rattle.life_rle.specs.Writer.{text};
 ghost use Rattle.life_census.specs.Steady.{is_steady};
 ghost use Rattle.life_census.specs.Table.{csv_text};
 
 use crate::bytes::Bytes;
-use crate::content::same_contents;
 use crate::headline::law_of_the_archive;
 use crate::judging::judge;
 use crate::looking::{
     add_census, add_deposit, counted_census, counts_of, deposit_of, deposits_after, file_of,
-    find_census, find_deposit, has_census_room, has_room,
+    find_census, find_file, has_census_room, has_room,
 };
 use crate::refusal::Refusal;
 use crate::request::{Judged, Reply, Request, Shown};
@@ -49,6 +47,14 @@ fn repeated(is_same: bool, number: Reply) -> Reply
     } else {
         Reply::Refused(Refusal::TokenReused)
     }
+}
+
+/// The reply to a deposit whose token is used, by the file that is stored under it.
+fn kept_again(alloc: Global, id: u64, file: &[u8], deposit: &Deposit) -> Result<Reply, Unavailable>
+    ensures { IfOk result (λ r. r ≡ (if bytes_eq file.now (text deposit.now.content) then says.Deposited id else says.Refused refusals.TokenReused)) }
+{
+    let text = write(alloc, &deposit.content)?;
+    Ok(repeated(file == text.as_slice(), Reply::Deposited(id)))
 }
 
 /// Answers a deposit whose token is new.
@@ -85,16 +91,13 @@ fn keep_deposit<S: Alter>(
         (λ A r. r ≡ deposit_reply A (deposit_by_token A deposit.now (deposit_by deposit.now.member deposit.now.token A.deposits)))
         (λ A. with_deposit A (deposit_by_token A deposit.now (deposit_by deposit.now.member deposit.now.token A.deposits))) }
 {
-    match find_deposit(
+    match find_file(
         archive,
         alloc,
         deposit.member.as_bytes(),
         deposit.token.as_bytes(),
     )? {
-        Some((id, stored)) => Ok(repeated(
-            same_contents(&stored.content, &deposit.content),
-            Reply::Deposited(id),
-        )),
+        Some((id, file)) => kept_again(alloc, id, file.as_slice(), deposit),
         None => keep_new(archive, alloc, deposit),
     }
 }

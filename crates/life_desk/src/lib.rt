@@ -2,7 +2,6 @@
 #![tactic(auto)]
 
 mod bytes;
-mod content;
 mod desk;
 mod headline;
 mod judging;

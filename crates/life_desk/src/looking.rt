@@ -1,8 +1,8 @@
 //! What an archive tells, as the desk asks it.
-ghost use Rattle.std.specs.Prelude.{◌≡◌, ◌+◌, ◌++◌, ◌∷◌, [], Some, nat_lt, length, option_map, IfOk, IfSome, OnOk, OnErr};
+ghost use Rattle.std.specs.Prelude.{◌≡◌, ◌+◌, ◌++◌, ◌∷◌, [], ℕ, List, Some, nat_lt, length, option_map, IfOk, IfSome, OnOk, OnErr};
 ghost use Rattle.life_rle.specs.Record.{IsInside};
 ghost use Rattle.life_rle.specs.Writer.{text};
-ghost use Rattle.life_store.specs.Kept.{numbered, deposit_by, census_by, listed_after, kept_census};
+ghost use Rattle.life_store.specs.Kept.{numbered, deposit_by, file_of_deposit, census_by, listed_after, kept_census};
 ghost use Rattle.life_store.specs.Crash.{NoMore};
 ghost use Rattle.life_store.specs.Tables.{IsTransition, HasOrder, IsSureIfClean};
 ghost use Rattle.life_store.specs.declared.kept.Deposit.{Deposit as Kept};
@@ -46,19 +46,19 @@ pub(crate) fn file_of<S: Alter>(
     archive.file_of(alloc, id)
 }
 
-/// The deposit under the member and the token.
-pub(crate) fn find_deposit<S: Alter>(
+/// The number and the pattern file of the deposit under the member and the token.
+pub(crate) fn find_file<S: Alter>(
     archive: &mut Archive<S>,
     alloc: Global,
     member: &[u8],
     token: &[u8],
-) -> Result<Option<(u64, Deposit)>, Unavailable>
+) -> Result<Option<(u64, Vec<u8>)>, Unavailable>
     ensures goes { IsTransition S.Store NoMore archive.old archive.new }
     ensures sure { OnOk result (IsSureIfClean S.Store archive.new) }
     ensures same { MeansTheSame archive.old archive.new }
-    ensures value { ForAllMeant archive.old archive.new (λ A. IfOk result (λ o. o ≡ deposit_by member.now token.now A.deposits)) }
+    ensures value { ForAllMeant archive.old archive.new (λ A. IfOk result (λ f. option_map {U = ℕ × List ℕ} (λ p. (p.0, p.1.items)) f ≡ option_map file_of_deposit (deposit_by member.now token.now A.deposits))) }
 {
-    archive.find_deposit(alloc, member, token)
+    archive.find_file(alloc, member, token)
 }
 
 /// The deposits behind a number.

@@ -1,5 +1,5 @@
 -- What is read keeps a rule and a box of 1024 by 1024, so its text is read as it again.
-use Rattle.std.proofs.Common.{◌≡◌, ℕ, ◌+◌, ◌-◌, ◌≤◌, zero, suc, Bool, true, false, cond, ◌&&◌, ◌||◌, nat_le, nat_lt, nat_eq, List, [], ◌∷◌, ◌++◌, map, refl, ap, ◌∙◌, sym, subst, arith, Option, None, Some, Result, Ok, Err, inl, inr, if◌then◌else◌}
+use Rattle.std.proofs.Common.{◌≡◌, ℕ, ◌+◌, ◌-◌, ◌≤◌, zero, suc, Bool, true, false, cond, ◌&&◌, ◌||◌, nat_le, nat_lt, nat_eq, List, [], ◌∷◌, ◌++◌, length, map, refl, ap, ◌∙◌, sym, subst, arith, Option, None, Some, Result, Ok, Err, inl, inr, if◌then◌else◌}
 use Rattle.std.specs.List.{All, list_all, list_any, flat_map}
 use Rattle.std.specs.FinSet as set
 use Rattle.std.proofs.lemmas.Int.{ints}
@@ -12,14 +12,14 @@ use Rattle.life_core.specs.RuleText.{is_count_digit, AreCountDigits, HasRuleForm
 use Rattle.life_core.specs.RuleText.HasRuleForm.{birth_first, survival_first, digits_alone}
 use Rattle.life_core.proofs.RuleTextForms.{digits_by_form-spells}
 use Rattle.life_rle.specs.declared.fault.RleFault.{RleFault}
-use Rattle.life_rle.specs.declared.fault.RleFault.TheVariants.{TextLimit, BadCount, TooWide}
+use Rattle.life_rle.specs.declared.fault.RleFault.TheVariants.{TooLong, TextLimit, BadCount, TooWide}
 use Rattle.life_rle.specs.Fault.{in_file}
 use Rattle.life_rle.specs.Lines.{lines_of}
 use Rattle.life_rle.specs.Notes.{Notes, no_notes, notes_of, is_past_limit}
 use Rattle.life_rle.specs.Header.{header_rule}
 use Rattle.life_rle.specs.Body.{Item, count, is_end, has_tag, is_counted, is_bad_number, row_after, column_after, run, cells_at, placed, placed_after, fault_at, fault_at_tag, unless_faulty, judged_after, placed_unless_faulty, items_of, body_cells, IsPlaced}
 use Rattle.life_rle.specs.Record.{Contents, IsInside}
-use Rattle.life_rle.specs.File.{cell_of, front_lines, header_lines, chosen_rule, body_part, contents, after_front, read_lines, kept}
+use Rattle.life_rle.specs.File.{cell_of, front_lines, header_lines, chosen_rule, body_part, contents, after_front, read_lines, kept, file}
 use Rattle.life_rle.specs.Writer.{text}
 use Rattle.life_rle.proofs.BodyPositions.{placed_push}
 use Rattle.life_rle.proofs.RecordCells.{normal_inside}
@@ -60,7 +60,7 @@ rule_from text (Some digits) by r is =
     rule_by digits.birth digits.survival both.0 both.1 (set.contains (counts_of_digits digits.birth) 0) refl r is
 
 -- what a text is read as is a rule
-pub read_is_rule : (text : List ℕ) (r : RuleSets) → read_rule text ≡ Ok r → IsRule r
+read_is_rule : (text : List ℕ) (r : RuleSets) → read_rule text ≡ Ok r → IsRule r
 unfolding read_rule
 read_is_rule text r is = rule_from (normalized_text text) (digits_by_form (normalized_text text)) refl r is
 
@@ -159,9 +159,18 @@ by_limit : (t : Bool) (n : Notes) (lines : List (List ℕ)) (r : Contents) → c
 by_limit true n lines r read = absurd cc
 by_limit false n lines r read = front_keeps n lines r read
 
-pub kept_keeps : (bytes : List ℕ) (r : Contents) → kept bytes ≡ Ok r → IsRule r.rule × IsInside 1024 r.cells
+kept_keeps : (bytes : List ℕ) (r : Contents) → kept bytes ≡ Ok r → IsRule r.rule × IsInside 1024 r.cells
 unfolding kept read_lines
 kept_keeps bytes r read = let notes = notes_of no_notes (front_lines (lines_of bytes)) in by_limit (is_past_limit notes) notes (header_lines (lines_of bytes)) r read
 
-pub kept_again : (bytes : List ℕ) (r : Contents) → kept bytes ≡ Ok r → kept (text r) ≡ Ok r
+kept_again : (bytes : List ℕ) (r : Contents) → kept bytes ≡ Ok r → kept (text r) ≡ Ok r
 kept_again bytes r read = let keeps = kept_keeps bytes r read in read_again r (kept_is_record bytes r read) keeps.0 keeps.1
+
+-- what a file is read as is read from its text again
+pub file_read_again : (bytes : List ℕ) (r : Contents) → file bytes ≡ Ok r → kept (text r) ≡ Ok r
+unfolding file
+file_read_again bytes r read = by_length (nat_lt 1048576 (length bytes)) read
+  where
+    by_length : (b : Bool) → (if b then Err TooLong else kept bytes) ≡ Ok r → kept (text r) ≡ Ok r
+    by_length true long = absurd cc
+    by_length false fits = kept_again bytes r fits

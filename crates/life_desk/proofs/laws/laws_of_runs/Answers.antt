@@ -1,5 +1,5 @@
-use Rattle.life_desk.proofs.ContentSame.{same_contents-Decides}
-use Rattle.life_desk.proofs.Once.{deposits_act_once_lem, deposits_stay_lem}
+use Rattle.life_rle.proofs.ReadAgain.{file_read_again}
+use Rattle.life_desk.proofs.Once.{deposits_act_once_lem, deposits_stay_lem, equal_texts}
 use Rattle.life_desk.proofs.OnceCensus.{censuses_act_once_lem, censuses_stay_lem}
 use Rattle.life_desk.proofs.Steps.{nothing_is_lost}
 use Rattle.life_desk.proofs.OneReply.{one_reply, same_replies}
@@ -7,7 +7,10 @@ use Rattle.life_desk.proofs.Telling.{flag_tells_steady}
 use Rattle.life_desk.proofs.laws.laws_of_runs.Goals as goal
 
 pub returns-clause-same : goal.returns-clause-same
-returns-clause-same c = same_contents-Decides
+returns-clause-same c = equal_texts
+
+pub returns-clause-again : goal.returns-clause-again
+returns-clause-again c = file_read_again
 
 pub returns-clause-one_reply : goal.returns-clause-one_reply
 returns-clause-one_reply c = one_reply

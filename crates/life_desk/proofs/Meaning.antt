@@ -1,5 +1,5 @@
 -- What stays of a meaning as an archive grows, and what its tables tell.
-use Rattle.std.proofs.Common.{◌≡◌, nat_lt, ℕ, zero, suc, List, [], ◌∷◌, ◌++◌, ◌+◌, length, Option, None, Some, option_map, Result, Ok, Err, OnOk, OnErr, map, sum_by, IsTrue, IsSome, Bool, false, if◌then◌else◌, refl, sym, ◌∙◌, ap, subst, true}
+use Rattle.std.proofs.Common.{◌≡◌, nat_lt, ℕ, zero, suc, List, [], ◌∷◌, ◌++◌, ◌+◌, length, Some, option_map, Result, Ok, Err, OnOk, OnErr, map, sum_by, IsTrue, IsSome, Bool, refl, sym, ◌∙◌, ap, subst}
 use Rattle.std.specs.List.{slice_get, AllByRecursion}
 use Rattle.std.proofs.lemmas.Option.{slice_get-map}
 use Rattle.std.proofs.lemmas.List.Sums.{sum_by-cons}

@@ -1,5 +1,5 @@
 -- A deposit that was answered by a number has it in every later archive, and acts once.
-use Rattle.std.proofs.Common.{◌≡◌, ◌&&◌, ℕ, List, Bool, true, false, Option, None, Some, Result, Ok, Err, refl, sym, ◌∙◌, ap, subst, if◌then◌else◌}
+use Rattle.std.proofs.Common.{◌≡◌, ◌&&◌, ℕ, List, Bool, true, false, Some, Result, Ok, Err, refl, sym, ◌∙◌, ap, subst, if◌then◌else◌}
 use Rattle.std.specs.Str.{bytes_eq}
 use Rattle.std.proofs.lemmas.Bool.{and_parts}
 use Rattle.std.proofs.lemmas.Slice.Eq.{bytes_eq-Decides}
@@ -10,7 +10,7 @@ use Rattle.life_rle.specs.File.{kept}
 use Rattle.life_rle.specs.Writer.{text}
 use Rattle.life_rle.proofs.ReadAgain.{file_read_again}
 use Rattle.life_store.specs.declared.kept.Deposit.{Deposit}
-use Rattle.life_store.specs.Kept.{numbered, is_of}
+use Rattle.life_store.specs.Kept.{is_of}
 use Rattle.life_desk.specs.declared.refusal.Refusal.{Refusal}
 use Rattle.life_desk.specs.declared.refusal.Refusal.TheVariants as no
 use Rattle.life_desk.specs.declared.request.Request.TheVariants as ask
@@ -22,7 +22,7 @@ use Rattle.life_desk.specs.Judging.{is_member, is_token, judged}
 use Rattle.life_desk.specs.Replies.{is_same_deposit, has_room, deposit_of_file, deposit_reply, with_deposit, IsReply, after, IsReplyBy, after_by}
 use Rattle.life_desk.specs.Run.{IsLater}
 use Rattle.life_desk.specs.Laws.{EqualTexts, DepositsActOnce, DepositsStay}
-use Rattle.life_desk.specs.Means.{IsReadAgain, EachIsReadAgain, IsRepresentable}
+use Rattle.life_desk.specs.Means.{IsReadAgain}
 use Rattle.life_desk.proofs.Later.{deposit_stays}
 use Rattle.life_desk.proofs.Steps.{after_again, numbered_again}
 use Rattle.life_desk.proofs.Submissions.{Kind, IsStored, found_numbered, answered_stored, stored_longer, stored_repeats}

@@ -1,5 +1,5 @@
 -- What each step of a run keeps, and the moment of a run at which a request was answered.
-use Rattle.std.proofs.Common.{◌≡◌, ◌≢◌, inl, inr, nat_lt, ℕ, zero, suc, List, [], ◌∷◌, true, false, Option, None, Some, IsSome, Result, Ok, Err, length, refl, sym, subst, if◌then◌else◌}
+use Rattle.std.proofs.Common.{◌≡◌, ◌≢◌, inl, inr, ℕ, zero, suc, List, [], ◌∷◌, Option, None, Some, IsSome, Result, Ok, Err, refl, sym, subst}
 use Rattle.std.specs.List.{slice_get}
 use Rattle.std.proofs.lemmas.List.{append-nil}
 use Rattle.life_rle.specs.declared.fault.RleFault.{RleFault}

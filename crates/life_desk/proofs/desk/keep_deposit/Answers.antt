@@ -1,4 +1,4 @@
-use Rattle.std.proofs.Common.{◌≡◌, ◌∙◌, ℕ, List, Option, None, option_map, sym, ap}
+use Rattle.std.proofs.Common.{◌∙◌, ℕ, List, option_map, sym, ap}
 use Rattle.life_store.specs.Kept.{deposit_by, file_of_deposit}
 use Rattle.life_store.proofs.LastingLemmas.{goes_last, goes_more}
 use Rattle.life_desk.proofs.Crashes.{token_new}

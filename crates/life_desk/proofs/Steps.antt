@@ -39,17 +39,21 @@ census_later A v =
     let longer = after_longer A.censuses v in
     record { new_deposits = []; deposits = sym (append-nil A.deposits); new_censuses = longer.0; censuses = longer.1; capacity = refl }
 
+-- what holds of an archive after each request, by what holds of it before, and of it with one submission
+after_case : (P : Archive → Type 0) (A : Archive) (w : Result Judged Refusal) → P A → ((member token file : List ℕ) → P (with_deposit A (deposit_verdict A member token file))) → ((c : Census) → P (with_census A (census_verdict A c))) → P (after_by A w)
+after_case P A (Err refusal) none deposit census = none
+after_case P A (Ok (good.Deposit member token file)) none deposit census = deposit member token file
+after_case P A (Ok (good.Show id)) none deposit census = none
+after_case P A (Ok (good.ListAfter id)) none deposit census = none
+after_case P A (Ok (good.At id n)) none deposit census = none
+after_case P A (Ok (good.KindOf id limit)) none deposit census = none
+after_case P A (Ok (good.Census c)) none deposit census = census c
+after_case P A (Ok (good.ShowCensus id)) none deposit census = none
+after_case P A (Ok (good.CensusCsv id)) none deposit census = none
+after_case P A (Ok (good.Total rule code limit)) none deposit census = none
+
 after_later : (A : Archive) (w : Result Judged Refusal) → IsLater A (after_by A w)
-after_later A (Err refusal) = later_same A
-after_later A (Ok (good.Deposit member token file)) = deposit_later A (deposit_verdict A member token file)
-after_later A (Ok (good.Show id)) = later_same A
-after_later A (Ok (good.ListAfter id)) = later_same A
-after_later A (Ok (good.At id n)) = later_same A
-after_later A (Ok (good.KindOf id limit)) = later_same A
-after_later A (Ok (good.Census c)) = census_later A (census_verdict A c)
-after_later A (Ok (good.ShowCensus id)) = later_same A
-after_later A (Ok (good.CensusCsv id)) = later_same A
-after_later A (Ok (good.Total rule code limit)) = later_same A
+after_later A w = after_case (IsLater A) A w (later_same A) (λ member token file. deposit_later A (deposit_verdict A member token file)) (λ c. census_later A (census_verdict A c))
 
 pub step_later : (A : Archive) (q : Request) (r : Reply) (B : Archive) → RequestStep A q r B → IsLater A B
 step_later A q r B (answers s is) = after_later A (judged q)
@@ -83,34 +87,19 @@ census_each A c (Some d) is each =
     all_after (λ (c : Census). IsSome (numbered A.deposits c.deposit)) is_same_census (has_room A A.censuses) A.censuses c (census_by c.member c.token A.censuses) each (subst (λ o. IsSome o) (sym is) refl)
 
 pub after_again : (A : Archive) (w : Result Judged Refusal) → EachIsReadAgain A.deposits → EachIsReadAgain (after_by A w).deposits
-after_again A (Err refusal) again = again
-after_again A (Ok (good.Deposit member token file)) again = deposit_again A member token file (files.file file) refl again
-after_again A (Ok (good.Show id)) again = again
-after_again A (Ok (good.ListAfter id)) again = again
-after_again A (Ok (good.At id n)) again = again
-after_again A (Ok (good.KindOf id limit)) again = again
-after_again A (Ok (good.Census c)) again = again
-after_again A (Ok (good.ShowCensus id)) again = again
-after_again A (Ok (good.CensusCsv id)) again = again
-after_again A (Ok (good.Total rule code limit)) again = again
+after_again A w again =
+    after_case (λ (B : Archive). EachIsReadAgain B.deposits) A w again (λ member token file. deposit_again A member token file (files.file file) refl again) (λ c. again)
 
 pub after_each : (A : Archive) (w : Result Judged Refusal) → EachHasDeposit A.deposits A.censuses → EachHasDeposit (after_by A w).deposits (after_by A w).censuses
-after_each A (Err refusal) each = each
-after_each A (Ok (good.Deposit member token file)) each = deposit_each A (deposit_verdict A member token file) each
-after_each A (Ok (good.Show id)) each = each
-after_each A (Ok (good.ListAfter id)) each = each
-after_each A (Ok (good.At id n)) each = each
-after_each A (Ok (good.KindOf id limit)) each = each
-after_each A (Ok (good.Census c)) each = census_each A c (numbered A.deposits c.deposit) refl each
-after_each A (Ok (good.ShowCensus id)) each = each
-after_each A (Ok (good.CensusCsv id)) each = each
-after_each A (Ok (good.Total rule code limit)) each = each
+after_each A w each =
+    after_case (λ (B : Archive). EachHasDeposit B.deposits B.censuses) A w each (λ member token file. deposit_each A (deposit_verdict A member token file) each) (λ c. census_each A c (numbered A.deposits c.deposit) refl each)
 
-pub after_representable : (A : Archive) (w : Result Judged Refusal) → IsRepresentable A → IsRepresentable (after_by A w)
-after_representable A w can = record { again = after_again A w can.again; each = after_each A w can.each }
+pub step_each : (A : Archive) (q : Request) (r : Reply) (B : Archive) → RequestStep A q r B → EachHasDeposit A.deposits A.censuses → EachHasDeposit B.deposits B.censuses
+step_each A q r B (answers s is) each = after_each A (judged q) each
+step_each A q r B (gives_up is) each = each
 
-pub step_representable : (A : Archive) (q : Request) (r : Reply) (B : Archive) → RequestStep A q r B → IsRepresentable A → IsRepresentable B
-step_representable A q r B (answers s is) can = after_representable A (judged q) can
+step_representable : (A : Archive) (q : Request) (r : Reply) (B : Archive) → RequestStep A q r B → IsRepresentable A → IsRepresentable B
+step_representable A q r B (answers s is) can = record { again = after_again A (judged q) can.again; each = after_each A (judged q) can.each }
 step_representable A q r B (gives_up is) can = can
 
 -- the deposit of a census that is kept

@@ -68,7 +68,7 @@ run_later A B (q ∷ qs) [] run = absurd run
 pub nothing_is_lost : NothingIsLost
 nothing_is_lost A B qs rs run = run_later A B qs rs run
 
--- ---- an archive that tables can stand for stays one
+-- ---- an archive that tables can represent stays one
 
 deposit_each : (A : Archive) (v : Verdict Deposit) → EachHasDeposit A.deposits A.censuses → EachHasDeposit (with_deposit A v).deposits A.censuses
 deposit_each A (Refuses refusal) each = each

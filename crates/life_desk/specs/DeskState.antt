@@ -30,7 +30,7 @@ SpeaksSurely g new result gives leaves = IfOk result (λ r. IsSureIfClean g new 
 
 -- ---- what a crash may leave of such a call
 
--- the database was sure, and whatever archive its tables meant, of which this holds, the trees mean what the change makes of it
+-- the database was sure, and if this holds of an archive that its tables meant, the trees mean what the change makes of it
 abbrev pub MeanChangedWhere : {S : Type 0} → ArchiveView S → (Archive → Type 0) → (Archive → Archive) → Trees → Type 0
 MeanChangedWhere old where_this change db = IsTrue old.tables.is_sure × ((A : Archive) → Means old A → where_this A → TreesMean db (change A))
 

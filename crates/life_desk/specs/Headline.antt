@@ -77,7 +77,7 @@ pub record Headline (A : Archive) (qs : List Request) (rs : List Reply) (B : Arc
   pub totals : (text code : List ℕ) (limit n : ℕ) → IsAnswered qs rs (ask.Total text code limit) (says.Total n)
       → (rule : RuleSets) × (M : Archive) × (read_rule text ≡ Ok rule) × IsLater A M × IsLater M B × (n ≡ clusters_with M rule code)
 
--- It holds of every run from an archive that tables can stand for.
+-- It holds of every run from an archive that tables can represent.
 abbrev pub HeadlineHolds : Type 0
 HeadlineHolds = (A B : Archive) (qs : List Request) (rs : List Reply) → IsRepresentable A → RequestRun A qs rs B → Headline A qs rs B
 

@@ -32,7 +32,7 @@ IsReadAgain r = kept (text r) ≡ Ok r
 abbrev pub EachIsReadAgain : List Deposit → Type 0
 EachIsReadAgain ds = AllByRecursion (λ d. IsReadAgain d.content) ds
 
--- an archive that tables can stand for
+-- an archive that tables can represent
 pub record IsRepresentable (A : Archive) : Type 0 where
   pub again : EachIsReadAgain A.deposits
   pub each : EachHasDeposit A.deposits A.censuses

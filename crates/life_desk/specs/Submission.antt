@@ -14,18 +14,19 @@ pub data Verdict (X : Type 0) : Type 0 where
   -- it is new, and there is room
   Adds : X → Verdict X
 
--- by when two are the same, by whether there is room, and by what is stored under its token, with its number: the token comes before the room
+-- The verdict on x, by what is stored under its token and the number of that: it repeats what is the same; another thing under the token is
+-- refused. A new one is added if there is room.
 abbrev pub by_token : {X : Type 0} → (X → X → Bool) → Bool → X → Option (ℕ × X) → Verdict X
 by_token is_same has_room x (Some stored) = if is_same stored.1 x then Repeats stored.0 else Refuses no.TokenReused
 by_token is_same has_room x None = if has_room then Adds x else Refuses no.Full
 
--- the reply, where these are stored: `number` says a number
+-- the reply, if these are stored before it; `number` is the reply that says a number
 abbrev pub reply_of : {X : Type 0} → (ℕ → Reply) → List X → Verdict X → Reply
 reply_of number xs (Refuses refusal) = says.Refused refusal
 reply_of number xs (Repeats id) = number id
 reply_of number xs (Adds x) = number (length xs + 1)
 
--- what is stored after it
+-- what is stored after it: one more, the last, if it is added
 abbrev pub stored_after : {X : Type 0} → List X → Verdict X → List X
 stored_after xs (Refuses refusal) = xs
 stored_after xs (Repeats id) = xs

@@ -3,13 +3,9 @@ use Rattle.std.proofs.Common.{◌≡◌, ◌≢◌, ℕ, zero, suc, ◌-◌, ◌
 use Rattle.std.proofs.lemmas.Bool.Decides.{nat_tests}
 use Rattle.std.specs.List.{ends_with}
 use Rattle.std.specs.Cmp.Lexicographic.{pointwise}
+use Rattle.life_pages.specs.Path.{from_slash}
 use Rattle.matchit.specs.Rows.{RowsOf, comes_before}
 use Rattle.matchit.specs.Seek.{segment, has_slash, cuts, own, step, or_else, longest_from, with_suffix, param_step, seek}
-
--- what is left from the first slash on
-abbrev pub from_slash : List ℕ → List ℕ
-from_slash [] = []
-from_slash (b ∷ p) = cond (b == 47) (b ∷ p) (from_slash p)
 
 -- the path matches these tokens: each byte itself, and a parameter one byte or more that are no slash
 abbrev pub matched : List ℕ → List ℕ → Bool
@@ -31,7 +27,7 @@ pub and_split : (a b : Bool) → (a && b) ≡ true → (a ≡ true) × (b ≡ tr
 and_split true b e = (refl, e)
 and_split false b e = absurd (true≢false (sym e))
 
-same_nat : (x y : ℕ) → (x == y) ≡ true → x ≡ y
+pub same_nat : (x y : ℕ) → (x == y) ≡ true → x ≡ y
 same_nat x y e = grind (arith, nat_tests, e)
 
 other_nat : (x y : ℕ) → (x == y) ≡ false → x ≢ y
@@ -48,7 +44,7 @@ below x e = grind (arith, nat_tests, e)
 
 -- ---- the path up to a slash
 
-slash_front : (p : List ℕ) → has_slash p ≡ true → (q : List ℕ) × (from_slash p ≡ 47 ∷ q)
+pub slash_front : (p : List ℕ) → has_slash p ≡ true → (q : List ℕ) × (from_slash p ≡ 47 ∷ q)
 slash_front [] e = absurd (true≢false (sym e))
 slash_front (b ∷ p) e = by (b == 47) refl (λ h. slash_front p h) e
   where
@@ -57,7 +53,7 @@ slash_front (b ∷ p) e = by (b == 47) refl (λ h. slash_front p h) e
     by true is ih e = (p, ap (λ (x : ℕ). x ∷ p) (same_nat b 47 is))
     by false is ih e = ih e
 
-no_slash_front : (p : List ℕ) → has_slash p ≡ false → from_slash p ≡ []
+pub no_slash_front : (p : List ℕ) → has_slash p ≡ false → from_slash p ≡ []
 no_slash_front [] e = refl
 no_slash_front (b ∷ p) e = by (b == 47) (λ h. no_slash_front p h) e
   where

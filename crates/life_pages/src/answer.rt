@@ -4,7 +4,7 @@ ghost use Rattle.life_desk.specs.declared.request.Request.{Request};
 ghost use Rattle.life_pages.specs.declared.asked.PageRefusal.{PageRefusal};
 ghost use Rattle.life_pages.specs.AskedState.{IsAsked};
 ghost use Rattle.life_pages.specs.HeadState.{said};
-ghost use Rattle.life_pages.specs.RouteState.{page_rows};
+ghost use Rattle.life_pages.specs.RouteState.{route_rows};
 ghost use Rattle.life_pages.specs.Message.{AnswersAsked, AnswersMessage};
 ghost use Rattle.life_pages.specs.AnswerState.{HasRoom};
 
@@ -12,7 +12,7 @@ use crate::asked::{Unasked, asked};
 use crate::desk::Desk;
 use crate::head::GoodHead;
 use crate::reply::{BODY_ROOM, REPLY_ROOM, write_page, write_refusal, write_reply};
-use crate::route::Page;
+use crate::route::Template;
 use life_desk::Request;
 use matchit::Router;
 use std::alloc::{AllocError, Global};
@@ -61,13 +61,13 @@ fn refuse<D: Desk>(desk: &D, unasked: Unasked, draft: &mut ReplyBuffers)
 /// Writes the reply to a good message.
 pub(crate) fn answer_message<D: Desk>(
     alloc: Global,
-    routes: &Router<Page>,
+    routes: &Router<Template>,
     desk: &mut D,
     head: &GoodHead<'_>,
     body: &[u8],
     draft: &mut ReplyBuffers,
 )
-    requires routes { routes.now ≡ page_rows }
+    requires routes { routes.now ≡ route_rows }
     requires room { HasRoom draft.old }
     ensures answered { AnswersMessage D.answers desk.old (said head.now) body.now draft.new.reply.items desk.new }
     ensures room { HasRoom draft.new }

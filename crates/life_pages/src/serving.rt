@@ -3,7 +3,7 @@ ghost use Rattle.std.specs.Prelude.{◌⊎◌, ◌≡◌, ℕ, ◌+◌, ◌-◌,
 ghost use Rattle.life_rle.specs.Stream.{counted, moved, raised, FailsLast, LosesUpTo, Gains, GainsSome};
 ghost use Rattle.life_pages.specs.Head.{Head};
 ghost use Rattle.life_pages.specs.HeadState.{said};
-ghost use Rattle.life_pages.specs.RouteState.{page_rows};
+ghost use Rattle.life_pages.specs.RouteState.{route_rows};
 ghost use Rattle.life_pages.specs.Reply.{bad_bytes};
 ghost use Rattle.life_pages.specs.Message.{are_line_breaks, HasMessageInFront, HasNone, AnswersMessage};
 ghost use Rattle.life_pages.specs.MessageState.{held_limit, NeverHas, IsWanting, WantsUntil};
@@ -16,7 +16,7 @@ use crate::asked::PageRefusal;
 use crate::desk::Desk;
 use crate::message::{HEAD_LIMIT, Next, are_blank, next_message};
 use crate::reply::{add, page_reply};
-use crate::route::{Page, page_routes};
+use crate::route::{Template, route_table};
 use life_rle::{Failed, Inlet, Outlet, put_all};
 use matchit::Router;
 use std::alloc::{AllocError, Global};
@@ -90,14 +90,14 @@ fn put_bad<O: Outlet>(output: &mut O) -> Result<(), Failed>
 #[tactic(auto, using(crate::proofs::MessageStanding::wants_none))]
 fn serve_one<O: Outlet, D: Desk>(
     alloc: Global,
-    routes: &Router<Page>,
+    routes: &Router<Template>,
     desk: &mut D,
     output: &mut O,
     held: &mut Vec<u8>,
     wanted: &mut usize,
     draft: &mut ReplyBuffers,
 ) -> Result<Step, Failed>
-    requires routes { routes.now ≡ page_rows }
+    requires routes { routes.now ≡ route_rows }
     requires draft { HasRoom draft.old }
     requires below { WantsUntil wanted.old held.old.items }
     ensures count { OnOk result (O.failures output.new ≡ O.failures output.old) }
@@ -141,14 +141,14 @@ fn serve_one<O: Outlet, D: Desk>(
 /// Answers all messages that are held whole. Whether the stream has ended.
 fn serve_held<O: Outlet, D: Desk>(
     alloc: Global,
-    routes: &Router<Page>,
+    routes: &Router<Template>,
     desk: &mut D,
     output: &mut O,
     held: &mut Vec<u8>,
     wanted: &mut usize,
     draft: &mut ReplyBuffers,
 ) -> Result<bool, Failed>
-    requires routes { routes.now ≡ page_rows }
+    requires routes { routes.now ≡ route_rows }
     requires draft { HasRoom draft.old }
     requires below { WantsUntil wanted.old held.old.items }
     ensures count { OnOk result (O.failures output.new ≡ O.failures output.old) }
@@ -300,7 +300,7 @@ fn finish<O: Outlet, D: Desk>(desk: &D, output: &mut O, held: &[u8]) -> Result<(
 /// What serving needs room for.
 #[derive(Drop)]
 struct Ready {
-    routes: Router<Page>,
+    routes: Router<Template>,
     held: Vec<u8>,
     /// No message is whole before so many bytes are held.
     wanted: usize,
@@ -310,14 +310,14 @@ struct Ready {
 /// The routes, the buffer and the reserve for a reply.
 #[tactic(auto, using(crate::proofs::MessageStanding::wants_none))]
 fn prepared(alloc: Global) -> Result<Ready, AllocError>
-    ensures routes { IfOk result (λ p. p.routes ≡ page_rows) }
+    ensures routes { IfOk result (λ p. p.routes ≡ route_rows) }
     ensures held { IfOk result (λ p. (p.held.items ≡ []) × (HELD_LIMIT ≤ vec_capacity p.held)) }
     ensures below { IfOk result (λ p. WantsUntil p.wanted p.held.items) }
     ensures draft { IfOk result (λ p. HasRoom p.draft) }
 {
     let draft = ReplyBuffers::with_room(alloc)?;
     let held = Vec::with_capacity(alloc, HELD_LIMIT)?;
-    match page_routes(alloc) {
+    match route_table(alloc) {
         Ok(routes) => Ok(Ready {
             routes,
             held,
@@ -336,7 +336,7 @@ fn serve_stream<I: Inlet, O: Outlet, D: Desk>(
     input: &mut I,
     output: &mut O,
 ) -> Result<(), IoFault>
-    requires routes { ready.old.routes ≡ page_rows }
+    requires routes { ready.old.routes ≡ route_rows }
     requires empty { ready.old.held.items ≡ [] }
     requires held { HELD_LIMIT ≤ vec_capacity ready.old.held }
     requires draft { HasRoom ready.old.draft }

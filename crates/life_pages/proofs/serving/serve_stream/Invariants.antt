@@ -1,5 +1,5 @@
 use Rattle.std.proofs.Common.{◌≡◌, ◌+◌, ◌-◌, ◌*◌, ◌≤◌, vec_capacity}
-use Rattle.life_pages.specs.RouteState.{page_rows}
+use Rattle.life_pages.specs.RouteState.{route_rows}
 use Rattle.life_pages.specs.Message.{AnswersMessage}
 use Rattle.life_pages.specs.MessageState.{held_limit, WantsUntil}
 use Rattle.life_pages.specs.AnswerState.{HasRoom}
@@ -28,7 +28,7 @@ invariant-takes g l = Going
     (LosesAtLeast l.taken (g.I.Inlet.to_come l.fn.input) (g.I.Inlet.to_come l.input))
     (LosesUpTo (l.taken * most_taken) (g.I.Inlet.to_come l.fn.input) (g.I.Inlet.to_come l.input))
     (l.taken ≤ most_takes)
-    (l.ready.routes ≡ page_rows)
+    (l.ready.routes ≡ route_rows)
     (held_limit ≤ vec_capacity l.ready.held)
     (HasRoom l.ready.draft)
     (g.I.Inlet.failures l.input ≡ g.I.Inlet.failures l.fn.input)

@@ -1,12 +1,12 @@
 use Rattle.std.proofs.Common.{codes, refl}
 use Rattle.matchit.specs.Route.{parse_route}
-use Rattle.life_pages.specs.RouteState.{with_deposit_pages}
-use Rattle.life_pages.specs.declared.route.Page.TheVariants.{Deposits, Deposit, After, At, Kind, Censuses}
+use Rattle.life_pages.specs.RouteState.{with_deposit_routes}
+use Rattle.life_pages.specs.declared.route.Template.TheVariants.{Deposits, Deposit, After, At, Kind, Censuses}
 use Rattle.life_pages.proofs.RouteInserting.{inserted, inserted_on_ok}
-use Rattle.life_pages.proofs.route.add_deposit_pages.Goals as goal
+use Rattle.life_pages.proofs.route.add_deposit_routes.Goals as goal
 
 pub returns : goal.returns
-unfolding with_deposit_pages
+unfolding with_deposit_routes
 returns c =
     let r1 = inserted (parse_route (codes "/deposits")) Deposits _ _ _ _ refl c.in_ok-insert.ensures in
     let r2 = inserted (parse_route (codes "/deposits/{id}")) Deposit _ _ _ _ r1 c.in_ok-insert-2.ensures in

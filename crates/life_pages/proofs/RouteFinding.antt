@@ -1,5 +1,5 @@
 -- The router finds the route whose template a path fits.
-use Rattle.std.proofs.Common.{◌≡◌, ℕ, ◌+◌, ◌<◌, ◌^◌, ◌==◌, ◌&&◌, not, Bool, true, false, cond, if◌then◌else◌, ltb, List, [], ◌∷◌, ◌++◌, length, Option, None, Some, is_some, option_map, option_and_then, refl, sym, ◌∙◌, ap, subst, true≢false, arith}
+use Rattle.std.proofs.Common.{◌≡◌, ℕ, ◌+◌, ◌<◌, ◌^◌, ◌==◌, ◌&&◌, not, Bool, true, false, cond, if◌then◌else◌, ltb, List, [], ◌∷◌, length, Option, None, Some, is_some, option_map, refl, sym, ◌∙◌, ap, subst, true≢false, arith}
 use Rattle.std.proofs.lemmas.Bool.Decides.{nat_tests}
 use Rattle.std.specs.Str.{IsUtf8}
 use Rattle.matchit.specs.Rows.{RowsOf}
@@ -11,7 +11,7 @@ use Rattle.life_pages.specs.declared.route.Route.{Route}
 use Rattle.life_pages.specs.declared.route.Template.{Template}
 use Rattle.life_pages.specs.Path.{to_slash, from_slash}
 use Rattle.life_pages.specs.Route.{Piece, byte, parameter, pieces_of, captured, Reading, templates, read_or, route_among, route_of}
-use Rattle.life_pages.specs.RouteState.{with_deposit_routes, with_census_routes, route_rows, reading_of, texts_of, AreTexts}
+use Rattle.life_pages.specs.RouteState.{with_deposit_routes, with_census_routes, route_rows, reading_of}
 use Rattle.life_pages.proofs.RouteSeeking.{matched, first_of, good_rows, sorted_rows, seek_is, and_split}
 use Rattle.life_pages.proofs.RouteCaptures.{tokens, params_in, is_plain, Gives, takes}
 

@@ -133,43 +133,51 @@ const CENSUSES: [Row; 21] = [
 
 /// The deposit of a file, under a member and a token.
 fn deposit(alloc: Global, member: &str, token: &str, file: &str) -> Result<Request, Unavailable> {
-    Ok(Request::Deposit(
-        Text::from_slice(alloc, member.as_bytes())?,
-        Text::from_slice(alloc, token.as_bytes())?,
-        Bytes::from_slice(alloc, file.as_bytes())?,
-    ))
+    Ok(Request::Deposit {
+        member: Text::from_slice(alloc, member.as_bytes())?,
+        token: Text::from_slice(alloc, token.as_bytes())?,
+        file: Bytes::from_slice(alloc, file.as_bytes())?,
+    })
 }
 
 /// A census of `ann`'s.
-fn census(alloc: Global, token: &str, id: u64, n: u64, limit: u64) -> Result<Request, Unavailable> {
-    Ok(Request::Census(
-        Text::from_slice(alloc, b"ann")?,
-        Text::from_slice(alloc, token.as_bytes())?,
-        id,
-        n,
+fn census(
+    alloc: Global,
+    token: &str,
+    deposit: u64,
+    generation: u64,
+    limit: u64,
+) -> Result<Request, Unavailable> {
+    Ok(Request::Census {
+        member: Text::from_slice(alloc, b"ann")?,
+        token: Text::from_slice(alloc, token.as_bytes())?,
+        deposit,
+        generation,
         limit,
-    ))
+    })
 }
 
 fn total(alloc: Global, rule: &str, code: &str, limit: u64) -> Result<Request, Unavailable> {
-    Ok(Request::Total(
-        Bytes::from_slice(alloc, rule.as_bytes())?,
-        Bytes::from_slice(alloc, code.as_bytes())?,
+    Ok(Request::Total {
+        rule: Bytes::from_slice(alloc, rule.as_bytes())?,
+        code: Bytes::from_slice(alloc, code.as_bytes())?,
         limit,
-    ))
+    })
 }
 
 /// The request of a row.
 fn request(alloc: Global, asked: Asked) -> Result<Request, Unavailable> {
     match asked {
         Asked::Deposit(member, token, file) => deposit(alloc, member, token, file),
-        Asked::Show(id) => Ok(Request::Show(id)),
-        Asked::ListAfter(id) => Ok(Request::ListAfter(id)),
-        Asked::At(id, n) => Ok(Request::At(id, n)),
-        Asked::KindOf(id, limit) => Ok(Request::KindOf(id, limit)),
-        Asked::Census(token, id, n, limit) => census(alloc, token, id, n, limit),
-        Asked::ShowCensus(id) => Ok(Request::ShowCensus(id)),
-        Asked::CensusCsv(id) => Ok(Request::CensusCsv(id)),
+        Asked::Show(id) => Ok(Request::Show { id }),
+        Asked::ListAfter(id) => Ok(Request::ListAfter { id }),
+        Asked::At(id, generation) => Ok(Request::At { id, generation }),
+        Asked::KindOf(id, limit) => Ok(Request::KindOf { id, limit }),
+        Asked::Census(token, deposit, generation, limit) => {
+            census(alloc, token, deposit, generation, limit)
+        },
+        Asked::ShowCensus(id) => Ok(Request::ShowCensus { id }),
+        Asked::CensusCsv(id) => Ok(Request::CensusCsv { id }),
         Asked::Total(rule, code, limit) => total(alloc, rule, code, limit),
     }
 }
@@ -401,8 +409,8 @@ fn numbered_ones(alloc: Global) -> Result<Vec<Request>, Unavailable> {
 /// A hundred and one deposits, and two lists of them.
 fn many(alloc: Global) -> Result<Vec<Request>, Unavailable> {
     let mut requests = numbered_ones(alloc)?;
-    put(&mut requests, Ok(Request::ListAfter(0)))?;
-    put(&mut requests, Ok(Request::ListAfter(100)))?;
+    put(&mut requests, Ok(Request::ListAfter { id: 0 }))?;
+    put(&mut requests, Ok(Request::ListAfter { id: 100 }))?;
     Ok(requests)
 }
 

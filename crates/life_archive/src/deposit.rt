@@ -53,11 +53,11 @@ fn deposit_request(
 ) -> Result<Request, AllocError>
     ensures { IfOk result (λ request. request ≡ ask.Deposit member.now token.now file.items) }
 {
-    Ok(Request::Deposit(
-        Text::from_slice(alloc, member.as_bytes())?,
-        Text::from_slice(alloc, token.as_bytes())?,
-        Bytes::of(file),
-    ))
+    Ok(Request::Deposit {
+        member: Text::from_slice(alloc, member.as_bytes())?,
+        token: Text::from_slice(alloc, token.as_bytes())?,
+        file: Bytes::of(file),
+    })
 }
 
 /// The stop for what the archive refuses.

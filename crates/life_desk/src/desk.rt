@@ -466,15 +466,19 @@ fn act<S: Alter>(
     ensures acts { Acts archive.old archive.new result (λ A r. IsReplyTo A judged r) (λ A. after_all_of A judged) }
 {
     match judged {
-        Judged::Deposit(member, token, file) => deposit(archive, alloc, member, token, file),
-        Judged::Show(id) => show(archive, alloc, id),
-        Judged::ListAfter(id) => list_after(archive, alloc, id),
-        Judged::At(id, n) => show_at(archive, alloc, id, n),
-        Judged::KindOf(id, limit) => name_kind(archive, alloc, id, limit),
+        Judged::Deposit {
+            member,
+            token,
+            file,
+        } => deposit(archive, alloc, member, token, file),
+        Judged::Show { id } => show(archive, alloc, id),
+        Judged::ListAfter { id } => list_after(archive, alloc, id),
+        Judged::At { id, generation } => show_at(archive, alloc, id, generation),
+        Judged::KindOf { id, limit } => name_kind(archive, alloc, id, limit),
         Judged::Census(census) => take_census(archive, alloc, &census),
-        Judged::ShowCensus(id) => show_census(archive, alloc, id),
-        Judged::CensusCsv(id) => census_csv(archive, alloc, id),
-        Judged::Total(rule, text, limit) => total(archive, alloc, &rule, text.as_slice(), limit),
+        Judged::ShowCensus { id } => show_census(archive, alloc, id),
+        Judged::CensusCsv { id } => census_csv(archive, alloc, id),
+        Judged::Total { rule, code, limit } => total(archive, alloc, &rule, code.as_slice(), limit),
     }
 }
 

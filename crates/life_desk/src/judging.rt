@@ -135,7 +135,11 @@ fn judge_deposit(member: Text, token: Text, file: Bytes) -> Result<Judged, Refus
     ensures within { IfOk result IsGood }
 {
     judge_names(member.as_bytes(), token.as_bytes())?;
-    Ok(Judged::Deposit(member, token, file))
+    Ok(Judged::Deposit {
+        member,
+        token,
+        file,
+    })
 }
 
 /// The words of a census, judged.
@@ -168,7 +172,7 @@ fn judge_total(rule: Bytes, code: Bytes, limit: u64) -> Result<Judged, Refusal>
 {
     let limit = limit_in(limit)?;
     match Rule::read(rule.as_slice()) {
-        Ok(rule) => Ok(Judged::Total(rule, code, limit)),
+        Ok(rule) => Ok(Judged::Total { rule, code, limit }),
         Err(_) => Err(Refusal::BadRule),
     }
 }
@@ -179,16 +183,30 @@ pub(crate) fn judge(request: Request) -> Result<Judged, Refusal>
     ensures within { IfOk result IsGood }
 {
     match request {
-        Request::Deposit(member, token, file) => judge_deposit(member, token, file),
-        Request::Show(id) => Ok(Judged::Show(id)),
-        Request::ListAfter(id) => Ok(Judged::ListAfter(id)),
-        Request::At(id, n) => Ok(Judged::At(id, generation_in(n)?)),
-        Request::KindOf(id, limit) => Ok(Judged::KindOf(id, limit_in(limit)?)),
-        Request::Census(member, token, deposit, n, limit) => {
-            judge_census(member, token, deposit, n, limit)
-        }
-        Request::ShowCensus(id) => Ok(Judged::ShowCensus(id)),
-        Request::CensusCsv(id) => Ok(Judged::CensusCsv(id)),
-        Request::Total(rule, code, limit) => judge_total(rule, code, limit),
+        Request::Deposit {
+            member,
+            token,
+            file,
+        } => judge_deposit(member, token, file),
+        Request::Show { id } => Ok(Judged::Show { id }),
+        Request::ListAfter { id } => Ok(Judged::ListAfter { id }),
+        Request::At { id, generation } => Ok(Judged::At {
+            id,
+            generation: generation_in(generation)?,
+        }),
+        Request::KindOf { id, limit } => Ok(Judged::KindOf {
+            id,
+            limit: limit_in(limit)?,
+        }),
+        Request::Census {
+            member,
+            token,
+            deposit,
+            generation,
+            limit,
+        } => judge_census(member, token, deposit, generation, limit),
+        Request::ShowCensus { id } => Ok(Judged::ShowCensus { id }),
+        Request::CensusCsv { id } => Ok(Judged::CensusCsv { id }),
+        Request::Total { rule, code, limit } => judge_total(rule, code, limit),
     }
 }

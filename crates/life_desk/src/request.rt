@@ -12,27 +12,55 @@ use life_store::{Census, Listing};
 /// judged by [`answer`](crate::answer). Deposits and censuses are named by their numbers, which count from 1.
 #[derive(Drop)]
 pub enum Request {
-    /// Keep a pattern file: member, token, and the bytes of the file. The token makes the request safe to
-    /// repeat: the same member and token with an equal record is the same deposit.
-    Deposit(Text, Text, Bytes),
-    /// The file of the deposit of this number.
-    Show(u64),
+    /// Keep a pattern file. The token makes the request safe to repeat: the same member and token with an equal
+    /// record is the same deposit.
+    Deposit {
+        member: Text,
+        token: Text,
+        file: Bytes,
+    },
+    /// The file of a deposit.
+    Show {
+        id: u64,
+    },
     /// A list of the deposits with a number above this one.
-    ListAfter(u64),
-    /// The file of a generation of a deposit: the deposit's number, and the generation, 0 to 2048.
-    At(u64, u64),
-    /// What becomes of a deposit: its number, and the limit of the period, 1 to 2048.
-    KindOf(u64, u64),
-    /// Keep a census of a generation of a deposit: member, token, the deposit's number, the generation, 0 to
-    /// 2048, and the limit of the period, 1 to 2048. Tokens of censuses are apart from those of deposits.
-    Census(Text, Text, u64, u64, u64),
-    /// The census of this number.
-    ShowCensus(u64),
-    /// The tally of the census of this number, as CSV.
-    CensusCsv(u64),
-    /// How many clusters have a code, over all censuses of deposits of a rule: the rule, in any of its
-    /// spellings, the code, and the limit of the period, 1 to 2048, within which the code must be one.
-    Total(Bytes, Bytes, u64),
+    ListAfter {
+        id: u64,
+    },
+    /// The file of a generation of a deposit, 0 to 2048.
+    At {
+        id: u64,
+        generation: u64,
+    },
+    /// What becomes of a deposit, under the limit of the period, 1 to 2048.
+    KindOf {
+        id: u64,
+        limit: u64,
+    },
+    /// Keep a census of a generation of a deposit, 0 to 2048, under the limit of the period, 1 to 2048. Tokens of
+    /// censuses are apart from those of deposits.
+    Census {
+        member: Text,
+        token: Text,
+        deposit: u64,
+        generation: u64,
+        limit: u64,
+    },
+    /// A census.
+    ShowCensus {
+        id: u64,
+    },
+    /// The tally of a census, as CSV.
+    CensusCsv {
+        id: u64,
+    },
+    /// How many clusters have a code, over all censuses of deposits of a rule: the rule in any of its spellings, the
+    /// code, and the limit of the period, 1 to 2048, within which the code must be one.
+    Total {
+        rule: Bytes,
+        code: Bytes,
+        limit: u64,
+    },
 }
 
 /// A census, as it is shown.
@@ -79,13 +107,35 @@ pub enum Reply {
 /// A request whose words are good: its numbers are within the limits, and its rule is read.
 #[derive(Drop)]
 pub(crate) enum Judged {
-    Deposit(Text, Text, Bytes),
-    Show(u64),
-    ListAfter(u64),
-    At(u64, u32),
-    KindOf(u64, u32),
+    Deposit {
+        member: Text,
+        token: Text,
+        file: Bytes,
+    },
+    Show {
+        id: u64,
+    },
+    ListAfter {
+        id: u64,
+    },
+    At {
+        id: u64,
+        generation: u32,
+    },
+    KindOf {
+        id: u64,
+        limit: u32,
+    },
     Census(Census),
-    ShowCensus(u64),
-    CensusCsv(u64),
-    Total(Rule, Bytes, u32),
+    ShowCensus {
+        id: u64,
+    },
+    CensusCsv {
+        id: u64,
+    },
+    Total {
+        rule: Rule,
+        code: Bytes,
+        limit: u32,
+    },
 }

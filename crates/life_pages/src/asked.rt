@@ -62,11 +62,11 @@ fn method_of(route: &Route<'_>) -> &'static str
 fn copy_deposit(alloc: Global, head: &GoodHead<'_>, body: &[u8]) -> Result<Request, AllocError>
     ensures { IfOk result (λ q. q ≡ Request.Deposit head.now.member.now head.now.token.now body.now) }
 {
-    Ok(Request::Deposit(
-        Text::from_slice(alloc, head.member)?,
-        Text::from_slice(alloc, head.token)?,
-        Bytes::from_slice(alloc, body)?,
-    ))
+    Ok(Request::Deposit {
+        member: Text::from_slice(alloc, head.member)?,
+        token: Text::from_slice(alloc, head.token)?,
+        file: Bytes::from_slice(alloc, body)?,
+    })
 }
 
 /// The request for a deposit. Its words are judged before anything is copied.
@@ -84,33 +84,33 @@ fn deposit_request(alloc: Global, head: &GoodHead<'_>, body: &[u8]) -> Result<Re
 fn copy_census(
     alloc: Global,
     head: &GoodHead<'_>,
-    id: u64,
-    n: u64,
+    deposit: u64,
+    generation: u64,
     limit: u64,
 ) -> Result<Request, AllocError>
-    ensures { IfOk result (λ q. q ≡ Request.Census head.now.member.now head.now.token.now id n limit) }
+    ensures { IfOk result (λ q. q ≡ Request.Census head.now.member.now head.now.token.now deposit generation limit) }
 {
-    Ok(Request::Census(
-        Text::from_slice(alloc, head.member)?,
-        Text::from_slice(alloc, head.token)?,
-        id,
-        n,
+    Ok(Request::Census {
+        member: Text::from_slice(alloc, head.member)?,
+        token: Text::from_slice(alloc, head.token)?,
+        deposit,
+        generation,
         limit,
-    ))
+    })
 }
 
 /// The request for a census. Its words are judged before anything is copied.
 fn census_request(
     alloc: Global,
     head: &GoodHead<'_>,
-    id: u64,
-    n: u64,
+    deposit: u64,
+    generation: u64,
     limit: u64,
 ) -> Result<Request, Refusal>
-    ensures { GivesRequest result (Request.Census head.now.member.now head.now.token.now id n limit) }
+    ensures { GivesRequest result (Request.Census head.now.member.now head.now.token.now deposit generation limit) }
 {
-    check_census(head.member, head.token, n, limit)?;
-    match copy_census(alloc, head, id, n, limit) {
+    check_census(head.member, head.token, generation, limit)?;
+    match copy_census(alloc, head, deposit, generation, limit) {
         Ok(request) => Ok(request),
         Err(_) => Err(Refusal::Unavailable),
     }
@@ -125,11 +125,11 @@ fn copy_total(
 ) -> Result<Request, AllocError>
     ensures { IfOk result (λ q. q ≡ Request.Total rule.now code.now limit) }
 {
-    Ok(Request::Total(
-        Bytes::from_slice(alloc, rule.as_bytes())?,
-        Bytes::from_slice(alloc, code.as_bytes())?,
+    Ok(Request::Total {
+        rule: Bytes::from_slice(alloc, rule.as_bytes())?,
+        code: Bytes::from_slice(alloc, code.as_bytes())?,
         limit,
-    ))
+    })
 }
 
 /// The request for a total. Its words are judged before anything is copied.
@@ -159,17 +159,23 @@ fn request_of(
 {
     match route {
         Route::Deposits => deposit_request(alloc, head, body),
-        Route::Deposit { id } => Ok(Request::Show(*id)),
-        Route::After { id } => Ok(Request::ListAfter(*id)),
-        Route::At { id, generation } => Ok(Request::At(*id, *generation)),
-        Route::Kind { id, limit } => Ok(Request::KindOf(*id, *limit)),
+        Route::Deposit { id } => Ok(Request::Show { id: *id }),
+        Route::After { id } => Ok(Request::ListAfter { id: *id }),
+        Route::At { id, generation } => Ok(Request::At {
+            id: *id,
+            generation: *generation,
+        }),
+        Route::Kind { id, limit } => Ok(Request::KindOf {
+            id: *id,
+            limit: *limit,
+        }),
         Route::Censuses {
             id,
             generation,
             limit,
         } => census_request(alloc, head, *id, *generation, *limit),
-        Route::Census { id } => Ok(Request::ShowCensus(*id)),
-        Route::CensusCsv { id } => Ok(Request::CensusCsv(*id)),
+        Route::Census { id } => Ok(Request::ShowCensus { id: *id }),
+        Route::CensusCsv { id } => Ok(Request::CensusCsv { id: *id }),
         Route::Total { rule, code, limit } => total_request(alloc, rule, code, *limit),
     }
 }

@@ -12,8 +12,8 @@ use std::test::Fail;
 /// A file that stops after some calls.
 pub type Stopping = Fuse<Memory>;
 
-/// The first row that an archive over files answers otherwise, or why it is not opened. The close is asked for behind the
-/// rows: where it is refused, it is the row that is answered otherwise.
+/// The first row that an archive over files answers otherwise, or why it is not opened. The close is asked for after the
+/// rows: if it is refused, it is the row that is answered otherwise.
 pub type Outcome = Result<Option<usize>, OpenFault>;
 
 /// Two files of these bytes, which stop after so many calls.

@@ -91,7 +91,7 @@ pub enum Act {
     Has(u64),
     /// It answers so to a message with so many header lines.
     AnswersLines(usize, &'static str),
-    /// It answers this to a text behind more line ends than a head has bytes.
+    /// It answers this to a text after more line ends than a head has bytes.
     AnswersBehindLineEnds(&'static str, &'static str),
     /// It answers each beginning of the glider's deposit as a bad message.
     AnswersBeginnings,
@@ -433,7 +433,7 @@ fn comes_to_a_new_one(alloc: Global, exchange: Exchange<'_>, number: u64) -> boo
     }
 }
 
-/// Whether the glider's deposit, whose take of this number fails, is kept where it was taken whole, and else not.
+/// Whether the glider's deposit, whose take of this number fails, is kept if it was taken whole, and else not.
 fn stops_at_the_take(alloc: Global, number: usize) -> bool {
     let is_whole = number > GLIDER.len();
     let exchange = Exchange {
@@ -453,7 +453,7 @@ fn a_take_fails(rt: HostRuntime) -> Result<(), Fail> {
     Ok(())
 }
 
-/// Whether the glider's deposit is kept, and is found again, where a put fails behind these bytes.
+/// Whether the glider's deposit is kept, and is found again, if a put fails after these bytes.
 fn stops_behind<S: Alter>(alloc: Global, archive: &mut Archive<S>, put: &[u8]) -> bool {
     let exchange = Exchange {
         bytewise: true,
@@ -485,7 +485,7 @@ fn a_put_fails(rt: HostRuntime) -> Result<(), Fail> {
 }
 
 /// Whether no take follows a message that has come whole, the glider's deposit, before the reply to it is put; the same comes
-/// once more behind it.
+/// once more after it.
 fn takes_none_before_the_reply<S: Alter>(
     alloc: Global,
     archive: &mut Archive<S>,
@@ -526,7 +526,7 @@ fn no_take_before_the_reply(rt: HostRuntime) -> Result<(), Fail> {
 /// The most takes that are made of a stream.
 const TAKES: usize = 1_048_576;
 
-/// A deposit of so many bytes, head and body: one live cell, and line ends behind the end of the pattern.
+/// A deposit of so many bytes, head and body: one live cell, and line ends after the end of the pattern.
 fn long_deposit(alloc: Global, bytes: usize) -> Result<String, AllocError> {
     let front =
         "POST /deposits HTTP/1.1\r\nx-member: ann\r\nx-token: t1\r\ncontent-length: 1048000\r\n\r\n";

@@ -274,7 +274,7 @@ pub fn other<S: Alter>(alloc: Global, archive: &mut Archive<S>, rows: &[Row]) ->
     None
 }
 
-/// Puts a request that was made behind the others.
+/// Puts a request that was made after the others.
 fn put(
     requests: &mut Vec<Request>,
     request: Result<Request, Unavailable>,

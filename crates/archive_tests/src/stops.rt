@@ -57,7 +57,7 @@ const SHOWN: Row = (Asked::ShowCensus(1), Said::Census(1, true, "xs4_33"));
 /// What a new archive is asked.
 const KEEPS: [Row; 2] = [DEPOSIT, CENSUS];
 
-/// What it answers afterwards: where the census was not answered all but the first row, and where the deposit was not either
+/// What it answers afterwards: if the census was not answered all but the first row, and where the deposit was not either
 /// all but the first two. In each case both are taken again, and are there once and whole.
 const KEPT: [Row; 8] = [
     SHOWN,
@@ -117,7 +117,7 @@ fn unanswered(asked: usize, outcome: Outcome) -> usize {
     }
 }
 
-/// What is answered behind a run of which this came.
+/// What is answered after a run of which this came.
 fn rows_behind<'a>(run: Run<'a>, outcome: Outcome) -> &'a [Row] {
     let from = unanswered(run.asked.len(), outcome).min(run.behind.len());
     &run.behind[from..]

@@ -334,7 +334,7 @@ fn has_cells(pattern: &Pattern, cells: &[(i64, i64)]) -> bool {
     pattern.population() == cells.len()
 }
 
-/// Whether the pattern has these cells where it is turned so.
+/// Whether the pattern has these cells if it is turned so.
 fn turns_to(
     alloc: Global,
     pattern: &Pattern,

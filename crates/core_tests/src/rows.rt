@@ -36,7 +36,7 @@ fn are_inside(cells: &[Cell]) -> bool
     cells.iter().all(|cell| cell.is_within(PLANE))
 }
 
-/// The set of the cells; none where one lies outside the plane.
+/// The set of the cells; none if one lies outside the plane.
 fn pattern_of(mut cells: Vec<Cell>) -> Result<Pattern, Fault> {
     if !are_inside(&cells) {
         cells.clear();

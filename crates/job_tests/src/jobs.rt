@@ -25,7 +25,7 @@ enum Flow {
     Bytewise,
     /// Byte by byte, and the take of this number fails.
     Unreadable(u64),
-    /// Byte by byte, and the put behind what was put fails.
+    /// Byte by byte, and the put after what was put fails.
     Unwritable,
 }
 
@@ -218,7 +218,7 @@ fn failing_take(flow: Flow) -> Option<u64> {
     }
 }
 
-/// The number of the put that fails, which is the one behind so many bytes.
+/// The number of the put that fails, which is the one after so many bytes.
 fn failing_put(flow: Flow, bytes: usize) -> Option<u64> {
     match flow {
         Flow::Unwritable => Some((bytes as u64).saturating_add(1)),

@@ -4,7 +4,7 @@ use life_words::{Job, WordFault, explanation, read_words, refusal_names};
 use std::alloc::Global;
 use std::test::Fail;
 
-/// Words behind the program's name, and the job that they name; none if they are a usage error.
+/// Words after the program's name, and the job that they name; none if they are a usage error.
 const WORDS: [(&[&str], Option<Job<'static>>); 20] = [
     (&[], None),
     (&["generation"], None),

@@ -11,7 +11,7 @@ use Rattle.life_store.specs.Carrying.{CarriedOver, IsFlagged, unflagged}
 use Rattle.life_store.specs.Kept.{Kept, Tallied}
 use Rattle.life_store.specs.Tables.{Tables, Holds}
 use Rattle.life_desk.specs.Archive.{Archive, tally_at, steady_at, steady_for}
-use Rattle.life_desk.specs.Means.{tallied, kept_of}
+use Rattle.life_desk.specs.Represents.{tallied, kept_of}
 
 same_flag : {P : Type 0} (a b : Bool) → IsTrue a ↔ P → IsTrue b ↔ P → a ≡ b
 same_flag true true one two = refl

@@ -21,13 +21,13 @@ use Rattle.life_store.specs.declared.kept.Census.{Census}
 use Rattle.life_store.specs.Kept.{Kept}
 use Rattle.life_store.specs.Carrying.{CarriedOver}
 use Rattle.life_store.specs.Opening.{FilesHold, FilesHoldFirst, LeftHold, AreLeftOf, ListNothing, nothing_kept}
-use Rattle.life_store.specs.Tables.{ArchiveView, Holds, TreesHold, IsTransition, HoldsTheSame, IsSureIfClean}
+use Rattle.life_store.specs.Tables.{ArchiveView, Holds, TreesHold, IsTransition, HoldsTheSame, IsHealthyIfClean}
 use Rattle.life_desk.specs.declared.request.Request.{Request}
 use Rattle.life_desk.specs.Archive.{Archive}
-use Rattle.life_desk.specs.Judging.{judged}
-use Rattle.life_desk.specs.Means.{EachHasDeposit, Means, TreesMean, kept_of}
+use Rattle.life_desk.specs.Validation.{validated}
+use Rattle.life_desk.specs.Represents.{EachHasDeposit, Represents, TreesRepresent, kept_of}
 use Rattle.life_desk.specs.Run.{RequestStep}
-use Rattle.life_desk.proofs.Meaning.{holds_of, each_of, means_same}
+use Rattle.life_desk.proofs.Representing.{holds_of, each_of, represents_same}
 use Rattle.life_desk.proofs.Runs.{IsSettled}
 use Rattle.life_desk.proofs.Steps.{step_each, after_each}
 use Rattle.life_pages.specs.declared.asked.PageRefusal.{PageRefusal}
@@ -41,13 +41,13 @@ use Rattle.life_pages.proofs.ArchiveRuns.{SomeMessages, run_answered, by_taken, 
 use Rattle.life_pages.proofs.FirmReplies.{firm_run}
 use Rattle.life_census.specs.Laws.{SteadyIsDecided}
 use Rattle.life_archive.proofs.MigrationLemmas.{migrated_is}
-use Rattle.life_archive.specs.Session.{Exchange, messages_of, replies_of, Traffic, untold, failures_after, Carries, CarriesAll, ServesOne, ServesSome, Runs, ServesConnections, FilesMean, Begins, Leaves, IsSession, EndsSession, under, either, SessionsCompose, LeavesAfter, GoesOn, SessionsComposeOverCrashes}
+use Rattle.life_archive.specs.Session.{Exchange, messages_of, replies_of, Traffic, unknown, failures_after, Carries, CarriesAll, ServesOne, ServesSome, Runs, ServesConnections, FilesRepresent, Begins, Leaves, IsSession, EndsSession, under, either, SessionsCompose, LeavesAfter, GoesOn, SessionsComposeOverCrashes}
 
 -- ---- one connection
 
--- of which only the failures are told
+-- of which only the failures are known
 pub one_untold : {S : Type 0} (g : Ghosts S) (are : List Message → Type 0) (puts : List ℕ → Type 0) (old new : ArchiveView S) (r : Result (Unit {0}) IoFault) (n : ℕ)
-    → IsAnswered g are puts old new → ServesOne g old new (untold n) (untold (failures_after (is_ok r) n))
+    → IsAnswered g are puts old new → ServesOne g old new (unknown n) (unknown (failures_after (is_ok r) n))
 one_untold g are puts old new r n some = (
   record { sent = None; messages = some.done; put = some.bytes; rest = []; ended = is_ok r; first = tt; whole = λ is. (tt, refl) },
   subst (λ (bytes : List ℕ). MessageRun (AnswersMessage (StoreAnswers g)) old some.done bytes new) (sym (append-nil some.bytes)) some.steps,
@@ -55,7 +55,7 @@ one_untold g are puts old new r n some = (
 )
 
 -- none came, and it failed
-pub none_came : {S : Type 0} (g : Ghosts S) (t : ArchiveView S) (n : ℕ) → ServesOne g t t (untold n) (untold (raised n))
+pub none_came : {S : Type 0} (g : Ghosts S) (t : ArchiveView S) (n : ℕ) → ServesOne g t t (unknown n) (unknown (raised n))
 none_came g t n =
     (record { sent = None; messages = []; put = []; rest = []; ended = false; first = tt; whole = λ is. (tt, refl) }, (refl, refl), (tt, tt, refl))
 
@@ -82,8 +82,8 @@ carries_more a b c (x ∷ es) e (mid, first, rest) one = (mid, first, carries_mo
 length_more : (es : List Exchange) (e : Exchange) → length (es ++ e ∷ []) ≡ length es + 1
 length_more es e = length-append es (e ∷ [])
 
-pub serves_none : {S : Type 0} (g : Ghosts S) (t : ArchiveView S) (told : Traffic) → ServesSome g 0 t t told told
-serves_none g t told = record { exchanges = []; counted = refl; carried = refl; run = (refl, refl) }
+pub serves_none : {S : Type 0} (g : Ghosts S) (t : ArchiveView S) (known : Traffic) → ServesSome g 0 t t known known
+serves_none g t known = record { exchanges = []; counted = refl; carried = refl; run = (refl, refl) }
 
 pub serves_more : {S : Type 0} (g : Ghosts S) (n : ℕ) (a b c : ArchiveView S) (x y z : Traffic) → ServesSome g n a b x y → ServesOne g b c y z → ServesSome g (n + 1) a c x z
 serves_more g n a b c x y z first (e, run, carried) = record {
@@ -105,7 +105,7 @@ serves_connections g n old new x y law some =
       counted = some.counted;
       carried = some.carried;
       served = by_taken g old new it.taken;
-      firm = firm_run g old new ms bytes some.run;
+      own_refusals = firm_run g old new ms bytes some.run;
       crash = left_safely g old new ms bytes law it;
     }
 
@@ -138,7 +138,7 @@ left_as A ms bytes P Q each says it =
       run = it.run;
       left = elim it.left [
         | inl mean ↦ inl (says it.mid there mean)
-        | inr more ↦ inr (more.0, more.1, more.2, more.3, more.4, more.5, says _ (after_each it.mid (judged more.2) there) more.6)
+        | inr more ↦ inr (more.0, more.1, more.2, more.3, more.4, more.5, says _ (after_each it.mid (validated more.2) there) more.6)
       ];
       unpromised = it.unpromised;
     }
@@ -150,27 +150,27 @@ files_hold image db k mean holds = record { trees = db; held = ∣ holds ∣₁;
 
 module _ {D : Type 0} {g : disk.Ghosts D} (a mid last : ArchiveView (FileStore D g)) (files : Files D) (ms : List Message) (bytes : List ℕ) (served : SomeMessages over_files a mid ms bytes) (counted : IsTransition over_files NoMore mid last)
     (honest : AreClean g files.log files.db → IsClean (view last.store)) where
-  pub end_ok : HoldsTheSame mid.tables last.tables → IsSureIfClean over_files last → ((k : Kept) → IsTrue last.tables.is_sure → Holds last.tables k → AreClean g files.log files.db → LeftHold g files k)
-      → (A : Archive) → (IsTrue a.tables.is_sure → Means a A) → Leaves g A ms bytes (Ok files)
+  pub end_ok : HoldsTheSame mid.tables last.tables → IsHealthyIfClean over_files last → ((k : Kept) → IsTrue last.tables.is_healthy → Holds last.tables k → AreClean g files.log files.db → LeftHold g files k)
+      → (A : Archive) → (IsTrue a.tables.is_healthy → Represents a A) → Leaves g A ms bytes (Ok files)
   end_ok same up held A m clean =
-      let sure = up (honest clean) in
-      let sure_mid = counted.was_sure sure in
-      let done = served.taken.run sure_mid A (m (served.taken.goes.was_sure sure_mid)) in
-      let means = means_same mid last done.0 counted same sure done.2 in
-      (done.0, done.1, λ image may. (each_of last done.0 means, held (kept_of done.0) sure (holds_of last done.0 means) clean image may))
+      let healthy = up (honest clean) in
+      let healthy_mid = counted.was_healthy healthy in
+      let done = served.taken.run healthy_mid A (m (served.taken.transition.was_healthy healthy_mid)) in
+      let means = represents_same mid last done.0 counted same healthy done.2 in
+      (done.0, done.1, λ image may. (each_of last done.0 means, held (kept_of done.0) healthy (holds_of last done.0 means) clean image may))
 
   kept_before : IsClean (view last.store) → (db : Trees) → over_files.recovers last.store db → over_files.recovers mid.store db
   kept_before clean db left = elim (counted.crash.found clean db left) [ inl before ↦ before | inr none ↦ absurd none ]
 
-  pub end_err : IsSettled over_files a → AreLeftOf last.store files → (A : Archive) → IsSureIfClean over_files a → (IsTrue a.tables.is_sure → Means a A) → Leaves g A ms bytes (Err files)
+  pub end_err : IsSettled over_files a → AreLeftOf last.store files → (A : Archive) → IsHealthyIfClean over_files a → (IsTrue a.tables.is_healthy → Represents a A) → Leaves g A ms bytes (Err files)
   end_err law left A up m clean image may =
       let clean_last = honest clean in
       let clean_mid = counted.crash.honest clean_last in
-      let sure = up (served.taken.goes.crash.honest clean_mid) in
-      let means = m sure in
+      let healthy = up (served.taken.transition.crash.honest clean_mid) in
+      let means = m healthy in
       ∥∥₁_map (left clean image may) (λ found.
-      left_as A ms bytes (TreesMean found.0) (FilesMean image) (each_of a A means) (λ X each mean. (each, files_hold image found.0 (kept_of X) mean found.2))
-      (left_safely over_files a mid ms bytes law served A sure means clean_mid found.0 (kept_before clean_last found.0 found.1)))
+      left_as A ms bytes (TreesRepresent found.0) (FilesRepresent image) (each_of a A means) (λ X each mean. (each, files_hold image found.0 (kept_of X) mean found.2))
+      (left_safely over_files a mid ms bytes law served A healthy means clean_mid found.0 (kept_before clean_last found.0 found.1)))
 
 -- what is left, by either answer with these files
 pub leaves_either : {D : Type 0} (g : disk.Ghosts D) (A : Archive) (ms : List Message) (bytes : List ℕ) (files : Files D) (left : Result (Files D) (Files D)) → either left ≡ files
@@ -182,30 +182,30 @@ pub either_clean : {D : Type 0} (g : disk.Ghosts D) (files : Files D) (left : Re
 either_clean {D} g files left is clean = subst (λ (x : Files D). AreClean g x.log x.db) is clean
 
 -- an archive that an opening found
-module _ {D : Type 0} {g : disk.Ghosts D} (a : ArchiveView (FileStore D g)) (image : Image) (found : (k : Kept) → IsTrue a.tables.is_sure → FilesHold image k → Holds a.tables k)
-    (fresh : IsTrue a.tables.is_sure → ListNothing image → Holds a.tables nothing_kept) (carried : (k : Kept) → IsTrue a.tables.is_sure → FilesHoldFirst image k → CarriedOver a.tables k)
+module _ {D : Type 0} {g : disk.Ghosts D} (a : ArchiveView (FileStore D g)) (image : Image) (found : (k : Kept) → IsTrue a.tables.is_healthy → FilesHold image k → Holds a.tables k)
+    (fresh : IsTrue a.tables.is_healthy → ListNothing image → Holds a.tables nothing_kept) (carried : (k : Kept) → IsTrue a.tables.is_healthy → FilesHoldFirst image k → CarriedOver a.tables k)
     (decided : SteadyIsDecided) (capacity : ℕ) (is : a.capacity ≡ capacity) where
-  pub begun_with : (A : Archive) → A.capacity ≡ capacity → Begins image A → IsTrue a.tables.is_sure → Means a A
-  unfolding Means
-  begun_with A fits (inl meant) sure = record { capacity = is ∙ sym fits; each = meant.0; holds = found (kept_of A) sure meant.1 }
-  begun_with A fits (inr (inr first)) sure = record { capacity = is ∙ sym fits; each = first.0; holds = migrated_is decided a.tables A (carried (kept_of A) sure first.1) }
-  begun_with A fits (inr (inl none)) sure =
+  pub begun_with : (A : Archive) → A.capacity ≡ capacity → Begins image A → IsTrue a.tables.is_healthy → Represents a A
+  unfolding Represents
+  begun_with A fits (inl meant) healthy = record { capacity = is ∙ sym fits; each = meant.0; holds = found (kept_of A) healthy meant.1 }
+  begun_with A fits (inr (inr first)) healthy = record { capacity = is ∙ sym fits; each = first.0; holds = migrated_is decided a.tables A (carried (kept_of A) healthy first.1) }
+  begun_with A fits (inr (inl none)) healthy =
       let empty : A ≡ record { deposits = []; censuses = []; capacity = capacity } = archive_is A none.1 none.2 fits in
-      subst (λ (B : Archive). Means a B) (sym empty) (record { capacity = is; each = tt; holds = fresh sure none.0 })
+      subst (λ (B : Archive). Represents a B) (sym empty) (record { capacity = is; each = tt; holds = fresh healthy none.0 })
     where
       archive_is : (B : Archive) → B.deposits ≡ [] → B.censuses ≡ [] → B.capacity ≡ capacity → B ≡ record { deposits = []; censuses = []; capacity = capacity }
       archive_is B d c n =
           ap₂ (λ (all : List Deposit × List Census) (most : ℕ). let it : Archive = record { deposits = all.0; censuses = all.1; capacity = most } in it) (ap₂ (λ (x : List Deposit) (y : List Census). (x, y)) d c) n
 
 pub is_session : {D : Type 0} {g : disk.Ghosts D} (a : ArchiveView (FileStore D g)) (files : Files D) (capacity count : ℕ) (x y : Traffic) (left : Result (Files D) (Files D))
-    → ((k : Kept) → IsTrue a.tables.is_sure → FilesHold (image_of g files) k → Holds a.tables k) → (IsTrue a.tables.is_sure → ListNothing (image_of g files) → Holds a.tables nothing_kept)
-    → ((k : Kept) → IsTrue a.tables.is_sure → FilesHoldFirst (image_of g files) k → CarriedOver a.tables k) → SteadyIsDecided → a.capacity ≡ capacity
-    → IsSureIfClean over_files a → (IsTrue a.tables.is_sure → AreClean g files.log files.db) → EndsSession g a count x y left → IsSession g files capacity count x y left
+    → ((k : Kept) → IsTrue a.tables.is_healthy → FilesHold (image_of g files) k → Holds a.tables k) → (IsTrue a.tables.is_healthy → ListNothing (image_of g files) → Holds a.tables nothing_kept)
+    → ((k : Kept) → IsTrue a.tables.is_healthy → FilesHoldFirst (image_of g files) k → CarriedOver a.tables k) → SteadyIsDecided → a.capacity ≡ capacity
+    → IsHealthyIfClean over_files a → (IsTrue a.tables.is_healthy → AreClean g files.log files.db) → EndsSession g a count x y left → IsSession g files capacity count x y left
 is_session {g = g} a files capacity count x y left found fresh carried decided is up honest ended = record {
   exchanges = ended.exchanges;
   counted = ended.counted;
   carried = ended.carried;
-  firm = ended.firm;
+  own_refusals = ended.own_refusals;
   honest = λ clean. honest (up (ended.honest clean));
   leaves = λ A fits begins. ended.leaves A up (begun_with a (image_of g files) found fresh carried decided capacity is A fits begins);
 }
@@ -236,10 +236,10 @@ left_then A ms bytes P Q says it = record {
 pub sessions_over_crashes : {D E : Type 0} (g : disk.Ghosts D) (h : disk.Ghosts E) → SessionsComposeOverCrashes g h
 sessions_over_crashes {D} {E} g h files again capacity next count more w x y z mid left one two clean may A fits begins = goes_on mid one clean may
   where
-    second : (X : Archive) → FilesMean (image_of h again) X → LeavesAfter h two X
+    second : (X : Archive) → FilesRepresent (image_of h again) X → LeavesAfter h two X
     second X mean = two.leaves (under next X) refl (inl mean)
 
     goes_on : (mid : Result (Files D) (Files D)) (one : IsSession g files capacity count w x mid) → AreClean g (either mid).log (either mid).db → outcomes g (either mid).log (either mid).db (image_of h again)
         → GoesOn A (messages_of one.exchanges) (replies_of one.exchanges) (LeavesAfter h two) mid
     goes_on (Ok mid) one clean may = let done = one.leaves A fits begins clean in (done.0, done.1, second done.0 (done.2 (image_of h again) may))
-    goes_on (Err mid) one clean may = ∥∥₁_map (one.leaves A fits begins clean (image_of h again) may) (left_then A (messages_of one.exchanges) (replies_of one.exchanges) (FilesMean (image_of h again)) (LeavesAfter h two) second)
+    goes_on (Err mid) one clean may = ∥∥₁_map (one.leaves A fits begins clean (image_of h again) may) (left_then A (messages_of one.exchanges) (replies_of one.exchanges) (FilesRepresent (image_of h again)) (LeavesAfter h two) second)

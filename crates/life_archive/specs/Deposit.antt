@@ -45,10 +45,10 @@ by_streams (Err (Job stop)) = Err stop
 by_streams (Err stop) = Err Unavailable
 
 -- the archive was asked once, to keep the file under the member and the token, and its reply was put
-pub record AsksOnce {S : Type 0} (g : Ghosts S) (old new : ArchiveView S) (member token : List ℕ) (told before after : Option (List ℕ)) (answer : Result (Unit {0}) ArchiveStop) : Type 0 where
+pub record AsksOnce {S : Type 0} (g : Ghosts S) (old new : ArchiveView S) (member token : List ℕ) (known before after : Option (List ℕ)) (answer : Result (Unit {0}) ArchiveStop) : Type 0 where
   pub file : List ℕ
   pub reply : Reply
-  pub taken : IsFileTaken told file
+  pub taken : IsFileTaken known file
   pub answered : Answered g old new (ask.Deposit member token file ∷ []) (reply ∷ [])
   pub puts : PutsReply reply before after answer
 
@@ -60,14 +60,14 @@ IsUnasked answer = ⊥
 
 -- what `deposit` answers and does: it stops before the archive is asked, which stays as it is, or asks it once
 abbrev pub Deposits : {S : Type 0} → Ghosts S → ArchiveView S → ArchiveView S → List ℕ → List ℕ → Option (List ℕ) → Option (List ℕ) → Option (List ℕ) → Result (Unit {0}) ArchiveStop → Type 0
-Deposits g old new member token told before after answer =
-    (IsUnasked answer × (new ≡ old)) ⊎ AsksOnce g old new member token told before after answer
+Deposits g old new member token known before after answer =
+    (IsUnasked answer × (new ≡ old)) ⊎ AsksOnce g old new member token known before after answer
 
 -- ---- crashes
 
--- Where the archive was asked: the database was sure and its disk has returned what was written, then a crash during the job leaves the archive as it was
+-- If the archive was asked: the database was healthy and its disk has returned what was written, then a crash during the job leaves the archive as it was
 -- or with the deposit of the file that was asked for; and where the reply of which the number was put says that it is kept, it is there.
 abbrev pub IsDepositSafe : {S : Type 0} → Ghosts S → ArchiveView S → ArchiveView S → List ℕ → List ℕ → Option (List ℕ) → Option (List ℕ) → Option (List ℕ) → Result (Unit {0}) ArchiveStop → Type 0
-IsDepositSafe g old new member token told before after answer =
+IsDepositSafe g old new member token known before after answer =
     (IsUnasked answer × (new ≡ old))
-    ⊎ ((once : AsksOnce g old new member token told before after answer) × IsCrashSafe g old new (ask.Deposit member token once.file ∷ []) (once.reply ∷ []))
+    ⊎ ((once : AsksOnce g old new member token known before after answer) × IsCrashSafe g old new (ask.Deposit member token once.file ∷ []) (once.reply ∷ []))

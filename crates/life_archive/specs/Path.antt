@@ -13,14 +13,14 @@ use Rattle.life_store.specs.declared.fault.OpenFault.TheVariants as faults
 use Rattle.life_store.specs.Carrying.{CarriedOver}
 use Rattle.life_store.specs.Kept.{Kept}
 use Rattle.life_store.specs.Opening.{FilesHold, FilesHoldFirst, ListNothing, nothing_kept, without_log}
-use Rattle.life_store.specs.Tables.{ArchiveView, Holds, IsSureIfClean}
+use Rattle.life_store.specs.Tables.{ArchiveView, Holds, IsHealthyIfClean}
 use Rattle.life_desk.specs.Archive.{Archive}
 use Rattle.life_pages.specs.Message.{Message}
 use Rattle.life_archive.specs.declared.stop.ArchiveStop.{ArchiveStop}
 use Rattle.life_archive.specs.declared.stop.ArchiveStop.TheVariants.{Job, NotOurs}
 use Rattle.life_archive.specs.Stop.{line_of}
 use Rattle.life_archive.specs.Deposit.{Deposits, IsDepositSafe}
-use Rattle.life_archive.specs.Session.{Traffic, untold, Runs, ServesConnections, FilesMean, Begins, messages_of, replies_of}
+use Rattle.life_archive.specs.Session.{Traffic, unknown, Runs, ServesConnections, FilesRepresent, Begins, messages_of, replies_of}
 
 -- the stop for an opening that is refused
 abbrev pub opening_stop : OpenFault → ArchiveStop
@@ -35,10 +35,10 @@ IsUnopened answer = (fault : OpenFault) × (answer ≡ Err (opening_stop fault))
 -- what was written.
 pub record OpensAs {D : Type 0} {g : disk.Ghosts D} (image : Image) (most : ℕ) (a : ArchiveView (FileStore D g)) : Type 0 where
   pub capacity : a.capacity ≡ most
-  pub sure : IsSureIfClean over_files a
-  pub found : (k : Kept) → IsTrue a.tables.is_sure → FilesHold image k → Holds a.tables k
-  pub carried : (k : Kept) → IsTrue a.tables.is_sure → FilesHoldFirst image k → CarriedOver a.tables k
-  pub fresh : IsTrue a.tables.is_sure → ListNothing image → Holds a.tables nothing_kept
+  pub healthy : IsHealthyIfClean over_files a
+  pub found : (k : Kept) → IsTrue a.tables.is_healthy → FilesHold image k → Holds a.tables k
+  pub carried : (k : Kept) → IsTrue a.tables.is_healthy → FilesHoldFirst image k → CarriedOver a.tables k
+  pub fresh : IsTrue a.tables.is_healthy → ListNothing image → Holds a.tables nothing_kept
 
 -- the line that is printed for an answer
 abbrev pub line_after : Result (Unit {0}) ArchiveStop → Option (List ℕ)
@@ -48,15 +48,15 @@ line_after (Err stop) = Some (line_of stop)
 -- ---- a deposit
 
 -- What a deposit does to an archive that is open, and what a crash leaves of it.
-pub record DepositsIn {D : Type 0} {g : disk.Ghosts D} (a : ArchiveView (FileStore D g)) (member token : List ℕ) (told before after : Option (List ℕ)) (answer : Result (Unit {0}) ArchiveStop) : Type 0 where
+pub record DepositsIn {D : Type 0} {g : disk.Ghosts D} (a : ArchiveView (FileStore D g)) (member token : List ℕ) (known before after : Option (List ℕ)) (answer : Result (Unit {0}) ArchiveStop) : Type 0 where
   pub last : ArchiveView (FileStore D g)
-  pub deposits : Deposits over_files a last member token told before after answer
-  pub crash : IsDepositSafe over_files a last member token told before after answer
+  pub deposits : Deposits over_files a last member token known before after answer
+  pub crash : IsDepositSafe over_files a last member token known before after answer
 
 -- The opening was refused; or the archive that the files were opened as was asked to keep what came in.
 abbrev pub DepositsAt : {D : Type 0} → disk.Ghosts D → Image → ℕ → List ℕ → List ℕ → Option (List ℕ) → Option (List ℕ) → Option (List ℕ) → Result (Unit {0}) ArchiveStop → Type 0
-DepositsAt {D} g image capacity member token told before after answer =
-    (IsUnopened answer × (after ≡ before)) ⊎ ((a : ArchiveView (FileStore D g)) × OpensAs image capacity a × DepositsIn a member token told before after answer)
+DepositsAt {D} g image capacity member token known before after answer =
+    (IsUnopened answer × (after ≡ before)) ⊎ ((a : ArchiveView (FileStore D g)) × OpensAs image capacity a × DepositsIn a member token known before after answer)
 
 -- ---- a session
 
@@ -64,7 +64,7 @@ DepositsAt {D} g image capacity member token told before after answer =
 -- after a crash, and the database file alone. If the close was refused, the files were let go and nothing is said of them.
 abbrev pub LeavesClosed : {D : Type 0} → disk.Ghosts D → Archive → List Message → List ℕ → Option (Files D) → Type 0
 LeavesClosed g A ms bytes (Some files) = AreClean g files.log files.db
-    → (B : Archive) × Runs ms bytes A B × ((image : Image) → outcomes g files.log files.db image → FilesMean image B) × FilesMean (without_log (image_of g files)) B
+    → (B : Archive) × Runs ms bytes A B × ((image : Image) → outcomes g files.log files.db image → FilesRepresent image B) × FilesRepresent (without_log (image_of g files)) B
 LeavesClosed g A ms bytes None = ⊤
 
 -- A session over the files of a path: they were opened as an archive, which served so many connections, and were closed. What serving did to the archive,
@@ -87,11 +87,11 @@ pub record EndsPathSession {D : Type 0} (g : disk.Ghosts D) (a : ArchiveView (Fi
 
 -- a deposit, with the line that is printed if it stops
 abbrev pub AnswersDeposit : {D : Type 0} → disk.Ghosts D → Image → ℕ → List ℕ → List ℕ → Option (List ℕ) → Option (List ℕ) → Option (List ℕ) → Option (List ℕ) → Type 0
-AnswersDeposit g image capacity member token told before after line =
-    (answer : Result (Unit {0}) ArchiveStop) × DepositsAt g image capacity member token told before after answer × (line ≡ line_after answer)
+AnswersDeposit g image capacity member token known before after line =
+    (answer : Result (Unit {0}) ArchiveStop) × DepositsAt g image capacity member token known before after answer × (line ≡ line_after answer)
 
 -- A session with connections whose bytes are unknown, or the line of its stop. How many connections were not served to their end is counted.
 abbrev pub AnswersServing : {D : Type 0} → disk.Ghosts D → Image → ℕ → ℕ → Option (List ℕ) → Type 0
 AnswersServing {D} g image capacity count line =
-    ((failures : ℕ) × (left : Option (Files D)) × IsPathSession g image capacity count (untold 0) (untold failures) left × (line ≡ None))
+    ((failures : ℕ) × (left : Option (Files D)) × IsPathSession g image capacity count (unknown 0) (unknown failures) left × (line ≡ None))
     ⊎ ((stop : ArchiveStop) × (line ≡ Some (line_of stop)))

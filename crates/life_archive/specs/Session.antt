@@ -1,4 +1,4 @@
--- Sessions: an archive serves connections, one after the other; over files, it is opened before them and let go behind them.
+-- Sessions: an archive serves connections, one after the other; over files, it is opened before them and let go after them.
 use Rattle.std.specs.Prelude.{◌≡◌, ◌⊎◌, ◌++◌, ◌∷◌, ℕ, Bool, true, false, List, [], length, Option, None, Some, Result, Ok, Err, IsTrue, ⊤}
 use Rattle.sqlite_disk.specs.declared.Disk as disk
 use Rattle.sqlite_disk.specs.declared.Files.{Files}
@@ -13,9 +13,9 @@ use Rattle.sqlite_store.specs.FileStore.{view}
 use Rattle.sqlite.specs.Files.{image_of, over_files}
 use Rattle.life_rle.specs.Stream.{raised}
 use Rattle.life_store.specs.Opening.{FilesHold, FilesHoldFirst, ListNothing}
-use Rattle.life_store.specs.Tables.{ArchiveView, IsSureIfClean}
+use Rattle.life_store.specs.Tables.{ArchiveView, IsHealthyIfClean}
 use Rattle.life_desk.specs.Archive.{Archive}
-use Rattle.life_desk.specs.Means.{EachHasDeposit, Means, kept_of}
+use Rattle.life_desk.specs.Represents.{EachHasDeposit, Represents, kept_of}
 use Rattle.life_desk.specs.Run.{RequestStep}
 use Rattle.life_pages.specs.Message.{Message, MessageRun, AnswersMessage}
 use Rattle.life_pages.specs.Serving.{AreAllOf, AreFirstOf}
@@ -50,9 +50,9 @@ pub record Traffic : Type 0 where
   pub put : Option (List (List ℕ))
   pub failures : ℕ
 
--- where only the failures are told
-abbrev pub untold : ℕ → Traffic
-untold n = record { to_come = None; put = None; failures = n }
+-- if only the failures are known
+abbrev pub unknown : ℕ → Traffic
+unknown n = record { to_come = None; put = None; failures = n }
 
 -- if it is known what they send, the next sends this; or none came, and nothing was sent
 abbrev pub ComesNext : Option (List (List ℕ)) → Option (List (List ℕ)) → Exchange → Type 0
@@ -97,36 +97,36 @@ pub record ServesSome {S : Type 0} (g : Ghosts S) (count : ℕ) (old new : Archi
 abbrev pub Runs : List Message → List ℕ → Archive → Archive → Type 0
 Runs ms bytes A B = MessageRun (AnswersMessage RequestStep) A ms bytes B
 
--- What serving so many connections does to a database: each archive that it meant went through a run over the messages of all of them; a request that is refused
+-- What serving so many connections does to a database: each archive that it represented went through a run over the messages of all of them; a request that is refused
 -- for its own words is answered by that refusal, whatever the database does; and a crash during the call leaves the archive after a beginning of the messages, or
--- after the one that follows as well, behind which no reply says that something is kept.
+-- after the one that follows as well, after which no reply says that something is kept.
 pub record ServesConnections {S : Type 0} (g : Ghosts S) (count : ℕ) (old new : ArchiveView S) (before after : Traffic) : Type 0 where
   pub exchanges : List Exchange
   pub counted : length exchanges ≡ count
   pub carried : CarriesAll before after exchanges
   pub served : ByArchive g (Runs (messages_of exchanges) (replies_of exchanges)) old new
-  pub firm : MessageRun (AnswersMessage AnswersFirmly) tt (messages_of exchanges) (replies_of exchanges) tt
-  pub crash : (A : Archive) → IsTrue old.tables.is_sure → Means old A → IsClean (g.view new.store) → (db : Trees) → g.recovers new.store db
+  pub own_refusals : MessageRun (AnswersMessage AnswersFirmly) tt (messages_of exchanges) (replies_of exchanges) tt
+  pub crash : (A : Archive) → IsTrue old.tables.is_healthy → Represents old A → IsClean (g.view new.store) → (db : Trees) → g.recovers new.store db
       → IsServedUntil A (messages_of exchanges) (replies_of exchanges) db
 
 -- ---- over files
 
--- The files mean the archive, whatever its capacity is: that is chosen where they are opened.
-abbrev pub FilesMean : Image → Archive → Type 0
-FilesMean image A = EachHasDeposit A.deposits A.censuses × FilesHold image (kept_of A)
+-- The files represent the archive, whatever its capacity is: that is chosen where they are opened.
+abbrev pub FilesRepresent : Image → Archive → Type 0
+FilesRepresent image A = EachHasDeposit A.deposits A.censuses × FilesHold image (kept_of A)
 
 -- The files represent the archive; or list no table, as new files do, and the archive is empty; or represent it by schema version 1, in which there are no
 -- flags, so that an opening migrates it.
 abbrev pub Begins : Image → Archive → Type 0
 Begins image A =
-    FilesMean image A ⊎ ((ListNothing image × (A.deposits ≡ []) × (A.censuses ≡ [])) ⊎ (EachHasDeposit A.deposits A.censuses × FilesHoldFirst image (kept_of A)))
+    FilesRepresent image A ⊎ ((ListNothing image × (A.deposits ≡ []) × (A.censuses ≡ [])) ⊎ (EachHasDeposit A.deposits A.censuses × FilesHoldFirst image (kept_of A)))
 
--- What a session that began with A leaves, over these messages and replies. After Ok the files mean the archive after all: as they read and after a crash. After
--- Err, as where the disk failed on the way or the session was cut off, each image that may be left means the archive after a beginning of the messages, or
+-- What a session that began with A leaves, over these messages and replies. After Ok the files represent the archive after all: as they read and after a crash. After
+-- Err, as if the disk failed on the way or the session was cut off, each image that may be left means the archive after a beginning of the messages, or
 -- after the one that follows as well, and no other reply says that something is kept.
 abbrev pub Leaves : {D : Type 0} → disk.Ghosts D → Archive → List Message → List ℕ → Result (Files D) (Files D) → Type 0
-Leaves g A ms bytes (Ok files) = AreClean g files.log files.db → (B : Archive) × Runs ms bytes A B × ((image : Image) → outcomes g files.log files.db image → FilesMean image B)
-Leaves g A ms bytes (Err files) = AreClean g files.log files.db → (image : Image) → outcomes g files.log files.db image → ∥ IsLeftOf A ms bytes (FilesMean image) ∥₁
+Leaves g A ms bytes (Ok files) = AreClean g files.log files.db → (B : Archive) × Runs ms bytes A B × ((image : Image) → outcomes g files.log files.db image → FilesRepresent image B)
+Leaves g A ms bytes (Err files) = AreClean g files.log files.db → (image : Image) → outcomes g files.log files.db image → ∥ IsLeftOf A ms bytes (FilesRepresent image) ∥₁
 
 -- the files of either answer
 abbrev pub either : {X : Type 0} → Result X X → X
@@ -137,8 +137,8 @@ either (Err x) = x
 abbrev pub AreUsable : {D : Type 0} → disk.Ghosts D → Files D → Type 0
 AreUsable g files = IsTrue (g.is_usable files.log) × IsTrue (g.is_usable files.db)
 
--- A session over files: what they meant was taken over the messages of so many connections, to each of which a beginning of its replies was put, and all of them
--- where it was served to its end. So the next session may begin with what it leaves, and where the disk was honest to the end of that, it was in this.
+-- A session over files: what they represented was taken over the messages of so many connections, to each of which a beginning of its replies was put, and all of them
+-- if it was served to its end. So the next session may begin with what it leaves, and if the disk was honest to the end of that, it was in this.
 --
 -- What a crash during the session leaves is read off the side of Err (docs/DEFINITIONS.md, `life_store`): what the peers had then is a beginning of what was put by
 -- the end of that run, since each put only adds.
@@ -146,7 +146,7 @@ pub record IsSession {D : Type 0} (g : disk.Ghosts D) (files : Files D) (capacit
   pub exchanges : List Exchange
   pub counted : length exchanges ≡ count
   pub carried : CarriesAll before after exchanges
-  pub firm : MessageRun (AnswersMessage AnswersFirmly) tt (messages_of exchanges) (replies_of exchanges) tt
+  pub own_refusals : MessageRun (AnswersMessage AnswersFirmly) tt (messages_of exchanges) (replies_of exchanges) tt
   pub honest : AreClean g (either left).log (either left).db → AreClean g files.log files.db
   pub leaves : (A : Archive) → A.capacity ≡ capacity → Begins (image_of g files) A → Leaves g A (messages_of exchanges) (replies_of exchanges) left
 
@@ -155,9 +155,9 @@ pub record EndsSession {D : Type 0} (g : disk.Ghosts D) (archive : ArchiveView (
   pub exchanges : List Exchange
   pub counted : length exchanges ≡ count
   pub carried : CarriesAll before after exchanges
-  pub firm : MessageRun (AnswersMessage AnswersFirmly) tt (messages_of exchanges) (replies_of exchanges) tt
+  pub own_refusals : MessageRun (AnswersMessage AnswersFirmly) tt (messages_of exchanges) (replies_of exchanges) tt
   pub honest : AreClean g (either left).log (either left).db → IsClean (view archive.store)
-  pub leaves : (A : Archive) → IsSureIfClean over_files archive → (IsTrue archive.tables.is_sure → Means archive A) → Leaves g A (messages_of exchanges) (replies_of exchanges) left
+  pub leaves : (A : Archive) → IsHealthyIfClean over_files archive → (IsTrue archive.tables.is_healthy → Represents archive A) → Leaves g A (messages_of exchanges) (replies_of exchanges) left
 
 -- ---- one session after the other
 
@@ -165,7 +165,7 @@ pub record EndsSession {D : Type 0} (g : disk.Ghosts D) (archive : ArchiveView (
 abbrev pub under : ℕ → Archive → Archive
 under capacity A = record { deposits = A.deposits; censuses = A.censuses; capacity = capacity }
 
--- Behind a session that was answered Ok comes another, over the files that it left. Where the disk was honest to the end of that, an archive that the files
+-- After a session that was answered Ok comes another, over the files that it left. If the disk was honest to the end of that, an archive that the files
 -- meant went through a run over the messages of the first, and what the second leaves it leaves of the end of this run.
 abbrev pub SessionsCompose : {D : Type 0} → disk.Ghosts D → Type 0
 SessionsCompose {D} g =

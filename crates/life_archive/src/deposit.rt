@@ -31,11 +31,11 @@ fn take_file<I: Inlet>(alloc: Global, input: &mut I) -> Result<Vec<u8>, ArchiveS
     let mut buffer = [0u8; 4096];
     while file.len() < MOST_TAKEN {
         let room = buffer.len().min(MOST_TAKEN - file.len());
-        let place = &mut buffer[..room];
-        match input.take(place) {
+        let space = &mut buffer[..room];
+        match input.take(space) {
             Err(_) => return Err(ArchiveStop::Job(Stop::Unreadable)),
             Ok(0) => return Ok(file),
-            Ok(k) => match file.extend_from_slice(&place[..k]) {
+            Ok(k) => match file.extend_from_slice(&space[..k]) {
                 Ok(()) => {}
                 Err(_) => return Err(ArchiveStop::Job(Stop::Unavailable)),
             },
@@ -159,7 +159,7 @@ pub fn run_deposit<S: Alter, I: Inlet, O: Outlet>(
     input: &mut I,
     output: &mut O,
 ) -> Result<(), ArchiveStop>
-    // The archive is as it was, or was asked once, and its answer is told: where it was asked, it was for the file that came in.
+    // The archive is as it was, or was asked once, and its answer is known: if it was asked, it was for the file that came in.
     ensures deposits { Deposits S.Store archive.old archive.new member.now token.now (I.to_come input.old) (O.already output.old) (O.already output.new) result }
     // A crash during the call leaves the archive as it was or with the deposit; with it, if its number was put.
     ensures crash { IsDepositSafe S.Store archive.old archive.new member.now token.now (I.to_come input.old) (O.already output.old) (O.already output.new) result }

@@ -50,7 +50,7 @@ pub fn serve_connections<S: Alter, C: Connections>(
 )
     // In words of the store: each message of each connection was answered by it, one after the other.
     ensures steps { ServesSome S.Store count archive.old archive.new (C.traffic connections.old) (C.traffic connections.new) }
-    // In words of the archive: it went through a run over them, also where the disk failed on the way; and what a crash leaves.
+    // In words of the archive: it went through a run over them, also if the disk failed on the way; and what a crash leaves.
     ensures served { ServesConnections S.Store count archive.old archive.new (C.traffic connections.old) (C.traffic connections.new) }
 {
     archive.law_of_crashes();
@@ -91,7 +91,7 @@ fn serve_opened<D: Disk + Drop, C: Connections>(
 }
 
 /// A session: opens the archive that the files hold, serves so many connections, one after the other, and lets it go, with no copying of the log.
-/// What was meant before it is meant behind it, as the messages that were served leave it: the next session begins with that.
+/// What was meant before it is represented after it, as the messages that were served leave it: the next session begins with that.
 ///
 /// It answers the files in an Ok if the database was sound to the end and tells its count of deposits, and else in an Err. So it does if a crash cut it
 /// off, by the kit's argument on crashes.
@@ -107,7 +107,7 @@ pub fn serve_files<D: Disk + Drop, C: Connections>(
     // Files in an Ok may be opened again: each sync of them went well.
     ensures usable { IfOk result (λ left. IfOk left (AreUsable D.Disk)) }
     ensures session { IfOk result (IsSession D.Disk files capacity count (C.traffic connections.old) (C.traffic connections.new)) }
-    // Where the opening was refused nobody was served; and the refusals and the files are those of `Archive::open_files`. What a crash during
+    // If the opening was refused nobody was served; and the refusals and the files are those of `Archive::open_files`. What a crash during
     // an opening leaves is not said.
     ensures unserved { OnErr result (connections.new ≡ connections.old) }
     ensures bad { IfErr result (λ e. (e.0 ≡ OpenFault.BadCapacity) ↔ (is_capacity capacity ≡ false)) }

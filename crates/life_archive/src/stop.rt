@@ -39,7 +39,7 @@ fn desk_line(refusal: Refusal) -> &'static str
 }
 
 impl ArchiveStop {
-    /// The line for standard error, without its line end. It is empty where nothing is printed.
+    /// The line for standard error, without its line end. It is empty if nothing is printed.
     pub fn line(&self) -> &'static str
         ensures { result.now ≡ line_of self.now }
     {

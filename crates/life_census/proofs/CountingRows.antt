@@ -31,11 +31,11 @@ found_in (e ∷ es) t n h = go (same_text t e.0) refl h (found_in es t n)
 
 -- ---- a row is found
 
--- nothing is found behind a row with a greater code ..
+-- nothing is found after a row with a greater code ..
 none_below_rest : (t : List ℕ) (e : List ℕ × ℕ) (es : Rows) → row_cmp t e.0 ≡ Less → T (table.is_sorted row_cmp (e ∷ es)) → table.find row_cmp t es ≡ None
 none_below_rest t e es less sorted = sym (ap (λ o. cond (is_eq o) (Some e.1) (table.find row_cmp t es)) less) ∙ none_below t e es less sorted
 
--- .. or behind the row of the code itself
+-- .. or after the row of the code itself
 none_behind : (t : List ℕ) (e : List ℕ × ℕ) (es : Rows) → row_cmp t e.0 ≡ Equal → T (table.is_sorted row_cmp (e ∷ es)) → table.find row_cmp t es ≡ None
 none_behind t e [] same sorted = refl
 none_behind t e (f ∷ fs) same sorted =

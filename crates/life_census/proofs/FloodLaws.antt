@@ -316,7 +316,7 @@ close_in_row r s row rowA rowB from to (inr ends) (inr begins) rows a b low high
     let q = begins.1 in
     record { rows_up = omega (arith, ints); rows_down = omega (arith, ints); left = omega (arith, ints); right = omega (arith, ints) }
 
--- nor is a cell of a run from a place on, where that place's run begins behind those columns
+-- nor is a cell of a run from a place on, where that place's run begins after those columns
 pub none_beyond : (r : Run) (L : List Run) (i k : ℕ) (d e : Run) (row to : ℤ) (c : Cell) → AreRunsInOrder L → IsBeyond (get_or L i d) row to → i ≤ k → k < length L → to ≡ (r.first +ℤ pos r.len) +ℤ pos 2
     → IsRound r c → c.row ≡ row → IsInRun (get_or L k e) c → ⊥
 none_beyond r L i k d e row to c order beyond after low is round on inside = elim (cases_lt i k) [

@@ -129,7 +129,7 @@ parting_ends X Ps L p none = record {
 
 -- ---- by runs
 
--- what is left behind a run that was taken comes after the run's first cell
+-- what is left after a run that was taken comes after the run's first cell
 pub left_after : (L M : List Run) (i : ℕ) (e : Run) → AreRunsInOrder L → i < length L → 1 ≤ (get_or L i e).len → ((k : ℕ) (d : Run) → k < i → (get_or L k d).len ≡ 0) → AreKept L M
     → set.contains (cells_in M) (first_cell (get_or L i e)) ≡ false → (d : Cell) → set.contains (cells_in M) d ≡ true → cell_cmp (first_cell (get_or L i e)) d ≡ Less
 left_after L M i e order low some past kept gone d h = let found = in_some M d h in go found.0 found.1 found.2 found.3 found.4 (cases_lt found.0 i)

@@ -77,7 +77,7 @@ module _ (r : RuleSets) (limit : ℕ) (X : Cells) (Ps : List Cells) (parts : Are
 
 -- ---- a field of one part
 
--- a field of one part is steady where its kind stays
+-- a field of one part is steady if its kind stays
 pub one_part_steady : (r : RuleSets) (limit : ℕ) (X : Cells) (k : Kind) (b : Bool) → X ∷ [] ≡ parts X → k ≡ kind_of r X limit → b ≡ is_staying k → IsTrue b ↔ IsSteady r X limit
 one_part_steady r limit X k b one is answer = (
   λ t.

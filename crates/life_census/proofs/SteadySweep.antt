@@ -145,7 +145,7 @@ far_after rows v w row after = false_from_ne_true (near v.cell w.cell) (λ close
 
 -- ---- what a visit meets
 
--- a visit that comes after the last cell has none up to it behind it
+-- a visit that comes after the last cell has none up to it after it
 pub none_after : (v : Visit) (last : Cell) (others : List Visit) (i : ℕ) (e : Visit) → IsSorted visit_cmp others → i < length others → ComesBefore last (get_or others i e).cell
     → All (KeepApart v) (take i others) → All (KeepApartUpTo last v) others
 none_after v last others i e sorted low after before k d high up_to = elim (cases_lt k i) [

@@ -59,7 +59,7 @@ module _ {A : Type 0} (r : RuleSets) (limit : ℕ) where
       known : IsShape r limit true s
       known = subst (λ (t : Shape A). IsShape r limit true t) (sym item) (are.each i s at.0)
 
-      -- where there are no phases, the cluster does not stay
+      -- if there are no phases, the cluster does not stay
       pub goes_at : s.phases ≡ None → Stays r limit X → ⊥
       goes_at none stays = subst (λ (o : Option (Vec Cell A)). MatchOption o (Stays r limit s.cluster → ⊥) (λ v. ArePhases r limit s.cluster v.items)) none (known.phases refl) (stays_back r limit s.cluster v (subst (Stays r limit) moved_shape stays))
 

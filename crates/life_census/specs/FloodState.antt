@@ -77,6 +77,6 @@ IsTaken r i left cluster after grown = ((r.len ≡ 0) × (after ≡ left) × (gr
 abbrev pub Begins : Run → ℤ → ℤ → Type 0
 Begins r row column = (r.row <ℤ row) ⊎ ((r.row ≡ row) × (r.first <ℤ column))
 
--- a run begins at the column of the row or behind it, or in a row after it
+-- a run begins at the column of the row or after it, or in a row after it
 abbrev pub IsBeyond : Run → ℤ → ℤ → Type 0
 IsBeyond r row column = (row <ℤ r.row) ⊎ ((r.row ≡ row) × (column ≤ℤ r.first))

@@ -17,8 +17,8 @@ pub struct InFiles;
 
 impl ArchiveJobs for InFiles {
     // What the files of this machine hold at first is unknown but for files without a byte.
-    ghost deposits = { λ member token told before after line.
-        AnswersDeposit ⟦<FileFrom<Unknown> as Disk>⟧ (image_at ⟦<Unknown as Start>⟧) 1000000 member token told before after line };
+    ghost deposits = { λ member token known before after line.
+        AnswersDeposit ⟦<FileFrom<Unknown> as Disk>⟧ (image_at ⟦<Unknown as Start>⟧) 1000000 member token known before after line };
 
     ghost serves = { λ port connections line. AnswersServing ⟦<FileFrom<Unknown> as Disk>⟧ (image_at ⟦<Unknown as Start>⟧) 1000000 connections line };
 

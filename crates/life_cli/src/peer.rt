@@ -23,14 +23,14 @@ const PIECES: u64 = 256;
 
 /// A connection with a peer, which ends where the peer takes too long.
 ///
-/// Where no byte of a message has come for a second, since the connection began or since the last reply, it reads as ended. A
+/// If no byte of a message has come for a second, since the connection began or since the last reply, it reads as ended. A
 /// message that has begun, and a reply, have ten seconds: then the read or the write fails. What is counted is the time in which
 /// the peer is waited for, not the time in which a reply is made.
 #[derive(Drop)]
 pub struct Peer<'a> {
     rt: &'a HostRuntime,
     stream: &'a TcpStream,
-    /// How much longer the message may take that has begun; none where none has.
+    /// How much longer the message may take that has begun; none if none has.
     message: Cell<Option<Duration>>,
     /// How much longer the reply may take that is put.
     reply: Cell<Duration>,

@@ -85,7 +85,7 @@ IsQuiet Y c = (d : Cell) → has_cell (c ∷ around c) d ≡ true → set.contai
 quiet_from_none : (Y : Cells) (c : Cell) → list_any (set.contains Y) (c ∷ around c) ≡ false → IsQuiet Y c
 quiet_from_none Y c none d h = false_from_ne_true (set.contains Y d) (λ live. false≢true (sym none ∙ passed_by_member (set.contains Y) (c ∷ around c) d h live))
 
--- nothing is born where nothing is
+-- nothing is born if nothing is
 quiet_dies : (r : RuleSets) (Y : Cells) (c : Cell) → set.contains r.birth 0 ≡ false → IsQuiet Y c → lives_next r Y c ≡ false
 quiet_dies r Y c none quiet =
     block_decides r Y set.empty c (λ d h. quiet d h ∙ sym (set.contains-empty cell_cmp d))

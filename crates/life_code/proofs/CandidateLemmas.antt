@@ -11,7 +11,7 @@ use Rattle.life_code.specs.Codes.{text_cmp, orientations, fits, shape, text_of, 
 use Rattle.life_code.specs.Laws.{IsCandidate, LeastIsLeast}
 use Rattle.life_code.proofs.TextLists.{least_is, IsLeastText, In, one_flat, flat_one, one_some, each_orientation, range_one, one_range}
 
--- a set has a text exactly where its box is small enough, and one only
+-- a set has a text exactly if its box is small enough, and one only
 in_text_of : (X : Cells) (t : List ℕ) → In t (text_of X) → (fits X ≡ true) × (wechsler X ≡ t)
 unfolding text_of
 in_text_of X t h =

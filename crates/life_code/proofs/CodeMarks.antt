@@ -100,7 +100,7 @@ front_unmarked front is = subst NoMark (sym is.parts) (both_unmarked is.prefix i
 
 -- ---- the first mark
 
--- what stands behind the first mark
+-- what stands after the first mark
 pub behind_mark : (front back other rest : List ℕ) → NoMark front → NoMark back → front ++ 95 ∷ other ≡ back ++ 95 ∷ rest → other ≡ rest
 behind_mark [] [] other rest h g e = cc
 behind_mark [] (b ∷ back) other rest h g e = absurd (g.0 (let q : 95 ≡ b = cc in sym q))
@@ -125,7 +125,7 @@ marked (b ∷ front) back h = marked front back h.1
 pub not_unmarked : (text front back : List ℕ) → NoMark text → text ≡ front ++ 95 ∷ back → ⊥
 not_unmarked text front back h e = marked front back (subst NoMark e h)
 
--- where the first mark stands at place i: what is before it, and what behind it
+-- where the first mark stands at place i: what is before it, and what after it
 mark_at : (text : List ℕ) (i : ℕ) → i < length text → get_or text i 0 ≡ 95 → ((k : ℕ) → k < i → nat_eq (get_or text k 0) 95 ≡ false) → NoMark (take i text) × (text ≡ take i text ++ 95 ∷ drop (suc i) text)
 mark_at [] i inside here before = absurd (omega arith)
 mark_at (b ∷ text) zero inside here before = (tt, λ j. here j ∷ text)

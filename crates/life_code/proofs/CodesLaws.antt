@@ -81,7 +81,7 @@ neg_zero a = both_ways _ _ (λ e. eq_zero a (from_neg a ((Decides-int_eq (neg_�
     to_neg : (a : ℤ) → a ≡ pos 0 → neg_ℤ a ≡ pos 0
     to_neg a e = omega (arith, ints)
 
--- a turned move is none where the move is none
+-- a turned move is none if the move is none
 stays_turned : (o : Orientation) (c : Cell) → stays_by (turned_cell o c) ≡ stays_by c
 stays_turned O0 c = refl
 stays_turned O1 c = ap (λ b. b && int_eq c.column (pos 0)) (neg_zero c.row) ∙ and_swap (int_eq c.row (pos 0)) (int_eq c.column (pos 0))

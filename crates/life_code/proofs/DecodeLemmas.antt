@@ -10,7 +10,7 @@ use Rattle.life_core.specs.Pattern.{Cells, IsWithin}
 use Rattle.life_core.proofs.PatternMembers.{within_from_list}
 use Rattle.life_code.specs.DecodeState.{spells_cell, cell_of_place, decoded}
 
--- where nothing is left, no cell is spelled
+-- if nothing is left, no cell is spelled
 pub spells_nothing : (k : ℕ) (behind_y : Bool) (x y : ℕ) → spells_cell k behind_y [] x y ≡ false
 unfolding spells_cell
 spells_nothing k true x y = refl

@@ -48,7 +48,7 @@ codes_of_object r X limit (Err fault) is = tt
 pub texts_decide : (xs ys : List ℕ) (b : Bool) → b ≡ pointwise nat_eq xs ys → Decides b (xs ≡ ys)
 texts_decide xs ys b e = slice_eq-Decides Decides-eqb xs ys b e
 
--- under one rule, two texts are one exactly where their sets are one object
+-- under one rule, two texts are one exactly if their sets are one object
 pub one_rule : (a b : CodedCells) → IsCoded a → IsCoded b → a.rule ≡ b.rule → (t : Bool) → Decides t (a.text ≡ b.text) → (IsTrue t) ↔ ((a.rule ≡ b.rule) × Same a.rule a.cells b.cells)
 one_rule a b p q same t decides =
     let there : code_of a.rule b.cells b.limit ≡ Some b.text = ap (λ r. code_of r b.cells b.limit) same ∙ q in

@@ -27,7 +27,7 @@ spells_back text front back X h e s = subst (λ b. IsWechsler b X) (sym (behind_
 pub refused_front : (text front back : List ℕ) (b : Bool) → NoMark front → text ≡ front ++ 95 ∷ back → (IsTrue b) ↔ (IsFront front) → b ≡ false → (X : Cells) → Spells text X → ⊥
 refused_front text front back b h e tells refused X s = true≢false (sym (tells.1 (spells_front text front back X h e s)) ∙ refused)
 
--- what stands behind the mark decides
+-- what stands after the mark decides
 pub read_behind : {E : Type 0} (r : Result (Option Cells) E) (text front back : List ℕ) → NoMark front → text ≡ front ++ 95 ∷ back → IsFront front
     → IfOk r (λ o. MatchOption o ((X : Cells) → ¬ IsWechsler back X) (IsWechsler back)) → IfOk r (λ o. MatchOption o ((X : Cells) → ¬ Spells text X) (Spells text))
 read_behind (Err fault) text front back h e is read = tt

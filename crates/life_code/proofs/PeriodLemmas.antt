@@ -203,7 +203,7 @@ phases_come_again r X p dx dy (h, e, first) i =
     let there = many (i / p) (cell_at (dx, dy)) in
     (there.column, there.row, phase_mod r X p (cell_at (dx, dy)) h e i)
 
--- phase j is phase i again only where the set comes back in less than its period
+-- phase j is phase i again only if the set comes back in less than its period
 pub phases_differ : PhasesDiffer
 phases_differ r X p dx dy (h, e, first) i j less below ex ey same =
     let again : Returns r (generation_of r X i) (j - i) ex ey =

@@ -44,7 +44,7 @@ last_behind : (o : Option ℕ) (front : List ℕ) (v : ℕ) (back : List ℕ) �
 last_behind o [] v back = refl
 last_behind o (x ∷ front) v back = last_behind (Some x) front v back
 
--- what is spelled behind n zero columns: a list of columns whose last is not zero, or none
+-- what is spelled after n zero columns: a list of columns whose last is not zero, or none
 record Spelled (n : ℕ) (columns : List ℕ) : Type 0 where
   left : ℕ
   all : columns_of false (spelled n columns) ++ replicate left 0 ≡ replicate n 0 ++ columns

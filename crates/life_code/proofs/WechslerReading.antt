@@ -88,7 +88,7 @@ read_zero_run n k text x y h =
 abbrev pub AllColumns : List ℕ → Type 0
 AllColumns columns = AllByRecursion (λ v. v < 32) columns
 
--- a strip's text leads on to what stands behind it
+-- a strip's text leads on to what stands after it
 pub read_spelled_other : (columns : List ℕ) (n k : ℕ) (text : List ℕ) (x y : ℕ) (r : Bool) → AllColumns columns → n + length columns ≤ 40 → 5 ≤ y → ((m : ℕ) → spells_cell m false text x y ≡ r) → spells_cell k false (spelled n columns ++ text) x y ≡ r
 unfolding spelled
 read_spelled_other [] n k text x y r all short from rest = rest k

@@ -39,7 +39,7 @@ step_value text behind after whole columns i n last h ne run value written is =
     ∙ ap (λ s. text ++ s) (sym (ap (spelled n) (first_left columns i h) ∙ spelled_value n _ _ ne))
     ∙ is
 
--- where no column is left
+-- if no column is left
 pub at_end : (text whole columns : List ℕ) (i n : ℕ) → length columns ≤ i → text ++ spelled n (drop i columns) ≡ whole → text ≡ whole
 at_end text whole columns i n h is = sym (append-nil text) ∙ ap (λ s. text ++ s) (sym (ap (spelled n) (drop_of_length-le columns h) ∙ spelled_none n)) ∙ is
 
@@ -70,7 +70,7 @@ none_before f s before h is = is ∙ ap (λ k. join_with_byte 122 (map f (range_
 pub write_first : (X : Cells) (s n : ℕ) (columns before text : List ℕ) → n ≡ width X → columns ≡ map (column_value X s) (range_with_len 0 n) → s ≤ 0 → before ≡ join_with_byte 122 (map (strip X) (range_with_len 0 s)) → text ≡ before ++ spelled 0 columns → text ≡ join_with_byte 122 (map (strip X) (range_with_len 0 (s + 1)))
 write_first X s n columns before text e is h so t = t ∙ (λ i. none_before (strip X) s before h so i ++ strip_of X s n columns e is i) ∙ sym (first_strip (strip X) s h)
 
--- a later strip is written, behind `z`
+-- a later strip is written, after `z`
 pub write_next : (X : Cells) (s n : ℕ) (columns before joint text : List ℕ) → n ≡ width X → columns ≡ map (column_value X s) (range_with_len 0 n) → 0 < s → before ≡ join_with_byte 122 (map (strip X) (range_with_len 0 s)) → joint ≡ before ++ 122 ∷ [] → text ≡ joint ++ spelled 0 columns → text ≡ join_with_byte 122 (map (strip X) (range_with_len 0 (s + 1)))
 write_next X s n columns before joint text e is h so z t =
     t ∙ ap (λ u. u ++ spelled 0 columns) z ∙ append_assoc before (122 ∷ []) (spelled 0 columns) ∙ (λ i. so i ++ 122 ∷ strip_of X s n columns e is i) ∙ sym (next_strip (strip X) s h)

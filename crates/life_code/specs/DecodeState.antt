@@ -11,7 +11,7 @@ use Rattle.life_code.specs.Wechsler.{value_of}
 abbrev pub has_bit : ℕ → ℕ → Bool
 has_bit n value = ((value / 2 ^ n) % 2) == 1
 
--- whether a text spells the cell in column x and row y, counted from the top of a strip; the text continues at column k of that strip, behind a `y` where the flag is set
+-- whether a text spells the cell in column x and row y, counted from the top of a strip; the text continues at column k of that strip, after a `y` if the flag is set
 unfoldable pub spells_cell : ℕ → Bool → List ℕ → ℕ → ℕ → Bool
 spells_cell k behind_y [] x y = false
 spells_cell k true (c ∷ text) x y = spells_cell (k + 4 + value_of c) false text x y

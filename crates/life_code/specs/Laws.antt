@@ -77,7 +77,7 @@ TextsTellApart = (X Y : Cells) → normal X ≡ X → normal Y ≡ Y → fits X 
 abbrev pub IsCandidate : RuleSets → Cells → ℕ → List ℕ → Type 0
 IsCandidate r X p text = (i : ℕ) × (i < p) × (o : Orientation) × (fits (shape o (generation_of r X i)) ≡ true) × (wechsler (shape o (generation_of r X i)) ≡ text)
 
--- The least candidate is a candidate that no other undercuts, and there is none only where there is no candidate.
+-- The least candidate is a candidate that no other undercuts, and there is none only if there is no candidate.
 abbrev pub LeastIsLeast : Type 0
 LeastIsLeast = (r : RuleSets) (X : Cells) (p : ℕ) → MatchOption (least_text (candidates r X p)) ((text : List ℕ) → ¬ IsCandidate r X p text) (λ text. IsCandidate r X p text × ((other : List ℕ) → IsCandidate r X p other → is_gt (text_cmp text other) ≡ false))
 
@@ -89,7 +89,7 @@ SameIsEquivalence = (r : RuleSets) → ((X : Cells) → IsPeriodic r X → Same 
 abbrev pub CodeIsInvariant : Type 0
 CodeIsInvariant = (r : RuleSets) (X Y : Cells) (limit : ℕ) → Same r X Y → code_of r X limit ≡ code_of r Y limit
 
--- Two codes are equal exactly where the sets are one object, whatever the limits.
+-- Two codes are equal exactly if the sets are one object, whatever the limits.
 abbrev pub CodeIsComplete : Type 0
 CodeIsComplete = (r : RuleSets) (X Y : Cells) (limit other : ℕ) (s t : List ℕ) → code_of r X limit ≡ Some s → code_of r Y other ≡ Some t → (s ≡ t) ↔ Same r X Y
 

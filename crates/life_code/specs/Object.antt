@@ -25,7 +25,7 @@ coded_object =
 abbrev pub IsCoded : CodedCells → Type 0
 IsCoded o = code_of o.rule o.cells o.limit ≡ Some o.text
 
--- the code of X under a rule and a limit, with what it was made of; or nothing where X has none
+-- the code of X under a rule and a limit, with what it was made of; or nothing if X has none
 abbrev pub IsCodeOf : RuleSets → Cells → ℕ → Option CodedCells → Type 0
 IsCodeOf r X limit None = code_of r X limit ≡ None
 IsCodeOf r X limit (Some o) = (code_of r X limit ≡ Some o.text) × (o.rule ≡ r) × (o.cells ≡ X) × (o.limit ≡ limit)

@@ -35,14 +35,14 @@ zero_run n =
     else if n == 3 then 120 ∷ []
     else 121 ∷ character (n - 4) ∷ []
 
--- the columns of a strip, spelled behind n zero columns: those of zero at the end are left out
+-- the columns of a strip, spelled after n zero columns: those of zero at the end are left out
 unfoldable pub spelled : ℕ → List ℕ → List ℕ
 spelled n [] = []
 spelled n (value ∷ columns) = if value == 0 then spelled (n + 1) columns else zero_run n ++ character value ∷ spelled 0 columns
 
 -- ---- the text
 
--- 1 where the cell in this column and row is live
+-- 1 if the cell in this column and row is live
 abbrev pub bit_at : Cells → ℕ → ℕ → ℕ
 bit_at X x y = if set.contains X (cell_at (pos x, pos y)) then 1 else 0
 

@@ -137,7 +137,7 @@ fn code_text<A: Allocator>(
     Ok(code)
 }
 
-/// The code with a prefix and a number, where there is a text.
+/// The code with a prefix and a number, if there is a text.
 fn with_prefix<A: Allocator>(
     alloc: A,
     prefix: &str,

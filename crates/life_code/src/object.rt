@@ -43,7 +43,7 @@ impl<A: Allocator> Coded<A> {
     }
 }
 
-/// The pattern with its code, as [`code`] gives it, where its kind under the limit is known already:
+/// The pattern with its code, as [`code`] gives it, if its kind under the limit is known already:
 /// no period is searched.
 pub fn code_of_kind<A: Allocator + Copy>(
     alloc: A,
@@ -66,8 +66,8 @@ pub fn code_of_kind<A: Allocator + Copy>(
     }
 }
 
-/// The pattern with its code under a limit of the period, if it has one: it has none where it is
-/// empty, where it is not back within the limit, and where no phase of it fits in a box of 40 by 40.
+/// The pattern with its code under a limit of the period, if it has one: it has none if it is
+/// empty, if it is not back within the limit, and if no phase of it fits in a box of 40 by 40.
 pub fn code<A: Allocator + Copy>(
     alloc: A,
     rule: &Rule,

@@ -106,7 +106,7 @@ fn is_front(front: &[u8]) -> bool
 }
 
 /// The most bytes that a Wechsler text has: a byte for each column of each strip of five rows, and a
-/// `z` behind each strip.
+/// `z` after each strip.
 const LONGEST_TEXT: usize = (LARGEST_BOX / 5 * (LARGEST_BOX + 1)) as usize;
 
 /// The pattern of a Wechsler text, if it is the text of one that is not empty.

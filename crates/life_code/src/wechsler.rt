@@ -55,7 +55,7 @@ fn push_strip<A: Allocator>(text: &mut Vec<u8, A>, columns: &[u8]) -> Result<(),
     Ok(())
 }
 
-/// 1 where the cell is live.
+/// 1 if the cell is live.
 fn bit_at<A: Allocator>(pattern: &Pattern<A>, column: u8, row: u8) -> u8
     ensures { result ≡ bit_at pattern.now column row }
 {

@@ -85,7 +85,7 @@ begins r cs d run = go r.len refl
     go zero none = absurd (omega (arith, none, run))
     go (suc n) is = ap (λ m. first_or d (cells_from r.row r.first m ++ cs)) is
 
--- behind the last cell of a longest run no run goes on
+-- after the last cell of a longest run no run goes on
 goes_on : (r : Run) (rs : List Run) → NoneJoins r rs → AreApart rs → BeginsWith (runs_cells rs) (record { row = r.row; column = r.first +ℤ pos r.len }) → ⊥
 goes_on r [] none h next = next
 goes_on r (q ∷ rs) none h next = go q.len refl

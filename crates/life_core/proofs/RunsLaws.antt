@@ -134,7 +134,7 @@ first_cases a b h = rows (int_cmp a.row b.row) (int_ranks a.row b.row) h
 
 -- ---- the runs of a sorted list
 
--- the cells behind the last of a run come in rows below, or further to the right
+-- the cells after the last of a run come in rows below, or further to the right
 before_rest : (row first : ℤ) (n : ℕ) (rest : List Cell) (c : Cell) → IsStrictlySortedBy cell_cmp (cells_from row first (suc n) ++ rest) → has_cell rest c ≡ true
     → (row <ℤ c.row) ⊎ ((row ≡ c.row) × ((first +ℤ pos (suc n)) ≤ℤ c.column))
 before_rest row first zero rest c sorted h = elim (first_cases (record { row = row; column = first }) c (above_first (record { row = row; column = first }) rest c sorted h)) [

@@ -10,7 +10,7 @@ use Rattle.life_core.specs.Pattern.{Cells}
 use Rattle.life_core.specs.Generations.{neighbour_count}
 use Rattle.life_core.specs.CellCountsState.{IsAscending, IsBounded, own_at, neighbours_at}
 
--- 1 where the cell is in the set
+-- 1 if the cell is in the set
 abbrev pub mark : Cells → Cell → ℕ
 mark X q = cond (set.contains X q) 1 0
 

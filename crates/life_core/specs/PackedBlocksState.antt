@@ -14,7 +14,7 @@ abbrev pub flat_count : List ℕ → ℕ → ℕ → ℕ
 flat_count rows W q =
     (place rows (q - W - 1) + (place rows (q - W) + place rows (q - W + 1))) + ((place rows (q - 1) + place rows (q + 1)) + (place rows (q + W - 1) + (place rows (q + W) + place rows (q + W + 1))))
 
--- 1 where place q is live next
+-- 1 if place q is live next
 abbrev pub flat_next : RuleSets → List ℕ → ℕ → ℕ → ℕ
 flat_next r rows W q = one_if (lives_at r (nat_eq (place rows q) 1) (flat_count rows W q))
 

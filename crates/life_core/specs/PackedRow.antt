@@ -4,7 +4,7 @@ use Rattle.std.specs.Prelude.{ℕ, ◌+◌, ◌-◌, ◌/◌, ◌%◌, List, sli
 use Rattle.std.specs.Int.{bit_at}
 use Rattle.life_core.specs.Rule.{RuleSets, lives_at}
 
--- 1 where a test holds
+-- 1 if a test holds
 abbrev pub one_if : Bool → ℕ
 one_if b = if b then 1 else 0
 
@@ -21,6 +21,6 @@ abbrev pub round_count : List ℕ → List ℕ → List ℕ → ℕ → ℕ
 round_count above here below p =
     place_before above p + (place above p + (place above (p + 1) + (place_before here p + (place here (p + 1) + (place_before below p + (place below p + place below (p + 1)))))))
 
--- 1 where place p of the middle row is live next, with all places outside the three rows dead
+-- 1 if place p of the middle row is live next, with all places outside the three rows dead
 abbrev pub next_place : RuleSets → List ℕ → List ℕ → List ℕ → ℕ → ℕ
 next_place r above here below p = one_if (lives_at r (nat_eq (place here p) 1) (round_count above here below p))

@@ -192,8 +192,8 @@ impl<A: Allocator> Pattern<A> {
         self.cells.runs() == other.cells.runs()
     }
 
-    /// The one move, columns and rows, that takes this set to the other; none where this set is
-    /// empty, or where no move does.
+    /// The one move, columns and rows, that takes this set to the other; none if this set is
+    /// empty, or if no move does.
     pub fn shift_to(&self, other: &Pattern<A>) -> Option<(i64, i64)>
         ensures { ShiftsTo self.now other.now result }
     {

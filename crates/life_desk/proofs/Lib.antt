@@ -1,4 +1,4 @@
-pub mod Meaning
+pub mod Representing
 pub mod Runs
 pub mod Later
 pub mod Submissions

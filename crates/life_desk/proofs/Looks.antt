@@ -13,7 +13,7 @@ use Rattle.life_desk.specs.declared.request.Reply.{Reply}
 use Rattle.life_desk.specs.declared.request.Reply.TheVariants as says
 use Rattle.life_desk.specs.declared.looking.CountedCensus.{CountedCensus}
 use Rattle.life_desk.specs.Archive.{Archive, tally_at, steady_at}
-use Rattle.life_desk.specs.Means.{Means}
+use Rattle.life_desk.specs.Represents.{Represents}
 use Rattle.life_desk.specs.Submission.{Repeats, Refuses}
 use Rattle.life_desk.specs.Replies.{is_same_deposit, deposit_by_token, deposit_reply, with_deposit, csv_reply}
 
@@ -21,16 +21,16 @@ use Rattle.life_desk.specs.Replies.{is_same_deposit, deposit_by_token, deposit_r
 
 -- the reply and the archive, by what is stored under the token
 abbrev pub Leaves : {S : Type 0} → Archive → ArchiveView S → Deposit → Option (ℕ × Deposit) → Reply → Type 0
-Leaves A new d o r = (r ≡ deposit_reply A (deposit_by_token A d o)) × Means new (with_deposit A (deposit_by_token A d o))
+Leaves A new d o r = (r ≡ deposit_reply A (deposit_by_token A d o)) × Represents new (with_deposit A (deposit_by_token A d o))
 
-again_if : {S : Type 0} (A : Archive) (new : ArchiveView S) (id : ℕ) (same : Bool) (r : Reply) → r ≡ (if same then says.Deposited id else says.Refused no.TokenReused) → Means new A
-    → (r ≡ deposit_reply A (if same then Repeats id else Refuses no.TokenReused)) × Means new (with_deposit A (if same then Repeats id else Refuses no.TokenReused))
+again_if : {S : Type 0} (A : Archive) (new : ArchiveView S) (id : ℕ) (same : Bool) (r : Reply) → r ≡ (if same then says.Deposited id else says.Refused no.TokenReused) → Represents new A
+    → (r ≡ deposit_reply A (if same then Repeats id else Refuses no.TokenReused)) × Represents new (with_deposit A (if same then Repeats id else Refuses no.TokenReused))
 again_if A new id true r is m = (is, m)
 again_if A new id false r is m = (is, m)
 
 -- its token is used: its text is compared with the one that is stored
 pub told_again : {E S : Type 0} (A : Archive) (new : ArchiveView S) (d : Deposit) (o : Option (ℕ × Deposit)) (id : ℕ) (file : List ℕ) (r : Result Reply E) → ◌≡◌ {A = Option (ℕ × List ℕ)} (Some (id, file)) (option_map file_of_deposit o)
-    → IfOk r (λ x. x ≡ (if bytes_eq file (text d.content) then says.Deposited id else says.Refused no.TokenReused)) → Means new A → MatchResult r (λ x. Leaves A new d o x) (λ _. Means new A)
+    → IfOk r (λ x. x ≡ (if bytes_eq file (text d.content) then says.Deposited id else says.Refused no.TokenReused)) → Represents new A → MatchResult r (λ x. Leaves A new d o x) (λ _. Represents new A)
 told_again A new d None id file r is told m = absurd cc
 told_again A new d (Some stored) id file (Ok x) is told m =
     let same : ◌≡◌ {A = ℕ × List ℕ} (id, file) (file_of_deposit stored) = cc in
@@ -39,8 +39,8 @@ told_again A new d (Some stored) id file (Err e) is told m = m
 
 -- it is new
 pub told_new : {E S : Type 0} (A : Archive) (new : ArchiveView S) (d : Deposit) (o : Option (ℕ × Deposit)) (r : Result Reply E) → None ≡ o
-    → MatchResult r (λ x. Leaves A new d None x) (λ _. Means new A) → MatchResult r (λ x. Leaves A new d o x) (λ _. Means new A)
-told_new A new d o r is done = subst (λ o. MatchResult r (λ x. Leaves A new d o x) (λ _. Means new A)) is done
+    → MatchResult r (λ x. Leaves A new d None x) (λ _. Represents new A) → MatchResult r (λ x. Leaves A new d o x) (λ _. Represents new A)
+told_new A new d o r is done = subst (λ o. MatchResult r (λ x. Leaves A new d o x) (λ _. Represents new A)) is done
 
 pub no_file : (o : Option (ℕ × Deposit)) → ◌≡◌ {A = Option (ℕ × List ℕ)} None (option_map file_of_deposit o) → None ≡ o
 no_file None is = refl

@@ -14,15 +14,15 @@ use Rattle.life_store.specs.Kept.{is_of}
 use Rattle.life_desk.specs.declared.refusal.Refusal.{Refusal}
 use Rattle.life_desk.specs.declared.refusal.Refusal.TheVariants as no
 use Rattle.life_desk.specs.declared.request.Request.TheVariants as ask
-use Rattle.life_desk.specs.declared.request.Judged.{Judged}
-use Rattle.life_desk.specs.declared.request.Judged.TheVariants as good
+use Rattle.life_desk.specs.declared.request.ValidRequest.{ValidRequest}
+use Rattle.life_desk.specs.declared.request.ValidRequest.TheVariants as good
 use Rattle.life_desk.specs.declared.request.Reply.TheVariants as says
 use Rattle.life_desk.specs.Archive.{Archive}
-use Rattle.life_desk.specs.Judging.{is_member, is_token, judged}
+use Rattle.life_desk.specs.Validation.{is_member, is_token, validated}
 use Rattle.life_desk.specs.Replies.{is_same_deposit, has_room, deposit_of_file, deposit_reply, with_deposit, IsReply, after, IsReplyBy, after_by}
 use Rattle.life_desk.specs.Run.{IsLater}
 use Rattle.life_desk.specs.Laws.{EqualTexts, DepositsActOnce, DepositsStay}
-use Rattle.life_desk.specs.Means.{IsReadAgain}
+use Rattle.life_desk.specs.Represents.{IsReadAgain}
 use Rattle.life_desk.proofs.Later.{deposit_stays}
 use Rattle.life_desk.proofs.Steps.{after_again, numbered_again}
 use Rattle.life_desk.proofs.Submissions.{Kind, IsStored, found_numbered, answered_stored, stored_longer, stored_repeats}
@@ -92,8 +92,8 @@ file_case A member token file n (Ok it) good_member good_token is h = record {
 }
 file_case A member token file n (Err fault) good_member good_token is h = absurd cc
 
--- what is judged of a deposit's own words
-abbrev Words : List ℕ → List ℕ → List ℕ → Bool → Bool → Result Judged Refusal
+-- what is validated of a deposit's own words
+abbrev Words : List ℕ → List ℕ → List ℕ → Bool → Bool → Result ValidRequest Refusal
 Words member token file a b = if a then (if b then Ok (good.Deposit member token file) else Err no.BadToken) else Err no.BadMember
 
 words_case : (A : Archive) (member token file : List ℕ) (n : ℕ) (a b : Bool) → is_member member ≡ a → is_token token ≡ b
@@ -123,7 +123,7 @@ deposits_stay_lem A B member token file n again h later =
     let M = after A (ask.Deposit member token file) in
     let d = deposited A member token file n h in
     let found = found_numbered (is_of member token) M.deposits (n, d.found.0) d.found.1 in
-    let one = numbered_again M.deposits n d.found.0 (after_again A (judged (ask.Deposit member token file)) again) found.1 in
+    let one = numbered_again M.deposits n d.found.0 (after_again A (validated (ask.Deposit member token file)) again) found.1 in
     let same = one_deposit (record { member = member; token = token; content = d.content }) d.found.0 one (file_read_again file d.content d.read) found.0 d.found.2 in
     (d.content, d.read, deposit_stays M B later n _ (found.1 ∙ ap Some same))
 

@@ -8,11 +8,11 @@ use Rattle.life_store.specs.Kept.{numbered, is_census_of}
 use Rattle.life_desk.specs.declared.refusal.Refusal.{Refusal}
 use Rattle.life_desk.specs.declared.refusal.Refusal.TheVariants as no
 use Rattle.life_desk.specs.declared.request.Request.TheVariants as ask
-use Rattle.life_desk.specs.declared.request.Judged.{Judged}
-use Rattle.life_desk.specs.declared.request.Judged.TheVariants as good
+use Rattle.life_desk.specs.declared.request.ValidRequest.{ValidRequest}
+use Rattle.life_desk.specs.declared.request.ValidRequest.TheVariants as good
 use Rattle.life_desk.specs.declared.request.Reply.TheVariants as says
 use Rattle.life_desk.specs.Archive.{Archive}
-use Rattle.life_desk.specs.Judging.{is_member, is_token, is_generation, is_limit}
+use Rattle.life_desk.specs.Validation.{is_member, is_token, is_generation, is_limit}
 use Rattle.life_desk.specs.Replies.{is_same_census, has_room, census_of_deposit, census_reply, with_census, IsReply, after, IsReplyBy, after_by}
 use Rattle.life_desk.specs.Run.{IsLater}
 use Rattle.life_desk.specs.Laws.{CensusesActOnce, CensusesStay}
@@ -80,8 +80,8 @@ deposit_case A c n (Some d) is x y z h = record {
   found = answered_stored censuses (has_room A A.censuses) A.censuses c n h;
 }
 
--- what is judged of a census's own words
-abbrev Words : Census → Bool → Bool → Bool → Result Judged Refusal
+-- what is validated of a census's own words
+abbrev Words : Census → Bool → Bool → Bool → Result ValidRequest Refusal
 Words c a b w = if a then (if b then (if w then Ok (good.Census c) else Err no.OutOfLimit) else Err no.BadToken) else Err no.BadMember
 
 words_case : (A : Archive) (c : Census) (n : ℕ) (a b w : Bool) → is_member c.member ≡ a → is_token c.token ≡ b → (is_generation c.generation && is_limit c.limit) ≡ w

@@ -10,12 +10,12 @@ use Rattle.life_desk.specs.declared.refusal.Refusal.{Refusal}
 use Rattle.life_desk.specs.declared.refusal.Refusal.TheVariants as no
 use Rattle.life_desk.specs.declared.request.Request.{Request}
 use Rattle.life_desk.specs.declared.request.Request.TheVariants as ask
-use Rattle.life_desk.specs.declared.request.Judged.{Judged}
-use Rattle.life_desk.specs.declared.request.Judged.TheVariants as good
+use Rattle.life_desk.specs.declared.request.ValidRequest.{ValidRequest}
+use Rattle.life_desk.specs.declared.request.ValidRequest.TheVariants as good
 use Rattle.life_desk.specs.declared.request.Reply.{Reply}
 use Rattle.life_desk.specs.declared.request.Reply.TheVariants as says
 use Rattle.life_desk.specs.Archive.{Archive}
-use Rattle.life_desk.specs.Judging.{judged, judged_rule, is_limit, is_generation, is_member, is_token}
+use Rattle.life_desk.specs.Validation.{validated, validated_rule, is_limit, is_generation, is_member, is_token}
 use Rattle.life_desk.specs.Replies.{IsReplyTo, IsReplyBy}
 use Rattle.life_desk.specs.Run.{RequestRun}
 use Rattle.life_desk.specs.Laws.{OneReply, SameReplies}
@@ -24,7 +24,7 @@ use Rattle.life_desk.proofs.Totals.{total_there, total_one}
 
 -- ---- no two
 
-one_to : (A : Archive) (j : Judged) (r s : Reply) → IsReplyTo A j r → IsReplyTo A j s → s ≡ r
+one_to : (A : Archive) (j : ValidRequest) (r s : Reply) → IsReplyTo A j r → IsReplyTo A j s → s ≡ r
 one_to A (good.Deposit member token file) r s is other = other ∙ sym is
 one_to A (good.Show id) r s is other = other ∙ sym is
 one_to A (good.ListAfter id) r s is other = other ∙ sym is
@@ -35,18 +35,18 @@ one_to A (good.ShowCensus id) r s is other = other ∙ sym is
 one_to A (good.CensusCsv id) r s is other = other ∙ sym is
 one_to A (good.Total rule code limit) r s is other = total_one A rule code limit r s is other
 
-one_by : (A : Archive) (w : Result Judged Refusal) (r s : Reply) → IsReplyBy A w r → IsReplyBy A w s → s ≡ r
+one_by : (A : Archive) (w : Result ValidRequest Refusal) (r s : Reply) → IsReplyBy A w r → IsReplyBy A w s → s ≡ r
 one_by A (Ok j) r s is other = one_to A j r s is other
 one_by A (Err refusal) r s is other = other ∙ sym is
 
 -- ---- there is one
 
--- a limit that is judged good is small
-IsSmall : Judged → Type 0
+-- a limit that is validated good is small
+IsSmall : ValidRequest → Type 0
 IsSmall (good.Total rule code limit) = limit ≤ PERIOD_LIMIT
 IsSmall j = Unit {0}
 
-there_to : (A : Archive) (j : Judged) → IsSmall j → (r : Reply) × IsReplyTo A j r
+there_to : (A : Archive) (j : ValidRequest) → IsSmall j → (r : Reply) × IsReplyTo A j r
 unfolding IsSmall
 there_to A (good.Deposit member token file) small = (_, refl)
 there_to A (good.Show id) small = (_, refl)
@@ -58,59 +58,59 @@ there_to A (good.ShowCensus id) small = (_, refl)
 there_to A (good.CensusCsv id) small = (_, refl)
 there_to A (good.Total rule code limit) small = total_there A rule code limit (omega (arith, small))
 
--- what is judged good is small, if anything is
-AreSmall : Result Judged Refusal → Type 0
+-- what is validated good is small, if anything is
+AreSmall : Result ValidRequest Refusal → Type 0
 AreSmall (Ok j) = IsSmall j
 AreSmall (Err refusal) = Unit {0}
 
-there_by : (A : Archive) (w : Result Judged Refusal) → AreSmall w → (r : Reply) × IsReplyBy A w r
+there_by : (A : Archive) (w : Result ValidRequest Refusal) → AreSmall w → (r : Reply) × IsReplyBy A w r
 unfolding AreSmall
 there_by A (Ok j) small = there_to A j small
 there_by A (Err refusal) small = (says.Refused refusal, refl)
 
-small_rule : (code : List ℕ) (limit : ℕ) (r : Result RuleSets RuleFault) → limit ≤ PERIOD_LIMIT → AreSmall (judged_rule code limit r)
+small_rule : (code : List ℕ) (limit : ℕ) (r : Result RuleSets RuleFault) → limit ≤ PERIOD_LIMIT → AreSmall (validated_rule code limit r)
 unfolding AreSmall IsSmall
 small_rule code limit (Ok rule) small = small
 small_rule code limit (Err fault) small = tt
 
-small_limit : (rule code : List ℕ) (limit : ℕ) (b : Bool) → is_limit limit ≡ b → AreSmall (if b then judged_rule code limit (read_rule rule) else Err no.OutOfLimit)
+small_limit : (rule code : List ℕ) (limit : ℕ) (b : Bool) → is_limit limit ≡ b → AreSmall (if b then validated_rule code limit (read_rule rule) else Err no.OutOfLimit)
 unfolding AreSmall
 small_limit rule code limit true is = small_rule code limit (read_rule rule) (leb-true limit PERIOD_LIMIT (and_parts (nat_le 1 limit) (nat_le limit PERIOD_LIMIT) is).1)
 small_limit rule code limit false is = tt
 
-two : (q : Request) (a b : Bool) (j : Judged) → IsSmall j → AreSmall (if a then (if b then Ok j else Err no.BadToken) else Err no.BadMember)
+two : (q : Request) (a b : Bool) (j : ValidRequest) → IsSmall j → AreSmall (if a then (if b then Ok j else Err no.BadToken) else Err no.BadMember)
 unfolding AreSmall
 two q true true j small = small
 two q true false j small = tt
 two q false b j small = tt
 
-three : (a b c : Bool) (j : Judged) → IsSmall j → AreSmall (if a then (if b then (if c then Ok j else Err no.OutOfLimit) else Err no.BadToken) else Err no.BadMember)
+three : (a b c : Bool) (j : ValidRequest) → IsSmall j → AreSmall (if a then (if b then (if c then Ok j else Err no.OutOfLimit) else Err no.BadToken) else Err no.BadMember)
 unfolding AreSmall
 three true true true j small = small
 three true true false j small = tt
 three true false c j small = tt
 three false b c j small = tt
 
-one : (b : Bool) (j : Judged) → IsSmall j → AreSmall (if b then Ok j else Err no.OutOfLimit)
+one : (b : Bool) (j : ValidRequest) → IsSmall j → AreSmall (if b then Ok j else Err no.OutOfLimit)
 unfolding AreSmall
 one true j small = small
 one false j small = tt
 
-judged_small : (q : Request) → AreSmall (judged q)
+validated_small : (q : Request) → AreSmall (validated q)
 unfolding AreSmall IsSmall
-judged_small (ask.Deposit member token file) = two (ask.Deposit member token file) (is_member member) (is_token token) (good.Deposit member token file) tt
-judged_small (ask.Show id) = tt
-judged_small (ask.ListAfter id) = tt
-judged_small (ask.At id n) = one (is_generation n) (good.At id n) tt
-judged_small (ask.KindOf id limit) = one (is_limit limit) (good.KindOf id limit) tt
-judged_small (ask.Census member token id n limit) =
+validated_small (ask.Deposit member token file) = two (ask.Deposit member token file) (is_member member) (is_token token) (good.Deposit member token file) tt
+validated_small (ask.Show id) = tt
+validated_small (ask.ListAfter id) = tt
+validated_small (ask.At id n) = one (is_generation n) (good.At id n) tt
+validated_small (ask.KindOf id limit) = one (is_limit limit) (good.KindOf id limit) tt
+validated_small (ask.Census member token id n limit) =
     three (is_member member) (is_token token) (is_generation n && is_limit limit) (good.Census (record { member = member; token = token; deposit = id; generation = n; limit = limit })) tt
-judged_small (ask.ShowCensus id) = tt
-judged_small (ask.CensusCsv id) = tt
-judged_small (ask.Total rule code limit) = small_limit rule code limit (is_limit limit) refl
+validated_small (ask.ShowCensus id) = tt
+validated_small (ask.CensusCsv id) = tt
+validated_small (ask.Total rule code limit) = small_limit rule code limit (is_limit limit) refl
 
 pub one_reply : OneReply
-one_reply A q = let there = there_by A (judged q) (judged_small q) in (there.0, there.1, λ other is. one_by A (judged q) there.0 other there.1 is)
+one_reply A q = let there = there_by A (validated q) (validated_small q) in (there.0, there.1, λ other is. one_by A (validated q) there.0 other there.1 is)
 
 -- ---- two runs are one
 
@@ -119,7 +119,7 @@ same_replies A B C [] [] [] run also all rest = (refl, run ∙ sym also)
 same_replies A B C (q ∷ qs) (r ∷ rs) (s ∷ ss) run also all rest =
     let first = step_answers A q r run.0 run.1 all.0 in
     let second = step_answers A q s also.0 also.1 rest.0 in
-    let reply : r ≡ s = one_by A (judged q) s r second.0 first.0 in
+    let reply : r ≡ s = one_by A (validated q) s r second.0 first.0 in
     let mid : run.0 ≡ also.0 = first.1 ∙ sym second.1 in
     let on = same_replies also.0 B C qs rs ss (subst (λ X. RequestRun X qs rs B) mid run.2) also.2 all.1 rest.1 in
     let replies : rs ≡ ss = on.0 in

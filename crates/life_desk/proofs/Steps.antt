@@ -12,17 +12,17 @@ use Rattle.life_store.specs.Kept.{numbered, deposit_by, census_by}
 use Rattle.life_desk.specs.declared.refusal.Refusal.{Refusal}
 use Rattle.life_desk.specs.declared.refusal.Refusal.TheVariants as no
 use Rattle.life_desk.specs.declared.request.Request.{Request}
-use Rattle.life_desk.specs.declared.request.Judged.{Judged}
-use Rattle.life_desk.specs.declared.request.Judged.TheVariants as good
+use Rattle.life_desk.specs.declared.request.ValidRequest.{ValidRequest}
+use Rattle.life_desk.specs.declared.request.ValidRequest.TheVariants as good
 use Rattle.life_desk.specs.declared.request.Reply.{Reply}
 use Rattle.life_desk.specs.declared.request.Reply.TheVariants as says
 use Rattle.life_desk.specs.Archive.{Archive}
-use Rattle.life_desk.specs.Judging.{judged}
+use Rattle.life_desk.specs.Validation.{validated}
 use Rattle.life_desk.specs.Submission.{Verdict, Refuses, Repeats, Adds}
 use Rattle.life_desk.specs.Replies.{has_room, is_same_deposit, deposit_of_file, deposit_verdict, with_deposit, is_same_census, census_of_deposit, census_verdict, with_census, IsReply, after, after_by}
-use Rattle.life_desk.specs.Means.{EachHasDeposit, IsReadAgain, EachIsReadAgain, IsRepresentable}
+use Rattle.life_desk.specs.Represents.{EachHasDeposit, IsReadAgain, EachIsReadAgain, IsRepresentable}
 use Rattle.life_desk.specs.Run.{RequestStep, answers, gives_up, RequestRun, IsAnswered, IsLater}
-use Rattle.life_desk.proofs.Meaning.{each_longer}
+use Rattle.life_desk.proofs.Representing.{each_longer}
 use Rattle.life_desk.proofs.Later.{later_same, later_later}
 use Rattle.life_desk.proofs.Submissions.{after_longer, all_after}
 use Rattle.life_desk.specs.Laws.{NothingIsLost}
@@ -40,7 +40,7 @@ census_later A v =
     record { new_deposits = []; deposits = sym (append-nil A.deposits); new_censuses = longer.0; censuses = longer.1; capacity = refl }
 
 -- what holds of an archive after each request, by what holds of it before, and of it with one submission
-after_case : (P : Archive → Type 0) (A : Archive) (w : Result Judged Refusal) → P A → ((member token file : List ℕ) → P (with_deposit A (deposit_verdict A member token file))) → ((c : Census) → P (with_census A (census_verdict A c))) → P (after_by A w)
+after_case : (P : Archive → Type 0) (A : Archive) (w : Result ValidRequest Refusal) → P A → ((member token file : List ℕ) → P (with_deposit A (deposit_verdict A member token file))) → ((c : Census) → P (with_census A (census_verdict A c))) → P (after_by A w)
 after_case P A (Err refusal) none deposit census = none
 after_case P A (Ok (good.Deposit member token file)) none deposit census = deposit member token file
 after_case P A (Ok (good.Show id)) none deposit census = none
@@ -52,11 +52,11 @@ after_case P A (Ok (good.ShowCensus id)) none deposit census = none
 after_case P A (Ok (good.CensusCsv id)) none deposit census = none
 after_case P A (Ok (good.Total rule code limit)) none deposit census = none
 
-after_later : (A : Archive) (w : Result Judged Refusal) → IsLater A (after_by A w)
+after_later : (A : Archive) (w : Result ValidRequest Refusal) → IsLater A (after_by A w)
 after_later A w = after_case (IsLater A) A w (later_same A) (λ member token file. deposit_later A (deposit_verdict A member token file)) (λ c. census_later A (census_verdict A c))
 
 pub step_later : (A : Archive) (q : Request) (r : Reply) (B : Archive) → RequestStep A q r B → IsLater A B
-step_later A q r B (answers s is) = after_later A (judged q)
+step_later A q r B (answers s is) = after_later A (validated q)
 step_later A q r B (gives_up is) = later_same A
 
 pub run_later : (A B : Archive) (qs : List Request) (rs : List Reply) → RequestRun A qs rs B → IsLater A B
@@ -86,20 +86,20 @@ census_each A c None is each = each
 census_each A c (Some d) is each =
     all_after (λ (c : Census). IsSome (numbered A.deposits c.deposit)) is_same_census (has_room A A.censuses) A.censuses c (census_by c.member c.token A.censuses) each (subst (λ o. IsSome o) (sym is) refl)
 
-pub after_again : (A : Archive) (w : Result Judged Refusal) → EachIsReadAgain A.deposits → EachIsReadAgain (after_by A w).deposits
+pub after_again : (A : Archive) (w : Result ValidRequest Refusal) → EachIsReadAgain A.deposits → EachIsReadAgain (after_by A w).deposits
 after_again A w again =
     after_case (λ (B : Archive). EachIsReadAgain B.deposits) A w again (λ member token file. deposit_again A member token file (files.file file) refl again) (λ c. again)
 
-pub after_each : (A : Archive) (w : Result Judged Refusal) → EachHasDeposit A.deposits A.censuses → EachHasDeposit (after_by A w).deposits (after_by A w).censuses
+pub after_each : (A : Archive) (w : Result ValidRequest Refusal) → EachHasDeposit A.deposits A.censuses → EachHasDeposit (after_by A w).deposits (after_by A w).censuses
 after_each A w each =
     after_case (λ (B : Archive). EachHasDeposit B.deposits B.censuses) A w each (λ member token file. deposit_each A (deposit_verdict A member token file) each) (λ c. census_each A c (numbered A.deposits c.deposit) refl each)
 
 pub step_each : (A : Archive) (q : Request) (r : Reply) (B : Archive) → RequestStep A q r B → EachHasDeposit A.deposits A.censuses → EachHasDeposit B.deposits B.censuses
-step_each A q r B (answers s is) each = after_each A (judged q) each
+step_each A q r B (answers s is) each = after_each A (validated q) each
 step_each A q r B (gives_up is) each = each
 
 step_representable : (A : Archive) (q : Request) (r : Reply) (B : Archive) → RequestStep A q r B → IsRepresentable A → IsRepresentable B
-step_representable A q r B (answers s is) can = record { again = after_again A (judged q) can.again; each = after_each A (judged q) can.each }
+step_representable A q r B (answers s is) can = record { again = after_again A (validated q) can.again; each = after_each A (validated q) can.each }
 step_representable A q r B (gives_up is) can = can
 
 -- the deposit of a census that is kept

@@ -22,19 +22,19 @@ use Rattle.life_store.specs.Kept.{numbered}
 use Rattle.life_desk.specs.declared.refusal.Refusal.TheVariants as no
 use Rattle.life_desk.specs.declared.request.Request.{Request}
 use Rattle.life_desk.specs.declared.request.Request.TheVariants as ask
-use Rattle.life_desk.specs.declared.request.Judged.TheVariants as good
+use Rattle.life_desk.specs.declared.request.ValidRequest.TheVariants as good
 use Rattle.life_desk.specs.declared.request.Reply.{Reply}
 use Rattle.life_desk.specs.declared.request.Reply.TheVariants as says
 use Rattle.life_desk.specs.declared.request.Shown.{Shown}
 use Rattle.life_desk.specs.Archive.{Archive, clusters_with, tally_at, tally_for, tally_of_cells, steady_at, steady_for}
-use Rattle.life_desk.specs.Judging.{is_generation, is_limit, judged_rule}
+use Rattle.life_desk.specs.Validation.{is_generation, is_limit, validated_rule}
 use Rattle.life_desk.specs.Replies.{IsReply, IsReplyBy, after, at_reply, file_reply, kind_reply, shown_reply}
-use Rattle.life_desk.specs.Means.{EachHasDeposit, IsRepresentable}
-use Rattle.life_store.specs.Tables.{ArchiveView, StaysSure}
+use Rattle.life_desk.specs.Represents.{EachHasDeposit, IsRepresentable}
+use Rattle.life_store.specs.Tables.{ArchiveView, StaysHealthy}
 use Rattle.life_desk.specs.Run.{RequestRun, IsAnswered, IsLater, Answered}
 use Rattle.life_desk.specs.Laws.{FlagTellsSteady}
 use Rattle.life_desk.specs.Headline.{CountsEachOnce, ShowsCensus, HeadlineHolds, IsTheArchive, IsTheArchiveOrFaults, IsTheArchiveInMemory}
-use Rattle.life_desk.proofs.Meaning.{representable_of}
+use Rattle.life_desk.proofs.Representing.{representable_of}
 use Rattle.life_desk.proofs.Later.{later_later, deposit_stays, census_stays}
 use Rattle.life_desk.proofs.Steps.{moment, step_answers, step_later, run_later, census_has}
 use Rattle.life_desk.proofs.Once.{deposits_stay_lem}
@@ -158,12 +158,12 @@ kind_case : (limit : ℕ) (k : Kind) (code : Option (List ℕ)) (o : Option Depo
 kind_case limit k code None is = absurd cc
 kind_case limit k code (Some d) is = (d, refl, cc, cc)
 
-rule_case : (M : Archive) (code : List ℕ) (limit n : ℕ) (read : Result RuleSets RuleFault) → IsReplyBy M (judged_rule code limit read) (says.Total n)
+rule_case : (M : Archive) (code : List ℕ) (limit n : ℕ) (read : Result RuleSets RuleFault) → IsReplyBy M (validated_rule code limit read) (says.Total n)
     → (rule : RuleSets) × (read ≡ Ok rule) × (n ≡ clusters_with M rule code)
 rule_case M code limit n (Ok rule) is = (rule, refl, is.2)
 rule_case M code limit n (Err fault) is = absurd cc
 
-total_case : (M : Archive) (text code : List ℕ) (limit n : ℕ) (b : Bool) → IsReplyBy M (if b then judged_rule code limit (read_rule text) else Err no.OutOfLimit) (says.Total n)
+total_case : (M : Archive) (text code : List ℕ) (limit n : ℕ) (b : Bool) → IsReplyBy M (if b then validated_rule code limit (read_rule text) else Err no.OutOfLimit) (says.Total n)
     → (rule : RuleSets) × (read_rule text ≡ Ok rule) × (n ≡ clusters_with M rule code)
 total_case M text code limit n true is = rule_case M code limit n (read_rule text) is
 total_case M text code limit n false is = absurd cc
@@ -202,8 +202,8 @@ headline_holds rows add decided complete A B qs rs can run = record {
 
 -- what was answered is what the archive says
 pub told_by : {S : Type 0} {g : Ghosts S} → HeadlineHolds → (old new : ArchiveView S) (qs : List Request) (rs : List Reply) → Answered g old new qs rs → IsTheArchive old new qs rs
-told_by holds old new qs rs done = λ A sure m.
-    let run = done.run sure A m in
+told_by holds old new qs rs done = λ A healthy m.
+    let run = done.run healthy A m in
     (run.0, run.1, run.2, holds A run.0 qs rs (representable_of old A m) run.1)
 
 pub all_told_by : {X E S : Type 0} → (g : Ghosts S) → HeadlineHolds → (old new : ArchiveView S) (qs : List Request) (replies : X → List Reply) (r : Result X E) → IfOk r (λ x. Answered g old new qs (replies x))
@@ -212,10 +212,10 @@ all_told_by g holds old new qs replies (Ok x) done = told_by holds old new qs (r
 all_told_by g holds old new qs replies (Err e) done = tt
 
 lasting_by : {S : Type 0} {g : Ghosts S} → HeadlineHolds → (old new : ArchiveView S) (qs : List Request) (rs : List Reply) → Answered g old new qs rs → IsTheArchiveOrFaults g old new qs rs
-unfolding StaysSure
-lasting_by holds old new qs rs done A sure m = elim (done.goes.lasts.is_sure sure) [
+unfolding StaysHealthy
+lasting_by holds old new qs rs done A healthy m = elim (done.transition.lasts.is_healthy healthy) [
   | inl still ↦ inl (still, told_by holds old new qs rs done A still m)
-  | inr more ↦ inr (more, λ clean. let run = done.replied clean sure A m in (run.0, run.1, holds A run.0 qs rs (representable_of old A m) run.1))
+  | inr more ↦ inr (more, λ clean. let run = done.replied clean healthy A m in (run.0, run.1, holds A run.0 qs rs (representable_of old A m) run.1))
 ]
 
 pub all_lasting_by : {X E S : Type 0} → (g : Ghosts S) → HeadlineHolds → (old new : ArchiveView S) (qs : List Request) (replies : X → List Reply) (r : Result X E) → IfOk r (λ x. Answered g old new qs (replies x))
@@ -223,8 +223,8 @@ pub all_lasting_by : {X E S : Type 0} → (g : Ghosts S) → HeadlineHolds → (
 all_lasting_by g holds old new qs replies (Ok x) done = lasting_by holds old new qs (replies x) done
 all_lasting_by g holds old new qs replies (Err e) done = tt
 
--- where the database is sure at the end in any case
-pub all_sure_by : {X E S : Type 0} → (old new : ArchiveView S) (qs : List Request) (replies : X → List Reply) (r : Result X E) → IsTrue new.tables.is_sure → IfOk r (λ x. IsTheArchive old new qs (replies x))
+-- if the database is healthy at the end in any case
+pub all_healthy_by : {X E S : Type 0} → (old new : ArchiveView S) (qs : List Request) (replies : X → List Reply) (r : Result X E) → IsTrue new.tables.is_healthy → IfOk r (λ x. IsTheArchive old new qs (replies x))
     → IfOk r (λ x. IsTheArchiveInMemory old new qs (replies x))
-all_sure_by old new qs replies (Ok x) sure told = λ A m. told A sure m
-all_sure_by old new qs replies (Err e) sure told = tt
+all_healthy_by old new qs replies (Ok x) healthy told = λ A m. told A healthy m
+all_healthy_by old new qs replies (Err e) healthy told = tt

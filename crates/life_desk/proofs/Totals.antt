@@ -19,7 +19,7 @@ use Rattle.life_desk.specs.Replies.{IsTotal}
 
 -- ---- some set has the code, or none has
 
--- what stands behind the first `_`
+-- what stands after the first `_`
 behind : List ℕ → List ℕ
 behind [] = []
 behind (c ∷ cs) = if c == 95 then cs else behind cs

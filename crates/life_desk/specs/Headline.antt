@@ -27,7 +27,7 @@ use Rattle.life_desk.specs.declared.request.Reply.{Reply}
 use Rattle.life_desk.specs.declared.request.Reply.TheVariants as says
 use Rattle.life_desk.specs.declared.request.Shown.{Shown}
 use Rattle.life_desk.specs.Archive.{Archive, clusters_with}
-use Rattle.life_desk.specs.Means.{IsRepresentable, Means}
+use Rattle.life_desk.specs.Represents.{IsRepresentable, Represents}
 use Rattle.life_desk.specs.Run.{RequestRun, IsAnswered, IsLater}
 
 -- The tally counts every cluster of X once, under its code or as unresolved. The clusters are `parts X`: that each live cell is in exactly one of
@@ -81,24 +81,24 @@ pub record Headline (A : Archive) (qs : List Request) (rs : List Reply) (B : Arc
 abbrev pub HeadlineHolds : Type 0
 HeadlineHolds = (A B : Archive) (qs : List Request) (rs : List Reply) → IsRepresentable A → RequestRun A qs rs B → Headline A qs rs B
 
--- A was taken by a run to an archive that the tables mean, and these replies say so of it.
+-- A was taken by a run to an archive that the tables represent, and these replies say so of it.
 abbrev pub IsTakenByRun : {S : Type 0} → Archive → ArchiveView S → List Request → List Reply → Type 0
-IsTakenByRun A new qs rs = (B : Archive) × RequestRun A qs rs B × Means new B × Headline A qs rs B
+IsTakenByRun A new qs rs = (B : Archive) × RequestRun A qs rs B × Represents new B × Headline A qs rs B
 
--- Where the database is sure at the end: so each archive that the tables meant was taken.
+-- If the database is healthy at the end: so each archive that the tables represented was taken.
 abbrev pub IsTheArchive : {S : Type 0} → ArchiveView S → ArchiveView S → List Request → List Reply → Type 0
-IsTheArchive old new qs rs = (A : Archive) → IsTrue new.tables.is_sure → Means old A → IsTakenByRun A new qs rs
+IsTheArchive old new qs rs = (A : Archive) → IsTrue new.tables.is_healthy → Represents old A → IsTakenByRun A new qs rs
 
 -- A was taken by a run, and these replies say so of it.
 abbrev pub AreOfARun : Archive → List Request → List Reply → Type 0
 AreOfARun A qs rs = (B : Archive) × RequestRun A qs rs B × Headline A qs rs B
 
--- Where the database is sure at the start: so it is at the end, and A was taken; or the disk failed in the call. Then the replies are those of a run all the
+-- If the database is healthy at the start: so it is at the end, and A was taken; or the disk failed in the call. Then the replies are those of a run all the
 -- same, unless the disk has returned other than what was written; of which archive it is left with the clause on crashes speaks.
 abbrev pub IsTheArchiveOrFaults : {S : Type 0} → Ghosts S → ArchiveView S → ArchiveView S → List Request → List Reply → Type 0
-IsTheArchiveOrFaults g old new qs rs = (A : Archive) → IsTrue old.tables.is_sure → Means old A
-    → (IsTrue new.tables.is_sure × IsTakenByRun A new qs rs) ⊎ (HasFailed old.tables new.tables × (IsClean (g.view new.store) → AreOfARun A qs rs))
+IsTheArchiveOrFaults g old new qs rs = (A : Archive) → IsTrue old.tables.is_healthy → Represents old A
+    → (IsTrue new.tables.is_healthy × IsTakenByRun A new qs rs) ⊎ (HasFailed old.tables new.tables × (IsClean (g.view new.store) → AreOfARun A qs rs))
 
--- Where the database is in memory: A was taken, with no premise.
+-- If the database is in memory: A was taken, with no premise.
 abbrev pub IsTheArchiveInMemory : {S : Type 0} → ArchiveView S → ArchiveView S → List Request → List Reply → Type 0
-IsTheArchiveInMemory old new qs rs = (A : Archive) → Means old A → IsTakenByRun A new qs rs
+IsTheArchiveInMemory old new qs rs = (A : Archive) → Represents old A → IsTakenByRun A new qs rs

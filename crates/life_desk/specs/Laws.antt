@@ -16,7 +16,7 @@ use Rattle.life_desk.specs.declared.request.Reply.{Reply}
 use Rattle.life_desk.specs.declared.request.Reply.TheVariants as says
 use Rattle.life_desk.specs.declared.request.Shown.{Shown}
 use Rattle.life_desk.specs.Archive.{Archive}
-use Rattle.life_desk.specs.Means.{IsReadAgain, EachIsReadAgain}
+use Rattle.life_desk.specs.Represents.{IsReadAgain, EachIsReadAgain}
 use Rattle.life_desk.specs.Replies.{IsReply, after}
 use Rattle.life_desk.specs.Run.{RequestRun, IsLater}
 
@@ -60,7 +60,7 @@ CensusesActOnce = (A B : Archive) (member token : List ℕ) (deposit generation 
     → IsLater (after A (ask.Census member token deposit generation limit)) B
     → IsReply B (ask.Census member token deposit generation limit) (says.Counted n) × (after B (ask.Census member token deposit generation limit) ≡ B)
 
--- The flag that a census is shown with is true exactly where its generation of its deposit is steady under its limit.
+-- The flag that a census is shown with is true exactly if its generation of its deposit is steady under its limit.
 abbrev pub FlagTellsSteady : Type 0
 FlagTellsSteady = (A : Archive) (id : ℕ) (shown : Shown) (d : Deposit) → IsReply A (ask.ShowCensus id) (says.Shown shown) → numbered A.deposits shown.deposit ≡ Some d
     → IsTrue shown.steady ↔ IsSteady d.content.rule (generation_of d.content.rule d.content.cells shown.generation) shown.limit

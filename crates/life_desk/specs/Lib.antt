@@ -1,10 +1,10 @@
 pub mod Refusals
 pub mod Archive
-pub mod Judging
+pub mod Validation
 pub mod Submission
 pub mod Replies
-pub mod Means
-pub mod JudgingState
+pub mod Represents
+pub mod ValidationState
 pub mod LookingState
 pub mod DeskState
 pub mod Run

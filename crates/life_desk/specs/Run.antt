@@ -13,14 +13,14 @@ use Rattle.life_desk.specs.declared.request.Request.{Request}
 use Rattle.life_desk.specs.declared.request.Reply.{Reply}
 use Rattle.life_desk.specs.declared.request.Reply.TheVariants as says
 use Rattle.life_desk.specs.Archive.{Archive}
-use Rattle.life_desk.specs.Judging.{judged}
+use Rattle.life_desk.specs.Validation.{validated}
 use Rattle.life_desk.specs.Replies.{IsReply, after, acknowledges}
-use Rattle.life_desk.specs.Means.{Means, TreesMean}
+use Rattle.life_desk.specs.Represents.{Represents, TreesRepresent}
 
 -- one request: its reply and its change; or else, where its own words are good, it is unavailable and nothing changes
 pub data RequestStep (A : Archive) (q : Request) : Reply → Archive → Type 0 where
   answers : (r : Reply) → IsReply A q r → RequestStep A q r (after A q)
-  gives_up : IsOk (judged q) → RequestStep A q (says.Refused no.Unavailable) A
+  gives_up : IsOk (validated q) → RequestStep A q (says.Refused no.Unavailable) A
 
 -- Each archive may give this reply, and stays as it is: the reply says nothing of what is kept.
 abbrev pub IsIdle : Request → Reply → Type 0
@@ -39,7 +39,7 @@ IsAnswered (q ∷ qs) (r ∷ rs) asked given = ((q ≡ asked) × (r ≡ given)) 
 IsAnswered [] rs asked given = ⊥
 IsAnswered (q ∷ qs) [] asked given = ⊥
 
--- B has the deposits and the censuses of A at the places where they were, maybe more behind them, and its capacity
+-- B has the deposits and the censuses of A at the places where they were, maybe more after them, and its capacity
 pub record IsLater (A B : Archive) : Type 0 where
   pub new_deposits : List Deposit
   pub deposits : B.deposits ≡ A.deposits ++ new_deposits
@@ -51,7 +51,7 @@ pub record IsLater (A B : Archive) : Type 0 where
 abbrev pub PromiseNothing : List Reply → Type 0
 PromiseNothing rs = AllByRecursion (λ r. acknowledges r ≡ false) rs
 
--- The trees mean the archive after the first requests of a run from A, or after the one that follows as well; and no reply but those to the
+-- The trees represent the archive after the first requests of a run from A, or after the one that follows as well; and no reply but those to the
 -- first says that something is kept.
 pub record IsCrashOf (A : Archive) (qs : List Request) (rs : List Reply) (db : Trees) : Type 0 where
   pub front : List Request
@@ -62,33 +62,33 @@ pub record IsCrashOf (A : Archive) (qs : List Request) (rs : List Reply) (db : T
   pub replies : rs ≡ given ++ rest
   pub mid : Archive
   pub run : RequestRun A front given mid
-  pub left : TreesMean db mid ⊎ ((next : Request) × (more : List Request) × (back ≡ next ∷ more) × TreesMean db (after mid next))
+  pub left : TreesRepresent db mid ⊎ ((next : Request) × (more : List Request) × (back ≡ next ∷ more) × TreesRepresent db (after mid next))
   pub unpromised : PromiseNothing rest
 
--- What a crash may leave of requests: what it might have left before them, where no reply says that something is kept; or the database was
--- sure, and of whatever archive its tables meant the trees are what a crash leaves of a run.
+-- What a crash may leave of requests: what it might have left before them, if no reply says that something is kept; or the database was
+-- healthy, and of whatever archive its tables represented the trees are what a crash leaves of a run.
 abbrev pub MayBeLeft : {S : Type 0} → Ghosts S → ArchiveView S → List Request → List Reply → Trees → Type 0
-MayBeLeft g old qs rs db = (g.recovers old.store db × PromiseNothing rs) ⊎ (IsTrue old.tables.is_sure × ((A : Archive) → Means old A → IsCrashOf A qs rs db))
+MayBeLeft g old qs rs db = (g.recovers old.store db × PromiseNothing rs) ⊎ (IsTrue old.tables.is_healthy × ((A : Archive) → Represents old A → IsCrashOf A qs rs db))
 
--- The requests were answered by the store. Where the database is sure at the end, so it was at the start, and each archive that the tables
--- meant was taken by a run to one that they mean. Where it was sure at the start, and its disk has returned what was written, the replies
--- are those of a run also if the disk failed on the way; and where it was not, each reply says nothing of what is kept.
+-- The requests were answered by the store. If the database is healthy at the end, so it was at the start, and each archive that the tables
+-- meant was taken by a run to one that they represent. If it was healthy at the start, and its disk has returned what was written, the replies
+-- are those of a run also if the disk failed on the way; and if it was not, each reply says nothing of what is kept.
 -- Of what a crash leaves the last clause speaks.
 pub record Answered {S : Type 0} (g : Ghosts S) (old new : ArchiveView S) (qs : List Request) (rs : List Reply) : Type 0 where
-  pub goes : IsTransition g (λ db. ⊤) old new
-  pub run : IsTrue new.tables.is_sure → (A : Archive) → Means old A → (B : Archive) × RequestRun A qs rs B × Means new B
-  pub replied : IsClean (g.view new.store) → IsTrue old.tables.is_sure → (A : Archive) → Means old A → (B : Archive) × RequestRun A qs rs B × (IsTrue new.tables.is_sure → Means new B)
-  pub shut : IsClean (g.view new.store) → old.tables.is_sure ≡ false → (A : Archive) → RequestRun A qs rs A
+  pub transition : IsTransition g (λ db. ⊤) old new
+  pub run : IsTrue new.tables.is_healthy → (A : Archive) → Represents old A → (B : Archive) × RequestRun A qs rs B × Represents new B
+  pub replied : IsClean (g.view new.store) → IsTrue old.tables.is_healthy → (A : Archive) → Represents old A → (B : Archive) × RequestRun A qs rs B × (IsTrue new.tables.is_healthy → Represents new B)
+  pub shut : IsClean (g.view new.store) → old.tables.is_healthy ≡ false → (A : Archive) → RequestRun A qs rs A
   pub left : IsClean (g.view new.store) → (db : Trees) → g.recovers new.store db → MayBeLeft g old qs rs db
 
 -- ---- crashes
 
 module _ {S : Type 0} (g : Ghosts S) where
-  -- Where the database was sure and its disk has returned what was written, a crash during the call leaves the archive after
+  -- If the database was healthy and its disk has returned what was written, a crash during the call leaves the archive after
   -- a beginning of the requests, or after the one that follows as well; and whatever was said to be kept is there.
   abbrev pub IsCrashSafe : ArchiveView S → ArchiveView S → List Request → List Reply → Type 0
-  IsCrashSafe old new qs rs = (A : Archive) → IsTrue old.tables.is_sure → Means old A → IsClean (g.view new.store) → (db : Trees) → g.recovers new.store db → IsCrashOf A qs rs db
+  IsCrashSafe old new qs rs = (A : Archive) → IsTrue old.tables.is_healthy → Represents old A → IsClean (g.view new.store) → (db : Trees) → g.recovers new.store db → IsCrashOf A qs rs db
 
-  -- Where the database is sure, a crash leaves the archive that the tables mean, and nothing else.
+  -- If the database is healthy, a crash leaves the archive that the tables represent, and nothing else.
   abbrev pub IsDurable : ArchiveView S → Type 0
-  IsDurable new = (B : Archive) → IsTrue new.tables.is_sure → Means new B → (db : Trees) → g.recovers new.store db → TreesMean db B
+  IsDurable new = (B : Archive) → IsTrue new.tables.is_healthy → Represents new B → (db : Trees) → g.recovers new.store db → TreesRepresent db B

@@ -1,9 +1,9 @@
-//! The desk: a request is judged by its own words, the archive is asked, and a reply is made.
+//! The desk: a request is validated by its own words, the archive is asked, and a reply is made.
 ghost use Rattle.std.specs.Prelude.{◌≡◌, ◌≤◌, ◌∷◌, ◌⊎◌, [], bytes_eq, if◌then◌else◌, None, IfErr, IfOk, IsTrue, OnErr, OnOk, length, option_map, Some, true};
 ghost use Rattle.life_rle.specs.Record.{IsInside};
 ghost use Rattle.life_store.specs.Kept.{numbered, deposit_by, census_by, listed_after};
 ghost use Rattle.life_store.specs.Crash.{NoMore};
-ghost use Rattle.life_store.specs.Tables.{IsTransition, IsSureIfClean, HoldsTheSame, HasOrder};
+ghost use Rattle.life_store.specs.Tables.{IsTransition, IsHealthyIfClean, HoldsTheSame, HasOrder};
 ghost use Rattle.life_desk.specs.declared.request.Reply.TheVariants as says;
 ghost use Rattle.life_desk.specs.declared.refusal.Refusal.TheVariants as refusals;
 ghost use Rattle.life_desk.specs.Submission.{Adds};
@@ -11,9 +11,9 @@ ghost use Rattle.life_desk.specs.Replies.{deposit_by_token, deposit_verdict, dep
 ghost use Rattle.life_core.specs.Pattern.{IsWithin};
 ghost use Rattle.life_code.specs.Codes as codes;
 ghost use Rattle.life_code.specs.Period as periods;
-ghost use Rattle.life_desk.specs.Judging.{judged};
-ghost use Rattle.life_desk.specs.JudgingState.{IsGood};
-ghost use Rattle.life_desk.specs.DeskState.{Acts, ActsWhere, MeanChanged, MeanChangedWhere, Promises, SpeaksSurely};
+ghost use Rattle.life_desk.specs.Validation.{validated};
+ghost use Rattle.life_desk.specs.ValidationState.{IsGood};
+ghost use Rattle.life_desk.specs.DeskState.{Acts, ActsIf, RepresentChanged, RepresentChangedIf, Promises, SpeaksIfHealthy};
 ghost use Rattle.life_desk.specs.Headline.{IsTheArchive, IsTheArchiveOrFaults, IsTheArchiveInMemory};
 ghost use Rattle.life_desk.specs.Run.{Answered, IsIdle, IsCrashSafe};
 ghost use Rattle.life_desk.specs.Archive.{tally_for, tally_at, tally_of_cells, steady_for};
@@ -23,13 +23,13 @@ ghost use Rattle.life_census.specs.Table.{csv_text};
 
 use crate::bytes::Bytes;
 use crate::headline::law_of_the_archive;
-use crate::judging::judge;
+use crate::validation::validate;
 use crate::looking::{
     add_census, add_deposit, counted_census, counts_of, deposit_of, deposits_after, file_of,
     find_census, find_file, has_census_room, has_room,
 };
 use crate::refusal::Refusal;
-use crate::request::{Judged, Reply, Request, Shown};
+use crate::request::{ValidRequest, Reply, Request, Shown};
 use life_census::{Tally, csv, laws_of_tallies, tally_and_steady};
 use life_code::{CodeFault, Kind, PERIOD_LIMIT, code_of_kind, kind, open_code};
 use life_core::{Fault, GENERATION_LIMIT, Pattern, Rule, generation};
@@ -64,10 +64,10 @@ fn keep_new<S: Alter>(
     deposit: &Deposit,
 ) -> Result<Reply, Unavailable>
     requires { IsInside 1024 deposit.now.content.cells }
-    ensures goes { IsTransition S.Store (MeanChanged archive.old (λ A. with_deposit A (deposit_by_token A deposit.now None))) archive.old archive.new }
-    ensures told { Promises S.Store archive.new result }
-    ensures sure { OnOk result (IsSureIfClean S.Store archive.new) }
-    ensures acts { Acts archive.old archive.new result
+    ensures transition { IsTransition S.Store (RepresentChanged archive.old (λ A. with_deposit A (deposit_by_token A deposit.now None))) archive.old archive.new }
+    ensures promised { Promises S.Store archive.new result }
+    ensures healthy { OnOk result (IsHealthyIfClean S.Store archive.new) }
+    ensures effect { Acts archive.old archive.new result
         (λ A r. r ≡ deposit_reply A (deposit_by_token A deposit.now None))
         (λ A. with_deposit A (deposit_by_token A deposit.now None)) }
 {
@@ -84,10 +84,10 @@ fn keep_deposit<S: Alter>(
     deposit: &Deposit,
 ) -> Result<Reply, Unavailable>
     requires { IsInside 1024 deposit.now.content.cells }
-    ensures goes { IsTransition S.Store (MeanChanged archive.old (λ A. with_deposit A (deposit_by_token A deposit.now (deposit_by deposit.now.member deposit.now.token A.deposits)))) archive.old archive.new }
-    ensures told { Promises S.Store archive.new result }
-    ensures sure { OnOk result (IsSureIfClean S.Store archive.new) }
-    ensures acts { Acts archive.old archive.new result
+    ensures transition { IsTransition S.Store (RepresentChanged archive.old (λ A. with_deposit A (deposit_by_token A deposit.now (deposit_by deposit.now.member deposit.now.token A.deposits)))) archive.old archive.new }
+    ensures promised { Promises S.Store archive.new result }
+    ensures healthy { OnOk result (IsHealthyIfClean S.Store archive.new) }
+    ensures effect { Acts archive.old archive.new result
         (λ A r. r ≡ deposit_reply A (deposit_by_token A deposit.now (deposit_by deposit.now.member deposit.now.token A.deposits)))
         (λ A. with_deposit A (deposit_by_token A deposit.now (deposit_by deposit.now.member deposit.now.token A.deposits))) }
 {
@@ -110,10 +110,10 @@ fn deposit<S: Alter>(
     token: Text,
     file: Bytes,
 ) -> Result<Reply, Unavailable>
-    ensures goes { IsTransition S.Store (MeanChanged archive.old (λ A. with_deposit A (deposit_verdict A member token file))) archive.old archive.new }
-    ensures told { Promises S.Store archive.new result }
-    ensures sure { SpeaksSurely S.Store archive.new result (λ A r. r ≡ deposit_reply A (deposit_verdict A member token file)) (λ A. with_deposit A (deposit_verdict A member token file)) }
-    ensures acts { Acts archive.old archive.new result
+    ensures transition { IsTransition S.Store (RepresentChanged archive.old (λ A. with_deposit A (deposit_verdict A member token file))) archive.old archive.new }
+    ensures promised { Promises S.Store archive.new result }
+    ensures healthy { SpeaksIfHealthy S.Store archive.new result (λ A r. r ≡ deposit_reply A (deposit_verdict A member token file)) (λ A. with_deposit A (deposit_verdict A member token file)) }
+    ensures effect { Acts archive.old archive.new result
         (λ A r. r ≡ deposit_reply A (deposit_verdict A member token file))
         (λ A. with_deposit A (deposit_verdict A member token file)) }
 {
@@ -134,10 +134,10 @@ fn deposit<S: Alter>(
 
 /// Answers with the file of a deposit.
 fn show<S: Alter>(archive: &mut Archive<S>, alloc: Global, id: u64) -> Result<Reply, Unavailable>
-    ensures goes { IsTransition S.Store NoMore archive.old archive.new }
-    ensures told { Promises S.Store archive.new result }
-    ensures sure { OnOk result (IsSureIfClean S.Store archive.new) }
-    ensures acts { Acts archive.old archive.new result (λ A r. r ≡ file_reply (numbered A.deposits id)) (λ A. A) }
+    ensures transition { IsTransition S.Store NoMore archive.old archive.new }
+    ensures promised { Promises S.Store archive.new result }
+    ensures healthy { OnOk result (IsHealthyIfClean S.Store archive.new) }
+    ensures effect { Acts archive.old archive.new result (λ A r. r ≡ file_reply (numbered A.deposits id)) (λ A. A) }
 {
     match file_of(archive, alloc, id)? {
         None => Ok(Reply::Refused(Refusal::NoSuchDeposit)),
@@ -145,16 +145,16 @@ fn show<S: Alter>(archive: &mut Archive<S>, alloc: Global, id: u64) -> Result<Re
     }
 }
 
-/// Answers with the deposits behind a number.
+/// Answers with the deposits after a number.
 fn list_after<S: Alter>(
     archive: &mut Archive<S>,
     alloc: Global,
     id: u64,
 ) -> Result<Reply, Unavailable>
-    ensures goes { IsTransition S.Store NoMore archive.old archive.new }
-    ensures told { Promises S.Store archive.new result }
-    ensures sure { OnOk result (IsSureIfClean S.Store archive.new) }
-    ensures acts { Acts archive.old archive.new result (λ A r. r ≡ says.Deposits (listed_after id A.deposits)) (λ A. A) }
+    ensures transition { IsTransition S.Store NoMore archive.old archive.new }
+    ensures promised { Promises S.Store archive.new result }
+    ensures healthy { OnOk result (IsHealthyIfClean S.Store archive.new) }
+    ensures effect { Acts archive.old archive.new result (λ A r. r ≡ says.Deposits (listed_after id A.deposits)) (λ A. A) }
 {
     Ok(Reply::Deposits(deposits_after(archive, alloc, id)?))
 }
@@ -179,10 +179,10 @@ fn show_at<S: Alter>(
     n: u32,
 ) -> Result<Reply, Unavailable>
     requires { n ≤ GENERATION_LIMIT }
-    ensures goes { IsTransition S.Store NoMore archive.old archive.new }
-    ensures told { Promises S.Store archive.new result }
-    ensures sure { OnOk result (IsSureIfClean S.Store archive.new) }
-    ensures acts { Acts archive.old archive.new result (λ A r. r ≡ at_reply n (numbered A.deposits id)) (λ A. A) }
+    ensures transition { IsTransition S.Store NoMore archive.old archive.new }
+    ensures promised { Promises S.Store archive.new result }
+    ensures healthy { OnOk result (IsHealthyIfClean S.Store archive.new) }
+    ensures effect { Acts archive.old archive.new result (λ A r. r ≡ at_reply n (numbered A.deposits id)) (λ A. A) }
 {
     match deposit_of(archive, alloc, id)? {
         None => Ok(Reply::Refused(Refusal::NoSuchDeposit)),
@@ -231,10 +231,10 @@ fn name_kind<S: Alter>(
 ) -> Result<Reply, Unavailable>
     requires some { 1 ≤ limit }
     requires few { limit ≤ PERIOD_LIMIT }
-    ensures goes { IsTransition S.Store NoMore archive.old archive.new }
-    ensures told { Promises S.Store archive.new result }
-    ensures sure { OnOk result (IsSureIfClean S.Store archive.new) }
-    ensures acts { Acts archive.old archive.new result (λ A r. r ≡ kind_reply limit (numbered A.deposits id)) (λ A. A) }
+    ensures transition { IsTransition S.Store NoMore archive.old archive.new }
+    ensures promised { Promises S.Store archive.new result }
+    ensures healthy { OnOk result (IsHealthyIfClean S.Store archive.new) }
+    ensures effect { Acts archive.old archive.new result (λ A r. r ≡ kind_reply limit (numbered A.deposits id)) (λ A. A) }
 {
     match deposit_of(archive, alloc, id)? {
         None => Ok(Reply::Refused(Refusal::NoSuchDeposit)),
@@ -286,10 +286,10 @@ fn add_counted<S: Alter>(
     requires few { census.now.generation ≤ GENERATION_LIMIT }
     requires some { 1 ≤ census.now.limit }
     requires short { census.now.limit ≤ PERIOD_LIMIT }
-    ensures goes { IsTransition S.Store (MeanChangedWhere archive.old (λ A. numbered A.deposits census.now.deposit ≡ Some deposit.now) (λ A. with_census A (Adds census.now))) archive.old archive.new }
-    ensures told { Promises S.Store archive.new result }
-    ensures sure { OnOk result (IsSureIfClean S.Store archive.new) }
-    ensures acts { ActsWhere archive.old archive.new result
+    ensures transition { IsTransition S.Store (RepresentChangedIf archive.old (λ A. numbered A.deposits census.now.deposit ≡ Some deposit.now) (λ A. with_census A (Adds census.now))) archive.old archive.new }
+    ensures promised { Promises S.Store archive.new result }
+    ensures healthy { OnOk result (IsHealthyIfClean S.Store archive.new) }
+    ensures effect { ActsIf archive.old archive.new result
         (λ A. numbered A.deposits census.now.deposit ≡ Some deposit.now)
         (λ A r. r ≡ census_reply A (Adds census.now))
         (λ A. with_census A (Adds census.now)) }
@@ -309,10 +309,10 @@ fn count_new<S: Alter>(
     requires few { census.now.generation ≤ GENERATION_LIMIT }
     requires some { 1 ≤ census.now.limit }
     requires short { census.now.limit ≤ PERIOD_LIMIT }
-    ensures goes { IsTransition S.Store (MeanChangedWhere archive.old (λ A. numbered A.deposits census.now.deposit ≡ Some deposit.now) (λ A. with_census A (census_by_token A census.now None))) archive.old archive.new }
-    ensures told { Promises S.Store archive.new result }
-    ensures sure { OnOk result (IsSureIfClean S.Store archive.new) }
-    ensures acts { ActsWhere archive.old archive.new result
+    ensures transition { IsTransition S.Store (RepresentChangedIf archive.old (λ A. numbered A.deposits census.now.deposit ≡ Some deposit.now) (λ A. with_census A (census_by_token A census.now None))) archive.old archive.new }
+    ensures promised { Promises S.Store archive.new result }
+    ensures healthy { OnOk result (IsHealthyIfClean S.Store archive.new) }
+    ensures effect { ActsIf archive.old archive.new result
         (λ A. numbered A.deposits census.now.deposit ≡ Some deposit.now)
         (λ A r. r ≡ census_reply A (census_by_token A census.now None))
         (λ A. with_census A (census_by_token A census.now None)) }
@@ -334,10 +334,10 @@ fn keep_census<S: Alter>(
     requires few { census.now.generation ≤ GENERATION_LIMIT }
     requires some { 1 ≤ census.now.limit }
     requires short { census.now.limit ≤ PERIOD_LIMIT }
-    ensures goes { IsTransition S.Store (MeanChangedWhere archive.old (λ A. numbered A.deposits census.now.deposit ≡ Some deposit.now) (λ A. with_census A (census_by_token A census.now (census_by census.now.member census.now.token A.censuses)))) archive.old archive.new }
-    ensures told { Promises S.Store archive.new result }
-    ensures sure { OnOk result (IsSureIfClean S.Store archive.new) }
-    ensures acts { ActsWhere archive.old archive.new result
+    ensures transition { IsTransition S.Store (RepresentChangedIf archive.old (λ A. numbered A.deposits census.now.deposit ≡ Some deposit.now) (λ A. with_census A (census_by_token A census.now (census_by census.now.member census.now.token A.censuses)))) archive.old archive.new }
+    ensures promised { Promises S.Store archive.new result }
+    ensures healthy { OnOk result (IsHealthyIfClean S.Store archive.new) }
+    ensures effect { ActsIf archive.old archive.new result
         (λ A. numbered A.deposits census.now.deposit ≡ Some deposit.now)
         (λ A r. r ≡ census_reply A (census_by_token A census.now (census_by census.now.member census.now.token A.censuses)))
         (λ A. with_census A (census_by_token A census.now (census_by census.now.member census.now.token A.censuses))) }
@@ -369,10 +369,10 @@ fn take_census<S: Alter>(
     requires few { census.now.generation ≤ GENERATION_LIMIT }
     requires some { 1 ≤ census.now.limit }
     requires short { census.now.limit ≤ PERIOD_LIMIT }
-    ensures goes { IsTransition S.Store (MeanChanged archive.old (λ A. with_census A (census_verdict A census.now))) archive.old archive.new }
-    ensures told { Promises S.Store archive.new result }
-    ensures sure { OnOk result (IsSureIfClean S.Store archive.new) }
-    ensures acts { Acts archive.old archive.new result
+    ensures transition { IsTransition S.Store (RepresentChanged archive.old (λ A. with_census A (census_verdict A census.now))) archive.old archive.new }
+    ensures promised { Promises S.Store archive.new result }
+    ensures healthy { OnOk result (IsHealthyIfClean S.Store archive.new) }
+    ensures effect { Acts archive.old archive.new result
         (λ A r. r ≡ census_reply A (census_verdict A census.now))
         (λ A. with_census A (census_verdict A census.now)) }
 {
@@ -388,10 +388,10 @@ fn show_census<S: Alter>(
     alloc: Global,
     id: u64,
 ) -> Result<Reply, Unavailable>
-    ensures goes { IsTransition S.Store NoMore archive.old archive.new }
-    ensures told { Promises S.Store archive.new result }
-    ensures sure { OnOk result (IsSureIfClean S.Store archive.new) }
-    ensures acts { Acts archive.old archive.new result (λ A r. r ≡ shown_reply A.deposits id (numbered A.censuses id)) (λ A. A) }
+    ensures transition { IsTransition S.Store NoMore archive.old archive.new }
+    ensures promised { Promises S.Store archive.new result }
+    ensures healthy { OnOk result (IsHealthyIfClean S.Store archive.new) }
+    ensures effect { Acts archive.old archive.new result (λ A r. r ≡ shown_reply A.deposits id (numbered A.censuses id)) (λ A. A) }
 {
     match counted_census(archive, alloc, id)? {
         None => Ok(Reply::Refused(Refusal::NoSuchCensus)),
@@ -419,10 +419,10 @@ fn census_csv<S: Alter>(
     alloc: Global,
     id: u64,
 ) -> Result<Reply, Unavailable>
-    ensures goes { IsTransition S.Store NoMore archive.old archive.new }
-    ensures told { Promises S.Store archive.new result }
-    ensures sure { OnOk result (IsSureIfClean S.Store archive.new) }
-    ensures acts { Acts archive.old archive.new result (λ A r. r ≡ csv_reply A.deposits (numbered A.censuses id)) (λ A. A) }
+    ensures transition { IsTransition S.Store NoMore archive.old archive.new }
+    ensures promised { Promises S.Store archive.new result }
+    ensures healthy { OnOk result (IsHealthyIfClean S.Store archive.new) }
+    ensures effect { Acts archive.old archive.new result (λ A r. r ≡ csv_reply A.deposits (numbered A.censuses id)) (λ A. A) }
 {
     match counted_census(archive, alloc, id)? {
         None => Ok(Reply::Refused(Refusal::NoSuchCensus)),
@@ -440,10 +440,10 @@ fn total<S: Alter>(
 ) -> Result<Reply, Unavailable>
     requires some { 1 ≤ limit }
     requires few { limit ≤ PERIOD_LIMIT }
-    ensures goes { IsTransition S.Store NoMore archive.old archive.new }
-    ensures told { Promises S.Store archive.new result }
-    ensures sure { SpeaksSurely S.Store archive.new result (λ A r. IsTotal A rule.now text.now limit r) (λ A. A) }
-    ensures acts { Acts archive.old archive.new result (λ A r. IsTotal A rule.now text.now limit r) (λ A. A) }
+    ensures transition { IsTransition S.Store NoMore archive.old archive.new }
+    ensures promised { Promises S.Store archive.new result }
+    ensures healthy { SpeaksIfHealthy S.Store archive.new result (λ A r. IsTotal A rule.now text.now limit r) (λ A. A) }
+    ensures effect { Acts archive.old archive.new result (λ A r. IsTotal A rule.now text.now limit r) (λ A. A) }
 {
     match open_code(alloc, rule, text, limit) {
         Ok(_) => {}
@@ -457,51 +457,51 @@ fn total<S: Alter>(
 fn act<S: Alter>(
     archive: &mut Archive<S>,
     alloc: Global,
-    judged: Judged,
+    validated: ValidRequest,
 ) -> Result<Reply, Unavailable>
-    requires { IsGood judged }
-    ensures goes { IsTransition S.Store (MeanChanged archive.old (λ A. after_all_of A judged)) archive.old archive.new }
-    ensures told { Promises S.Store archive.new result }
-    ensures sure { SpeaksSurely S.Store archive.new result (λ A r. IsReplyTo A judged r) (λ A. after_all_of A judged) }
-    ensures acts { Acts archive.old archive.new result (λ A r. IsReplyTo A judged r) (λ A. after_all_of A judged) }
+    requires { IsGood validated }
+    ensures transition { IsTransition S.Store (RepresentChanged archive.old (λ A. after_all_of A validated)) archive.old archive.new }
+    ensures promised { Promises S.Store archive.new result }
+    ensures healthy { SpeaksIfHealthy S.Store archive.new result (λ A r. IsReplyTo A validated r) (λ A. after_all_of A validated) }
+    ensures effect { Acts archive.old archive.new result (λ A r. IsReplyTo A validated r) (λ A. after_all_of A validated) }
 {
-    match judged {
-        Judged::Deposit {
+    match validated {
+        ValidRequest::Deposit {
             member,
             token,
             file,
         } => deposit(archive, alloc, member, token, file),
-        Judged::Show { id } => show(archive, alloc, id),
-        Judged::ListAfter { id } => list_after(archive, alloc, id),
-        Judged::At { id, generation } => show_at(archive, alloc, id, generation),
-        Judged::KindOf { id, limit } => name_kind(archive, alloc, id, limit),
-        Judged::Census(census) => take_census(archive, alloc, &census),
-        Judged::ShowCensus { id } => show_census(archive, alloc, id),
-        Judged::CensusCsv { id } => census_csv(archive, alloc, id),
-        Judged::Total { rule, code, limit } => total(archive, alloc, &rule, code.as_slice(), limit),
+        ValidRequest::Show { id } => show(archive, alloc, id),
+        ValidRequest::ListAfter { id } => list_after(archive, alloc, id),
+        ValidRequest::At { id, generation } => show_at(archive, alloc, id, generation),
+        ValidRequest::KindOf { id, limit } => name_kind(archive, alloc, id, limit),
+        ValidRequest::Census(census) => take_census(archive, alloc, &census),
+        ValidRequest::ShowCensus { id } => show_census(archive, alloc, id),
+        ValidRequest::CensusCsv { id } => census_csv(archive, alloc, id),
+        ValidRequest::Total { rule, code, limit } => total(archive, alloc, &rule, code.as_slice(), limit),
     }
 }
 
 /// Answers one request. The reply is the request's one reply, and the archive the one after it; or, if memory or the
-/// store refused, the reply is [`Refusal::Unavailable`], and nothing has changed if the database is sure after the call.
+/// store refused, the reply is [`Refusal::Unavailable`], and nothing has changed if the database is healthy after the call.
 /// What a request is refused for by its own fields alone ([`Refusal::BadMember`], `BadToken`, `OutOfLimit` and `BadRule`)
 /// is answered without an allocation and without the store, so unavailable never comes in its place.
 pub fn answer<S: Alter>(archive: &mut Archive<S>, alloc: Global, request: Request) -> Reply
     ensures answered { Answered S.Store archive.old archive.new (request ∷ []) (result ∷ []) }
-    // A database that is not sure gives no reply that says something of what is kept, unless its disk has lied.
-    ensures sure { IsSureIfClean S.Store archive.new ⊎ IsIdle request result }
-    // Where the reply shows what is kept, nothing has changed, and it might have been withheld.
-    ensures withheld { is_shown result ≡ true → Answered S.Store archive.old archive.new (request ∷ []) (says.Refused refusals.Unavailable ∷ []) }
+    // A database that is not healthy gives no reply that says something of what is kept, unless its disk has lied.
+    ensures healthy { IsHealthyIfClean S.Store archive.new ⊎ IsIdle request result }
+    // If the reply shows what is kept, nothing has changed, and it might have been withheld.
+    ensures may_be_unavailable { is_shown result ≡ true → Answered S.Store archive.old archive.new (request ∷ []) (says.Refused refusals.Unavailable ∷ []) }
     // A crash during the call leaves the archive before the request or the one after it.
     ensures crash { IsCrashSafe S.Store archive.old archive.new (request ∷ []) (result ∷ []) }
     // What a request's own words are refused for comes whatever the store does.
-    ensures firm { IfErr (judged request) (λ refusal. (result ≡ says.Refused refusal) × (archive.new ≡ archive.old)) }
+    ensures own_refusals { IfErr (validated request) (λ refusal. (result ≡ says.Refused refusal) × (archive.new ≡ archive.old)) }
 {
     archive.law_of_crashes();
-    match judge(request) {
+    match validate(request) {
         Err(refusal) => Reply::Refused(refusal),
-        Ok(judged) => {
-            let acted = act(archive, alloc, judged);
+        Ok(validated) => {
+            let acted = act(archive, alloc, validated);
             archive.law_of_crashes();
             match acted {
                 Ok(reply) => reply,
@@ -541,7 +541,7 @@ pub fn answer_all<S: Alter>(
     ensures ok { IfOk result (λ replies. Answered S.Store archive.old archive.new requests.items replies.items) }
     // .. which says of sets of live cells what it should.
     ensures headline { IfOk result (λ replies. IsTheArchive archive.old archive.new requests.items replies.items) }
-    // A database that is sure before the call is sure after it, unless its disk failed in the call; the replies are those of a run in either case.
+    // A database that is healthy before the call is healthy after it, unless its disk failed in the call; the replies are those of a run in either case.
     ensures lasting { IfOk result (λ replies. IsTheArchiveOrFaults S.Store archive.old archive.new requests.items replies.items) }
     // A crash during the call leaves the archive after a beginning of the requests, or after the one that follows as well, and no other reply
     // says that something is stored.

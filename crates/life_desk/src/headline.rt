@@ -1,6 +1,6 @@
 //! The archive in its own words.
 ghost use Rattle.life_desk.specs.Headline.{HeadlineHolds};
-ghost use Rattle.life_desk.specs.Means.{NewIsEmpty};
+ghost use Rattle.life_desk.specs.Represents.{NewIsEmpty};
 ghost use Rattle.life_desk.specs.Run.{IsDurable};
 
 use life_census::{laws_of_steady_fields, laws_of_tallies};

@@ -4,12 +4,12 @@ ghost use Rattle.life_rle.specs.Record.{IsInside};
 ghost use Rattle.life_rle.specs.Writer.{text};
 ghost use Rattle.life_store.specs.Kept.{numbered, deposit_by, file_of_deposit, census_by, listed_after, kept_census};
 ghost use Rattle.life_store.specs.Crash.{NoMore};
-ghost use Rattle.life_store.specs.Tables.{IsTransition, HasOrder, IsSureIfClean};
+ghost use Rattle.life_store.specs.Tables.{IsTransition, HasOrder, IsHealthyIfClean};
 ghost use Rattle.life_store.specs.declared.kept.Deposit.{Deposit as Kept};
 ghost use Rattle.life_desk.specs.Archive.{clusters_with, tally_at, tally_for, steady_at, steady_for};
-ghost use Rattle.life_desk.specs.Means.{Means, tallied};
-ghost use Rattle.life_desk.specs.DeskState.{MeanChanged, MeanChangedWhere};
-ghost use Rattle.life_desk.specs.LookingState.{ForAllMeant, MeansTheSame};
+ghost use Rattle.life_desk.specs.Represents.{Represents, tallied};
+ghost use Rattle.life_desk.specs.DeskState.{RepresentChanged, RepresentChangedIf};
+ghost use Rattle.life_desk.specs.LookingState.{ForAllRepresented, RepresentsTheSame};
 
 use life_census::{Rows, Tally};
 use life_core::Rule;
@@ -23,10 +23,10 @@ pub(crate) fn deposit_of<S: Alter>(
     alloc: Global,
     id: u64,
 ) -> Result<Option<Deposit>, Unavailable>
-    ensures goes { IsTransition S.Store NoMore archive.old archive.new }
-    ensures sure { OnOk result (IsSureIfClean S.Store archive.new) }
-    ensures same { MeansTheSame archive.old archive.new }
-    ensures value { ForAllMeant archive.old archive.new (λ A. IfOk result (λ d. d ≡ numbered A.deposits id)) }
+    ensures transition { IsTransition S.Store NoMore archive.old archive.new }
+    ensures healthy { OnOk result (IsHealthyIfClean S.Store archive.new) }
+    ensures same { RepresentsTheSame archive.old archive.new }
+    ensures value { ForAllRepresented archive.old archive.new (λ A. IfOk result (λ d. d ≡ numbered A.deposits id)) }
     ensures inside { IfOk result (λ o. IfSome o (λ d. IsInside 1024 d.content.cells)) }
 {
     archive.deposit_of(alloc, id)
@@ -38,10 +38,10 @@ pub(crate) fn file_of<S: Alter>(
     alloc: Global,
     id: u64,
 ) -> Result<Option<Vec<u8>>, Unavailable>
-    ensures goes { IsTransition S.Store NoMore archive.old archive.new }
-    ensures sure { OnOk result (IsSureIfClean S.Store archive.new) }
-    ensures same { MeansTheSame archive.old archive.new }
-    ensures value { ForAllMeant archive.old archive.new (λ A. IfOk result (λ file. option_map (λ v. v.items) file ≡ option_map (λ d. text d.content) (numbered A.deposits id))) }
+    ensures transition { IsTransition S.Store NoMore archive.old archive.new }
+    ensures healthy { OnOk result (IsHealthyIfClean S.Store archive.new) }
+    ensures same { RepresentsTheSame archive.old archive.new }
+    ensures value { ForAllRepresented archive.old archive.new (λ A. IfOk result (λ file. option_map (λ v. v.items) file ≡ option_map (λ d. text d.content) (numbered A.deposits id))) }
 {
     archive.file_of(alloc, id)
 }
@@ -53,24 +53,24 @@ pub(crate) fn find_file<S: Alter>(
     member: &[u8],
     token: &[u8],
 ) -> Result<Option<(u64, Vec<u8>)>, Unavailable>
-    ensures goes { IsTransition S.Store NoMore archive.old archive.new }
-    ensures sure { OnOk result (IsSureIfClean S.Store archive.new) }
-    ensures same { MeansTheSame archive.old archive.new }
-    ensures value { ForAllMeant archive.old archive.new (λ A. IfOk result (λ f. option_map {U = ℕ × List ℕ} (λ p. (p.0, p.1.items)) f ≡ option_map file_of_deposit (deposit_by member.now token.now A.deposits))) }
+    ensures transition { IsTransition S.Store NoMore archive.old archive.new }
+    ensures healthy { OnOk result (IsHealthyIfClean S.Store archive.new) }
+    ensures same { RepresentsTheSame archive.old archive.new }
+    ensures value { ForAllRepresented archive.old archive.new (λ A. IfOk result (λ f. option_map {U = ℕ × List ℕ} (λ p. (p.0, p.1.items)) f ≡ option_map file_of_deposit (deposit_by member.now token.now A.deposits))) }
 {
     archive.find_file(alloc, member, token)
 }
 
-/// The deposits behind a number.
+/// The deposits after a number.
 pub(crate) fn deposits_after<S: Alter>(
     archive: &mut Archive<S>,
     alloc: Global,
     id: u64,
 ) -> Result<Listing, Unavailable>
-    ensures goes { IsTransition S.Store NoMore archive.old archive.new }
-    ensures sure { OnOk result (IsSureIfClean S.Store archive.new) }
-    ensures same { MeansTheSame archive.old archive.new }
-    ensures value { ForAllMeant archive.old archive.new (λ A. IfOk result (λ lines. lines ≡ listed_after id A.deposits)) }
+    ensures transition { IsTransition S.Store NoMore archive.old archive.new }
+    ensures healthy { OnOk result (IsHealthyIfClean S.Store archive.new) }
+    ensures same { RepresentsTheSame archive.old archive.new }
+    ensures value { ForAllRepresented archive.old archive.new (λ A. IfOk result (λ lines. lines ≡ listed_after id A.deposits)) }
 {
     archive.deposits_after(alloc, id)
 }
@@ -82,10 +82,10 @@ pub(crate) fn find_census<S: Alter>(
     member: &[u8],
     token: &[u8],
 ) -> Result<Option<(u64, Census)>, Unavailable>
-    ensures goes { IsTransition S.Store NoMore archive.old archive.new }
-    ensures sure { OnOk result (IsSureIfClean S.Store archive.new) }
-    ensures same { MeansTheSame archive.old archive.new }
-    ensures value { ForAllMeant archive.old archive.new (λ A. IfOk result (λ o. o ≡ census_by member.now token.now A.censuses)) }
+    ensures transition { IsTransition S.Store NoMore archive.old archive.new }
+    ensures healthy { OnOk result (IsHealthyIfClean S.Store archive.new) }
+    ensures same { RepresentsTheSame archive.old archive.new }
+    ensures value { ForAllRepresented archive.old archive.new (λ A. IfOk result (λ o. o ≡ census_by member.now token.now A.censuses)) }
 {
     archive.find_census(alloc, member, token)
 }
@@ -97,10 +97,10 @@ pub(crate) fn counts_of<S: Alter>(
     rule: &Rule,
     code: &[u8],
 ) -> Result<u64, Unavailable>
-    ensures goes { IsTransition S.Store NoMore archive.old archive.new }
-    ensures sure { OnOk result (IsSureIfClean S.Store archive.new) }
-    ensures same { MeansTheSame archive.old archive.new }
-    ensures value { ForAllMeant archive.old archive.new (λ A. IfOk result (λ n. n ≡ clusters_with A rule.now code.now)) }
+    ensures transition { IsTransition S.Store NoMore archive.old archive.new }
+    ensures healthy { OnOk result (IsHealthyIfClean S.Store archive.new) }
+    ensures same { RepresentsTheSame archive.old archive.new }
+    ensures value { ForAllRepresented archive.old archive.new (λ A. IfOk result (λ n. n ≡ clusters_with A rule.now code.now)) }
 {
     archive.counts_of(alloc, rule, code)
 }
@@ -111,10 +111,10 @@ fn census_of<S: Alter>(
     alloc: Global,
     id: u64,
 ) -> Result<Option<KeptCensus>, Unavailable>
-    ensures goes { IsTransition S.Store NoMore archive.old archive.new }
-    ensures sure { OnOk result (IsSureIfClean S.Store archive.new) }
-    ensures same { MeansTheSame archive.old archive.new }
-    ensures value { ForAllMeant archive.old archive.new (λ A. IfOk result (λ c. c ≡ option_map kept_census (option_map (tallied A.deposits) (numbered A.censuses id)))) }
+    ensures transition { IsTransition S.Store NoMore archive.old archive.new }
+    ensures healthy { OnOk result (IsHealthyIfClean S.Store archive.new) }
+    ensures same { RepresentsTheSame archive.old archive.new }
+    ensures value { ForAllRepresented archive.old archive.new (λ A. IfOk result (λ c. c ≡ option_map kept_census (option_map (tallied A.deposits) (numbered A.censuses id)))) }
 {
     archive.census_of(alloc, id)
 }
@@ -125,10 +125,10 @@ fn rows_and_flag_of<S: Alter>(
     alloc: Global,
     id: u64,
 ) -> Result<Option<(Rows, bool)>, Unavailable>
-    ensures goes { IsTransition S.Store NoMore archive.old archive.new }
-    ensures sure { OnOk result (IsSureIfClean S.Store archive.new) }
-    ensures same { MeansTheSame archive.old archive.new }
-    ensures value { ForAllMeant archive.old archive.new (λ A. IfOk result (λ found. found ≡ option_map (λ t. record { 0 = t.tally.rows; 1 = t.steady }) (option_map (tallied A.deposits) (numbered A.censuses id)))) }
+    ensures transition { IsTransition S.Store NoMore archive.old archive.new }
+    ensures healthy { OnOk result (IsHealthyIfClean S.Store archive.new) }
+    ensures same { RepresentsTheSame archive.old archive.new }
+    ensures value { ForAllRepresented archive.old archive.new (λ A. IfOk result (λ found. found ≡ option_map (λ t. record { 0 = t.tally.rows; 1 = t.steady }) (option_map (tallied A.deposits) (numbered A.censuses id)))) }
 {
     archive.rows_and_flag_of(alloc, id)
 }
@@ -147,10 +147,10 @@ pub(crate) fn counted_census<S: Alter>(
     alloc: Global,
     id: u64,
 ) -> Result<Option<CountedCensus>, Unavailable>
-    ensures goes { IsTransition S.Store NoMore archive.old archive.new }
-    ensures sure { OnOk result (IsSureIfClean S.Store archive.new) }
-    ensures same { MeansTheSame archive.old archive.new }
-    ensures value { ForAllMeant archive.old archive.new (λ A.
+    ensures transition { IsTransition S.Store NoMore archive.old archive.new }
+    ensures healthy { OnOk result (IsHealthyIfClean S.Store archive.new) }
+    ensures same { RepresentsTheSame archive.old archive.new }
+    ensures value { ForAllRepresented archive.old archive.new (λ A.
         IfOk result (λ o. o ≡ option_map (λ c. record { census = c; tally = tally_at A.deposits c; steady = steady_at A.deposits c }) (numbered A.censuses id))) }
 {
     match census_of(archive, alloc, id)? {
@@ -175,40 +175,40 @@ pub(crate) fn counted_census<S: Alter>(
 
 /// How many deposits there are.
 fn count_deposits<S: Alter>(archive: &mut Archive<S>) -> Result<u64, Unavailable>
-    ensures goes { IsTransition S.Store NoMore archive.old archive.new }
-    ensures sure { OnOk result (IsSureIfClean S.Store archive.new) }
-    ensures same { MeansTheSame archive.old archive.new }
-    ensures value { ForAllMeant archive.old archive.new (λ A. IfOk result (λ n. n ≡ length A.deposits)) }
+    ensures transition { IsTransition S.Store NoMore archive.old archive.new }
+    ensures healthy { OnOk result (IsHealthyIfClean S.Store archive.new) }
+    ensures same { RepresentsTheSame archive.old archive.new }
+    ensures value { ForAllRepresented archive.old archive.new (λ A. IfOk result (λ n. n ≡ length A.deposits)) }
 {
     archive.count_deposits()
 }
 
 /// How many censuses there are.
 fn count_censuses<S: Alter>(archive: &mut Archive<S>) -> Result<u64, Unavailable>
-    ensures goes { IsTransition S.Store NoMore archive.old archive.new }
-    ensures sure { OnOk result (IsSureIfClean S.Store archive.new) }
-    ensures same { MeansTheSame archive.old archive.new }
-    ensures value { ForAllMeant archive.old archive.new (λ A. IfOk result (λ n. n ≡ length A.censuses)) }
+    ensures transition { IsTransition S.Store NoMore archive.old archive.new }
+    ensures healthy { OnOk result (IsHealthyIfClean S.Store archive.new) }
+    ensures same { RepresentsTheSame archive.old archive.new }
+    ensures value { ForAllRepresented archive.old archive.new (λ A. IfOk result (λ n. n ≡ length A.censuses)) }
 {
     archive.count_censuses()
 }
 
 /// Whether there is room for one more deposit.
 pub(crate) fn has_room<S: Alter>(archive: &mut Archive<S>) -> Result<bool, Unavailable>
-    ensures goes { IsTransition S.Store NoMore archive.old archive.new }
-    ensures sure { OnOk result (IsSureIfClean S.Store archive.new) }
-    ensures same { MeansTheSame archive.old archive.new }
-    ensures value { ForAllMeant archive.old archive.new (λ A. IfOk result (λ room. room ≡ nat_lt (length A.deposits) A.capacity)) }
+    ensures transition { IsTransition S.Store NoMore archive.old archive.new }
+    ensures healthy { OnOk result (IsHealthyIfClean S.Store archive.new) }
+    ensures same { RepresentsTheSame archive.old archive.new }
+    ensures value { ForAllRepresented archive.old archive.new (λ A. IfOk result (λ room. room ≡ nat_lt (length A.deposits) A.capacity)) }
 {
     Ok(count_deposits(archive)? < archive.capacity())
 }
 
 /// Whether there is room for one more census.
 pub(crate) fn has_census_room<S: Alter>(archive: &mut Archive<S>) -> Result<bool, Unavailable>
-    ensures goes { IsTransition S.Store NoMore archive.old archive.new }
-    ensures sure { OnOk result (IsSureIfClean S.Store archive.new) }
-    ensures same { MeansTheSame archive.old archive.new }
-    ensures value { ForAllMeant archive.old archive.new (λ A. IfOk result (λ room. room ≡ nat_lt (length A.censuses) A.capacity)) }
+    ensures transition { IsTransition S.Store NoMore archive.old archive.new }
+    ensures healthy { OnOk result (IsHealthyIfClean S.Store archive.new) }
+    ensures same { RepresentsTheSame archive.old archive.new }
+    ensures value { ForAllRepresented archive.old archive.new (λ A. IfOk result (λ room. room ≡ nat_lt (length A.censuses) A.capacity)) }
 {
     Ok(count_censuses(archive)? < archive.capacity())
 }
@@ -220,11 +220,11 @@ pub(crate) fn add_deposit<S: Alter>(
     deposit: &Deposit,
 ) -> Result<u64, Unavailable>
     requires { IsInside 1024 deposit.now.content.cells }
-    ensures goes { IsTransition S.Store (MeanChanged archive.old (λ A. record A { deposits = A.deposits ++ deposit.now ∷ [] })) archive.old archive.new }
-    ensures sure { OnOk result (IsSureIfClean S.Store archive.new) }
-    ensures value { ForAllMeant archive.old archive.new (λ A. IfOk result (λ n. n ≡ length A.deposits + 1)) }
-    ensures ok { OnOk result (ForAllMeant archive.old archive.new (λ A. Means archive.new (record A { deposits = A.deposits ++ deposit.now ∷ [] }))) }
-    ensures err { OnErr result (MeansTheSame archive.old archive.new) }
+    ensures transition { IsTransition S.Store (RepresentChanged archive.old (λ A. record A { deposits = A.deposits ++ deposit.now ∷ [] })) archive.old archive.new }
+    ensures healthy { OnOk result (IsHealthyIfClean S.Store archive.new) }
+    ensures value { ForAllRepresented archive.old archive.new (λ A. IfOk result (λ n. n ≡ length A.deposits + 1)) }
+    ensures ok { OnOk result (ForAllRepresented archive.old archive.new (λ A. Represents archive.new (record A { deposits = A.deposits ++ deposit.now ∷ [] }))) }
+    ensures err { OnErr result (RepresentsTheSame archive.old archive.new) }
 {
     archive.add_deposit(alloc, deposit)
 }
@@ -237,11 +237,11 @@ pub(crate) fn add_census<S: Alter>(
     steady: bool,
 ) -> Result<u64, Unavailable>
     requires { HasOrder tally.now }
-    ensures goes { IsTransition S.Store (λ db. (d : Kept) → tally.now ≡ tally_for census.now (Some d) → steady ≡ steady_for census.now (Some d) → MeanChangedWhere archive.old (λ A. numbered A.deposits census.now.deposit ≡ Some d) (λ A. record A { censuses = A.censuses ++ census.now ∷ [] }) db) archive.old archive.new }
-    ensures sure { OnOk result (IsSureIfClean S.Store archive.new) }
-    ensures value { ForAllMeant archive.old archive.new (λ A. IfOk result (λ n. n ≡ length A.censuses + 1)) }
-    ensures ok { OnOk result (ForAllMeant archive.old archive.new (λ A. (d : Kept) → numbered A.deposits census.now.deposit ≡ Some d → tally.now ≡ tally_for census.now (Some d) → steady ≡ steady_for census.now (Some d) → Means archive.new (record A { censuses = A.censuses ++ census.now ∷ [] }))) }
-    ensures err { OnErr result (MeansTheSame archive.old archive.new) }
+    ensures transition { IsTransition S.Store (λ db. (d : Kept) → tally.now ≡ tally_for census.now (Some d) → steady ≡ steady_for census.now (Some d) → RepresentChangedIf archive.old (λ A. numbered A.deposits census.now.deposit ≡ Some d) (λ A. record A { censuses = A.censuses ++ census.now ∷ [] }) db) archive.old archive.new }
+    ensures healthy { OnOk result (IsHealthyIfClean S.Store archive.new) }
+    ensures value { ForAllRepresented archive.old archive.new (λ A. IfOk result (λ n. n ≡ length A.censuses + 1)) }
+    ensures ok { OnOk result (ForAllRepresented archive.old archive.new (λ A. (d : Kept) → numbered A.deposits census.now.deposit ≡ Some d → tally.now ≡ tally_for census.now (Some d) → steady ≡ steady_for census.now (Some d) → Represents archive.new (record A { censuses = A.censuses ++ census.now ∷ [] }))) }
+    ensures err { OnErr result (RepresentsTheSame archive.old archive.new) }
 {
     archive.add_census(census, tally, steady)
 }

@@ -2,7 +2,7 @@
 
 use life_rle::RleFault;
 
-/// Why a request is refused. Where several reasons apply, the first of this order is given: member, token, limits,
+/// Why a request is refused. If several reasons apply, the first of this order is given: member, token, limits,
 /// pattern, or rule and then code, the row that is referred to, the token that is kept, full.
 #[derive(Clone, Copy, Debug, PartialEq, Eq)]
 pub enum Refusal {

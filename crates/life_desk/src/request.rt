@@ -9,7 +9,7 @@ use life_rle::Text;
 use life_store::{Census, Listing};
 
 /// What is asked of the archive. Numbers are any of their type and texts any bytes: what they may be is
-/// judged by [`answer`](crate::answer). Deposits and censuses are named by their numbers, which count from 1.
+/// validated by [`answer`](crate::answer). Deposits and censuses are named by their numbers, which count from 1.
 #[derive(Drop)]
 pub enum Request {
     /// Keep a pattern file. The token makes the request safe to repeat: the same member and token with an equal
@@ -90,7 +90,7 @@ pub enum Reply {
     File(Bytes),
     /// At most 100 deposits, each by its number, member, population and rule.
     Deposits(Listing),
-    /// The kind of a deposit, with its code where it has one.
+    /// The kind of a deposit, with its code if it has one.
     Kinded(Kind, Option<Bytes>),
     /// The number of the census.
     Counted(u64),
@@ -106,7 +106,7 @@ pub enum Reply {
 
 /// A request whose words are good: its numbers are within the limits, and its rule is read.
 #[derive(Drop)]
-pub(crate) enum Judged {
+pub(crate) enum ValidRequest {
     Deposit {
         member: Text,
         token: Text,

@@ -79,7 +79,7 @@ module _ (f : List ℕ → Option Sighting) where
   unfolding rows_by
   found-rows ts q = sym (table.get-entries (table.from_entries {R = row_cmp} (filter_map told ts)) q) ∙ table.get-from_entries row_cmp_total (filter_map told ts) q ∙ found_told ts q
 
-  -- where nothing is said of other texts, what is found is what is said
+  -- if nothing is said of other texts, what is found is what is said
   pub rows_say : (ts : Texts) (q : List ℕ) → (list_any (same_text q) ts ≡ false → f q ≡ None) → found q (rows_by f ts) ≡ f q
   rows_say ts q others = found-rows ts q ∙ go (cases_Bool (list_any (same_text q) ts))
     where

@@ -43,7 +43,7 @@ module _ (f : ℕ → ℕ) where
   not_none : {n : ℕ} → Some n ≡ None → ⊥
   not_none h = cc
 
-  -- where no soup has one, there are none
+  -- if no soup has one, there are none
   pub none_are_none : (ns : List ℕ) → least_number (filter has ns) ≡ None → sum_by f ns ≡ 0
   none_are_none [] none = refl
   none_are_none (n ∷ ns) none = go (has n) refl none (sum_by-cons f n ns) (none_are_none ns)
@@ -107,7 +107,7 @@ sighted-more x n i = go x n ∙ ap (λ k. joined x (sighted k i)) (next n)
         let count : (s.count + suc n) + 1 ≡ s.count + suc (suc n) = omega arith in
         λ j. Some (record { count = count j; first = first j })
 
--- where nothing has been seen in two hauls
+-- if nothing has been seen in two hauls
 pub joined-none : (x : Option Sighting) → joined None x ≡ x
 joined-none None = refl
 joined-none (Some s) = refl

@@ -56,7 +56,7 @@ abbrev pub is_positive : ℕ → Bool
 is_positive zero = false
 is_positive (suc n) = true
 
--- where soup i has f i of something: how many the soups of these numbers have, and the least of the numbers whose soup has one; none where no soup has
+-- where soup i has f i of something: how many the soups of these numbers have, and the least of the numbers whose soup has one; none if no soup has
 unfoldable pub seen : (ℕ → ℕ) → List ℕ → Option Sighting
 seen f ns = option_map (λ i. record { count = sum_by f ns; first = i }) (least_number (filter (λ i. is_positive (f i)) ns))
 

@@ -17,7 +17,7 @@ use Rattle.life_hauls.specs.Soups.{soup_of}
 
 -- ---- many machines
 
--- The haul over two ranges, one behind the other, is what the hauls over each are together ..
+-- The haul over two ranges, one after the other, is what the hauls over each are together ..
 abbrev pub HaulsAddUp : Type 0
 HaulsAddUp = (s : Symmetry) (root : List ℕ) (rule : RuleSets) (n limit first a b : ℕ) → haul_of s root rule n limit first (a + b) ≡ together (haul_of s root rule n limit first a) (haul_of s root rule n limit (first + a) b)
 
@@ -44,7 +44,7 @@ count_of (Some s) = s.count
 abbrev pub SeenIsLeast : Type 0
 SeenIsLeast = (f : ℕ → ℕ) (ns : List ℕ) (s : Sighting) → seen f ns ≡ Some s → (s.count ≡ sum_by f ns) × Contains ns s.first × (1 ≤ f s.first) × ((i : ℕ) → Contains ns i → 1 ≤ f i → s.first ≤ i)
 
--- .. and nothing is seen exactly where the sum is 0.
+-- .. and nothing is seen exactly if the sum is 0.
 abbrev pub NothingIsSeen : Type 0
 NothingIsSeen = (f : ℕ → ℕ) (ns : List ℕ) → (seen f ns ≡ None) ↔ (sum_by f ns ≡ 0)
 

@@ -27,7 +27,7 @@ heading s root rule n limit = named (codes "# root ") root ++ named (codes "# ru
 abbrev pub sighting_text : Sighting → List ℕ
 sighting_text s = decimal s.count ++ 44 ∷ decimal s.first
 
--- the same, where nothing may have been seen
+-- the same, if nothing may have been seen
 abbrev pub unresolved_text : Option Sighting → List ℕ
 unresolved_text None = codes "0,"
 unresolved_text (Some s) = sighting_text s

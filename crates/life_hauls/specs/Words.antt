@@ -50,12 +50,12 @@ abbrev pub asked_by : Job → Asked
 asked_by (Haul words) = AsksHaul words.root.now words.first words.count words.rule.now words.symmetry words.n words.limit
 asked_by (Soup words) = AsksSoup words.root.now words.number words.rule.now words.symmetry
 
--- the text of a rule, or that of Conway's Life where there is none
+-- the text of a rule, or that of Conway's Life if there is none
 abbrev pub rule_or_life : Option Text → Text
 rule_or_life None = codes "B3/S23"
 rule_or_life (Some rule) = rule
 
--- the symmetry of a name, or C1 where there is none
+-- the symmetry of a name, or C1 if there is none
 abbrev pub symmetry_or_c1 : Option Text → Option Symmetry
 symmetry_or_c1 None = Some C1
 symmetry_or_c1 (Some name) = symmetry_named name

@@ -133,7 +133,7 @@ pub fn haul_command<'a>(alloc: Global) -> Result<Command<'a>, AllocError>
     with_command(command, soup_command(alloc))
 }
 
-// The text of the rule, or that of Conway's Life where none is given.
+// The text of the rule, or that of Conway's Life if none is given.
 fn rule_in<'a>(found: &ArgMatches<'a>) -> &'a str
     ensures { result.now ≡ rule_or_life (text_at (codes "RULE") (rows_of (found_of found.now))) }
 {
@@ -143,7 +143,7 @@ fn rule_in<'a>(found: &ArgMatches<'a>) -> &'a str
     }
 }
 
-// The symmetry of the name that was found, or C1 where none is given.
+// The symmetry of the name that was found, or C1 if none is given.
 fn symmetry_in(found: &ArgMatches<'_>) -> Option<Symmetry>
     ensures { result ≡ symmetry_or_c1 (text_at (codes "NAME") (rows_of (found_of found.now))) }
 {

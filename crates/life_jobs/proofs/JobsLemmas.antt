@@ -23,9 +23,9 @@ use Rattle.life_census.specs.Counting.{IsTally, tally_of}
 use Rattle.life_census.specs.Table.{csv_text}
 use Rattle.life_jobs.specs.declared.stop.Stop.{Stop}
 use Rattle.life_jobs.specs.declared.stop.Stop.TheVariants.{OutOfLimit, BadPattern, BadRule, BadCode, Unreadable, Unavailable, Unwritable}
-use Rattle.life_jobs.specs.Jobs.{IsPeriodLimit, code_or_dash, file_text, census_table, PrintsObject, PutsObject, PutsTold}
+use Rattle.life_jobs.specs.Jobs.{IsPeriodLimit, code_or_dash, file_text, census_table, PrintsObject, PutsObject, PutsKnown}
 use Rattle.life_jobs.specs.JobsState.{code_stop}
-use Rattle.life_jobs.specs.Streams.{ReadsTold, PutsText}
+use Rattle.life_jobs.specs.Streams.{ReadsKnown, PutsText}
 
 -- ---- jobs that print a text for a file
 
@@ -41,7 +41,7 @@ module _ (shown : Contents → List ℕ) where
   fault_of_file bytes fault is = ap (λ answer. answer >>= λ r. Ok (shown r)) is
 
   -- a job that stops where its input is read
-  pub stops_at_input : (told old new : Option (List ℕ)) (stop : Stop) → ReadsTold told (Err stop) → PutsTold (file_text shown) told old new (Err stop)
+  pub stops_at_input : (known old new : Option (List ℕ)) (stop : Stop) → ReadsKnown known (Err stop) → PutsKnown (file_text shown) known old new (Err stop)
   stops_at_input None old new stop h = tt
   stops_at_input (Some bytes) old new OutOfLimit h = h
   stops_at_input (Some bytes) old new (BadPattern fault) h = fault_of_file bytes fault h
@@ -52,8 +52,8 @@ module _ (shown : Contents → List ℕ) where
   stops_at_input (Some bytes) old new Unwritable h = absurd h
 
   -- a job that puts the text of what it read
-  pub puts_text : (told old new : Option (List ℕ)) (r : Contents) (all : List ℕ) (answer : Result (Unit {0}) Stop) → ReadsTold told (Ok r) → all ≡ shown r
-      → PutsText old new all answer → PutsTold (file_text shown) told old new answer
+  pub puts_text : (known old new : Option (List ℕ)) (r : Contents) (all : List ℕ) (answer : Result (Unit {0}) Stop) → ReadsKnown known (Ok r) → all ≡ shown r
+      → PutsText old new all answer → PutsKnown (file_text shown) known old new answer
   puts_text None old new r all answer h is puts = tt
   puts_text (Some bytes) old new r all (Ok done) h is puts = (all, text_of_file bytes r h ∙ ap Ok (sym is), puts)
   puts_text (Some bytes) old new r all (Err OutOfLimit) h is puts = puts

@@ -45,7 +45,7 @@ generation_text n = file_text (λ r. text (later n r))
 abbrev pub IsPeriodLimit : ℕ → Type 0
 IsPeriodLimit limit = (1 ≤ limit) × (limit ≤ PERIOD_LIMIT)
 
--- a code, or `-` where there is none
+-- a code, or `-` if there is none
 abbrev pub code_or_dash : Option (List ℕ) → List ℕ
 code_or_dash None = codes "-"
 code_or_dash (Some code) = code
@@ -122,7 +122,7 @@ PutsBytes wanted bytes old new (Err Unavailable) = Unit {0}
 PutsBytes wanted bytes old new (Err Unwritable) = (all : List ℕ) × (wanted bytes ≡ Ok all) × GainsSome old new all
 PutsBytes wanted bytes old new (Err stop) = ⊥
 
--- the same, where the bytes that come in are told
-abbrev pub PutsTold : (List ℕ → Result (List ℕ) RleFault) → Option (List ℕ) → Option (List ℕ) → Option (List ℕ) → Result (Unit {0}) Stop → Type 0
-PutsTold wanted None old new answer = Unit {0}
-PutsTold wanted (Some bytes) old new answer = PutsBytes wanted bytes old new answer
+-- the same, if the bytes that come in are known
+abbrev pub PutsKnown : (List ℕ → Result (List ℕ) RleFault) → Option (List ℕ) → Option (List ℕ) → Option (List ℕ) → Result (Unit {0}) Stop → Type 0
+PutsKnown wanted None old new answer = Unit {0}
+PutsKnown wanted (Some bytes) old new answer = PutsBytes wanted bytes old new answer

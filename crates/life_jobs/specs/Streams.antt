@@ -16,10 +16,10 @@ ReadsBytes bytes (Err Unreadable) = Unit {0}
 ReadsBytes bytes (Err Unavailable) = Unit {0}
 ReadsBytes bytes (Err stop) = ⊥
 
--- the same, where the bytes that come in are told
-abbrev pub ReadsTold : Option (List ℕ) → Result Contents Stop → Type 0
-ReadsTold None answer = Unit {0}
-ReadsTold (Some bytes) answer = ReadsBytes bytes answer
+-- the same, if the bytes that come in are known
+abbrev pub ReadsKnown : Option (List ℕ) → Result Contents Stop → Type 0
+ReadsKnown None answer = Unit {0}
+ReadsKnown (Some bytes) answer = ReadsBytes bytes answer
 
 -- a stop that may come of reading
 abbrev pub IsOfInput : Stop → Type 0
@@ -36,9 +36,9 @@ ReportsFailures old new (Err stop) = new ≡ old
 
 -- what a job does with the stream that comes in, by its bytes and by how often a take failed and the end was found, before and after: it takes at
 -- most one byte more than a file may have, and nothing after the end
-pub record TakesFile {X : Type 0} (told_old told_new : Option (List ℕ)) (failed_old failed_new : ℕ) (ends_old ends_new last : ℕ) (answer : Result X Stop) : Type 0 where
-  pub heard : ReportsFailures failed_old failed_new answer
-  pub few : LosesUpTo 1048577 told_old told_new
+pub record TakesFile {X : Type 0} (known_old known_new : Option (List ℕ)) (failed_old failed_new : ℕ) (ends_old ends_new last : ℕ) (answer : Result X Stop) : Type 0 where
+  pub on_failed_take : ReportsFailures failed_old failed_new answer
+  pub few : LosesUpTo 1048577 known_old known_new
   pub ended : EndsLast ends_old ends_new last
 
 -- ---- the stream that a text is put into

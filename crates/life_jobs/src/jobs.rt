@@ -8,7 +8,7 @@ ghost use Rattle.life_code.specs.Period.{kind_of};
 ghost use Rattle.life_code.specs.Codes.{code_of};
 ghost use Rattle.life_code.specs.Open.{Spells, Refuses};
 ghost use Rattle.life_jobs.specs.Jobs.{later, generation_text, IsPeriodLimit, code_or_dash, kind_words, kind_line, kind_text, AreCensusNumbers, census_table, census_text};
-ghost use Rattle.life_jobs.specs.Jobs.{RefusesRule, PutsObject, PutsTold};
+ghost use Rattle.life_jobs.specs.Jobs.{RefusesRule, PutsObject, PutsKnown};
 ghost use Rattle.life_jobs.specs.JobsState.{code_stop, printed, print_text, IsPrint};
 ghost use Rattle.life_jobs.specs.Streams.{TakesFile, PutsText, PutsOnce};
 
@@ -57,7 +57,7 @@ fn dash(alloc: Global) -> Result<Vec<u8>, Fault>
     Ok("-".to_string(alloc)?.into_bytes())
 }
 
-/// The code of a pattern of this kind, or `-` where it has none.
+/// The code of a pattern of this kind, or `-` if it has none.
 fn code_or_dash(
     alloc: Global,
     rule: &Rule,
@@ -179,7 +179,7 @@ fn print_file<I: Inlet, O: Outlet>(
 ) -> Result<(), Stop>
     requires { IsPrint print }
     ensures limit { result ≢ Err Stop.OutOfLimit }
-    ensures told { PutsTold (print_text print) (I.to_come input.old) (O.already output.old) (O.already output.new) result }
+    ensures known { PutsKnown (print_text print) (I.to_come input.old) (O.already output.old) (O.already output.new) result }
     ensures takes { TakesFile (I.to_come input.old) (I.to_come input.new) (I.failures input.old) (I.failures input.new) (I.ends input.old) (I.ends input.new) (I.last_take input.new) result }
     ensures once { PutsOnce output.old output.new (O.failures output.old) (O.failures output.new) (O.last_failed output.new) result }
 {
@@ -210,8 +210,8 @@ pub fn run_generation<I: Inlet, O: Outlet>(
 ) -> Result<(), Stop>
     ensures limit { (result ≡ Err Stop.OutOfLimit) ↔ (GENERATION_LIMIT < n) }
     ensures untouched { GENERATION_LIMIT < n → (input.new ≡ input.old) × (output.new ≡ output.old) }
-    // Where the bytes that come in are told, what is put is the text of their generation, and a bad pattern is theirs.
-    ensures told { n ≤ GENERATION_LIMIT → PutsTold (generation_text n) (I.to_come input.old) (O.already output.old) (O.already output.new) result }
+    // If the bytes that come in are known, what is put is the text of their generation, and a bad pattern is theirs.
+    ensures known { n ≤ GENERATION_LIMIT → PutsKnown (generation_text n) (I.to_come input.old) (O.already output.old) (O.already output.new) result }
     ensures takes { TakesFile (I.to_come input.old) (I.to_come input.new) (I.failures input.old) (I.failures input.new) (I.ends input.old) (I.ends input.new) (I.last_take input.new) result }
     ensures once { PutsOnce output.old output.new (O.failures output.old) (O.failures output.new) (O.last_failed output.new) result }
 {
@@ -242,8 +242,8 @@ pub fn run_kind<I: Inlet, O: Outlet>(
 ) -> Result<(), Stop>
     ensures limit { (result ≡ Err Stop.OutOfLimit) ↔ ¬ IsPeriodLimit limit }
     ensures untouched { ¬ IsPeriodLimit limit → (input.new ≡ input.old) × (output.new ≡ output.old) }
-    // Where the bytes that come in are told, what is put is the line of their kind, and a bad pattern is theirs.
-    ensures told { IsPeriodLimit limit → PutsTold (kind_text limit) (I.to_come input.old) (O.already output.old) (O.already output.new) result }
+    // If the bytes that come in are known, what is put is the line of their kind, and a bad pattern is theirs.
+    ensures known { IsPeriodLimit limit → PutsKnown (kind_text limit) (I.to_come input.old) (O.already output.old) (O.already output.new) result }
     ensures takes { TakesFile (I.to_come input.old) (I.to_come input.new) (I.failures input.old) (I.failures input.new) (I.ends input.old) (I.ends input.new) (I.last_take input.new) result }
     ensures once { PutsOnce output.old output.new (O.failures output.old) (O.failures output.new) (O.last_failed output.new) result }
 {
@@ -272,8 +272,8 @@ pub fn run_census<I: Inlet, O: Outlet>(
 ) -> Result<(), Stop>
     ensures limit { (result ≡ Err Stop.OutOfLimit) ↔ ¬ AreCensusNumbers n limit }
     ensures untouched { ¬ AreCensusNumbers n limit → (input.new ≡ input.old) × (output.new ≡ output.old) }
-    // Where the bytes that come in are told, what is put is the CSV of their tally, and a bad pattern is theirs.
-    ensures told { AreCensusNumbers n limit → PutsTold (census_text n limit) (I.to_come input.old) (O.already output.old) (O.already output.new) result }
+    // If the bytes that come in are known, what is put is the CSV of their tally, and a bad pattern is theirs.
+    ensures known { AreCensusNumbers n limit → PutsKnown (census_text n limit) (I.to_come input.old) (O.already output.old) (O.already output.new) result }
     ensures takes { TakesFile (I.to_come input.old) (I.to_come input.new) (I.failures input.old) (I.failures input.new) (I.ends input.old) (I.ends input.new) (I.last_take input.new) result }
     ensures once { PutsOnce output.old output.new (O.failures output.old) (O.failures output.new) (O.last_failed output.new) result }
 {

@@ -57,7 +57,7 @@ fn code_line(fault: CodeFault) -> &'static str
 }
 
 impl Stop {
-    /// The line for standard error, without its line end. It is empty where nothing is printed.
+    /// The line for standard error, without its line end. It is empty if nothing is printed.
     pub fn line(&self) -> &'static str
         ensures { result.now ≡ line_of self.now }
     {

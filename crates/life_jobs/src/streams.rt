@@ -1,7 +1,7 @@
 //! What jobs do with their streams: a pattern file is read, and a text is put.
 ghost use Rattle.std.specs.Prelude.{◌≡◌, IfOk, IfErr};
 ghost use Rattle.life_rle.specs.Record.{IsInside};
-ghost use Rattle.life_jobs.specs.Streams.{ReadsTold, IsOfInput, TakesFile, PutsText, PutsOnce};
+ghost use Rattle.life_jobs.specs.Streams.{ReadsKnown, IsOfInput, TakesFile, PutsText, PutsOnce};
 
 use crate::stop::Stop;
 use life_rle::{Inlet, Outlet, ReadFault, Record, RleFault, put_all, read_from};
@@ -9,7 +9,7 @@ use std::alloc::Global;
 
 /// Reads the pattern file that comes in. The input is taken to its end, or to byte 1,048,577.
 pub fn read_input<I: Inlet>(alloc: Global, input: &mut I) -> Result<Record, Stop>
-    ensures told { ReadsTold (I.to_come input.old) result }
+    ensures known { ReadsKnown (I.to_come input.old) result }
     ensures stops { IfErr result IsOfInput }
     ensures takes { TakesFile (I.to_come input.old) (I.to_come input.new) (I.failures input.old) (I.failures input.new) (I.ends input.old) (I.ends input.new) (I.last_take input.new) result }
     ensures inside { IfOk result (λ r. IsInside 1024 r.cells) }

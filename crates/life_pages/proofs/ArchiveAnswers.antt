@@ -23,7 +23,7 @@ module _ {S : Type 0} (g : Ghosts S) (old new : ArchiveView S) (law : IsSettled 
         put = put;
         steps = run;
         run = by_taken g old new it.taken;
-        firm = firm_run g old new ms bytes run;
+        own_refusals = firm_run g old new ms bytes run;
         crash = left_safely g old new ms bytes law it;
       }
 

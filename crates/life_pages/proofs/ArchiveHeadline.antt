@@ -4,10 +4,10 @@ use Rattle.sqlite_trees.specs.declared.store.Store.{Ghosts}
 use Rattle.life_rle.specs.Stream.{Gains, GainsSome}
 use Rattle.life_store.specs.Tables.{ArchiveView}
 use Rattle.life_desk.specs.Archive.{Archive}
-use Rattle.life_desk.specs.Means.{IsRepresentable, Means}
+use Rattle.life_desk.specs.Represents.{IsRepresentable, Represents}
 use Rattle.life_desk.specs.Run.{RequestStep}
 use Rattle.life_desk.specs.Headline.{HeadlineHolds}
-use Rattle.life_desk.proofs.Meaning.{representable_of}
+use Rattle.life_desk.proofs.Representing.{representable_of}
 use Rattle.life_pages.specs.declared.serving.IoFault.{IoFault}
 use Rattle.life_pages.specs.Message.{Message, MessageRun, AnswersMessage}
 use Rattle.life_pages.specs.Serving.{AreAllOf, AreFirstOf, Served, RepliesCutShort}
@@ -16,11 +16,11 @@ use Rattle.life_pages.specs.Requests.{requests_of, ServesTheHeadline}
 use Rattle.life_pages.proofs.RequestRuns.{as_requests}
 
 -- what follows for each archive that was meant
-by_more : {S : Type 0} (g : Ghosts S) (P Q : Archive → Archive → Type 0) (old new : ArchiveView S) → ((A B : Archive) → Means old A → P A B → Q A B) → ByArchive g P old new → ByArchive g Q old new
+by_more : {S : Type 0} (g : Ghosts S) (P Q : Archive → Archive → Type 0) (old new : ArchiveView S) → ((A B : Archive) → Represents old A → P A B → Q A B) → ByArchive g P old new → ByArchive g Q old new
 by_more g P Q old new more by = record {
-  goes = by.goes;
-  run = λ sure A m. let done = by.run sure A m in (done.0, more A done.0 m done.1, done.2);
-  lasting = λ sure A m. elim (by.lasting sure A m) [
+  transition = by.transition;
+  run = λ healthy A m. let done = by.run healthy A m in (done.0, more A done.0 m done.1, done.2);
+  lasting = λ healthy A m. elim (by.lasting healthy A m) [
     | inl still ↦ inl (still.0, (still.1.0, more A still.1.0 m still.1.1, still.1.2))
     | inr failed ↦ inr (failed.0, λ clean. let done = failed.1 clean in (done.0, more A done.0 m done.1))
   ];

@@ -6,7 +6,7 @@ use Rattle.life_desk.specs.declared.refusal.Refusal.{Refusal}
 use Rattle.life_desk.specs.declared.request.Request.{Request}
 use Rattle.life_desk.specs.declared.request.Reply.{Reply}
 use Rattle.life_desk.specs.declared.request.Reply.TheVariants as says
-use Rattle.life_desk.specs.Judging.{judged, MayRefuse}
+use Rattle.life_desk.specs.Validation.{validated, MayRefuse}
 use Rattle.life_desk.specs.Replies.{is_shown}
 use Rattle.life_pages.specs.declared.asked.PageRefusal.{PageRefusal}
 use Rattle.life_pages.specs.Asked.{asked}
@@ -33,7 +33,7 @@ firm_reply (Err own) r P it = it.0
 module _ {S : Type 0} (g : Ghosts S) where
   firm_one : (old new : ArchiveView S) (x : Result Request PageRefusal) (bytes : List ℕ) → AnswersAsked (StoreAnswers g) old x bytes new → AnswersAsked AnswersFirmly tt x bytes tt
   unfolding StoreAnswers
-  firm_one old new (Ok q) bytes (reply, answered, is) = (reply, firm_reply (judged q) reply (new ≡ old) answered.1, is)
+  firm_one old new (Ok q) bytes (reply, answered, is) = (reply, firm_reply (validated q) reply (new ≡ old) answered.1, is)
   firm_one old new (Err refusal) bytes (is, same) = (is, refl)
 
   pub firm_run : (old new : ArchiveView S) (ms : List Message) (bytes : List ℕ) → MessageRun (AnswersMessage (StoreAnswers g)) old ms bytes new

@@ -37,11 +37,11 @@ one_list bytes (bad ∷ ms) (bad ∷ ns) m n = ap (λ (l : List Message). bad �
 one_list bytes (bad ∷ ms) (good said body ∷ ns) m n = absurd (m.1 said body n.0 n.1)
 one_list bytes (good said body ∷ ms) [] m n = absurd (true≢false (sym n ∙ stands_not_blank bytes said body m.0 m.1))
 one_list bytes (good said body ∷ ms) (bad ∷ ns) m n = absurd (n.1 said body m.0 m.1)
-one_list bytes (good said body ∷ ms) (good other content ∷ ns) (rest, s, ends, goes) (more, t, stops, on) =
+one_list bytes (good said body ∷ ms) (good other content ∷ ns) (rest, s, ends, transition) (more, t, stops, on) =
     let same = stands_once bytes said other body content rest more s t in
     let later : ms ≡ ns = elim said.closes as (λ b. said.closes ≡ b → ms ≡ ns) [
       | true ↦ λ e. ends e ∙ sym (stops (sym (ap (λ (h : Head). h.closes) same.0) ∙ e))
-      | false ↦ λ e. one_list rest ms ns (goes e) (subst (λ (l : List ℕ). Messages l ns) (sym same.2) (on (sym (ap (λ (h : Head). h.closes) same.0) ∙ e)))
+      | false ↦ λ e. one_list rest ms ns (transition e) (subst (λ (l : List ℕ). Messages l ns) (sym same.2) (on (sym (ap (λ (h : Head). h.closes) same.0) ∙ e)))
     ] refl in
     alike said other body content ms ns same.0 same.1 later
   where
@@ -61,8 +61,8 @@ shorter bytes said body rest s =
 none_at : (bytes : List ℕ) → ((ms : List Message) → ¬ Messages bytes ms) → (said : Head) (body rest : List ℕ) → HasMessageInFront bytes said body rest
     → ¬ ((ms : List Message) → ¬ Messages rest ms) → ⊥
 none_at bytes none said body rest s some = elim said.closes as (λ b. said.closes ≡ b → ⊥) [
-  | true ↦ λ e. none (good said body ∷ []) (rest, s, (λ closes. refl), λ goes. absurd (true≢false (sym e ∙ goes)))
-  | false ↦ λ e. some (λ ms m. none (good said body ∷ ms) (rest, s, (λ closes. absurd (true≢false (sym closes ∙ e))), λ goes. m))
+  | true ↦ λ e. none (good said body ∷ []) (rest, s, (λ closes. refl), λ transition. absurd (true≢false (sym e ∙ transition)))
+  | false ↦ λ e. some (λ ms m. none (good said body ∷ ms) (rest, s, (λ closes. absurd (true≢false (sym closes ∙ e))), λ transition. m))
 ] refl
 
 some_of : (n : ℕ) (bytes : List ℕ) → length bytes < n → ¬ ((ms : List Message) → ¬ Messages bytes ms)

@@ -207,7 +207,7 @@ wants_now wanted held wants less =
     let same : held ++ [] ≡ held = append-nil held in
     subst (λ (l : List ℕ). IsWanting l) same (wants [] (rw same less))
 
--- more bytes behind those that are held
+-- more bytes after those that are held
 pub wants_more : (wanted : ℕ) (held some all : List ℕ) → WantsUntil wanted held → all ≡ held ++ some → WantsUntil wanted all
 wants_more wanted held some all wants is = λ more less.
     let same : all ++ more ≡ held ++ (some ++ more) = ap (λ (l : List ℕ). l ++ more) is ∙ append_assoc held some more in
@@ -229,7 +229,7 @@ wants_until held n g wanted fits within limit begins at_most = λ more less.
       inr (inr (body_alone (held ++ more) n g inside short_head front left)),
     )
 
--- no head stands behind as many blank bytes as a head may have
+-- no head stands after as many blank bytes as a head may have
 pub long_blank_never : (held : List ℕ) → are_line_breaks held ≡ true → head_limit ≤ length held → NeverHas held
 long_blank_never held blank long more said body rest s =
     let short = s.short in

@@ -8,9 +8,9 @@ use Rattle.life_desk.specs.Replies.{acknowledges}
 use Rattle.life_pages.specs.declared.asked.PageRefusal.{PageRefusal}
 use Rattle.life_pages.specs.declared.asked.PageRefusal.TheVariants.{NoSuchPage, BadMethod, BadMessage}
 use Rattle.life_pages.specs.Reply.{reply_bytes, bytes_of, page_bytes}
-use Rattle.life_pages.specs.Laws.{AcknowledgementsAreTold, PagesAcknowledgeNothing}
+use Rattle.life_pages.specs.Laws.{AcknowledgementsAreKnown, PagesAcknowledgeNothing}
 
--- whether the digit of 201 stands where the last of a status does, behind `HTTP/1.1 ` and two others
+-- whether the digit of 201 stands where the last of a status does, after `HTTP/1.1 ` and two others
 abbrev begins_one : List ℕ → Bool
 begins_one [] = false
 begins_one (b ∷ bs) = b == 49
@@ -32,17 +32,17 @@ refusal_status BadCode = refl
 refusal_status Full = refl
 refusal_status Unavailable = refl
 
-told : (r : Reply) → is_created (bytes_of r) ≡ acknowledges r
+known : (r : Reply) → is_created (bytes_of r) ≡ acknowledges r
 unfolding reply_bytes
-told (replies.Deposited id) = refl
-told (replies.File bytes) = refl
-told (replies.Deposits lines) = refl
-told (replies.Kinded kind code) = refl
-told (replies.Counted id) = refl
-told (replies.Shown shown) = refl
-told (replies.Csv bytes) = refl
-told (replies.Total n) = refl
-told (replies.Refused refusal) = refusal_status refusal
+known (replies.Deposited id) = refl
+known (replies.File bytes) = refl
+known (replies.Deposits lines) = refl
+known (replies.Kinded kind code) = refl
+known (replies.Counted id) = refl
+known (replies.Shown shown) = refl
+known (replies.Csv bytes) = refl
+known (replies.Total n) = refl
+known (replies.Refused refusal) = refusal_status refusal
 
 page_status_told : (refusal : PageRefusal) → is_created (page_bytes refusal) ≡ false
 unfolding page_bytes reply_bytes
@@ -50,8 +50,8 @@ page_status_told NoSuchPage = refl
 page_status_told BadMethod = refl
 page_status_told BadMessage = refl
 
-pub acknowledgements_told : AcknowledgementsAreTold
-acknowledgements_told r q same = sym (told r) ∙ ap is_created same ∙ told q
+pub acknowledgements_told : AcknowledgementsAreKnown
+acknowledgements_told r q same = sym (known r) ∙ ap is_created same ∙ known q
 
 pub pages_acknowledge_nothing : PagesAcknowledgeNothing
-pages_acknowledge_nothing r refusal same = sym (told r) ∙ ap is_created same ∙ page_status_told refusal
+pages_acknowledge_nothing r refusal same = sym (known r) ∙ ap is_created same ∙ page_status_told refusal

@@ -10,7 +10,7 @@ use Rattle.life_pages.specs.Message.{Message, good, bad, MessageRun, AnswersAske
 use Rattle.life_pages.specs.Reply.{bytes_of, page_bytes, bad_bytes}
 use Rattle.life_pages.specs.Requests.{with_request, requests_of, with_reply, reply_bytes_of, MessagesRunAsRequests, RequestsRunAsMessages}
 
--- the bytes of a reply and those behind it, as they were made
+-- the bytes of a reply and those after it, as they were made
 joined : (bytes reply later made behind : List ℕ) → bytes ≡ reply ++ later → reply ≡ made → later ≡ behind → bytes ≡ made ++ behind
 joined bytes reply later made behind is first second = rw (← first, ← second) is
 

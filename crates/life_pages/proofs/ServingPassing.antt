@@ -25,15 +25,15 @@ loses_then (Some a) (Some b) (Some c) x y p q = p ∙ ap (λ (l : List ℕ). x +
 pub blank_both : (x y : List ℕ) → are_line_breaks x ≡ true → are_line_breaks y ≡ true → are_line_breaks (x ++ y) ≡ true
 blank_both x y p q = list_all-append _ x y ∙ rw (p, q) refl
 
-some_length : (k : ℕ) (place : List ℕ) → k ≢ 0 → k ≤ length place → 0 < length (take k place)
-some_length k place some within = rw (length-take-le k place within) (omega (arith, some))
+some_length : (k : ℕ) (space : List ℕ) → k ≢ 0 → k ≤ length space → 0 < length (take k space)
+some_length k space some within = rw (length-take-le k space within) (omega (arith, some))
 
-pub passes_more : (old mid new : Option (List ℕ)) (n k : ℕ) (place : List ℕ) → PassesBlank n old mid → Loses mid new (take k place) → k ≢ 0 → k ≤ length place
-    → are_line_breaks (take k place) ≡ true → PassesBlank (n + 1) old new
-passes_more old mid new n k place (bytes, many, blank, lost) more some within white =
-    let l = length-append bytes (take k place) in
-    let s = some_length k place some within in
-    (bytes ++ take k place, omega (arith, l, s, many), blank_both bytes (take k place) blank white, loses_then old mid new bytes (take k place) lost more)
+pub passes_more : (old mid new : Option (List ℕ)) (n k : ℕ) (space : List ℕ) → PassesBlank n old mid → Loses mid new (take k space) → k ≢ 0 → k ≤ length space
+    → are_line_breaks (take k space) ≡ true → PassesBlank (n + 1) old new
+passes_more old mid new n k space (bytes, many, blank, lost) more some within white =
+    let l = length-append bytes (take k space) in
+    let s = some_length k space some within in
+    (bytes ++ take k space, omega (arith, l, s, many), blank_both bytes (take k space) blank white, loses_then old mid new bytes (take k space) lost more)
 
 pub passed_end : (old mid : Option (List ℕ)) (n : ℕ) → PassesBlank n old mid → IsEnded mid → IsBlankRest old true
 passed_end None mid n p e = tt
@@ -53,12 +53,12 @@ passed_other (Some old) None new n y (bytes, many, blank, lost) l e = absurd los
 passed_other (Some old) (Some mid) None n y p l e = absurd l
 passed_other (Some old) (Some mid) (Some new) n y (bytes, many, blank, lost) l e = rw (lost, l) (other_later bytes y new e)
 
-pub passed_then : {most : ℕ} (old mid new : Option (List ℕ)) (n k : ℕ) (place : List ℕ) → PassesBlank n old mid → Loses mid new (take k place) → are_line_breaks (take k place) ≡ false → length place ≡ most_taken → most ≡ k
+pub passed_then : {most : ℕ} (old mid new : Option (List ℕ)) (n k : ℕ) (space : List ℕ) → PassesBlank n old mid → Loses mid new (take k space) → are_line_breaks (take k space) ≡ false → length space ≡ most_taken → most ≡ k
     → IsBlankRest old false × PassesThen most old new
-passed_then old mid new n k place p l e short last =
-    let all : length (take k place) ≤ length place = grind (arith, common_steps) in
-    let some : length (take k place) ≤ k = grind (arith, common_steps) in
-    (passed_other old mid new n (take k place) p l e, (p.0, mid, take k place, p.2, p.3, l, omega (arith, all, short), omega (arith, some, last)))
+passed_then old mid new n k space p l e short last =
+    let all : length (take k space) ≤ length space = grind (arith, common_steps) in
+    let some : length (take k space) ≤ k = grind (arith, common_steps) in
+    (passed_other old mid new n (take k space) p l e, (p.0, mid, take k space, p.2, p.3, l, omega (arith, all, short), omega (arith, some, last)))
 
 -- ---- how much was taken
 
@@ -76,19 +76,19 @@ many_fed a b c n k held all (x, first, p) f some =
 -- ---- how much is taken at most
 
 -- so many takes of a piece each, and one more
-pub most_passed : (old mid new : Option (List ℕ)) (n k : ℕ) (place : List ℕ) → LosesUpTo (n * most_taken) old mid → Loses mid new (take k place) → length place ≡ most_taken
+pub most_passed : (old mid new : Option (List ℕ)) (n k : ℕ) (space : List ℕ) → LosesUpTo (n * most_taken) old mid → Loses mid new (take k space) → length space ≡ most_taken
     → LosesUpTo ((n + 1) * most_taken) old new
-most_passed old mid new n k place before more short =
-    loses_on old mid new (n * most_taken) most_taken ((n + 1) * most_taken) (take k place) before more (let l = length-take-most k place in omega arith) (omega arith)
+most_passed old mid new n k space before more short =
+    loses_on old mid new (n * most_taken) most_taken ((n + 1) * most_taken) (take k space) before more (let l = length-take-most k space in omega arith) (omega arith)
   where
-    length-take-most : (k : ℕ) (place : List ℕ) → length (take k place) ≤ length place
-    length-take-most k place = grind (arith, common_steps)
+    length-take-most : (k : ℕ) (space : List ℕ) → length (take k space) ≤ length space
+    length-take-most k space = grind (arith, common_steps)
 
 -- and that was not the last
-pub most_taken_more : (old mid new : Option (List ℕ)) (n k takes : ℕ) (place : List ℕ) → LosesUpTo (n * most_taken) old mid → Loses mid new (take k place) → length place ≡ most_taken
+pub most_taken_more : (old mid new : Option (List ℕ)) (n k takes : ℕ) (space : List ℕ) → LosesUpTo (n * most_taken) old mid → Loses mid new (take k space) → length space ≡ most_taken
     → n < takes → LosesUpTo (takes * most_taken) old new
-most_taken_more old mid new n k takes place before more short few =
-    let (bytes, less, lost) = most_passed old mid new n k place before more short in
+most_taken_more old mid new n k takes space before more short few =
+    let (bytes, less, lost) = most_passed old mid new n k space before more short in
     (bytes, omega (arith, less, few), lost)
 
 pub most_fed : (a b c : Option (List ℕ)) (n k : ℕ) (held all : List ℕ) → LosesUpTo (n * most_taken) a b → Feeds {E = Failed} b c held all (Ok k) → k ≤ most_taken
@@ -123,7 +123,7 @@ takes_rest start now next n all before rest few = omega (arith, before, rest, fe
 pub still_few : (a b n : ℕ) → n ≢ b → n ≤ b → n < b
 still_few a b n other few = omega (arith, other)
 
--- ---- what became of a stream behind long blank bytes
+-- ---- what became of a stream after long blank bytes
 
 fronts_starts_rest : (stream left : Option (List ℕ)) (ms ns : List Message) (held : List ℕ) → Fronts stream ms held left
     → IfSome left (λ l. Starts (held ++ l) ns) → IfSome stream (λ s. Starts s (ms ++ ns))
@@ -153,7 +153,7 @@ bad_left None held rest never = tt
 bad_left (Some l) held rest never = (blank_not held l rest, never l, refl)
 
 module _ {D : Type 0} (answers : D → Head → List ℕ → List ℕ → D → Type 0) where
-  -- and messages behind those that were answered, which are all that is left
+  -- and messages after those that were answered, which are all that is left
   reading_rest : (stream left : Option (List ℕ)) (held : List ℕ) (old new : D) (x y z : Option (List ℕ)) (ms : List Message) (bytes : List ℕ) → Reading answers stream left held old new x y
       → IfSome left (λ l. Messages (held ++ l) ms) → MessageRun answers new ms bytes new → Gains y z bytes → Served answers stream old new x z
   reading_rest stream left held old new x y z ms bytes r m run put = record {

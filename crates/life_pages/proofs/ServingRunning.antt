@@ -128,7 +128,7 @@ front_starts a (good said body ∷ ms) ns b f m =
 pub messages_first : (bytes : List ℕ) (ms : List Message) → Messages bytes ms → Starts bytes ms
 messages_first bytes [] m = tt
 messages_first bytes (bad ∷ ms) m = m
-messages_first bytes (good said body ∷ ms) m = (m.0, m.1, m.2, λ goes. messages_first m.0 ms (m.3 goes))
+messages_first bytes (good said body ∷ ms) m = (m.0, m.1, m.2, λ transition. messages_first m.0 ms (m.3 transition))
 
 pub front_first : (a : List ℕ) (ms : List Message) (b : List ℕ) → Front a ms b → Starts a ms
 front_first a [] b f = tt
@@ -160,7 +160,7 @@ module _ {D : Type 0} (answers : D → Head → List ℕ → List ℕ → D → 
     put = gains_more x y z f.bytes h.bytes f.put h.put;
   }
 
-  -- a cut behind messages that were answered whole
+  -- a cut after messages that were answered whole
   pub then_cut : (P Q : List Message → Type 0) (done : List Message) (bytes : List ℕ) (old mid new : D) (x y z : Option (List ℕ))
       → MessageRun answers old done bytes mid → Gains x y bytes → ((ms : List Message) (last : Message) → P (ms ++ last ∷ []) → Q (done ++ (ms ++ last ∷ []))) → LastReplyCutShort answers P mid new y z → LastReplyCutShort answers Q old new x z
   then_cut P Q done bytes old mid new x y z r g begins c = record {

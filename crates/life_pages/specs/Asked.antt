@@ -11,7 +11,7 @@ use Rattle.life_pages.specs.Head.{Head}
 use Rattle.life_pages.specs.Path.{path_of}
 use Rattle.life_pages.specs.Route.{route_of}
 
--- the numbers of the refusals, behind those of the archive
+-- the numbers of the refusals, after those of the archive
 abbrev pub refusal_number : PageRefusal → ℕ
 refusal_number NoSuchPage = 12
 refusal_number BadMethod = 13
@@ -41,7 +41,7 @@ request_of (routes.Census id) said body = ask.ShowCensus id
 request_of (routes.CensusCsv id) said body = ask.CensusCsv id
 request_of (routes.Total rule code limit) said body = ask.Total rule code limit
 
--- the route is judged first, and then the method
+-- the route is validated first, and then the method
 abbrev pub asked_at : Option Route → Head → List ℕ → Result Request PageRefusal
 asked_at None said body = Err NoSuchPage
 asked_at (Some route) said body = if bytes_eq said.method (method_of route) then Ok (request_of route said body) else Err BadMethod

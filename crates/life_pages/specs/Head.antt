@@ -81,7 +81,7 @@ head_with method target minor lines n = record {
   closes = minor == 0 || list_any says_close (values_of (codes "connection") lines);
 }
 
--- what a head with these parts says, where it is not bad
+-- what a head with these parts says, if it is not bad
 abbrev pub said_by : List ℕ → List ℕ → ℕ → List HeaderLine → Option Head
 said_by method target minor lines =
     if has_some (values_of (codes "transfer-encoding") lines) then None
@@ -91,7 +91,7 @@ said_by method target minor lines =
 abbrev pub line_limit : ℕ
 line_limit = 32
 
--- what the head says, where it is not bad
+-- what the head says, if it is not bad
 abbrev pub head_of : RequestHead → Option Head
 head_of h =
     if nat_lt line_limit (length h.fields) then None else said_by h.method h.target h.minor (map name_and_value h.fields)

@@ -32,10 +32,10 @@ said g = record {
 }
 
 -- a reading of the lines of a head that is len bytes long
-abbrev pub Judges : ℕ → Option Head → HeadRead → Type 0
-Judges len says More = ⊥
-Judges len says Bad = says ≡ None
-Judges len says (Whole g) = (g.len ≡ len) × (says ≡ Some (said g))
+abbrev pub Validates : ℕ → Option Head → HeadRead → Type 0
+Validates len says More = ⊥
+Validates len says Bad = says ≡ None
+Validates len says (Whole g) = (g.len ≡ len) × (says ≡ Some (said g))
 
 -- a reading of bytes: more are wanted, they are no beginning of a good head, or a good head stands at the front
 abbrev pub ReadsHead : List ℕ → HeadRead → Type 0

@@ -15,8 +15,8 @@ abbrev pub NoneWithoutMessages : Type 0
 NoneWithoutMessages = (bytes : List ℕ) → ¬ ((ms : List Message) → ¬ Messages bytes ms)
 
 -- The bytes of a reply tell whether it says that something is kept ..
-abbrev pub AcknowledgementsAreTold : Type 0
-AcknowledgementsAreTold = (r q : Reply) → bytes_of r ≡ bytes_of q → acknowledges r ≡ acknowledges q
+abbrev pub AcknowledgementsAreKnown : Type 0
+AcknowledgementsAreKnown = (r q : Reply) → bytes_of r ≡ bytes_of q → acknowledges r ≡ acknowledges q
 
 -- .. and those of a message's refusal do not say so.
 abbrev pub PagesAcknowledgeNothing : Type 0

@@ -13,7 +13,7 @@ use Rattle.life_pages.specs.declared.asked.PageRefusal.TheVariants.{NoSuchPage, 
 use Rattle.life_pages.specs.Asked.{refusal_number, refusal_name}
 use Rattle.life_pages.specs.Json.{kind_data, shown_data, list_data}
 
--- the words behind a status
+-- the words after a status
 unfoldable pub phrase : ℕ → List ℕ
 phrase status = unwrap_or (reason_phrase status) []
 
@@ -97,6 +97,6 @@ page_bytes refusal = reply_bytes (page_status refusal) json (refusal_body (refus
 abbrev pub bad_bytes : List ℕ
 bad_bytes = page_bytes BadMessage
 
--- the reply where memory or the store refused
+-- the reply if memory or the store refused
 abbrev pub unavailable_bytes : List ℕ
 unavailable_bytes = reply_bytes 503 json (refusal_body (codes "unavailable") 11 [])

@@ -21,7 +21,7 @@ requests_of [] = []
 requests_of (bad ∷ ms) = requests_of ms
 requests_of (good said body ∷ ms) = with_request (asked said body) (requests_of ms)
 
--- the bytes of a message's reply, which is the first of these if the message makes a request, and behind them those of the others; where there is no reply
+-- the bytes of a message's reply, which is the first of these if the message makes a request, and after them those of the others; if there is no reply
 -- for a request, none (a run has as many replies as requests)
 abbrev pub with_reply : Result Request PageRefusal → (List Reply → List ℕ) → List Reply → List ℕ
 with_reply (Ok request) later (r ∷ rs) = bytes_of r ++ later rs

@@ -23,7 +23,7 @@ most_takes = 1048576
 abbrev pub most_taken : ℕ
 most_taken = 4096
 
--- all the messages that were sent, where the stream tells its bytes
+-- all the messages that were sent, if the bytes of the stream are known
 abbrev pub AreAllOf : Option (List ℕ) → List Message → Type 0
 AreAllOf stream ms = IfSome stream (λ bytes. Messages bytes ms)
 
@@ -62,7 +62,7 @@ module _ {D : Type 0} (answers : D → Head → List ℕ → List ℕ → D → 
     pub run : MessageRun answers old done bytes new
     pub put : Gains before after bytes
 
--- the messages stand at the front of a told stream, before what is held and what is left
+-- the messages stand at the front of a stream of known bytes, before what is held and what is left
 abbrev pub Fronts : Option (List ℕ) → List Message → List ℕ → Option (List ℕ) → Type 0
 Fronts None done held left = Unit {0}
 Fronts (Some stream) done held None = ⊥
@@ -99,11 +99,11 @@ module _ {D : Type 0} (answers : D → Head → List ℕ → List ℕ → D → 
     pub run : MessageRun answers old done bytes new
     pub put : Gains before after bytes
 
--- told bytes grew at their end: what was there before is a beginning of what is there now
+-- known bytes grew at their end: what was there before is a beginning of what is there now
 abbrev pub Grows : Option (List ℕ) → Option (List ℕ) → Type 0
 Grows old new = (more : List ℕ) × Gains old new more
 
--- told bytes lost at least so many
+-- known bytes lost at least so many
 abbrev pub LosesAtLeast : ℕ → Option (List ℕ) → Option (List ℕ) → Type 0
 LosesAtLeast least old new = (bytes : List ℕ) × (least ≤ length bytes) × Loses old new bytes
 
@@ -129,15 +129,15 @@ ReportsPutFailures old new last (Err Memory) = new ≡ old
 -- was old and is new by λ P. P old new, and an archive in a database by `ByArchive` or `InMemory`.
 pub record IsServed {D I O : Type 0} (answers : D → Head → List ℕ → List ℕ → D → Type 0) (by : (D → D → Type 0) → Type 0) (i : inlet.Ghosts I) (o : outlet.Ghosts O) (input rest : I) (output sent : O) (result : Result (Unit {0}) IoFault) : Type 0 where
   -- Ok: all messages of the stream were answered, and what was put is their replies.
-  pub told : OnOk result (by (λ A B. Served answers (i.to_come input) A B (o.already output) (o.already sent)))
+  pub known : OnOk result (by (λ A B. Served answers (i.to_come input) A B (o.already output) (o.already sent)))
   -- Whatever the answer: the first of them were answered, and no more than their replies was put.
   pub some : by (λ A B. RepliesCutShort answers (i.to_come input) A B (o.already output) (o.already sent))
   -- A failed take: what was taken whole was answered, and the replies were put whole.
-  pub paused : result ≡ Err Read → by (λ A B. ServedSoFar answers (i.to_come input) (i.to_come rest) A B (o.already output) (o.already sent))
+  pub on_read_failure : result ≡ Err Read → by (λ A B. ServedSoFar answers (i.to_come input) (i.to_come rest) A B (o.already output) (o.already sent))
   -- The same if one more take would be too many.
-  pub full : result ≡ Err TooManyReads → by (λ A B. ServedSoFar answers (i.to_come input) (i.to_come rest) A B (o.already output) (o.already sent))
+  pub on_too_many_reads : result ≡ Err TooManyReads → by (λ A B. ServedSoFar answers (i.to_come input) (i.to_come rest) A B (o.already output) (o.already sent))
   -- A failed put: of the last reply a beginning was put, and those before it whole.
-  pub cut : result ≡ Err Write → by (λ A B. LastReplyCutShort answers (AreFirstUpTo (i.to_come input) (i.to_come rest) (i.last_take rest)) A B (o.already output) (o.already sent))
+  pub on_write_failure : result ≡ Err Write → by (λ A B. LastReplyCutShort answers (AreFirstUpTo (i.to_come input) (i.to_come rest) (i.last_take rest)) A B (o.already output) (o.already sent))
 
 -- What a call does to its streams, whatever answers the messages.
 pub record UsesStreams {I O : Type 0} (i : inlet.Ghosts I) (o : outlet.Ghosts O) (input rest : I) (output sent : O) (result : Result (Unit {0}) IoFault) : Type 0 where
@@ -149,7 +149,7 @@ pub record UsesStreams {I O : Type 0} (i : inlet.Ghosts I) (o : outlet.Ghosts O)
   pub takes : i.takes rest ≤ i.takes input + most_takes
   pub most : LosesUpTo (most_takes * most_taken) (i.to_come input) (i.to_come rest)
   -- A failed take is answered at once, a failed put is answered, and nothing else is.
-  pub heard : ReportsTakeFailures (i.failures input) (i.failures rest) result
+  pub on_failed_take : ReportsTakeFailures (i.failures input) (i.failures rest) result
   pub puts : ReportsPutFailures (o.failures output) (o.failures sent) (o.last_failed sent) result
   pub read : result ≡ Err Read → FailedBetween (i.failures input) (i.failures rest)
   pub write : result ≡ Err Write → FailedBetween (o.failures output) (o.failures sent)

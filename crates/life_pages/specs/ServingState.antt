@@ -13,7 +13,7 @@ use Rattle.life_pages.specs.MessageState.{IsWanting}
 use Rattle.life_pages.specs.Reply.{bad_bytes}
 use Rattle.life_pages.specs.Serving.{most_takes, AreFirstUpTo, LastReplyCutShort, Served, ServedSoFar, LosesAtLeast}
 
--- a take of more bytes behind those that are held
+-- a take of more bytes after those that are held
 abbrev pub Feeds : {E : Type 0} → Option (List ℕ) → Option (List ℕ) → List ℕ → List ℕ → Result ℕ E → Type 0
 Feeds old new held all (Ok k) =
     (some : List ℕ) × Loses old new some × (all ≡ held ++ some) × (k ≡ 0 → (some ≡ []) × IsEnded old) × (length some ≡ k)
@@ -77,7 +77,7 @@ abbrev pub PassesThen : ℕ → Option (List ℕ) → Option (List ℕ) → Type
 PassesThen last old new =
     (blank : List ℕ) × (mid : Option (List ℕ)) × (piece : List ℕ) × (are_line_breaks blank ≡ true) × Loses old mid blank × Loses mid new piece × (length piece ≤ 4096) × (length piece ≤ last)
 
--- whether what is left of told bytes is CR and LF alone
+-- whether what is left of known bytes is CR and LF alone
 abbrev pub IsBlankRest : Option (List ℕ) → Bool → Type 0
 IsBlankRest None blank = Unit {0}
 IsBlankRest (Some left) blank = are_line_breaks left ≡ blank
@@ -96,7 +96,7 @@ HearsPassed old new passed.Other = new ≡ old
 HearsPassed old new passed.Failed = new ≡ raised old
 HearsPassed old new passed.TooMany = new ≡ old
 
--- what became of a stream behind as many of them as a head may have, in at most so many takes
+-- what became of a stream after as many of them as a head may have, in at most so many takes
 abbrev pub IsBlankEnd : Result (Unit {0}) IoFault → ℕ → ℕ → Option (List ℕ) → Option (List ℕ) → Option (List ℕ) → Option (List ℕ) → Type 0
 IsBlankEnd (Ok u) takes last old new before after =
     (IsBlankRest old true × (after ≡ before)) ⊎ (IsBlankRest old false × Gains before after bad_bytes)

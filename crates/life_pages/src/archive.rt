@@ -29,7 +29,7 @@ impl<S: Alter> Desk for Archive<S> {
 }
 
 /// Answers the messages of a stream, one after the other, each as soon as it has come whole, until the stream ends, a
-/// message asks for its end, or a message is bad. At most 1,048,576 takes are made. Bytes behind a closing or a bad message
+/// message asks for its end, or a message is bad. At most 1,048,576 takes are made. Bytes after a closing or a bad message
 /// may have been taken.
 ///
 /// After an error the archive is the one after the messages that were answered: all that were taken whole, unless a put
@@ -42,7 +42,7 @@ pub fn serve<S: Alter, I: Inlet, O: Outlet>(
 ) -> Result<(), IoFault>
     // By the result: over which messages the archive went through a run, and how much of the run's bytes was put.
     ensures served { IsServed (AnswersMessage RequestStep) (λ P. ByArchive S.Store P archive.old archive.new) I.Inlet O.Outlet input.old input.new output.old output.new result }
-    // Of one list of messages and one of their replies' bytes: the store answered the first messages of the stream, each archive that it meant went through a
+    // Of one list of messages and one of their replies' bytes: the store answered the first messages of the stream, each archive that it represented went through a
     // run over them, a request that is refused for its own words is answered by that refusal, whatever the database does, and a crash during the call leaves
     // the archive after a beginning of them or one more; and a beginning of the bytes was put.
     ensures steps { IsAnswered S.Store (AreFirstOf (I.to_come input.old)) (GainsSome (O.already output.old) (O.already output.new)) archive.old archive.new }
@@ -53,7 +53,7 @@ pub fn serve<S: Alter, I: Inlet, O: Outlet>(
     ensures headlines { ByArchive S.Store (ServesTheHeadline (AreFirstOf (I.to_come input.old)) (GainsSome (O.already output.old) (O.already output.new))) archive.old archive.new }
     // Whatever the database does: a request that is refused for its own words (member, token, limits, rule) is answered by that refusal, and
     // unavailable never comes in its place; and each other message of the first of them by the bytes of its refusal or of a reply.
-    ensures firm { RepliesCutShort (AnswersMessage AnswersFirmly) (I.to_come input.old) tt tt (O.already output.old) (O.already output.new) }
+    ensures own_refusals { RepliesCutShort (AnswersMessage AnswersFirmly) (I.to_come input.old) tt tt (O.already output.old) (O.already output.new) }
     // A crash during the call leaves the archive after a beginning of the messages that were sent, or after the one that follows as well,
     // and no other reply says that something is stored.
     ensures crash { IsServedSafely S.Store (I.to_come input.old) archive.old archive.new (O.already output.old) (O.already output.new) }

@@ -69,7 +69,7 @@ fn copy_deposit(alloc: Global, head: &GoodHead<'_>, body: &[u8]) -> Result<Reque
     })
 }
 
-/// The request for a deposit. Its words are judged before anything is copied.
+/// The request for a deposit. Its words are validated before anything is copied.
 fn deposit_request(alloc: Global, head: &GoodHead<'_>, body: &[u8]) -> Result<Request, Refusal>
     ensures { GivesRequest result (Request.Deposit head.now.member.now head.now.token.now body.now) }
 {
@@ -99,7 +99,7 @@ fn copy_census(
     })
 }
 
-/// The request for a census. Its words are judged before anything is copied.
+/// The request for a census. Its words are validated before anything is copied.
 fn census_request(
     alloc: Global,
     head: &GoodHead<'_>,
@@ -132,7 +132,7 @@ fn copy_total(
     })
 }
 
-/// The request for a total. Its words are judged before anything is copied.
+/// The request for a total. Its words are validated before anything is copied.
 fn total_request(
     alloc: Global,
     rule: &Captured<'_>,
@@ -189,7 +189,7 @@ pub(crate) enum Unasked {
     Request(Refusal),
 }
 
-/// The request of a good message: its route is judged first, and then its method.
+/// The request of a good message: its route is validated first, and then its method.
 pub(crate) fn asked(
     alloc: Global,
     routes: &Router<Template>,

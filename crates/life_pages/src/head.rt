@@ -7,7 +7,7 @@ ghost use Rattle.std.specs.Str.{str_eq_ignore_ascii_case};
 ghost use Rattle.httparse.specs.Borrowed.{header_parts};
 ghost use Rattle.httparse.specs.Grammar.{trim_ows, skip_ows, is_ows};
 ghost use Rattle.life_pages.specs.Head.{line_limit, most, parsed_number, says_close, values_of, first_of, body_length, has_some, said_by};
-ghost use Rattle.life_pages.specs.HeadState.{Judges, ReadsHead};
+ghost use Rattle.life_pages.specs.HeadState.{Validates, ReadsHead};
 
 use httparse::{EMPTY_HEADER, Header, Request, Status};
 
@@ -168,7 +168,7 @@ pub(crate) struct GoodHead<'b> {
     pub token: &'b [u8],
     /// How many bytes the body has.
     pub body: u64,
-    /// Whether the stream ends behind the message.
+    /// Whether the stream ends after the message.
     pub closes: bool,
 }
 
@@ -212,14 +212,14 @@ fn says_to_close(lines: &[Header<'_>]) -> bool
 }
 
 /// What the parts of a head say.
-fn judge<'b>(
+fn validate<'b>(
     len: usize,
     method: &'b str,
     target: &'b str,
     minor: u8,
     lines: &[Header<'b>],
 ) -> HeadRead<'b>
-    ensures { Judges len (said_by method.entry.now target.entry.now minor (map header_parts lines.now)) result }
+    ensures { Validates len (said_by method.entry.now target.entry.now minor (map header_parts lines.now)) result }
 {
     if has_name(lines, "transfer-encoding") {
         return HeadRead::Bad;
@@ -256,7 +256,7 @@ pub(crate) fn read_head(bytes: &[u8]) -> HeadRead<'_>
             if are_too_many(request.headers.len()) {
                 return HeadRead::Bad;
             }
-            judge(
+            validate(
                 len,
                 request.method.unwrap(),
                 request.path.unwrap(),

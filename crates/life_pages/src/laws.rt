@@ -1,5 +1,5 @@
 //! What holds of all streams.
-ghost use Rattle.life_pages.specs.Laws.{OneListOfMessages, NoneWithoutMessages, AcknowledgementsAreTold, PagesAcknowledgeNothing, RepliesAreReadInOneWay};
+ghost use Rattle.life_pages.specs.Laws.{OneListOfMessages, NoneWithoutMessages, AcknowledgementsAreKnown, PagesAcknowledgeNothing, RepliesAreReadInOneWay};
 ghost use Rattle.life_pages.specs.Requests.{MessagesRunAsRequests, RequestsRunAsMessages};
 
 /// The bytes of a stream say what its messages are: it has one list of them. A run over messages is a run of the requests that
@@ -10,7 +10,7 @@ pub fn laws_of_messages()
     ensures some { NoneWithoutMessages }
     ensures requests { MessagesRunAsRequests }
     ensures messages { RequestsRunAsMessages }
-    ensures kept { AcknowledgementsAreTold }
+    ensures kept { AcknowledgementsAreKnown }
     ensures pages { PagesAcknowledgeNothing }
     ensures apart { RepliesAreReadInOneWay }
 {}

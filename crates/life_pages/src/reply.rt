@@ -46,7 +46,7 @@ pub(crate) fn page_reply(refusal: PageRefusal) -> &'static [u8]
     }
 }
 
-/// The reply where memory or the store refused.
+/// The reply if memory or the store refused.
 pub(crate) fn unavailable() -> &'static [u8]
     ensures bytes { result.now ≡ unavailable_bytes }
     ensures short { length result.now ≤ 160 }
@@ -64,7 +64,7 @@ pub(crate) fn add(out: &mut Vec<u8>, bytes: &[u8])
     out.extend_from_slice(bytes).unwrap();
 }
 
-/// The words behind a status.
+/// The words after a status.
 #[tactic(auto, unfolding(crate::specs::Reply::phrase))]
 fn words_of(status: StatusCode) -> &'static str
     ensures { result.now ≡ phrase status }

@@ -86,7 +86,7 @@ fn put_bad<O: Outlet>(output: &mut O) -> Result<(), Failed>
     put_all(output, page_reply(PageRefusal::BadMessage))
 }
 
-/// Answers the first message, if it has come whole. Where fewer bytes are held than are wanted, it has not.
+/// Answers the first message, if it has come whole. If fewer bytes are held than are wanted, it has not.
 #[tactic(auto, using(crate::proofs::MessageStanding::wants_none))]
 fn serve_one<O: Outlet, D: Desk>(
     alloc: Global,
@@ -168,7 +168,7 @@ fn serve_held<O: Outlet, D: Desk>(
     }
 }
 
-/// How many bytes may be taken behind those that are held.
+/// How many bytes may be taken after those that are held.
 fn room_left(held: &Vec<u8>) -> usize
     requires { vec_len held.now < HELD_LIMIT }
     ensures some { 0 < result }
@@ -179,26 +179,26 @@ fn room_left(held: &Vec<u8>) -> usize
 }
 
 /// Takes bytes into some room, and adds them to those that are held.
-fn take_into<I: Inlet>(input: &mut I, place: &mut [u8], held: &mut Vec<u8>) -> Result<usize, Failed>
-    requires some { 0 < length place.old }
-    requires fits { vec_len held.old + length place.old ≤ vec_capacity held.old }
+fn take_into<I: Inlet>(input: &mut I, space: &mut [u8], held: &mut Vec<u8>) -> Result<usize, Failed>
+    requires some { 0 < length space.old }
+    requires fits { vec_len held.old + length space.old ≤ vec_capacity held.old }
     ensures taken { Feeds (I.to_come input.old) (I.to_come input.new) held.old.items held.new.items result }
-    ensures most { IfOk result (λ k. k ≤ length place.old) }
+    ensures most { IfOk result (λ k. k ≤ length space.old) }
     ensures made { I.takes input.new ≡ raised (I.takes input.old) }
     ensures gave { I.last_take input.new ≡ moved result }
     ensures room { vec_capacity held.old ≤ vec_capacity held.new }
     ensures count { I.failures input.new ≡ counted (I.failures input.old) result }
 {
-    match input.take(place) {
+    match input.take(space) {
         Ok(k) => {
-            add(held, &place[..k]);
+            add(held, &space[..k]);
             Ok(k)
         }
         Err(e) => Err(e),
     }
 }
 
-/// Takes more bytes behind those that are held, which hold no whole message.
+/// Takes more bytes after those that are held, which hold no whole message.
 fn take_more<I: Inlet>(input: &mut I, held: &mut Vec<u8>) -> Result<usize, Failed>
     requires none { HasNone held.old.items }
     requires space { vec_len held.old < HELD_LIMIT }
@@ -210,9 +210,9 @@ fn take_more<I: Inlet>(input: &mut I, held: &mut Vec<u8>) -> Result<usize, Faile
     ensures room { vec_capacity held.old ≤ vec_capacity held.new }
     ensures count { I.failures input.new ≡ counted (I.failures input.old) result }
 {
-    let mut place = [0u8; MOST_TAKEN];
+    let mut space = [0u8; MOST_TAKEN];
     let room = room_left(held);
-    take_into(input, &mut place[..room], held)
+    take_into(input, &mut space[..room], held)
 }
 
 /// What became of bytes that were taken as long as they were CR and LF.
@@ -233,14 +233,14 @@ fn pass_blank<I: Inlet>(input: &mut I, takes: u64) -> Passed
     ensures passed { IsPassed result takes (I.last_take input.new) (I.to_come input.old) (I.to_come input.new) }
     ensures most { LosesUpTo (takes * MOST_TAKEN) (I.to_come input.old) (I.to_come input.new) }
     ensures made { I.takes input.new ≤ I.takes input.old + takes }
-    ensures heard { HearsPassed (I.failures input.old) (I.failures input.new) result }
+    ensures on_failed_take { HearsPassed (I.failures input.old) (I.failures input.new) result }
 {
-    let mut place = [0u8; MOST_TAKEN];
+    let mut space = [0u8; MOST_TAKEN];
     'passed: for _i in 0..takes {
-        match input.take(&mut place) {
+        match input.take(&mut space) {
             Ok(0) => return Passed::Ended,
             Ok(k) => {
-                if !are_blank(&place[..k]) {
+                if !are_blank(&space[..k]) {
                     return Passed::Other;
                 }
             }
@@ -259,7 +259,7 @@ fn is_long_blank(held: &[u8]) -> bool
     held.len() >= HEAD_LIMIT && are_blank(held)
 }
 
-/// Behind long CR and LF bytes: the stream ends with more of them, or with a bad message.
+/// After long CR and LF bytes: the stream ends with more of them, or with a bad message.
 fn serve_blank<I: Inlet, O: Outlet>(
     input: &mut I,
     output: &mut O,
@@ -268,7 +268,7 @@ fn serve_blank<I: Inlet, O: Outlet>(
     ensures end { IsBlankEnd result takes (I.last_take input.new) (I.to_come input.old) (I.to_come input.new) (O.already output.old) (O.already output.new) }
     ensures most { LosesUpTo (takes * MOST_TAKEN) (I.to_come input.old) (I.to_come input.new) }
     ensures made { I.takes input.new ≤ I.takes input.old + takes }
-    ensures heard { ReportsTakeFailures (I.failures input.old) (I.failures input.new) result }
+    ensures on_failed_take { ReportsTakeFailures (I.failures input.old) (I.failures input.new) result }
     ensures puts { ReportsPutFailures (O.failures output.old) (O.failures output.new) (O.last_failed output.new) result }
 {
     match pass_blank(input, takes) {
@@ -344,7 +344,7 @@ fn serve_stream<I: Inlet, O: Outlet, D: Desk>(
     ensures outcome { IsOutcome (AnswersMessage D.answers) result (I.to_come input.old) (I.to_come input.new) (I.last_take input.new) desk.old desk.new (O.already output.old) (O.already output.new) }
     ensures most { LosesUpTo (TAKES * MOST_TAKEN) (I.to_come input.old) (I.to_come input.new) }
     ensures takes { I.takes input.new ≤ I.takes input.old + TAKES }
-    ensures heard { ReportsTakeFailures (I.failures input.old) (I.failures input.new) result }
+    ensures on_failed_take { ReportsTakeFailures (I.failures input.old) (I.failures input.new) result }
     ensures puts { ReportsPutFailures (O.failures output.old) (O.failures output.new) (O.last_failed output.new) result }
 {
     let mut taken = 0;

@@ -49,7 +49,7 @@ alone column row (cell ∷ cells) elsewhere =
     ∙ ap (λ b. cond b (run_from (column, row) (head.0 + 1) ∷ head.1) (run_from (column, row) 1 ∷ run_from cell head.0 ∷ head.1)) (not_right column row cell.0 cell.1 head.0 elsewhere)
     ∙ ap (λ runs. run_from (column, row) 1 ∷ runs) (sym head.2)
 
--- a run before cells that begin elsewhere than right behind it
+-- a run before cells that begin elsewhere than right after it
 pub front : (n column row : ℕ) (cells : List (ℕ × ℕ)) → BeginsElsewhere (column + suc n) row cells → runs_of (run column row (suc n) ++ cells) ≡ run_from (column, row) (suc n) ∷ runs_of cells
 unfolding runs_of run
 front zero column row cells elsewhere = alone column row cells elsewhere
@@ -64,7 +64,7 @@ front (suc n) column row cells elsewhere =
 
 -- ---- the runs of a pattern
 
--- the cells of longest runs begin elsewhere than right behind a run that none of them joins
+-- the cells of longest runs begin elsewhere than right after a run that none of them joins
 elsewhere : (r : CellRun) (rs : List CellRun) → IsQuarterRun r → All IsQuarterRun rs → NoneJoins r rs → BeginsElsewhere (column_of r + r.len) (row_of r) (map coordinates (runs_cells rs))
 elsewhere r [] quarter all none = tt
 elsewhere r (s ∷ rs) quarter all none =

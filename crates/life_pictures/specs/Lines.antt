@@ -22,7 +22,7 @@ half_block (true, false) = 0x2580
 half_block (false, true) = 0x2584
 half_block (false, false) = 32
 
--- two cells before others; where both are dead and none follow, they are left out
+-- two cells before others; if both are dead and none follow, they are left out
 abbrev pub before_cells : Bool × Bool → List (Bool × Bool) → List (Bool × Bool)
 before_cells two [] = if two.0 || two.1 then two ∷ [] else []
 before_cells two (next ∷ others) = two ∷ next ∷ others

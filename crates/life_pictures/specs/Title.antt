@@ -24,7 +24,7 @@ escaped c =
 unfoldable pub xml_text : List ℕ → List ℕ
 xml_text bytes = flat_map escaped (chars (utf8_lossy bytes))
 
--- the line of a title, where there is a name
+-- the line of a title, if there is a name
 abbrev pub title : Option (List ℕ) → List ℕ
 title None = []
 title (Some name) = codes "<title>" ++ xml_text name ++ codes "</title>\n"

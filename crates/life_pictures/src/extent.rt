@@ -15,7 +15,7 @@ pub struct Extent {
     pub height: u64,
 }
 
-/// The box of cells from the origin on, which is 0 by 0 where there are none.
+/// The box of cells from the origin on, which is 0 by 0 if there are none.
 pub fn extent_of<A: Allocator>(cells: &Runs<A>) -> Extent
     requires { All IsQuarterCell cells.now }
     ensures width { result.width ≡ width_of (map coordinates cells.now) }

@@ -1,7 +1,7 @@
 //! Drawing the pattern file that comes in.
 ghost use Rattle.std.specs.Prelude.{◌≡◌, ◌↔◌, IsTrue, IfOk, Err};
 ghost use Rattle.life_rle.specs.Record.{IsInside};
-ghost use Rattle.life_jobs.specs.Jobs.{PutsTold};
+ghost use Rattle.life_jobs.specs.Jobs.{PutsKnown};
 ghost use Rattle.life_jobs.specs.Streams.{TakesFile, PutsText, PutsOnce};
 ghost use Rattle.life_pictures.specs.Jobs.{IsGood, drawn, picture_text};
 
@@ -82,7 +82,7 @@ pub fn run_draw<I: Inlet, O: Outlet>(
     ensures limit { (result ≡ Err Stop.OutOfLimit) ↔ ¬ IsGood picture }
     ensures untouched { ¬ IsGood picture → (input.new ≡ input.old) × (output.new ≡ output.old) }
     // If the bytes that come in are known, what is put is their picture, and a bad pattern is theirs.
-    ensures told { IsGood picture → PutsTold (picture_text picture) (I.to_come input.old) (O.already output.old) (O.already output.new) result }
+    ensures known { IsGood picture → PutsKnown (picture_text picture) (I.to_come input.old) (O.already output.old) (O.already output.new) result }
     ensures takes { TakesFile (I.to_come input.old) (I.to_come input.new) (I.failures input.old) (I.failures input.new) (I.ends input.old) (I.ends input.new) (I.last_take input.new) result }
     ensures once { PutsOnce output.old output.new (O.failures output.old) (O.failures output.new) (O.last_failed output.new) result }
 {

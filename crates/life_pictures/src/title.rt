@@ -50,7 +50,7 @@ fn put_xml<A: Allocator + Copy>(
     Ok(())
 }
 
-/// Writes the line of the title, where there is a name.
+/// Writes the line of the title, if there is a name.
 pub fn put_title<A: Allocator + Copy>(
     alloc: A,
     out: &mut Vec<u8, A>,

@@ -6,21 +6,21 @@ use Rattle.life_jobs.specs.declared.stop.Stop.{Stop}
 use Rattle.life_jobs.specs.declared.stop.Stop.TheVariants.{OutOfLimit, Unwritable}
 use Rattle.life_jobs.specs.Stop.{line_of}
 use Rattle.life_words.specs.Explain.{explanation_text}
-use Rattle.life_jobs.specs.Jobs.{generation_text, kind_text, census_text, IsPeriodLimit, AreCensusNumbers, PutsTold, PutsObject}
+use Rattle.life_jobs.specs.Jobs.{generation_text, kind_text, census_text, IsPeriodLimit, AreCensusNumbers, PutsKnown, PutsObject}
 use Rattle.life_jobs.specs.Streams.{PutsText}
 
 -- a job over a file or a code, or of a name: its numbers are judged first, and then it puts its text or says why there is none
 abbrev pub DoesFileJob : Asked → Option (List ℕ) → Option (List ℕ) → Option (List ℕ) → Result (Unit {0}) Stop → Type 0
-DoesFileJob (AsksGeneration n) told old new answer = ((answer ≡ Err OutOfLimit) ↔ (2048 < n)) × (n ≤ 2048 → PutsTold (generation_text n) told old new answer)
-DoesFileJob (AsksKind limit) told old new answer =
-    ((answer ≡ Err OutOfLimit) ↔ ¬ IsPeriodLimit limit) × (IsPeriodLimit limit → PutsTold (kind_text limit) told old new answer)
-DoesFileJob (AsksCensus n limit) told old new answer =
-    ((answer ≡ Err OutOfLimit) ↔ ¬ AreCensusNumbers n limit) × (AreCensusNumbers n limit → PutsTold (census_text n limit) told old new answer)
-DoesFileJob (AsksObject rule code limit) told old new answer = PutsObject rule code limit old new answer
+DoesFileJob (AsksGeneration n) known old new answer = ((answer ≡ Err OutOfLimit) ↔ (2048 < n)) × (n ≤ 2048 → PutsKnown (generation_text n) known old new answer)
+DoesFileJob (AsksKind limit) known old new answer =
+    ((answer ≡ Err OutOfLimit) ↔ ¬ IsPeriodLimit limit) × (IsPeriodLimit limit → PutsKnown (kind_text limit) known old new answer)
+DoesFileJob (AsksCensus n limit) known old new answer =
+    ((answer ≡ Err OutOfLimit) ↔ ¬ AreCensusNumbers n limit) × (AreCensusNumbers n limit → PutsKnown (census_text n limit) known old new answer)
+DoesFileJob (AsksObject rule code limit) known old new answer = PutsObject rule code limit old new answer
 -- an explanation needs no memory, so it stops only if a put fails
-DoesFileJob (AsksExplain name) told old new answer = PutsText old new (explanation_text name) answer × IfErr answer (λ stop. stop ≡ Unwritable)
+DoesFileJob (AsksExplain name) known old new answer = PutsText old new (explanation_text name) answer × IfErr answer (λ stop. stop ≡ Unwritable)
 -- no other is a job over a file
-DoesFileJob asked told old new answer = Unit {0}
+DoesFileJob asked known old new answer = Unit {0}
 
 -- the line that is printed for an answer
 abbrev pub line_after : Result (Unit {0}) Stop → Option (List ℕ)
@@ -31,6 +31,6 @@ line_after (Err stop) = Some (line_of stop)
 -- token, serving what it makes of its port and its count of connections
 abbrev pub DoesJob : (List ℕ → List ℕ → Option (List ℕ) → Option (List ℕ) → Option (List ℕ) → Option (List ℕ) → Type 0) → (ℕ → ℕ → Option (List ℕ) → Type 0)
     → Asked → Option (List ℕ) → Option (List ℕ) → Option (List ℕ) → Option (List ℕ) → Type 0
-DoesJob deposits serves (AsksDeposit file member token) told old new line = deposits member token told old new line
-DoesJob deposits serves (AsksServe file port connections) told old new line = serves port connections line
-DoesJob deposits serves asked told old new line = (answer : Result (Unit {0}) Stop) × DoesFileJob asked told old new answer × (line ≡ line_after answer)
+DoesJob deposits serves (AsksDeposit file member token) known old new line = deposits member token known old new line
+DoesJob deposits serves (AsksServe file port connections) known old new line = serves port connections line
+DoesJob deposits serves asked known old new line = (answer : Result (Unit {0}) Stop) × DoesFileJob asked known old new answer × (line ≡ line_after answer)

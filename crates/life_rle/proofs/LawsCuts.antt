@@ -66,7 +66,7 @@ digit_push : (ds : List ℕ) (b : ℕ) → AreDigits ds → is_ascii_digit b ≡
 digit_push [] b all h = (h, tt)
 digit_push (d ∷ ds) b all h = (all.0, digit_push ds b all.1 h)
 
--- the items behind these digits
+-- the items after these digits
 abbrev Cuts : List ℕ → List ℕ → List Item → Type 0
 Cuts digits body items = (bytes_in items ≡ digits ++ body) × AllByRecursion IsCut items
 

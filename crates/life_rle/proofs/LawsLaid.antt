@@ -17,7 +17,7 @@ ended line = spelled_runs line ++ 10 ∷ []
 abbrev pub Fits : ℕ × ℕ → Type 0
 Fits run = length (item_text run) ≤ 70
 
--- runs laid behind those of a line that has begun: the rest of that line, and the lines after it
+-- runs laid after those of a line that has begun: the rest of that line, and the lines after it
 record Laid (line runs : List (ℕ × ℕ)) : Type 0 where
   rest : List (ℕ × ℕ)
   lines : List (List (ℕ × ℕ))

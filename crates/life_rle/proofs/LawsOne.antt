@@ -20,7 +20,7 @@ first_fits line (next ∷ lines) full = full.0
 abbrev all_runs : List (List (ℕ × ℕ)) → List (ℕ × ℕ)
 all_runs lines = flat_map (λ line. line) lines
 
--- behind a line that is complete, the lines are those that are laid
+-- after a line that is complete, the lines are those that are laid
 abbrev AreLaid : List (List (ℕ × ℕ)) → Type 0
 AreLaid lines = (front : List (ℕ × ℕ)) → AreFull (front ∷ lines) → laid (used front) (map item_text (all_runs lines)) ≡ 10 ∷ flat_map ended lines
 
@@ -115,7 +115,7 @@ end_behind : (tag : ℕ) (tags : List ℕ) → EndLive (tag ∷ tags) → EndLiv
 end_behind tag [] h = tt
 end_behind tag (next ∷ tags) h = h.1
 
--- the first cell that a reader places whose next tag is this, and those behind it
+-- the first cell that a reader places whose next tag is this, and those after it
 record First (tag row column : ℕ) (cells : List (ℕ × ℕ)) : Type 0 where
   cell : ℕ × ℕ
   others : List (ℕ × ℕ)

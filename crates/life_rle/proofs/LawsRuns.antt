@@ -15,7 +15,7 @@ use Rattle.life_rle.proofs.BodyPositions.{row_after_push, column_after_row_end, 
 use Rattle.life_rle.proofs.RoundItems.{is_digit}
 use Rattle.life_rle.proofs.WriterRuns.{runs_head, tags_cell}
 
--- the tags of a cell and those behind it, by how far it is down and along
+-- the tags of a cell and those after it, by how far it is down and along
 pub gap : (row column : ℕ) (cell : ℕ × ℕ) (cells : List (ℕ × ℕ))
     → tags_from row column (cell ∷ cells) ≡ replicate (cell.1 - row) 36 ++ (replicate (cell.0 - cond (eqb cell.1 row) column 0) 98 ++ 111 ∷ tags_from cell.1 (cell.0 + 1) cells)
 gap row column cell cells = tags_cell row column cell cells ∙ append_assoc (replicate (cell.1 - row) 36) (replicate (cell.0 - cond (eqb cell.1 row) column 0) 98) (111 ∷ tags_from cell.1 (cell.0 + 1) cells)
@@ -222,7 +222,7 @@ count_by false (suc n) tag k row column tags is low h =
     let next = subst (λ t. (cond t (row + 1) row ≤ k) × (cond t 0 (column + 1) ≤ k) × Stays k (cond t (row + 1) row) (cond t 0 (column + 1)) (replicate n tag ++ tags)) is h in
     omega (arith, count_by false n tag k row (column + 1) tags is next.1 next.2)
 
--- a place behind a run, from which a reader continues
+-- a place after a run, from which a reader continues
 record Behind (k : ℕ) (tags : List ℕ) : Type 0 where
   row : ℕ
   column : ℕ
@@ -294,7 +294,7 @@ one_item r rest is =
     ∙ digits_on [] (cond (eqb r.0 1) [] (decimal r.0)) (r.1 ∷ rest) (digits_of_count r.0 (eqb r.0 1) is.small)
     ∙ tag_on (cond (eqb r.0 1) [] (decimal r.0)) rest r.1 (no_digit r.1 is.kind)
 
--- the end of the bytes, where there is no item
+-- the end of the bytes, if there is no item
 abbrev nothing : List Item
 nothing = record { digits = []; tag = None } ∷ []
 

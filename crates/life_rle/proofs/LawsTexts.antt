@@ -24,11 +24,11 @@ abbrev but_first : Option (List ℕ) → (Line → Bool) → List Line → List 
 but_first None p lines = without_first p lines
 but_first (Some text) p lines = lines
 
--- the comments that lines leave behind such a name and such an author
+-- the comments that lines leave after such a name and such an author
 abbrev others : Option (List ℕ) → Option (List ℕ) → List Line → List (List ℕ)
 others name author lines = map text_of_line (but_first name is_name (but_first author is_author lines))
 
--- what lines leave, behind those that left other texts
+-- what lines leave, after those that left other texts
 record After (old new : Notes) (lines : List Line) : Type 0 where
   name : new.name ≡ option_or old.name (first_text is_name lines)
   author : new.author ≡ option_or old.author (first_text is_author lines)
@@ -58,7 +58,7 @@ no_others (Some name) (Some author) = refl
 
 -- ---- one line
 
--- where a name, an author or a comment stands among the others
+-- if a name, an author or a comment stands among the others
 first_name : (author : Option (List ℕ)) (b : ℕ) (bytes : List ℕ) (lines : List Line) → others (Some (b ∷ bytes)) author lines ≡ others None author (named (b ∷ bytes) ∷ lines)
 first_name None b bytes lines = refl
 first_name (Some text) b bytes lines = refl

@@ -74,7 +74,7 @@ lines_on (b ∷ bytes) line more p =
     ∙ lines_on bytes (line ++ b ∷ []) more p.1
     ∙ ap (λ l. lines_after l more) (append_assoc line (b ∷ []) bytes)
 
--- a line end behind them ends that line
+-- a line end after them ends that line
 pub lines_cut : (bytes line more : List ℕ) → HasNoLineEnd bytes → lines_after line (bytes ++ 10 ∷ more) ≡ (line ++ bytes) ∷ lines_after [] more
 unfolding lines_after
 lines_cut bytes line more p = lines_on bytes line (10 ∷ more) p

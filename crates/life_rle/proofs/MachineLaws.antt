@@ -10,7 +10,7 @@ use Rattle.life_rle.specs.Fault.{Fails}
 use Rattle.life_rle.specs.Record.{Contents}
 use Rattle.life_rle.specs.File.{kept, file}
 use Rattle.life_rle.specs.Stream.{Loses, IsEnded}
-use Rattle.life_rle.specs.Machine.{ReadsTold}
+use Rattle.life_rle.specs.Machine.{ReadsKnown}
 use Rattle.life_rle.specs.MachineState.{awaited, IsSound, Followed, IsFollowed}
 use Rattle.life_rle.proofs.RecordLaws.{kept_is_record}
 
@@ -49,7 +49,7 @@ follow_more None now new piece old machine taken k f loses same on = tt
 follow_more (Some bytes) now new piece old machine taken k f loses same on =
     follow_some bytes piece new old machine taken k f.1 f.2 (subst (λ n. Loses n new piece) f.0 loses) same on
 
-pub read_too_long : {A : Type 0} (told : Option (List ℕ)) (machine : Machine A) (taken : ℕ) → IsFollowed told machine taken → taken ≡ 1048577 → ReadsTold told (Err (Rle TooLong))
+pub read_too_long : {A : Type 0} (told : Option (List ℕ)) (machine : Machine A) (taken : ℕ) → IsFollowed told machine taken → taken ≡ 1048577 → ReadsKnown told (Err (Rle TooLong))
 unfolding file
 read_too_long None machine taken r past = tt
 read_too_long (Some bytes) machine taken r past = inr (ap (λ t. cond t (Err TooLong) (kept bytes)) (lt-ltb 1048576 (length bytes) (omega (arith, r.0))))
@@ -62,11 +62,11 @@ file_is bytes machine taken r other =
     r.3 [] ∙ ap kept (append-nil (take taken bytes) ∙ take_all taken bytes (omega arith))
     ∙ sym (ap (λ t. cond t (Err TooLong) (kept bytes)) (le-ltb 1048576 (length bytes) (omega arith)))
 
-pub read_ok : {A : Type 0} (told : Option (List ℕ)) (machine : Machine A) (taken : ℕ) (r' : Contents) → IsFollowed told machine taken → (taken ≡ 1048577 → ⊥) → awaited machine [] ≡ Ok (r') → ReadsTold told (Ok r')
+pub read_ok : {A : Type 0} (told : Option (List ℕ)) (machine : Machine A) (taken : ℕ) (r' : Contents) → IsFollowed told machine taken → (taken ≡ 1048577 → ⊥) → awaited machine [] ≡ Ok (r') → ReadsKnown told (Ok r')
 read_ok None machine taken r' r other is = tt
 read_ok (Some bytes) machine taken r' r other is = sym (file_is bytes machine taken r other) ∙ is
 
-pub read_fault : {A : Type 0} (told : Option (List ℕ)) (machine : Machine A) (taken : ℕ) (fault : RleFault) → IsFollowed told machine taken → (taken ≡ 1048577 → ⊥) → Fails fault (awaited machine []) → ReadsTold told (Err (Rle fault))
+pub read_fault : {A : Type 0} (told : Option (List ℕ)) (machine : Machine A) (taken : ℕ) (fault : RleFault) → IsFollowed told machine taken → (taken ≡ 1048577 → ⊥) → Fails fault (awaited machine []) → ReadsKnown told (Err (Rle fault))
 read_fault None machine taken fault r other is = tt
 read_fault (Some bytes) machine taken fault r other is = let P : Result Contents RleFault → Type 0 = λ x. Fails fault x in subst P (file_is bytes machine taken r other) is
 

@@ -70,7 +70,7 @@ one_cell : (before cells : List (ℕ × ℕ)) (cell : ℕ × ℕ) → before ++ 
 unfolding run
 one_cell before cells cell = append_assoc before (cell ∷ []) cells
 
--- up to a cell behind a gap
+-- up to a cell after a gap
 gap_cell_read : (cell : ℕ × ℕ) (cells : List (ℕ × ℕ)) (live row from : ℕ) (before : List (ℕ × ℕ)) → InOrder row (from + live) (cell ∷ cells) → AllInside (cell ∷ cells) → from + live ≤ 1024 → row ≤ 1023 →
     (cell.1 ≡ row → ⊥) ⊎ ((cell.1 ≡ row) × (cell.0 ≡ from + live → ⊥)) →
     body_from (between row from before) (joined (texts_from live row (from + live) (cell ∷ cells)) ++ 33 ∷ [])

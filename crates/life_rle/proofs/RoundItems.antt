@@ -16,7 +16,7 @@ use Rattle.life_rle.specs.WriterState.{counted}
 use Rattle.life_rle.proofs.BodyCounts.{so_far, so_far_push}
 use Rattle.life_rle.proofs.BodyLaws.{step_digit, step_good, body_next}
 
--- between two items, and behind these digits of a count
+-- between two items, and after these digits of a count
 abbrev pub between : ℕ → ℕ → List (ℕ × ℕ) → Place
 between row column cells = record { row = row; column = column; count = None; cells = cells }
 
@@ -49,7 +49,7 @@ so_far_decimal n small =
 good_number : (n : ℕ) → 0 < n → n ≤ 1000000 → is_bad_number n ≡ false
 good_number n some small = ap (λ t. t || ltb 1000000 n) (ne_eqb n 0 (λ e. omega arith)) ∙ le-ltb 1000000 n small
 
--- the byte behind a count
+-- the byte after a count
 tag_read : (n tag row column : ℕ) (cells : List (ℕ × ℕ)) (rest : List ℕ) (count : Option ℕ) → is_bad_count count ≡ false → unwrap_or count 1 ≡ n → is_ascii_digit tag ≡ false → eqb tag 33 ≡ false →
     body_from (counting row column cells count) (tag ∷ rest) ≡ going (item_step (between row column cells) n tag) (λ q. body_from q rest)
 tag_read n tag row column cells rest count good is no_digit no_end =

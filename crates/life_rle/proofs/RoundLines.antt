@@ -85,7 +85,7 @@ laid_by false item items used line p q here next =
     ∙ ap (λ ls. line ++ flat_map body_part ls) (lines_plain item [] (laid (length item) items) (plain_front item (joined items) q))
     ∙ ap (λ b. line ++ b) next
 
--- the lines of laid items, behind a line that has begun
+-- the lines of laid items, after a line that has begun
 pub laid_body : (items : List (List ℕ)) (used : ℕ) (line : List ℕ) → AllPlain line → AllPlain (joined items) → flat_map body_part (lines_after line (laid used items)) ≡ line ++ joined items
 unfolding laid lines_after
 laid_body [] used line p q = ap (λ l. l ++ []) (plain_body line p)

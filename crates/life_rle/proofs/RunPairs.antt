@@ -62,7 +62,7 @@ quarter_runs rs longest all i d low =
     let here : r.first +ℤ pos 0 ≡ r.first = omega (arith, ints) in
     record { some = some; first = subst (λ x. IsQuarterCell (record { row = r.row; column = x })) here (all_at IsQuarterCell r.row r.first r.len 0 (all_of_run IsQuarterCell rs i d all low) some) }
 
--- behind a run
+-- after a run
 order_behind : (n row column : ℕ) (cells : List (ℕ × ℕ)) → InOrder row column (run column row n ++ cells) → InOrder row (column + n) cells
 unfolding run
 order_behind zero row column cells order = let end : column ≡ column + 0 = omega arith in subst (λ x. InOrder row x cells) end order

@@ -17,7 +17,7 @@ use Rattle.life_rle.specs.Writer.{tags_from, runs_of, item_texts, laid, width_of
 abbrev unlines : List (List ℕ) → List ℕ
 unlines lines = flat_map (λ line. line ++ 10 ∷ []) lines
 
--- a file with this line behind a header
+-- a file with this line after a header
 abbrev below : List ℕ → List ℕ
 below line = unlines (codes "x = 1, y = 1" ∷ line ∷ [])
 

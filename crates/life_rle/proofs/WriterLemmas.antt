@@ -93,7 +93,7 @@ more_digits line digits rest used n tag front long inside =
 four_parts : (a b c d e : List (List ℕ)) → a ++ (b ++ (c ++ (d ++ e))) ≡ (a ++ (b ++ (c ++ d))) ++ e
 four_parts a b c d e = simp append_assoc
 
--- a cell elsewhere is behind a gap
+-- a cell elsewhere is after a gap
 pub some_gap_row : (row column x y : ℕ) → row ≤ y → (y ≡ row → ⊥) → 0 < (y - row) + (x - cond (eqb y row) column 0)
 some_gap_row row column x y low other = omega arith
 

@@ -65,7 +65,7 @@ tags_same row column cell cells same_row same_column =
 live_front : (live : ℕ) (tags : List ℕ) → replicate (live + 1) 111 ++ tags ≡ replicate live 111 ++ 111 ∷ tags
 live_front live tags = ap (λ s. s ++ tags) (sym (replicate_more live 111)) ∙ append_assoc (replicate live 111) (111 ∷ []) tags
 
--- a cell right behind the live cells
+-- a cell right after the live cells
 pub texts_same : (live row column : ℕ) (cell : ℕ × ℕ) (cells : List (ℕ × ℕ)) → cell.1 ≡ row → cell.0 ≡ column → texts_from (live + 1) cell.1 (cell.0 + 1) cells ≡ texts_from live row column (cell ∷ cells)
 texts_same live row column cell cells same_row same_column =
     ap (λ t. map item_text (runs_of t)) (live_front live (tags_from cell.1 (cell.0 + 1) cells) ∙ ap (λ t. replicate live 111 ++ t) (sym (tags_same row column cell cells same_row same_column)))
@@ -92,7 +92,7 @@ gap_texts live down along tags some =
     ∙ texts_front down 36 (replicate along 98 ++ 111 ∷ tags) (other_row along tags)
     ∙ ap (λ ts. counted down 36 ++ ts) (texts_front along 98 (111 ∷ tags) (λ e. omega arith)))
 
--- a cell behind a gap, or the first
+-- a cell after a gap, or the first
 pub texts_gap : (live row column from : ℕ) (cell : ℕ × ℕ) (cells : List (ℕ × ℕ)) → from ≡ cond (eqb cell.1 row) column 0 → (0 < live → 0 < (cell.1 - row) + (cell.0 - from)) →
     texts_from live row column (cell ∷ cells) ≡ counted live 111 ++ (counted (cell.1 - row) 36 ++ (counted (cell.0 - from) 98 ++ texts_from 1 cell.1 (cell.0 + 1) cells))
 texts_gap live row column from cell cells is some =
@@ -113,7 +113,7 @@ texts_on (suc n) live row column cells =
     ∙ texts_on n (live + 1) row (column + 1) cells
     ∙ (λ i. texts_from (length i) row (end i) cells)
 
--- a run behind a gap, or the first
+-- a run after a gap, or the first
 pub texts_run : (live row column x y n : ℕ) (cells : List (ℕ × ℕ)) → 1 ≤ n → (0 < live → 0 < (y - row) + (x - cond (eqb y row) column 0)) →
     texts_from live row column (run x y n ++ cells) ≡ counted live 111 ++ (counted (y - row) 36 ++ (counted (x - cond (eqb y row) column 0) 98 ++ texts_from n y (x + n) cells))
 unfolding run
@@ -124,7 +124,7 @@ texts_run live row column x y (suc n) cells one some =
     texts_gap live row column _ (x, y) (run (x + 1) y n ++ cells) refl some
     ∙ ap (λ ts. counted live 111 ++ (counted (y - row) 36 ++ (counted (x - cond (eqb y row) column 0) 98 ++ ts))) (texts_on n 1 y (x + 1) cells ∙ (λ i. texts_from (length i) y (end i) cells))
 
--- behind the last cell
+-- after the last cell
 pub texts_none : (live row column : ℕ) → texts_from live row column [] ≡ counted live 111
 unfolding tags_from runs_of
 texts_none live row column = texts_front live 111 [] tt ∙ append-nil (counted live 111)

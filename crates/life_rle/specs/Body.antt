@@ -78,7 +78,7 @@ live_count item = if is_live item then count item else 0
 abbrev pub cells_at : List Item → Item → List (ℕ × ℕ)
 cells_at before item = run (column_after before) (row_after before) (live_count item)
 
--- the cells that items place behind these
+-- the cells that items place after these
 unfoldable pub placed_after : List Item → List Item → List (ℕ × ℕ)
 placed_after before [] = []
 placed_after before (item ∷ items) = cells_at before item ++ placed_after (before ++ item ∷ []) items
@@ -111,7 +111,7 @@ fault_at before item =
     if is_counted item && is_bad_number (count item) then Some BadCount
     else fault_at_tag before item item.tag
 
--- the fault, or the answer where there is none
+-- the fault, or the answer if there is none
 abbrev pub unless_faulty : {X : Type 0} → Option RleFault → Result X RleFault → Result X RleFault
 unless_faulty (Some fault) answer = Err fault
 unless_faulty None answer = answer

@@ -36,15 +36,15 @@ abbrev pub is_bad_count : Option ℕ → Bool
 is_bad_count None = false
 is_bad_count (Some n) = is_bad_number n
 
--- behind a run of dead cells
+-- after a run of dead cells
 abbrev pub moved : Place → ℕ → Place
 moved p n = record { row = p.row; column = min (p.column + n) 1024; count = None; cells = p.cells }
 
--- behind row ends
+-- after row ends
 abbrev pub down : Place → ℕ → Place
 down p n = record { row = min (p.row + n) 1024; column = 0; count = None; cells = p.cells }
 
--- behind a run of live cells
+-- after a run of live cells
 abbrev pub live : Place → ℕ → Place
 live p n = record { row = p.row; column = p.column + n; count = None; cells = p.cells ++ run p.column p.row n }
 
@@ -65,7 +65,7 @@ step p b =
     else (if b == 33 then (if is_some p.count then fails BadCount else ends p.cells)
     else item_step p (unwrap_or p.count 1) b))
 
--- What the function of a step answered, with the place that it left. Where there is a place to go on at, memory may be refused.
+-- What the function of a step answered, with the place that it left. If there is a place to go on at, memory may be refused.
 abbrev pub Took : Step → Place → Result Bool RleFault → Type 0
 Took (goes q) new answer = MatchResult answer (λ ended. (ended ≡ false) × (new ≡ q)) (λ e. e ≡ Memory)
 Took (ends cells) new answer = (answer ≡ Ok true) × (new.cells ≡ cells)

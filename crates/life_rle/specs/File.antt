@@ -20,7 +20,7 @@ use Rattle.life_rle.specs.Record.{Contents}
 abbrev pub front_lines : List (List ℕ) → List (List ℕ)
 front_lines lines = take (position_or_len is_header lines) lines
 
--- the header, and the lines behind it
+-- the header, and the lines after it
 abbrev pub header_lines : List (List ℕ) → List (List ℕ)
 header_lines lines = drop (position_or_len is_header lines) lines
 

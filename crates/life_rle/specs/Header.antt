@@ -28,7 +28,7 @@ rule_part text =
       rule ← after_words (codes ",rule=") text
       Some (Some rule)
 
--- the rule text of a header without blanks, where it has one; nothing where it has not the form
+-- the rule text of a header without blanks, if it has one; nothing if it has not the form
 unfoldable pub header_form : List ℕ → Option (Option (List ℕ))
 header_form text = do
   width ← after_words (codes "x=") text
@@ -41,7 +41,7 @@ header_form text = do
 abbrev pub begins_with_x : List ℕ → Bool
 begins_with_x text = slice_index text 0 == 120 || slice_index text 0 == 88
 
--- the rule text of a form, and a bad header where there is none
+-- the rule text of a form, and a bad header if there is none
 abbrev pub formed : Option (Option (List ℕ)) → Result (Option (List ℕ)) RleFault
 formed (Some rule) = Ok rule
 formed None = Err BadHeader

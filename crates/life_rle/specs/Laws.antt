@@ -20,12 +20,12 @@ use Rattle.life_rle.specs.Writer.{runs_of, item_text, item_texts, laid, pairs_of
 abbrev pub LinesAreTheFile : Type 0
 LinesAreTheFile = (bytes : List ℕ) → (join_with_byte 10 (lines_of bytes) ≡ bytes) × AllByRecursion HasNoLineEnd (lines_of bytes)
 
--- the byte of an item, where it has one
+-- the byte of an item, if it has one
 abbrev pub tag_bytes : Option ℕ → List ℕ
 tag_bytes None = []
 tag_bytes (Some byte) = byte ∷ []
 
--- an item is cut behind its digits: they are digits alone, and its byte is none
+-- an item is cut after its digits: they are digits alone, and its byte is none
 pub record IsCut (item : Item) : Type 0 where
   pub digits : AllByRecursion (λ b. is_ascii_digit b ≡ true) item.digits
   pub tag : AllByRecursion (λ b. is_ascii_digit b ≡ false) (tag_bytes item.tag)
@@ -50,7 +50,7 @@ HeadersGiveTheBox = (r : Contents) (left top : ℤ) (width height : ℕ) → IsR
 
 -- ---- canonical bodies
 
--- the characters of these runs: of each its count, which is left out where it is 1, and its tag
+-- the characters of these runs: of each its count, which is left out if it is 1, and its tag
 abbrev pub spelled_runs : List (ℕ × ℕ) → List ℕ
 spelled_runs runs = flat_map item_text runs
 
@@ -77,7 +77,7 @@ EndInLiveCells (run ∷ next ∷ runs) = (run.1 ≡ 98 → next.1 ≢ 36) × End
 
 -- a body that is canonical, of these cells
 pub record IsCanonical (cells : List (ℕ × ℕ)) (body : List ℕ) : Type 0 where
-  -- it is lines of runs with `!` behind the last, and each line is as full as it can be
+  -- it is lines of runs with `!` after the last, and each line is as full as it can be
   pub lines : List (List (ℕ × ℕ))
   pub runs : List (ℕ × ℕ)
   pub spells : body ≡ flat_map (λ line. spelled_runs line ++ codes "\n") lines
@@ -166,6 +166,6 @@ RecordsAreRead = (bytes : List ℕ) (r : Contents) → kept bytes ≡ Ok r → I
 abbrev pub IsReadAgain : Type 0
 IsReadAgain = (r : Contents) → IsRecord r → IsRule r.rule → IsInside 1024 r.cells → kept (text r) ≡ Ok r
 
--- .. and, where it is not too long for a file, so is the file.
+-- .. and, if it is not too long for a file, so is the file.
 abbrev pub IsFileAgain : Type 0
 IsFileAgain = (r : Contents) → IsRecord r → IsRule r.rule → IsInside 1024 r.cells → length (text r) ≤ 1048576 → file (text r) ≡ Ok r

@@ -12,7 +12,7 @@ abbrev pub read_fault_number : ReadFault → ℕ
 read_fault_number (Rle fault) = fault_number fault
 read_fault_number Unreadable = 12
 
--- where no take failed, the count of failures is as it was; Unreadable is answered where one failed, and then alone
+-- if no take failed, the count of failures is as it was; Unreadable is answered where one failed, and then alone
 abbrev pub ReportsFailures : {X : Type 0} → ℕ → ℕ → Result X ReadFault → Type 0
 ReportsFailures old new (Ok x) = new ≡ old
 ReportsFailures old new (Err (Rle fault)) = new ≡ old
@@ -24,7 +24,7 @@ ReadsBytes bytes (Ok r) = file bytes ≡ Ok r
 ReadsBytes bytes (Err (Rle fault)) = Fails fault (file bytes)
 ReadsBytes bytes (Err Unreadable) = Unit {0}
 
--- the answer is that of the bytes that were to come, where they are told
-abbrev pub ReadsTold : Option (List ℕ) → Result Contents ReadFault → Type 0
-ReadsTold None answer = Unit {0}
-ReadsTold (Some bytes) answer = ReadsBytes bytes answer
+-- the answer is that of the bytes that were to come, where they are known
+abbrev pub ReadsKnown : Option (List ℕ) → Result Contents ReadFault → Type 0
+ReadsKnown None answer = Unit {0}
+ReadsKnown (Some bytes) answer = ReadsBytes bytes answer

@@ -19,19 +19,19 @@ awaited m bytes = resumed m.reader (lines_after m.line.items bytes)
 abbrev pub IsSound : {A : Type 0} → Machine A → Type 0
 IsSound m = (bytes : List ℕ) (r : Contents) → awaited m bytes ≡ Ok r → IsRecord r
 
--- the machine has read so many of the told bytes, and those after them are still to come
+-- the machine has read so many of the known bytes, and those after them are still to come
 abbrev pub Followed : {A : Type 0} → Option (List ℕ) → Option (List ℕ) → Machine A → ℕ → Type 0
 Followed None now machine taken = Unit {0}
 Followed (Some bytes) now machine taken =
     (now ≡ Some (drop taken bytes)) × (taken ≤ length bytes) × ((more : List ℕ) → awaited machine more ≡ kept (take taken bytes ++ more))
 
--- the machine has read all the told bytes, or one more than a file may have
+-- the machine has read all the known bytes, or one more than a file may have
 abbrev pub IsFollowed : {A : Type 0} → Option (List ℕ) → Machine A → ℕ → Type 0
 IsFollowed None machine taken = Unit {0}
 IsFollowed (Some bytes) machine taken =
     (taken ≤ length bytes) × (taken ≤ 1048577) × (taken < 1048577 → taken ≡ length bytes) × ((more : List ℕ) → awaited machine more ≡ kept (take taken bytes ++ more))
 
--- what following the told bytes answers, with the counts of failures before and after it
+-- what following the known bytes answers, with the counts of failures before and after it
 abbrev pub FollowGives : {A : Type 0} → Option (List ℕ) → ℕ → ℕ → Machine A → Result ℕ ReadFault → Type 0
 FollowGives told old new machine (Ok taken) = IsFollowed told machine taken
 FollowGives told old new machine (Err (Rle fault)) = fault ≡ Memory

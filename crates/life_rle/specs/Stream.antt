@@ -1,4 +1,4 @@
--- What a take and a put do to the bytes that a stream tells, and to its count of failures.
+-- What a take and a put do to the known bytes of a stream, and to its count of failures.
 use Rattle.std.specs.Prelude.{◌≡◌, ℕ, zero, suc, ◌+◌, ◌-◌, ◌^◌, ◌<◌, ◌≤◌, ◌⊎◌, min, List, [], ◌++◌, length, take, Option, None, Some, Result, Ok, Err, ⊤, Bool, true, false, IsTrue}
 
 -- the greatest count
@@ -42,31 +42,31 @@ FailsLast old new last = (new ≡ raised old) × IsTrue last
 abbrev pub FailedBetween : ℕ → ℕ → Type 0
 FailedBetween old new = (old < new) ⊎ (new ≡ last_count)
 
--- told bytes begin with these, and lose them
+-- known bytes begin with these, and lose them
 abbrev pub Loses : Option (List ℕ) → Option (List ℕ) → List ℕ → Type 0
 Loses None new bytes = ⊤
 Loses (Some left) None bytes = ⊥
 Loses (Some left) (Some rest) bytes = left ≡ bytes ++ rest
 
--- told bytes lose at most so many
+-- known bytes lose at most so many
 abbrev pub LosesUpTo : ℕ → Option (List ℕ) → Option (List ℕ) → Type 0
 LosesUpTo most old new = (bytes : List ℕ) × (length bytes ≤ most) × Loses old new bytes
 
--- told bytes gain these at their end
+-- known bytes gain these at their end
 abbrev pub Gains : Option (List ℕ) → Option (List ℕ) → List ℕ → Type 0
 Gains None new bytes = ⊤
 Gains (Some put) None bytes = ⊥
 Gains (Some put) (Some all) bytes = all ≡ put ++ bytes
 
--- nothing is left of told bytes
+-- nothing is left of known bytes
 abbrev pub IsEnded : Option (List ℕ) → Type 0
 IsEnded None = ⊤
 IsEnded (Some left) = left ≡ []
 
 -- a take: Ok(k) is the next k bytes, and none into some room is the end; an Err moves none
 abbrev pub Takes : {E : Type 0} → Option (List ℕ) → Option (List ℕ) → Result ℕ E → List ℕ → Type 0
-Takes old new (Ok k) place = Loses old new (take k place) × (k ≡ 0 → 0 < length place → IsEnded old)
-Takes old new (Err e) place = Loses old new []
+Takes old new (Ok k) space = Loses old new (take k space) × (k ≡ 0 → 0 < length space → IsEnded old)
+Takes old new (Err e) space = Loses old new []
 
 -- a put: Ok(k) is the first k bytes; an Err moves none
 abbrev pub Puts : {E : Type 0} → Option (List ℕ) → Option (List ℕ) → Result ℕ E → List ℕ → Type 0

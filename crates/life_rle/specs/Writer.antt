@@ -24,7 +24,7 @@ unfoldable pub runs_of : List ℕ → List (ℕ × ℕ)
 runs_of [] = []
 runs_of (tag ∷ tags) = onto_run tag (runs_of tags)
 
--- the count is left out where it is 1
+-- the count is left out if it is 1
 abbrev pub item_text : ℕ × ℕ → List ℕ
 item_text run = (if run.0 == 1 then [] else decimal run.0) ++ run.1 ∷ []
 
@@ -52,11 +52,11 @@ optional_line letter (Some text) = text_line letter text
 abbrev pub comment_line : List ℕ → List ℕ
 comment_line text = if length text == 0 then codes "#C\n" else text_line 67 text
 
--- one past the greatest column, and 0 where there are no cells
+-- one past the greatest column, and 0 if there are no cells
 abbrev pub width_of : List (ℕ × ℕ) → ℕ
 width_of cells = fold (λ n cell. max n (cell.0 + 1)) 0 cells
 
--- one past the greatest row, and 0 where there are no cells
+-- one past the greatest row, and 0 if there are no cells
 abbrev pub height_of : List (ℕ × ℕ) → ℕ
 height_of cells = fold (λ n cell. max n (cell.1 + 1)) 0 cells
 

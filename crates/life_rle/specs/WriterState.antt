@@ -11,11 +11,11 @@ abbrev pub InOrder : ℕ → ℕ → List (ℕ × ℕ) → Type 0
 InOrder row column [] = Unit {0}
 InOrder row column (cell ∷ cells) = (row ≤ cell.1) × (row ≡ cell.1 → column ≤ cell.0) × InOrder cell.1 (cell.0 + 1) cells
 
--- the items' texts at a place behind this many live cells
+-- the items' texts at a place after this many live cells
 abbrev pub texts_from : ℕ → ℕ → ℕ → List (ℕ × ℕ) → List (List ℕ)
 texts_from live row column cells = map item_text (runs_of (replicate live 111 ++ tags_from row column cells))
 
--- the text of an item of this count, or nothing where it is 0
+-- the text of an item of this count, or nothing if it is 0
 abbrev pub counted : ℕ → ℕ → List (List ℕ)
 counted count tag = if count == 0 then [] else item_text (count, tag) ∷ []
 

@@ -188,7 +188,7 @@ impl<A: Allocator> BodyReader<A> {
         Ok(())
     }
 
-    /// The cells, or the first fault, where nothing is left.
+    /// The cells, or the first fault, if nothing is left.
     #[tactic(auto, unfolding(crate::specs::BodyState::body_from))]
     pub(crate) fn finish(self) -> Result<Runs<A>, RleFault>
         ensures cells { MatchResult result (λ cells. outcome self [] ≡ Ok (map coordinates cells)) (λ e. outcome self [] ≡ Err e) }

@@ -6,7 +6,7 @@ ghost use Rattle.life_rle.specs.HeaderState.{rule_copied};
 
 use crate::fault::RleFault;
 
-/// What follows the words, where the text begins with them in letters of either case.
+/// What follows the words, if the text begins with them in letters of either case.
 fn after_words<'a>(words: &[u8], text: &'a [u8]) -> Option<&'a [u8]>
     ensures { option_copied result ≡ after_words words.now text.now }
 {
@@ -71,7 +71,7 @@ fn header_form(text: &[u8]) -> Option<Option<&[u8]>>
     rule_part(rest)
 }
 
-/// The rule text of a header without its blanks, where it has one.
+/// The rule text of a header without its blanks, if it has one.
 #[tactic(auto, unfolding(crate::specs::Header::header_rule))]
 pub(crate) fn header_rule(text: &[u8]) -> Result<Option<&[u8]>, RleFault>
     ensures { MatchResult result (λ rule. header_rule text.now ≡ Ok (option_copied rule)) (λ e. header_rule text.now ≡ Err e) }

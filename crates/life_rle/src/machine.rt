@@ -3,7 +3,7 @@ ghost use Rattle.std.specs.Prelude.{◌≡◌, ℕ, ◌++◌, ◌∷◌, [], Lis
 ghost use Rattle.life_rle.specs.declared.fault.RleFault.TheVariants.{Memory};
 ghost use Rattle.life_rle.specs.Fault.{Gives};
 ghost use Rattle.life_rle.specs.File.{kept, file};
-ghost use Rattle.life_rle.specs.Machine.{ReadsTold, ReportsFailures};
+ghost use Rattle.life_rle.specs.Machine.{ReadsKnown, ReportsFailures};
 ghost use Rattle.life_rle.specs.MachineState.{IsSound, Followed, FollowGives};
 ghost use Rattle.life_rle.specs.Record.{HasNoLineEnd, IsInside};
 ghost use Rattle.life_rle.specs.Stream.{LosesUpTo, EndsLast, FailedBetween};
@@ -78,7 +78,7 @@ impl<A: Allocator + Copy> Machine<A> {
         Ok(())
     }
 
-    /// What the file is read as, where nothing is left.
+    /// What the file is read as, if nothing is left.
     #[tactic(auto, unfolding(crate::specs::Lines::lines_after))]
     fn finish(self, alloc: A) -> Result<Record<A>, RleFault>
         requires { IsSound self }
@@ -146,7 +146,7 @@ fn follow<A: Allocator + Copy, I: Inlet>(
     requires sound { IsSound machine.old }
     ensures follows { FollowGives (I.to_come inlet.old) (I.failures inlet.old) (I.failures inlet.new) machine.new result }
     ensures sound { OnOk result (IsSound machine.new) }
-    ensures heard { ReportsFailures (I.failures inlet.old) (I.failures inlet.new) result }
+    ensures on_failed_take { ReportsFailures (I.failures inlet.old) (I.failures inlet.new) result }
     ensures few { LosesUpTo MOST_TAKEN (I.to_come inlet.old) (I.to_come inlet.new) }
     ensures end { EndsLast (I.ends inlet.old) (I.ends inlet.new) (I.last_take inlet.new) }
 {
@@ -154,12 +154,12 @@ fn follow<A: Allocator + Copy, I: Inlet>(
     let mut taken = 0;
     while taken < MOST_TAKEN {
         let room = buffer.len().min(MOST_TAKEN - taken);
-        let place = &mut buffer[..room];
-        match inlet.take(place) {
+        let space = &mut buffer[..room];
+        match inlet.take(space) {
             Err(_) => return Err(ReadFault::Unreadable),
             Ok(0) => return Ok(taken),
             Ok(k) => {
-                match machine.take_all(alloc, &place[..k]) {
+                match machine.take_all(alloc, &space[..k]) {
                     Ok(()) => {}
                     Err(fault) => return Err(ReadFault::Rle(fault)),
                 }
@@ -176,12 +176,12 @@ pub fn read_from<A: Allocator + Copy, I: Inlet>(
     alloc: A,
     inlet: &mut I,
 ) -> Result<Record<A>, ReadFault>
-    // Where the bytes are told, they are read as the file that they are, however they were cut.
-    ensures exact { ReadsTold (I.to_come inlet.old) result }
-    // Unreadable comes only where a take failed.
+    // If the bytes are known, they are read as the file that they are, however they were cut.
+    ensures exact { ReadsKnown (I.to_come inlet.old) result }
+    // Unreadable comes only if a take failed.
     ensures unreadable { result ≡ Err ReadFault.Unreadable → FailedBetween (I.failures inlet.old) (I.failures inlet.new) }
     // A take that failed is answered Unreadable at once, and nothing else is.
-    ensures heard { ReportsFailures (I.failures inlet.old) (I.failures inlet.new) result }
+    ensures on_failed_take { ReportsFailures (I.failures inlet.old) (I.failures inlet.new) result }
     // At most 1,048,577 bytes are taken, and none after a take that found the end.
     ensures few { LosesUpTo MOST_TAKEN (I.to_come inlet.old) (I.to_come inlet.new) }
     ensures end { EndsLast (I.ends inlet.old) (I.ends inlet.new) (I.last_take inlet.new) }

@@ -40,11 +40,11 @@ impl<'a> Inlet for SliceInlet<'a> {
 
     ghost ends = { λ s. s.ends };
 
-    fn take(&mut self, place: &mut [u8]) -> Result<usize, Failed> {
+    fn take(&mut self, space: &mut [u8]) -> Result<usize, Failed> {
         self.takes = self.takes.saturating_add(1);
-        let k = self.left.len().min(place.len());
+        let k = self.left.len().min(space.len());
         let (now, later) = self.left.split_at(k);
-        place[..k].copy_from_slice(now);
+        space[..k].copy_from_slice(now);
         self.left = later;
         self.last_take = k;
         self.ends = self.ends.saturating_add(u64::from(k == 0));

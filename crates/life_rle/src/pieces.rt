@@ -67,15 +67,15 @@ impl Inlet for PieceInlet {
 
     ghost ends = { λ s. s.ends };
 
-    fn take(&mut self, place: &mut [u8]) -> Result<usize, Failed>
-        ensures within { IfOk result (λ k. k ≤ length place.new) }
-        ensures bytes { Takes (Some (drop self.old.at self.old.bytes.items)) (Some (drop self.new.at self.new.bytes.items)) result place.new }
+    fn take(&mut self, space: &mut [u8]) -> Result<usize, Failed>
+        ensures within { IfOk result (λ k. k ≤ length space.new) }
+        ensures bytes { Takes (Some (drop self.old.at self.old.bytes.items)) (Some (drop self.new.at self.new.bytes.items)) result space.new }
         ensures made { self.new.calls ≡ raised self.old.calls }
         ensures gave { self.new.last_take ≡ moved result }
         ensures count { self.new.failures ≡ counted self.old.failures result }
         ensures end { self.new.ends ≡ ended self.old.ends result }
         // A piece comes whole, unless less is left or wanted.
-        ensures piece { IfOk result (λ k. k ≡ whole_piece self.old.piece (length (drop self.old.at self.old.bytes.items)) (length place.old)) }
+        ensures piece { IfOk result (λ k. k ≡ whole_piece self.old.piece (length (drop self.old.at self.old.bytes.items)) (length space.old)) }
         // The call of the number fails, and no other.
         ensures fails { FailsAt self.old.fail_at self.new.calls result }
         ensures same_piece { self.new.piece ≡ self.old.piece }
@@ -88,8 +88,8 @@ impl Inlet for PieceInlet {
             return Err(Failed);
         }
         let rest = &self.bytes[self.at..];
-        let k = rest.len().min(place.len()).min(self.piece);
-        place[..k].copy_from_slice(&rest[..k]);
+        let k = rest.len().min(space.len()).min(self.piece);
+        space[..k].copy_from_slice(&rest[..k]);
         self.at += k;
         self.last_take = k;
         self.ends = self.ends.saturating_add(u64::from(k == 0));

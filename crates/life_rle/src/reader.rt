@@ -105,7 +105,7 @@ impl<A: Allocator + Copy> Reader<A> {
         }
     }
 
-    /// Reads a line behind the header.
+    /// Reads a line after the header.
     fn body_line(&mut self, line: &[u8]) -> Result<(), RleFault>
         requires { self.old.stage ≡ Body }
         ensures { MatchResult result (λ _. (lines : List (List ℕ)) → resumed self.new lines ≡ resumed self.old (line.now ∷ lines)) (λ e. e ≡ Memory) }
@@ -155,7 +155,7 @@ impl<A: Allocator + Copy> Reader<A> {
         }
     }
 
-    /// What the file is read as, where no line is left.
+    /// What the file is read as, if no line is left.
     #[tactic(auto, unfolding(crate::specs::File::read_lines, crate::specs::File::after_front))]
     pub(crate) fn finish(self) -> Result<Record<A>, RleFault>
         requires { (r : Contents) → resumed self [] ≡ Ok r → IsRecord r }

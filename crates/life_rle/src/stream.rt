@@ -22,9 +22,9 @@ pub trait Inlet {
     ghost ends: { Self → ℕ };
 
     /// Takes some of the next bytes into the front of `place`.
-    fn take(&mut self, place: &mut [u8]) -> Result<usize, Failed>
-        ensures within { IfOk result (λ k. k ≤ length place.new) }
-        ensures bytes { Takes (to_come self.old) (to_come self.new) result place.new }
+    fn take(&mut self, space: &mut [u8]) -> Result<usize, Failed>
+        ensures within { IfOk result (λ k. k ≤ length space.new) }
+        ensures bytes { Takes (to_come self.old) (to_come self.new) result space.new }
         ensures made { takes self.new ≡ raised (takes self.old) }
         ensures gave { last_take self.new ≡ moved result }
         ensures count { failures self.new ≡ counted (failures self.old) result }
@@ -88,10 +88,10 @@ impl<R: Read> Inlet for FromRead<R> {
 
     ghost ends = { λ s. s.ends };
 
-    fn take(&mut self, place: &mut [u8]) -> Result<usize, Failed> {
+    fn take(&mut self, space: &mut [u8]) -> Result<usize, Failed> {
         self.takes = self.takes.saturating_add(1);
-        match self.reader.read(place) {
-            Ok(k) if k <= place.len() => {
+        match self.reader.read(space) {
+            Ok(k) if k <= space.len() => {
                 self.last_take = k;
                 self.ends = self.ends.saturating_add(u64::from(k == 0));
                 Ok(k)

@@ -94,7 +94,7 @@ impl<A: Allocator + Copy> ItemLines<A> {
         Ok(())
     }
 
-    /// Lays the item of this count, where the count is not 0.
+    /// Lays the item of this count, if the count is not 0.
     fn item(&mut self, count: u64, tag: u8) -> Result<(), AllocError>
         ensures { OnOk result ((items : List (List ℕ)) → written self.new items ≡ written self.old (counted count tag ++ items)) }
     {

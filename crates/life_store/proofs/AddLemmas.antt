@@ -26,16 +26,16 @@ use Rattle.sqlite.specs.declared.error.Error.{Error}
 use Rattle.life_core.specs.RuleText.{rule_text}
 use Rattle.life_rle.specs.Writer.{text}
 use Rattle.life_store.specs.declared.kept.Deposit.{Deposit}
-use Rattle.life_store.specs.AskingState.{IsSeenAgain}
+use Rattle.life_store.specs.ExecutingState.{IsSeenAgain}
 use Rattle.life_store.specs.Kept.{Kept}
 use Rattle.life_store.specs.Layout.{archive_schema, deposits_table}
 use Rattle.life_store.specs.StatementsState.{add_deposit_text, deposit_terms}
 use Rattle.life_store.specs.Stored.{IsFiled, rows_by, deposit_cells}
 use Rattle.life_store.specs.DepositsState.{AreValuesOf, HoldNewDeposit}
-use Rattle.life_store.specs.Tables.{Tables, tables_in, tables_of, Holds, TreesHold, HoldChanged, WasSure, HoldsTheSame, ForAllHeld}
+use Rattle.life_store.specs.Tables.{Tables, tables_in, tables_of, Holds, TreesHold, HoldChanged, WasHealthy, HoldsTheSame, ForAllHeld}
 use Rattle.life_store.proofs.Texts.{add_deposit_is}
 use Rattle.life_store.proofs.CrashLemmas.{commits_as}
-use Rattle.life_store.proofs.KeepLemmas.{sure_is, stays_lost, keeps_seen, open_before, trees_hold}
+use Rattle.life_store.proofs.KeepLemmas.{healthy_is, stays_lost, keeps_seen, open_before, trees_hold}
 use Rattle.life_store.proofs.InsertLemmas.{inserted}
 use Rattle.life_store.proofs.RowLemmas.{put_at_end}
 
@@ -93,7 +93,7 @@ adds : (old new : State) (k : Kept) (d : Deposit) (id count : ℕ) → id ≡ 1 
     → Holds (tables_of new) (record k { deposits = k.deposits ++ d ∷ [] })
 adds old new k d id count is few filed holds h =
     let w = runs_as add_deposit_text (given_as id d) old new archive_schema holds.schema (Insert 1 (Values deposit_terms 7)) add_deposit_is.command add_deposit_is.plain count h in
-    made old k d id is few filed holds w.tally new.now w.changed (tables_of new).is_sure (tables_of new).faults new.in_transaction (w.shown.mode ∙ holds.committed)
+    made old k d id is few filed holds w.tally new.now w.changed (tables_of new).is_healthy (tables_of new).faults new.in_transaction (w.shown.mode ∙ holds.committed)
 
 module _ (old new : State) (clean : doubt old.is_clean ≤ doubt new.is_clean) (d : Deposit) (id : ℤ) (fits : FitsSigned w64 id) (rule : List ℕ) (population : ℤ) (file : List ℕ) (are : AreValuesOf d rule population file) where
   abbrev Ran : Result ℕ Error → Type 0
@@ -121,12 +121,12 @@ module _ (old new : State) (clean : doubt old.is_clean ≤ doubt new.is_clean) (
       let it = made old k d n next (fits_as n is) are.filed holds w.1 w.2 w.3 true 0 false refl in
       subst (λ trees. TreesHold trees (record k { deposits = k.deposits ++ d ∷ [] })) (sym w.5) (trees_hold w.2 _ w.4 it)
 
-  pub lost : (r : Result ℕ Error) → Ran r → (HasCleanDisk new → OnErr r (IsSeenAgain old new)) → WasSure (tables_of old) (tables_of new)
+  pub lost : (r : Result ℕ Error) → Ran r → (HasCleanDisk new → OnErr r (IsSeenAgain old new)) → WasHealthy (tables_of old) (tables_of new)
   lost (Ok count) ran seen = stays_lost old new clean (λ now up. open_before add_deposit_text _ old new count up (ran now))
   lost (Err e) ran seen = stays_lost old new clean (λ now up. (seen now).was_open up)
 
-  pub ok : (r : Result ℕ Error) → Ran r → OnOk r ((k : Kept) → IsTrue (tables_of new).is_sure → Holds (tables_of old) k → id ≡ pos (length k.deposits + 1) → Holds (tables_of new) (record k { deposits = k.deposits ++ d ∷ [] }))
-  ok (Ok count) ran = λ k sure holds is. added count k (length k.deposits + 1) is refl holds (ran (sure_is new sure).0)
+  pub ok : (r : Result ℕ Error) → Ran r → OnOk r ((k : Kept) → IsTrue (tables_of new).is_healthy → Holds (tables_of old) k → id ≡ pos (length k.deposits + 1) → Holds (tables_of new) (record k { deposits = k.deposits ++ d ∷ [] }))
+  ok (Ok count) ran = λ k healthy holds is. added count k (length k.deposits + 1) is refl holds (ran (healthy_is new healthy).0)
   ok (Err e) ran = tt
 
   pub err : (r : Result ℕ Error) → (HasCleanDisk new → OnErr r (IsSeenAgain old new)) → OnErr r (HoldsTheSame (tables_of old) (tables_of new))
@@ -134,7 +134,7 @@ module _ (old new : State) (clean : doubt old.is_clean ≤ doubt new.is_clean) (
   err (Err e) seen = keeps_seen old new clean seen
 
 -- what a crash may leave of it, where the number was asked for first
-pub asked_first : (old mid : Tables) (n : ℕ) (id : ℤ) (d : Deposit) (db : Trees) → id ≡ pos (n + 1) → IsTrue mid.is_sure → WasSure old mid → HoldsTheSame old mid → ForAllHeld old mid (λ k. n ≡ length k.deposits)
+pub asked_first : (old mid : Tables) (n : ℕ) (id : ℤ) (d : Deposit) (db : Trees) → id ≡ pos (n + 1) → IsTrue mid.is_healthy → WasHealthy old mid → HoldsTheSame old mid → ForAllHeld old mid (λ k. n ≡ length k.deposits)
     → HoldNewDeposit mid id d db → HoldChanged old (λ k. record k { deposits = k.deposits ++ d ∷ [] }) db
-asked_first old mid n id d db place sure was same counted h =
-    (was sure, λ k holds. h k (same k sure holds) (place ∙ ap (λ (m : ℕ). pos (m + 1)) (counted k sure holds)))
+asked_first old mid n id d db rowid healthy was same counted h =
+    (was healthy, λ k holds. h k (same k healthy holds) (rowid ∙ ap (λ (m : ℕ). pos (m + 1)) (counted k healthy holds)))

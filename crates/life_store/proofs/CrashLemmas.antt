@@ -66,9 +66,9 @@ returns_none schema base (written.Select s) is = refl
 returns_none schema base _ is = absurd cc
 
 module _ (schema : Schema) where
-  means_none : (p : Parsed) (base : ℕ) (found : Command × Option Returning) → is_query p.statement ≡ true → meaning schema p base ≡ Ok found → found.1 ≡ None
+  represents_none : (p : Parsed) (base : ℕ) (found : Command × Option Returning) → is_query p.statement ≡ true → meaning schema p base ≡ Ok found → found.1 ≡ None
   unfolding meaning
-  means_none p base found is means =
+  represents_none p base found is means =
       let f : Command → Option Returning → Checked (Command × Option Returning) = λ c shown. Ok (c, shown) in
       let bare = subst (λ r. and_then r (λ shown. and_then (command schema p.formats base p.statement) (λ c. f c shown)) ≡ Ok found) (returns_none schema base p.statement is) means in
       let it = parts (command schema p.formats base p.statement) (λ c. f c None) found bare in
@@ -81,7 +81,7 @@ module _ (schema : Schema) where
       let formats = timed schema p.formats p.statement in
       let it = parts (meaning schema p (small p.names + small formats)) (λ found. Ok (formats, found)) plan plans in
       let same : plan ≡ (formats, it.0) = let e = it.2 in cc in
-      ap (λ (x : List Name × (Command × Option Returning)). x.1.1) same ∙ means_none p (small p.names + small formats) it.0 is it.1
+      ap (λ (x : List Name × (Command × Option Returning)). x.1.1) same ∙ represents_none p (small p.names + small formats) it.0 is it.1
 
   compiles_none : (sql : List ℕ) (c : Compiled) → IsQueryText sql → compiled schema sql ≡ Ok c → c.returning ≡ None
   unfolding compiled
@@ -123,7 +123,7 @@ asks_nothing g old new sql params is it = record {
 
 module _ (sql : List ℕ) (params : Row) (s : State) (schema : Schema) (has : s.now.schema ≡ schema) (at : ℕ) (from : Source) (is : command_of (understood schema sql) ≡ Insert at from)
     (plain : IsPlain (understood schema sql)) where
-  not_ended : (made : Command) (P : Type 0) → made ≡ Insert at from → (made ≡ Commit) ⊎ ((name : List ℕ) × (place : ℕ) × (made ≡ Release name) × IsNewestNamed (names_in s) name place × IsTrue (begins_at s place)) → P
+  not_ended : (made : Command) (P : Type 0) → made ≡ Insert at from → (made ≡ Commit) ⊎ ((name : List ℕ) × (rowid : ℕ) × (made ≡ Release name) × IsNewestNamed (names_in s) name rowid × IsTrue (begins_at s rowid)) → P
   not_ended made P is (inl ends) = absurd cc
   not_ended made P is (inr ends) = absurd (let e = ends.2 in cc)
 

@@ -19,11 +19,11 @@ use Rattle.sqlite.specs.Listing.{understood}
 use Rattle.sqlite.specs.State.{State, HasCleanDisk, IsUnchanged, IsNotRun, KeepsCommit, RunsCommand, Runs, ReleasesAt, text_of, Executes, ExecutesIn, shows_rows, FailsToQuery, FailsToShow, Shown, ShowsRows}
 use Rattle.sqlite.proofs.Callers.{IsPlain}
 use Rattle.sqlite_schema.specs.declared.schema.Schema.{Schema}
-use Rattle.life_store.specs.Carrying.{HoldsFirst}
+use Rattle.life_store.specs.Migration.{HoldsFirst}
 use Rattle.life_store.specs.Layout.{archive_schema}
-use Rattle.life_store.specs.AskingState.{IsUndone, IsSeenAgain}
+use Rattle.life_store.specs.ExecutingState.{IsUndone, IsSeenAgain}
 use Rattle.life_store.specs.Kept.{Kept}
-use Rattle.life_store.specs.Tables.{tables_in, tables_of, Holds, TreesHold, WasSure, HoldsTheSame, ForAllHeld}
+use Rattle.life_store.specs.Tables.{tables_in, tables_of, Holds, TreesHold, WasHealthy, HoldsTheSame, ForAllHeld}
 
 not_run : (old new : State) (sql : List ℕ) (params : Row) (e : Error) → IsNotRun old new sql params e → IsUndone old new
 unfolding IsNotRun
@@ -187,13 +187,13 @@ unfolding doubt
 is_clean true e = refl
 is_clean false e = absurd (omega (arith, e))
 
-pub sure_is : (s : State) → IsTrue (tables_of s).is_sure → HasCleanDisk s × IsTrue s.is_open
-sure_is s h = let it = both s.is_clean s.is_open h in (clean_is s.is_clean it.0, it.1)
+pub healthy_is : (s : State) → IsTrue (tables_of s).is_healthy → HasCleanDisk s × IsTrue s.is_open
+healthy_is s h = let it = both s.is_clean s.is_open h in (clean_is s.is_clean it.0, it.1)
 
-pub sure_from : (s : State) → HasCleanDisk s → IsTrue s.is_open → IsTrue (tables_of s).is_sure
-sure_from s clean up = ap₂ ◌&&◌ (is_clean s.is_clean clean) up
+pub healthy_from : (s : State) → HasCleanDisk s → IsTrue s.is_open → IsTrue (tables_of s).is_healthy
+healthy_from s clean up = ap₂ ◌&&◌ (is_clean s.is_clean clean) up
 
--- whether the database is sure plays no part in what its tables hold
+-- whether the database is healthy plays no part in what its tables hold
 pub held_as : (b c : Bool) (m n : ℕ) (was is : Bool) (db : Database) (k : Kept) → (was ≡ false → is ≡ false) → Holds (tables_in b m was db) k → Holds (tables_in c n is db) k
 held_as b c m n was is db k none h = record {
   schema = h.schema;
@@ -211,10 +211,10 @@ held_as b c m n was is db k none h = record {
 
 pub held_again : (old new : State) (k : Kept) → (old.in_transaction ≡ false → new.in_transaction ≡ false) → new.now ≡ old.now → Holds (tables_of old) k → Holds (tables_of new) k
 held_again old new k none same h =
-    subst (λ (d : Database). Holds (tables_in (tables_of new).is_sure (tables_of new).faults new.in_transaction d) k) (sym same)
-    (held_as (tables_of old).is_sure (tables_of new).is_sure (tables_of old).faults (tables_of new).faults old.in_transaction new.in_transaction old.now k none h)
+    subst (λ (d : Database). Holds (tables_in (tables_of new).is_healthy (tables_of new).faults new.in_transaction d) k) (sym same)
+    (held_as (tables_of old).is_healthy (tables_of new).is_healthy (tables_of old).faults (tables_of new).faults old.in_transaction new.in_transaction old.now k none h)
 
--- trees that are committed hold what their tables stand for
+-- trees that are committed hold what their tables represent
 pub trees_hold : (db : Database) (k : Kept) → IsDatabase db → Holds (tables_in true 0 false db) k → TreesHold db.trees k
 trees_hold db k sound h = record {
   sound = subst (λ s. IsSound s db.trees) h.schema sound;
@@ -249,25 +249,25 @@ first_held_as b c m n was is db k h = record {
 
 pub first_held_again : (old new : State) (k : Kept) → new.now ≡ old.now → HoldsFirst (tables_of old) k → HoldsFirst (tables_of new) k
 first_held_again old new k same h =
-    subst (λ (d : Database). HoldsFirst (tables_in (tables_of new).is_sure (tables_of new).faults new.in_transaction d) k) (sym same)
-    (first_held_as (tables_of old).is_sure (tables_of new).is_sure (tables_of old).faults (tables_of new).faults old.in_transaction new.in_transaction old.now k h)
+    subst (λ (d : Database). HoldsFirst (tables_in (tables_of new).is_healthy (tables_of new).faults new.in_transaction d) k) (sym same)
+    (first_held_as (tables_of old).is_healthy (tables_of new).is_healthy (tables_of old).faults (tables_of new).faults old.in_transaction new.in_transaction old.now k h)
 
 -- a query leaves what it saw
 pub seen_same : (sql : List ℕ) (params : Row) (schema : Schema) (old new : State) → IsPlain (understood schema sql) → (r : Answered) → (HasCleanDisk new → IfOk r (λ rows. Shown sql params old new rows.items)) → (HasCleanDisk new → OnErr r (IsSeenAgain old new))
-    → IsTrue (tables_of new).is_sure → old.now.schema ≡ schema → new.now ≡ old.now
-seen_same sql params schema old new plain (Ok rows) shown seen sure is =
-    (shown_unchanged sql params old new rows.items (subst (λ s. IsPlain (understood s sql)) (sym is) plain) (shown (sure_is new sure).0)).0.now_is
-seen_same sql params schema old new plain (Err e) shown seen sure is = let now = sure_is new sure in (seen now.0).now_is now.1
+    → IsTrue (tables_of new).is_healthy → old.now.schema ≡ schema → new.now ≡ old.now
+seen_same sql params schema old new plain (Ok rows) shown seen healthy is =
+    (shown_unchanged sql params old new rows.items (subst (λ s. IsPlain (understood s sql)) (sym is) plain) (shown (healthy_is new healthy).0)).0.now_is
+seen_same sql params schema old new plain (Err e) shown seen healthy is = let now = healthy_is new healthy in (seen now.0).now_is now.1
 
 module _ (old new : State) (clean : doubt old.is_clean ≤ doubt new.is_clean) where
-  pub stays_lost : (HasCleanDisk new → IsTrue new.is_open → IsTrue old.is_open) → WasSure (tables_of old) (tables_of new)
-  stays_lost was sure =
-      let now = sure_is new sure in
+  pub stays_lost : (HasCleanDisk new → IsTrue new.is_open → IsTrue old.is_open) → WasHealthy (tables_of old) (tables_of new)
+  stays_lost was healthy =
+      let now = healthy_is new healthy in
       let still : HasCleanDisk old = omega (arith, clean, now.0) in
-      sure_from old still (was now.0 now.1)
+      healthy_from old still (was now.0 now.1)
 
   pub keeps_seen : (HasCleanDisk new → IsSeenAgain old new) → HoldsTheSame (tables_of old) (tables_of new)
-  keeps_seen seen k sure holds = let now = sure_is new sure in held_again old new k (seen now.0).mode ((seen now.0).now_is now.1) holds
+  keeps_seen seen k healthy holds = let now = healthy_is new healthy in held_again old new k (seen now.0).mode ((seen now.0).now_is now.1) holds
 
   module _ (sql : List ℕ) (params : Row) (plain : IsPlain (understood archive_schema sql)) where
     was_up : (r : Answered) → IfOk r (λ rows. Shown sql params old new rows.items) → OnErr r (IsSeenAgain old new) → IsTrue new.is_open → IsTrue old.is_open
@@ -282,25 +282,25 @@ module _ (old new : State) (clean : doubt old.is_clean ≤ doubt new.is_clean) w
     same_mode (Ok rows) k holds shown seen none = (shown_unchanged sql params old new rows.items (subst (λ s. IsPlain (understood s sql)) (sym holds.schema) plain) shown).0.mode ∙ none
     same_mode (Err e) k holds shown seen none = seen.mode none
 
-    pub lost_asked : (r : Answered) → (HasCleanDisk new → IfOk r (λ rows. Shown sql params old new rows.items)) → (HasCleanDisk new → OnErr r (IsSeenAgain old new)) → WasSure (tables_of old) (tables_of new)
+    pub lost_asked : (r : Answered) → (HasCleanDisk new → IfOk r (λ rows. Shown sql params old new rows.items)) → (HasCleanDisk new → OnErr r (IsSeenAgain old new)) → WasHealthy (tables_of old) (tables_of new)
     lost_asked r shown seen = stays_lost (λ now up. was_up r (shown now) (seen now) up)
 
     pub keeps_asked : (r : Answered) → (HasCleanDisk new → IfOk r (λ rows. Shown sql params old new rows.items)) → (HasCleanDisk new → OnErr r (IsSeenAgain old new)) → HoldsTheSame (tables_of old) (tables_of new)
-    keeps_asked r shown seen k sure holds = let now = sure_is new sure in held_again old new k (same_mode r k holds (shown now.0) (seen now.0)) (same_now r k holds (shown now.0) (seen now.0) now.1) holds
+    keeps_asked r shown seen k healthy holds = let now = healthy_is new healthy in held_again old new k (same_mode r k holds (shown now.0) (seen now.0)) (same_now r k holds (shown now.0) (seen now.0) now.1) holds
 
-pub was_clean : (old new : State) → doubt old.is_clean ≤ doubt new.is_clean → IsTrue (tables_of new).is_sure → HasCleanDisk old
-was_clean old new clean sure = let now = (sure_is new sure).0 in omega (arith, clean, now)
+pub was_clean : (old new : State) → doubt old.is_clean ≤ doubt new.is_clean → IsTrue (tables_of new).is_healthy → HasCleanDisk old
+was_clean old new clean healthy = let now = (healthy_is new healthy).0 in omega (arith, clean, now)
 
--- what a query tells that was asked over sure tables
+-- what a query tells that was asked over healthy tables
 pub told : (s : State) (sql : List ℕ) (params : Row) (old : State) (Q : List Row → Type 0) (r : Answered) → ((rows : List Row) → Shown sql params old s rows → Q rows)
-    → (HasCleanDisk s → IfOk r (λ rows. Shown sql params old s rows.items)) → IsTrue (tables_of s).is_sure → IfOk r (λ rows. Q rows.items)
-told s sql params old Q (Ok rows) tells shown sure = tells rows.items (shown (sure_is s sure).0)
-told s sql params old Q (Err e) tells shown sure = tt
+    → (HasCleanDisk s → IfOk r (λ rows. Shown sql params old s rows.items)) → IsTrue (tables_of s).is_healthy → IfOk r (λ rows. Q rows.items)
+told s sql params old Q (Ok rows) tells shown healthy = tells rows.items (shown (healthy_is s healthy).0)
+told s sql params old Q (Err e) tells shown healthy = tt
 
 -- what the answer to a query shows of what the tables hold
 pub tells_held : (sql : List ℕ) (params : Row) (old new : State) (Q : Kept → List Row → Type 0) → ((k : Kept) (rows : List Row) → Holds (tables_of old) k → Shown sql params old new rows → Q k rows) → (r : Answered)
     → (HasCleanDisk new → IfOk r (λ rows. Shown sql params old new rows.items)) → ForAllHeld (tables_of old) (tables_of new) (λ k. IfOk r (λ rows. Q k rows.items))
-tells_held sql params old new Q tells r shown k sure holds = told new sql params old (Q k) r (λ rows. tells k rows holds) shown sure
+tells_held sql params old new Q tells r shown k healthy holds = told new sql params old (Q k) r (λ rows. tells k rows holds) shown healthy
 
 -- the same of a query with one number
 pub tells_held_at : (sql : List ℕ) (id : ℤ) (n : ℕ) → id ≡ pos n → (old new : State) (Q : Kept → List Row → Type 0) → ((k : Kept) (rows : List Row) → Holds (tables_of old) k → Shown sql (Int (pos n) ∷ []) old new rows → Q k rows) → (r : Answered)

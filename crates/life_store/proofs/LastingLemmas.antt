@@ -1,4 +1,4 @@
--- How long a database that is sure stays sure.
+-- How long a database that is healthy stays healthy.
 use Rattle.std.proofs.Common.{arith, ◌≡◌, ◌≤◌, ◌+◌, ◌-◌, ◌^◌, ◌⊎◌, inl, inr, ℕ, Bool, true, false, refl, sym, subst, ◌∙◌, min}
 use Rattle.sqlite_trees.specs.Tree.{Trees}
 use Rattle.sqlite_trees.specs.View.{doubt, IsClean}
@@ -6,15 +6,15 @@ use Rattle.sqlite.specs.State.{State, Survives}
 use Rattle.sqlite_trees.specs.declared.store.Store.{Ghosts}
 use Rattle.sqlite.specs.Held.{Held, state}
 use Rattle.life_store.specs.Crash.{NoMore}
-use Rattle.life_store.specs.Tables.{Tables, ArchiveView, tables_of, StaysSure, IsTransition}
+use Rattle.life_store.specs.Tables.{Tables, ArchiveView, tables_of, StaysHealthy, IsTransition}
 use Rattle.life_store.proofs.CrashLemmas.{crash_none, crash_both}
-use Rattle.life_store.proofs.KeepLemmas.{sure_is, sure_from}
+use Rattle.life_store.proofs.KeepLemmas.{healthy_is, healthy_from}
 
-lasts_same : (old new : Tables) → new.faults ≡ old.faults → new.is_sure ≡ old.is_sure → StaysSure old new
-unfolding StaysSure
-lasts_same old new faults same = record { faults = omega (arith, faults); is_sure = λ sure. inl (same ∙ sure) }
+lasts_same : (old new : Tables) → new.faults ≡ old.faults → new.is_healthy ≡ old.is_healthy → StaysHealthy old new
+unfolding StaysHealthy
+lasts_same old new faults same = record { faults = omega (arith, faults); is_healthy = λ healthy. inl (same ∙ healthy) }
 
-pub lasts_none : (t : Tables) → StaysSure t t
+pub lasts_none : (t : Tables) → StaysHealthy t t
 lasts_none t = lasts_same t t refl refl
 
 more_later : (a b c top : ℕ) → min (a + 1) top ≤ b → b ≤ c → min (a + 1) top ≤ c
@@ -23,12 +23,12 @@ more_later a b c top more later = omega (arith, more, later)
 more_before : (a b c top : ℕ) → a ≤ b → min (b + 1) top ≤ c → min (a + 1) top ≤ c
 more_before a b c top later more = omega (arith, more, later)
 
-pub lasts_then : (a b c : Tables) → StaysSure a b → StaysSure b c → StaysSure a c
-unfolding StaysSure
+pub lasts_then : (a b c : Tables) → StaysHealthy a b → StaysHealthy b c → StaysHealthy a c
+unfolding StaysHealthy
 lasts_then a b c first second = record {
   faults = omega (arith, first.faults, second.faults);
-  is_sure = λ sure. elim (first.is_sure sure) [
-    | inl still ↦ elim (second.is_sure still) [
+  is_healthy = λ healthy. elim (first.is_healthy healthy) [
+    | inl still ↦ elim (second.is_healthy still) [
       | inl last ↦ inl last
       | inr more ↦ inr (more_before a.faults b.faults c.faults (2 ^ 64 - 1) first.faults more)
     ]
@@ -47,15 +47,15 @@ count_in_doubt a b m n top later was is = omega (arith, later, was, is)
 count_clean : (a b m n top : ℕ) → min (a + 1) top ≤ b → m ≡ 0 → n ≡ 0 → min (a + m + 1) top ≤ b + n
 count_clean a b m n top more was is = omega (arith, more, was, is)
 
-pub lasts_by : (old new : State) (Commits : Trees → Type 0) → Survives old new Commits → StaysSure (tables_of old) (tables_of new)
-unfolding StaysSure
+pub lasts_by : (old new : State) (Commits : Trees → Type 0) → Survives old new Commits → StaysHealthy (tables_of old) (tables_of new)
+unfolding StaysHealthy
 lasts_by old new Commits it = record {
   faults = omega (arith, it.counts, it.clean);
-  is_sure = λ sure.
-      let was = sure_is old sure in
+  is_healthy = λ healthy.
+      let was = healthy_is old healthy in
       elim (clean_or_not new.is_clean) [
         | inl clean ↦ elim (it.closes clean was.1) [
-          | inl up ↦ inl (sure_from new clean up)
+          | inl up ↦ inl (healthy_from new clean up)
           | inr more ↦ inr (count_clean old.faults new.faults (doubt old.is_clean) (doubt new.is_clean) (2 ^ 64 - 1) more was.0 clean)
         ]
         | inr dirty ↦ inr (count_in_doubt old.faults new.faults (doubt old.is_clean) (doubt new.is_clean) (2 ^ 64 - 1) it.counts was.0 dirty)
@@ -63,19 +63,19 @@ lasts_by old new Commits it = record {
 }
 
 -- a transaction that begins
-pub lasts_begun : {S : Type 0} (g : Ghosts S) (old new : Held S) → new ≡ record old { in_transaction = true } → StaysSure (tables_of (state g old)) (tables_of (state g new))
+pub lasts_begun : {S : Type 0} (g : Ghosts S) (old new : Held S) → new ≡ record old { in_transaction = true } → StaysHealthy (tables_of (state g old)) (tables_of (state g new))
 lasts_begun {S} g old new is =
-    subst (λ (h : Held S). StaysSure (tables_of (state g old)) (tables_of (state g h))) (sym is)
+    subst (λ (h : Held S). StaysHealthy (tables_of (state g old)) (tables_of (state g h))) (sym is)
     (lasts_same (tables_of (state g old)) (tables_of (state g (record old { in_transaction = true }))) refl refl)
 
 pub goes_none : {S : Type 0} {g : Ghosts S} {Adds : Trees → Type 0} → (s : ArchiveView S) → IsTransition g Adds s s
-goes_none s = record { was_sure = λ sure. sure; lasts = lasts_none s.tables; capacity = refl; crash = crash_none s.store }
+goes_none s = record { was_healthy = λ healthy. healthy; lasts = lasts_none s.tables; capacity = refl; crash = crash_none s.store }
 
 -- what two calls add is said of the tables before the first
 pub goes_both : {S : Type 0} {g : Ghosts S} {First Last Adds : Trees → Type 0} (a b c : ArchiveView S) → ((db : Trees) → First db → Adds db) → (IsClean (g.view b.store) → (db : Trees) → Last db → Adds db)
     → IsTransition g First a b → IsTransition g Last b c → IsTransition g Adds a c
 goes_both a b c one two first second = record {
-  was_sure = λ sure. first.was_sure (second.was_sure sure);
+  was_healthy = λ healthy. first.was_healthy (second.was_healthy healthy);
   lasts = lasts_then a.tables b.tables c.tables first.lasts second.lasts;
   capacity = second.capacity ∙ first.capacity;
   crash = crash_both a.store b.store c.store one two first.crash second.crash;

@@ -21,14 +21,14 @@ use Rattle.sqlite.proofs.Theorems.{opens_again}
 use Rattle.life_store.specs.Kept.{Kept}
 use Rattle.life_store.specs.Opening.{LeftHold, AreLeftOf}
 use Rattle.life_store.specs.Tables.{Tables, TreesHold, tables_of}
-use Rattle.life_store.proofs.KeepLemmas.{sure_is}
+use Rattle.life_store.proofs.KeepLemmas.{healthy_is}
 
 pub same_store : {D : Type 0} {g : Ghosts D} (a b : FileStore D g) (db : Trees) → a ≡ b → recovers a db → recovers b db
 same_store {D} {g} a b db is may = subst (λ (s : FileStore D g). recovers s db) is may
 
-pub open_store : {D : Type 0} {g : Ghosts D} (conn : Held (FileStore D g)) (t : Tables) (s : FileStore D g) → tables_of (file_state conn) ≡ t → conn.store ≡ s → IsTrue t.is_sure → IsTrue (view s).is_open
-open_store {D} {g} conn t s tables store sure =
-    subst (λ (x : FileStore D g). IsTrue (view x).is_open) store (sure_is (file_state conn) (subst (λ (x : Tables). IsTrue x.is_sure) (sym tables) sure)).1
+pub open_store : {D : Type 0} {g : Ghosts D} (conn : Held (FileStore D g)) (t : Tables) (s : FileStore D g) → tables_of (file_state conn) ≡ t → conn.store ≡ s → IsTrue t.is_healthy → IsTrue (view s).is_open
+open_store {D} {g} conn t s tables store healthy =
+    subst (λ (x : FileStore D g). IsTrue (view x).is_open) store (healthy_is (file_state conn) (subst (λ (x : Tables). IsTrue x.is_healthy) (sym tables) healthy)).1
 
 -- a disk that is clean at the end was clean
 pub left_honest : {D : Type 0} {g : Ghosts D} (conn was last : FileStore D g) (files : Files D) → (files.log, files.db) ≡ shown.files last → conn ≡ was → doubt (view conn).is_clean ≤ doubt (view last).is_clean → AreClean g files.log files.db
@@ -42,9 +42,9 @@ module _ {D : Type 0} {g : Ghosts D} (was last : FileStore D g) (files : Files D
   pub left_allowed : (files.log, files.db) ≡ shown.files last → (IsClean (view last) → IsTrue (view last).is_numbered) → (IsClean (view last) → AreDatabases (recovers last)) → ((db : Trees) → recovers last db → recovers was db)
       → AreLeftOf was files
   left_allowed is numbered sound fewer clean image may =
-      let sure_now : AreClean g (shown.files last).0 (shown.files last).1 = subst (λ p. AreClean g p.0 p.1) is clean in
-      let none : IsClean (view last) = no_doubt _ (clean_is last.pool ∙ sure_now) in
-      ∥∥₁_map (opens_again last (numbered none) (sound none) image (may_leave_is last.pool image sure_now (subst (λ p. outcomes g p.0 p.1 image) is may)))
+      let healthy_now : AreClean g (shown.files last).0 (shown.files last).1 = subst (λ p. AreClean g p.0 p.1) is clean in
+      let none : IsClean (view last) = no_doubt _ (clean_is last.pool ∙ healthy_now) in
+      ∥∥₁_map (opens_again last (numbered none) (sound none) image (may_leave_is last.pool image healthy_now (subst (λ p. outcomes g p.0 p.1 image) is may)))
       (λ found. let r : (db : Trees) × recovers was db × HoldsDatabase image db = (found.0, fewer found.0 found.1, found.2) in r)
 
   pub left_held : (k : Kept) → SeenMayStay g → IsTrue (view was).is_open → ((db : Trees) → recovers was db → TreesHold db k) → AreLeftOf was files → AreClean g files.log files.db → LeftHold g files k

@@ -6,7 +6,7 @@ pub mod StatementLemmas
 pub mod QueryLemmas
 pub mod InsertLemmas
 pub mod RowLemmas
-pub mod PickLemmas
+pub mod SelectLemmas
 pub mod DepositQueries
 pub mod AddLemmas
 pub mod ListLemmas
@@ -17,9 +17,9 @@ pub mod CensusLemmas
 pub mod TotalLemmas
 pub mod JoinLemmas
 pub mod SumLemmas
-pub mod LayLemmas
+pub mod CreatingLemmas
 pub mod LeftLemmas
 pub mod UpdateLemmas
-pub mod CarryLemmas
+pub mod MigrationLemmas
 pub mod BlankLemmas
-pub mod MeaningLemmas
+pub mod RepresentingLemmas

@@ -19,13 +19,13 @@ use Rattle.sqlite.specs.Listing.{understood}
 use Rattle.sqlite.proofs.Callers.{IsPlain, reads_as}
 use Rattle.sqlite_tied.specs.Compute.{everything}
 use Rattle.life_store.specs.Kept.{Kept}
-use Rattle.life_store.specs.LayingState.{IsNewArchive}
+use Rattle.life_store.specs.CreatingState.{IsNewArchive}
 use Rattle.life_store.specs.Layout.{first_schema, archive_schema, no_schema}
 use Rattle.life_store.specs.Opening.{nothing_kept, versions_in, IsLayout}
 use Rattle.life_store.specs.OpeningState.{HaveVersions, has_table, has_some, column_of, version_shown, version_with, rows_of_version, schema_of}
 use Rattle.life_store.specs.declared.opening.Version.{Version}
-use Rattle.life_store.specs.Carrying.{HoldsFirst}
-use Rattle.life_store.specs.PickingState.{picked}
+use Rattle.life_store.specs.Migration.{HoldsFirst}
+use Rattle.life_store.specs.SelectingState.{picked}
 use Rattle.life_store.specs.StatementsState as st
 use Rattle.life_store.specs.Tables.{Tables, tables_of, Holds}
 use Rattle.life_store.proofs.Texts.{IsQueryOver, version_is, first_version_is}
@@ -93,13 +93,13 @@ none_stands = refl
 
 pub new_holds : (s : State) → s.in_transaction ≡ false → IsNewArchive s.now → Holds (tables_of s) nothing_kept
 new_holds s none new = record {
-  schema = new.laid.is;
+  schema = new.has_tables.is;
   committed = none;
   layout = new.version;
-  deposits = new.laid.none.0;
-  censuses = new.laid.none.1.0;
-  census_rows = new.laid.none.1.1.0;
-  census_flags = new.laid.none.1.1.1.0;
+  deposits = new.has_tables.none.0;
+  censuses = new.has_tables.none.1.0;
+  census_rows = new.has_tables.none.1.1.0;
+  census_flags = new.has_tables.none.1.1.1.0;
   filed = tt;
   ordered = tt;
   few_deposits = omega arith;
@@ -138,7 +138,7 @@ layout_stands schema own (inr first) = ap (λ (s : Schema). has_table s.tables s
 pub stands_not : (s schema : Schema) (own : List Value) → IsLayout schema own → s ≡ schema → has_some s ≡ false → ⊥
 stands_not s schema own known is none = absurd (let e : true ≡ false = sym (some_stands schema own known) ∙ ap has_some (sym is) ∙ none in cc)
 
--- and none stands where there is no table
+-- and none stands if there is no table
 pub none_not : (s : Schema) → s ≡ no_schema → has_some s ≡ true → ⊥
 none_not s is some = absurd (let e : true ≡ false = sym some ∙ ap has_some is ∙ none_stands in cc)
 

@@ -21,12 +21,12 @@ use Rattle.std.specs.Prelude.{◌↔◌, Result, Ok, Err, IfOk, IfErr, ◌≢◌
 use Rattle.sqlite.specs.Files.{HoldsDatabase, AreFoundIn}
 use Rattle.life_store.specs.declared.fault.OpenFault.{OpenFault}
 use Rattle.life_store.specs.declared.fault.OpenFault.TheVariants.{BadCapacity, NotOurs, Unavailable}
-use Rattle.life_store.specs.LayingState.{IsLaid}
+use Rattle.life_store.specs.CreatingState.{HasTables}
 use Rattle.life_store.specs.Kept.{Kept}
 use Rattle.life_store.specs.Layout.{first_schema, archive_schema, no_schema}
 use Rattle.life_store.specs.Opening.{is_capacity, FilesHold, FilesHoldFirst, ListNothing, nothing_kept, versions_in, IsLayout, FilesHaveVersions}
-use Rattle.life_store.specs.Carrying.{HoldsFirst, CarriedOver}
-use Rattle.life_store.specs.CarryingState.{Carries}
+use Rattle.life_store.specs.Migration.{HoldsFirst, Migrated}
+use Rattle.life_store.specs.MigrationState.{Carries}
 use Rattle.life_store.specs.OpeningState.{HaveVersions}
 use Rattle.life_store.specs.Tables.{Tables, ArchiveView, tables_in, tables_of, Holds}
 use Rattle.life_store.proofs.KeepLemmas.{held_as, first_held_as}
@@ -100,12 +100,12 @@ finds_tables new image schema db none opened found held sound =
 -- and so finds their rows
 pub finds_held : (new : State) (image : Image) (k : Kept) → Opens new × IsLive new → ((db : Trees) → HoldsDatabase image db → new.committed.trees ≡ db) → FilesHold image k → Holds (tables_of new) k
 finds_held new image k opened found files =
-    held_as true (tables_of new).is_sure 0 (tables_of new).faults false new.in_transaction new.now k (λ none. opened.0.autocommit)
+    held_as true (tables_of new).is_healthy 0 (tables_of new).faults false new.in_transaction new.now k (λ none. opened.0.autocommit)
     (subst (λ (d : Database). Holds (tables_in true 0 false d) k) (sym (finds_tables new image archive_schema files.trees refl opened found files.held files.sound)) files.holds)
 
 pub finds_first : (new : State) (image : Image) (k : Kept) → Opens new × IsLive new → ((db : Trees) → HoldsDatabase image db → new.committed.trees ≡ db) → FilesHoldFirst image k → HoldsFirst (tables_of new) k
 finds_first new image k opened found files =
-    first_held_as true (tables_of new).is_sure 0 (tables_of new).faults false new.in_transaction new.now k
+    first_held_as true (tables_of new).is_healthy 0 (tables_of new).faults false new.in_transaction new.now k
     (subst (λ (d : Database). HoldsFirst (tables_in true 0 false d) k) (sym (finds_tables new image first_schema files.trees refl opened found files.held files.sound)) files.holds)
 
 no_views : (schema : Schema) (own : List Value) → IsLayout schema own → schema.views ≡ []
@@ -135,35 +135,35 @@ held_closed old image k up live settled held holds =
       trees = old.committed.trees;
       held = held;
       sound = sound;
-      holds = held_as (tables_of old).is_sure true (tables_of old).faults 0 old.in_transaction false (record { schema = archive_schema; trees = old.committed.trees }) k (λ none. refl)
-          (subst (λ (d : Database). Holds (tables_in (tables_of old).is_sure (tables_of old).faults old.in_transaction d) k) is holds);
+      holds = held_as (tables_of old).is_healthy true (tables_of old).faults 0 old.in_transaction false (record { schema = archive_schema; trees = old.committed.trees }) k (λ none. refl)
+          (subst (λ (d : Database). Holds (tables_in (tables_of old).is_healthy (tables_of old).faults old.in_transaction d) k) is holds);
     }
 
 -- ---- what an archive over files holds, once its tables were seen to
 
-abbrev pub IsSureOf : {S : Type 0} → ArchiveView S → Type 0
-IsSureOf a = IsTrue a.tables.is_sure
+abbrev pub IsHealthyOf : {S : Type 0} → ArchiveView S → Type 0
+IsHealthyOf a = IsTrue a.tables.is_healthy
 
 module _ {S E : Type 0} (s : State) (image : Image) (opened : HasCleanDisk s → Opens s × IsLive s) where
-  pub opens_held : (r : Result (ArchiveView S) E) → (HasCleanDisk s → (db : Trees) → HoldsDatabase image db → s.committed.trees ≡ db) → IfOk r (λ a. IsSureOf a → HasCleanDisk s)
-      → IfOk r (λ a. (k : Kept) → IsSureOf a → Holds (tables_of s) k → Holds a.tables k) → IfOk r (λ a. (k : Kept) → IsSureOf a → FilesHold image k → Holds a.tables k)
-  opens_held (Ok a) found was held = λ k sure files. let clean = was sure in held k sure (finds_held s image k (opened clean) (found clean) files)
+  pub opens_held : (r : Result (ArchiveView S) E) → (HasCleanDisk s → (db : Trees) → HoldsDatabase image db → s.committed.trees ≡ db) → IfOk r (λ a. IsHealthyOf a → HasCleanDisk s)
+      → IfOk r (λ a. (k : Kept) → IsHealthyOf a → Holds (tables_of s) k → Holds a.tables k) → IfOk r (λ a. (k : Kept) → IsHealthyOf a → FilesHold image k → Holds a.tables k)
+  opens_held (Ok a) found was held = λ k healthy files. let clean = was healthy in held k healthy (finds_held s image k (opened clean) (found clean) files)
   opens_held (Err e) found was held = tt
 
-  pub opens_carried : (r : Result (ArchiveView S) E) → (HasCleanDisk s → (db : Trees) → HoldsDatabase image db → s.committed.trees ≡ db) → IfOk r (λ a. IsSureOf a → HasCleanDisk s)
-      → IfOk r (λ a. Carries (tables_of s) a.tables) → IfOk r (λ a. (k : Kept) → IsSureOf a → FilesHoldFirst image k → CarriedOver a.tables k)
-  opens_carried (Ok a) found was held = λ k sure files. let clean = was sure in held k sure (finds_first s image k (opened clean) (found clean) files)
-  opens_carried (Err e) found was held = tt
+  pub opens_migrated : (r : Result (ArchiveView S) E) → (HasCleanDisk s → (db : Trees) → HoldsDatabase image db → s.committed.trees ≡ db) → IfOk r (λ a. IsHealthyOf a → HasCleanDisk s)
+      → IfOk r (λ a. Carries (tables_of s) a.tables) → IfOk r (λ a. (k : Kept) → IsHealthyOf a → FilesHoldFirst image k → Migrated a.tables k)
+  opens_migrated (Ok a) found was held = λ k healthy files. let clean = was healthy in held k healthy (finds_first s image k (opened clean) (found clean) files)
+  opens_migrated (Err e) found was held = tt
 
-  pub opens_known : (r : Result (ArchiveView S) E) → (HasCleanDisk s → (db : Trees) → HoldsDatabase image db → s.committed.trees ≡ db) → IfOk r (λ a. IsSureOf a → HasCleanDisk s)
-      → IfOk r (λ a. (schema : Schema) (own versions : List Value) → IsLayout schema own → IsSureOf a → HaveVersions schema (tables_of s) versions → versions ≡ own)
-      → IfOk r (λ a. (schema : Schema) (own versions : List Value) → IsLayout schema own → IsSureOf a → FilesHaveVersions schema image versions → versions ≡ own)
-  opens_known (Ok a) found was known = λ schema own versions of sure files. let clean = was sure in known schema own versions of sure (finds_versions s image schema own versions of (opened clean) (found clean) files)
+  pub opens_known : (r : Result (ArchiveView S) E) → (HasCleanDisk s → (db : Trees) → HoldsDatabase image db → s.committed.trees ≡ db) → IfOk r (λ a. IsHealthyOf a → HasCleanDisk s)
+      → IfOk r (λ a. (schema : Schema) (own versions : List Value) → IsLayout schema own → IsHealthyOf a → HaveVersions schema (tables_of s) versions → versions ≡ own)
+      → IfOk r (λ a. (schema : Schema) (own versions : List Value) → IsLayout schema own → IsHealthyOf a → FilesHaveVersions schema image versions → versions ≡ own)
+  opens_known (Ok a) found was known = λ schema own versions of healthy files. let clean = was healthy in known schema own versions of healthy (finds_versions s image schema own versions of (opened clean) (found clean) files)
   opens_known (Err e) found was known = tt
 
-  pub opens_fresh : (r : Result (ArchiveView S) E) → (HasCleanDisk s → AreFoundIn image s.committed.trees) → IfOk r (λ a. IsSureOf a → HasCleanDisk s)
-      → IfOk r (λ a. IsSureOf a → IsLaid no_schema [] s.now → Holds a.tables nothing_kept) → IfOk r (λ a. IsSureOf a → ListNothing image → Holds a.tables nothing_kept)
-  opens_fresh (Ok a) found was held = λ sure none. let clean = was sure in held sure (record { is = finds_none s (opened clean) (none s.committed.trees (found clean)); none = tt })
+  pub opens_fresh : (r : Result (ArchiveView S) E) → (HasCleanDisk s → AreFoundIn image s.committed.trees) → IfOk r (λ a. IsHealthyOf a → HasCleanDisk s)
+      → IfOk r (λ a. IsHealthyOf a → HasTables no_schema [] s.now → Holds a.tables nothing_kept) → IfOk r (λ a. IsHealthyOf a → ListNothing image → Holds a.tables nothing_kept)
+  opens_fresh (Ok a) found was held = λ healthy none. let clean = was healthy in held healthy (record { is = finds_none s (opened clean) (none s.committed.trees (found clean)); none = tt })
   opens_fresh (Err e) found was held = tt
 
 -- why an opening is refused as not ours
@@ -188,9 +188,9 @@ module _ {A F : Type 0} (s : State) (image : Image) (opened : HasCleanDisk s →
   opens_none (Ok a) h reads never = tt
   opens_none (Err e) h reads never = λ clean nothing is. let it = h clean is in never (finds_none s (opened it.0) (nothing s.committed.trees (reads it.0))) is
 
-pub sure_then : {S E : Type 0} (s : State) (P : Type 0) (r : Result (ArchiveView S) E) → (HasCleanDisk s → P) → IfOk r (λ a. IsSureOf a → HasCleanDisk s) → IfOk r (λ a. IsSureOf a → P)
-sure_then s P (Ok a) then was = λ sure. then (was sure)
-sure_then s P (Err e) then was = tt
+pub healthy_then : {S E : Type 0} (s : State) (P : Type 0) (r : Result (ArchiveView S) E) → (HasCleanDisk s → P) → IfOk r (λ a. IsHealthyOf a → HasCleanDisk s) → IfOk r (λ a. IsHealthyOf a → P)
+healthy_then s P (Ok a) then was = λ healthy. then (was healthy)
+healthy_then s P (Err e) then was = tt
 
 pub errs_not : {A F : Type 0} (r : Result A (OpenFault × F)) (P : F → Type 0) → IfErr r (λ e. e.0 ≢ BadCapacity) → IfErr r (λ e. e.0 ≡ BadCapacity → P e.1)
 errs_not (Ok a) P h = tt
@@ -215,9 +215,9 @@ pub unavailable_not_ours : Unavailable ≢ NotOurs
 unavailable_not_ours is = absurd cc
 
 -- what was closed is found again
-pub found_again : {S E : Type 0} (r : Result (ArchiveView S) E) (t : Tables) (image : Image) (Clean : Type 0) → IfOk r (λ a. (k : Kept) → IsSureOf a → FilesHold image k → Holds a.tables k) → IfOk r (λ a. IsSureOf a → Clean)
-    → ((k : Kept) → Clean → Holds t k → FilesHold image k) → IfOk r (λ a. (k : Kept) → IsSureOf a → Holds t k → Holds a.tables k)
-found_again (Ok a) t image Clean found honest held = λ k sure holds. found k sure (held k (honest sure) holds)
+pub found_again : {S E : Type 0} (r : Result (ArchiveView S) E) (t : Tables) (image : Image) (Clean : Type 0) → IfOk r (λ a. (k : Kept) → IsHealthyOf a → FilesHold image k → Holds a.tables k) → IfOk r (λ a. IsHealthyOf a → Clean)
+    → ((k : Kept) → Clean → Holds t k → FilesHold image k) → IfOk r (λ a. (k : Kept) → IsHealthyOf a → Holds t k → Holds a.tables k)
+found_again (Ok a) t image Clean found honest held = λ k healthy holds. found k healthy (held k (honest healthy) holds)
 found_again (Err e) t image Clean found honest held = tt
 
 -- what was closed is not refused as another's

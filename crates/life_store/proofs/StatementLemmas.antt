@@ -9,7 +9,7 @@ use Rattle.sqlite.specs.Held.{Held, state}
 use Rattle.sqlite.specs.Listing.{understood}
 use Rattle.sqlite.specs.State.{HasCleanDisk, Survives, Shown, CommitsShowing}
 use Rattle.sqlite.proofs.Callers.{IsPlain}
-use Rattle.life_store.specs.AskingState.{IsSeenAgain}
+use Rattle.life_store.specs.ExecutingState.{IsSeenAgain}
 use Rattle.life_store.specs.Crash.{NoMore}
 use Rattle.life_store.specs.Layout.{archive_schema}
 use Rattle.life_store.specs.Statements.{Withstands, Looks, StaysInside}

@@ -24,10 +24,10 @@ use Rattle.sqlite.specs.Effect.{Database, Answers}
 use Rattle.sqlite.specs.Listing.{understood}
 use Rattle.sqlite.specs.State.{State, mode_of, Executes}
 use Rattle.sqlite.proofs.Callers.{one_step, one_permutation, statement_of, runs_as}
-use Rattle.life_store.specs.Carrying.{version_1}
+use Rattle.life_store.specs.Migration.{version_1}
 use Rattle.life_store.specs.CensusesState.{Parts, HoldsParts}
 use Rattle.life_store.specs.Layout.{archive_schema, layout_table}
-use Rattle.life_store.specs.PickingState.{picked, shows}
+use Rattle.life_store.specs.SelectingState.{picked, shows}
 use Rattle.life_store.specs.StatementsState as st
 use Rattle.life_store.specs.Tables.{version_2}
 use Rattle.life_store.proofs.AddLemmas.{cast_int}
@@ -35,7 +35,7 @@ use Rattle.life_store.proofs.InsertLemmas.{went, same_value}
 use Rattle.life_store.proofs.QueryLemmas.{matches_are}
 use Rattle.life_store.proofs.Texts.{rename_is}
 
--- the rows that stand for those with the ids that the query shows first
+-- the rows that represent those with the ids that the query shows first
 abbrev edit_by : Trees → Table → List Row → Edit
 edit_by db table rows = edit_of db table (ids_of rows) Given 1 rows
 

@@ -1,4 +1,4 @@
--- Words of the code alone: what the rows of the tables stand for (Tables.antt), part by part, as a transaction writes them.
+-- Used by the contracts of the code alone: what the rows of the tables represent (Tables.antt), part by part, as a transaction writes them.
 use Rattle.std.specs.Prelude.{◌≡◌, ◌<◌, ◌+◌, ◌^◌, ℕ, pos, Bool, false, List, [], ◌∷◌, ◌++◌, Option, IsTrue, length}
 use Rattle.sqlite_value.specs.declared.value.Value.TheVariants.{Int, Text}
 use Rattle.sqlite_value.specs.Order.{Row}
@@ -15,7 +15,7 @@ use Rattle.life_store.specs.Tables.{Tables, Holds, TreesHold}
 abbrev pub tallied_by : List ℕ → List ℕ → List Tallied → Option (ℕ × Tallied)
 tallied_by member token ts = first_from (λ t. is_census_of member token t.census) 1 ts
 
--- the rows of `layout`, and what the rows of the other tables stand for, each for a list of its own
+-- the rows of `layout`, and what the rows of the other tables represent, each for a list of its own
 pub record Parts : Type 0 where
   pub layout : List Row
   pub deposits : List Deposit
@@ -40,15 +40,15 @@ with_census id t p = record p { censuses = p.censuses ++ t ∷ []; counts = p.co
 abbrev pub with_flag : Tallied → Parts → Parts
 with_flag t p = record p { flagged = p.flagged ++ t ∷ [] }
 
--- no transaction is open, and the rows stand for these
+-- no transaction is open, and the rows represent these
 pub record HoldsPartsCommitted (s : State) (p : Parts) : Type 0 where
   pub mode : s.in_transaction ≡ false
   pub same : s.now ≡ s.committed
   pub stands : HoldsParts s.now p
 
 -- a database that is shut says nothing
-abbrev pub MeansParts : State → Parts → Type 0
-MeansParts s p = IsTrue s.is_open → HoldsPartsCommitted s p
+abbrev pub RepresentsParts : State → Parts → Type 0
+RepresentsParts s p = IsTrue s.is_open → HoldsPartsCommitted s p
 
 -- what is bound to the parameters of the three INSERTs
 abbrev pub given_census : ℕ → Tallied → Row
@@ -64,7 +64,7 @@ given_flag id steady = Int (pos id) ∷ Int (pos (flag_number steady)) ∷ []
 
 -- ---- what a crash may leave
 
--- the trees are a database whose rows stand for these
+-- the trees are a database whose rows represent these
 pub record TreesHoldParts (db : Trees) (p : Parts) : Type 0 where
   pub after : Database
   pub trees : db ≡ after.trees
@@ -75,6 +75,6 @@ pub record TreesHoldParts (db : Trees) (p : Parts) : Type 0 where
 abbrev pub HoldNewParts : Database → ℕ → Tallied → Trees → Type 0
 HoldNewParts before id t db = (id < 2 ^ 63) × ((p : Parts) → HoldsParts before p → id ≡ length p.censuses + 1 → id ≡ length p.flagged + 1 → TreesHoldParts db (with_flag t (with_census id t p)))
 
--- the trees stand for the censuses of the tables and for this one, if it has the next number
+-- the trees represent the censuses of the tables and for this one, if it has the next number
 abbrev pub HoldNewCensus : Tables → ℕ → Tallied → Trees → Type 0
 HoldNewCensus old id t db = (k : Kept) → Holds old k → id ≡ length k.censuses + 1 → TreesHold db (record k { censuses = k.censuses ++ t ∷ [] })

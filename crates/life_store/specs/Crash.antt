@@ -10,7 +10,7 @@ use Rattle.sqlite_trees.specs.View.{IsClean}
 abbrev pub NoMore : Trees → Type 0
 NoMore db = ⊥
 
--- Where the disk has returned what was written so far, it had before; and a crash now leaves what it might have left before, or trees of which `Adds` holds.
+-- If the disk has returned what was written so far, it had before; and a crash now leaves what it might have left before, or trees of which `Adds` holds.
 pub record CrashLeaves {S : Type 0} (g : Ghosts S) (Adds : Trees → Type 0) (old new : S) : Type 0 where
   pub honest : IsClean (g.view new) → IsClean (g.view old)
   pub found : IsClean (g.view new) → (db : Trees) → g.recovers new db → g.recovers old db ⊎ Adds db

@@ -2,7 +2,7 @@
 use Rattle.std.specs.Prelude.{◌≡◌, map}
 use Rattle.sqlite_wal.specs.Recovery.{Image}
 use Rattle.sqlite.specs.Files.{IsNothing}
-use Rattle.life_store.specs.Carrying.{HoldsFirst, unflagged}
+use Rattle.life_store.specs.Migration.{HoldsFirst, unflagged}
 use Rattle.life_store.specs.Kept.{Kept}
 use Rattle.life_store.specs.Opening.{ListNothing}
 use Rattle.life_store.specs.Tables.{Tables, Holds}
@@ -11,7 +11,7 @@ use Rattle.life_store.specs.Tables.{Tables, Holds}
 abbrev pub BlankFilesListNothing : Type 0
 BlankFilesListNothing = (image : Image) → IsNothing image → ListNothing image
 
--- Rows stand for one list of deposits and one list of censuses at most.
+-- Rows represent one list of deposits and one list of censuses at most.
 abbrev pub OneMeaning : Type 0
 OneMeaning = (t : Tables) (a b : Kept) → Holds t a → Holds t b → a ≡ b
 

@@ -1,5 +1,5 @@
 -- The schemas of the tables of docs/FORMATS.md (SQLite's "CREATE TABLE"): the five tables of layout 2, and the four of layout 1.
--- That the texts of LayingState.antt make them is proved.
+-- That the texts of CreatingState.antt make them is proved.
 use Rattle.std.specs.Prelude.{true, false, [], ◌∷◌, Some, None, codes, List, ℕ, pos}
 use Rattle.sqlite_value.specs.declared.keys.Collation.TheVariants.{Binary}
 use Rattle.sqlite_value.specs.declared.value.Value.TheVariants.{Null, Int}

@@ -1,7 +1,7 @@
 pub mod Layout
-pub mod LayingState
+pub mod CreatingState
 pub mod StatementsState
-pub mod PickingState
+pub mod SelectingState
 pub mod Kept
 pub mod Fault
 pub mod Stored
@@ -10,10 +10,10 @@ pub mod Tables
 pub mod Statements
 pub mod DepositsState
 pub mod CensusesState
-pub mod AskingState
+pub mod ExecutingState
 pub mod ReadingState
-pub mod Carrying
-pub mod CarryingState
+pub mod Migration
+pub mod MigrationState
 pub mod Opening
 pub mod OpeningState
 pub mod Laws

@@ -14,7 +14,7 @@ use Rattle.sqlite_trees.specs.Tree.{Trees}
 use Rattle.sqlite_catalog.specs.Listing.{IsSound}
 use Rattle.sqlite_schema.specs.declared.schema.Schema.{Schema}
 use Rattle.sqlite.specs.Files.{HoldsDatabase, AreFoundIn}
-use Rattle.life_store.specs.Carrying.{HoldsFirst}
+use Rattle.life_store.specs.Migration.{HoldsFirst}
 use Rattle.life_store.specs.Kept.{Kept}
 use Rattle.life_store.specs.Layout.{first_schema, archive_schema, no_schema}
 use Rattle.life_store.specs.Tables.{tables_in, Holds}
@@ -31,7 +31,7 @@ nothing_kept = record { deposits = []; censuses = [] }
 abbrev pub without_log : Image → Image
 without_log image = record image { log = [] }
 
--- The files hold a database that obeys the archive's tables, with rows that stand for these.
+-- The files hold a database that obeys the archive's tables, with rows that represent these.
 pub record FilesHold (image : Image) (k : Kept) : Type 0 where
   pub trees : Trees
   pub held : ∥ HoldsDatabase image trees ∥₁
@@ -42,11 +42,11 @@ pub record FilesHold (image : Image) (k : Kept) : Type 0 where
 abbrev pub LeftHold : {D : Type 0} → Ghosts D → Files D → Kept → Type 0
 LeftHold g files k = (image : Image) → outcomes g files.log files.db image → FilesHold image k
 
--- Where the disk has returned what was written, each such image holds a database that the store allowed.
+-- If the disk has returned what was written, each such image holds a database that the store allowed.
 abbrev pub AreLeftOf : {D : Type 0} {g : Ghosts D} → FileStore D g → Files D → Type 0
 AreLeftOf {D} {g} store files = AreClean g files.log files.db → (image : Image) → outcomes g files.log files.db image → ∥ ((db : Trees) × recovers store db × HoldsDatabase image db) ∥₁
 
--- The files hold a database that obeys the tables of layout 1, with rows that stand for these.
+-- The files hold a database that obeys the tables of layout 1, with rows that represent these.
 pub record FilesHoldFirst (image : Image) (k : Kept) : Type 0 where
   pub trees : Trees
   pub held : ∥ HoldsDatabase image trees ∥₁

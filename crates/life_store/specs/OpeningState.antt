@@ -1,4 +1,4 @@
--- Words of the code alone: which tables stand in a database that is opened, and which versions its layout has.
+-- Used by the contracts of the code alone: which tables stand in a database that is opened, and which versions its layout has.
 use Rattle.std.specs.Prelude.{◌≡◌, ◌||◌, ℕ, Bool, true, false, pos, codes, List, [], ◌∷◌, map}
 use Rattle.std.specs.List.{list_any}
 use Rattle.sqlite_value.specs.declared.value.Value.{Value}

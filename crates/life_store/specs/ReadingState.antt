@@ -1,4 +1,4 @@
--- Words of the code alone: what the rows of an answer show, column by column as the queries of StatementsState.antt list them.
+-- Used by the contracts of the code alone: what the rows of an answer show, column by column as the queries of StatementsState.antt list them.
 use Rattle.std.specs.Prelude.{◌≡◌, ◌⊎◌, ℕ, zero, suc, pos, Bool, List, [], ◌∷◌, Option, None, Some}
 use Rattle.std.specs.FinSet as set
 use Rattle.sqlite_value.specs.declared.value.Value.TheVariants.{Null, Int, Text, Blob}
@@ -10,7 +10,7 @@ use Rattle.life_store.specs.declared.kept.Listed.{Listed}
 use Rattle.life_store.specs.Kept.{Tallied}
 use Rattle.life_store.specs.Stored.{IsFiled, flag_number}
 
--- the greatest of so many numbers: one row, or none where there are none
+-- the greatest of so many numbers: one row, or none if there are none
 abbrev pub newest_rows : ℕ → List Row
 newest_rows zero = []
 newest_rows (suc n) = (Int (pos (suc n)) ∷ []) ∷ []
@@ -45,6 +45,6 @@ ShowsFlag (Some b) rows = (more : List Row) × (rows ≡ (Int (pos (flag_number 
 abbrev pub row_shown : List ℕ × ℕ → Row
 row_shown row = Text row.0 ∷ Int (pos row.1) ∷ []
 
--- one row shows the total, or NULL where it is a sum of nothing
+-- one row shows the total, or NULL if it is a sum of nothing
 abbrev pub ShowsTotal : ℕ → List Row → Type 0
 ShowsTotal n rows = (rows ≡ (Int (pos n) ∷ []) ∷ []) ⊎ ((rows ≡ (Null ∷ []) ∷ []) × (n ≡ 0))

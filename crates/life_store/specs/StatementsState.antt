@@ -1,4 +1,4 @@
--- Words of the code alone: the texts of the statements, and what they compile to under the tables of Layout.antt (SQLite's "SELECT" and "INSERT").
+-- Used by the contracts of the code alone: the texts of the statements, and what they compile to under the tables of Layout.antt (SQLite's "SELECT" and "INSERT").
 use Rattle.std.specs.Prelude.{true, false, [], ◌∷◌, Some, None, codes, List, ℕ, pos, negsuc}
 use Rattle.sqlite_value.specs.declared.keys.Collation.TheVariants.{Binary}
 use Rattle.sqlite_value.specs.declared.value.Value.TheVariants.{Null, Int}

@@ -1,4 +1,4 @@
--- What contracts see of an archive: its tables as they are, and what their rows stand for (the tables of docs/FORMATS.md).
+-- What contracts see of an archive: its tables as they are, and what their rows represent (the tables of docs/FORMATS.md).
 -- What a table is, its rows with their ids and its schema: the kit's `sqlite`, after SQLite's "Database File Format" and "CREATE TABLE".
 use Rattle.std.specs.Prelude.{◌≡◌, ◌<◌, ◌≤◌, ◌+◌, ◌^◌, ◌⊎◌, ◌&&◌, ◌++◌, ℕ, pos, Bool, true, false, List, [], ◌∷◌, length, map, IsTrue, refl}
 use Rattle.std.specs.Coded.{Coded, code_by, coded×, coded_ℕ, coded_bool, coded_list}
@@ -26,11 +26,11 @@ use Rattle.life_store.specs.Stored.{IsFiled, rows_by, deposit_cells, census_cell
 
 -- the tables of a database
 pub record Tables : Type 0 where
-  -- The database is open, and its disk has returned what was written. Where it is false, the rest says nothing.
-  pub is_sure : Bool
-  -- how often the disk has failed or refused so far, and once more where it has returned other than what was written
+  -- The database is open, and its disk has returned what was written. If it is false, the rest says nothing.
+  pub is_healthy : Bool
+  -- how often the disk has failed or refused so far, and once more if it has returned other than what was written
   pub faults : ℕ
-  -- A transaction is open: the rows are as it sees them. Where none is, they are committed.
+  -- A transaction is open: the rows are as it sees them. If none is, they are committed.
   pub in_transaction : Bool
   pub schema : Schema
   pub layout : List Row
@@ -53,10 +53,10 @@ abbrev pub coded_view : {S : Type 0} → Coded S → Coded (ArchiveView S)
 coded_view {S} store =
     code_by (Bool × (ℕ × (Bool × (Schema × (List Row × (List Row × (List Row × (List Row × (List Row × (ℕ × S))))))))))
     (coded× coded_bool (coded× coded_ℕ (coded× coded_bool (coded× the_row.coded (coded× coded_rows (coded× coded_rows (coded× coded_rows (coded× coded_rows (coded× coded_rows (coded× coded_ℕ store))))))))))
-    (λ s. (s.tables.is_sure, (s.tables.faults, (s.tables.in_transaction, (s.tables.schema, (s.tables.layout, (s.tables.deposits, (s.tables.censuses, (s.tables.census_rows, (s.tables.census_flags, (s.capacity, s.store)))))))))))
+    (λ s. (s.tables.is_healthy, (s.tables.faults, (s.tables.in_transaction, (s.tables.schema, (s.tables.layout, (s.tables.deposits, (s.tables.censuses, (s.tables.census_rows, (s.tables.census_flags, (s.capacity, s.store)))))))))))
     (λ p. record {
       tables = record {
-        is_sure = p.0;
+        is_healthy = p.0;
         faults = p.1.0;
         in_transaction = p.1.1.0;
         schema = p.1.1.1.0;
@@ -73,8 +73,8 @@ coded_view {S} store =
 
 -- The tables have these numbers. A UNIQUE or PRIMARY KEY of two columns has an index, which takes the number after its table's.
 abbrev pub tables_in : Bool → ℕ → Bool → Database → Tables
-tables_in is_sure faults in_transaction db = record {
-  is_sure = is_sure;
+tables_in is_healthy faults in_transaction db = record {
+  is_healthy = is_healthy;
   faults = faults;
   in_transaction = in_transaction;
   schema = db.schema;
@@ -97,7 +97,7 @@ version_2 = (Int (pos 1) ∷ Int (pos 2) ∷ []) ∷ []
 abbrev pub HasOrder : TallyCounts → Type 0
 HasOrder t = IsStrictlySortedBy row_cmp (map (λ (row : List ℕ × ℕ). row.0) t.rows)
 
--- The tables stand for these deposits and these censuses, each with its tally and its flag, and for no others:
+-- The tables represent these deposits and these censuses, each with its tally and its flag, and for no others:
 -- the schema is the archive's, no transaction is open, `layout` names version 2,
 -- and the rows of `deposits`, `censuses`, `census_rows` and `census_flags` are theirs, in this order, under the ids 1, 2, 3 and so on.
 pub record Holds (t : Tables) (k : Kept) : Type 0 where
@@ -116,58 +116,58 @@ pub record Holds (t : Tables) (k : Kept) : Type 0 where
   pub few_deposits : length k.deposits < 2 ^ 63
   pub few_censuses : length k.censuses < 2 ^ 63
 
--- The trees obey the archive's tables, with rows that stand for these.
+-- The trees obey the archive's tables, with rows that represent these.
 pub record TreesHold (db : Trees) (k : Kept) : Type 0 where
   pub sound : IsSound archive_schema db
   pub holds : Holds (tables_in true 0 false (record { schema = archive_schema; trees = db })) k
 
 -- ---- what a call does
 
--- a database that is sure was sure
-abbrev pub WasSure : Tables → Tables → Type 0
-WasSure old new = IsTrue new.is_sure → IsTrue old.is_sure
+-- a database that is healthy was healthy
+abbrev pub WasHealthy : Tables → Tables → Type 0
+WasHealthy old new = IsTrue new.is_healthy → IsTrue old.is_healthy
 
 -- the disk has failed in the call: the count rose
 abbrev pub HasFailed : Tables → Tables → Type 0
 HasFailed old new = MoreFaults old.faults new.faults
 
--- A database that is sure stays sure, or the disk has failed in the call. No failure is forgotten.
-pub record IsStayingSure (old new : Tables) : Type 0 where
+-- A database that is healthy stays healthy, or the disk has failed in the call. No failure is forgotten.
+pub record IsStayingHealthy (old new : Tables) : Type 0 where
   pub faults : old.faults ≤ new.faults
-  pub is_sure : IsTrue old.is_sure → IsTrue new.is_sure ⊎ HasFailed old new
+  pub is_healthy : IsTrue old.is_healthy → IsTrue new.is_healthy ⊎ HasFailed old new
 
 -- the same, as calls pass it on
-unfoldable pub StaysSure : Tables → Tables → Type 0
-StaysSure old new = IsStayingSure old new
+unfoldable pub StaysHealthy : Tables → Tables → Type 0
+StaysHealthy old new = IsStayingHealthy old new
 
--- The database is sure, unless its disk has returned other than what was written.
-abbrev pub IsSureIfClean : {S : Type 0} → Ghosts S → ArchiveView S → Type 0
-IsSureIfClean g a = IsClean (g.view a.store) → IsTrue a.tables.is_sure
+-- The database is healthy, unless its disk has returned other than what was written.
+abbrev pub IsHealthyIfClean : {S : Type 0} → Ghosts S → ArchiveView S → Type 0
+IsHealthyIfClean g a = IsClean (g.view a.store) → IsTrue a.tables.is_healthy
 
--- the tables stand for what they stood for
+-- the tables represent what they represented
 abbrev pub HoldsTheSame : Tables → Tables → Type 0
-HoldsTheSame old new = (k : Kept) → IsTrue new.is_sure → Holds old k → Holds new k
+HoldsTheSame old new = (k : Kept) → IsTrue new.is_healthy → Holds old k → Holds new k
 
--- a fact of all that the tables stood for before the call, told where the database is sure after it
+-- a fact of all that the tables represented before the call, known if the database is healthy after it
 abbrev pub ForAllHeld : Tables → Tables → (Kept → Type 0) → Type 0
-ForAllHeld old new P = (k : Kept) → IsTrue new.is_sure → Holds old k → P k
+ForAllHeld old new P = (k : Kept) → IsTrue new.is_healthy → Holds old k → P k
 
--- the tables stand for one deposit more, the last
+-- the tables represent one deposit more, the last
 abbrev pub AddsDeposit : Tables → Tables → Deposit → Type 0
-AddsDeposit old new d = (k : Kept) → IsTrue new.is_sure → Holds old k → Holds new (record k { deposits = k.deposits ++ d ∷ [] })
+AddsDeposit old new d = (k : Kept) → IsTrue new.is_healthy → Holds old k → Holds new (record k { deposits = k.deposits ++ d ∷ [] })
 
--- the tables stand for one census more, the last
+-- the tables represent one census more, the last
 abbrev pub AddsCensus : Tables → Tables → Tallied → Type 0
-AddsCensus old new t = (k : Kept) → IsTrue new.is_sure → Holds old k → Holds new (record k { censuses = k.censuses ++ t ∷ [] })
+AddsCensus old new t = (k : Kept) → IsTrue new.is_healthy → Holds old k → Holds new (record k { censuses = k.censuses ++ t ∷ [] })
 
--- The database was sure, and whatever its tables stood for, the trees stand for what the change makes of it.
+-- The database was healthy, and whatever its tables represented, the trees represent what the change makes of it.
 abbrev pub HoldChanged : Tables → (Kept → Kept) → Trees → Type 0
-HoldChanged old change db = IsTrue old.is_sure × ((k : Kept) → Holds old k → TreesHold db (change k))
+HoldChanged old change db = IsTrue old.is_healthy × ((k : Kept) → Holds old k → TreesHold db (change k))
 
--- What each call keeps: a database that is sure after it was sure before it; one that was sure before it is sure after it unless the disk
+-- What each call keeps: a database that is healthy after it was healthy before it; one that was healthy before it is healthy after it unless the disk
 -- failed in the call; the capacity is the one chosen at opening; and a crash leaves what it might have left before, or what `Adds` says.
 pub record IsTransition {S : Type 0} (g : Ghosts S) (Adds : Trees → Type 0) (old new : ArchiveView S) : Type 0 where
-  pub was_sure : WasSure old.tables new.tables
-  pub lasts : StaysSure old.tables new.tables
+  pub was_healthy : WasHealthy old.tables new.tables
+  pub lasts : StaysHealthy old.tables new.tables
   pub capacity : new.capacity ≡ old.capacity
   pub crash : CrashLeaves g Adds old.store new.store

@@ -7,7 +7,7 @@ ghost use Rattle.life_rle.specs.Record.{IsInside};
 ghost use Rattle.life_rle.specs.Writer.{text};
 ghost use Rattle.life_store.specs.Kept.{Kept, numbered, deposit_by, file_of_deposit, listed_after, kept_census, census_by, censuses_of, total_of};
 ghost use Rattle.life_store.specs.Crash.{NoMore};
-ghost use Rattle.life_store.specs.Tables.{tables_of, IsTransition, IsSureIfClean, HoldsTheSame, ForAllHeld, HasOrder, AddsDeposit, AddsCensus, HoldChanged, TreesHold, Holds};
+ghost use Rattle.life_store.specs.Tables.{tables_of, IsTransition, IsHealthyIfClean, HoldsTheSame, ForAllHeld, HasOrder, AddsDeposit, AddsCensus, HoldChanged, TreesHold, Holds};
 
 use crate::fault::Unavailable;
 use crate::kept::{Census, Deposit, KeptCensus, Listing};
@@ -24,7 +24,7 @@ use std::marker::Model;
 /// Deposits and censuses in the tables of a database (docs/FORMATS.md), over any store of `sqlite`: memory, or files.
 ///
 /// Contracts see the tables, whatever is in them, and the capacity. What a call does is said for all deposits and
-/// censuses that the tables stand for before it, where the database is sure after it: it is open, and its disk has
+/// censuses that the tables represent before it, if the database is healthy after it: it is open, and its disk has
 /// returned what was written. Each call either does its one act, or is Unavailable and what was kept is kept. A number is a
 /// place in its list, from 1.
 pub struct Archive<S: Alter> {
@@ -65,10 +65,10 @@ impl<S: Alter> Archive<S> {
         conn
     }
 
-    /// While an archive is sure, a crash leaves what it holds and nothing else: what was answered is committed. A law: calling
+    /// While an archive is healthy, a crash leaves what it holds and nothing else: what was answered is committed. A law: calling
     /// it does nothing.
     pub fn law_of_crashes(&self)
-        ensures { IsTrue self.now.tables.is_sure → (k : Kept) → Holds self.now.tables k → (db : Trees) → S.Store.recovers self.now.store db → TreesHold db k }
+        ensures { IsTrue self.now.tables.is_healthy → (k : Kept) → Holds self.now.tables k → (db : Trees) → S.Store.recovers self.now.store db → TreesHold db k }
     {
         let _obeyed = self.conn.schema();
         let _settled = self.conn.is_autocommit();
@@ -84,8 +84,8 @@ impl<S: Alter> Archive<S> {
 
     /// How many deposits there are: the greatest number. No table is walked.
     pub fn count_deposits(&mut self) -> Result<u64, Unavailable>
-        ensures goes { IsTransition S.Store NoMore self.old self.new }
-        ensures sure { OnOk result (IsSureIfClean S.Store self.new) }
+        ensures transition { IsTransition S.Store NoMore self.old self.new }
+        ensures healthy { OnOk result (IsHealthyIfClean S.Store self.new) }
         ensures same { HoldsTheSame self.old.tables self.new.tables }
         ensures value { ForAllHeld self.old.tables self.new.tables (λ k. IfOk result (λ n. n ≡ length k.deposits)) }
     {
@@ -95,18 +95,18 @@ impl<S: Alter> Archive<S> {
 
     /// The deposit of the number, or none.
     pub fn deposit_of(&mut self, alloc: Global, id: u64) -> Result<Option<Deposit>, Unavailable>
-        ensures goes { IsTransition S.Store NoMore self.old self.new }
-        ensures sure { OnOk result (IsSureIfClean S.Store self.new) }
+        ensures transition { IsTransition S.Store NoMore self.old self.new }
+        ensures healthy { OnOk result (IsHealthyIfClean S.Store self.new) }
         ensures same { HoldsTheSame self.old.tables self.new.tables }
         ensures value { ForAllHeld self.old.tables self.new.tables (λ k. IfOk result (λ d. d ≡ numbered k.deposits id)) }
         ensures inside { IfOk result (λ o. IfSome o (λ d. IsInside 1024 d.content.cells)) }
     {
-        let Ok(place) = i64::try_from(id) else {
+        let Ok(rowid) = i64::try_from(id) else {
             // No row has such a number. The store is asked all the same: one that is shut answers nothing.
             let _count = self.count_deposits()?;
             return Ok(None);
         };
-        let rows = deposits::show(&mut self.conn, place)?;
+        let rows = deposits::show(&mut self.conn, rowid)?;
         match first_deposit(alloc, rows.as_slice())? {
             Some((_, deposit)) => Ok(Some(deposit)),
             None => Ok(None),
@@ -116,17 +116,17 @@ impl<S: Alter> Archive<S> {
     /// The pattern file of the deposit of the number, or none: the canonical text that is stored. It is compared with what is
     /// written of the record that it is read as, and given as it is.
     pub fn file_of(&mut self, alloc: Global, id: u64) -> Result<Option<Vec<u8>>, Unavailable>
-        ensures goes { IsTransition S.Store NoMore self.old self.new }
-        ensures sure { OnOk result (IsSureIfClean S.Store self.new) }
+        ensures transition { IsTransition S.Store NoMore self.old self.new }
+        ensures healthy { OnOk result (IsHealthyIfClean S.Store self.new) }
         ensures same { HoldsTheSame self.old.tables self.new.tables }
         ensures value { ForAllHeld self.old.tables self.new.tables (λ k. IfOk result (λ file. option_map (λ v. v.items) file ≡ option_map (λ d. text d.content) (numbered k.deposits id))) }
     {
-        let Ok(place) = i64::try_from(id) else {
+        let Ok(rowid) = i64::try_from(id) else {
             // No row has such a number. The store is asked all the same: one that is shut answers nothing.
             let _count = self.count_deposits()?;
             return Ok(None);
         };
-        let rows = deposits::show(&mut self.conn, place)?;
+        let rows = deposits::show(&mut self.conn, rowid)?;
         match first_file(alloc, rows.as_slice())? {
             Some((_, file)) => Ok(Some(file)),
             None => Ok(None),
@@ -140,8 +140,8 @@ impl<S: Alter> Archive<S> {
         member: &[u8],
         token: &[u8],
     ) -> Result<Option<(u64, Deposit)>, Unavailable>
-        ensures goes { IsTransition S.Store NoMore self.old self.new }
-        ensures sure { OnOk result (IsSureIfClean S.Store self.new) }
+        ensures transition { IsTransition S.Store NoMore self.old self.new }
+        ensures healthy { OnOk result (IsHealthyIfClean S.Store self.new) }
         ensures same { HoldsTheSame self.old.tables self.new.tables }
         ensures value { ForAllHeld self.old.tables self.new.tables (λ k. IfOk result (λ d. d ≡ deposit_by member.now token.now k.deposits)) }
         ensures inside { IfOk result (λ o. IfSome o (λ d. IsInside 1024 d.1.content.cells)) }
@@ -158,8 +158,8 @@ impl<S: Alter> Archive<S> {
         member: &[u8],
         token: &[u8],
     ) -> Result<Option<(u64, Vec<u8>)>, Unavailable>
-        ensures goes { IsTransition S.Store NoMore self.old self.new }
-        ensures sure { OnOk result (IsSureIfClean S.Store self.new) }
+        ensures transition { IsTransition S.Store NoMore self.old self.new }
+        ensures healthy { OnOk result (IsHealthyIfClean S.Store self.new) }
         ensures same { HoldsTheSame self.old.tables self.new.tables }
         ensures value { ForAllHeld self.old.tables self.new.tables (λ k. IfOk result (λ f. option_map {U = ℕ × List ℕ} (λ p. (p.0, p.1.items)) f ≡ option_map file_of_deposit (deposit_by member.now token.now k.deposits))) }
     {
@@ -169,17 +169,17 @@ impl<S: Alter> Archive<S> {
 
     /// The first hundred deposits with a greater number, a line each. Any number is good.
     pub fn deposits_after(&mut self, alloc: Global, id: u64) -> Result<Listing, Unavailable>
-        ensures goes { IsTransition S.Store NoMore self.old self.new }
-        ensures sure { OnOk result (IsSureIfClean S.Store self.new) }
+        ensures transition { IsTransition S.Store NoMore self.old self.new }
+        ensures healthy { OnOk result (IsHealthyIfClean S.Store self.new) }
         ensures same { HoldsTheSame self.old.tables self.new.tables }
         ensures value { ForAllHeld self.old.tables self.new.tables (λ k. IfOk result (λ lines. lines ≡ listed_after id k.deposits)) }
     {
-        let Ok(place) = i64::try_from(id) else {
+        let Ok(rowid) = i64::try_from(id) else {
             // No row has such a number. The store is asked all the same: one that is shut answers nothing.
             let _count = self.count_deposits()?;
             return Ok(Listing::of(Vec::new(alloc)));
         };
-        let rows = deposits::list_after(&mut self.conn, place)?;
+        let rows = deposits::list_after(&mut self.conn, rowid)?;
         all_lines(alloc, rows.as_slice())
     }
 
@@ -187,8 +187,8 @@ impl<S: Alter> Archive<S> {
     /// caller to ask first.
     pub fn add_deposit(&mut self, alloc: Global, deposit: &Deposit) -> Result<u64, Unavailable>
         requires { IsInside 1024 deposit.now.content.cells }
-        ensures goes { IsTransition S.Store (HoldChanged self.old.tables (λ k. record k { deposits = k.deposits ++ deposit.now ∷ [] })) self.old self.new }
-        ensures sure { OnOk result (IsSureIfClean S.Store self.new) }
+        ensures transition { IsTransition S.Store (HoldChanged self.old.tables (λ k. record k { deposits = k.deposits ++ deposit.now ∷ [] })) self.old self.new }
+        ensures healthy { OnOk result (IsHealthyIfClean S.Store self.new) }
         ensures value { ForAllHeld self.old.tables self.new.tables (λ k. IfOk result (λ n. n ≡ length k.deposits + 1)) }
         ensures ok { OnOk result (AddsDeposit self.old.tables self.new.tables deposit.now) }
         ensures err { OnErr result (HoldsTheSame self.old.tables self.new.tables) }
@@ -197,17 +197,17 @@ impl<S: Alter> Archive<S> {
         let Some(id) = count.checked_add(1) else {
             return Err(Unavailable);
         };
-        let Ok(place) = i64::try_from(id) else {
+        let Ok(rowid) = i64::try_from(id) else {
             return Err(Unavailable);
         };
-        deposits::add(&mut self.conn, alloc, place, deposit)?;
+        deposits::add(&mut self.conn, alloc, rowid, deposit)?;
         Ok(id)
     }
 
     /// How many censuses there are: the greatest number.
     pub fn count_censuses(&mut self) -> Result<u64, Unavailable>
-        ensures goes { IsTransition S.Store NoMore self.old self.new }
-        ensures sure { OnOk result (IsSureIfClean S.Store self.new) }
+        ensures transition { IsTransition S.Store NoMore self.old self.new }
+        ensures healthy { OnOk result (IsHealthyIfClean S.Store self.new) }
         ensures same { HoldsTheSame self.old.tables self.new.tables }
         ensures value { ForAllHeld self.old.tables self.new.tables (λ k. IfOk result (λ n. n ≡ length k.censuses)) }
     {
@@ -217,17 +217,17 @@ impl<S: Alter> Archive<S> {
 
     /// The census of the number, or none.
     pub fn census_of(&mut self, alloc: Global, id: u64) -> Result<Option<KeptCensus>, Unavailable>
-        ensures goes { IsTransition S.Store NoMore self.old self.new }
-        ensures sure { OnOk result (IsSureIfClean S.Store self.new) }
+        ensures transition { IsTransition S.Store NoMore self.old self.new }
+        ensures healthy { OnOk result (IsHealthyIfClean S.Store self.new) }
         ensures same { HoldsTheSame self.old.tables self.new.tables }
         ensures value { ForAllHeld self.old.tables self.new.tables (λ k. IfOk result (λ c. c ≡ option_map kept_census (numbered k.censuses id))) }
     {
-        let Ok(place) = i64::try_from(id) else {
+        let Ok(rowid) = i64::try_from(id) else {
             // No row has such a number. The store is asked all the same: one that is shut answers nothing.
             let _count = self.count_censuses()?;
             return Ok(None);
         };
-        let rows = censuses::show(&mut self.conn, place)?;
+        let rows = censuses::show(&mut self.conn, rowid)?;
         match first_census(alloc, rows.as_slice())? {
             Some((_, kept)) => Ok(Some(kept)),
             None => Ok(None),
@@ -241,8 +241,8 @@ impl<S: Alter> Archive<S> {
         member: &[u8],
         token: &[u8],
     ) -> Result<Option<(u64, Census)>, Unavailable>
-        ensures goes { IsTransition S.Store NoMore self.old self.new }
-        ensures sure { OnOk result (IsSureIfClean S.Store self.new) }
+        ensures transition { IsTransition S.Store NoMore self.old self.new }
+        ensures healthy { OnOk result (IsHealthyIfClean S.Store self.new) }
         ensures same { HoldsTheSame self.old.tables self.new.tables }
         ensures value { ForAllHeld self.old.tables self.new.tables (λ k. IfOk result (λ c. c ≡ census_by member.now token.now (censuses_of k))) }
     {
@@ -264,8 +264,8 @@ impl<S: Alter> Archive<S> {
     ) -> Result<u64, Unavailable>
         // The codes of a tally that `tally` made ascend.
         requires { HasOrder tally.now }
-        ensures goes { IsTransition S.Store (HoldChanged self.old.tables (λ k. record k { censuses = k.censuses ++ record { census = census.now; tally = tally.now; steady = steady } ∷ [] })) self.old self.new }
-        ensures sure { OnOk result (IsSureIfClean S.Store self.new) }
+        ensures transition { IsTransition S.Store (HoldChanged self.old.tables (λ k. record k { censuses = k.censuses ++ record { census = census.now; tally = tally.now; steady = steady } ∷ [] })) self.old self.new }
+        ensures healthy { OnOk result (IsHealthyIfClean S.Store self.new) }
         ensures value { ForAllHeld self.old.tables self.new.tables (λ k. IfOk result (λ n. n ≡ length k.censuses + 1)) }
         ensures ok { OnOk result (AddsCensus self.old.tables self.new.tables (record { census = census.now; tally = tally.now; steady = steady })) }
         ensures err { OnErr result (HoldsTheSame self.old.tables self.new.tables) }
@@ -280,15 +280,15 @@ impl<S: Alter> Archive<S> {
 
     /// The rows of the tally of a census that is kept, in byte order of their codes.
     fn rows_kept(&mut self, alloc: Global, id: u64) -> Result<Rows, Unavailable>
-        ensures goes { IsTransition S.Store NoMore self.old self.new }
-        ensures sure { OnOk result (IsSureIfClean S.Store self.new) }
+        ensures transition { IsTransition S.Store NoMore self.old self.new }
+        ensures healthy { OnOk result (IsHealthyIfClean S.Store self.new) }
         ensures same { HoldsTheSame self.old.tables self.new.tables }
         ensures value { ForAllHeld self.old.tables self.new.tables (λ k. IfOk result (λ rows. IfSome (numbered k.censuses id) (λ t. rows ≡ t.tally.rows))) }
     {
-        let Ok(place) = i64::try_from(id) else {
+        let Ok(rowid) = i64::try_from(id) else {
             return Err(Unavailable);
         };
-        let rows = censuses::rows_of(&mut self.conn, place)?;
+        let rows = censuses::rows_of(&mut self.conn, rowid)?;
         all_rows(alloc, rows.as_slice())
     }
 
@@ -299,8 +299,8 @@ impl<S: Alter> Archive<S> {
         alloc: Global,
         id: u64,
     ) -> Result<Option<(Rows, bool)>, Unavailable>
-        ensures goes { IsTransition S.Store NoMore self.old self.new }
-        ensures sure { OnOk result (IsSureIfClean S.Store self.new) }
+        ensures transition { IsTransition S.Store NoMore self.old self.new }
+        ensures healthy { OnOk result (IsHealthyIfClean S.Store self.new) }
         ensures same { HoldsTheSame self.old.tables self.new.tables }
         ensures value { ForAllHeld self.old.tables self.new.tables (λ k. IfOk result (λ found. found ≡ option_map (λ t. record { 0 = t.tally.rows; 1 = t.steady }) (numbered k.censuses id))) }
     {
@@ -315,8 +315,8 @@ impl<S: Alter> Archive<S> {
 
     /// The rows of the tally of the census of the number, in byte order of their codes, or none.
     pub fn rows_of(&mut self, alloc: Global, id: u64) -> Result<Option<Rows>, Unavailable>
-        ensures goes { IsTransition S.Store NoMore self.old self.new }
-        ensures sure { OnOk result (IsSureIfClean S.Store self.new) }
+        ensures transition { IsTransition S.Store NoMore self.old self.new }
+        ensures healthy { OnOk result (IsHealthyIfClean S.Store self.new) }
         ensures same { HoldsTheSame self.old.tables self.new.tables }
         ensures value { ForAllHeld self.old.tables self.new.tables (λ k. IfOk result (λ rows. rows ≡ option_map (λ t. t.tally.rows) (numbered k.censuses id))) }
     {
@@ -328,24 +328,24 @@ impl<S: Alter> Archive<S> {
 
     /// The flag of the census of the number, or none: whether the generation that it counted is steady.
     pub fn flag_of(&mut self, id: u64) -> Result<Option<bool>, Unavailable>
-        ensures goes { IsTransition S.Store NoMore self.old self.new }
-        ensures sure { OnOk result (IsSureIfClean S.Store self.new) }
+        ensures transition { IsTransition S.Store NoMore self.old self.new }
+        ensures healthy { OnOk result (IsHealthyIfClean S.Store self.new) }
         ensures same { HoldsTheSame self.old.tables self.new.tables }
         ensures value { ForAllHeld self.old.tables self.new.tables (λ k. IfOk result (λ b. b ≡ option_map (λ t. t.steady) (numbered k.censuses id))) }
     {
-        let Ok(place) = i64::try_from(id) else {
+        let Ok(rowid) = i64::try_from(id) else {
             // No row has such a number. The store is asked all the same: one that is shut answers nothing.
             let _count = self.count_censuses()?;
             return Ok(None);
         };
-        let rows = flags::show(&mut self.conn, place)?;
+        let rows = flags::show(&mut self.conn, rowid)?;
         first_flag(rows.as_slice())
     }
 
     /// How many clusters with the code there are in all censuses of deposits of the rule.
     pub fn counts_of(&mut self, alloc: Global, rule: &Rule, code: &[u8]) -> Result<u64, Unavailable>
-        ensures goes { IsTransition S.Store NoMore self.old self.new }
-        ensures sure { OnOk result (IsSureIfClean S.Store self.new) }
+        ensures transition { IsTransition S.Store NoMore self.old self.new }
+        ensures healthy { OnOk result (IsHealthyIfClean S.Store self.new) }
         ensures same { HoldsTheSame self.old.tables self.new.tables }
         ensures value { ForAllHeld self.old.tables self.new.tables (λ k. IfOk result (λ n. n ≡ total_of k rule.now code.now)) }
     {
@@ -356,10 +356,10 @@ impl<S: Alter> Archive<S> {
 }
 
 impl Archive<MemStore> {
-    /// An archive in memory is sure, whatever was refused: no call finds its disk failed. So what the calls say of a database
-    /// that is sure after them holds of it outright. A law: calling it does nothing.
+    /// An archive in memory is healthy, whatever was refused: no call finds its disk failed. So what the calls say of a database
+    /// that is healthy after them holds of it outright. A law: calling it does nothing.
     pub fn law_of_memory(&self)
-        ensures sure { IsTrue self.now.tables.is_sure }
+        ensures healthy { IsTrue self.now.tables.is_healthy }
         ensures faults { self.now.tables.faults ≡ 0 }
     {
         let _ = &self.conn;

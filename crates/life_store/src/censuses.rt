@@ -11,12 +11,12 @@ ghost use Rattle.life_census.specs.Rows.{row_seen};
 ghost use Rattle.life_store.specs.ReadingState.{newest_rows, ShowsCensus, ShowsTotal, row_shown};
 ghost use Rattle.life_store.specs.Kept.{Kept, Tallied, numbered, total_of};
 ghost use Rattle.life_store.specs.Crash.{NoMore};
-ghost use Rattle.life_store.specs.CensusesState.{tallied_by, Parts, HoldsParts, MeansParts, with_census, with_flag, HoldNewParts, HoldNewCensus};
+ghost use Rattle.life_store.specs.CensusesState.{tallied_by, Parts, HoldsParts, RepresentsParts, with_census, with_flag, HoldNewParts, HoldNewCensus};
 ghost use Rattle.life_store.specs.Stored.{tagged};
 ghost use Rattle.life_store.specs.Statements.{Withstands, Looks, StaysInside};
-ghost use Rattle.life_store.specs.Tables.{tables_of, HasOrder, Holds, WasSure, HoldsTheSame, ForAllHeld};
+ghost use Rattle.life_store.specs.Tables.{tables_of, HasOrder, Holds, WasHealthy, HoldsTheSame, ForAllHeld};
 
-use crate::asking::{ask, text, whole};
+use crate::executing::{query, text, whole};
 use crate::fault::Unavailable;
 use crate::flags;
 use crate::kept::Census;
@@ -28,7 +28,7 @@ pub(crate) fn newest<S: Alter>(conn: &mut Connection<S>) -> Result<Vec<Row>, Err
     ensures looks { Looks S.Store conn.old conn.new result }
     ensures tells { ForAllHeld (tables_of (state S.Store conn.old)) (tables_of (state S.Store conn.new)) (λ k. IfOk result (λ rows. rows.items ≡ newest_rows (length k.censuses))) }
 {
-    ask(
+    query(
         conn,
         "SELECT id FROM censuses ORDER BY id DESC LIMIT 1",
         &[],
@@ -40,7 +40,7 @@ pub(crate) fn show<S: Alter>(conn: &mut Connection<S>, id: i64) -> Result<Vec<Ro
     ensures looks { Looks S.Store conn.old conn.new result }
     ensures tells { (n : ℕ) → id ≡ pos n → ForAllHeld (tables_of (state S.Store conn.old)) (tables_of (state S.Store conn.new)) (λ k. IfOk result (λ rows. ShowsCensus (option_map (λ t. (n, t)) (numbered k.censuses n)) rows.items)) }
 {
-    ask(
+    query(
         conn,
         "SELECT id, member, token, deposit, gens, lim, clusters, unresolved FROM censuses WHERE id = ?1 ORDER BY id",
         &[whole(id)],
@@ -56,7 +56,7 @@ pub(crate) fn find<'a, S: Alter>(
     ensures looks { Looks S.Store conn.old conn.new result }
     ensures tells { ForAllHeld (tables_of (state S.Store conn.old)) (tables_of (state S.Store conn.new)) (λ k. IfOk result (λ rows. ShowsCensus (tallied_by member.now token.now k.censuses) rows.items)) }
 {
-    ask(
+    query(
         conn,
         "SELECT id, member, token, deposit, gens, lim, clusters, unresolved FROM censuses WHERE member = ?1 AND token = ?2 ORDER BY id",
         &[text(member), text(token)],
@@ -68,7 +68,7 @@ pub(crate) fn rows_of<S: Alter>(conn: &mut Connection<S>, id: i64) -> Result<Vec
     ensures looks { Looks S.Store conn.old conn.new result }
     ensures tells { (n : ℕ) → id ≡ pos n → ForAllHeld (tables_of (state S.Store conn.old)) (tables_of (state S.Store conn.new)) (λ k. IfOk result (λ rows. IfSome (numbered k.censuses n) (λ t. rows.items ≡ map row_shown t.tally.rows))) }
 {
-    ask(
+    query(
         conn,
         "SELECT code, n FROM census_rows WHERE census = ?1 ORDER BY code",
         &[whole(id)],
@@ -208,7 +208,7 @@ fn insert_with_flag<S: Alter>(
     flags::insert(tx, id, steady)
 }
 
-/// The same in one transaction, which is rolled back where it fails.
+/// The same in one transaction, which is rolled back if it fails.
 fn insert_all<S: Alter>(
     conn: &mut Connection<S>,
     id: u64,
@@ -217,9 +217,9 @@ fn insert_all<S: Alter>(
     steady: bool,
 ) -> Result<(), Unavailable>
     requires { conn.old.in_transaction ≡ false }
-    ensures added { HasCleanDisk (state S.Store conn.new) → (p : Parts) (t : Tallied) → t ≡ record { census = census.now; tally = tally.now; steady = steady } → MeansParts (state S.Store conn.old) p → id ≡ length p.censuses + 1 → id ≡ length p.flagged + 1
-        → OnOk result (MeansParts (state S.Store conn.new) (with_flag t (with_census id t p))) }
-    ensures undone { HasCleanDisk (state S.Store conn.new) → (p : Parts) → MeansParts (state S.Store conn.old) p → OnErr result (MeansParts (state S.Store conn.new) p) }
+    ensures added { HasCleanDisk (state S.Store conn.new) → (p : Parts) (t : Tallied) → t ≡ record { census = census.now; tally = tally.now; steady = steady } → RepresentsParts (state S.Store conn.old) p → id ≡ length p.censuses + 1 → id ≡ length p.flagged + 1
+        → OnOk result (RepresentsParts (state S.Store conn.new) (with_flag t (with_census id t p))) }
+    ensures undone { HasCleanDisk (state S.Store conn.new) → (p : Parts) → RepresentsParts (state S.Store conn.old) p → OnErr result (RepresentsParts (state S.Store conn.new) p) }
     ensures few { OnOk result (id < 2 ^ 63) }
     ensures was_open { HasCleanDisk (state S.Store conn.new) → IsTrue (state S.Store conn.new).is_open → IsTrue (state S.Store conn.old).is_open }
     ensures clean { doubt (state S.Store conn.old).is_clean ≤ doubt (state S.Store conn.new).is_clean }
@@ -245,10 +245,10 @@ pub(crate) fn insert<S: Alter>(
     steady: bool,
 ) -> Result<(), Unavailable>
     requires { HasOrder tally.now }
-    ensures lost { WasSure (tables_of (state S.Store conn.old)) (tables_of (state S.Store conn.new)) }
+    ensures lost { WasHealthy (tables_of (state S.Store conn.old)) (tables_of (state S.Store conn.new)) }
     ensures withstands { Withstands S.Store (HoldNewCensus (tables_of (state S.Store conn.old)) id (record { census = census.now; tally = tally.now; steady = steady })) conn.old conn.new }
     ensures up { HasCleanDisk (state S.Store conn.new) → OnOk result (IsTrue (state S.Store conn.new).is_open) }
-    ensures ok { OnOk result ((k : Kept) → IsTrue (tables_of (state S.Store conn.new)).is_sure → Holds (tables_of (state S.Store conn.old)) k → id ≡ length k.censuses + 1 → Holds (tables_of (state S.Store conn.new)) (record k { censuses = k.censuses ++ record { census = census.now; tally = tally.now; steady = steady } ∷ [] })) }
+    ensures ok { OnOk result ((k : Kept) → IsTrue (tables_of (state S.Store conn.new)).is_healthy → Holds (tables_of (state S.Store conn.old)) k → id ≡ length k.censuses + 1 → Holds (tables_of (state S.Store conn.new)) (record k { censuses = k.censuses ++ record { census = census.now; tally = tally.now; steady = steady } ∷ [] })) }
     ensures err { OnErr result (HoldsTheSame (tables_of (state S.Store conn.old)) (tables_of (state S.Store conn.new))) }
 {
     if !conn.is_autocommit() {
@@ -266,7 +266,7 @@ pub(crate) fn total<'a, S: Alter>(
     ensures looks { Looks S.Store conn.old conn.new result }
     ensures tells { (r : RuleSets) → IsRule r → rule.now ≡ rule_text r → ForAllHeld (tables_of (state S.Store conn.old)) (tables_of (state S.Store conn.new)) (λ k. IfOk result (λ rows. ShowsTotal (total_of k r code.now) rows.items)) }
 {
-    ask(
+    query(
         conn,
         "SELECT sum(n) FROM census_rows JOIN censuses ON census_rows.census = censuses.id JOIN deposits ON censuses.deposit = deposits.id WHERE rule = ?1 AND code = ?2",
         &[text(rule), text(code)],

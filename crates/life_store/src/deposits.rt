@@ -10,7 +10,7 @@ ghost use Rattle.life_store.specs.DepositsState.{AreValuesOf, AddsUnder};
 ghost use Rattle.life_store.specs.Statements.{Looks};
 ghost use Rattle.life_store.specs.Tables.{tables_of, ForAllHeld};
 
-use crate::asking::{ask, blob, text, whole, write};
+use crate::executing::{query, blob, text, whole, write};
 use crate::fault::Unavailable;
 use crate::kept::Deposit;
 use sqlite::{Alter, Connection, Error, Row};
@@ -21,7 +21,7 @@ pub(crate) fn newest<S: Alter>(conn: &mut Connection<S>) -> Result<Vec<Row>, Err
     ensures looks { Looks S.Store conn.old conn.new result }
     ensures tells { ForAllHeld (tables_of (state S.Store conn.old)) (tables_of (state S.Store conn.new)) (λ k. IfOk result (λ rows. rows.items ≡ newest_rows (length k.deposits))) }
 {
-    ask(
+    query(
         conn,
         "SELECT id FROM deposits ORDER BY id DESC LIMIT 1",
         &[],
@@ -33,7 +33,7 @@ pub(crate) fn show<S: Alter>(conn: &mut Connection<S>, id: i64) -> Result<Vec<Ro
     ensures looks { Looks S.Store conn.old conn.new result }
     ensures tells { (n : ℕ) → id ≡ pos n → ForAllHeld (tables_of (state S.Store conn.old)) (tables_of (state S.Store conn.new)) (λ k. IfOk result (λ rows. ShowsDeposit (option_map (λ d. (n, d)) (numbered k.deposits n)) rows.items)) }
 {
-    ask(
+    query(
         conn,
         "SELECT id, member, token, rule, population, rle FROM deposits WHERE id = ?1 ORDER BY id",
         &[whole(id)],
@@ -49,7 +49,7 @@ pub(crate) fn find<'a, S: Alter>(
     ensures looks { Looks S.Store conn.old conn.new result }
     ensures tells { ForAllHeld (tables_of (state S.Store conn.old)) (tables_of (state S.Store conn.new)) (λ k. IfOk result (λ rows. ShowsDeposit (deposit_by member.now token.now k.deposits) rows.items)) }
 {
-    ask(
+    query(
         conn,
         "SELECT id, member, token, rule, population, rle FROM deposits WHERE member = ?1 AND token = ?2 ORDER BY id",
         &[text(member), text(token)],
@@ -61,7 +61,7 @@ pub(crate) fn list_after<S: Alter>(conn: &mut Connection<S>, id: i64) -> Result<
     ensures looks { Looks S.Store conn.old conn.new result }
     ensures tells { (n : ℕ) → id ≡ pos n → ForAllHeld (tables_of (state S.Store conn.old)) (tables_of (state S.Store conn.new)) (λ k. IfOk result (λ rows. rows.items ≡ map line_shown (listed_after n k.deposits))) }
 {
-    ask(
+    query(
         conn,
         "SELECT id, member, population, rule FROM deposits WHERE id > ?1 ORDER BY id LIMIT 100",
         &[whole(id)],

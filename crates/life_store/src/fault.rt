@@ -7,7 +7,7 @@ use life_rle::RleFault;
 use sqlite::Error;
 use std::alloc::AllocError;
 
-/// The store or an allocation was refused, or a row was met that no archive writes. If the database is sure after the
+/// The store or an allocation was refused, or a row was met that no archive writes. If the database is healthy after the
 /// call, what was stored is stored and nothing else is.
 #[derive(Clone, Copy, Debug, PartialEq, Eq)]
 pub struct Unavailable;

@@ -11,7 +11,7 @@ ghost use Rattle.life_store.specs.ReadingState.{ShowsFlag};
 ghost use Rattle.life_store.specs.Statements.{Withstands, Looks, StaysInside};
 ghost use Rattle.life_store.specs.Tables.{tables_of, ForAllHeld};
 
-use crate::asking::{ask, flag, whole};
+use crate::executing::{query, flag, whole};
 use crate::fault::Unavailable;
 use sqlite::{Alter, Connection, Error, Row, Transaction};
 
@@ -20,7 +20,7 @@ pub(crate) fn show<S: Alter>(conn: &mut Connection<S>, id: i64) -> Result<Vec<Ro
     ensures looks { Looks S.Store conn.old conn.new result }
     ensures tells { (n : ℕ) → id ≡ pos n → ForAllHeld (tables_of (state S.Store conn.old)) (tables_of (state S.Store conn.new)) (λ k. IfOk result (λ rows. ShowsFlag (option_map (λ t. t.steady) (numbered k.censuses n)) rows.items)) }
 {
-    ask(
+    query(
         conn,
         "SELECT steady FROM census_flags WHERE census = ?1 ORDER BY census",
         &[whole(id)],

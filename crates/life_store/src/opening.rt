@@ -12,21 +12,21 @@ ghost use Rattle.sqlite.specs.Files.{file_state, image_of, over_files};
 ghost use Rattle.sqlite_wal.specs.Files.{image_at};
 ghost use Rattle.sqlite_wal.specs.Reads.{AreClean};
 ghost use Rattle.sqlite_schema.specs.declared.schema.Schema.{Schema as SchemaValue};
-ghost use Rattle.life_store.specs.Carrying.{CarriedOver};
-ghost use Rattle.life_store.specs.CarryingState.{Carries};
+ghost use Rattle.life_store.specs.Migration.{Migrated};
+ghost use Rattle.life_store.specs.MigrationState.{Carries};
 ghost use Rattle.life_store.specs.Kept.{Kept};
-ghost use Rattle.life_store.specs.LayingState.{IsLaid};
+ghost use Rattle.life_store.specs.CreatingState.{HasTables};
 ghost use Rattle.life_store.specs.Layout.{no_schema};
 ghost use Rattle.life_store.specs.Opening.{is_capacity, nothing_kept, without_log, IsLayout, FilesHaveVersions, FilesHold, FilesHoldFirst, LeftHold, AreLeftOf, ListNothing};
 ghost use Rattle.life_store.specs.OpeningState.{HaveVersions, has_table, has_view, has_name, has_some, column_of, version_shown, version_with, rows_of_version, schema_of};
-ghost use Rattle.life_store.specs.Tables.{tables_of, Holds, HoldsTheSame, IsSureIfClean};
+ghost use Rattle.life_store.specs.Tables.{tables_of, Holds, HoldsTheSame, IsHealthyIfClean};
 
 use crate::archive::Archive;
-use crate::asking::ask;
-use crate::beside::{missing_log, remove_blank};
-use crate::carrying::carry_over;
+use crate::executing::query;
+use crate::log_path::{missing_log, remove_blank};
+use crate::migration::migrate;
 use crate::fault::{OpenFault, Unavailable};
-use crate::laying::lay_out;
+use crate::creating::create_tables;
 use sqlite::types::ValueRef;
 use sqlite::{Alter, Connection, Error, FileFrom, FileStore, Files, MemStore, Options, Row, Start};
 use sqlite_disk::Disk;
@@ -92,13 +92,13 @@ enum Version {
 
 /// The rows that name the layout.
 fn versions<S: Alter>(conn: &mut Connection<S>) -> Result<Vec<Row>, Error>
-    ensures same { (schema : SchemaValue) (own : List Value) → IsLayout schema own → IsTrue (tables_of (state S.Store conn.new)).is_sure → (state S.Store conn.old).now.schema ≡ schema → (state S.Store conn.new).now ≡ (state S.Store conn.old).now }
-    ensures tells { (schema : SchemaValue) (own versions : List Value) → IsLayout schema own → IsTrue (tables_of (state S.Store conn.new)).is_sure → HaveVersions schema (tables_of (state S.Store conn.old)) versions → IfOk result (λ rows. (rows.items ≡ column_of own) ↔ (versions ≡ own)) }
+    ensures same { (schema : SchemaValue) (own : List Value) → IsLayout schema own → IsTrue (tables_of (state S.Store conn.new)).is_healthy → (state S.Store conn.old).now.schema ≡ schema → (state S.Store conn.new).now ≡ (state S.Store conn.old).now }
+    ensures tells { (schema : SchemaValue) (own versions : List Value) → IsLayout schema own → IsTrue (tables_of (state S.Store conn.new)).is_healthy → HaveVersions schema (tables_of (state S.Store conn.old)) versions → IfOk result (λ rows. (rows.items ≡ column_of own) ↔ (versions ≡ own)) }
     ensures up { HasCleanDisk (state S.Store conn.new) → OnOk result (IsTrue (state S.Store conn.new).is_open) }
     ensures clean { doubt (state S.Store conn.old).is_clean ≤ doubt (state S.Store conn.new).is_clean }
     ensures mode { conn.old.in_transaction ≡ false → conn.new.in_transaction ≡ false }
 {
-    ask(conn, "SELECT * FROM layout ORDER BY 1 LIMIT 2", &[])
+    query(conn, "SELECT * FROM layout ORDER BY 1 LIMIT 2", &[])
 }
 
 /// Whether the rows are version 1 alone.
@@ -141,9 +141,9 @@ fn version_named(has_flags: bool, rows: &[Row]) -> Result<Version, OpenFault>
 
 /// The version of the tables, some of which stand.
 fn version_of<S: Alter>(conn: &mut Connection<S>) -> Result<Version, OpenFault>
-    ensures same { OnOk result ((schema : SchemaValue) (own : List Value) → IsLayout schema own → IsTrue (tables_of (state S.Store conn.new)).is_sure → (state S.Store conn.old).now.schema ≡ schema → (state S.Store conn.new).now ≡ (state S.Store conn.old).now) }
-    ensures found { (schema : SchemaValue) (own versions : List Value) → IsLayout schema own → IsTrue (tables_of (state S.Store conn.new)).is_sure → HaveVersions schema (tables_of (state S.Store conn.old)) versions → IfOk result (λ v. (versions ≡ own) × (schema ≡ schema_of v)) }
-    ensures ours { (schema : SchemaValue) (own : List Value) → IsLayout schema own → IsTrue (tables_of (state S.Store conn.new)).is_sure → HaveVersions schema (tables_of (state S.Store conn.old)) own → result ≢ Err OpenFault.NotOurs }
+    ensures same { OnOk result ((schema : SchemaValue) (own : List Value) → IsLayout schema own → IsTrue (tables_of (state S.Store conn.new)).is_healthy → (state S.Store conn.old).now.schema ≡ schema → (state S.Store conn.new).now ≡ (state S.Store conn.old).now) }
+    ensures found { (schema : SchemaValue) (own versions : List Value) → IsLayout schema own → IsTrue (tables_of (state S.Store conn.new)).is_healthy → HaveVersions schema (tables_of (state S.Store conn.old)) versions → IfOk result (λ v. (versions ≡ own) × (schema ≡ schema_of v)) }
+    ensures ours { (schema : SchemaValue) (own : List Value) → IsLayout schema own → IsTrue (tables_of (state S.Store conn.new)).is_healthy → HaveVersions schema (tables_of (state S.Store conn.old)) own → result ≢ Err OpenFault.NotOurs }
     ensures fits { result ≢ Err OpenFault.BadCapacity }
     ensures up { HasCleanDisk (state S.Store conn.new) → OnOk result (IsTrue (state S.Store conn.new).is_open) }
     ensures clean { doubt (state S.Store conn.old).is_clean ≤ doubt (state S.Store conn.new).is_clean }
@@ -163,15 +163,15 @@ fn version_of<S: Alter>(conn: &mut Connection<S>) -> Result<Version, OpenFault>
 fn take_up<S: Alter>(alloc: Global, conn: &mut Connection<S>) -> Result<(), OpenFault>
     ensures keeps { OnOk result (HoldsTheSame (tables_of (state S.Store conn.old)) (tables_of (state S.Store conn.new))) }
     ensures carries { OnOk result (Carries (tables_of (state S.Store conn.old)) (tables_of (state S.Store conn.new))) }
-    ensures known { OnOk result ((schema : SchemaValue) (own versions : List Value) → IsLayout schema own → IsTrue (tables_of (state S.Store conn.new)).is_sure → HaveVersions schema (tables_of (state S.Store conn.old)) versions → versions ≡ own) }
-    ensures ours { (schema : SchemaValue) (own : List Value) → IsLayout schema own → IsTrue (tables_of (state S.Store conn.new)).is_sure → HaveVersions schema (tables_of (state S.Store conn.old)) own → result ≢ Err OpenFault.NotOurs }
+    ensures known { OnOk result ((schema : SchemaValue) (own versions : List Value) → IsLayout schema own → IsTrue (tables_of (state S.Store conn.new)).is_healthy → HaveVersions schema (tables_of (state S.Store conn.old)) versions → versions ≡ own) }
+    ensures ours { (schema : SchemaValue) (own : List Value) → IsLayout schema own → IsTrue (tables_of (state S.Store conn.new)).is_healthy → HaveVersions schema (tables_of (state S.Store conn.old)) own → result ≢ Err OpenFault.NotOurs }
     ensures fits { result ≢ Err OpenFault.BadCapacity }
     ensures up { HasCleanDisk (state S.Store conn.new) → OnOk result (IsTrue (state S.Store conn.new).is_open) }
     ensures clean { doubt (state S.Store conn.old).is_clean ≤ doubt (state S.Store conn.new).is_clean }
 {
     match version_of(conn) {
         Ok(Version::Second) => Ok(()),
-        Ok(Version::First) => match carry_over(alloc, conn) {
+        Ok(Version::First) => match migrate(alloc, conn) {
             Ok(()) => Ok(()),
             Err(_) => Err(OpenFault::Unavailable),
         },
@@ -179,13 +179,13 @@ fn take_up<S: Alter>(alloc: Global, conn: &mut Connection<S>) -> Result<(), Open
     }
 }
 
-/// Sees that the tables are those of an archive; where none of them stands, makes them.
+/// Sees that the tables are those of an archive; if none of them stands, makes them.
 fn prepare<S: Alter>(alloc: Global, conn: &mut Connection<S>) -> Result<(), OpenFault>
     ensures keeps { OnOk result (HoldsTheSame (tables_of (state S.Store conn.old)) (tables_of (state S.Store conn.new))) }
     ensures carries { OnOk result (Carries (tables_of (state S.Store conn.old)) (tables_of (state S.Store conn.new))) }
-    ensures fresh { HasCleanDisk (state S.Store conn.new) → IsLaid no_schema [] (state S.Store conn.old).now → OnOk result (IsTrue (tables_of (state S.Store conn.new)).is_sure × Holds (tables_of (state S.Store conn.new)) nothing_kept) }
-    ensures known { OnOk result ((schema : SchemaValue) (own versions : List Value) → IsLayout schema own → IsTrue (tables_of (state S.Store conn.new)).is_sure → HaveVersions schema (tables_of (state S.Store conn.old)) versions → versions ≡ own) }
-    ensures ours { (schema : SchemaValue) (own : List Value) → IsLayout schema own → IsTrue (tables_of (state S.Store conn.new)).is_sure → HaveVersions schema (tables_of (state S.Store conn.old)) own → result ≢ Err OpenFault.NotOurs }
+    ensures fresh { HasCleanDisk (state S.Store conn.new) → HasTables no_schema [] (state S.Store conn.old).now → OnOk result (IsTrue (tables_of (state S.Store conn.new)).is_healthy × Holds (tables_of (state S.Store conn.new)) nothing_kept) }
+    ensures known { OnOk result ((schema : SchemaValue) (own versions : List Value) → IsLayout schema own → IsTrue (tables_of (state S.Store conn.new)).is_healthy → HaveVersions schema (tables_of (state S.Store conn.old)) versions → versions ≡ own) }
+    ensures ours { (schema : SchemaValue) (own : List Value) → IsLayout schema own → IsTrue (tables_of (state S.Store conn.new)).is_healthy → HaveVersions schema (tables_of (state S.Store conn.old)) own → result ≢ Err OpenFault.NotOurs }
     ensures none { (state S.Store conn.old).now.schema ≡ no_schema → result ≢ Err OpenFault.NotOurs }
     ensures fits { result ≢ Err OpenFault.BadCapacity }
     ensures up { HasCleanDisk (state S.Store conn.new) → OnOk result (IsTrue (state S.Store conn.new).is_open) }
@@ -195,7 +195,7 @@ fn prepare<S: Alter>(alloc: Global, conn: &mut Connection<S>) -> Result<(), Open
         return Err(OpenFault::Unavailable);
     }
     if !has_some(conn.schema()) {
-        return match lay_out(conn) {
+        return match create_tables(conn) {
             Ok(()) => Ok(()),
             Err(_) => Err(OpenFault::Unavailable),
         };
@@ -206,7 +206,7 @@ fn prepare<S: Alter>(alloc: Global, conn: &mut Connection<S>) -> Result<(), Open
 impl Archive<MemStore> {
     /// A new archive in memory: no deposit and no census. The capacity is from 1 to 1,000,000.
     pub fn open_in_memory(alloc: Global, capacity: u64) -> Result<Archive<MemStore>, OpenFault>
-        ensures opened { IfOk result (λ a. IsTrue a.tables.is_sure × Holds a.tables nothing_kept × (a.capacity ≡ capacity)) }
+        ensures opened { IfOk result (λ a. IsTrue a.tables.is_healthy × Holds a.tables nothing_kept × (a.capacity ≡ capacity)) }
         ensures bad { (result ≡ Err OpenFault.BadCapacity) ↔ (is_capacity capacity ≡ false) }
         ensures ours { result ≢ Err OpenFault.NotOurs }
     {
@@ -216,7 +216,7 @@ impl Archive<MemStore> {
         let Ok(mut conn) = Connection::open_in_memory(alloc) else {
             return Err(OpenFault::Unavailable);
         };
-        match lay_out(&mut conn) {
+        match create_tables(&mut conn) {
             Ok(()) => Ok(Archive { conn, capacity }),
             Err(_) => Err(OpenFault::Unavailable),
         }
@@ -238,7 +238,7 @@ fn settled<S: Alter + Drop>(archive: Archive<S>) -> Result<Connection<S>, S>
     Ok(conn)
 }
 
-/// Closes the connection, and gives its files back, also where the close is refused.
+/// Closes the connection, and gives its files back, also if the close is refused.
 fn close<D: Disk + Drop>(conn: Connection<FileStore<D>>) -> Result<Files<D>, Files<D>>
     ensures usable { IfOk result (λ files. IsTrue (D.Disk.is_usable files.log) × IsTrue (D.Disk.is_usable files.db)) }
     ensures copied { IfOk result (λ files. AreClean D.Disk files.log files.db → IsCopied conn files) }
@@ -257,12 +257,12 @@ fn seen_to<S: Alter + Drop>(
     capacity: u64,
 ) -> Result<Archive<S>, (OpenFault, Result<Connection<S>, S>)>
     ensures capacity { IfOk result (λ a. a.capacity ≡ capacity) }
-    ensures sure { IfOk result (IsSureIfClean S.Store) }
-    ensures found { IfOk result (λ a. (k : Kept) → IsTrue a.tables.is_sure → Holds (tables_of (state S.Store conn)) k → Holds a.tables k) }
+    ensures healthy { IfOk result (IsHealthyIfClean S.Store) }
+    ensures found { IfOk result (λ a. (k : Kept) → IsTrue a.tables.is_healthy → Holds (tables_of (state S.Store conn)) k → Holds a.tables k) }
     ensures carries { IfOk result (λ a. Carries (tables_of (state S.Store conn)) a.tables) }
-    ensures fresh { IfOk result (λ a. IsTrue a.tables.is_sure → IsLaid no_schema [] (state S.Store conn).now → Holds a.tables nothing_kept) }
-    ensures known { IfOk result (λ a. (schema : SchemaValue) (own versions : List Value) → IsLayout schema own → IsTrue a.tables.is_sure → HaveVersions schema (tables_of (state S.Store conn)) versions → versions ≡ own) }
-    ensures clean { IfOk result (λ a. IsTrue a.tables.is_sure → HasCleanDisk (state S.Store conn)) }
+    ensures fresh { IfOk result (λ a. IsTrue a.tables.is_healthy → HasTables no_schema [] (state S.Store conn).now → Holds a.tables nothing_kept) }
+    ensures known { IfOk result (λ a. (schema : SchemaValue) (own versions : List Value) → IsLayout schema own → IsTrue a.tables.is_healthy → HaveVersions schema (tables_of (state S.Store conn)) versions → versions ≡ own) }
+    ensures clean { IfOk result (λ a. IsTrue a.tables.is_healthy → HasCleanDisk (state S.Store conn)) }
     ensures fits { IfErr result (λ e. e.0 ≢ OpenFault.BadCapacity) }
     ensures none { (state S.Store conn).now.schema ≡ no_schema → IfErr result (λ e. e.0 ≢ OpenFault.NotOurs) }
     ensures others { IfErr result (λ e. IfErr e.1 (λ _. e.0 ≢ OpenFault.NotOurs)) }
@@ -284,15 +284,15 @@ fn archive_over<D: Disk + Drop>(
     capacity: u64,
 ) -> Result<Archive<FileStore<D>>, (OpenFault, Files<D>)>
     ensures capacity { IfOk result (λ a. a.capacity ≡ capacity) }
-    ensures sure { IfOk result (IsSureIfClean over_files) }
-    ensures found { IfOk result (λ a. (k : Kept) → IsTrue a.tables.is_sure → Holds (tables_of (file_state conn)) k → Holds a.tables k) }
+    ensures healthy { IfOk result (IsHealthyIfClean over_files) }
+    ensures found { IfOk result (λ a. (k : Kept) → IsTrue a.tables.is_healthy → Holds (tables_of (file_state conn)) k → Holds a.tables k) }
     ensures carries { IfOk result (λ a. Carries (tables_of (file_state conn)) a.tables) }
-    ensures fresh { IfOk result (λ a. IsTrue a.tables.is_sure → IsLaid no_schema [] (file_state conn).now → Holds a.tables nothing_kept) }
+    ensures fresh { IfOk result (λ a. IsTrue a.tables.is_healthy → HasTables no_schema [] (file_state conn).now → Holds a.tables nothing_kept) }
     ensures fits { IfErr result (λ e. e.0 ≢ OpenFault.BadCapacity) }
-    ensures known { IfOk result (λ a. (schema : SchemaValue) (own versions : List Value) → IsLayout schema own → IsTrue a.tables.is_sure → HaveVersions schema (tables_of (file_state conn)) versions → versions ≡ own) }
+    ensures known { IfOk result (λ a. (schema : SchemaValue) (own versions : List Value) → IsLayout schema own → IsTrue a.tables.is_healthy → HaveVersions schema (tables_of (file_state conn)) versions → versions ≡ own) }
     ensures ours { IfErr result (λ e. AreClean D.Disk e.1.log e.1.db → e.0 ≡ OpenFault.NotOurs → HasCleanDisk (file_state conn) × ((schema : SchemaValue) (own : List Value) → IsLayout schema own → HaveVersions schema (tables_of (file_state conn)) own → ⊥)) }
     ensures none { (file_state conn).now.schema ≡ no_schema → IfErr result (λ e. e.0 ≢ OpenFault.NotOurs) }
-    ensures clean { IfOk result (λ a. IsTrue a.tables.is_sure → HasCleanDisk (file_state conn)) }
+    ensures clean { IfOk result (λ a. IsTrue a.tables.is_healthy → HasCleanDisk (file_state conn)) }
 {
     match seen_to(alloc, conn, capacity) {
         Ok(archive) => Ok(archive),
@@ -317,12 +317,12 @@ impl<D: Disk + Drop> Archive<FileStore<D>> {
         requires log { IsTrue (D.Disk.is_usable files.log) }
         requires db { IsTrue (D.Disk.is_usable files.db) }
         ensures capacity { IfOk result (λ a. (a.capacity ≡ capacity) × IsTrue (is_capacity capacity)) }
-        ensures sure { IfOk result (IsSureIfClean over_files) }
-        ensures found { IfOk result (λ a. (k : Kept) → IsTrue a.tables.is_sure → FilesHold (image_of D.Disk files) k → Holds a.tables k) }
-        ensures carried { IfOk result (λ a. (k : Kept) → IsTrue a.tables.is_sure → FilesHoldFirst (image_of D.Disk files) k → CarriedOver a.tables k) }
-        ensures fresh { IfOk result (λ a. IsTrue a.tables.is_sure → ListNothing (image_of D.Disk files) → Holds a.tables nothing_kept) }
-        ensures honest { IfOk result (λ a. IsTrue a.tables.is_sure → AreClean D.Disk files.log files.db) }
-        ensures known { IfOk result (λ a. (schema : SchemaValue) (own versions : List Value) → IsLayout schema own → IsTrue a.tables.is_sure → FilesHaveVersions schema (image_of D.Disk files) versions → versions ≡ own) }
+        ensures healthy { IfOk result (IsHealthyIfClean over_files) }
+        ensures found { IfOk result (λ a. (k : Kept) → IsTrue a.tables.is_healthy → FilesHold (image_of D.Disk files) k → Holds a.tables k) }
+        ensures migrated { IfOk result (λ a. (k : Kept) → IsTrue a.tables.is_healthy → FilesHoldFirst (image_of D.Disk files) k → Migrated a.tables k) }
+        ensures fresh { IfOk result (λ a. IsTrue a.tables.is_healthy → ListNothing (image_of D.Disk files) → Holds a.tables nothing_kept) }
+        ensures honest { IfOk result (λ a. IsTrue a.tables.is_healthy → AreClean D.Disk files.log files.db) }
+        ensures known { IfOk result (λ a. (schema : SchemaValue) (own versions : List Value) → IsLayout schema own → IsTrue a.tables.is_healthy → FilesHaveVersions schema (image_of D.Disk files) versions → versions ≡ own) }
         ensures bad { IfErr result (λ e. (e.0 ≡ OpenFault.BadCapacity) ↔ (is_capacity capacity ≡ false)) }
         ensures back { IfErr result (λ e. e.0 ≡ OpenFault.BadCapacity → e.1 ≡ files) }
         ensures ours { IfErr result (λ e. (k : Kept) → AreClean D.Disk e.1.log e.1.db → FilesHold (image_of D.Disk files) k → e.0 ≢ OpenFault.NotOurs) }
@@ -339,7 +339,7 @@ impl<D: Disk + Drop> Archive<FileStore<D>> {
         }
     }
 
-    /// Closes the archive and gives its files back, also where the close is refused. Files that were closed hold what the
+    /// Closes the archive and gives its files back, also if the close is refused. Files that were closed hold what the
     /// archive held, and so does the database file with no log.
     pub fn close_files(self) -> Result<Files<D>, (Unavailable, Files<D>)>
         ensures usable { IfOk result (λ files. IsTrue (D.Disk.is_usable files.log) × IsTrue (D.Disk.is_usable files.db)) }
@@ -347,7 +347,7 @@ impl<D: Disk + Drop> Archive<FileStore<D>> {
         ensures alone { IfOk result (λ files. (k : Kept) → AreClean D.Disk files.log files.db → Holds self.tables k → FilesHold (without_log (image_of D.Disk files)) k) }
         // So does each image that a crash may leave of them then. If the disk returned what was written, the archive was healthy to the end.
         ensures left { IfOk result (λ files. (k : Kept) → AreClean D.Disk files.log files.db → Holds self.tables k → LeftHold D.Disk files k) }
-        ensures sure { IfOk result (λ files. AreClean D.Disk files.log files.db → IsTrue self.tables.is_sure) }
+        ensures healthy { IfOk result (λ files. AreClean D.Disk files.log files.db → IsTrue self.tables.is_healthy) }
     {
         match settled(self) {
             Ok(conn) => match close(conn) {
@@ -363,7 +363,7 @@ impl<D: Disk + Drop> Archive<FileStore<D>> {
     pub fn into_files(self) -> Files<D>
         ensures honest { AreClean D.Disk result.log result.db → IsClean (view self.store) }
         ensures left { AreLeftOf self.store result }
-        ensures held { (k : Kept) → IsTrue self.tables.is_sure → Holds self.tables k → AreClean D.Disk result.log result.db → LeftHold D.Disk result k }
+        ensures held { (k : Kept) → IsTrue self.tables.is_healthy → Holds self.tables k → AreClean D.Disk result.log result.db → LeftHold D.Disk result k }
     {
         self.law_of_crashes();
         self.into_connection().into_store().close()
@@ -371,7 +371,7 @@ impl<D: Disk + Drop> Archive<FileStore<D>> {
 }
 
 impl<D: Disk + Drop> Archive<FileStore<D>> {
-    /// Closes the archive and opens its files again, with another capacity: what it held is found again. Where the close or
+    /// Closes the archive and opens its files again, with another capacity: what it held is found again. If the close or
     /// the opening is refused, the files are given back; those of an archive are not refused as another's.
     pub fn reopen(
         self,
@@ -379,8 +379,8 @@ impl<D: Disk + Drop> Archive<FileStore<D>> {
         capacity: u64,
     ) -> Result<Archive<FileStore<D>>, (OpenFault, Files<D>)>
         ensures capacity { IfOk result (λ a. (a.capacity ≡ capacity) × IsTrue (is_capacity capacity)) }
-        ensures sure { IfOk result (IsSureIfClean over_files) }
-        ensures found { IfOk result (λ a. (k : Kept) → IsTrue a.tables.is_sure → Holds self.tables k → Holds a.tables k) }
+        ensures healthy { IfOk result (IsHealthyIfClean over_files) }
+        ensures found { IfOk result (λ a. (k : Kept) → IsTrue a.tables.is_healthy → Holds self.tables k → Holds a.tables k) }
         ensures bad { IfErr result (λ e. e.0 ≡ OpenFault.BadCapacity → is_capacity capacity ≡ false) }
         ensures ours { IfErr result (λ e. (k : Kept) → AreClean D.Disk e.1.log e.1.db → Holds self.tables k → e.0 ≢ OpenFault.NotOurs) }
     {
@@ -402,7 +402,7 @@ fn remove_unmade<D: Disk + Drop>(rt: &HostRuntime, unmade: Option<String>, files
 impl<T: Start> Archive<FileStore<FileFrom<T>>> {
     /// The archive in the file of the path, and in the log beside it; where they hold none of its tables, a new one. An
     /// archive of layout 1 is migrated, as `open_files` does it. `start` says what the two files are taken to hold:
-    /// `sqlite::Unknown` says nothing of files that are not empty. A refused opening drops the files, and where it made a
+    /// `sqlite::Unknown` says nothing of files that are not empty. A refused opening drops the files, and if it made a
     /// log that has no commit, beside a file that was there, it removes it.
     pub fn open_path(
         rt: &HostRuntime,
@@ -411,11 +411,11 @@ impl<T: Start> Archive<FileStore<FileFrom<T>>> {
         start: T,
     ) -> Result<Archive<FileStore<FileFrom<T>>>, OpenFault>
         ensures capacity { IfOk result (λ a. (a.capacity ≡ capacity) × IsTrue (is_capacity capacity)) }
-        ensures sure { IfOk result (IsSureIfClean over_files) }
-        ensures found { IfOk result (λ a. (k : Kept) → IsTrue a.tables.is_sure → FilesHold (image_at T.Start) k → Holds a.tables k) }
-        ensures carried { IfOk result (λ a. (k : Kept) → IsTrue a.tables.is_sure → FilesHoldFirst (image_at T.Start) k → CarriedOver a.tables k) }
-        ensures fresh { IfOk result (λ a. IsTrue a.tables.is_sure → ListNothing (image_at T.Start) → Holds a.tables nothing_kept) }
-        ensures known { IfOk result (λ a. (schema : SchemaValue) (own versions : List Value) → IsLayout schema own → IsTrue a.tables.is_sure → FilesHaveVersions schema (image_at T.Start) versions → versions ≡ own) }
+        ensures healthy { IfOk result (IsHealthyIfClean over_files) }
+        ensures found { IfOk result (λ a. (k : Kept) → IsTrue a.tables.is_healthy → FilesHold (image_at T.Start) k → Holds a.tables k) }
+        ensures migrated { IfOk result (λ a. (k : Kept) → IsTrue a.tables.is_healthy → FilesHoldFirst (image_at T.Start) k → Migrated a.tables k) }
+        ensures fresh { IfOk result (λ a. IsTrue a.tables.is_healthy → ListNothing (image_at T.Start) → Holds a.tables nothing_kept) }
+        ensures known { IfOk result (λ a. (schema : SchemaValue) (own versions : List Value) → IsLayout schema own → IsTrue a.tables.is_healthy → FilesHaveVersions schema (image_at T.Start) versions → versions ≡ own) }
         ensures bad { (result ≡ Err OpenFault.BadCapacity) ↔ (is_capacity capacity ≡ false) }
     {
         if !is_capacity(capacity) {

@@ -64,7 +64,7 @@ fn coded(alloc: Global, rule: &Rule, pattern: &Pattern, limit: u32) -> Result<Op
     code(alloc, rule, pattern, limit)
 }
 
-/// Whether both have this code and whether they are one object, where both have a code.
+/// Whether both have this code and whether they are one object, if both have a code.
 fn compared(first: &Option<Coded>, second: &Option<Coded>, text: &[u8]) -> Option<(bool, bool)> {
     match (first, second) {
         (Some(first), Some(second)) => Some((

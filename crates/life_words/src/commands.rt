@@ -90,7 +90,7 @@ pub fn with_command<'a>(
     above?.subcommand(below?)
 }
 
-/// The words of the process, the program's name first. Where one of them is not UTF-8, they are a usage error, with the text that `clap`
+/// The words of the process, the program's name first. If one of them is not UTF-8, they are a usage error, with the text that `clap`
 /// has for them of the program's command, which is made in this case alone.
 pub fn words_of<'a, C>(rt: &HostRuntime, command: C) -> Result<Vec<String>, WordFault>
 where

@@ -84,7 +84,7 @@ const RUNS: [Run; 12] = [
     ),
 ];
 
-/// Whether this comes of a run over pieces of this size, where no call fails.
+/// Whether this comes of a run over pieces of this size, if no call fails.
 fn comes(alloc: Global, run: Run, piece: usize) -> bool
     requires { 0 < piece }
 {

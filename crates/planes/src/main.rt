@@ -124,14 +124,14 @@ fn digest(cells: &[Cell], field: Field) -> u128 {
     sum
 }
 
-/// Two rules that take turns of three generations; the same twice where there is one.
+/// Two rules that take turns of three generations; the same twice if there is one.
 #[derive(Clone, Copy)]
 struct Turns {
     first: Rule,
     second: Rule,
 }
 
-/// The rules of a name; none where it is not one or two.
+/// The rules of a name; none if it is not one or two.
 fn turns_of(name: &str) -> Option<Turns> {
     let (first, second) = match name.split_once('+') {
         None => (name, name),

@@ -133,7 +133,7 @@ fn left_lanes(words: &[u64], k: usize) -> u64x4
     (here << 1) | (words_before(words, k) >> 63)
 }
 
-/// The four words from `k` on, moved down by one place, with a dead place behind the row.
+/// The four words from `k` on, moved down by one place, with a dead place after the row.
 #[inline(always)]
 fn right_lanes(words: &[u64], k: usize) -> u64x4
     requires { k + 4 ≤ length words.now }
@@ -155,7 +155,7 @@ fn words_before(words: &[u64], k: usize) -> u64x4
     lanes_at(words, k - 1)
 }
 
-/// The words after each of the four from `k` on, or 0 behind the row.
+/// The words after each of the four from `k` on, or 0 after the row.
 #[inline(always)]
 fn words_after(words: &[u64], k: usize) -> u64x4
     requires { k + 4 ≤ length words.now }

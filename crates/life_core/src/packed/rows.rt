@@ -179,7 +179,7 @@ fn both(a: bool, b: bool) -> bool
 }
 
 /// Puts the rows one generation later into `out`, and what it changes into the marks of the step
-/// after this one. Where a block is not marked, `out` has its next already: if `out` is what `rows`
+/// after this one. If a block is not marked, `out` has its next already: if `out` is what `rows`
 /// follow, for else all blocks are made anew, in this step and in the next.
 fn advance(
     rule: &Rule,

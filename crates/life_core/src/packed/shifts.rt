@@ -12,8 +12,8 @@ use crate::cell::{Cell, PLANE};
 use crate::packed::frame::Frame;
 use crate::packed::words::to_the_right;
 
-/// The one move, columns and rows, that takes the set of the words to that of the others; none where
-/// it is empty, or where no move does.
+/// The one move, columns and rows, that takes the set of the words to that of the others; none if
+/// it is empty, or if no move does.
 pub(crate) fn shift_of_words(
     frame: Frame,
     rows: &[u64],

@@ -17,7 +17,7 @@ pub(crate) struct Narrower {
 }
 
 /// The least frame of this one's blocks that has all live cells, three lines of blocks above and
-/// below them, and a column of blocks beside them, as far as this one has these; none where this is
+/// below them, and a column of blocks beside them, as far as this one has these; none if this is
 /// it.
 pub(crate) fn narrowed(frame: Frame, rows: &[u64]) -> Option<Narrower>
     requires frame { IsFrame frame }

@@ -7,23 +7,23 @@ use Rattle.life_archive.proofs.deposit.take_file.Goals as goal
 
 pub returns-in-Ok-eq0-clause-taken : goal.returns-in-Ok-eq0-clause-taken
 returns-in-Ok-eq0-clause-taken g c =
-    let some : 0 < length c.take.new.place = omega (arith, c.take.auto.place, length-take c.min-room.result c.loop-buffer.buffer) in
+    let some : 0 < length c.take.new.space = omega (arith, c.take.auto.space, length-take c.min-room.result c.loop-buffer.buffer) in
     taken_all _ _ c.loop-buffer.file.items c.loop-buffer.invariant.taken (c.in-Ok-eq0.ensures.bytes.1 c.in-Ok-eq0.field-0-test some) c.loop-buffer.invariant.few
 
 pub returns-in-Err-extend_from_slice-clause-takes : goal.returns-in-Err-extend_from_slice-clause-takes
 returns-in-Err-extend_from_slice-clause-takes g c = record {
-  heard = c.in-Ok.ensures.count ∙ c.loop-buffer.invariant.unfailed;
+  on_failed_take = c.in-Ok.ensures.count ∙ c.loop-buffer.invariant.unfailed;
   few = (
-    c.loop-buffer.file.items ++ take c.in-Ok.k c.take.new.place,
+    c.loop-buffer.file.items ++ take c.in-Ok.k c.take.new.space,
     omega (
       arith,
-      c.take.auto.place,
+      c.take.auto.space,
       c.in-Ok.ensures.within,
-      length-append c.loop-buffer.file.items (take c.in-Ok.k c.take.new.place),
-      length-take-le c.in-Ok.k c.take.new.place c.in-Ok.ensures.within,
+      length-append c.loop-buffer.file.items (take c.in-Ok.k c.take.new.space),
+      length-take-le c.in-Ok.k c.take.new.space c.in-Ok.ensures.within,
       length-take c.min-room.result c.loop-buffer.buffer,
     ),
-    loses_more _ _ _ c.loop-buffer.file.items (take c.in-Ok.k c.take.new.place) c.loop-buffer.invariant.taken c.in-Ok.ensures.bytes.0,
+    loses_more _ _ _ c.loop-buffer.file.items (take c.in-Ok.k c.take.new.space) c.loop-buffer.invariant.taken c.in-Ok.ensures.bytes.0,
   );
   ended = inl (c.in-Ok.ensures.end ∙ ended_more Failed _ c.in-Ok.k c.in-Ok.k-test.1 ∙ c.loop-buffer.invariant.unended);
 }

@@ -4,22 +4,22 @@ use Rattle.life_desk.proofs.Crashes.{room_for}
 use Rattle.life_desk.proofs.Once.{deposits}
 use Rattle.life_desk.proofs.desk.keep_new.Goals as goal
 
-pub returns-in_err-has_room-clause-goes : goal.returns-in_err-has_room-clause-goes
-returns-in_err-has_room-clause-goes g c = goes_more _ _ c.has_room.ensures.goes
+pub returns-in_err-has_room-clause-transition : goal.returns-in_err-has_room-clause-transition
+returns-in_err-has_room-clause-transition g c = goes_more _ _ c.has_room.ensures.transition
 
-pub returns-then-not-branch-clause-goes : goal.returns-then-not-branch-clause-goes
-returns-then-not-branch-clause-goes g c = goes_more _ _ c.has_room.ensures.goes
+pub returns-then-not-branch-clause-transition : goal.returns-then-not-branch-clause-transition
+returns-then-not-branch-clause-transition g c = goes_more _ _ c.has_room.ensures.transition
 
-pub returns-in_err-add_deposit-clause-goes : goal.returns-in_err-add_deposit-clause-goes
-returns-in_err-add_deposit-clause-goes g c =
+pub returns-in_err-add_deposit-clause-transition : goal.returns-in_err-add_deposit-clause-transition
+returns-in_err-add_deposit-clause-transition g c =
     let looked = c.has_room.ensures in
     let room = c.in_ok-has_room.field-0 in
     let is : room ≡ true = search rules in
-    goes_last _ _ _ (λ clean db. room_for c.args.archive.now c.has_room.new.archive looked.goes.was_sure looked.same db deposits (λ A. Unit {0}) c.args.deposit.now room c.in_ok-has_room.ensures.value is) looked.goes c.add_deposit.ensures.goes
+    goes_last _ _ _ (λ clean db. room_for c.args.archive.now c.has_room.new.archive looked.transition.was_healthy looked.same db deposits (λ A. Unit {0}) c.args.deposit.now room c.in_ok-has_room.ensures.value is) looked.transition c.add_deposit.ensures.transition
 
-pub returns-clause-goes : goal.returns-clause-goes
-returns-clause-goes g c =
+pub returns-clause-transition : goal.returns-clause-transition
+returns-clause-transition g c =
     let looked = c.has_room.ensures in
     let room = c.in_ok-has_room.field-0 in
     let is : room ≡ true = search rules in
-    goes_last _ _ _ (λ clean db. room_for c.args.archive.now c.has_room.new.archive looked.goes.was_sure looked.same db deposits (λ A. Unit {0}) c.args.deposit.now room c.in_ok-has_room.ensures.value is) looked.goes c.add_deposit.ensures.goes
+    goes_last _ _ _ (λ clean db. room_for c.args.archive.now c.has_room.new.archive looked.transition.was_healthy looked.same db deposits (λ A. Unit {0}) c.args.deposit.now room c.in_ok-has_room.ensures.value is) looked.transition c.add_deposit.ensures.transition

@@ -1,4 +1,4 @@
-use Rattle.life_desk.proofs.Meaning.{new_is_empty}
+use Rattle.life_desk.proofs.Representing.{new_is_empty}
 use Rattle.life_desk.proofs.headline.law_of_new_archives.Goals as goal
 
 pub returns : goal.returns

@@ -1,6 +1,6 @@
 use Rattle.std.proofs.Common.{◌∙◌, refl}
-use Rattle.life_desk.proofs.Meaning.{capacity_of, room_is}
+use Rattle.life_desk.proofs.Representing.{capacity_of, room_is}
 use Rattle.life_desk.proofs.looking.has_census_room.Goals as goal
 
 pub returns-clause-value : goal.returns-clause-value
-returns-clause-value g c = λ A sure m. room_is _ _ _ _ _ (c.in_ok-count_censuses.ensures.value A sure m) (c.capacity.ensures ∙ capacity_of _ A (c.in_ok-count_censuses.ensures.same A sure m)) refl
+returns-clause-value g c = λ A healthy m. room_is _ _ _ _ _ (c.in_ok-count_censuses.ensures.value A healthy m) (c.capacity.ensures ∙ capacity_of _ A (c.in_ok-count_censuses.ensures.same A healthy m)) refl

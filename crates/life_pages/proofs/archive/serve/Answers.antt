@@ -15,15 +15,15 @@ returns-clause-crash g c = served_safely g.S.Store _ c.args.archive.now c.serve_
 pub returns-clause-headline : goal.returns-clause-headline
 returns-clause-headline g c =
     headline_all g.S.Store c.law_of_the_archive.ensures (g.I.Inlet.to_come c.args.input.now) c.args.archive.now c.serve_desk.new.desk
-    (g.O.Outlet.already c.args.output.now) (g.O.Outlet.already c.serve_desk.new.output) c.serve_desk.result (returns-clause-served g c).told
+    (g.O.Outlet.already c.args.output.now) (g.O.Outlet.already c.serve_desk.new.output) c.serve_desk.result (returns-clause-served g c).known
 
 pub returns-clause-headlines : goal.returns-clause-headlines
 returns-clause-headlines g c =
     headline_first g.S.Store c.law_of_the_archive.ensures (g.I.Inlet.to_come c.args.input.now) c.args.archive.now c.serve_desk.new.desk
     (g.O.Outlet.already c.args.output.now) (g.O.Outlet.already c.serve_desk.new.output) (returns-clause-served g c).some
 
-pub returns-clause-firm : goal.returns-clause-firm
-returns-clause-firm g c =
+pub returns-clause-own_refusals : goal.returns-clause-own_refusals
+returns-clause-own_refusals g c =
     firm_replies g.S.Store (g.I.Inlet.to_come c.args.input.now) c.args.archive.now c.serve_desk.new.desk
     (g.O.Outlet.already c.args.output.now) (g.O.Outlet.already c.serve_desk.new.output) c.serve_desk.ensures.served.some
 
@@ -35,4 +35,4 @@ returns-clause-steps g c =
 pub returns-clause-whole : goal.returns-clause-whole
 returns-clause-whole g c =
     all_answered g.S.Store c.args.archive.now c.serve_desk.new.desk c.law_of_crashes.ensures (g.I.Inlet.to_come c.args.input.now)
-    (g.O.Outlet.already c.args.output.now) (g.O.Outlet.already c.serve_desk.new.output) c.serve_desk.result c.serve_desk.ensures.served.told
+    (g.O.Outlet.already c.args.output.now) (g.O.Outlet.already c.serve_desk.new.output) c.serve_desk.result c.serve_desk.ensures.served.known

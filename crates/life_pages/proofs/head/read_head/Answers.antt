@@ -11,4 +11,4 @@ pub returns-else-are_too_many : goal.returns-else-are_too_many
 returns-else-are_too_many c =
     let held = some_head _ _ _ _ c.in-Ok-Complete.field-0-is c.in-Ok-Complete.ensures.complete in
     whole_read _ _ _ c.unwrap.result c.unwrap-in-Ok-Complete.result c.unwrap-in-Ok-Complete-2.result _ held (ltb-false _ _ (sym c.are_too_many.ensures ∙ c.if-are_too_many.false)) c.unwrap.ensures
-    c.unwrap-in-Ok-Complete.ensures c.unwrap-in-Ok-Complete-2.ensures c.judge.ensures
+    c.unwrap-in-Ok-Complete.ensures c.unwrap-in-Ok-Complete-2.ensures c.validate.ensures

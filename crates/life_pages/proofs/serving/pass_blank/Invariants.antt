@@ -9,5 +9,5 @@ invariant-passed g l =
     PassesBlank l._i (g.I.Inlet.to_come l.fn.input) (g.I.Inlet.to_come l.input)
     × LosesUpTo (l._i * most_taken) (g.I.Inlet.to_come l.fn.input) (g.I.Inlet.to_come l.input)
     × (g.I.Inlet.failures l.input ≡ g.I.Inlet.failures l.fn.input)
-    × (length l.place ≡ most_taken)
+    × (length l.space ≡ most_taken)
     × (g.I.Inlet.takes l.input ≤ g.I.Inlet.takes l.fn.input + l._i)

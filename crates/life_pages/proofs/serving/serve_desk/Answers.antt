@@ -6,11 +6,11 @@ pub returns-in-Ok-clause-served : goal.returns-in-Ok-clause-served
 returns-in-Ok-clause-served g c =
     let is = c.serve_stream.ensures.outcome in
     record {
-      told = outcome_told _ _ _ _ _ _ _ _ _ is;
+      known = outcome_told _ _ _ _ _ _ _ _ _ is;
       some = outcome_some _ _ _ _ _ _ _ _ _ is;
-      paused = λ e. rw e at is;
-      full = λ e. let o = rw e at is in o.0;
-      cut = λ e. rw e at is;
+      on_read_failure = λ e. rw e at is;
+      on_too_many_reads = λ e. let o = rw e at is in o.0;
+      on_write_failure = λ e. rw e at is;
     }
 
 pub returns-in-Ok-clause-streams : goal.returns-in-Ok-clause-streams
@@ -21,7 +21,7 @@ returns-in-Ok-clause-streams g c =
       grows = some_grows _ _ _ _ _ _ (outcome_some _ _ _ _ _ _ _ _ _ it.outcome);
       takes = it.takes;
       most = it.most;
-      heard = it.heard;
+      on_failed_take = it.on_failed_take;
       puts = it.puts;
       read = search rules;
       write = search rules;

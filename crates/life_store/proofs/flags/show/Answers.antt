@@ -14,10 +14,10 @@ use Rattle.life_store.proofs.flags.show.Goals as goal
 pub returns : goal.returns
 returns g c =
     let old = state g.S.Store c.args.conn.now in
-    let new = state g.S.Store c.ask.new.conn in
-    let it = c.ask.ensures in
+    let new = state g.S.Store c.query.new.conn in
+    let it = c.query.ensures in
     let id : owned c.whole.result ≡ Int c.args.id = search rules in
     record {
-      looks = looks_by g.S.Store c.args.conn.now c.ask.new.conn flag_text _ flag_is.plain flag_asks c.ask.result it.clean it.shown it.refused it.withstands;
-      tells = λ n is. tells_held_at flag_text c.args.id n is old new (λ k rows. ShowsFlag (option_map (λ t. t.steady) (numbered k.censuses n)) rows) (λ k rows holds. shows_flag old new k rows holds n) c.ask.result (λ clean. rw id at (it.shown clean));
+      looks = looks_by g.S.Store c.args.conn.now c.query.new.conn flag_text _ flag_is.plain flag_asks c.query.result it.clean it.shown it.refused it.withstands;
+      tells = λ n is. tells_held_at flag_text c.args.id n is old new (λ k rows. ShowsFlag (option_map (λ t. t.steady) (numbered k.censuses n)) rows) (λ k rows holds. shows_flag old new k rows holds n) c.query.result (λ clean. rw id at (it.shown clean));
     }

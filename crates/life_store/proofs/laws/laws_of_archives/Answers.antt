@@ -1,5 +1,5 @@
 use Rattle.life_store.proofs.BlankLemmas.{blank_lists_nothing}
-use Rattle.life_store.proofs.MeaningLemmas.{one_meaning, first_meaning}
+use Rattle.life_store.proofs.RepresentingLemmas.{one_meaning, first_meaning}
 use Rattle.life_store.proofs.laws.laws_of_archives.Goals as goal
 
 pub returns-clause-blank : goal.returns-clause-blank

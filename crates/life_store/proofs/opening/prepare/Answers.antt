@@ -1,30 +1,30 @@
 use Rattle.std.proofs.Common.{◌∙◌, inl, inr, refl, sym}
 use Rattle.sqlite.specs.Held.{state}
 use Rattle.life_store.specs.Layout.{first_schema, archive_schema}
-use Rattle.life_store.proofs.KeepLemmas.{sure_from}
+use Rattle.life_store.proofs.KeepLemmas.{healthy_from}
 use Rattle.life_store.proofs.OpenLemmas.{stands_not, none_not, new_holds, first_own, second_own}
 use Rattle.life_store.proofs.opening.prepare.Goals as goal
 
 pub returns-in-Ok-clause-keeps : goal.returns-in-Ok-clause-keeps
-returns-in-Ok-clause-keeps g c k sure holds = absurd (stands_not c.schema.result.now archive_schema second_own (inl (refl, refl)) (c.schema.ensures.value ∙ holds.schema) (sym c.has_some.ensures ∙ c.if-not-has_some.true))
+returns-in-Ok-clause-keeps g c k healthy holds = absurd (stands_not c.schema.result.now archive_schema second_own (inl (refl, refl)) (c.schema.ensures.value ∙ holds.schema) (sym c.has_some.ensures ∙ c.if-not-has_some.true))
 
 pub returns-in-Ok-clause-carries : goal.returns-in-Ok-clause-carries
-returns-in-Ok-clause-carries g c k sure holds = absurd (stands_not c.schema.result.now first_schema first_own (inr (refl, refl)) (c.schema.ensures.value ∙ holds.schema) (sym c.has_some.ensures ∙ c.if-not-has_some.true))
+returns-in-Ok-clause-carries g c k healthy holds = absurd (stands_not c.schema.result.now first_schema first_own (inr (refl, refl)) (c.schema.ensures.value ∙ holds.schema) (sym c.has_some.ensures ∙ c.if-not-has_some.true))
 
 pub returns-in-Ok-clause-known : goal.returns-in-Ok-clause-known
-returns-in-Ok-clause-known g c schema own versions known sure have = absurd (stands_not c.schema.result.now schema own known (c.schema.ensures.value ∙ have.schema) (sym c.has_some.ensures ∙ c.if-not-has_some.true))
+returns-in-Ok-clause-known g c schema own versions known healthy have = absurd (stands_not c.schema.result.now schema own known (c.schema.ensures.value ∙ have.schema) (sym c.has_some.ensures ∙ c.if-not-has_some.true))
 
 pub returns-in-Ok-clause-fresh : goal.returns-in-Ok-clause-fresh
-returns-in-Ok-clause-fresh g c clean laid =
-    let new = state g.S.Store c.lay_out.new.conn in
-    let made = c.in-Ok.ensures.laid clean laid in
-    (sure_from new clean made.0, new_holds new made.3 made.1)
+returns-in-Ok-clause-fresh g c clean has_tables =
+    let new = state g.S.Store c.create_tables.new.conn in
+    let made = c.in-Ok.ensures.has_tables clean has_tables in
+    (healthy_from new clean made.0, new_holds new made.3 made.1)
 
 pub returns-in-Ok-clause-clean : goal.returns-in-Ok-clause-clean
-returns-in-Ok-clause-clean g c = c.lay_out.ensures.clean
+returns-in-Ok-clause-clean g c = c.create_tables.ensures.clean
 
 pub returns-in-Err-clause-clean : goal.returns-in-Err-clause-clean
-returns-in-Err-clause-clean g c = c.lay_out.ensures.clean
+returns-in-Err-clause-clean g c = c.create_tables.ensures.clean
 
 pub returns-clause-keeps : goal.returns-clause-keeps
 returns-clause-keeps g c = c.take_up.ensures.keeps
@@ -33,7 +33,7 @@ pub returns-clause-carries : goal.returns-clause-carries
 returns-clause-carries g c = c.take_up.ensures.carries
 
 pub returns-clause-fresh : goal.returns-clause-fresh
-returns-clause-fresh g c clean laid = absurd (none_not c.schema.result.now (c.schema.ensures.value ∙ laid.is) (sym c.has_some.ensures ∙ c.if-not-has_some.false))
+returns-clause-fresh g c clean has_tables = absurd (none_not c.schema.result.now (c.schema.ensures.value ∙ has_tables.is) (sym c.has_some.ensures ∙ c.if-not-has_some.false))
 
 pub returns-clause-known : goal.returns-clause-known
 returns-clause-known g c = c.take_up.ensures.known

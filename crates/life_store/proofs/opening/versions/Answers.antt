@@ -10,12 +10,12 @@ use Rattle.life_store.proofs.opening.versions.Goals as goal
 pub returns : goal.returns
 returns g c =
     let old = state g.S.Store c.args.conn.now in
-    let new = state g.S.Store c.ask.new.conn in
+    let new = state g.S.Store c.query.new.conn in
     record {
-      same = λ schema own known sure is. seen_same version_text [] schema old new (version_plain schema own known) c.ask.result c.ask.ensures.shown c.ask.ensures.refused sure is;
-      tells = λ schema own versions known sure have.
-          told new version_text [] old (λ rows. (rows ≡ column_of own) ↔ (versions ≡ own)) c.ask.result (λ rows. finds_own old new schema own versions rows known have) c.ask.ensures.shown sure;
-      up = λ clean. open_when_shown version_text [] old new c.ask.result (c.ask.ensures.shown clean);
-      clean = c.ask.ensures.clean;
-      mode = c.ask.ensures.mode;
+      same = λ schema own known healthy is. seen_same version_text [] schema old new (version_plain schema own known) c.query.result c.query.ensures.shown c.query.ensures.refused healthy is;
+      tells = λ schema own versions known healthy have.
+          told new version_text [] old (λ rows. (rows ≡ column_of own) ↔ (versions ≡ own)) c.query.result (λ rows. finds_own old new schema own versions rows known have) c.query.ensures.shown healthy;
+      up = λ clean. open_when_shown version_text [] old new c.query.result (c.query.ensures.shown clean);
+      clean = c.query.ensures.clean;
+      mode = c.query.ensures.mode;
     }

@@ -1,4 +1,4 @@
-use Rattle.life_desk.specs.Judging.{judged}
+use Rattle.life_desk.specs.Validation.{validated}
 use Rattle.life_desk.proofs.Runs.{one_unasked}
 use Rattle.life_pages.specs.Archive.{StoreAnswers}
 use Rattle.life_pages.proofs.FirmReplies.{unasked_firm}
@@ -6,4 +6,4 @@ use Rattle.life_pages.proofs.archive.ArchiveDesk.law_of_refusals.Goals as goal
 
 pub returns : goal.returns
 unfolding StoreAnswers
-returns g c = λ request refusal may. (one_unasked _ request refusal may, unasked_firm c.args.self.now (judged request) refusal may)
+returns g c = λ request refusal may. (one_unasked _ request refusal may, unasked_firm c.args.self.now (validated request) refusal may)

@@ -18,16 +18,16 @@ all_rows (Some t) b rows e is = let flag : b ≡ t.steady = cc in
     ap (λ (found : Found). Some found) both
 
 pub returns-in-None-clause-value : goal.returns-in-None-clause-value
-returns-in-None-clause-value g c k sure holds = no_rows _ (sym c.in-None.is ∙ c.in_ok-flag_of.ensures.value k sure holds)
+returns-in-None-clause-value g c k healthy holds = no_rows _ (sym c.in-None.is ∙ c.in_ok-flag_of.ensures.value k healthy holds)
 
-pub returns-in_err-rows-in-Some-clause-goes : goal.returns-in_err-rows-in-Some-clause-goes
-returns-in_err-rows-in-Some-clause-goes g c = goes_then _ _ _ c.flag_of.ensures.goes c.rows_kept.ensures.goes
+pub returns-in_err-rows-in-Some-clause-transition : goal.returns-in_err-rows-in-Some-clause-transition
+returns-in_err-rows-in-Some-clause-transition g c = goes_then _ _ _ c.flag_of.ensures.transition c.rows_kept.ensures.transition
 
-pub returns-in_ok-rows-in-Some-clause-goes : goal.returns-in_ok-rows-in-Some-clause-goes
-returns-in_ok-rows-in-Some-clause-goes g c = goes_then _ _ _ c.in_ok-flag_of.ensures.goes c.in_ok-rows-in-Some.ensures.goes
+pub returns-in_ok-rows-in-Some-clause-transition : goal.returns-in_ok-rows-in-Some-clause-transition
+returns-in_ok-rows-in-Some-clause-transition g c = goes_then _ _ _ c.in_ok-flag_of.ensures.transition c.in_ok-rows-in-Some.ensures.transition
 
 pub returns-in_ok-rows-in-Some-clause-value : goal.returns-in_ok-rows-in-Some-clause-value
-returns-in_ok-rows-in-Some-clause-value g c k sure holds =
+returns-in_ok-rows-in-Some-clause-value g c k healthy holds =
     let read = c.in_ok-rows-in-Some.ensures in
-    let before = read.goes.was_sure sure in
-    all_rows _ _ _ (sym c.in-Some.is ∙ c.in_ok-flag_of.ensures.value k before holds) (read.value k sure (c.in_ok-flag_of.ensures.same k before holds))
+    let before = read.transition.was_healthy healthy in
+    all_rows _ _ _ (sym c.in-Some.is ∙ c.in_ok-flag_of.ensures.value k before holds) (read.value k healthy (c.in_ok-flag_of.ensures.same k before holds))

@@ -7,10 +7,10 @@ returns-clause-left g c =
     (λ db may. same_store c.into_connection.result.store c.args.self.store db c.into_connection.ensures.store (c.into_store.ensures.quiet.outcomes db may))
 
 pub returns-clause-held : goal.returns-clause-held
-returns-clause-held g c k sure holds =
+returns-clause-held g c k healthy holds =
     left_held c.args.self.store c.into_store.result c.close.result k g.met.D.Disk.seen_may_stay
-    (open_store c.into_connection.result c.args.self.tables c.args.self.store c.into_connection.ensures.tables c.into_connection.ensures.store sure)
-    (c.law_of_crashes.ensures sure k holds) (returns-clause-left g c)
+    (open_store c.into_connection.result c.args.self.tables c.args.self.store c.into_connection.ensures.tables c.into_connection.ensures.store healthy)
+    (c.law_of_crashes.ensures healthy k holds) (returns-clause-left g c)
 
 pub returns-clause-honest : goal.returns-clause-honest
 returns-clause-honest g c clean =

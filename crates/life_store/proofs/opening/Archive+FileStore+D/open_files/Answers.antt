@@ -2,7 +2,7 @@ use Rattle.std.proofs.Common.{◌≡◌, ◌∙◌, true, false, refl, sym}
 use Rattle.sqlite_wal.specs.Reads.{AreClean}
 use Rattle.sqlite.specs.Files.{file_state, image_of}
 use Rattle.life_store.specs.Opening.{is_capacity}
-use Rattle.life_store.proofs.SchemaLemmas.{opens_held, opens_carried, opens_fresh, opens_known, opens_ours, opens_clean, opens_versions, opens_none, sure_then, errs_not, errs_never, capacity_fits, bad_not_ours, unavailable_not_bad, unavailable_not_ours}
+use Rattle.life_store.proofs.SchemaLemmas.{opens_held, opens_migrated, opens_fresh, opens_known, opens_ours, opens_clean, opens_versions, opens_none, healthy_then, errs_not, errs_never, capacity_fits, bad_not_ours, unavailable_not_bad, unavailable_not_ours}
 use Rattle.life_store.proofs.opening.Archive+FileStore+D.open_files.Goals as goal
 
 pub returns-then-not-is_capacity-clause-bad : goal.returns-then-not-is_capacity-clause-bad
@@ -50,9 +50,9 @@ pub returns-in-Ok-clause-found : goal.returns-in-Ok-clause-found
 returns-in-Ok-clause-found g c =
     opens_held (file_state c.in-Ok.conn) (image_of g.D.Disk c.args.files) c.in-Ok.ensures.opened c.archive_over.result (λ clean. (c.in-Ok.ensures.found clean).holds) c.archive_over.ensures.clean c.archive_over.ensures.found
 
-pub returns-in-Ok-clause-carried : goal.returns-in-Ok-clause-carried
-returns-in-Ok-clause-carried g c =
-    opens_carried (file_state c.in-Ok.conn) (image_of g.D.Disk c.args.files) c.in-Ok.ensures.opened c.archive_over.result (λ clean. (c.in-Ok.ensures.found clean).holds) c.archive_over.ensures.clean c.archive_over.ensures.carries
+pub returns-in-Ok-clause-migrated : goal.returns-in-Ok-clause-migrated
+returns-in-Ok-clause-migrated g c =
+    opens_migrated (file_state c.in-Ok.conn) (image_of g.D.Disk c.args.files) c.in-Ok.ensures.opened c.archive_over.result (λ clean. (c.in-Ok.ensures.found clean).holds) c.archive_over.ensures.clean c.archive_over.ensures.carries
 
 pub returns-in-Ok-clause-fresh : goal.returns-in-Ok-clause-fresh
 returns-in-Ok-clause-fresh g c =
@@ -65,7 +65,7 @@ pub returns-in-Ok-clause-back : goal.returns-in-Ok-clause-back
 returns-in-Ok-clause-back g c = errs_not c.archive_over.result (λ files. files ≡ c.args.files) c.archive_over.ensures.fits
 
 pub returns-in-Ok-clause-honest : goal.returns-in-Ok-clause-honest
-returns-in-Ok-clause-honest g c = sure_then (file_state c.in-Ok.conn) (AreClean g.D.Disk c.args.files.log c.args.files.db) c.archive_over.result (λ clean. (c.in-Ok.ensures.found clean).honest) c.archive_over.ensures.clean
+returns-in-Ok-clause-honest g c = healthy_then (file_state c.in-Ok.conn) (AreClean g.D.Disk c.args.files.log c.args.files.db) c.archive_over.result (λ clean. (c.in-Ok.ensures.found clean).honest) c.archive_over.ensures.clean
 
 pub returns-in-Ok-clause-known : goal.returns-in-Ok-clause-known
 returns-in-Ok-clause-known g c =

@@ -4,22 +4,22 @@ use Rattle.life_store.proofs.SchemaLemmas.{finds_held, finds_first, finds_versio
 use Rattle.life_store.proofs.opening.Archive+FileStore+FileFrom+T.open_path.Goals as goal
 
 pub returns-in-Ok-archive_over-clause-found : goal.returns-in-Ok-archive_over-clause-found
-returns-in-Ok-archive_over-clause-found g c k sure files =
-    let clean = c.in-Ok-archive_over.ensures.clean sure in
-    c.in-Ok-archive_over.ensures.found k sure (finds_held (file_state c.in-Ok.conn) (image_at g.T.Start) k (c.in-Ok.ensures.opened clean) (c.in-Ok.ensures.found clean).holds files)
+returns-in-Ok-archive_over-clause-found g c k healthy files =
+    let clean = c.in-Ok-archive_over.ensures.clean healthy in
+    c.in-Ok-archive_over.ensures.found k healthy (finds_held (file_state c.in-Ok.conn) (image_at g.T.Start) k (c.in-Ok.ensures.opened clean) (c.in-Ok.ensures.found clean).holds files)
 
-pub returns-in-Ok-archive_over-clause-carried : goal.returns-in-Ok-archive_over-clause-carried
-returns-in-Ok-archive_over-clause-carried g c k sure files =
-    let clean = c.in-Ok-archive_over.ensures.clean sure in
-    c.in-Ok-archive_over.ensures.carries k sure (finds_first (file_state c.in-Ok.conn) (image_at g.T.Start) k (c.in-Ok.ensures.opened clean) (c.in-Ok.ensures.found clean).holds files)
+pub returns-in-Ok-archive_over-clause-migrated : goal.returns-in-Ok-archive_over-clause-migrated
+returns-in-Ok-archive_over-clause-migrated g c k healthy files =
+    let clean = c.in-Ok-archive_over.ensures.clean healthy in
+    c.in-Ok-archive_over.ensures.carries k healthy (finds_first (file_state c.in-Ok.conn) (image_at g.T.Start) k (c.in-Ok.ensures.opened clean) (c.in-Ok.ensures.found clean).holds files)
 
 pub returns-in-Ok-archive_over-clause-fresh : goal.returns-in-Ok-archive_over-clause-fresh
-returns-in-Ok-archive_over-clause-fresh g c sure none =
-    let clean = c.in-Ok-archive_over.ensures.clean sure in
+returns-in-Ok-archive_over-clause-fresh g c healthy none =
+    let clean = c.in-Ok-archive_over.ensures.clean healthy in
     let conn = file_state c.in-Ok.conn in
-    c.in-Ok-archive_over.ensures.fresh sure (record { is = finds_none conn (c.in-Ok.ensures.opened clean) (none conn.committed.trees (c.in-Ok.ensures.found clean).reads); none = tt })
+    c.in-Ok-archive_over.ensures.fresh healthy (record { is = finds_none conn (c.in-Ok.ensures.opened clean) (none conn.committed.trees (c.in-Ok.ensures.found clean).reads); none = tt })
 
 pub returns-in-Ok-archive_over-clause-known : goal.returns-in-Ok-archive_over-clause-known
-returns-in-Ok-archive_over-clause-known g c schema own versions known sure files =
-    let clean = c.in-Ok-archive_over.ensures.clean sure in
-    c.in-Ok-archive_over.ensures.known schema own versions known sure (finds_versions (file_state c.in-Ok.conn) (image_at g.T.Start) schema own versions known (c.in-Ok.ensures.opened clean) (c.in-Ok.ensures.found clean).holds files)
+returns-in-Ok-archive_over-clause-known g c schema own versions known healthy files =
+    let clean = c.in-Ok-archive_over.ensures.clean healthy in
+    c.in-Ok-archive_over.ensures.known schema own versions known healthy (finds_versions (file_state c.in-Ok.conn) (image_at g.T.Start) schema own versions known (c.in-Ok.ensures.opened clean) (c.in-Ok.ensures.found clean).holds files)

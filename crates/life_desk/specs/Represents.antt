@@ -1,0 +1,56 @@
+-- When the tables of a store represent an archive: their rows represent its deposits and its censuses, each census with the tally of its
+-- own generation of its own deposit, and with whether that generation is steady. The archive itself keeps no tallies and no flags.
+use Rattle.std.specs.Prelude.{◌≡◌, ℕ, List, [], Ok, map, IsSome}
+use Rattle.std.specs.List.{AllByRecursion}
+use Rattle.sqlite_trees.specs.Tree.{Trees}
+use Rattle.life_rle.specs.File.{kept}
+use Rattle.life_rle.specs.Record.{Contents}
+use Rattle.life_rle.specs.Writer.{text}
+use Rattle.life_store.specs.declared.kept.Deposit.{Deposit}
+use Rattle.life_store.specs.declared.kept.Census.{Census}
+use Rattle.life_store.specs.Kept.{Kept, Tallied, numbered}
+use Rattle.life_store.specs.Opening.{nothing_kept}
+use Rattle.life_store.specs.Tables.{Tables, ArchiveView, Holds, TreesHold}
+use Rattle.life_desk.specs.Archive.{Archive, tally_at, steady_at}
+
+-- a census with its tally and its flag, computed anew
+abbrev pub tallied : List Deposit → Census → Tallied
+tallied ds c = record { census = c; tally = tally_at ds c; steady = steady_at ds c }
+
+abbrev pub kept_of : Archive → Kept
+kept_of A = record { deposits = A.deposits; censuses = map (tallied A.deposits) A.censuses }
+
+-- each census is of a deposit
+abbrev pub EachHasDeposit : List Deposit → List Census → Type 0
+EachHasDeposit ds cs = AllByRecursion (λ c. IsSome (numbered ds c.deposit)) cs
+
+-- the text of a record is read as the record again
+abbrev pub IsReadAgain : Contents → Type 0
+IsReadAgain r = kept (text r) ≡ Ok r
+
+-- the record of each deposit is read from its text again
+abbrev pub EachIsReadAgain : List Deposit → Type 0
+EachIsReadAgain ds = AllByRecursion (λ d. IsReadAgain d.content) ds
+
+-- an archive that tables can represent
+pub record IsRepresentable (A : Archive) : Type 0 where
+  pub again : EachIsReadAgain A.deposits
+  pub each : EachHasDeposit A.deposits A.censuses
+
+-- tables that represent its deposits and its censuses, each with a tally and a flag computed anew, and its capacity
+pub record IsRepresented (t : Tables) (most : ℕ) (A : Archive) : Type 0 where
+  pub capacity : most ≡ A.capacity
+  pub each : EachHasDeposit A.deposits A.censuses
+  pub holds : Holds t (kept_of A)
+
+-- the tables represent the archive
+unfoldable pub Represents : {S : Type 0} → ArchiveView S → Archive → Type 0
+Represents t A = IsRepresented t.tables t.capacity A
+
+-- The trees represent the archive, as an opening finds it: its capacity is chosen there.
+abbrev pub TreesRepresent : Trees → Archive → Type 0
+TreesRepresent db A = TreesHold db (kept_of A)
+
+-- An archive that is new has no deposit and no census.
+abbrev pub NewIsEmpty : Type 0
+NewIsEmpty = (t : Tables) (capacity : ℕ) → Holds t nothing_kept → IsRepresented t capacity (record { deposits = []; censuses = []; capacity = capacity })

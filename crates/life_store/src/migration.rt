@@ -1,0 +1,247 @@
+//! Archives of layout 1, which keep no flags, as they are migrated to layout 2.
+
+ghost use Rattle.std.specs.Prelude.{◌≡◌, ◌≤◌, ◌+◌, ◌↔◌, Bool, false, [], Some, length, option_map, IsTrue, IfOk, OnOk, OnErr};
+ghost use Rattle.std.specs.List.{AllByRecursion};
+ghost use Rattle.sqlite_trees.specs.View.{doubt};
+ghost use Rattle.sqlite.specs.State.{HasCleanDisk};
+ghost use Rattle.sqlite.specs.Held.{state};
+ghost use Rattle.life_rle.specs.Record.{IsInside};
+ghost use Rattle.life_census.specs.Steady.{IsSteady};
+ghost use Rattle.life_store.specs.ExecutingState.{IsSeenAgain};
+ghost use Rattle.life_store.specs.Migration.{version_1, generation_in, IsFlagged};
+ghost use Rattle.life_store.specs.MigrationState.{HoldsFirstParts, IsFlaggedUpTo, IsMigrated};
+ghost use Rattle.life_store.specs.CensusesState.{Parts, HoldsParts, with_flag};
+ghost use Rattle.life_store.specs.Kept.{Tallied, numbered};
+ghost use Rattle.life_store.specs.ReadingState.{newest_rows, ShowsDeposit, ShowsCensus};
+ghost use Rattle.life_store.specs.Stored.{IsFiled};
+ghost use Rattle.life_store.specs.Statements.{StaysInside};
+ghost use Rattle.life_store.specs.Tables.{version_2};
+
+use crate::executing::{query_inside, whole};
+use crate::fault::Unavailable;
+use crate::flags;
+use crate::kept::Deposit;
+use crate::creating::create_census_flags;
+use crate::reading::{count_in, first_census, first_deposit};
+use life_census::steady;
+use life_code::PERIOD_LIMIT;
+use life_core::{GENERATION_LIMIT, generation};
+use life_rle::Record;
+use sqlite::{Alter, Connection, Row, Transaction};
+use std::alloc::Global;
+
+/// Whether the generation of the content is steady under the limit. A generation or a limit that no census has is
+/// refused.
+fn is_steady(alloc: Global, content: &Record, number: u32, limit: u32) -> Result<bool, Unavailable>
+    requires { IsInside 1024 content.now.cells }
+    ensures { IfOk result (λ b. IsTrue b ↔ IsSteady content.now.rule (generation_in content.now number) limit) }
+{
+    if number > GENERATION_LIMIT {
+        return Err(Unavailable);
+    }
+    if limit < 1 || limit > PERIOD_LIMIT {
+        return Err(Unavailable);
+    }
+    let pattern = generation(alloc, &content.rule, &content.cells, number)?;
+    Ok(steady(alloc, &content.rule, &pattern, limit)?)
+}
+
+/// The greatest number of a census.
+fn newest_census<S: Alter>(tx: &mut Transaction<'_, S>) -> Result<Vec<Row>, Unavailable>
+    ensures same_reference { tx.new.conn.ghost_name ≡ tx.old.conn.ghost_name }
+    ensures stays { StaysInside S.Store tx.old.conn.now tx.new.conn.now result }
+    ensures tells { HasCleanDisk (state S.Store tx.new.conn.now) → (p : Parts) → HoldsParts (state S.Store tx.old.conn.now).now p → IfOk result (λ rows. (rows.items ≡ newest_rows (length p.censuses)) × HoldsParts (state S.Store tx.new.conn.now).now p) }
+{
+    query_inside(tx, "SELECT id FROM censuses ORDER BY id DESC LIMIT 1", &[])
+}
+
+/// The census of the number.
+fn show_census<S: Alter>(tx: &mut Transaction<'_, S>, id: u64) -> Result<Vec<Row>, Unavailable>
+    ensures same_reference { tx.new.conn.ghost_name ≡ tx.old.conn.ghost_name }
+    ensures stays { StaysInside S.Store tx.old.conn.now tx.new.conn.now result }
+    ensures tells { HasCleanDisk (state S.Store tx.new.conn.now) → (p : Parts) → HoldsParts (state S.Store tx.old.conn.now).now p → IfOk result (λ rows. ShowsCensus (option_map (λ t. (id, t)) (numbered p.censuses id)) rows.items × HoldsParts (state S.Store tx.new.conn.now).now p) }
+{
+    let Ok(id) = i64::try_from(id) else {
+        return Err(Unavailable);
+    };
+    query_inside(
+        tx,
+        "SELECT id, member, token, deposit, gens, lim, clusters, unresolved FROM censuses WHERE id = ?1 ORDER BY id",
+        &[whole(id)],
+    )
+}
+
+/// The deposit of the number.
+fn show_deposit<S: Alter>(tx: &mut Transaction<'_, S>, id: u64) -> Result<Vec<Row>, Unavailable>
+    ensures same_reference { tx.new.conn.ghost_name ≡ tx.old.conn.ghost_name }
+    ensures stays { StaysInside S.Store tx.old.conn.now tx.new.conn.now result }
+    ensures tells { HasCleanDisk (state S.Store tx.new.conn.now) → (p : Parts) → AllByRecursion IsFiled p.deposits → HoldsParts (state S.Store tx.old.conn.now).now p
+        → IfOk result (λ rows. ShowsDeposit (option_map (λ d. (id, d)) (numbered p.deposits id)) rows.items × HoldsParts (state S.Store tx.new.conn.now).now p) }
+{
+    let Ok(id) = i64::try_from(id) else {
+        return Err(Unavailable);
+    };
+    query_inside(
+        tx,
+        "SELECT id, member, token, rule, population, rle FROM deposits WHERE id = ?1 ORDER BY id",
+        &[whole(id)],
+    )
+}
+
+/// How many censuses there are.
+fn count_censuses<S: Alter>(tx: &mut Transaction<'_, S>) -> Result<u64, Unavailable>
+    ensures same_reference { tx.new.conn.ghost_name ≡ tx.old.conn.ghost_name }
+    ensures stays { StaysInside S.Store tx.old.conn.now tx.new.conn.now result }
+    ensures counted { HasCleanDisk (state S.Store tx.new.conn.now) → (p : Parts) → HoldsParts (state S.Store tx.old.conn.now).now p → IfOk result (λ n. (n ≡ length p.censuses) × HoldsParts (state S.Store tx.new.conn.now).now p) }
+{
+    let rows = newest_census(tx)?;
+    count_in(rows.as_slice())
+}
+
+/// The deposit, the generation and the limit of the census of the number.
+fn numbers_at<S: Alter>(
+    alloc: Global,
+    tx: &mut Transaction<'_, S>,
+    id: u64,
+) -> Result<(u64, u32, u32), Unavailable>
+    ensures same_reference { tx.new.conn.ghost_name ≡ tx.old.conn.ghost_name }
+    ensures stays { StaysInside S.Store tx.old.conn.now tx.new.conn.now result }
+    ensures found { HasCleanDisk (state S.Store tx.new.conn.now) → (p : Parts) (t : Tallied) → HoldsParts (state S.Store tx.old.conn.now).now p → numbered p.censuses id ≡ Some t → IfOk result (λ n. (n.0 ≡ t.census.deposit) × (n.1 ≡ t.census.generation) × (n.2 ≡ t.census.limit) × HoldsParts (state S.Store tx.new.conn.now).now p) }
+{
+    let rows = show_census(tx, id)?;
+    match first_census(alloc, rows.as_slice())? {
+        Some((_, kept)) => Ok((
+            kept.census.deposit,
+            kept.census.generation,
+            kept.census.limit,
+        )),
+        None => Err(Unavailable),
+    }
+}
+
+/// The deposit of the number.
+fn deposit_at<S: Alter>(
+    alloc: Global,
+    tx: &mut Transaction<'_, S>,
+    id: u64,
+) -> Result<Deposit, Unavailable>
+    ensures same_reference { tx.new.conn.ghost_name ≡ tx.old.conn.ghost_name }
+    ensures stays { StaysInside S.Store tx.old.conn.now tx.new.conn.now result }
+    ensures found { HasCleanDisk (state S.Store tx.new.conn.now) → (p : Parts) → AllByRecursion IsFiled p.deposits → HoldsParts (state S.Store tx.old.conn.now).now p → IfOk result (λ d. (numbered p.deposits id ≡ Some d) × HoldsParts (state S.Store tx.new.conn.now).now p) }
+    ensures small { IfOk result (λ d. IsInside 1024 d.content.cells) }
+{
+    let rows = show_deposit(tx, id)?;
+    match first_deposit(alloc, rows.as_slice())? {
+        Some((_, deposit)) => Ok(deposit),
+        None => Err(Unavailable),
+    }
+}
+
+/// The flag of the census of the number, computed from its deposit.
+fn flag_at<S: Alter>(
+    alloc: Global,
+    tx: &mut Transaction<'_, S>,
+    id: u64,
+) -> Result<bool, Unavailable>
+    ensures same_reference { tx.new.conn.ghost_name ≡ tx.old.conn.ghost_name }
+    ensures stays { StaysInside S.Store tx.old.conn.now tx.new.conn.now result }
+    ensures computed { HasCleanDisk (state S.Store tx.new.conn.now) → (p : Parts) (t : Tallied) → AllByRecursion IsFiled p.deposits → HoldsParts (state S.Store tx.old.conn.now).now p → numbered p.censuses id ≡ Some t
+        → IfOk result (λ b. IsFlagged p.deposits (record t { steady = b }) × HoldsParts (state S.Store tx.new.conn.now).now p) }
+{
+    let (deposit, generation, limit) = numbers_at(alloc, tx, id)?;
+    let deposit = deposit_at(alloc, tx, deposit)?;
+    is_steady(alloc, &deposit.content, generation, limit)
+}
+
+/// Computes the flag of the census of the number, and adds it.
+fn migrate_one<S: Alter>(
+    alloc: Global,
+    tx: &mut Transaction<'_, S>,
+    id: u64,
+) -> Result<(), Unavailable>
+    ensures same_reference { tx.new.conn.ghost_name ≡ tx.old.conn.ghost_name }
+    ensures stays { StaysInside S.Store tx.old.conn.now tx.new.conn.now result }
+    ensures migrated { HasCleanDisk (state S.Store tx.new.conn.now) → IsTrue tx.old.conn.now.in_transaction → (p : Parts) (t : Tallied) → AllByRecursion IsFiled p.deposits → HoldsParts (state S.Store tx.old.conn.now).now p → id ≡ length p.flagged + 1 → numbered p.censuses id ≡ Some t
+        → OnOk result ((b : Bool) × IsFlagged p.deposits (record t { steady = b }) × HoldsParts (state S.Store tx.new.conn.now).now (with_flag (record t { steady = b }) p)) }
+{
+    let steady = flag_at(alloc, tx, id)?;
+    flags::insert(tx, id, steady)
+}
+
+/// The same for each census, in the order of their numbers.
+fn migrate_each<S: Alter>(
+    alloc: Global,
+    tx: &mut Transaction<'_, S>,
+    count: u64,
+) -> Result<(), Unavailable>
+    ensures same_reference { tx.new.conn.ghost_name ≡ tx.old.conn.ghost_name }
+    ensures stays { StaysInside S.Store tx.old.conn.now tx.new.conn.now result }
+    ensures migrated { HasCleanDisk (state S.Store tx.new.conn.now) → IsTrue tx.old.conn.now.in_transaction → (p : Parts) → AllByRecursion IsFiled p.deposits → HoldsParts (state S.Store tx.old.conn.now).now p → p.flagged ≡ [] → count ≡ length p.censuses
+        → OnOk result (IsFlaggedUpTo p count (state S.Store tx.new.conn.now).now) }
+{
+    for i in 0..count {
+        migrate_one(alloc, tx, i + 1)?;
+    }
+    Ok(())
+}
+
+/// Names layout 2 in the one row of `layout`.
+fn name_version<S: Alter>(tx: &mut Transaction<'_, S>) -> Result<(), Unavailable>
+    ensures same_reference { tx.new.conn.ghost_name ≡ tx.old.conn.ghost_name }
+    ensures stays { StaysInside S.Store tx.old.conn.now tx.new.conn.now result }
+    ensures named { HasCleanDisk (state S.Store tx.new.conn.now) → IsTrue tx.old.conn.now.in_transaction → (p : Parts) → HoldsParts (state S.Store tx.old.conn.now).now p → p.layout ≡ version_1 → OnOk result (HoldsParts (state S.Store tx.new.conn.now).now (record p { layout = version_2 })) }
+{
+    tx.execute("UPDATE layout SET version = 2", &[])?;
+    Ok(())
+}
+
+/// Makes the table of flags, fills it, and names the layout.
+fn migrate_all<S: Alter>(alloc: Global, tx: &mut Transaction<'_, S>) -> Result<(), Unavailable>
+    ensures same_reference { tx.new.conn.ghost_name ≡ tx.old.conn.ghost_name }
+    ensures stays { StaysInside S.Store tx.old.conn.now tx.new.conn.now result }
+    ensures migrated { HasCleanDisk (state S.Store tx.new.conn.now) → IsTrue tx.old.conn.now.in_transaction → (p : Parts) → AllByRecursion IsFiled p.deposits → HoldsFirstParts (state S.Store tx.old.conn.now).now p → p.layout ≡ version_1
+        → OnOk result (IsMigrated p (state S.Store tx.new.conn.now).now) }
+{
+    create_census_flags(tx)?;
+    let count = count_censuses(tx)?;
+    migrate_each(alloc, tx, count)?;
+    name_version(tx)
+}
+
+/// The same in one transaction, which is rolled back if it fails.
+fn migrate_at_once<S: Alter>(alloc: Global, conn: &mut Connection<S>) -> Result<(), Unavailable>
+    requires { conn.old.in_transaction ≡ false }
+    ensures migrated { HasCleanDisk (state S.Store conn.new) → (p : Parts) → AllByRecursion IsFiled p.deposits → HoldsFirstParts (state S.Store conn.old).now p → p.layout ≡ version_1 → OnOk result (IsMigrated p (state S.Store conn.new).now) }
+    ensures undone { HasCleanDisk (state S.Store conn.new) → (IsTrue (state S.Store conn.old).is_open → (state S.Store conn.old).now ≡ (state S.Store conn.old).committed) → OnErr result (IsSeenAgain (state S.Store conn.old) (state S.Store conn.new)) }
+    ensures ended { OnOk result (conn.new.in_transaction ≡ false) }
+    ensures was_open { HasCleanDisk (state S.Store conn.new) → IsTrue (state S.Store conn.new).is_open → IsTrue (state S.Store conn.old).is_open }
+    ensures up { HasCleanDisk (state S.Store conn.new) → OnOk result (IsTrue (state S.Store conn.new).is_open) }
+    ensures clean { doubt (state S.Store conn.old).is_clean ≤ doubt (state S.Store conn.new).is_clean }
+{
+    let mut tx = conn.transaction();
+    match migrate_all(alloc, &mut tx) {
+        Ok(()) => match tx.commit() {
+            Ok(()) => Ok(()),
+            Err(_) => Err(Unavailable),
+        },
+        Err(fault) => Err(fault),
+    }
+}
+
+/// Carries an archive of layout 1 over to layout 2, or leaves it as it is.
+pub(crate) fn migrate<S: Alter>(
+    alloc: Global,
+    conn: &mut Connection<S>,
+) -> Result<(), Unavailable>
+    ensures migrated { HasCleanDisk (state S.Store conn.new) → (p : Parts) → AllByRecursion IsFiled p.deposits → HoldsFirstParts (state S.Store conn.old).now p → p.layout ≡ version_1 → OnOk result (IsMigrated p (state S.Store conn.new).now) }
+    ensures undone { HasCleanDisk (state S.Store conn.new) → OnErr result (IsSeenAgain (state S.Store conn.old) (state S.Store conn.new)) }
+    ensures ended { OnOk result (conn.new.in_transaction ≡ false) }
+    ensures was_open { HasCleanDisk (state S.Store conn.new) → IsTrue (state S.Store conn.new).is_open → IsTrue (state S.Store conn.old).is_open }
+    ensures up { HasCleanDisk (state S.Store conn.new) → OnOk result (IsTrue (state S.Store conn.new).is_open) }
+    ensures clean { doubt (state S.Store conn.old).is_clean ≤ doubt (state S.Store conn.new).is_clean }
+{
+    if !conn.is_autocommit() {
+        return Err(Unavailable);
+    }
+    migrate_at_once(alloc, conn)
+}

@@ -1,6 +1,7 @@
 -- What `deposit` does to an archive, and what it puts.
 use Rattle.std.specs.Prelude.{◌≡◌, ◌⊎◌, ◌++◌, ℕ, List, [], ◌∷◌, codes, take, Option, None, Some, Result, Ok, Err}
 use Rattle.std.specs.Fmt.{decimal}
+use Rattle.life_core.specs.Ascii.{line_feed}
 use Rattle.sqlite_trees.specs.declared.store.Store.{Ghosts}
 use Rattle.life_rle.specs.Stream.{Gains, GainsSome}
 use Rattle.life_store.specs.Tables.{ArchiveView}
@@ -22,7 +23,7 @@ IsFileTaken (Some bytes) file = file ≡ take 1048577 bytes
 
 -- the line of a deposit: `deposit` and its number
 abbrev pub deposit_line : ℕ → List ℕ
-deposit_line id = codes "deposit " ++ (decimal id ++ 10 ∷ [])
+deposit_line id = codes "deposit " ++ (decimal id ++ line_feed ∷ [])
 
 -- the stop for what the archive refuses
 abbrev pub desk_stop : Refusal → ArchiveStop

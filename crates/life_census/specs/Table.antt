@@ -2,15 +2,16 @@
 use Rattle.std.specs.Prelude.{ℕ, List, [], ◌∷◌, ◌++◌, codes}
 use Rattle.std.specs.Fmt.{decimal}
 use Rattle.std.specs.List.{flat_map}
+use Rattle.life_core.specs.Ascii.{line_feed, comma}
 use Rattle.life_census.specs.Rows.{TallyCounts}
 
 -- a line: a text, a comma, a number in decimal digits, and a line feed
 abbrev pub line : List ℕ → ℕ → List ℕ
-line text n = text ++ 44 ∷ decimal n ++ 10 ∷ []
+line text n = text ++ comma ∷ decimal n ++ line_feed ∷ []
 
 -- a line of names, a line for each code with its count, and a line with how many clusters have no code
 abbrev pub lines : List (List ℕ × ℕ) → ℕ → List ℕ
-lines rows unresolved = codes "code,count" ++ 10 ∷ flat_map (λ row. line row.0 row.1) rows ++ line (codes "unresolved") unresolved
+lines rows unresolved = codes "code,count" ++ line_feed ∷ flat_map (λ row. line row.0 row.1) rows ++ line (codes "unresolved") unresolved
 
 -- the text of a tally
 abbrev pub csv_text : TallyCounts → List ℕ

@@ -8,6 +8,7 @@ use Rattle.std.specs.Ordering.{ordering_then, nat_cmp, is_gt}
 use Rattle.std.specs.Cmp.Lexicographic.{slice_cmp}
 use Rattle.std.specs.Option.{option_map}
 use Rattle.std.specs.FinSet as set
+use Rattle.life_core.specs.Ascii.{underscore}
 use Rattle.life_core.specs.declared.orientation.Orientation.{Orientation}
 use Rattle.life_core.specs.declared.orientation.Orientation.TheVariants.{O0, O1, O2, O3, O4, O5, O6, O7}
 use Rattle.life_core.specs.Cell.{moved_cell}
@@ -66,7 +67,7 @@ least_text (text ∷ texts) = Some (lesser text (least_text texts))
 
 -- prefix, number, `_` and text, if there is a text
 abbrev pub with_prefix : List ℕ → ℕ → Option (List ℕ) → Option (List ℕ)
-with_prefix prefix n text = option_map (λ t. prefix ++ decimal n ++ 95 ∷ t) text
+with_prefix prefix n text = option_map (λ t. prefix ++ decimal n ++ underscore ∷ t) text
 
 -- the code by the kind: `xs` and the population, `xp` or `xq` and the period, and the least candidate
 abbrev pub code_by_kind : RuleSets → Cells → Kind → Option (List ℕ)

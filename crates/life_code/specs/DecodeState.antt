@@ -2,6 +2,7 @@
 use Rattle.std.specs.Prelude.{ℕ, ◌+◌, ◌-◌, ◌/◌, ◌%◌, ◌^◌, Bool, true, false, ◌&&◌, ◌==◌, nat_lt, if◌then◌else◌, List, [], ◌∷◌, map, pos}
 use Rattle.std.specs.List.{filter, range_with_len}
 use Rattle.std.specs.FinSet as set
+use Rattle.life_core.specs.Ascii.{digit_0, letter_x, letter_y, letter_z}
 use Rattle.life_core.specs.declared.cell.Cell.{Cell}
 use Rattle.life_core.specs.Cell.{cell_at}
 use Rattle.life_core.specs.Pattern.{Cells}
@@ -16,11 +17,11 @@ unfoldable pub spells_cell : ℕ → Bool → List ℕ → ℕ → ℕ → Bool
 spells_cell k behind_y [] x y = false
 spells_cell k true (c ∷ text) x y = spells_cell (k + 4 + value_of c) false text x y
 spells_cell k false (c ∷ text) x y =
-    if c == 122 then (if nat_lt y 5 then false else spells_cell 0 false text x (y - 5))
-    else if c == 48 then spells_cell (k + 1) false text x y
+    if c == letter_z then (if nat_lt y 5 then false else spells_cell 0 false text x (y - 5))
+    else if c == digit_0 then spells_cell (k + 1) false text x y
     else if c == 119 then spells_cell (k + 2) false text x y
-    else if c == 120 then spells_cell (k + 3) false text x y
-    else if c == 121 then spells_cell k true text x y
+    else if c == letter_x then spells_cell (k + 3) false text x y
+    else if c == letter_y then spells_cell k true text x y
     else if (k == x) && nat_lt y 5 then has_bit y (value_of c)
     else spells_cell (k + 1) false text x y
 

@@ -3,6 +3,7 @@ use Rattle.std.specs.Prelude.{◌≡◌, ◌≢◌, ◌↔◌, ℕ, ◌+◌, ◌
 use Rattle.std.specs.List.{range_with_len, last_or, Contains}
 use Rattle.std.specs.Ordering.{is_gt}
 use Rattle.std.specs.FinSet as set
+use Rattle.life_core.specs.Ascii.{digit_0, letter_x, letter_y}
 use Rattle.life_core.specs.declared.orientation.Orientation.{Orientation}
 use Rattle.life_core.specs.Cell.{moved_cell}
 use Rattle.life_core.specs.Pattern.{Cells, image, IsBox, normal}
@@ -55,10 +56,10 @@ unfoldable pub columns_of : Bool → List ℕ → List ℕ
 columns_of behind_y [] = []
 columns_of true (c ∷ text) = replicate (4 + value_of c) 0 ++ columns_of false text
 columns_of false (c ∷ text) =
-    if c == 48 then replicate 1 0 ++ columns_of false text
+    if c == digit_0 then replicate 1 0 ++ columns_of false text
     else if c == 119 then replicate 2 0 ++ columns_of false text
-    else if c == 120 then replicate 3 0 ++ columns_of false text
-    else if c == 121 then columns_of true text
+    else if c == letter_x then replicate 3 0 ++ columns_of false text
+    else if c == letter_y then columns_of true text
     else value_of c ∷ columns_of false text
 
 -- The text of a strip, spelled out, is its columns up to the last that is not zero.

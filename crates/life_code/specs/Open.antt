@@ -3,6 +3,7 @@ use Rattle.std.specs.Prelude.{◌≡◌, ◌≢◌, ◌⊎◌, ℕ, Bool, true, 
 use Rattle.std.specs.Char.{is_ascii_digit}
 use Rattle.std.specs.List.{list_all}
 use Rattle.std.specs.FinSet as set
+use Rattle.life_core.specs.Ascii.{digit_0, underscore}
 use Rattle.life_core.specs.Pattern.{Cells, normal}
 use Rattle.life_core.specs.Rule.{RuleSets}
 use Rattle.life_code.specs.declared.kinds.Kind.TheVariants.{Unresolved}
@@ -33,7 +34,7 @@ IsPrefix prefix = (prefix ≡ codes "xs") ⊎ ((prefix ≡ codes "xp") ⊎ (pref
 -- a number in a code: one to six digits, the first of them not `0`
 abbrev pub is_number : List ℕ → Bool
 is_number [] = false
-is_number (digit ∷ digits) = not (digit == 48) && nat_le (length digits) 5 && list_all is_ascii_digit (digit ∷ digits)
+is_number (digit ∷ digits) = not (digit == digit_0) && nat_le (length digits) 5 && list_all is_ascii_digit (digit ∷ digits)
 
 -- a prefix and a number
 pub record IsFront (front : List ℕ) : Type 0 where
@@ -56,7 +57,7 @@ pub record Spells (text : List ℕ) (X : Cells) : Type 0 where
   pub is_front : IsFront front
   pub back : List ℕ
   pub is_wechsler : IsWechsler back X
-  pub parts : text ≡ front ++ 95 ∷ back
+  pub parts : text ≡ front ++ underscore ∷ back
 
 -- what a refusal of a code says: it spells no set; the set that it spells has no period within the limit; or that set has another code, or none
 abbrev pub Refuses : RuleSets → List ℕ → ℕ → CodeFault → Type 0

@@ -3,6 +3,7 @@
 use Rattle.std.specs.Prelude.{ℕ, ◌+◌, ◌-◌, ◌*◌, ◌/◌, ◌==◌, nat_lt, if◌then◌else◌, List, [], ◌∷◌, ◌++◌, map, pos}
 use Rattle.std.specs.List.{range_with_len, join_with_byte}
 use Rattle.std.specs.FinSet as set
+use Rattle.life_core.specs.Ascii.{digit_0, letter_x, letter_y, letter_z}
 use Rattle.life_core.specs.Cell.{cell_at}
 use Rattle.life_core.specs.Pattern.{Cells, past_greatest}
 
@@ -30,10 +31,10 @@ value_of c = if nat_lt c 58 then c - 48 else c - 87
 abbrev pub zero_run : ℕ → List ℕ
 zero_run n =
     if n == 0 then []
-    else if n == 1 then 48 ∷ []
+    else if n == 1 then digit_0 ∷ []
     else if n == 2 then 119 ∷ []
-    else if n == 3 then 120 ∷ []
-    else 121 ∷ character (n - 4) ∷ []
+    else if n == 3 then letter_x ∷ []
+    else letter_y ∷ character (n - 4) ∷ []
 
 -- the columns of a strip, spelled after n zero columns: those of zero at the end are left out
 unfoldable pub spelled : ℕ → List ℕ → List ℕ
@@ -57,4 +58,4 @@ strip X s = spelled 0 (map (column_value X s) (range_with_len 0 (width X)))
 
 -- the texts of the strips of the box from the top, joined by `z`
 unfoldable pub wechsler : Cells → List ℕ
-wechsler X = join_with_byte 122 (map (strip X) (range_with_len 0 ((height X + 4) / 5)))
+wechsler X = join_with_byte letter_z (map (strip X) (range_with_len 0 ((height X + 4) / 5)))

@@ -2,6 +2,7 @@
 -- the same request with its rule read; what is not is refused, by the first fault.
 use Rattle.std.specs.Prelude.{◌≡◌, ◌⊎◌, ◌==◌, ◌&&◌, ◌||◌, ℕ, Bool, List, length, Result, Ok, Err, IsOk, nat_le, if◌then◌else◌}
 use Rattle.std.specs.List.{list_all}
+use Rattle.life_core.specs.Ascii.{hyphen, digit_0, digit_9, letter_a, letter_z}
 use Rattle.life_core.specs.declared.generations.TheConstants.{GENERATION_LIMIT}
 use Rattle.life_code.specs.declared.period.TheConstants.{PERIOD_LIMIT}
 use Rattle.life_core.specs.Rule.{RuleSets}
@@ -19,7 +20,7 @@ is_between low high n = nat_le low n && nat_le n high
 
 -- a-z, 0-9 and -
 abbrev pub is_member_byte : ℕ → Bool
-is_member_byte b = is_between 97 122 b || (is_between 48 57 b || (b == 45))
+is_member_byte b = is_between letter_a letter_z b || (is_between digit_0 digit_9 b || (b == hyphen))
 
 -- these and A-Z
 abbrev pub is_token_byte : ℕ → Bool

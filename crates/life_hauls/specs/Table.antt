@@ -2,6 +2,7 @@
 use Rattle.std.specs.Prelude.{ℕ, List, [], ◌∷◌, ◌++◌, codes, Option, None, Some}
 use Rattle.std.specs.Fmt.{decimal}
 use Rattle.std.specs.List.{flat_map}
+use Rattle.life_core.specs.Ascii.{line_feed, comma}
 use Rattle.life_core.specs.Rule.{RuleSets}
 use Rattle.life_core.specs.RuleText.{rule_text}
 use Rattle.life_hauls.specs.declared.rows.Sighting.{Sighting}
@@ -12,7 +13,7 @@ use Rattle.life_hauls.specs.Soups.{symmetry_name}
 
 -- a line: a name and a text
 unfoldable pub named : List ℕ → List ℕ → List ℕ
-named name text = name ++ text ++ 10 ∷ []
+named name text = name ++ text ++ line_feed ∷ []
 
 -- the line of the symmetry; C1 has none
 unfoldable pub symmetry_line : Symmetry → List ℕ
@@ -25,7 +26,7 @@ heading s root rule n limit = named (codes "# root ") root ++ named (codes "# ru
 
 -- a count, a comma, and the number of the first soup
 abbrev pub sighting_text : Sighting → List ℕ
-sighting_text s = decimal s.count ++ 44 ∷ decimal s.first
+sighting_text s = decimal s.count ++ comma ∷ decimal s.first
 
 -- the same, if nothing may have been seen
 abbrev pub unresolved_text : Option Sighting → List ℕ
@@ -34,7 +35,7 @@ unresolved_text (Some s) = sighting_text s
 
 -- a line: a text, a comma, what was seen of it, and a line feed
 abbrev pub line : List ℕ × Sighting → List ℕ
-line row = row.0 ++ 44 ∷ sighting_text row.1 ++ 10 ∷ []
+line row = row.0 ++ comma ∷ sighting_text row.1 ++ line_feed ∷ []
 
 -- a line of names, a line for each code with what was seen of it, and a line with what was seen of clusters without a code
 abbrev pub counts_text : HaulCounts → List ℕ
@@ -42,7 +43,7 @@ counts_text h = codes "code,count,first\n" ++ flat_map line h.rows ++ codes "unr
 
 -- how many clusters there were; and how many soups, with the number of the first
 abbrev pub sums_text : ℕ → HaulCounts → List ℕ
-sums_text first h = codes "clusters," ++ decimal h.total ++ codes ",\nsoups," ++ decimal h.soups ++ 44 ∷ decimal first ++ codes "\n"
+sums_text first h = codes "clusters," ++ decimal h.total ++ codes ",\nsoups," ++ decimal h.soups ++ comma ∷ decimal first ++ codes "\n"
 
 -- the whole table
 abbrev pub csv_text : Symmetry → List ℕ → RuleSets → ℕ → ℕ → ℕ → HaulCounts → List ℕ

@@ -1,6 +1,7 @@
 -- What a job of the program puts for the bytes that come in, or for its words.
 use Rattle.std.specs.Prelude.{◌≡◌, ◌≢◌, ◌≤◌, ℕ, List, [], ◌∷◌, ◌++◌, codes, Option, None, Some, Result, Ok, Err}
 use Rattle.std.specs.Fmt.{decimal, signed_decimal}
+use Rattle.life_core.specs.Ascii.{line_feed}
 use Rattle.life_core.specs.declared.rule_text.RuleFault.{RuleFault}
 use Rattle.life_core.specs.declared.generations.TheConstants.{GENERATION_LIMIT}
 use Rattle.life_core.specs.Generations.{generation_of}
@@ -60,7 +61,7 @@ kind_words Unresolved code = codes "unresolved"
 
 -- the line of a set's kind under a rule and a limit
 abbrev pub kind_line : RuleSets → Cells → ℕ → List ℕ
-kind_line r X limit = kind_words (kind_of r X limit) (code_of r X limit) ++ 10 ∷ []
+kind_line r X limit = kind_words (kind_of r X limit) (code_of r X limit) ++ line_feed ∷ []
 
 -- what `kind limit` prints for a file
 abbrev pub kind_text : ℕ → List ℕ → Result (List ℕ) RleFault

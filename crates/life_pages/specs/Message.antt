@@ -1,6 +1,7 @@
 -- The messages of a stream, and a run over them (RFC 9112).
 use Rattle.std.specs.Prelude.{◌≡◌, ◌⊎◌, ℕ, ◌<◌, ◌≤◌, ◌==◌, ◌||◌, Bool, true, false, List, [], ◌∷◌, ◌++◌, length, Result, Ok, Err, Some}
 use Rattle.std.specs.List.{list_all}
+use Rattle.life_core.specs.Ascii.{line_feed, carriage_return}
 use Rattle.httparse.specs.Grammar.{RequestHead, IsRequestHead, HasNoRequest, MayBecomeRequest, print_request}
 use Rattle.life_desk.specs.declared.request.Request.{Request}
 use Rattle.life_desk.specs.declared.request.Reply.{Reply}
@@ -20,7 +21,7 @@ head_limit = 8192
 
 -- only CR and LF bytes are left
 abbrev pub are_line_breaks : List ℕ → Bool
-are_line_breaks bytes = list_all (λ b. b == 13 || b == 10) bytes
+are_line_breaks bytes = list_all (λ b. b == carriage_return || b == line_feed) bytes
 
 -- a good message stands at the front, and the rest follows it
 pub record HasMessageInFront (bytes : List ℕ) (said : Head) (body rest : List ℕ) : Type 0 where

@@ -4,6 +4,7 @@ use Rattle.std.specs.List.{flat_map, range_with_len}
 use Rattle.std.specs.Char.{encode_utf8}
 use Rattle.std.specs.Int.{div_ceil}
 use Rattle.std.specs.FinSet as set
+use Rattle.life_core.specs.Ascii.{line_feed, space}
 use Rattle.life_core.specs.Pattern.{Cells}
 use Rattle.life_rle.specs.Writer.{pairs_of, width_of, height_of}
 
@@ -20,7 +21,7 @@ abbrev pub half_block : Bool × Bool → ℕ
 half_block (true, true) = 0x2588
 half_block (true, false) = 0x2580
 half_block (false, true) = 0x2584
-half_block (false, false) = 32
+half_block (false, false) = space
 
 -- two cells before others; if both are dead and none follow, they are left out
 abbrev pub before_cells : Bool × Bool → List (Bool × Bool) → List (Bool × Bool)
@@ -38,7 +39,7 @@ cells_of_line X width i = trimmed (map (two_cells X i) (range_with_len 0 width))
 
 -- line i of so many columns, with its end
 unfoldable pub line : Cells → ℕ → ℕ → List ℕ
-line X width i = flat_map (λ two. encode_utf8 (half_block two)) (cells_of_line X width i) ++ 10 ∷ []
+line X width i = flat_map (λ two. encode_utf8 (half_block two)) (cells_of_line X width i) ++ line_feed ∷ []
 
 -- the lines of a normal set, over its box
 unfoldable pub text : Cells → List ℕ

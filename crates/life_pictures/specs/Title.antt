@@ -5,10 +5,11 @@ use Rattle.std.specs.Char.{encode_utf8}
 use Rattle.std.specs.Int.{is_in_range}
 use Rattle.std.specs.Str.{chars}
 use Rattle.std.specs.Str.Lossy.{utf8_lossy}
+use Rattle.life_core.specs.Ascii.{tab, line_feed, carriage_return, space}
 
 -- a character that an XML document may have
 abbrev pub is_xml_char : ℕ → Bool
-is_xml_char c = c == 9 || c == 10 || c == 13 || is_in_range 32 0xD7FF c || is_in_range 0xE000 0xFFFD c || is_in_range 0x10000 0x10FFFF c
+is_xml_char c = c == tab || c == line_feed || c == carriage_return || is_in_range space 0xD7FF c || is_in_range 0xE000 0xFFFD c || is_in_range 0x10000 0x10FFFF c
 
 -- a character as XML text: `&`, `<`, `>` and the carriage return as references, and U+FFFD for one that no document may have
 abbrev pub escaped : ℕ → List ℕ
@@ -16,7 +17,7 @@ escaped c =
     if c == 38 then codes "&amp;"
     else (if c == 60 then codes "&lt;"
     else (if c == 62 then codes "&gt;"
-    else (if c == 13 then codes "&#13;"
+    else (if c == carriage_return then codes "&#13;"
     else (if is_xml_char c then encode_utf8 c
     else encode_utf8 0xFFFD))))
 

@@ -3,6 +3,7 @@ use Rattle.std.specs.Prelude.{ℕ, pos, ◌≤ℤ◌, zero, suc, Bool, true, fal
 use Rattle.std.specs.List.{sum_by, filter, after_last}
 use Rattle.std.specs.Char.{is_ascii_digit}
 use Rattle.std.specs.Str.Parse.{digits_value}
+use Rattle.life_rle.specs.Tags.{dead_tag, end_tag, live_tag, row_end_tag}
 use Rattle.life_core.specs.declared.cell.Cell.{Cell}
 use Rattle.life_rle.specs.declared.fault.RleFault.{RleFault}
 use Rattle.life_rle.specs.declared.fault.RleFault.TheVariants.{OtherTag, BadCount, TooWide, NoEnd}
@@ -39,19 +40,19 @@ has_tag byte (Some b) = b == byte
 
 -- a run of dead cells, `b`
 abbrev pub is_dead : Item → Bool
-is_dead item = has_tag 98 item.tag
+is_dead item = has_tag dead_tag item.tag
 
 -- a run of live cells, `o`
 abbrev pub is_live : Item → Bool
-is_live item = has_tag 111 item.tag
+is_live item = has_tag live_tag item.tag
 
 -- row ends, `$`
 abbrev pub is_row_end : Item → Bool
-is_row_end item = has_tag 36 item.tag
+is_row_end item = has_tag row_end_tag item.tag
 
 -- the end of the body, `!`
 abbrev pub is_end : Item → Bool
-is_end item = has_tag 33 item.tag
+is_end item = has_tag end_tag item.tag
 
 -- the count of an item
 abbrev pub count : Item → ℕ
@@ -99,9 +100,9 @@ is_bad_number n = n == 0 || nat_lt 1000000 n
 abbrev pub fault_at_tag : List Item → Item → Option ℕ → Option RleFault
 fault_at_tag before item None = if is_counted item then Some BadCount else Some NoEnd
 fault_at_tag before item (Some b) =
-    if b == 33 then (if is_counted item then Some BadCount else None)
-    else (if b == 98 || b == 36 then None
-    else (if not (b == 111) then Some OtherTag
+    if b == end_tag then (if is_counted item then Some BadCount else None)
+    else (if b == dead_tag || b == row_end_tag then None
+    else (if not (b == live_tag) then Some OtherTag
     else (if nat_lt 1024 (column_after before + count item) || nat_lt 1023 (row_after before) then Some TooWide
     else None)))
 

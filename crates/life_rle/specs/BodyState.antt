@@ -1,6 +1,7 @@
 -- Reading a body byte by byte: where the next item stands, and what the body is read as, if these bytes are what is left.
 use Rattle.std.specs.Prelude.{◌≡◌, map, ℕ, ◌+◌, ◌*◌, ◌-◌, min, Bool, true, false, not, ◌||◌, ◌==◌, nat_lt, if◌then◌else◌, List, [], ◌∷◌, ◌++◌, Option, Some, None, is_some, unwrap_or, Result, Ok, Err, MatchResult}
 use Rattle.std.specs.Char.{is_ascii_digit}
+use Rattle.life_rle.specs.Tags.{dead_tag, end_tag, live_tag, row_end_tag}
 use Rattle.life_rle.specs.declared.fault.RleFault.{RleFault}
 use Rattle.life_rle.specs.declared.fault.RleFault.TheVariants.{OtherTag, BadCount, TooWide, NoEnd, Memory}
 use Rattle.life_rle.specs.declared.body.Body.{Body}
@@ -51,9 +52,9 @@ live p n = record { row = p.row; column = p.column + n; count = None; cells = p.
 -- an item with this tag and this count
 abbrev pub item_step : Place → ℕ → ℕ → Step
 item_step p n b =
-    if b == 98 then goes (moved p n)
-    else (if b == 36 then goes (down p n)
-    else (if not (b == 111) then fails OtherTag
+    if b == dead_tag then goes (moved p n)
+    else (if b == row_end_tag then goes (down p n)
+    else (if not (b == live_tag) then fails OtherTag
     else (if nat_lt 1024 (p.column + n) || nat_lt 1023 p.row then fails TooWide
     else goes (live p n))))
 
@@ -62,7 +63,7 @@ unfoldable pub step : Place → ℕ → Step
 step p b =
     if is_ascii_digit b then goes (record p { count = Some (next_count p.count b) })
     else (if is_bad_count p.count then fails BadCount
-    else (if b == 33 then (if is_some p.count then fails BadCount else ends p.cells)
+    else (if b == end_tag then (if is_some p.count then fails BadCount else ends p.cells)
     else item_step p (unwrap_or p.count 1) b))
 
 -- What the function of a step answered, with the place that it left. If there is a place to go on at, memory may be refused.

@@ -1,6 +1,7 @@
 -- The form of the header line: `x = W, y = H`, and `, rule = R` where a rule is given (LifeWiki, "Run Length Encoded").
 use Rattle.std.specs.Prelude.{ℕ, codes, Bool, not, ◌||◌, List, [], ◌∷◌, length, ◌==◌, if◌then◌else◌, slice_index, Option, Some, None, Result, Ok, Err}
 use Rattle.std.specs.Char.{is_ascii_digit, to_ascii_lowercase}
+use Rattle.life_core.specs.Ascii.{capital_x, letter_x}
 use Rattle.life_core.specs.RuleText.{after_while, ◌>>=◌}
 use Rattle.life_rle.specs.declared.fault.RleFault.{RleFault}
 use Rattle.life_rle.specs.declared.fault.RleFault.TheVariants.{NoHeader, BadHeader}
@@ -39,7 +40,7 @@ header_form text = do
 
 -- whether a text begins with `x` or `X`
 abbrev pub begins_with_x : List ℕ → Bool
-begins_with_x text = slice_index text 0 == 120 || slice_index text 0 == 88
+begins_with_x text = slice_index text 0 == letter_x || slice_index text 0 == capital_x
 
 -- the rule text of a form, and a bad header if there is none
 abbrev pub formed : Option (Option (List ℕ)) → Result (Option (List ℕ)) RleFault

@@ -4,6 +4,8 @@ use Rattle.std.specs.Prelude.{◌≡◌, ◌≢◌, ◌⊎◌, ◌≤◌, ◌<�
 use Rattle.std.specs.List.{AllByRecursion, flat_map, filter, find, join_with_byte}
 use Rattle.std.specs.Option.{option_map}
 use Rattle.std.specs.Char.{is_ascii_digit}
+use Rattle.life_core.specs.Ascii.{line_feed}
+use Rattle.life_rle.specs.Tags.{dead_tag, live_tag, row_end_tag}
 use Rattle.life_core.specs.declared.cell.TheConstants.{PLANE}
 use Rattle.life_core.specs.Rule.{IsRule}
 use Rattle.life_core.specs.Pattern.{IsBox, IsWithin}
@@ -18,7 +20,7 @@ use Rattle.life_rle.specs.Writer.{runs_of, item_text, item_texts, laid, pairs_of
 
 -- The lines of a file, joined by line feeds, are its bytes, and no line has a line feed.
 abbrev pub LinesAreTheFile : Type 0
-LinesAreTheFile = (bytes : List ℕ) → (join_with_byte 10 (lines_of bytes) ≡ bytes) × AllByRecursion HasNoLineEnd (lines_of bytes)
+LinesAreTheFile = (bytes : List ℕ) → (join_with_byte line_feed (lines_of bytes) ≡ bytes) × AllByRecursion HasNoLineEnd (lines_of bytes)
 
 -- the byte of an item, if it has one
 abbrev pub tag_bytes : Option ℕ → List ℕ
@@ -67,13 +69,13 @@ AreFull (line ∷ next ∷ lines) = (length (spelled_runs line) ≤ 70) × (70 <
 
 -- a row end, `$`, a dead cell, `b`, or a live cell, `o`
 abbrev pub IsTag : ℕ → Type 0
-IsTag tag = (tag ≡ 36) ⊎ ((tag ≡ 98) ⊎ (tag ≡ 111))
+IsTag tag = (tag ≡ row_end_tag) ⊎ ((tag ≡ dead_tag) ⊎ (tag ≡ live_tag))
 
 -- no dead cells stand before row ends, and the last run is of live cells
 abbrev pub EndInLiveCells : List (ℕ × ℕ) → Type 0
 EndInLiveCells [] = Unit {0}
-EndInLiveCells (run ∷ []) = run.1 ≡ 111
-EndInLiveCells (run ∷ next ∷ runs) = (run.1 ≡ 98 → next.1 ≢ 36) × EndInLiveCells (next ∷ runs)
+EndInLiveCells (run ∷ []) = run.1 ≡ live_tag
+EndInLiveCells (run ∷ next ∷ runs) = (run.1 ≡ dead_tag → next.1 ≢ row_end_tag) × EndInLiveCells (next ∷ runs)
 
 -- a body that is canonical, of these cells
 pub record IsCanonical (cells : List (ℕ × ℕ)) (body : List ℕ) : Type 0 where

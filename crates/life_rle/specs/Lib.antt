@@ -1,3 +1,4 @@
+pub mod Tags
 pub mod Fault
 pub mod Stream
 pub mod Pieces

@@ -1,12 +1,13 @@
 -- The lines of a file, and what each of them is (LifeWiki, "Run Length Encoded": lines that begin with `#`).
 use Rattle.std.specs.Prelude.{ℕ, codes, not, ◌||◌, List, [], ◌∷◌, ◌++◌, reverse, length, drop, ◌==◌, if◌then◌else◌, slice_index, nat_eq, Bool}
 use Rattle.std.specs.List.{starts_with}
+use Rattle.life_core.specs.Ascii.{line_feed, hash, capital_n, capital_o}
 use Rattle.life_core.specs.RuleText.{is_blank}
 
 -- the lines of these bytes, with what has come of the first before them; after a last line feed stands an empty line, which says nothing
 unfoldable pub lines_after : List ℕ → List ℕ → List (List ℕ)
 lines_after line [] = line ∷ []
-lines_after line (b ∷ bytes) = if b == 10 then line ∷ lines_after [] bytes else lines_after (line ++ b ∷ []) bytes
+lines_after line (b ∷ bytes) = if b == line_feed then line ∷ lines_after [] bytes else lines_after (line ++ b ∷ []) bytes
 
 -- the lines of these bytes
 abbrev pub lines_of : List ℕ → List (List ℕ)
@@ -36,13 +37,13 @@ pub data Line : Type 0 where
 
 -- a line whose first byte that is no blank is `#`
 abbrev pub is_mark_line : List ℕ → Bool
-is_mark_line line = slice_index (trim_start line) 0 == 35
+is_mark_line line = slice_index (trim_start line) 0 == hash
 
 -- what the letter after `#` makes of the text: `N` a name, `O` an author, `C` or `c` a comment, `r` a rule
 abbrev pub marked : ℕ → List ℕ → Line
 marked letter text =
-    if letter == 78 then named text
-    else (if letter == 79 then authored text
+    if letter == capital_n then named text
+    else (if letter == capital_o then authored text
     else (if letter == 67 || letter == 99 then comment text
     else (if letter == 114 then ruled text
     else passed)))
@@ -52,6 +53,6 @@ unfoldable pub line_kind : List ℕ → Line
 line_kind line =
     let front = trim_start line in
     if length front == 0 then passed
-    else (if not (slice_index front 0 == 35) then header
+    else (if not (slice_index front 0 == hash) then header
     else (if starts_with nat_eq front (codes "#CXRLE") then passed
     else marked (slice_index front 1) (trim (drop 2 front))))

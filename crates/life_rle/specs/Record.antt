@@ -2,6 +2,7 @@
 use Rattle.std.specs.Prelude.{◌≡◌, ◌≢◌, ◌≤◌, ℕ, ◌-◌, false, ◌==◌, List, [], length, Option, Some, None, refl}
 use Rattle.std.specs.Coded.{Coded, code_by, coded×, coded_ℕ, coded_list, coded_option}
 use Rattle.std.specs.List.{AllByRecursion}
+use Rattle.life_core.specs.Ascii.{line_feed}
 use Rattle.life_core.specs.Rule.{RuleSets, coded_rule}
 use Rattle.life_core.specs.Pattern.{Cells, coded_cells, normal, IsWithin}
 use Rattle.life_rle.specs.Lines.{trim}
@@ -25,7 +26,7 @@ coded_contents =
 
 -- no byte is a line feed
 abbrev pub HasNoLineEnd : List ℕ → Type 0
-HasNoLineEnd bytes = AllByRecursion (λ b. (b == 10) ≡ false) bytes
+HasNoLineEnd bytes = AllByRecursion (λ b. (b == line_feed) ≡ false) bytes
 
 -- a text of at most 200 bytes, without a line end, and without blanks at its ends
 pub record IsText (bytes : List ℕ) : Type 0 where

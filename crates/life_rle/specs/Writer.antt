@@ -3,6 +3,8 @@
 use Rattle.std.specs.Prelude.{ℕ, codes, ◌+◌, ◌-◌, ◌==◌, max, nat_le, if◌then◌else◌, nat_abs, List, [], ◌∷◌, ◌++◌, length, replicate, map, Option, Some, None}
 use Rattle.std.specs.List.{flat_map, fold}
 use Rattle.std.specs.Fmt.{decimal}
+use Rattle.life_core.specs.Ascii.{capital_n, capital_o}
+use Rattle.life_rle.specs.Tags.{dead_tag, live_tag, row_end_tag}
 use Rattle.life_core.specs.declared.cell.Cell.{Cell}
 use Rattle.life_core.specs.Pattern.{Cells, in_order}
 use Rattle.life_core.specs.RuleText.{rule_text}
@@ -12,7 +14,7 @@ use Rattle.life_rle.specs.Record.{Contents}
 unfoldable pub tags_from : ℕ → ℕ → List (ℕ × ℕ) → List ℕ
 tags_from row column [] = []
 tags_from row column (cell ∷ cells) =
-    replicate (cell.1 - row) 36 ++ replicate (cell.0 - (if cell.1 == row then column else 0)) 98 ++ 111 ∷ tags_from cell.1 (cell.0 + 1) cells
+    replicate (cell.1 - row) row_end_tag ++ replicate (cell.0 - (if cell.1 == row then column else 0)) dead_tag ++ live_tag ∷ tags_from cell.1 (cell.0 + 1) cells
 
 -- one more tag in front of runs: a run is a count and a tag
 abbrev pub onto_run : ℕ → List (ℕ × ℕ) → List (ℕ × ℕ)
@@ -76,6 +78,6 @@ pairs_of X = map coordinates (in_order X)
 -- the one text of a record
 unfoldable pub text : Contents → List ℕ
 text r =
-    optional_line 78 r.name ++ optional_line 79 r.author ++ flat_map comment_line r.comments
+    optional_line capital_n r.name ++ optional_line capital_o r.author ++ flat_map comment_line r.comments
     ++ header_line (width_of (pairs_of r.cells)) (height_of (pairs_of r.cells)) (rule_text r.rule)
     ++ laid 0 (item_texts (pairs_of r.cells))

@@ -1,5 +1,6 @@
 -- Cells that are written in their order, their runs, and the items that they make.
 use Rattle.std.specs.Prelude.{ℕ, List, ◌++◌, ◌≡◌, ◌⊎◌, ◌≤◌, ◌<◌, ◌+◌, ◌==◌, if◌then◌else◌, pos, nat_abs, ◌≤ℤ◌, [], ◌∷◌, replicate, map}
+use Rattle.life_rle.specs.Tags.{live_tag}
 use Rattle.life_rle.specs.Writer.{item_text, runs_of, tags_from}
 use Rattle.life_core.specs.declared.cell.Cell.{Cell}
 use Rattle.life_core.specs.declared.cell.TheConstants.{PLANE}
@@ -13,7 +14,7 @@ InOrder row column (cell ∷ cells) = (row ≤ cell.1) × (row ≡ cell.1 → co
 
 -- the items' texts at a place after this many live cells
 abbrev pub texts_from : ℕ → ℕ → ℕ → List (ℕ × ℕ) → List (List ℕ)
-texts_from live row column cells = map item_text (runs_of (replicate live 111 ++ tags_from row column cells))
+texts_from live row column cells = map item_text (runs_of (replicate live live_tag ++ tags_from row column cells))
 
 -- the text of an item of this count, or nothing if it is 0
 abbrev pub counted : ℕ → ℕ → List (List ℕ)

@@ -67,10 +67,10 @@ one_if b = cond b 1 0
 pub how_often_none : (ts : Texts) (q : List ℕ) → list_any (same_text q) ts ≡ false → how_often q ts ≡ 0
 how_often_none [] q none = refl
 how_often_none (x ∷ xs) q none =
-    let parts = or_parts (same_text q x) (list_any (same_text q) xs) none in
+    let both = or_parts (same_text q x) (list_any (same_text q) xs) none in
     let whole = sum_by-cons (λ y. cond (same_text q y) 1 0) x xs in
-    let nothing = ap one_if parts.0 in
-    let rest = how_often_none xs q parts.1 in
+    let nothing = ap one_if both.0 in
+    let rest = how_often_none xs q both.1 in
     omega (arith, whole, nothing, rest)
 
 -- ---- one more is an insertion into a sorted table
@@ -91,10 +91,10 @@ less_T Greater h = absurd h
 pub none_below : (t : List ℕ) (e : List ℕ × ℕ) (es : List (List ℕ × ℕ)) → row_cmp t e.0 ≡ Less → T (table.is_sorted row_cmp (e ∷ es)) → table.find row_cmp t (e ∷ es) ≡ None
 none_below t e [] less sorted = ap (λ o. cond (is_eq o) (Some e.1) None) less
 none_below t e (f ∷ fs) less sorted =
-    let parts = both_T _ _ sorted in
-    let first = both_T _ _ parts.0 in
+    let both = both_T _ _ sorted in
+    let first = both_T _ _ both.0 in
     ap (λ o. cond (is_eq o) (Some e.1) (table.find row_cmp t (f ∷ fs))) less
-    ∙ none_below t f fs (row_cmp_total.trans t e.0 f.0 less (less_T _ first.0)) parts.1
+    ∙ none_below t f fs (row_cmp_total.trans t e.0 f.0 less (less_T _ first.0)) both.1
 
 one_more_put : (es : List (List ℕ × ℕ)) (t : List ℕ) (v : ℕ) → T (table.is_sorted row_cmp es) → v ≡ times es t + 1 → table.put row_cmp t v es ≡ one_more es t
 one_more_put [] t v sorted is = ap (λ n. (t, n) ∷ []) is

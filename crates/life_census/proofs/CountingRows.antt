@@ -13,7 +13,7 @@ use Rattle.std.specs.FinMap as table
 use Rattle.life_code.proofs.ApartUnions.{IsIn, in_from_contains}
 use Rattle.life_census.specs.Counting.{row_cmp, how_often, occurrences_of}
 use Rattle.life_census.specs.Laws.{RowsAreCounts, RowsAscend}
-use Rattle.life_census.proofs.PartsLaws.{contains_from_in}
+use Rattle.life_census.proofs.ClusterLaws.{contains_from_in}
 use Rattle.life_census.proofs.CountingLaws.{Texts, same_text, same_text_is, row_cmp_total, row_cmp_exact, how_often_none, both_T, less_T, none_below, table_of, get_counted, one_if}
 
 abbrev Rows : Type 0
@@ -39,9 +39,9 @@ none_below_rest t e es less sorted = sym (ap (λ o. cond (is_eq o) (Some e.1) (t
 none_behind : (t : List ℕ) (e : List ℕ × ℕ) (es : Rows) → row_cmp t e.0 ≡ Equal → T (table.is_sorted row_cmp (e ∷ es)) → table.find row_cmp t es ≡ None
 none_behind t e [] same sorted = refl
 none_behind t e (f ∷ fs) same sorted =
-    let parts = both_T _ _ sorted in
-    let first = both_T _ _ parts.0 in
-    none_below t f fs (ap (λ u. row_cmp u f.0) (row_cmp_exact t e.0 same) ∙ less_T _ first.0) parts.1
+    let both = both_T _ _ sorted in
+    let first = both_T _ _ both.0 in
+    none_below t f fs (ap (λ u. row_cmp u f.0) (row_cmp_exact t e.0 same) ∙ less_T _ first.0) both.1
 
 none_is_none : (n : ℕ) → None ≡ Some n → ⊥
 none_is_none n h = cc
@@ -105,18 +105,18 @@ code_of_row row = row.0
 above : (k : List ℕ) (e : List ℕ × ℕ) (es : Rows) → row_cmp k e.0 ≡ Less → T (table.is_sorted row_cmp (e ∷ es)) → AllByRecursion (λ l. row_cmp k l ≡ Less) (map code_of_row (e ∷ es))
 above k e [] less sorted = (less, tt)
 above k e (f ∷ fs) less sorted =
-    let parts = both_T _ _ sorted in
-    let first = both_T _ _ parts.0 in
-    (less, above k f fs (row_cmp_total.trans k e.0 f.0 less (less_T _ first.0)) parts.1)
+    let both = both_T _ _ sorted in
+    let first = both_T _ _ both.0 in
+    (less, above k f fs (row_cmp_total.trans k e.0 f.0 less (less_T _ first.0)) both.1)
 
 ascend : (es : Rows) → T (table.is_sorted row_cmp es) → IsStrictlySortedBy row_cmp (map code_of_row es)
 unfolding IsStrictlySortedBy
 ascend [] sorted = tt
 ascend (e ∷ []) sorted = (tt, tt)
 ascend (e ∷ f ∷ fs) sorted =
-    let parts = both_T _ _ sorted in
-    let first = both_T _ _ parts.0 in
-    (above e.0 f fs (less_T _ first.0) parts.1, ascend (f ∷ fs) parts.1)
+    let both = both_T _ _ sorted in
+    let first = both_T _ _ both.0 in
+    (above e.0 f fs (less_T _ first.0) both.1, ascend (f ∷ fs) both.1)
 
 pub rows_ascend : RowsAscend
 unfolding occurrences_of

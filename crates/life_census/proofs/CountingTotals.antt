@@ -59,7 +59,7 @@ pub adds_up : TalliesAddUp
 adds_up code Ps t is =
     let ts = filter_map code Ps in
     let rows : all_of t.rows ≡ length ts = ap all_of is.rows ∙ ap (λ us. all_of (occurrences_of us)) (sym (take_all (length ts) ts (omega arith))) ∙ all_counted ts (length ts) (omega arith) in
-    let parts = named_and_nameless code Ps in
+    let split = named_and_nameless code Ps in
     let nameless = is.unresolved in
     let total = is.total in
-    omega (arith, rows, parts, nameless, total)
+    omega (arith, rows, split, nameless, total)

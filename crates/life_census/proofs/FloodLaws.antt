@@ -15,11 +15,11 @@ use Rattle.life_core.proofs.CellLemmas.{same_coordinates}
 use Rattle.life_code.proofs.ApartNear.{within_near, near_within}
 use Rattle.life_code.specs.Apart.{within_two, near}
 use Rattle.life_core.specs.declared.runs.Run.{Run}
-use Rattle.life_census.specs.Parts.{AreJoined}
+use Rattle.life_census.specs.Cluster.{AreJoined}
 use Rattle.life_core.specs.Runs.{cells_in, first_cell, IsInRun, IsBehind, IsAhead, IsRunBefore, AreRunsInOrder}
 use Rattle.life_census.specs.FloodState.{emptied, is_filled, IsClear, IsFlood, IsRound, IsTaken, Begins, IsBeyond, IsKept, AreKept, HasGrown}
 use Rattle.life_census.proofs.NearLaws.{two_apart}
-use Rattle.life_census.proofs.PartsLaws.{joined_self, joined_then, joined_trans, joined_back}
+use Rattle.life_census.proofs.ClusterLaws.{joined_self, joined_then, joined_trans, joined_back}
 use Rattle.life_core.proofs.RunsLaws.{in_some, in_any, none_in, push_cases, push_old, push_new, first_in_run}
 
 -- ---- what keeps its place

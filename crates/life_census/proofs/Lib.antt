@@ -1,8 +1,8 @@
 pub mod NearLaws
-pub mod PartsLaws
+pub mod ClusterLaws
 pub mod FloodLaws
-pub mod PartsSteps
-pub mod PartsListing
+pub mod ClusterSteps
+pub mod ClusterListing
 pub mod RowsLaws
 pub mod CountingLaws
 pub mod CountingSteps

@@ -15,12 +15,12 @@ use Rattle.life_code.specs.Period.{kind_of}
 use Rattle.life_code.proofs.ApartNear.{near_symmetric}
 use Rattle.life_code.proofs.ApartUnions.{IsIn, in_from_contains}
 use Rattle.life_code.specs.Apart.{AreApart}
-use Rattle.life_census.specs.Parts.{IsPart, IsBefore, AreInOrder, touches, parts}
+use Rattle.life_census.specs.Cluster.{IsCluster, IsBefore, AreInOrder, touches, clusters_of}
 use Rattle.life_census.specs.Steady.{IsSteady, stays, are_apart, first_generations, keep_apart, all_keep_apart, is_steady}
 use Rattle.life_census.specs.SurveyState.{StaysFor}
 use Rattle.life_census.specs.Laws.{SteadyIsDecided}
-use Rattle.life_census.proofs.PartsLaws.{contains_from_in, before_itself}
-use Rattle.life_census.proofs.PartsListing.{touching, touches_by, parts_are}
+use Rattle.life_census.proofs.ClusterLaws.{contains_from_in, before_itself}
+use Rattle.life_census.proofs.ClusterListing.{touching, touches_by, clusters_are}
 use Rattle.life_census.proofs.SteadyPhases.{stays_for, others_go, phase}
 
 -- ---- what stays
@@ -98,36 +98,36 @@ two_keep_apart r limit (R ∷ Rs) all P Q here there differ =
 -- ---- steady fields
 
 module _ (r : RuleSets) (X : Cells) (limit : ℕ) where
-  listed : (P : Cells) → IsPart X P → IsIn (parts X) P
-  listed P part = in_from_contains (parts X) P ((parts_are X).all P part)
+  listed : (P : Cells) → IsCluster X P → IsIn (clusters_of X) P
+  listed P part = in_from_contains (clusters_of X) P ((clusters_are X).all P part)
 
-  steady_from : list_all (stays r limit) (parts X) ≡ true → all_keep_apart r limit (parts X) ≡ true → IsSteady r X limit
+  steady_from : list_all (stays r limit) (clusters_of X) ≡ true → all_keep_apart r limit (clusters_of X) ≡ true → IsSteady r X limit
   steady_from stay keep = record {
     stay = λ P part. (stays_as P part).1.stays;
     apart = λ P Q here there differ.
         let p = stays_as P here in
         let q = stays_as Q there in
-        elim (two_keep_apart r limit (parts X) keep P Q (listed P here) (listed Q there) differ) [
+        elim (two_keep_apart r limit (clusters_of X) keep P Q (listed P here) (listed Q there) differ) [
           | inl before ↦ never_meet_if_true r limit p.0 q.0 P Q p.1 q.1 before
           | inr after ↦ λ i j c d in_P in_Q. near_symmetric c d ∙ never_meet_if_true r limit q.0 p.0 Q P q.1 p.1 after j i d c in_Q in_P
         ];
   }
     where
-      stays_as : (P : Cells) → IsPart X P → (p : ℕ) × StaysFor r limit P p
-      stays_as P part = stays_for r limit P (kind_of r P limit) refl (passes_in (stays r limit) (parts X) P stay (listed P part))
+      stays_as : (P : Cells) → IsCluster X P → (p : ℕ) × StaysFor r limit P p
+      stays_as P part = stays_for r limit P (kind_of r P limit) refl (passes_in (stays r limit) (clusters_of X) P stay (listed P part))
 
   module _ (steady : IsSteady r X limit) where
-    all_stay : (Ps : List Cells) → AllByRecursion (IsPart X) Ps → list_all (stays r limit) Ps ≡ true
+    all_stay : (Ps : List Cells) → AllByRecursion (IsCluster X) Ps → list_all (stays r limit) Ps ≡ true
     all_stay [] each = refl
     all_stay (P ∷ Ps) each = and_from _ _ (true_from_ne_false (stays r limit P) (λ goes. others_go r limit P (kind_of r P limit) refl goes (steady.stay P each.0))) (all_stay Ps each.1)
 
-    first_keeps_apart : (P : Cells) → IsPart X P → (Qs : List Cells) → AllByRecursion (IsPart X) Qs → AllByRecursion (IsBefore P) Qs → list_all (keep_apart r limit P) Qs ≡ true
+    first_keeps_apart : (P : Cells) → IsCluster X P → (Qs : List Cells) → AllByRecursion (IsCluster X) Qs → AllByRecursion (IsBefore P) Qs → list_all (keep_apart r limit P) Qs ≡ true
     first_keeps_apart P part [] each before = refl
     first_keeps_apart P part (Q ∷ Qs) each before = and_from _ _
         (true_if_never_meet r limit P Q (steady.apart P Q part each.0 (λ same. before_itself Q (subst (λ (R : Cells). IsBefore R Q) same before.0))))
         (first_keeps_apart P part Qs each.1 before.1)
 
-    each_keeps_apart : (Ps : List Cells) → AllByRecursion (IsPart X) Ps → AreInOrder Ps → all_keep_apart r limit Ps ≡ true
+    each_keeps_apart : (Ps : List Cells) → AllByRecursion (IsCluster X) Ps → AreInOrder Ps → all_keep_apart r limit Ps ≡ true
     each_keeps_apart [] each order = refl
     each_keeps_apart (P ∷ Ps) each order = and_from _ _ (first_keeps_apart P each.0 Ps each.1 order.0) (each_keeps_apart Ps each.1 order.1)
 
@@ -137,8 +137,8 @@ unfolding is_steady
 steady_is_decided r X limit = (
   λ h. let both = and_parts _ _ h in steady_from r X limit both.0 both.1,
   λ steady.
-      let are = parts_are X in
-      and_from _ _ (all_stay r X limit steady (parts X) are.each) (each_keeps_apart r X limit steady (parts X) are.each are.ascend),
+      let are = clusters_are X in
+      and_from _ _ (all_stay r X limit steady (clusters_of X) are.each) (each_keeps_apart r X limit steady (clusters_of X) are.each are.ascend),
 )
 
 -- an answer to whether a field is steady is that of the function

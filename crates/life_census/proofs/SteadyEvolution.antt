@@ -14,19 +14,19 @@ use Rattle.life_core.proofs.PatternMembers.{cell_cmp_total, same_answer, cells_b
 use Rattle.life_code.proofs.ApartNear.{near_self}
 use Rattle.life_code.proofs.ApartUnions.{IsIn, in_from_contains, generation-union_of}
 use Rattle.life_code.specs.Apart.{AreApart, AreAllApart, union_of}
-use Rattle.life_census.specs.Parts.{IsPart, IsBefore, AreInOrder, ArePartsOf, parts}
+use Rattle.life_census.specs.Cluster.{IsCluster, IsBefore, AreInOrder, AreClustersOf, clusters_of}
 use Rattle.life_census.specs.Steady.{IsSteady}
-use Rattle.life_census.specs.Laws.{SteadyFieldsEvolveByParts, PartsShareNoCell}
-use Rattle.life_census.proofs.PartsLaws.{before_itself}
-use Rattle.life_census.proofs.PartsListing.{parts_are}
+use Rattle.life_census.specs.Laws.{SteadyFieldsEvolveByClusters, ClustersShareNoCell}
+use Rattle.life_census.proofs.ClusterLaws.{before_itself}
+use Rattle.life_census.proofs.ClusterListing.{clusters_are}
 
 -- ---- steady fields
 
 -- X is the union of its parts
-pub union_of_parts : (X : Cells) (Ps : List Cells) → ArePartsOf X Ps → X ≡ union_of Ps
-union_of_parts X Ps parts = cells_by_members X (union_of Ps) (λ c. same_answer _ _
-    (λ h. let found = parts.covers c h in gathered Ps found.0 c (in_from_contains Ps found.0 found.1) found.2)
-    (λ h. inside Ps c parts.each h))
+pub union_of_parts : (X : Cells) (Ps : List Cells) → AreClustersOf X Ps → X ≡ union_of Ps
+union_of_parts X Ps clusters_of = cells_by_members X (union_of Ps) (λ c. same_answer _ _
+    (λ h. let found = clusters_of.covers c h in gathered Ps found.0 c (in_from_contains Ps found.0 found.1) found.2)
+    (λ h. inside Ps c clusters_of.each h))
   where
     gathered : (Ps : List Cells) (P : Cells) (c : Cell) → IsIn Ps P → set.contains P c ≡ true → set.contains (union_of Ps) c ≡ true
     gathered [] P c h live = absurd h
@@ -35,7 +35,7 @@ union_of_parts X Ps parts = cells_by_members X (union_of Ps) (λ c. same_answer 
       | inr rest ↦ or_right _ _ (gathered Qs P c rest live)
     ]
 
-    inside : (Ps : List Cells) (c : Cell) → AllByRecursion (IsPart X) Ps → set.contains (union_of Ps) c ≡ true → set.contains X c ≡ true
+    inside : (Ps : List Cells) (c : Cell) → AllByRecursion (IsCluster X) Ps → set.contains (union_of Ps) c ≡ true → set.contains X c ≡ true
     inside [] c all h = absurd (false≢true (sym (set.contains-empty cell_cmp c) ∙ h))
     inside (Q ∷ Qs) c all h = elim (cases_Bool (set.contains Q c)) [
       | inl held ↦ all.0.inside c held
@@ -43,30 +43,30 @@ union_of_parts X Ps parts = cells_by_members X (union_of Ps) (λ c. same_answer 
     ]
 
 module _ (r : RuleSets) (X : Cells) (limit : ℕ) (steady : IsSteady r X limit) where
-  all_apart : (Ps : List Cells) → AllByRecursion (IsPart X) Ps → AreInOrder Ps → (k : ℕ) → AreAllApart (map (λ P. generation_of r P k) Ps)
+  all_apart : (Ps : List Cells) → AllByRecursion (IsCluster X) Ps → AreInOrder Ps → (k : ℕ) → AreAllApart (map (λ P. generation_of r P k) Ps)
   all_apart [] each order k = tt
   all_apart (P ∷ Ps) each order k = (from P each.0 Ps each.1 order.0, all_apart Ps each.1 order.1 k)
     where
-      from : (P : Cells) → IsPart X P → (Qs : List Cells) → AllByRecursion (IsPart X) Qs → AllByRecursion (IsBefore P) Qs → AllByRecursion (AreApart (generation_of r P k)) (map (λ Q. generation_of r Q k) Qs)
+      from : (P : Cells) → IsCluster X P → (Qs : List Cells) → AllByRecursion (IsCluster X) Qs → AllByRecursion (IsBefore P) Qs → AllByRecursion (AreApart (generation_of r P k)) (map (λ Q. generation_of r Q k) Qs)
       from P p [] each before = tt
       from P p (Q ∷ Qs) each before = (
         steady.apart P Q p each.0 (λ same. before_itself Q (subst (λ (R : Cells). IsBefore R Q) same before.0)) k k,
         from P p Qs each.1 before.1,
       )
 
-  steady_evolves : (Ps : List Cells) → set.contains r.birth 0 ≡ false → ArePartsOf X Ps → (k : ℕ) → generation_of r X k ≡ union_of (map (λ P. generation_of r P k) Ps)
-  steady_evolves Ps none parts k =
-      ap (λ (Y : Cells). generation_of r Y k) (union_of_parts X Ps parts)
-      ∙ generation-union_of r Ps none (all_apart Ps parts.each parts.ascend) k
+  steady_evolves : (Ps : List Cells) → set.contains r.birth 0 ≡ false → AreClustersOf X Ps → (k : ℕ) → generation_of r X k ≡ union_of (map (λ P. generation_of r P k) Ps)
+  steady_evolves Ps none clusters_of k =
+      ap (λ (Y : Cells). generation_of r Y k) (union_of_parts X Ps clusters_of)
+      ∙ generation-union_of r Ps none (all_apart Ps clusters_of.each clusters_of.ascend) k
 
 -- a steady field evolves as its parts do, each by itself
-pub evolve_by_parts : SteadyFieldsEvolveByParts
-evolve_by_parts r X limit none steady k = steady_evolves r X limit steady (parts X) none (parts_are X) k
+pub evolve_by_clusters : SteadyFieldsEvolveByClusters
+evolve_by_clusters r X limit none steady k = steady_evolves r X limit steady (clusters_of X) none (clusters_are X) k
 
 -- a cell is near itself, so that sets that are apart share no cell
-pub share_no_cell : PartsShareNoCell
+pub share_no_cell : ClustersShareNoCell
 share_no_cell r X limit steady k P Q here there differ c h = false_from_ne_true (set.contains (generation_of r Q k) c) (λ live. false≢true (
     sym (steady.apart P Q (part P here) (part Q there) differ k k c c h live) ∙ near_self c))
   where
-    part : (P : Cells) → Contains (parts X) P → IsPart X P
-    part P in_parts = All-contains (IsPart X) (parts X) P (All-from_recursion (IsPart X) (parts X) (parts_are X).each) in_parts
+    part : (P : Cells) → Contains (clusters_of X) P → IsCluster X P
+    part P in_parts = All-contains (IsCluster X) (clusters_of X) P (All-from_recursion (IsCluster X) (clusters_of X) (clusters_are X).each) in_parts

@@ -14,11 +14,11 @@ use Rattle.life_code.specs.declared.kinds.Kind.{Kind}
 use Rattle.life_code.specs.Period.{kind_of}
 use Rattle.life_code.proofs.ApartUnions.{in_from_contains}
 use Rattle.life_census.specs.declared.meeting.Visit.{Visit}
-use Rattle.life_census.specs.Parts.{IsPart, IsBefore, AreInOrder, ArePartsOf, parts}
+use Rattle.life_census.specs.Cluster.{IsCluster, IsBefore, AreInOrder, AreClustersOf, clusters_of}
 use Rattle.life_census.specs.Steady.{Stays, IsSteady, is_staying}
 use Rattle.life_census.specs.SteadyState.{visit_of, AreVisits, AreAllApart}
-use Rattle.life_census.proofs.PartsLaws.{before_itself}
-use Rattle.life_census.proofs.PartsListing.{parts_are}
+use Rattle.life_census.proofs.ClusterLaws.{before_itself}
+use Rattle.life_census.proofs.ClusterListing.{clusters_are}
 use Rattle.life_census.proofs.SteadyPhases.{stays_for, others_go}
 
 -- ---- parts at two places differ
@@ -41,18 +41,18 @@ differ_at Ps k l d ascend other low high same = elim (cases_lt k l) [
 
 -- ---- the answers
 
-module _ (r : RuleSets) (limit : ℕ) (X : Cells) (Ps : List Cells) (parts : ArePartsOf X Ps) where
+module _ (r : RuleSets) (limit : ℕ) (X : Cells) (Ps : List Cells) (clusters_of : AreClustersOf X Ps) where
   -- a part that does not stay
   pub not_steady : (All (Stays r limit) Ps → ⊥) → IsSteady r X limit → ⊥
-  not_steady none steady = none (λ k d low. steady.stay (get_or Ps k d) (All-from_recursion (IsPart X) Ps parts.each k d low))
+  not_steady none steady = none (λ k d low. steady.stay (get_or Ps k d) (All-from_recursion (IsCluster X) Ps clusters_of.each k d low))
 
   module _ (stay : All (Stays r limit) Ps) (visits : List Visit) (are : AreVisits r Ps (length Ps) visits) where
     steady_from : AreAllApart visits → IsSteady r X limit
     steady_from apart = record {
-      stay = λ P part. All-contains (Stays r limit) Ps P stay (parts.all P part);
+      stay = λ P part. All-contains (Stays r limit) Ps P stay (clusters_of.all P part);
       apart = λ P Q here there differ i j c d h k.
-          let a = at_from_Contains Ps P (parts.all P here) in
-          let b = at_from_Contains Ps Q (parts.all Q there) in
+          let a = at_from_Contains Ps P (clusters_of.all P here) in
+          let b = at_from_Contains Ps Q (clusters_of.all Q there) in
           apart (visit_of a.0 c) (visit_of b.0 d)
           (are.all a.0 i P c a.1 (ap (λ (R : Cells). set.contains (generation_of r R i) c) (a.2 P) ∙ h))
           (are.all b.0 j Q d b.1 (ap (λ (R : Cells). set.contains (generation_of r R j) d) (b.2 Q) ∙ k))
@@ -65,8 +65,8 @@ module _ (r : RuleSets) (limit : ℕ) (X : Cells) (Ps : List Cells) (parts : Are
         let b = are.only w k in
         let P = get_or Ps v.cluster X in
         let Q = get_or Ps w.cluster X in
-        steady.apart P Q (All-from_recursion (IsPart X) Ps parts.each v.cluster X a.0) (All-from_recursion (IsPart X) Ps parts.each w.cluster X b.0)
-        (differ_at Ps v.cluster w.cluster X parts.ascend differ a.0 b.0) a.1.0 b.1.0 v.cell w.cell (a.1.1 X) (b.1.1 X)
+        steady.apart P Q (All-from_recursion (IsCluster X) Ps clusters_of.each v.cluster X a.0) (All-from_recursion (IsCluster X) Ps clusters_of.each w.cluster X b.0)
+        (differ_at Ps v.cluster w.cluster X clusters_of.ascend differ a.0 b.0) a.1.0 b.1.0 v.cell w.cell (a.1.1 X) (b.1.1 X)
 
     -- what the sweep of the sorted visits answers is the answer
     pub steady_if_apart : (sorted : List Visit) (b : Bool) → IsPermutation visits sorted → (IsTrue b ↔ AreAllApart sorted) → IsTrue b ↔ IsSteady r X limit
@@ -78,8 +78,8 @@ module _ (r : RuleSets) (limit : ℕ) (X : Cells) (Ps : List Cells) (parts : Are
 -- ---- a field of one part
 
 -- a field of one part is steady if its kind stays
-pub one_part_steady : (r : RuleSets) (limit : ℕ) (X : Cells) (k : Kind) (b : Bool) → X ∷ [] ≡ parts X → k ≡ kind_of r X limit → b ≡ is_staying k → IsTrue b ↔ IsSteady r X limit
-one_part_steady r limit X k b one is answer = (
+pub one_cluster_steady : (r : RuleSets) (limit : ℕ) (X : Cells) (k : Kind) (b : Bool) → X ∷ [] ≡ clusters_of X → k ≡ kind_of r X limit → b ≡ is_staying k → IsTrue b ↔ IsSteady r X limit
+one_cluster_steady r limit X k b one is answer = (
   λ t.
       let stays = stays_for r limit X k is (sym answer ∙ t) in
       record {
@@ -89,8 +89,8 @@ one_part_steady r limit X k b one is answer = (
   λ steady. true_from_ne_false b (λ f. others_go r limit X k is (sym answer ∙ f) (steady.stay X alone.each.0)),
 )
   where
-    alone : ArePartsOf X (X ∷ [])
-    alone = subst (ArePartsOf X) (sym one) (parts_are X)
+    alone : AreClustersOf X (X ∷ [])
+    alone = subst (AreClustersOf X) (sym one) (clusters_are X)
 
-    same : (P : Cells) → IsPart X P → X ≡ P
+    same : (P : Cells) → IsCluster X P → X ≡ P
     same P part = elim (in_from_contains (X ∷ []) P (alone.all P part)) [ inl here ↦ here | inr none ↦ absurd none ]

@@ -24,7 +24,7 @@ use Rattle.life_code.proofs.ApartUnions.{IsIn, in_from_contains}
 use Rattle.life_census.specs.declared.meeting.Visit.{Visit}
 use Rattle.life_census.specs.SteadyState.{visit_of, IsVisitInPlane, AreVisits}
 use Rattle.life_census.specs.SurveyState.{phases_of, StaysFor}
-use Rattle.life_census.proofs.PartsLaws.{contains_from_in}
+use Rattle.life_census.proofs.ClusterLaws.{contains_from_in}
 use Rattle.life_census.proofs.SteadyPhases.{phase}
 
 -- ---- the phases of one part

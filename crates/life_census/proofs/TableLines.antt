@@ -43,7 +43,7 @@ no_mark b h =
 
 unquoted : (text : List ℕ) → list_all is_code_byte text ≡ true → needs_quotes default_writer text ≡ false
 unquoted [] h = refl
-unquoted (b ∷ text) h = let parts = and_parts (is_code_byte b) (list_all is_code_byte text) h in or_from _ _ (no_mark b (above_marks b parts.0)) (unquoted text parts.1)
+unquoted (b ∷ text) h = let both = and_parts (is_code_byte b) (list_all is_code_byte text) h in or_from _ _ (no_mark b (above_marks b both.0)) (unquoted text both.1)
 
 -- the record of a code and a number is their line
 pub line_is : (code : List ℕ) (n : ℕ) → list_all is_code_byte code ≡ true → row_text default_writer (code ∷ decimal n ∷ []) ≡ line code n

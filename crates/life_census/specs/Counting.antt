@@ -1,4 +1,4 @@
--- How often each code stands among the parts of a set.
+-- How often each code stands among the clusters of a set.
 use Rattle.std.specs.Prelude.{◌≡◌, ℕ, List, map, length, count_by, Option, is_none}
 use Rattle.std.specs.declared.cmp.Ordering.{Ordering}
 use Rattle.std.specs.Ordering.{nat_cmp, eq_by_cmp}

@@ -6,7 +6,7 @@ use Rattle.life_core.specs.declared.cell.Cell.{Cell}
 use Rattle.life_core.specs.Pattern.{Cells}
 use Rattle.life_code.specs.Apart.{near}
 use Rattle.life_core.specs.declared.runs.Run.{Run}
-use Rattle.life_census.specs.Parts.{AreJoined}
+use Rattle.life_census.specs.Cluster.{AreJoined}
 use Rattle.life_core.specs.Runs.{cells_in}
 
 -- ---- sets

@@ -1,4 +1,4 @@
--- What makes the definitions of parts, tallies and steady fields believable.
+-- What makes the definitions of clusters, tallies and steady fields believable.
 use Rattle.std.specs.Prelude.{◌≡◌, ◌≢◌, ◌↔◌, ◌≤◌, ℕ, ◌+◌, true, false, IsTrue, List, Option, map, sum_by}
 use Rattle.std.specs.List.{Contains}
 use Rattle.std.specs.List.Sorted.{IsStrictlySortedBy}
@@ -8,22 +8,22 @@ use Rattle.life_core.specs.Pattern.{Cells}
 use Rattle.life_core.specs.Rule.{RuleSets}
 use Rattle.life_core.specs.Generations.{generation_of}
 use Rattle.life_code.specs.Apart.{union_of}
-use Rattle.life_census.specs.Parts.{ArePartsOf, parts}
+use Rattle.life_census.specs.Cluster.{AreClustersOf, clusters_of}
 use Rattle.life_census.specs.Steady.{IsSteady, is_steady}
 use Rattle.life_census.specs.Rows.{TallyCounts}
 use Rattle.life_census.specs.Counting.{row_cmp, how_often, occurrences_of, IsTally}
 
--- `parts` lists the parts of each set ..
+-- `clusters_of` lists the clusters of each set ..
 abbrev pub PartsAreParts : Type 0
-PartsAreParts = (X : Cells) → ArePartsOf X (parts X)
+PartsAreParts = (X : Cells) → AreClustersOf X (clusters_of X)
 
 -- .. and no other list does.
-abbrev pub OneListOfParts : Type 0
-OneListOfParts = (X : Cells) (Ps : List Cells) → ArePartsOf X Ps → Ps ≡ parts X
+abbrev pub OneListOfClusters : Type 0
+OneListOfClusters = (X : Cells) (Ps : List Cells) → AreClustersOf X Ps → Ps ≡ clusters_of X
 
--- Each cell of a set is in one of its parts, and in no other.
-abbrev pub OnePartEach : Type 0
-OnePartEach = (X : Cells) (c : Cell) → set.contains X c ≡ true → (P : Cells) × Contains (parts X) P × (set.contains P c ≡ true) × ((Q : Cells) → Contains (parts X) Q → set.contains Q c ≡ true → Q ≡ P)
+-- Each cell of a set is in one of its clusters, and in no other.
+abbrev pub OneClusterEach : Type 0
+OneClusterEach = (X : Cells) (c : Cell) → set.contains X c ≡ true → (P : Cells) × Contains (clusters_of X) P × (set.contains P c ≡ true) × ((Q : Cells) → Contains (clusters_of X) Q → set.contains Q c ≡ true → Q ≡ P)
 
 -- The rows of a tally are the codes that some set has, each with how many have it ..
 abbrev pub RowsAreCounts : Type 0
@@ -37,14 +37,14 @@ RowsAscend = (codes : List (List ℕ)) → IsStrictlySortedBy row_cmp (map (λ (
 abbrev pub TalliesAddUp : Type 0
 TalliesAddUp = (code : Cells → Option (List ℕ)) (Ps : List Cells) (t : TallyCounts) → IsTally code Ps t → sum_by (λ (row : List ℕ × ℕ). row.1) t.rows + t.unresolved ≡ t.total
 
--- The function `is_steady` says exactly whether a field is steady: also under a limit of 0, under which no part stays.
+-- The function `is_steady` says exactly whether a field is steady: also under a limit of 0, under which no cluster stays.
 abbrev pub SteadyIsDecided : Type 0
 SteadyIsDecided = (r : RuleSets) (X : Cells) (limit : ℕ) → IsTrue (is_steady r X limit) ↔ IsSteady r X limit
 
--- Each generation of a steady field is the union of that generation of its parts, each of them alone ..
-abbrev pub SteadyFieldsEvolveByParts : Type 0
-SteadyFieldsEvolveByParts = (r : RuleSets) (X : Cells) (limit : ℕ) → set.contains r.birth 0 ≡ false → IsSteady r X limit → (k : ℕ) → generation_of r X k ≡ union_of (map (λ P. generation_of r P k) (parts X))
+-- Each generation of a steady field is the union of that generation of its clusters, each of them alone ..
+abbrev pub SteadyFieldsEvolveByClusters : Type 0
+SteadyFieldsEvolveByClusters = (r : RuleSets) (X : Cells) (limit : ℕ) → set.contains r.birth 0 ≡ false → IsSteady r X limit → (k : ℕ) → generation_of r X k ≡ union_of (map (λ P. generation_of r P k) (clusters_of X))
 
--- .. and no two parts ever share a cell.
-abbrev pub PartsShareNoCell : Type 0
-PartsShareNoCell = (r : RuleSets) (X : Cells) (limit : ℕ) → IsSteady r X limit → (k : ℕ) (P Q : Cells) → Contains (parts X) P → Contains (parts X) Q → P ≢ Q → (c : Cell) → set.contains (generation_of r P k) c ≡ true → set.contains (generation_of r Q k) c ≡ false
+-- .. and no two clusters ever share a cell.
+abbrev pub ClustersShareNoCell : Type 0
+ClustersShareNoCell = (r : RuleSets) (X : Cells) (limit : ℕ) → IsSteady r X limit → (k : ℕ) (P Q : Cells) → Contains (clusters_of X) P → Contains (clusters_of X) Q → P ≢ Q → (c : Cell) → set.contains (generation_of r P k) c ≡ true → set.contains (generation_of r Q k) c ≡ false

@@ -1,4 +1,4 @@
-pub mod Parts
+pub mod Cluster
 pub mod FloodState
 pub mod CodeText
 pub mod Rows

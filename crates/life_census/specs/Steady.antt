@@ -1,4 +1,4 @@
--- Fields whose parts never meet: all of them stay where they are, and no two of them ever come near each other.
+-- Fields whose clusters never meet: all of them stay where they are, and no two of them ever come near each other.
 use Rattle.std.specs.Prelude.{◌≢◌, ℕ, Bool, true, false, not, ◌&&◌, List, [], ◌∷◌, map, ◌⊎◌}
 use Rattle.std.specs.List.{list_any, list_all, range_with_len}
 use Rattle.std.specs.FinSet as set
@@ -9,7 +9,7 @@ use Rattle.life_code.specs.declared.kinds.Kind.{Kind}
 use Rattle.life_code.specs.declared.kinds.Kind.TheVariants.{Empty, Still, Oscillator, Ship, Unresolved}
 use Rattle.life_code.specs.Period.{HasKind, kind_of}
 use Rattle.life_code.specs.Apart.{AreApart}
-use Rattle.life_census.specs.Parts.{IsPart, touches, parts}
+use Rattle.life_census.specs.Cluster.{IsCluster, touches, clusters_of}
 
 -- ---- what a steady field is
 
@@ -17,10 +17,10 @@ use Rattle.life_census.specs.Parts.{IsPart, touches, parts}
 unfoldable pub Stays : RuleSets → ℕ → Cells → Type 0
 Stays r limit P = HasKind r P limit Still ⊎ ((p : ℕ) × HasKind r P limit (Oscillator p))
 
--- each part of X stays, and no phase of a part is near a phase of another part; the phases of a part are its generations when it is alone
+-- each cluster of X stays, and no phase of a cluster is near a phase of another cluster; the phases of a cluster are its generations when it is alone
 pub record IsSteady (r : RuleSets) (X : Cells) (limit : ℕ) : Type 0 where
-  pub stay : (P : Cells) → IsPart X P → Stays r limit P
-  pub apart : (P Q : Cells) → IsPart X P → IsPart X Q → P ≢ Q → (i j : ℕ) → AreApart (generation_of r P i) (generation_of r Q j)
+  pub stay : (P : Cells) → IsCluster X P → Stays r limit P
+  pub apart : (P Q : Cells) → IsCluster X P → IsCluster X Q → P ≢ Q → (i j : ℕ) → AreApart (generation_of r P i) (generation_of r Q j)
 
 -- ---- whether a field is steady, as a function
 
@@ -53,6 +53,6 @@ abbrev pub all_keep_apart : RuleSets → ℕ → List Cells → Bool
 all_keep_apart r n [] = true
 all_keep_apart r n (P ∷ Ps) = list_all (keep_apart r n P) Ps && all_keep_apart r n Ps
 
--- whether each part of X stays, and no two of them are near each other in their first generations, as many as the limit: all phases of what stays are among these
+-- whether each cluster of X stays, and no two of them are near each other in their first generations, as many as the limit: all phases of what stays are among these
 unfoldable pub is_steady : RuleSets → Cells → ℕ → Bool
-is_steady r X limit = list_all (stays r limit) (parts X) && all_keep_apart r limit (parts X)
+is_steady r X limit = list_all (stays r limit) (clusters_of X) && all_keep_apart r limit (clusters_of X)

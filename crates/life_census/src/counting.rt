@@ -4,14 +4,14 @@ ghost use Rattle.std.specs.List.{All};
 ghost use Rattle.life_core.specs.Pattern.{Cells, IsWithin};
 ghost use Rattle.life_code.specs.Codes.{code_of};
 ghost use Rattle.life_code.specs.Period.{kind_of, IsSearchable, IsKindOf};
-ghost use Rattle.life_census.specs.Parts.{parts};
+ghost use Rattle.life_census.specs.Cluster.{clusters_of};
 ghost use Rattle.life_census.specs.Rows.{row_seen};
 ghost use Rattle.life_census.specs.Counting.{IsTally};
 ghost use Rattle.life_census.specs.CountingState.{one_more, AreBelow, IsRowOf, IsPlaceFor};
 ghost use Rattle.life_census.specs.SurveyState.{IsSurvey};
 
 use crate::code_text::CodeText;
-use crate::parts::clusters;
+use crate::cluster::clusters;
 use crate::rows::{Row, Rows, Tally};
 use crate::survey::{Shape, code_of_cluster, shape_place};
 use life_code::{Kind, PERIOD_LIMIT, kind};
@@ -28,7 +28,7 @@ pub fn tally<A: Allocator + Copy>(
     limit: u32,
 ) -> Result<Tally<A>, Fault>
     requires { IsSearchable limit pattern.now }
-    ensures { IfOk result (IsTally (λ P. code_of rule.now P limit) (parts pattern.now)) }
+    ensures { IfOk result (IsTally (λ P. code_of rule.now P limit) (clusters_of pattern.now)) }
 {
     let clusters = clusters(alloc, pattern)?;
     if clusters.len() == 1 {

@@ -1,12 +1,12 @@
-//! What makes the definitions of parts, tallies and steady fields believable.
-ghost use Rattle.life_census.specs.Laws.{PartsAreParts, OneListOfParts, OnePartEach, RowsAreCounts, RowsAscend, TalliesAddUp, SteadyFieldsEvolveByParts, PartsShareNoCell, SteadyIsDecided};
+//! What makes the definitions of clusters, tallies and steady fields believable.
+ghost use Rattle.life_census.specs.Laws.{PartsAreParts, OneListOfClusters, OneClusterEach, RowsAreCounts, RowsAscend, TalliesAddUp, SteadyFieldsEvolveByClusters, ClustersShareNoCell, SteadyIsDecided};
 
-/// What the definition of the parts means: `parts` lists them, no other list does, and each cell of a
-/// set is in exactly one of its parts. A law: calling it does nothing.
+/// What the definition of the clusters means: `clusters_of` lists them, no other list does, and each cell of a
+/// set is in exactly one of its clusters. A law: calling it does nothing.
 pub fn laws_of_clusters()
     ensures are { PartsAreParts }
-    ensures one_list { OneListOfParts }
-    ensures one_part { OnePartEach }
+    ensures one_list { OneListOfClusters }
+    ensures one_cluster { OneClusterEach }
 {}
 
 /// What the definition of a tally means: its rows are the codes that some cluster has, each with how
@@ -19,11 +19,11 @@ pub fn laws_of_tallies()
 {}
 
 /// What the definition of a steady field means: under a rule without births from nothing each of its
-/// generations is the union of that generation of its parts, each of them alone; no two parts ever
+/// generations is the union of that generation of its clusters, each of them alone; no two clusters ever
 /// share a cell; and the function `is_steady` answers whether a field is steady. A law: calling it does
 /// nothing.
 pub fn laws_of_steady_fields()
-    ensures evolve { SteadyFieldsEvolveByParts }
-    ensures share { PartsShareNoCell }
+    ensures evolve { SteadyFieldsEvolveByClusters }
+    ensures share { ClustersShareNoCell }
     ensures decided { SteadyIsDecided }
 {}

@@ -10,14 +10,14 @@ ghost use Rattle.life_code.specs.Apart.{near};
 ghost use Rattle.life_code.specs.Codes.{code_of};
 ghost use Rattle.life_code.specs.Period.{IsSearchable};
 ghost use Rattle.life_census.specs.declared.meeting.Visit.{Visit as VisitValue};
-ghost use Rattle.life_census.specs.Parts.{parts};
+ghost use Rattle.life_census.specs.Cluster.{clusters_of};
 ghost use Rattle.life_census.specs.Counting.{IsTally};
 ghost use Rattle.life_census.specs.Steady.{Stays, IsSteady, is_steady};
 ghost use Rattle.life_census.specs.SteadyState.{visit_cmp, visit_of, IsVisitInPlane, AreVisits, ComesBefore, KeepApart, KeepApartUpTo, AreAllApart, AreRowsApart};
 ghost use Rattle.life_census.specs.SurveyState.{IsSurvey};
 
 use crate::counting::{tally_of, tally_of_one};
-use crate::parts::clusters;
+use crate::cluster::clusters;
 use crate::rows::Tally;
 use crate::survey::{Shape, shape_place, stays};
 use life_code::{PERIOD_LIMIT, kind};
@@ -61,7 +61,7 @@ pub fn tally_and_steady<A: Allocator + Copy>(
     limit: u32,
 ) -> Result<(Tally<A>, bool), Fault>
     requires { IsSearchable limit pattern.now }
-    ensures tally { IfOk result (λ p. IsTally (λ P. code_of rule.now P limit) (parts pattern.now) p.0) }
+    ensures tally { IfOk result (λ p. IsTally (λ P. code_of rule.now P limit) (clusters_of pattern.now) p.0) }
     ensures steady { IfOk result (λ p. IsTrue p.1 ↔ IsSteady rule.now pattern.now limit) }
     ensures computed { IfOk result (λ p. p.1 ≡ is_steady rule.now pattern.now limit) }
 {
@@ -90,7 +90,7 @@ fn never_meet<A: Allocator + Copy>(
     requires room { All (IsWithin 400_000_000) clusters.now }
     requires survey { IsSurvey rule.now limit true shapes.old.items }
     ensures survey { IsSurvey rule.now limit true shapes.new.items }
-    ensures answer { IfOk result (λ b. (X : Cells) → parts X ≡ clusters.now → (IsTrue b ↔ IsSteady rule.now X limit)) }
+    ensures answer { IfOk result (λ b. (X : Cells) → clusters_of X ≡ clusters.now → (IsTrue b ↔ IsSteady rule.now X limit)) }
 {
     let Some(mut visits) = all_visits(alloc, rule, clusters, limit, shapes)? else {
         return Ok(false);

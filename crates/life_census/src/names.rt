@@ -3,11 +3,11 @@ ghost use Rattle.std.specs.Prelude.{◌≡◌, ◌≤◌, false, ◌++◌, ◌�
 ghost use Rattle.std.specs.List.{All};
 ghost use Rattle.life_core.specs.Pattern.{IsWithin};
 ghost use Rattle.life_code.specs.Codes.{code_of};
-ghost use Rattle.life_census.specs.Parts.{parts};
+ghost use Rattle.life_census.specs.Cluster.{clusters_of};
 ghost use Rattle.life_census.specs.SurveyState.{IsSurvey};
 
 use crate::code_text::CodeText;
-use crate::parts::clusters;
+use crate::cluster::clusters;
 use crate::survey::{Shape, shape_place};
 use life_code::PERIOD_LIMIT;
 use life_core::{Fault, Pattern, Rule};
@@ -59,7 +59,7 @@ impl<A: Allocator + Copy> Names<A> {
     ) -> Result<Vec<Option<CodeText<A>>, A>, Fault>
         requires room { IsWithin 400_000_000 pattern.now }
         ensures same { self.new ≡ self.old }
-        ensures codes { IfOk result (λ v. v.items ≡ map (λ P. code_of self.old.rule P self.old.limit) (parts pattern.now)) }
+        ensures codes { IfOk result (λ v. v.items ≡ map (λ P. code_of self.old.rule P self.old.limit) (clusters_of pattern.now)) }
     {
         let clusters = clusters(alloc, pattern)?;
         named(alloc, &self.rule, self.limit, &clusters, &mut self.shapes)

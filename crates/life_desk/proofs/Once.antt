@@ -34,7 +34,7 @@ pub both_refl : (xs ys : List ℕ) → (bytes_eq xs xs && bytes_eq ys ys) ≡ tr
 both_refl xs ys = rw (bytes_eq-refl xs, bytes_eq-refl ys) refl
 
 pub both_are : (xs ys us vs : List ℕ) → (bytes_eq xs us && bytes_eq ys vs) ≡ true → (xs ≡ us) × (ys ≡ vs)
-both_are xs ys us vs is = let parts = and_parts (bytes_eq xs us) (bytes_eq ys vs) is in ((bytes_eq-Decides xs us).0 parts.0, (bytes_eq-Decides ys vs).0 parts.1)
+both_are xs ys us vs is = let both = and_parts (bytes_eq xs us) (bytes_eq ys vs) is in ((bytes_eq-Decides xs us).0 both.0, (bytes_eq-Decides ys vs).0 both.1)
 
 pub one_number : (m n : ℕ) → says.Deposited m ≡ says.Deposited n → m ≡ n
 one_number m n e = cc

@@ -11,7 +11,7 @@ use Rattle.life_code.specs.declared.kinds.Kind.{Kind}
 use Rattle.life_code.specs.Codes.{code_of, Same}
 use Rattle.life_code.specs.Period.{kind_of}
 use Rattle.life_code.specs.Laws.{CodeIsComplete}
-use Rattle.life_census.specs.Parts.{parts}
+use Rattle.life_census.specs.Cluster.{clusters_of}
 use Rattle.life_census.specs.Rows.{TallyCounts}
 use Rattle.life_census.specs.Steady.{IsSteady}
 use Rattle.life_census.specs.Laws.{RowsAreCounts, TalliesAddUp, SteadyIsDecided}
@@ -93,7 +93,7 @@ counts rows add rule X limit = record {
   rows = λ code n. rows _ code n;
   unresolved = refl;
   total = refl;
-  adds_up = add (λ P. code_of rule P limit) (parts X) (tally_of_cells rule X limit) (record { rows = refl; unresolved = refl; total = refl });
+  adds_up = add (λ P. code_of rule P limit) (clusters_of X) (tally_of_cells rule X limit) (record { rows = refl; unresolved = refl; total = refl });
 }
 
 -- a census, as it is shown

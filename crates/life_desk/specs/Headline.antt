@@ -13,7 +13,7 @@ use Rattle.life_rle.specs.Writer as writer
 use Rattle.life_code.specs.declared.kinds.Kind.{Kind}
 use Rattle.life_code.specs.Period.{kind_of}
 use Rattle.life_code.specs.Codes.{code_of, Same}
-use Rattle.life_census.specs.Parts.{parts}
+use Rattle.life_census.specs.Cluster.{clusters_of}
 use Rattle.life_census.specs.Counting.{how_often}
 use Rattle.life_census.specs.Rows.{TallyCounts}
 use Rattle.life_census.specs.Steady.{IsSteady}
@@ -34,9 +34,9 @@ use Rattle.life_desk.specs.Run.{RequestRun, IsAnswered, IsLater}
 -- them, and that no other list of sets is so, are the laws `OnePartEach` and `OneListOfParts` of life_census. A row says how many have its code;
 -- the rows and what is unresolved add up to how many there are.
 pub record CountsEachOnce (rule : RuleSets) (X : Cells) (limit : ℕ) (tally : TallyCounts) : Type 0 where
-  pub rows : (code : List ℕ) (n : ℕ) → Contains tally.rows (code, n) ↔ ((n ≡ how_often code (filter_map (λ P. code_of rule P limit) (parts X))) × (1 ≤ n))
-  pub unresolved : tally.unresolved ≡ count_by (λ P. is_none (code_of rule P limit)) (parts X)
-  pub total : tally.total ≡ length (parts X)
+  pub rows : (code : List ℕ) (n : ℕ) → Contains tally.rows (code, n) ↔ ((n ≡ how_often code (filter_map (λ P. code_of rule P limit) (clusters_of X))) × (1 ≤ n))
+  pub unresolved : tally.unresolved ≡ count_by (λ P. is_none (code_of rule P limit)) (clusters_of X)
+  pub total : tally.total ≡ length (clusters_of X)
   pub adds_up : sum_by (λ (row : List ℕ × ℕ). row.1) tally.rows + tally.unresolved ≡ tally.total
 
 -- The census of the number is shown: its deposit, generation and limit, its tally, and whether what was counted is steady, which is to say

@@ -89,10 +89,10 @@ module _ (texts : ℕ → Texts) where
   pub none_seen : (ns : List ℕ) (q : List ℕ) → list_any (same_text q) (flat_map texts ns) ≡ false → seen (λ i. how_often q (texts i)) ns ≡ None
   none_seen [] q none = seen-none (λ i. how_often q (texts i))
   none_seen (n ∷ ns) q none =
-      let parts = or_parts (list_any (same_text q) (texts n)) (list_any (same_text q) (flat_map texts ns)) (sym (list_any-append (same_text q) (texts n) (flat_map texts ns)) ∙ none) in
-      let here : sighted (how_often q (texts n)) n ≡ None = ap (λ k. sighted k n) (how_often_none (texts n) q parts.0) in
+      let both = or_parts (list_any (same_text q) (texts n)) (list_any (same_text q) (flat_map texts ns)) (sym (list_any-append (same_text q) (texts n) (flat_map texts ns)) ∙ none) in
+      let here : sighted (how_often q (texts n)) n ≡ None = ap (λ k. sighted k n) (how_often_none (texts n) q both.0) in
       seen-append (λ i. how_often q (texts i)) (n ∷ []) ns
-      ∙ (λ k. joined ((seen-one (λ i. how_often q (texts i)) n ∙ here) k) (none_seen ns q parts.1 k))
+      ∙ (λ k. joined ((seen-one (λ i. how_often q (texts i)) n ∙ here) k) (none_seen ns q both.1 k))
 
   abbrev pub rows_over : List ℕ → Rows
   rows_over ns = rows_by (λ t. seen (λ i. how_often t (texts i)) ns) (flat_map texts ns)

@@ -25,10 +25,10 @@ sorted_rest e (f ∷ fs) sorted = (both_T _ _ sorted).1
 pub none_below : (t : List ℕ) (e : List ℕ × Sighting) (es : Rows) → row_cmp t e.0 ≡ Less → IsSorted (e ∷ es) → found t (e ∷ es) ≡ None
 none_below t e [] less sorted = ap (λ o. cond (is_eq o) (Some e.1) None) less
 none_below t e (f ∷ fs) less sorted =
-    let parts = both_T _ _ sorted in
-    let first = both_T _ _ parts.0 in
+    let both = both_T _ _ sorted in
+    let first = both_T _ _ both.0 in
     ap (λ o. cond (is_eq o) (Some e.1) (found t (f ∷ fs))) less
-    ∙ none_below t f fs (row_cmp_total.trans t e.0 f.0 less (less_T _ first.0)) parts.1
+    ∙ none_below t f fs (row_cmp_total.trans t e.0 f.0 less (less_T _ first.0)) both.1
 
 -- ---- where a code belongs
 

@@ -5,7 +5,7 @@ use Rattle.std.specs.List.{Contains}
 use Rattle.std.proofs.lemmas.Bool.{false≢true, cases_lt}
 use Rattle.std.proofs.lemmas.List.Sums.{sum_by-cons}
 use Rattle.life_code.proofs.ApartUnions.{IsIn, in_from_contains}
-use Rattle.life_census.proofs.PartsLaws.{contains_from_in}
+use Rattle.life_census.proofs.ClusterLaws.{contains_from_in}
 use Rattle.life_hauls.specs.declared.rows.Sighting.{Sighting}
 use Rattle.life_hauls.specs.Hauls.{is_positive, lesser_number, least_number, seen, joined}
 use Rattle.life_hauls.specs.Laws.{count_of, SeenIsLeast, NothingIsSeen}

@@ -15,7 +15,7 @@ use Rattle.life_core.specs.Generations.{generation_of}
 use Rattle.life_core.specs.Pattern.{Cells}
 use Rattle.life_core.specs.Rule.{RuleSets}
 use Rattle.life_code.specs.Codes.{code_of}
-use Rattle.life_census.specs.Parts.{parts}
+use Rattle.life_census.specs.Cluster.{clusters_of}
 use Rattle.life_census.specs.Counting.{row_cmp, how_often, occurrences_of}
 use Rattle.life_census.proofs.CountingLaws.{Texts, same_text, row_cmp_total, both_T, less_T, table_of, get_counted, how_often_none}
 use Rattle.life_hauls.specs.declared.rows.Sighting.{Sighting}
@@ -58,7 +58,7 @@ module _ (s : Symmetry) (root : List ℕ) (rule : RuleSets) (n limit : ℕ) wher
   code P = code_of rule P limit
 
   abbrev field_parts : ℕ → List Cells
-  field_parts i = parts (generation_of rule (soup_of s root i) n)
+  field_parts i = clusters_of (generation_of rule (soup_of s root i) n)
 
   times_in_tally : (q : List ℕ) (i : ℕ) → how_often q (texts_in (soup_codes s root rule n limit i)) ≡ count_in q (soup_tally s root rule n limit i)
   times_in_tally q i = ap (how_often q) (texts-map code (field_parts i)) ∙ counted (filter_map code (field_parts i)) q
@@ -89,18 +89,18 @@ code_of_row row = row.0
 above : (k : List ℕ) (e : List ℕ × Sighting) (es : Rows) → row_cmp k e.0 ≡ Less → IsSorted (e ∷ es) → AllByRecursion (λ l. row_cmp k l ≡ Less) (map code_of_row (e ∷ es))
 above k e [] less sorted = (less, tt)
 above k e (f ∷ fs) less sorted =
-    let parts = both_T _ _ sorted in
-    let first = both_T _ _ parts.0 in
-    (less, above k f fs (row_cmp_total.trans k e.0 f.0 less (less_T _ first.0)) parts.1)
+    let both = both_T _ _ sorted in
+    let first = both_T _ _ both.0 in
+    (less, above k f fs (row_cmp_total.trans k e.0 f.0 less (less_T _ first.0)) both.1)
 
 ascend : (es : Rows) → IsSorted es → IsStrictlySortedBy row_cmp (map code_of_row es)
 unfolding IsStrictlySortedBy
 ascend [] sorted = tt
 ascend (e ∷ []) sorted = (tt, tt)
 ascend (e ∷ f ∷ fs) sorted =
-    let parts = both_T _ _ sorted in
-    let first = both_T _ _ parts.0 in
-    (above e.0 f fs (less_T _ first.0) parts.1, ascend (f ∷ fs) parts.1)
+    let both = both_T _ _ sorted in
+    let first = both_T _ _ both.0 in
+    (above e.0 f fs (less_T _ first.0) both.1, ascend (f ∷ fs) both.1)
 
 pub rows_ascend : RowsAscend
 rows_ascend s root rule n limit first count = ascend (counts_over (soup_codes s root rule n limit) (range_with_len first count)).rows (sorted-haul (soup_codes s root rule n limit) (range_with_len first count))

@@ -23,8 +23,8 @@ codes_of es = map (λ (e : List ℕ × Sighting). e.0) es
 none_found : (q : List ℕ) (es : Rows) → list_any (same_text q) (codes_of es) ≡ false → found q es ≡ None
 none_found q [] none = refl
 none_found q (e ∷ es) none =
-    let parts = or_parts (same_text q e.0) (list_any (same_text q) (codes_of es)) none in
-    ap (λ b. cond b (Some e.1) (found q es)) parts.0 ∙ none_found q es parts.1
+    let both = or_parts (same_text q e.0) (list_any (same_text q) (codes_of es)) none in
+    ap (λ b. cond b (Some e.1) (found q es)) both.0 ∙ none_found q es both.1
 
 abbrev both_rows : Rows → Rows → Rows
 both_rows es fs = rows_by (λ t. joined (found t es) (found t fs)) (codes_of (es ++ fs))
@@ -32,8 +32,8 @@ both_rows es fs = rows_by (λ t. joined (found t es) (found t fs)) (codes_of (es
 found-both : (es fs : Rows) (q : List ℕ) → found q (both_rows es fs) ≡ joined (found q es) (found q fs)
 found-both es fs q = rows_say (λ t. joined (found t es) (found t fs)) (codes_of (es ++ fs)) q (λ none.
     let split = sym (list_any-append (same_text q) (codes_of es) (codes_of fs)) ∙ ap (list_any (same_text q)) (sym (map-append (λ (e : List ℕ × Sighting). e.0) es fs)) ∙ none in
-    let parts = or_parts (list_any (same_text q) (codes_of es)) (list_any (same_text q) (codes_of fs)) split in
-    λ k. joined (none_found q es parts.0 k) (none_found q fs parts.1 k))
+    let both = or_parts (list_any (same_text q) (codes_of es)) (list_any (same_text q) (codes_of fs)) split in
+    λ k. joined (none_found q es both.0 k) (none_found q fs both.1 k))
 
 sorted-both : (es fs : Rows) → IsSorted (both_rows es fs)
 sorted-both es fs = sorted-rows (λ t. joined (found t es) (found t fs)) (codes_of (es ++ fs))

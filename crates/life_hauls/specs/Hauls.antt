@@ -6,7 +6,7 @@ use Rattle.std.specs.FinMap as table
 use Rattle.life_core.specs.Generations.{generation_of}
 use Rattle.life_core.specs.Rule.{RuleSets}
 use Rattle.life_code.specs.Codes.{code_of}
-use Rattle.life_census.specs.Parts.{parts}
+use Rattle.life_census.specs.Cluster.{clusters_of}
 use Rattle.life_census.specs.Counting.{row_cmp, how_often}
 use Rattle.life_hauls.specs.declared.rows.Sighting.{Sighting}
 use Rattle.life_hauls.specs.declared.rows.HaulRow.{HaulRow}
@@ -102,7 +102,7 @@ together a b = record {
 
 -- the codes of the clusters of generation n of soup i
 abbrev pub soup_codes : Symmetry → List ℕ → RuleSets → ℕ → ℕ → ℕ → List (Option (List ℕ))
-soup_codes s root rule n limit i = map (λ P. code_of rule P limit) (parts (generation_of rule (soup_of s root i) n))
+soup_codes s root rule n limit i = map (λ P. code_of rule P limit) (clusters_of (generation_of rule (soup_of s root i) n))
 
 -- the haul over so many soups, from a first number on
 abbrev pub haul_of : Symmetry → List ℕ → RuleSets → ℕ → ℕ → ℕ → ℕ → HaulCounts

@@ -7,7 +7,7 @@ use Rattle.std.specs.FinMap as table
 use Rattle.life_core.specs.Generations.{generation_of}
 use Rattle.life_core.specs.Rule.{RuleSets}
 use Rattle.life_code.specs.Codes.{code_of}
-use Rattle.life_census.specs.Parts.{parts}
+use Rattle.life_census.specs.Cluster.{clusters_of}
 use Rattle.life_census.specs.Rows.{TallyCounts}
 use Rattle.life_census.specs.Counting.{row_cmp, tally_of}
 use Rattle.life_hauls.specs.declared.rows.Sighting.{Sighting}
@@ -52,7 +52,7 @@ NothingIsSeen = (f : ℕ → ℕ) (ns : List ℕ) → (seen f ns ≡ None) ↔ (
 
 -- the tally of generation n of soup i
 abbrev pub soup_tally : Symmetry → List ℕ → RuleSets → ℕ → ℕ → ℕ → TallyCounts
-soup_tally s root rule n limit i = tally_of (λ P. code_of rule P limit) (parts (generation_of rule (soup_of s root i) n))
+soup_tally s root rule n limit i = tally_of (λ P. code_of rule P limit) (clusters_of (generation_of rule (soup_of s root i) n))
 
 -- how many clusters of a tally have a code
 abbrev pub count_in : List ℕ → TallyCounts → ℕ

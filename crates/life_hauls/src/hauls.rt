@@ -2,7 +2,7 @@
 ghost use Rattle.std.specs.Prelude.{◌≡◌, ◌+◌, ◌≤◌, ◌<◌, ◌^◌, map, IfOk};
 ghost use Rattle.life_core.specs.Generations.{generation_of};
 ghost use Rattle.life_code.specs.Codes.{code_of};
-ghost use Rattle.life_census.specs.Parts.{parts};
+ghost use Rattle.life_census.specs.Cluster.{clusters_of};
 ghost use Rattle.life_hauls.specs.Hauls.{haul_of};
 ghost use Rattle.life_hauls.specs.Soups.{soup_of};
 
@@ -44,7 +44,7 @@ fn codes_of_soup<A: Allocator + Copy>(
 ) -> Result<Vec<Option<CodeText<A>>, A>, Fault>
     requires { n ≤ GENERATION_LIMIT }
     ensures same { names.new ≡ names.old }
-    ensures codes { IfOk result (λ v. v.items ≡ map (λ P. code_of names.old.rule P names.old.limit) (parts (generation_of rule.now (soup_of symmetry root.now number) n))) }
+    ensures codes { IfOk result (λ v. v.items ≡ map (λ P. code_of names.old.rule P names.old.limit) (clusters_of (generation_of rule.now (soup_of symmetry root.now number) n))) }
 {
     let soup = soup(alloc, symmetry, root, number)?;
     let field = generation(alloc, rule, &soup, n)?;

@@ -17,7 +17,7 @@ use Rattle.life_code.specs.declared.open.CodeFault.TheVariants as code_faults
 use Rattle.life_code.specs.Period.{kind_of}
 use Rattle.life_code.specs.Codes.{code_of, code_by_kind}
 use Rattle.life_code.specs.Open.{Spells, Refuses}
-use Rattle.life_census.specs.Parts.{parts}
+use Rattle.life_census.specs.Cluster.{clusters_of}
 use Rattle.life_census.specs.Rows.{TallyCounts}
 use Rattle.life_census.specs.Counting.{IsTally, tally_of}
 use Rattle.life_census.specs.Table.{csv_text}
@@ -79,10 +79,10 @@ tally_is : (code : Cells → Option (List ℕ)) (Ps : List Cells) (t : TallyCoun
 tally_is code Ps t is = λ i. record { rows = is.rows i; unresolved = is.unresolved i; total = is.total i }
 
 -- the table of the tally of a generation of a record
-pub table_of_record : (r s : Contents) (n limit : ℕ) (X : Cells) (t : TallyCounts) → r ≡ s → X ≡ generation_of r.rule r.cells n → IsTally (λ P. code_of r.rule P limit) (parts X) t → csv_text t ≡ census_table n limit s
+pub table_of_record : (r s : Contents) (n limit : ℕ) (X : Cells) (t : TallyCounts) → r ≡ s → X ≡ generation_of r.rule r.cells n → IsTally (λ P. code_of r.rule P limit) (clusters_of X) t → csv_text t ≡ census_table n limit s
 table_of_record r s n limit X t same is tallied =
-    ap csv_text (tally_is (λ P. code_of r.rule P limit) (parts X) t tallied)
-    ∙ ap (λ Y. csv_text (tally_of (λ P. code_of r.rule P limit) (parts Y))) is
+    ap csv_text (tally_is (λ P. code_of r.rule P limit) (clusters_of X) t tallied)
+    ∙ ap (λ Y. csv_text (tally_of (λ P. code_of r.rule P limit) (clusters_of Y))) is
     ∙ ap (census_table n limit) same
 
 -- ---- the set of a code

@@ -22,7 +22,7 @@ use Rattle.life_code.specs.declared.open.CodeFault.TheVariants as code_faults
 use Rattle.life_code.specs.Period.{kind_of}
 use Rattle.life_code.specs.Codes.{code_of}
 use Rattle.life_code.specs.Open.{Spells, Refuses}
-use Rattle.life_census.specs.Parts.{parts}
+use Rattle.life_census.specs.Cluster.{clusters_of}
 use Rattle.life_census.specs.Counting.{tally_of}
 use Rattle.life_census.specs.Table.{csv_text}
 use Rattle.life_jobs.specs.declared.stop.Stop.{Stop}
@@ -73,7 +73,7 @@ AreCensusNumbers n limit = (n ≤ GENERATION_LIMIT) × IsPeriodLimit limit
 
 -- the CSV of the tally of the clusters of generation n of a record
 abbrev pub census_table : ℕ → ℕ → Contents → List ℕ
-census_table n limit r = csv_text (tally_of (λ P. code_of r.rule P limit) (parts (generation_of r.rule r.cells n)))
+census_table n limit r = csv_text (tally_of (λ P. code_of r.rule P limit) (clusters_of (generation_of r.rule r.cells n)))
 
 -- what `census n limit` prints for a file
 abbrev pub census_text : ℕ → ℕ → List ℕ → Result (List ℕ) RleFault

@@ -3,8 +3,8 @@ use Rattle.std.proofs.lemmas.List.Elements.{All-same}
 use Rattle.life_core.specs.Pattern.{Cells, IsWithin}
 use Rattle.life_code.specs.Codes.{code_of}
 use Rattle.life_census.specs.Counting.{IsTally}
-use Rattle.life_census.proofs.PartsLaws.{parts_within}
-use Rattle.life_census.proofs.PartsListing.{parts_listed, whole_part}
+use Rattle.life_census.proofs.ClusterLaws.{parts_within}
+use Rattle.life_census.proofs.ClusterListing.{clusters_listed, whole_part}
 use Rattle.life_census.proofs.counting.tally.Goals as goal
 
 pub returns-then-len-eq1 : goal.returns-then-len-eq1
@@ -18,4 +18,4 @@ tally_of-requires-clause-room g c = All-same (IsWithin 400000000) _ _ c.deref.en
 
 pub returns : goal.returns
 returns g c =
-    subst (λ (Qs : List Cells). IfOk c.tally_of.result (IsTally (λ P. code_of c.args.rule.now P c.args.limit) Qs)) (c.deref.ensures.value ∙ parts_listed _ _ c.in_ok-clusters.ensures) c.tally_of.ensures
+    subst (λ (Qs : List Cells). IfOk c.tally_of.result (IsTally (λ P. code_of c.args.rule.now P c.args.limit) Qs)) (c.deref.ensures.value ∙ clusters_listed _ _ c.in_ok-clusters.ensures) c.tally_of.ensures

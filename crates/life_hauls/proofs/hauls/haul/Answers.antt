@@ -2,7 +2,7 @@ use Rattle.std.proofs.Common.{◌≡◌, ℕ, ◌+◌, List, Option, map, sym, a
 use Rattle.std.specs.List.{range_with_len}
 use Rattle.life_core.specs.Generations.{generation_of}
 use Rattle.life_code.specs.Codes.{code_of}
-use Rattle.life_census.specs.Parts.{parts}
+use Rattle.life_census.specs.Cluster.{clusters_of}
 use Rattle.life_census.specs.NamesState.{Naming}
 use Rattle.life_hauls.specs.Hauls.{HaulCounts, counts_over, soup_codes}
 use Rattle.life_hauls.specs.HaulsState.{with_soup}
@@ -30,7 +30,7 @@ loop-i-preserved g c =
     let ns = range_with_len c.args.first c.loop-i.i in
     let i = c.args.first + c.loop-i.i in
     let names = c.forget.ensures ∙ c.loop-i.invariant.names in
-    let codes = c.deref.ensures.value ∙ c.in_ok-codes.ensures.codes ∙ ap (λ (v : Naming). map (λ P. code_of v.rule P v.limit) (parts (generation_of rule (soup_of c.args.symmetry root i) c.args.n))) names in
+    let codes = c.deref.ensures.value ∙ c.in_ok-codes.ensures.codes ∙ ap (λ (v : Naming). map (λ P. code_of v.rule P v.limit) (clusters_of (generation_of rule (soup_of c.args.symmetry root i) c.args.n))) names in
     record {
       counted =
           c.in_ok-count_soup.ensures

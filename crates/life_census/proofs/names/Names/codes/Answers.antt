@@ -2,10 +2,10 @@ use Rattle.std.proofs.Common.{◌≡◌, List, map, IfOk, subst, ◌∙◌}
 use Rattle.std.proofs.lemmas.List.Elements.{All-same}
 use Rattle.life_core.specs.Pattern.{Cells, IsWithin}
 use Rattle.life_code.specs.Codes.{code_of}
-use Rattle.life_census.specs.Parts.{parts}
+use Rattle.life_census.specs.Cluster.{clusters_of}
 use Rattle.life_census.specs.NamesState.{Naming}
-use Rattle.life_census.proofs.PartsLaws.{parts_within}
-use Rattle.life_census.proofs.PartsListing.{parts_listed}
+use Rattle.life_census.proofs.ClusterLaws.{parts_within}
+use Rattle.life_census.proofs.ClusterListing.{clusters_listed}
 use Rattle.life_census.proofs.names.Names.codes.Goals as goal
 
 pub named-requires-clause-room : goal.named-requires-clause-room
@@ -14,7 +14,7 @@ named-requires-clause-room g c = All-same (IsWithin 400000000) _ _ c.deref.ensur
 pub returns-clause-codes : goal.returns-clause-codes
 returns-clause-codes g c =
     let X = c.args.pattern.now in
-    let same : c.deref.result.now ≡ parts X = c.deref.ensures.value ∙ parts_listed _ _ c.in_ok-clusters.ensures in
+    let same : c.deref.result.now ≡ clusters_of X = c.deref.ensures.value ∙ clusters_listed _ _ c.in_ok-clusters.ensures in
     let terms : record { rule = c.self.inside.rule; limit = c.self.inside.limit } ≡ c.args.self.now = c.self.view_is in
-    subst (λ (v : Naming). IfOk c.named.result (λ v'. v'.items ≡ map (λ P. code_of v.rule P v.limit) (parts X))) terms
+    subst (λ (v : Naming). IfOk c.named.result (λ v'. v'.items ≡ map (λ P. code_of v.rule P v.limit) (clusters_of X))) terms
     (subst (λ (Qs : List Cells). IfOk c.named.result (λ v'. v'.items ≡ map (λ P. code_of c.self.inside.rule P c.self.inside.limit) Qs)) same c.named.ensures.codes)

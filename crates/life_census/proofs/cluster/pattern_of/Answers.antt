@@ -6,8 +6,8 @@ use Rattle.life_core.specs.Pattern.{Cells, IsWithin}
 use Rattle.life_core.specs.Runs.{runs_cells}
 use Rattle.life_core.specs.declared.cell.TheConstants.{PLANE}
 use Rattle.life_core.proofs.PatternMembers.{list_within}
-use Rattle.life_census.proofs.PartsSteps.{can_be_put, put_all}
-use Rattle.life_census.proofs.parts.pattern_of.Goals as goal
+use Rattle.life_census.proofs.ClusterSteps.{can_be_put, put_all}
+use Rattle.life_census.proofs.cluster.pattern_of.Goals as goal
 
 pub push_run-requires-clause-run : goal.push_run-requires-clause-run
 push_run-requires-clause-run g c =

@@ -17,17 +17,17 @@ use Rattle.life_code.proofs.ApartNear.{near_symmetric}
 use Rattle.life_code.proofs.ApartUnions.{IsIn}
 use Rattle.life_code.specs.Apart.{near}
 use Rattle.life_core.specs.declared.runs.Run.{Run}
-use Rattle.life_census.specs.Parts.{IsChain, AreJoined, IsPart, IsBefore, AreInOrder, ArePartsOf}
+use Rattle.life_census.specs.Cluster.{IsChain, AreJoined, IsCluster, IsBefore, AreInOrder, AreClustersOf}
 use Rattle.life_core.specs.Runs.{runs_cells, cells_in, first_cell, last_cell, IsInRun, IsRun, IsRunBefore, AreRunsInOrder}
 use Rattle.life_census.specs.FloodState.{IsClear, IsFlood, IsKept, AreKept}
-use Rattle.life_census.proofs.PartsLaws.{joined_trans, joined_back, near_stays, one_part, contains_from_in, all_in}
+use Rattle.life_census.proofs.ClusterLaws.{joined_trans, joined_back, near_stays, one_cluster, contains_from_in, all_in}
 use Rattle.life_core.proofs.RunsLaws.{in_some, in_any, none_in, comes_first, first_in_run, set_of_runs, cells_in-permuted}
 use Rattle.life_core.proofs.PatternOrder.{from_list_of}
 use Rattle.life_census.proofs.FloodLaws.{in_kept}
 
 -- Ps are the first parts of X, and L is what is left of X
 pub record IsParting (X : Cells) (Ps : List Cells) (L : Cells) : Type 0 where
-  pub each : AllByRecursion (IsPart X) Ps
+  pub each : AllByRecursion (IsCluster X) Ps
   pub covers : (c : Cell) → set.contains X c ≡ true → ((P : Cells) × IsIn Ps P × (set.contains P c ≡ true)) ⊎ (set.contains L c ≡ true)
   pub inside : (c : Cell) → set.contains L c ≡ true → set.contains X c ≡ true
   pub fresh : AllByRecursion (λ P. (c : Cell) → set.contains P c ≡ true → set.contains L c ≡ false) Ps
@@ -71,7 +71,7 @@ module _ (X : Cells) (Ps : List Cells) (L : Cells) (p : IsParting X Ps L) (start
   nobody_near : (c d : Cell) → set.contains P c ≡ true → set.contains X d ≡ true → set.contains P d ≡ false → near c d ≡ true → false ≡ true
   nobody_near c d h there other close = elim (p.covers d there) [
     | inl found ↦
-        let back = near_stays X found.0 (all_in (IsPart X) Ps found.0 p.each found.1) d c found.2 (p.inside c (f.taken c h)) (near_symmetric d c ∙ close) in
+        let back = near_stays X found.0 (all_in (IsCluster X) Ps found.0 p.each found.1) d c found.2 (p.inside c (f.taken c h)) (near_symmetric d c ∙ close) in
         sym (all_in (λ P. (e : Cell) → set.contains P e ≡ true → set.contains L e ≡ false) Ps found.0 p.fresh found.1 c back) ∙ f.taken c h
     | inr live ↦ elim (f.split d live) [
       | inl here ↦ sym other ∙ here
@@ -80,7 +80,7 @@ module _ (X : Cells) (Ps : List Cells) (L : Cells) (p : IsParting X Ps L) (start
   ]
 
   -- the cells that were taken are a part
-  pub flood_is_part : IsPart X P
+  pub flood_is_part : IsCluster X P
   flood_is_part = record {
     inside = λ c h. p.inside c (f.taken c h);
     cell = (start, f.begins);
@@ -93,7 +93,7 @@ module _ (X : Cells) (Ps : List Cells) (L : Cells) (p : IsParting X Ps L) (start
 
   pub parting_goes_on : ((d : Cell) → set.contains M d ≡ true → cell_cmp start d ≡ Less) → IsParting X (Ps ++ P ∷ []) M
   parting_goes_on least = record {
-    each = all_push (IsPart X) Ps P p.each flood_is_part;
+    each = all_push (IsCluster X) Ps P p.each flood_is_part;
     covers = λ c h. elim (p.covers c h) [
       | inl found ↦ inl (found.0, in_push Ps P found.0 found.1, found.2)
       | inr live ↦ elim (f.split c live) [
@@ -111,12 +111,12 @@ module _ (X : Cells) (Ps : List Cells) (L : Cells) (p : IsParting X Ps L) (start
       fewer c h = elim (cases_Bool (set.contains M c)) [ inl live ↦ absurd (false≢true (sym h ∙ f.kept c live)) | inr dead ↦ dead ]
 
 -- nothing is left
-pub parting_ends : (X : Cells) (Ps : List Cells) (L : Cells) → IsParting X Ps L → ((c : Cell) → set.contains L c ≡ false) → ArePartsOf X Ps
+pub parting_ends : (X : Cells) (Ps : List Cells) (L : Cells) → IsParting X Ps L → ((c : Cell) → set.contains L c ≡ false) → AreClustersOf X Ps
 parting_ends X Ps L p none = record {
   each = p.each;
   all = λ P part. elim (p.covers part.cell.0 (part.inside part.cell.0 part.cell.1)) [
     | inl found ↦
-        let same : found.0 ≡ P = one_part X found.0 P part.cell.0 (all_in (IsPart X) Ps found.0 p.each found.1) part found.2 part.cell.1 in
+        let same : found.0 ≡ P = one_cluster X found.0 P part.cell.0 (all_in (IsCluster X) Ps found.0 p.each found.1) part found.2 part.cell.1 in
         contains_from_in Ps P (subst (IsIn Ps) same found.1)
     | inr live ↦ absurd (false≢true (sym (none part.cell.0) ∙ live))
   ];

@@ -3,9 +3,9 @@ use Rattle.std.proofs.lemmas.List.{get_or_default}
 use Rattle.life_core.specs.declared.runs.Run.{Run}
 use Rattle.life_core.specs.Runs.{cells_in}
 use Rattle.life_census.proofs.FloodLaws.{kept_same, order_kept}
-use Rattle.life_census.proofs.PartsSteps.{taken_within, parting_begins, parting_goes_on, parting_ends, left_after, none_left, past_more, start_gone}
-use Rattle.life_census.proofs.parts.parted.Goals as goal
-use Rattle.life_census.proofs.parts.parted.Goals.{then-left-i-gt0+in_ok-runs+in_ok-pattern_of+in_ok-push, else-left-i-gt0}
+use Rattle.life_census.proofs.ClusterSteps.{taken_within, parting_begins, parting_goes_on, parting_ends, left_after, none_left, past_more, start_gone}
+use Rattle.life_census.proofs.cluster.parted.Goals as goal
+use Rattle.life_census.proofs.cluster.parted.Goals.{then-left-i-gt0+in_ok-runs+in_ok-pattern_of+in_ok-push, else-left-i-gt0}
 
 abbrev blank : Run
 blank = record { row = pos 0; first = pos 0; len = 0 }

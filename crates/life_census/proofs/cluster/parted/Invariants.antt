@@ -1,8 +1,8 @@
 use Rattle.std.proofs.Common.{◌≡◌, ℕ, ◌<◌, get_or}
 use Rattle.life_core.specs.declared.runs.Run.{Run}
 use Rattle.life_core.specs.Runs.{cells_in, AreRunsInOrder}
-use Rattle.life_census.proofs.PartsSteps.{IsParting}
-use Rattle.life_census.proofs.parts.parted.Given as goal
+use Rattle.life_census.proofs.ClusterSteps.{IsParting}
+use Rattle.life_census.proofs.cluster.parted.Given as goal
 
 abbrev pub invariant-loop-i : goal.invariant-loop-i
 invariant-loop-i g l = record {

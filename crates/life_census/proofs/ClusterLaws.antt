@@ -13,7 +13,7 @@ use Rattle.life_core.proofs.PatternMembers.{cell_cmp_total, same_answer, cells_b
 use Rattle.life_code.proofs.ApartNear.{near_symmetric}
 use Rattle.life_code.proofs.ApartUnions.{IsIn, in_from_contains}
 use Rattle.life_code.specs.Apart.{near}
-use Rattle.life_census.specs.Parts.{IsChain, AreJoined, IsPart, IsBefore, AreInOrder, ArePartsOf}
+use Rattle.life_census.specs.Cluster.{IsChain, AreJoined, IsCluster, IsBefore, AreInOrder, AreClustersOf}
 
 -- ---- chains
 
@@ -40,25 +40,25 @@ joined_back X c d here p = chain_back X c d p.0 here p.1
 
 -- ---- parts lie inside
 
-pub parts_within : (k : ℕ) (X : Cells) (Ps : List Cells) → ArePartsOf X Ps → IsWithin k X → All (IsWithin k) Ps
-parts_within k X Ps parts room i d low c here = room c ((All-from_recursion (IsPart X) Ps parts.each i d low).inside c here)
+pub parts_within : (k : ℕ) (X : Cells) (Ps : List Cells) → AreClustersOf X Ps → IsWithin k X → All (IsWithin k) Ps
+parts_within k X Ps clusters_of room i d low c here = room c ((All-from_recursion (IsCluster X) Ps clusters_of.each i d low).inside c here)
 
 -- ---- two parts that share a cell are one
 
-pub near_stays : (X P : Cells) → IsPart X P → (c d : Cell) → set.contains P c ≡ true → set.contains X d ≡ true → near c d ≡ true → set.contains P d ≡ true
+pub near_stays : (X P : Cells) → IsCluster X P → (c d : Cell) → set.contains P c ≡ true → set.contains X d ≡ true → near c d ≡ true → set.contains P d ≡ true
 near_stays X P part c d here there close = elim (cases_Bool (set.contains P d)) [
   | inl held ↦ held
   | inr free ↦ absurd (false≢true (sym (part.apart c d here there free) ∙ close))
 ]
 
-chain_stays : (X P : Cells) → IsPart X P → (c d : Cell) (es : List Cell) → set.contains P c ≡ true → IsChain X c es d → set.contains P d ≡ true
+chain_stays : (X P : Cells) → IsCluster X P → (c d : Cell) (es : List Cell) → set.contains P c ≡ true → IsChain X c es d → set.contains P d ≡ true
 chain_stays X P part c d [] here e = ap (set.contains P) (sym e) ∙ here
 chain_stays X P part c d (e ∷ es) here h = chain_stays X P part e d es (near_stays X P part c e here h.0 h.1) h.2
 
-pub one_part : (X P Q : Cells) (c : Cell) → IsPart X P → IsPart X Q → set.contains P c ≡ true → set.contains Q c ≡ true → P ≡ Q
-one_part X P Q c p q in_P in_Q = cells_by_members P Q (λ d. same_answer _ _ (within P Q p q in_P in_Q d) (within Q P q p in_Q in_P d))
+pub one_cluster : (X P Q : Cells) (c : Cell) → IsCluster X P → IsCluster X Q → set.contains P c ≡ true → set.contains Q c ≡ true → P ≡ Q
+one_cluster X P Q c p q in_P in_Q = cells_by_members P Q (λ d. same_answer _ _ (within P Q p q in_P in_Q d) (within Q P q p in_Q in_P d))
   where
-    within : (P Q : Cells) → IsPart X P → IsPart X Q → set.contains P c ≡ true → set.contains Q c ≡ true → (d : Cell) → set.contains P d ≡ true → set.contains Q d ≡ true
+    within : (P Q : Cells) → IsCluster X P → IsCluster X Q → set.contains P c ≡ true → set.contains Q c ≡ true → (d : Cell) → set.contains P d ≡ true → set.contains Q d ≡ true
     within P Q p q in_P in_Q d h = let chain = p.joined c d in_P h in chain_stays X Q q c d chain.0 in_Q chain.1
 
 -- ---- the order
@@ -111,22 +111,22 @@ one_order (P ∷ Ps) (Q ∷ Qs) s t to from =
     ]
 
 -- a set has one list of parts
-pub one_list_of_parts : (X : Cells) (Ps Qs : List Cells) → ArePartsOf X Ps → ArePartsOf X Qs → Ps ≡ Qs
-one_list_of_parts X Ps Qs p q = one_order Ps Qs p.ascend q.ascend
-    (λ P h. in_from_contains Qs P (q.all P (all_in (IsPart X) Ps P p.each h)))
-    (λ P h. in_from_contains Ps P (p.all P (all_in (IsPart X) Qs P q.each h)))
+pub one_list_of_clusters : (X : Cells) (Ps Qs : List Cells) → AreClustersOf X Ps → AreClustersOf X Qs → Ps ≡ Qs
+one_list_of_clusters X Ps Qs p q = one_order Ps Qs p.ascend q.ascend
+    (λ P h. in_from_contains Qs P (q.all P (all_in (IsCluster X) Ps P p.each h)))
+    (λ P h. in_from_contains Ps P (p.all P (all_in (IsCluster X) Qs P q.each h)))
 
 -- a set with one part is that part
-pub one_whole : (X : Cells) (Ps : List Cells) → ArePartsOf X Ps → length Ps ≡ 1 → Ps ≡ X ∷ []
-one_whole X [] parts one = absurd (omega arith)
-one_whole X (P ∷ Q ∷ Qs) parts one = absurd (omega arith)
-one_whole X (P ∷ []) parts one = λ i. same i ∷ []
+pub one_whole : (X : Cells) (Ps : List Cells) → AreClustersOf X Ps → length Ps ≡ 1 → Ps ≡ X ∷ []
+one_whole X [] clusters_of one = absurd (omega arith)
+one_whole X (P ∷ Q ∷ Qs) clusters_of one = absurd (omega arith)
+one_whole X (P ∷ []) clusters_of one = λ i. same i ∷ []
   where
     here : (c : Cell) → set.contains X c ≡ true → set.contains P c ≡ true
-    here c h = let found = parts.covers c h in elim (in_from_contains (P ∷ []) found.0 found.1) [
+    here c h = let found = clusters_of.covers c h in elim (in_from_contains (P ∷ []) found.0 found.1) [
       | inl same ↦ ap (λ (Q : Cells). set.contains Q c) same ∙ found.2
       | inr none ↦ absurd none
     ]
 
     same : P ≡ X
-    same = cells_by_members P X (λ c. same_answer _ _ (parts.each.0.inside c) (here c))
+    same = cells_by_members P X (λ c. same_answer _ _ (clusters_of.each.0.inside c) (here c))

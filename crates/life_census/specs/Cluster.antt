@@ -1,4 +1,4 @@
--- Parts of a set of cells: the classes of the chains of near cells. Cells at most 2 apart are taken together, for they can have a neighbour in common
+-- Clusters of a set of cells: the classes of the chains of near cells. Cells at most 2 apart are taken together, for they can have a neighbour in common
 -- (Life Lexicon, "cluster": each live cell is connected to every other by a path that does not pass through two consecutive dead cells).
 use Rattle.std.specs.Prelude.{◌≡◌, Bool, true, false, cond, not, List, [], ◌∷◌}
 use Rattle.std.specs.declared.cmp.Ordering.TheVariants.{Less}
@@ -9,7 +9,7 @@ use Rattle.life_core.specs.Cell.{cell_cmp}
 use Rattle.life_core.specs.Pattern.{Cells, in_order}
 use Rattle.life_code.specs.Apart.{near}
 
--- ---- what a part is
+-- ---- what a cluster is
 
 -- these cells of X, each near to the one before it, lead from c to d
 abbrev pub IsChain : Cells → Cell → List Cell → Cell → Type 0
@@ -20,14 +20,14 @@ IsChain X c (e ∷ es) d = (set.contains X e ≡ true) × (near c e ≡ true) ×
 abbrev pub AreJoined : Cells → Cell → Cell → Type 0
 AreJoined X c d = (es : List Cell) × IsChain X c es d
 
--- P is a part of X: it has a cell, chains join all its cells, and no other cell of X is near it
-pub record IsPart (X P : Cells) : Type 0 where
+-- P is a cluster of X: it has a cell, chains join all its cells, and no other cell of X is near it
+pub record IsCluster (X P : Cells) : Type 0 where
   pub inside : (c : Cell) → set.contains P c ≡ true → set.contains X c ≡ true
   pub cell : (c : Cell) × (set.contains P c ≡ true)
   pub joined : (c d : Cell) → set.contains P c ≡ true → set.contains P d ≡ true → AreJoined X c d
   pub apart : (c d : Cell) → set.contains P c ≡ true → set.contains X d ≡ true → set.contains P d ≡ false → near c d ≡ false
 
--- ---- the list of the parts
+-- ---- the list of the clusters
 
 -- some cell of P comes before all cells of Q, by row and then by column
 abbrev pub IsBefore : Cells → Cells → Type 0
@@ -42,10 +42,10 @@ AreInOrder (P ∷ Ps) = AllByRecursion (IsBefore P) Ps × AreInOrder Ps
 abbrev pub IsCovered : Cell → List Cells → Type 0
 IsCovered c Ps = (P : Cells) × Contains Ps P × (set.contains P c ≡ true)
 
--- the list of the parts of X, each once, by their least cells
-pub record ArePartsOf (X : Cells) (Ps : List Cells) : Type 0 where
-  pub each : AllByRecursion (IsPart X) Ps
-  pub all : (P : Cells) → IsPart X P → Contains Ps P
+-- the list of the clusters of X, each once, by their least cells
+pub record AreClustersOf (X : Cells) (Ps : List Cells) : Type 0 where
+  pub each : AllByRecursion (IsCluster X) Ps
+  pub all : (P : Cells) → IsCluster X P → Contains Ps P
   pub covers : (c : Cell) → set.contains X c ≡ true → IsCovered c Ps
   pub ascend : AreInOrder Ps
 
@@ -60,11 +60,11 @@ abbrev pub joined_with : Cell → List Cells → Cells
 joined_with c [] = set.insert set.empty c
 joined_with c (P ∷ Ps) = cond (touches c P) (set.union P (joined_with c Ps)) (joined_with c Ps)
 
--- the parts of the set of a sorted list's cells: those that the first cell does not touch stay, and the others become one
-abbrev pub parts_in : List Cell → List Cells
-parts_in [] = []
-parts_in (c ∷ cs) = joined_with c (parts_in cs) ∷ filter (λ P. not (touches c P)) (parts_in cs)
+-- the clusters of the set of a sorted list's cells: those that the first cell does not touch stay, and the others become one
+abbrev pub clusters_among : List Cell → List Cells
+clusters_among [] = []
+clusters_among (c ∷ cs) = joined_with c (clusters_among cs) ∷ filter (λ P. not (touches c P)) (clusters_among cs)
 
--- the parts of X, by their least cells
-unfoldable pub parts : Cells → List Cells
-parts X = parts_in (in_order X)
+-- the clusters of X, by their least cells
+unfoldable pub clusters_of : Cells → List Cells
+clusters_of X = clusters_among (in_order X)

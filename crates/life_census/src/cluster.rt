@@ -1,10 +1,10 @@
-//! The clusters of a pattern: the parts of its set of cells.
+//! The clusters of a pattern: the clusters of its set of cells.
 ghost use Rattle.std.specs.Prelude.{◌≡◌, ◌≤◌, IfOk};
 ghost use Rattle.std.specs.List.{All};
 ghost use Rattle.life_core.specs.Pattern.{IsWithin};
 ghost use Rattle.life_core.specs.Runs.{cells_in, AreRunsInOrder};
 ghost use Rattle.life_core.specs.declared.cell.TheConstants.{PLANE};
-ghost use Rattle.life_census.specs.Parts.{ArePartsOf};
+ghost use Rattle.life_census.specs.Cluster.{AreClustersOf};
 
 use crate::flood::flooded;
 use life_core::{Fault, Pattern, Run, Runs};
@@ -17,7 +17,7 @@ pub fn clusters<A: Allocator + Copy>(
     alloc: A,
     pattern: &Pattern<A>,
 ) -> Result<Vec<Pattern<A>, A>, Fault>
-    ensures { IfOk result (λ v. ArePartsOf pattern.now v.items) }
+    ensures { IfOk result (λ v. AreClustersOf pattern.now v.items) }
 {
     let mut left = Vec::from_slice(alloc, pattern.cells().runs())?;
     parted(alloc, &mut left)
@@ -27,7 +27,7 @@ pub fn clusters<A: Allocator + Copy>(
 fn parted<A: Allocator + Copy>(alloc: A, left: &mut [Run]) -> Result<Vec<Pattern<A>, A>, Fault>
     requires order { AreRunsInOrder left.old }
     requires inside { IsWithin PLANE (cells_in left.old) }
-    ensures { IfOk result (λ v. ArePartsOf (cells_in left.old) v.items) }
+    ensures { IfOk result (λ v. AreClustersOf (cells_in left.old) v.items) }
 {
     let mut clusters = Vec::new(alloc);
     for i in 0..left.len() {

@@ -13,12 +13,12 @@ use Rattle.life_core.proofs.PatternMembers.{same_cell, has_cell, same_cell-true,
 use Rattle.life_code.proofs.ApartNear.{near_symmetric}
 use Rattle.life_code.proofs.ApartUnions.{IsIn, in_from_contains}
 use Rattle.life_code.specs.Apart.{near}
-use Rattle.life_census.specs.Parts.{AreJoined, IsPart, IsBefore, AreInOrder, ArePartsOf}
-use Rattle.life_census.specs.Parts.{touches, joined_with, parts_in, parts}
-use Rattle.life_census.specs.Laws.{OnePartEach}
+use Rattle.life_census.specs.Cluster.{AreJoined, IsCluster, IsBefore, AreInOrder, AreClustersOf}
+use Rattle.life_census.specs.Cluster.{touches, joined_with, clusters_among, clusters_of}
+use Rattle.life_census.specs.Laws.{OneClusterEach}
 use Rattle.life_core.proofs.PatternOrder.{in_order-sorted, from_list-in_order}
-use Rattle.life_census.proofs.PartsLaws.{joined_self, joined_then, joined_trans, joined_back, near_stays, one_part, one_whole, one_list_of_parts, contains_from_in, all_in, all_from_in}
-use Rattle.life_census.proofs.PartsSteps.{chain_in_more}
+use Rattle.life_census.proofs.ClusterLaws.{joined_self, joined_then, joined_trans, joined_back, near_stays, one_cluster, one_whole, one_list_of_clusters, contains_from_in, all_in, all_from_in}
+use Rattle.life_census.proofs.ClusterSteps.{chain_in_more}
 
 -- ---- what touches
 
@@ -87,12 +87,12 @@ order_filter p (Q ∷ Qs) order = go (p Q) (order_filter p Qs order.1)
 
 -- ---- one cell more, before all others
 
-module _ (Y : Cells) (Ps : List Cells) (old : ArePartsOf Y Ps) (X : Cells) (c : Cell) (has : (d : Cell) → set.contains X d ≡ (same_cell d c || set.contains Y d)) (first : (d : Cell) → set.contains Y d ≡ true → cell_cmp c d ≡ Less) where
+module _ (Y : Cells) (Ps : List Cells) (old : AreClustersOf Y Ps) (X : Cells) (c : Cell) (has : (d : Cell) → set.contains X d ≡ (same_cell d c || set.contains Y d)) (first : (d : Cell) → set.contains Y d ≡ true → cell_cmp c d ≡ Less) where
   abbrev J : Cells
   J = joined_with c Ps
 
-  is_old : (P : Cells) → IsIn Ps P → IsPart Y P
-  is_old P h = all_in (IsPart Y) Ps P old.each h
+  is_old : (P : Cells) → IsIn Ps P → IsCluster Y P
+  is_old P h = all_in (IsCluster Y) Ps P old.each h
 
   wider : (d : Cell) → set.contains Y d ≡ true → set.contains X d ≡ true
   wider d h = has d ∙ or_right _ _ h
@@ -129,7 +129,7 @@ module _ (Y : Cells) (Ps : List Cells) (old : ArePartsOf Y Ps) (X : Cells) (c : 
     ]
   ]
 
-  new_part : IsPart X J
+  new_part : IsCluster X J
   new_part = record {
     inside = λ d h. elim (joined_cases c d Ps h) [
       | inl same ↦ ap (set.contains X) same ∙ has_first
@@ -147,7 +147,7 @@ module _ (Y : Cells) (Ps : List Cells) (old : ArePartsOf Y Ps) (X : Cells) (c : 
       go true k = absurd (false≢true k)
       go false k = refl
 
-  old_part : (P : Cells) → IsIn Ps P → touches c P ≡ false → IsPart X P
+  old_part : (P : Cells) → IsIn Ps P → touches c P ≡ false → IsCluster X P
   old_part P h far = let part = is_old P h in record {
     inside = λ d k. wider d (part.inside d k);
     cell = part.cell;
@@ -161,9 +161,9 @@ module _ (Y : Cells) (Ps : List Cells) (old : ArePartsOf Y Ps) (X : Cells) (c : 
   abbrev now : List Cells
   now = J ∷ filter (λ P. not (touches c P)) Ps
 
-  is_now : (P : Cells) → IsIn now P → IsPart X P
+  is_now : (P : Cells) → IsIn now P → IsCluster X P
   is_now P h = elim h [
-    | inl same ↦ subst (IsPart X) same new_part
+    | inl same ↦ subst (IsCluster X) same new_part
     | inr rest ↦ let kept = in_filter (λ P. not (touches c P)) Ps P rest in old_part P kept.0 (not_first P kept.1)
   ]
 
@@ -178,17 +178,17 @@ module _ (Y : Cells) (Ps : List Cells) (old : ArePartsOf Y Ps) (X : Cells) (c : 
         ]
   ]
 
-  one_cell_more : ArePartsOf X now
+  one_cell_more : AreClustersOf X now
   one_cell_more = record {
-    each = all_from_in (IsPart X) now is_now;
+    each = all_from_in (IsCluster X) now is_now;
     all = λ P part.
         let found = covered part.cell.0 (part.inside part.cell.0 part.cell.1) in
-        contains_from_in now P (subst (IsIn now) (one_part X found.0 P part.cell.0 (is_now found.0 found.1) part found.2 part.cell.1) found.1);
+        contains_from_in now P (subst (IsIn now) (one_cluster X found.0 P part.cell.0 (is_now found.0 found.1) part found.2 part.cell.1) found.1);
     covers = λ d h. let found = covered d h in (found.0, contains_from_in now found.0 found.1, found.2);
     ascend = (all_from_in (IsBefore J) _ (λ P h. (c, joined_first c Ps, λ d k. first d ((is_old P (in_filter (λ P. not (touches c P)) Ps P h).0).inside d k))), order_filter _ Ps old.ascend);
   }
 
-no_parts : ArePartsOf (set.empty {R = cell_cmp}) []
+no_parts : AreClustersOf (set.empty {R = cell_cmp}) []
 no_parts = record {
   each = tt;
   all = λ P part. absurd (false≢true (sym (set.contains-empty cell_cmp part.cell.0) ∙ part.inside part.cell.0 part.cell.1));
@@ -203,34 +203,34 @@ all_has F (x ∷ xs) d all h = elim (or_cases (same_cell d x) (has_cell xs d) h)
   | inr rest ↦ all_has F xs d all.1 rest
 ]
 
-pub parts_in_are : (cs : List Cell) → IsStrictlySortedBy cell_cmp cs → ArePartsOf (set.from_list cs) (parts_in cs)
+pub clusters_among_are : (cs : List Cell) → IsStrictlySortedBy cell_cmp cs → AreClustersOf (set.from_list cs) (clusters_among cs)
 unfolding IsStrictlySortedBy
-parts_in_are [] sorted = no_parts
-parts_in_are (c ∷ cs) sorted = one_cell_more (set.from_list cs) (parts_in cs) (parts_in_are cs sorted.1) (set.from_list (c ∷ cs)) c
+clusters_among_are [] sorted = no_parts
+clusters_among_are (c ∷ cs) sorted = one_cell_more (set.from_list cs) (clusters_among cs) (clusters_among_are cs sorted.1) (set.from_list (c ∷ cs)) c
     (λ d. set.contains-insert cell_cmp_total (set.from_list cs) c d)
     (λ d h. all_has (λ y. cell_cmp c y ≡ Less) cs d sorted.0 (sym (contains-list cs d) ∙ h))
 
 -- `parts X` are the parts of X
-pub parts_are : (X : Cells) → ArePartsOf X (parts X)
-unfolding parts
-parts_are X = subst (λ (Y : Cells). ArePartsOf Y (parts_in (in_order X))) (from_list-in_order X) (parts_in_are (in_order X) (in_order-sorted X))
+pub clusters_are : (X : Cells) → AreClustersOf X (clusters_of X)
+unfolding clusters_of
+clusters_are X = subst (λ (Y : Cells). AreClustersOf Y (clusters_among (in_order X))) (from_list-in_order X) (clusters_among_are (in_order X) (in_order-sorted X))
 
 -- and no other list is theirs
-pub parts_listed : (X : Cells) (Ps : List Cells) → ArePartsOf X Ps → Ps ≡ parts X
-parts_listed X Ps are = one_list_of_parts X Ps (parts X) are (parts_are X)
+pub clusters_listed : (X : Cells) (Ps : List Cells) → AreClustersOf X Ps → Ps ≡ clusters_of X
+clusters_listed X Ps are = one_list_of_clusters X Ps (clusters_of X) are (clusters_are X)
 
 -- a set with one part is that part
-pub whole_part : (X : Cells) (Ps : List Cells) → ArePartsOf X Ps → length Ps ≡ 1 → X ∷ [] ≡ parts X
-whole_part X Ps are one = sym (one_whole X Ps are one) ∙ parts_listed X Ps are
+pub whole_part : (X : Cells) (Ps : List Cells) → AreClustersOf X Ps → length Ps ≡ 1 → X ∷ [] ≡ clusters_of X
+whole_part X Ps are one = sym (one_whole X Ps are one) ∙ clusters_listed X Ps are
 
 -- each cell of X is in one of its parts, and in no other
-pub one_part_each : OnePartEach
-one_part_each X c here =
-    let are = parts_are X in
+pub one_cluster_each : OneClusterEach
+one_cluster_each X c here =
+    let are = clusters_are X in
     let found = are.covers c here in (
       found.0,
       found.1,
       found.2,
       λ Q listed held.
-          one_part X Q found.0 c (all_in (IsPart X) (parts X) Q are.each (in_from_contains (parts X) Q listed)) (all_in (IsPart X) (parts X) found.0 are.each (in_from_contains (parts X) found.0 found.1)) held found.2,
+          one_cluster X Q found.0 c (all_in (IsCluster X) (clusters_of X) Q are.each (in_from_contains (clusters_of X) Q listed)) (all_in (IsCluster X) (clusters_of X) found.0 are.each (in_from_contains (clusters_of X) found.0 found.1)) held found.2,
     )

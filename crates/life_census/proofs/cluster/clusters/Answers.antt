@@ -8,9 +8,9 @@ use Rattle.life_core.specs.Runs.{AreRunsInOrder}
 use Rattle.life_core.proofs.PatternMembers.{within_from_list}
 use Rattle.life_core.proofs.PatternOrder.{in_order-sorted, from_list_of}
 use Rattle.life_core.proofs.RunsLaws.{runs_in_order}
-use Rattle.life_census.specs.Parts.{ArePartsOf}
-use Rattle.life_census.proofs.PartsSteps.{field_is}
-use Rattle.life_census.proofs.parts.clusters.Goals as goal
+use Rattle.life_census.specs.Cluster.{AreClustersOf}
+use Rattle.life_census.proofs.ClusterSteps.{field_is}
+use Rattle.life_census.proofs.cluster.clusters.Goals as goal
 
 pub parted-requires-clause-order : goal.parted-requires-clause-order
 parted-requires-clause-order g c =
@@ -28,4 +28,4 @@ pub returns : goal.returns
 returns g c =
     let X = c.args.pattern.now in
     let whole = field_is X c.deref_mut.result.now c.runs.result.now (c.deref_mut.ensures.value ∙ c.in_ok-left.ensures.items) (c.runs.ensures.cells ∙ c.cells.ensures.cells) in
-    IfOk-weaker c.parted.result _ _ (λ v are. subst (λ (Y : Cells). ArePartsOf Y v.items) whole are) c.parted.ensures
+    IfOk-weaker c.parted.result _ _ (λ v are. subst (λ (Y : Cells). AreClustersOf Y v.items) whole are) c.parted.ensures

@@ -25,7 +25,7 @@ use Rattle.life_store.specs.Tables.{ArchiveView, Holds, TreesHold, IsTransition,
 use Rattle.life_desk.specs.declared.request.Request.{Request}
 use Rattle.life_desk.specs.Archive.{Archive}
 use Rattle.life_desk.specs.Validation.{validated}
-use Rattle.life_desk.specs.Represents.{EachHasDeposit, Represents, TreesRepresent, kept_of}
+use Rattle.life_desk.specs.Represents.{EachHasDeposit, Represents, LeftRepresents, kept_of}
 use Rattle.life_desk.specs.Run.{RequestStep}
 use Rattle.life_desk.proofs.Representing.{holds_of, each_of, represents_same}
 use Rattle.life_desk.proofs.Runs.{IsSettled}
@@ -169,7 +169,7 @@ module _ {D : Type 0} {g : disk.Ghosts D} (a mid last : ArchiveView (FileStore D
       let healthy = up (served.taken.transition.crash.honest clean_mid) in
       let means = m healthy in
       ∥∥₁_map (left clean image may) (λ found.
-      left_as A ms bytes (TreesRepresent found.0) (FilesRepresent image) (each_of a A means) (λ X each mean. (each, files_hold image found.0 (kept_of X) mean found.2))
+      left_as A ms bytes (LeftRepresents found.0) (FilesRepresent image) (each_of a A means) (λ X each mean. (each, files_hold image found.0 (kept_of X) mean found.2))
       (left_safely over_files a mid ms bytes law served A healthy means clean_mid found.0 (kept_before clean_last found.0 found.1)))
 
 -- what is left, by either answer with these files

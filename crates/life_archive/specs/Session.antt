@@ -6,13 +6,12 @@ use Rattle.sqlite_wal.specs.Files.{outcomes}
 use Rattle.sqlite_wal.specs.Reads.{AreClean}
 use Rattle.sqlite_wal.specs.Recovery.{Image}
 use Rattle.sqlite_trees.specs.declared.store.Store.{Ghosts}
-use Rattle.sqlite_trees.specs.Tree.{Trees}
-use Rattle.sqlite_trees.specs.View.{IsClean}
 use Rattle.sqlite_store.specs.declared.store.FileStore.{FileStore}
 use Rattle.sqlite_store.specs.FileStore.{view}
 use Rattle.sqlite.specs.Files.{image_of, over_files}
 use Rattle.life_rle.specs.Stream.{raised}
 use Rattle.life_store.specs.Opening.{FilesHold, FilesHoldFirst, ListNothing}
+use Rattle.life_store.specs.Left.{IsHonest, Left, MayBeLeft}
 use Rattle.life_store.specs.Tables.{ArchiveView, IsHealthyIfClean}
 use Rattle.life_desk.specs.Archive.{Archive}
 use Rattle.life_desk.specs.Represents.{EachHasDeposit, Represents, kept_of}
@@ -106,8 +105,8 @@ pub record ServesConnections {S : Type 0} (g : Ghosts S) (count : ℕ) (old new 
   pub carried : CarriesAll before after exchanges
   pub served : ByArchive g (Runs (messages_of exchanges) (replies_of exchanges)) old new
   pub own_refusals : MessageRun (AnswersMessage AnswersFirmly) tt (messages_of exchanges) (replies_of exchanges) tt
-  pub crash : (A : Archive) → IsTrue old.tables.is_healthy → Represents old A → IsClean (g.view new.store) → (db : Trees) → g.recovers new.store db
-      → IsServedUntil A (messages_of exchanges) (replies_of exchanges) db
+  pub crash : (A : Archive) → IsTrue old.tables.is_healthy → Represents old A → IsHonest g new → (found : Left) → MayBeLeft g new found
+      → IsServedUntil A (messages_of exchanges) (replies_of exchanges) found
 
 -- ---- over files
 
@@ -156,7 +155,7 @@ pub record EndsSession {D : Type 0} (g : disk.Ghosts D) (archive : ArchiveView (
   pub counted : length exchanges ≡ count
   pub carried : CarriesAll before after exchanges
   pub own_refusals : MessageRun (AnswersMessage AnswersFirmly) tt (messages_of exchanges) (replies_of exchanges) tt
-  pub honest : AreClean g (either left).log (either left).db → IsClean (view archive.store)
+  pub honest : AreClean g (either left).log (either left).db → IsHonest over_files archive
   pub leaves : (A : Archive) → IsHealthyIfClean over_files archive → (IsTrue archive.tables.is_healthy → Represents archive A) → Leaves g A (messages_of exchanges) (replies_of exchanges) left
 
 -- ---- one session after the other

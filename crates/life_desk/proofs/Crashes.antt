@@ -9,7 +9,7 @@ use Rattle.life_desk.specs.declared.refusal.Refusal.TheVariants as no
 use Rattle.life_desk.specs.Archive.{Archive}
 use Rattle.life_desk.specs.DeskState.{RepresentChanged, RepresentChangedIf}
 use Rattle.life_desk.specs.LookingState.{ForAllRepresented, RepresentsTheSame}
-use Rattle.life_desk.specs.Represents.{TreesRepresent}
+use Rattle.life_desk.specs.Represents.{LeftRepresents}
 use Rattle.life_desk.specs.Submission.{Adds, Refuses, by_token, stored_after}
 use Rattle.life_desk.proofs.Submissions.{Kind}
 use Rattle.life_desk.specs.Replies.{has_room, with_census, census_by_token, census_of_deposit, census_verdict}
@@ -28,12 +28,12 @@ module _ {S : Type 0} (old mid : ArchiveView S) (was : WasHealthy old.tables mid
       was h.0,
       λ A m there.
           let yes : has_room A (k.list A) ≡ true = sym (tells A h.0 m) ∙ is in
-          subst (λ b. TreesRepresent db (k.with_list A (stored_after (k.list A) (if b then Adds x else Refuses no.Full)))) (sym yes) (h.1 A (same A h.0 m) there),
+          subst (λ b. LeftRepresents db (k.with_list A (stored_after (k.list A) (if b then Adds x else Refuses no.Full)))) (sym yes) (h.1 A (same A h.0 m) there),
     )
 
     -- its token is new
     pub token_new : (find : Archive → Option (ℕ × X)) → ForAllRepresented old mid (λ A. None ≡ find A) → RepresentChangedIf mid IsThere (after_token None) db → RepresentChangedIf old IsThere (λ A. after_token (find A) A) db
-    token_new find tells h = (was h.0, λ A m there. subst (λ o. TreesRepresent db (after_token o A)) (tells A h.0 m) (h.1 A (same A h.0 m) there))
+    token_new find tells h = (was h.0, λ A m there. subst (λ o. LeftRepresents db (after_token o A)) (tells A h.0 m) (h.1 A (same A h.0 m) there))
 
   -- the deposit of the census is there
   pub deposit_there : (c : Census) (d : Deposit) (found : Option Deposit) → ForAllRepresented old mid (λ A. found ≡ numbered A.deposits c.deposit) → found ≡ Some d
@@ -42,5 +42,5 @@ module _ {S : Type 0} (old mid : ArchiveView S) (was : WasHealthy old.tables mid
     was h.0,
     λ A m any.
         let there : Some d ≡ numbered A.deposits c.deposit = sym is ∙ tells A h.0 m in
-        subst (λ o. TreesRepresent db (with_census A (census_of_deposit A c o))) there (h.1 A (same A h.0 m) (sym there)),
+        subst (λ o. LeftRepresents db (with_census A (census_of_deposit A c o))) there (h.1 A (same A h.0 m) (sym there)),
   )

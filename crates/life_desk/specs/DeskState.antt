@@ -1,12 +1,12 @@
 -- What the private calls that answer one kind of request leave.
 use Rattle.std.specs.Prelude.{◌≡◌, ◌⊎◌, true, Result, IfOk, IsTrue, MatchResult}
 use Rattle.sqlite_trees.specs.declared.store.Store.{Ghosts}
-use Rattle.sqlite_trees.specs.Tree.{Trees}
+use Rattle.life_store.specs.Left.{Left}
 use Rattle.life_store.specs.Tables.{ArchiveView, IsHealthyIfClean}
 use Rattle.life_store.specs.declared.fault.Unavailable.{Unavailable}
 use Rattle.life_desk.specs.declared.request.Reply.{Reply}
 use Rattle.life_desk.specs.Archive.{Archive}
-use Rattle.life_desk.specs.Represents.{Represents, TreesRepresent}
+use Rattle.life_desk.specs.Represents.{Represents, LeftRepresents}
 use Rattle.life_desk.specs.Replies.{acknowledges}
 
 -- what a call leaves, if the database is healthy after it and the tables represented an archive:
@@ -31,12 +31,12 @@ SpeaksIfHealthy g new result gives leaves = IfOk result (λ r. IsHealthyIfClean 
 -- ---- what a crash may leave of such a call
 
 -- the database was healthy, and if this holds of an archive that its tables represented, the trees represent what the change makes of it
-abbrev pub RepresentChangedIf : {S : Type 0} → ArchiveView S → (Archive → Type 0) → (Archive → Archive) → Trees → Type 0
-RepresentChangedIf old where_this change db = IsTrue old.tables.is_healthy × ((A : Archive) → Represents old A → where_this A → TreesRepresent db (change A))
+abbrev pub RepresentChangedIf : {S : Type 0} → ArchiveView S → (Archive → Type 0) → (Archive → Archive) → Left → Type 0
+RepresentChangedIf old where_this change found = IsTrue old.tables.is_healthy × ((A : Archive) → Represents old A → where_this A → LeftRepresents found (change A))
 
 -- the same of every archive
-abbrev pub RepresentChanged : {S : Type 0} → ArchiveView S → (Archive → Archive) → Trees → Type 0
-RepresentChanged old change db = RepresentChangedIf old (λ A. Unit {0}) change db
+abbrev pub RepresentChanged : {S : Type 0} → ArchiveView S → (Archive → Archive) → Left → Type 0
+RepresentChanged old change found = RepresentChangedIf old (λ A. Unit {0}) change found
 
 -- what is acknowledged was done by a database that is healthy, unless its disk has lied
 abbrev pub Promises : {S : Type 0} → Ghosts S → ArchiveView S → Result Reply Unavailable → Type 0

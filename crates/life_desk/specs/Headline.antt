@@ -2,7 +2,6 @@
 use Rattle.std.specs.Prelude.{◌≡◌, ◌↔◌, ◌+◌, ◌≤◌, ◌⊎◌, ℕ, List, Option, Some, Ok, IsTrue, length, sum_by, count_by, is_none}
 use Rattle.std.specs.List.{Contains, filter_map}
 use Rattle.sqlite_trees.specs.declared.store.Store.{Ghosts}
-use Rattle.sqlite_trees.specs.View.{IsClean}
 use Rattle.life_core.specs.Rule.{RuleSets}
 use Rattle.life_core.specs.RuleText.{read_rule}
 use Rattle.life_core.specs.Pattern.{Cells}
@@ -20,6 +19,7 @@ use Rattle.life_census.specs.Steady.{IsSteady}
 use Rattle.life_store.specs.declared.kept.Deposit.{Deposit}
 use Rattle.life_store.specs.declared.kept.Census.{Census}
 use Rattle.life_store.specs.Kept.{numbered}
+use Rattle.life_store.specs.Left.{IsHonest}
 use Rattle.life_store.specs.Tables.{ArchiveView, HasFailed}
 use Rattle.life_desk.specs.declared.request.Request.{Request}
 use Rattle.life_desk.specs.declared.request.Request.TheVariants as ask
@@ -97,7 +97,7 @@ AreOfARun A qs rs = (B : Archive) × RequestRun A qs rs B × Headline A qs rs B
 -- same, unless the disk has returned other than what was written; of which archive it is left with the clause on crashes speaks.
 abbrev pub IsTheArchiveOrFaults : {S : Type 0} → Ghosts S → ArchiveView S → ArchiveView S → List Request → List Reply → Type 0
 IsTheArchiveOrFaults g old new qs rs = (A : Archive) → IsTrue old.tables.is_healthy → Represents old A
-    → (IsTrue new.tables.is_healthy × IsTakenByRun A new qs rs) ⊎ (HasFailed old.tables new.tables × (IsClean (g.view new.store) → AreOfARun A qs rs))
+    → (IsTrue new.tables.is_healthy × IsTakenByRun A new qs rs) ⊎ (HasFailed old.tables new.tables × (IsHonest g new → AreOfARun A qs rs))
 
 -- If the database is in memory: A was taken, with no premise.
 abbrev pub IsTheArchiveInMemory : {S : Type 0} → ArchiveView S → ArchiveView S → List Request → List Reply → Type 0

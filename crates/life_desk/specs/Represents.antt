@@ -2,7 +2,6 @@
 -- own generation of its own deposit, and with whether that generation is steady. The archive itself keeps no tallies and no flags.
 use Rattle.std.specs.Prelude.{◌≡◌, ℕ, List, [], Ok, map, IsSome}
 use Rattle.std.specs.List.{AllByRecursion}
-use Rattle.sqlite_trees.specs.Tree.{Trees}
 use Rattle.life_rle.specs.File.{kept}
 use Rattle.life_rle.specs.Record.{Contents}
 use Rattle.life_rle.specs.Writer.{text}
@@ -10,7 +9,8 @@ use Rattle.life_store.specs.declared.kept.Deposit.{Deposit}
 use Rattle.life_store.specs.declared.kept.Census.{Census}
 use Rattle.life_store.specs.Kept.{Kept, Tallied, numbered}
 use Rattle.life_store.specs.Opening.{nothing_kept}
-use Rattle.life_store.specs.Tables.{Tables, ArchiveView, Holds, TreesHold}
+use Rattle.life_store.specs.Left.{Left, LeftHolds}
+use Rattle.life_store.specs.Tables.{Tables, ArchiveView, Holds}
 use Rattle.life_desk.specs.Archive.{Archive, tally_at, steady_at}
 
 -- a census with its tally and its flag, computed anew
@@ -48,8 +48,8 @@ unfoldable pub Represents : {S : Type 0} → ArchiveView S → Archive → Type 
 Represents t A = IsRepresented t.tables t.capacity A
 
 -- The trees represent the archive, as an opening finds it: its capacity is chosen there.
-abbrev pub TreesRepresent : Trees → Archive → Type 0
-TreesRepresent db A = TreesHold db (kept_of A)
+abbrev pub LeftRepresents : Left → Archive → Type 0
+LeftRepresents found A = LeftHolds found (kept_of A)
 
 -- An archive that is new has no deposit and no census.
 abbrev pub NewIsEmpty : Type 0

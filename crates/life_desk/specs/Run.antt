@@ -3,10 +3,9 @@
 use Rattle.std.specs.Prelude.{◌≡◌, ◌∷◌, [], ◌++◌, ◌⊎◌, false, List, IsOk, IsTrue, ⊤}
 use Rattle.std.specs.List.{AllByRecursion}
 use Rattle.sqlite_trees.specs.declared.store.Store.{Ghosts}
-use Rattle.sqlite_trees.specs.Tree.{Trees}
-use Rattle.sqlite_trees.specs.View.{IsClean}
 use Rattle.life_store.specs.declared.kept.Deposit.{Deposit}
 use Rattle.life_store.specs.declared.kept.Census.{Census}
+use Rattle.life_store.specs.Left.{IsHonest, Left, MayBeLeft}
 use Rattle.life_store.specs.Tables.{ArchiveView, IsTransition}
 use Rattle.life_desk.specs.declared.refusal.Refusal.TheVariants as no
 use Rattle.life_desk.specs.declared.request.Request.{Request}
@@ -15,7 +14,7 @@ use Rattle.life_desk.specs.declared.request.Reply.TheVariants as says
 use Rattle.life_desk.specs.Archive.{Archive}
 use Rattle.life_desk.specs.Validation.{validated}
 use Rattle.life_desk.specs.Replies.{IsReply, after, acknowledges}
-use Rattle.life_desk.specs.Represents.{Represents, TreesRepresent}
+use Rattle.life_desk.specs.Represents.{Represents, LeftRepresents}
 
 -- one request: its reply and its change; or else, where its own words are good, it is unavailable and nothing changes
 pub data RequestStep (A : Archive) (q : Request) : Reply → Archive → Type 0 where
@@ -53,7 +52,7 @@ PromiseNothing rs = AllByRecursion (λ r. acknowledges r ≡ false) rs
 
 -- The trees represent the archive after the first requests of a run from A, or after the one that follows as well; and no reply but those to the
 -- first says that something is kept.
-pub record IsCrashOf (A : Archive) (qs : List Request) (rs : List Reply) (db : Trees) : Type 0 where
+pub record IsCrashOf (A : Archive) (qs : List Request) (rs : List Reply) (found : Left) : Type 0 where
   pub front : List Request
   pub back : List Request
   pub given : List Reply
@@ -62,13 +61,13 @@ pub record IsCrashOf (A : Archive) (qs : List Request) (rs : List Reply) (db : T
   pub replies : rs ≡ given ++ rest
   pub mid : Archive
   pub run : RequestRun A front given mid
-  pub left : TreesRepresent db mid ⊎ ((next : Request) × (more : List Request) × (back ≡ next ∷ more) × TreesRepresent db (after mid next))
+  pub left : LeftRepresents found mid ⊎ ((next : Request) × (more : List Request) × (back ≡ next ∷ more) × LeftRepresents found (after mid next))
   pub unpromised : PromiseNothing rest
 
 -- What a crash may leave of requests: what it might have left before them, if no reply says that something is kept; or the database was
 -- healthy, and of whatever archive its tables represented the trees are what a crash leaves of a run.
-abbrev pub MayBeLeft : {S : Type 0} → Ghosts S → ArchiveView S → List Request → List Reply → Trees → Type 0
-MayBeLeft g old qs rs db = (g.recovers old.store db × PromiseNothing rs) ⊎ (IsTrue old.tables.is_healthy × ((A : Archive) → Represents old A → IsCrashOf A qs rs db))
+abbrev pub MayBeLeftOf : {S : Type 0} → Ghosts S → ArchiveView S → List Request → List Reply → Left → Type 0
+MayBeLeftOf g old qs rs found = (MayBeLeft g old found × PromiseNothing rs) ⊎ (IsTrue old.tables.is_healthy × ((A : Archive) → Represents old A → IsCrashOf A qs rs found))
 
 -- The requests were answered by the store. If the database is healthy at the end, so it was at the start, and each archive that the tables
 -- meant was taken by a run to one that they represent. If it was healthy at the start, and its disk has returned what was written, the replies
@@ -77,9 +76,9 @@ MayBeLeft g old qs rs db = (g.recovers old.store db × PromiseNothing rs) ⊎ (I
 pub record Answered {S : Type 0} (g : Ghosts S) (old new : ArchiveView S) (qs : List Request) (rs : List Reply) : Type 0 where
   pub transition : IsTransition g (λ db. ⊤) old new
   pub run : IsTrue new.tables.is_healthy → (A : Archive) → Represents old A → (B : Archive) × RequestRun A qs rs B × Represents new B
-  pub replied : IsClean (g.view new.store) → IsTrue old.tables.is_healthy → (A : Archive) → Represents old A → (B : Archive) × RequestRun A qs rs B × (IsTrue new.tables.is_healthy → Represents new B)
-  pub shut : IsClean (g.view new.store) → old.tables.is_healthy ≡ false → (A : Archive) → RequestRun A qs rs A
-  pub left : IsClean (g.view new.store) → (db : Trees) → g.recovers new.store db → MayBeLeft g old qs rs db
+  pub replied : IsHonest g new → IsTrue old.tables.is_healthy → (A : Archive) → Represents old A → (B : Archive) × RequestRun A qs rs B × (IsTrue new.tables.is_healthy → Represents new B)
+  pub shut : IsHonest g new → old.tables.is_healthy ≡ false → (A : Archive) → RequestRun A qs rs A
+  pub left : IsHonest g new → (found : Left) → MayBeLeft g new found → MayBeLeftOf g old qs rs found
 
 -- ---- crashes
 
@@ -87,8 +86,8 @@ module _ {S : Type 0} (g : Ghosts S) where
   -- If the database was healthy and its disk has returned what was written, a crash during the call leaves the archive after
   -- a beginning of the requests, or after the one that follows as well; and whatever was said to be kept is there.
   abbrev pub IsCrashSafe : ArchiveView S → ArchiveView S → List Request → List Reply → Type 0
-  IsCrashSafe old new qs rs = (A : Archive) → IsTrue old.tables.is_healthy → Represents old A → IsClean (g.view new.store) → (db : Trees) → g.recovers new.store db → IsCrashOf A qs rs db
+  IsCrashSafe old new qs rs = (A : Archive) → IsTrue old.tables.is_healthy → Represents old A → IsHonest g new → (found : Left) → MayBeLeft g new found → IsCrashOf A qs rs found
 
   -- If the database is healthy, a crash leaves the archive that the tables represent, and nothing else.
   abbrev pub IsDurable : ArchiveView S → Type 0
-  IsDurable new = (B : Archive) → IsTrue new.tables.is_healthy → Represents new B → (db : Trees) → g.recovers new.store db → TreesRepresent db B
+  IsDurable new = (B : Archive) → IsTrue new.tables.is_healthy → Represents new B → (found : Left) → MayBeLeft g new found → LeftRepresents found B

@@ -7,6 +7,7 @@ pub mod Fault
 pub mod Stored
 pub mod Crash
 pub mod Tables
+pub mod Left
 pub mod Statements
 pub mod DepositsState
 pub mod CensusesState

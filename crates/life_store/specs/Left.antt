@@ -1,0 +1,22 @@
+-- What a crash may leave of an archive. Contracts above the store say it in these words, and nothing of trees or files.
+use Rattle.sqlite_trees.specs.declared.store.Store.{Ghosts}
+use Rattle.sqlite_trees.specs.Tree.{Trees}
+use Rattle.sqlite_trees.specs.View.{IsClean}
+use Rattle.life_store.specs.Kept.{Kept}
+use Rattle.life_store.specs.Tables.{ArchiveView, TreesHold}
+
+-- what an opening after a crash finds
+abbrev pub Left : Type 0
+Left = Trees
+
+-- a crash at this moment may leave this
+abbrev pub MayBeLeft : {S : Type 0} → Ghosts S → ArchiveView S → Left → Type 0
+MayBeLeft g archive found = g.recovers archive.store found
+
+-- what is left represents these deposits and these censuses, and no others
+abbrev pub LeftHolds : Left → Kept → Type 0
+LeftHolds found k = TreesHold found k
+
+-- the disk has returned what was written so far
+abbrev pub IsHonest : {S : Type 0} → Ghosts S → ArchiveView S → Type 0
+IsHonest g archive = IsClean (g.view archive.store)

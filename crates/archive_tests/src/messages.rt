@@ -19,7 +19,6 @@ struct Worked {
     is_last: bool,
 }
 
-/// The stream.
 fn stream(alloc: Global, worked: Worked) -> Result<String, AllocError> {
     let mut text = String::new(alloc);
     for (message, _) in worked.messages {

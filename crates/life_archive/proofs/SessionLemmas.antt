@@ -30,7 +30,7 @@ use Rattle.life_desk.specs.Run.{RequestStep}
 use Rattle.life_desk.proofs.Representing.{holds_of, each_of, represents_same}
 use Rattle.life_desk.proofs.Runs.{IsSettled}
 use Rattle.life_desk.proofs.Steps.{step_each, after_each}
-use Rattle.life_pages.specs.declared.asked.PageRefusal.{PageRefusal}
+use Rattle.life_pages.specs.declared.asked.MessageRefusal.{MessageRefusal}
 use Rattle.life_pages.specs.Head.{Head}
 use Rattle.life_pages.specs.Asked.{asked}
 use Rattle.life_pages.specs.declared.serving.IoFault.{IoFault}
@@ -114,7 +114,7 @@ serves_connections g n old new x y law some =
 abbrev Each : Archive → Type 0
 Each A = EachHasDeposit A.deposits A.censuses
 
-asked_each : (A B : Archive) (x : Result Request PageRefusal) (bytes : List ℕ) → AnswersAsked RequestStep A x bytes B → Each A → Each B
+asked_each : (A B : Archive) (x : Result Request MessageRefusal) (bytes : List ℕ) → AnswersAsked RequestStep A x bytes B → Each A → Each B
 asked_each A B (Ok request) bytes (reply, step, is) each = step_each A request reply B step each
 asked_each A B (Err refusal) bytes (is, same) each = subst Each (sym same) each
 

@@ -35,7 +35,7 @@ impl<A: Allocator> CodeText<A> {
         })
     }
 
-    /// The bytes.
+    /// The code's bytes: small letters, digits and `_`.
     pub fn as_bytes(&self) -> &[u8]
         ensures bytes { result.now ≡ self.now }
         ensures plain { list_all is_code_byte result.now ≡ true }

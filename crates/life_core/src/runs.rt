@@ -59,7 +59,7 @@ impl Run {
         }
     }
 
-    /// The first cell.
+    /// The cell furthest to the left.
     pub(crate) fn first_cell(&self) -> Cell
         ensures { result ≡ first_cell self.now }
     {

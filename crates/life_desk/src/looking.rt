@@ -213,7 +213,6 @@ pub(crate) fn has_census_room<S: Alter>(archive: &mut Archive<S>) -> Result<bool
     Ok(count_censuses(archive)? < archive.capacity())
 }
 
-/// Adds a deposit.
 pub(crate) fn add_deposit<S: Alter>(
     archive: &mut Archive<S>,
     alloc: Global,

@@ -34,7 +34,7 @@ impl Refusal {
     ghost use Rattle.std.specs.Prelude.{◌≡◌};
     ghost use Rattle.life_desk.specs.Refusals.{number_of, name_of};
 
-    /// Its number.
+    /// The number in replies, from 1 to 11 (docs/API.md).
     pub fn number(&self) -> u8
         ensures { result ≡ number_of self.now }
     {
@@ -53,7 +53,7 @@ impl Refusal {
         }
     }
 
-    /// Its name.
+    /// The name in replies and on standard error (docs/API.md).
     pub fn name(&self) -> &'static str
         ensures { result.now ≡ name_of self.now }
     {

@@ -23,7 +23,7 @@ pub const COUNT_LIMIT: u64 = 1_000_000;
 /// The greatest number of a haul's first soup: 2 to the power 53.
 pub const FIRST_LIMIT: u64 = 9_007_199_254_740_992;
 
-/// The words of a haul.
+/// What the arguments of a haul name, before any of it is checked.
 #[derive(Clone, Copy, Debug, PartialEq, Eq)]
 pub struct HaulWords<'a> {
     /// The root text, from 1 to 64 bytes of graphic ASCII.
@@ -42,7 +42,7 @@ pub struct HaulWords<'a> {
     pub limit: u64,
 }
 
-/// The words of a soup.
+/// What the arguments of a soup name, before any of it is checked.
 #[derive(Clone, Copy, Debug, PartialEq, Eq)]
 pub struct SoupWords<'a> {
     /// The root text, from 1 to 64 bytes of graphic ASCII.

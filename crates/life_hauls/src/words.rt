@@ -83,7 +83,6 @@ fn root_arg<'a>(alloc: Global) -> Arg<'a>
     text_arg(alloc, "ROOT", "The root of the soups, 1 to 64 characters of graphic ASCII")
 }
 
-// The command of a soup.
 fn soup_command<'a>(alloc: Global) -> Result<Command<'a>, AllocError>
     ensures app { IfOk result (λ command. app_of command ≡ soup_app) }
     ensures local { IfOk result (λ command. (fields_of command).has_globals ≡ false) }

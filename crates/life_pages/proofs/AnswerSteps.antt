@@ -7,11 +7,11 @@ use Rattle.life_desk.specs.declared.refusal.Refusal.{Refusal}
 use Rattle.life_desk.specs.declared.refusal.Refusal.TheVariants as refusals
 use Rattle.life_desk.specs.Validation.{validated, MayRefuse}
 use Rattle.life_desk.specs.Replies.{is_shown}
-use Rattle.life_pages.specs.declared.asked.PageRefusal.{PageRefusal}
+use Rattle.life_pages.specs.declared.asked.MessageRefusal.{MessageRefusal}
 use Rattle.life_pages.specs.declared.asked.Unasked.{Unasked}
 use Rattle.life_pages.specs.declared.asked.Unasked.TheVariants as unasked
 use Rattle.life_pages.specs.AskedState.{IsAsked}
-use Rattle.life_pages.specs.Reply.{bytes_of, page_bytes}
+use Rattle.life_pages.specs.Reply.{bytes_of, message_refusal_bytes}
 use Rattle.life_pages.specs.ReplyState.{Writes}
 use Rattle.life_pages.specs.Message.{AnswersAsked}
 
@@ -21,11 +21,11 @@ module _ {D : Type 0} (answers : D → Request → Reply → D → Type 0) where
   written old new q r bytes a may_be_unavailable (inl e) = (r, a, e)
   written old new q r bytes a may_be_unavailable (inr p) = (says.Refused refusals.Unavailable, may_be_unavailable p.0, p.1)
 
-  pub message_refused : (d : D) (u : Unasked) (refusal : PageRefusal) (bytes : List ℕ) → u ≡ unasked.Message refusal → bytes ≡ page_bytes refusal
-      → (read : Result Request PageRefusal) → IsAsked (Err u) read → AnswersAsked answers d read bytes d
+  pub message_refused : (d : D) (u : Unasked) (refusal : MessageRefusal) (bytes : List ℕ) → u ≡ unasked.Message refusal → bytes ≡ message_refusal_bytes refusal
+      → (read : Result Request MessageRefusal) → IsAsked (Err u) read → AnswersAsked answers d read bytes d
   message_refused d u refusal bytes e made read asked = let is = rw e at asked in rw is (made, refl)
 
   pub request_refused : (d : D) (u : Unasked) (refusal : Refusal) (bytes : List ℕ) → u ≡ unasked.Request refusal
       → ((q : Request) (r : Refusal) → MayRefuse (validated q) r → answers d q (says.Refused r) d) → bytes ≡ bytes_of (says.Refused refusal)
-      → (read : Result Request PageRefusal) → IsAsked (Err u) read → AnswersAsked answers d read bytes d
+      → (read : Result Request MessageRefusal) → IsAsked (Err u) read → AnswersAsked answers d read bytes d
   request_refused d u refusal bytes e law made read asked = let it = rw e at asked in rw it.1 (says.Refused refusal, law it.0 refusal it.2, made)

@@ -8,7 +8,7 @@ use Rattle.life_desk.specs.Archive.{Archive}
 use Rattle.life_desk.specs.Represents.{LeftRepresents}
 use Rattle.life_desk.specs.Replies.{after}
 use Rattle.life_desk.specs.Run.{RequestStep, RequestRun, IsCrashOf, PromiseNothing}
-use Rattle.life_pages.specs.declared.asked.PageRefusal.{PageRefusal}
+use Rattle.life_pages.specs.declared.asked.MessageRefusal.{MessageRefusal}
 use Rattle.life_pages.specs.Head.{Head}
 use Rattle.life_pages.specs.Asked.{asked}
 use Rattle.life_pages.specs.Message.{Message, good, bad, AnswersAsked, AnswersMessage}
@@ -17,7 +17,7 @@ use Rattle.life_pages.specs.Archive.{SaysNothing, SayNothing, IsServedUntil}
 
 -- What a crash leaves of one message whose request is x and whose reply is these bytes: the archive after it; or, if the bytes say
 -- nothing of what is kept, the one before it or the one after its request.
-abbrev pub LeftOfOne : Archive → Result Request PageRefusal → List ℕ → Trees → Type 0
+abbrev pub LeftOfOne : Archive → Result Request MessageRefusal → List ℕ → Trees → Type 0
 LeftOfOne A x bytes db =
     ((B : Archive) × AnswersAsked RequestStep A x bytes B × LeftRepresents db B)
     ⊎ (SaysNothing bytes × (LeftRepresents db A ⊎ ((next : Request) × (x ≡ Ok next) × LeftRepresents db (after A next))))

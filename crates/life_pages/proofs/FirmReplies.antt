@@ -8,7 +8,7 @@ use Rattle.life_desk.specs.declared.request.Reply.{Reply}
 use Rattle.life_desk.specs.declared.request.Reply.TheVariants as says
 use Rattle.life_desk.specs.Validation.{validated, MayRefuse}
 use Rattle.life_desk.specs.Replies.{is_shown}
-use Rattle.life_pages.specs.declared.asked.PageRefusal.{PageRefusal}
+use Rattle.life_pages.specs.declared.asked.MessageRefusal.{MessageRefusal}
 use Rattle.life_pages.specs.Asked.{asked}
 use Rattle.life_pages.specs.Message.{Message, good, bad, MessageRun, AnswersAsked, AnswersMessage}
 use Rattle.life_pages.specs.Serving.{RepliesCutShort}
@@ -31,7 +31,7 @@ firm_reply (Ok j) r P it = tt
 firm_reply (Err own) r P it = it.0
 
 module _ {S : Type 0} (g : Ghosts S) where
-  firm_one : (old new : ArchiveView S) (x : Result Request PageRefusal) (bytes : List ℕ) → AnswersAsked (StoreAnswers g) old x bytes new → AnswersAsked AnswersFirmly tt x bytes tt
+  firm_one : (old new : ArchiveView S) (x : Result Request MessageRefusal) (bytes : List ℕ) → AnswersAsked (StoreAnswers g) old x bytes new → AnswersAsked AnswersFirmly tt x bytes tt
   unfolding StoreAnswers
   firm_one old new (Ok q) bytes (reply, answered, is) = (reply, firm_reply (validated q) reply (new ≡ old) answered.1, is)
   firm_one old new (Err refusal) bytes (is, same) = (is, refl)

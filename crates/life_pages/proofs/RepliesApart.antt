@@ -10,10 +10,10 @@ use Rattle.life_desk.specs.declared.refusal.Refusal.{Refusal}
 use Rattle.life_desk.specs.declared.refusal.Refusal.TheVariants.{NoSuchDeposit, NoSuchCensus, BadMember, BadToken, TokenReused, OutOfLimit, BadPattern, BadRule, BadCode, Full, Unavailable}
 use Rattle.life_desk.specs.declared.request.Reply.{Reply}
 use Rattle.life_desk.specs.declared.request.Reply.TheVariants as replies
-use Rattle.life_pages.specs.declared.asked.PageRefusal.{PageRefusal}
-use Rattle.life_pages.specs.declared.asked.PageRefusal.TheVariants.{NoSuchPage, BadMethod, BadMessage}
+use Rattle.life_pages.specs.declared.asked.MessageRefusal.{MessageRefusal}
+use Rattle.life_pages.specs.declared.asked.MessageRefusal.TheVariants.{NoSuchRoute, BadMethod, BadMessage}
 use Rattle.life_pages.specs.Asked.{refusal_name, refusal_number}
-use Rattle.life_pages.specs.Reply.{phrase, refusal_body, reply_bytes, page_bytes, refusal_status, reply_status, type_of, reply_body, page_status, json}
+use Rattle.life_pages.specs.Reply.{phrase, refusal_body, reply_bytes, message_refusal_bytes, refusal_status, reply_status, type_of, reply_body, page_status, json}
 use Rattle.life_pages.specs.Laws.{AreReplyBytes, RepliesAreReadInOneWay}
 
 -- ---- the first CR
@@ -123,7 +123,7 @@ apart a b x y one two same =
 
 -- ---- all replies
 
-abbrev page_body : PageRefusal → List ℕ
+abbrev page_body : MessageRefusal → List ℕ
 page_body refusal = refusal_body (refusal_name refusal) (refusal_number refusal) []
 
 refusal_line : (refusal : Refusal) → is_free (first_line (refusal_status refusal)) ≡ true
@@ -163,9 +163,9 @@ reply_type (replies.Csv bytes) = refl
 reply_type (replies.Total n) = refl
 reply_type (replies.Refused refusal) = refl
 
-page_line : (refusal : PageRefusal) → is_free (first_line (page_status refusal)) ≡ true
+page_line : (refusal : MessageRefusal) → is_free (first_line (page_status refusal)) ≡ true
 unfolding phrase
-page_line NoSuchPage = refl
+page_line NoSuchRoute = refl
 page_line BadMethod = refl
 page_line BadMessage = refl
 
@@ -173,14 +173,14 @@ page_line BadMessage = refl
 number_short : (n : ℕ) → n < 100 → length (decimal n ++ [] ++ codes "}") ≤ 3
 number_short n few = omega (arith, length-append (decimal n ++ []) (codes "}"), length-append (decimal n) [], length-decimal-le 2 n (omega arith) (omega (arith, few)) (omega (arith, few)))
 
-page_short : (refusal : PageRefusal) → length (page_body refusal) < 2 ^ 64
+page_short : (refusal : MessageRefusal) → length (page_body refusal) < 2 ^ 64
 unfolding refusal_body
-page_short NoSuchPage = omega (arith, number_short (refusal_number NoSuchPage) (omega arith))
+page_short NoSuchRoute = omega (arith, number_short (refusal_number NoSuchRoute) (omega arith))
 page_short BadMethod = omega (arith, number_short (refusal_number BadMethod) (omega arith))
 page_short BadMessage = omega (arith, number_short (refusal_number BadMessage) (omega arith))
 
-page_is : (refusal : PageRefusal) → page_bytes refusal ≡ reply_bytes (page_status refusal) json (page_body refusal)
-unfolding page_bytes
+page_is : (refusal : MessageRefusal) → message_refusal_bytes refusal ≡ reply_bytes (page_status refusal) json (page_body refusal)
+unfolding message_refusal_bytes
 page_is refusal = refl
 
 readable : (bytes : List ℕ) → AreReplyBytes bytes → IsReadable bytes

@@ -5,9 +5,9 @@ use Rattle.life_desk.specs.declared.refusal.Refusal.TheVariants.{NoSuchDeposit, 
 use Rattle.life_desk.specs.declared.request.Reply.{Reply}
 use Rattle.life_desk.specs.declared.request.Reply.TheVariants as replies
 use Rattle.life_desk.specs.Replies.{acknowledges}
-use Rattle.life_pages.specs.declared.asked.PageRefusal.{PageRefusal}
-use Rattle.life_pages.specs.declared.asked.PageRefusal.TheVariants.{NoSuchPage, BadMethod, BadMessage}
-use Rattle.life_pages.specs.Reply.{reply_bytes, bytes_of, page_bytes}
+use Rattle.life_pages.specs.declared.asked.MessageRefusal.{MessageRefusal}
+use Rattle.life_pages.specs.declared.asked.MessageRefusal.TheVariants.{NoSuchRoute, BadMethod, BadMessage}
+use Rattle.life_pages.specs.Reply.{reply_bytes, bytes_of, message_refusal_bytes}
 use Rattle.life_pages.specs.Laws.{AcknowledgementsAreKnown, PagesAcknowledgeNothing}
 
 -- whether the digit of 201 stands where the last of a status does, after `HTTP/1.1 ` and two others
@@ -44,9 +44,9 @@ known (replies.Csv bytes) = refl
 known (replies.Total n) = refl
 known (replies.Refused refusal) = refusal_status refusal
 
-page_status_told : (refusal : PageRefusal) → is_created (page_bytes refusal) ≡ false
-unfolding page_bytes reply_bytes
-page_status_told NoSuchPage = refl
+page_status_told : (refusal : MessageRefusal) → is_created (message_refusal_bytes refusal) ≡ false
+unfolding message_refusal_bytes reply_bytes
+page_status_told NoSuchRoute = refl
 page_status_told BadMethod = refl
 page_status_told BadMessage = refl
 

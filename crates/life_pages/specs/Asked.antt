@@ -5,21 +5,21 @@ use Rattle.life_desk.specs.declared.request.Request.{Request}
 use Rattle.life_desk.specs.declared.request.Request.TheVariants as ask
 use Rattle.life_pages.specs.declared.route.Route.{Route}
 use Rattle.life_pages.specs.declared.route.Route.TheVariants as routes
-use Rattle.life_pages.specs.declared.asked.PageRefusal.{PageRefusal}
-use Rattle.life_pages.specs.declared.asked.PageRefusal.TheVariants.{NoSuchPage, BadMethod, BadMessage}
+use Rattle.life_pages.specs.declared.asked.MessageRefusal.{MessageRefusal}
+use Rattle.life_pages.specs.declared.asked.MessageRefusal.TheVariants.{NoSuchRoute, BadMethod, BadMessage}
 use Rattle.life_pages.specs.Head.{Head}
 use Rattle.life_pages.specs.Path.{path_of}
 use Rattle.life_pages.specs.Route.{route_of}
 
 -- the numbers of the refusals, after those of the archive
-abbrev pub refusal_number : PageRefusal → ℕ
-refusal_number NoSuchPage = 12
+abbrev pub refusal_number : MessageRefusal → ℕ
+refusal_number NoSuchRoute = 12
 refusal_number BadMethod = 13
 refusal_number BadMessage = 14
 
 -- what they are called
-abbrev pub refusal_name : PageRefusal → List ℕ
-refusal_name NoSuchPage = codes "no-such-page"
+abbrev pub refusal_name : MessageRefusal → List ℕ
+refusal_name NoSuchRoute = codes "no-such-page"
 refusal_name BadMethod = codes "bad-method"
 refusal_name BadMessage = codes "bad-message"
 
@@ -42,10 +42,10 @@ request_of (routes.CensusCsv id) said body = ask.CensusCsv id
 request_of (routes.Total rule code limit) said body = ask.Total rule code limit
 
 -- the route is validated first, and then the method
-abbrev pub asked_at : Option Route → Head → List ℕ → Result Request PageRefusal
-asked_at None said body = Err NoSuchPage
+abbrev pub asked_at : Option Route → Head → List ℕ → Result Request MessageRefusal
+asked_at None said body = Err NoSuchRoute
 asked_at (Some route) said body = if bytes_eq said.method (method_of route) then Ok (request_of route said body) else Err BadMethod
 
 -- what a message with this head and this body asks for
-abbrev pub asked : Head → List ℕ → Result Request PageRefusal
+abbrev pub asked : Head → List ℕ → Result Request MessageRefusal
 asked said body = asked_at (route_of (path_of said.target)) said body

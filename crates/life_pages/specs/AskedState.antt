@@ -3,7 +3,7 @@ use Rattle.std.specs.Prelude.{◌≡◌, Result, Ok, Err}
 use Rattle.life_desk.specs.declared.refusal.Refusal.{Refusal}
 use Rattle.life_desk.specs.declared.request.Request.{Request}
 use Rattle.life_desk.specs.Validation.{validated, MayRefuse}
-use Rattle.life_pages.specs.declared.asked.PageRefusal.{PageRefusal}
+use Rattle.life_pages.specs.declared.asked.MessageRefusal.{MessageRefusal}
 use Rattle.life_pages.specs.declared.asked.Unasked.{Unasked}
 use Rattle.life_pages.specs.declared.asked.Unasked.TheVariants as unasked
 
@@ -13,7 +13,7 @@ GivesRequest (Ok q) request = q ≡ request
 GivesRequest (Err refusal) request = MayRefuse (validated request) refusal
 
 -- what is asked, unless it is a request that is refused before it is copied
-abbrev pub IsAsked : Result Request Unasked → Result Request PageRefusal → Type 0
+abbrev pub IsAsked : Result Request Unasked → Result Request MessageRefusal → Type 0
 IsAsked (Ok request) read = read ≡ Ok request
 IsAsked (Err (unasked.Message refusal)) read = read ≡ Err refusal
 IsAsked (Err (unasked.Request refusal)) read = (request : Request) × (read ≡ Ok request) × MayRefuse (validated request) refusal

@@ -5,10 +5,10 @@ use Rattle.life_core.specs.Ascii.{line_feed, carriage_return}
 use Rattle.httparse.specs.Grammar.{RequestHead, IsRequestHead, HasNoRequest, MayBecomeRequest, print_request}
 use Rattle.life_desk.specs.declared.request.Request.{Request}
 use Rattle.life_desk.specs.declared.request.Reply.{Reply}
-use Rattle.life_pages.specs.declared.asked.PageRefusal.{PageRefusal}
+use Rattle.life_pages.specs.declared.asked.MessageRefusal.{MessageRefusal}
 use Rattle.life_pages.specs.Head.{Head, head_of}
 use Rattle.life_pages.specs.Asked.{asked}
-use Rattle.life_pages.specs.Reply.{bytes_of, page_bytes, bad_bytes}
+use Rattle.life_pages.specs.Reply.{bytes_of, message_refusal_bytes, bad_bytes}
 
 -- a message of a stream: a good one with its body, or a bad one
 pub data Message : Type 0 where
@@ -89,9 +89,9 @@ module _ {D : Type 0} (answers : D → Head → List ℕ → List ℕ → D → 
 -- how a good message is answered, where requests are answered by these replies
 module _ {D : Type 0} (answers : D → Request → Reply → D → Type 0) where
   -- a request by the bytes of a reply to it; a page refusal by its bytes, and nothing changes
-  abbrev pub AnswersAsked : D → Result Request PageRefusal → List ℕ → D → Type 0
+  abbrev pub AnswersAsked : D → Result Request MessageRefusal → List ℕ → D → Type 0
   AnswersAsked old (Ok request) bytes new = (reply : Reply) × answers old request reply new × (bytes ≡ bytes_of reply)
-  AnswersAsked old (Err refusal) bytes new = (bytes ≡ page_bytes refusal) × (new ≡ old)
+  AnswersAsked old (Err refusal) bytes new = (bytes ≡ message_refusal_bytes refusal) × (new ≡ old)
 
   abbrev pub AnswersMessage : D → Head → List ℕ → List ℕ → D → Type 0
   AnswersMessage old said body bytes new = AnswersAsked old (asked said body) bytes new

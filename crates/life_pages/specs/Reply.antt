@@ -8,8 +8,8 @@ use Rattle.life_desk.specs.declared.refusal.Refusal.TheVariants.{NoSuchDeposit, 
 use Rattle.life_desk.specs.declared.request.Reply.{Reply}
 use Rattle.life_desk.specs.declared.request.Reply.TheVariants as says
 use Rattle.life_desk.specs.Refusals as refusals
-use Rattle.life_pages.specs.declared.asked.PageRefusal.{PageRefusal}
-use Rattle.life_pages.specs.declared.asked.PageRefusal.TheVariants.{NoSuchPage, BadMethod, BadMessage}
+use Rattle.life_pages.specs.declared.asked.MessageRefusal.{MessageRefusal}
+use Rattle.life_pages.specs.declared.asked.MessageRefusal.TheVariants.{NoSuchRoute, BadMethod, BadMessage}
 use Rattle.life_pages.specs.Asked.{refusal_number, refusal_name}
 use Rattle.life_pages.specs.Json.{kind_data, shown_data, list_data}
 
@@ -85,17 +85,17 @@ bytes_of reply = reply_bytes (reply_status reply) (type_of reply) (reply_body re
 
 -- ---- the replies that the archive is not asked for
 
-abbrev pub page_status : PageRefusal → ℕ
-page_status NoSuchPage = 404
+abbrev pub page_status : MessageRefusal → ℕ
+page_status NoSuchRoute = 404
 page_status BadMethod = 405
 page_status BadMessage = 400
 
-unfoldable pub page_bytes : PageRefusal → List ℕ
-page_bytes refusal = reply_bytes (page_status refusal) json (refusal_body (refusal_name refusal) (refusal_number refusal) [])
+unfoldable pub message_refusal_bytes : MessageRefusal → List ℕ
+message_refusal_bytes refusal = reply_bytes (page_status refusal) json (refusal_body (refusal_name refusal) (refusal_number refusal) [])
 
 -- the reply to a bad message
 abbrev pub bad_bytes : List ℕ
-bad_bytes = page_bytes BadMessage
+bad_bytes = message_refusal_bytes BadMessage
 
 -- the reply if memory or the store refused
 abbrev pub unavailable_bytes : List ℕ

@@ -5,13 +5,13 @@ use Rattle.life_desk.specs.declared.request.Reply.{Reply}
 use Rattle.life_desk.specs.Archive.{Archive}
 use Rattle.life_desk.specs.Run.{RequestStep, RequestRun}
 use Rattle.life_desk.specs.Headline.{Headline}
-use Rattle.life_pages.specs.declared.asked.PageRefusal.{PageRefusal}
+use Rattle.life_pages.specs.declared.asked.MessageRefusal.{MessageRefusal}
 use Rattle.life_pages.specs.Asked.{asked}
 use Rattle.life_pages.specs.Message.{Message, good, bad, MessageRun, AnswersMessage}
-use Rattle.life_pages.specs.Reply.{bytes_of, page_bytes, bad_bytes}
+use Rattle.life_pages.specs.Reply.{bytes_of, message_refusal_bytes, bad_bytes}
 
 -- a message's request, if it makes one, in front of others
-abbrev pub with_request : Result Request PageRefusal → List Request → List Request
+abbrev pub with_request : Result Request MessageRefusal → List Request → List Request
 with_request (Ok request) later = request ∷ later
 with_request (Err refusal) later = later
 
@@ -23,10 +23,10 @@ requests_of (good said body ∷ ms) = with_request (asked said body) (requests_o
 
 -- the bytes of a message's reply, which is the first of these if the message makes a request, and after them those of the others; if there is no reply
 -- for a request, none (a run has as many replies as requests)
-abbrev pub with_reply : Result Request PageRefusal → (List Reply → List ℕ) → List Reply → List ℕ
+abbrev pub with_reply : Result Request MessageRefusal → (List Reply → List ℕ) → List Reply → List ℕ
 with_reply (Ok request) later (r ∷ rs) = bytes_of r ++ later rs
 with_reply (Ok request) later [] = []
-with_reply (Err refusal) later rs = page_bytes refusal ++ later rs
+with_reply (Err refusal) later rs = message_refusal_bytes refusal ++ later rs
 
 -- the bytes of the replies to messages, where these are the replies to their requests
 abbrev pub reply_bytes_of : List Message → List Reply → List ℕ

@@ -1,7 +1,7 @@
 //! The reply to a good message.
 ghost use Rattle.std.specs.Prelude.{◌≡◌, ◌≤◌, vec_capacity, Result, Ok, Err, IfOk};
 ghost use Rattle.life_desk.specs.declared.request.Request.{Request};
-ghost use Rattle.life_pages.specs.declared.asked.PageRefusal.{PageRefusal};
+ghost use Rattle.life_pages.specs.declared.asked.MessageRefusal.{MessageRefusal};
 ghost use Rattle.life_pages.specs.AskedState.{IsAsked};
 ghost use Rattle.life_pages.specs.HeadState.{said};
 ghost use Rattle.life_pages.specs.RouteState.{route_rows};
@@ -48,7 +48,7 @@ fn answer_request<D: Desk>(alloc: Global, desk: &mut D, request: Request, draft:
 /// Writes why the archive is not asked.
 fn refuse<D: Desk>(desk: &D, unasked: Unasked, draft: &mut ReplyBuffers)
     requires room { HasRoom draft.old }
-    ensures answered { (read : Result Request PageRefusal) → IsAsked (Err unasked) read → AnswersAsked D.answers desk.now read draft.new.reply.items desk.now }
+    ensures answered { (read : Result Request MessageRefusal) → IsAsked (Err unasked) read → AnswersAsked D.answers desk.now read draft.new.reply.items desk.now }
     ensures room { HasRoom draft.new }
 {
     desk.law_of_refusals();

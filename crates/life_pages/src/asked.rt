@@ -17,16 +17,16 @@ use std::alloc::{AllocError, Global};
 
 /// Why a message is refused before the archive is asked.
 #[derive(Clone, Copy, Debug, PartialEq, Eq)]
-pub enum PageRefusal {
+pub enum MessageRefusal {
     /// No route has the path.
-    NoSuchPage = 12,
+    NoSuchRoute = 12,
     /// The route wants another method.
     BadMethod = 13,
     /// The bytes are no good message.
     BadMessage = 14,
 }
 
-impl PageRefusal {
+impl MessageRefusal {
     ghost use Rattle.life_pages.specs.Asked.{refusal_number, refusal_name};
 
     /// The refusal's number. Those below it are the archive's.
@@ -41,9 +41,9 @@ impl PageRefusal {
         ensures { result.now ≡ refusal_name self }
     {
         match self {
-            PageRefusal::NoSuchPage => "no-such-page",
-            PageRefusal::BadMethod => "bad-method",
-            PageRefusal::BadMessage => "bad-message",
+            MessageRefusal::NoSuchRoute => "no-such-page",
+            MessageRefusal::BadMethod => "bad-method",
+            MessageRefusal::BadMessage => "bad-message",
         }
     }
 }
@@ -184,7 +184,7 @@ fn request_of(
 #[derive(Clone, Copy)]
 pub(crate) enum Unasked {
     /// The message makes no request.
-    Message(PageRefusal),
+    Message(MessageRefusal),
     /// The request is refused: for its own words, or since there is no memory to copy them.
     Request(Refusal),
 }
@@ -201,10 +201,10 @@ pub(crate) fn asked(
 {
     let route = match find_route(routes, path_of(head.target)) {
         Some(route) => route,
-        None => return Err(Unasked::Message(PageRefusal::NoSuchPage)),
+        None => return Err(Unasked::Message(MessageRefusal::NoSuchRoute)),
     };
     if head.method != method_of(&route) {
-        return Err(Unasked::Message(PageRefusal::BadMethod));
+        return Err(Unasked::Message(MessageRefusal::BadMethod));
     }
     match request_of(alloc, &route, head, body) {
         Ok(request) => Ok(request),

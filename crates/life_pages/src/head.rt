@@ -14,7 +14,6 @@ use httparse::{EMPTY_HEADER, Header, Request, Status};
 /// The most header lines of a head.
 const LINE_LIMIT: usize = 32;
 
-/// Whether all are digits.
 fn are_digits(text: &[u8]) -> bool
     ensures { result ≡ list_all is_ascii_digit text.now }
 {
@@ -52,7 +51,6 @@ pub(crate) fn number(text: &[u8]) -> Option<u64>
     }
 }
 
-/// A space or a tab.
 fn is_space_or_tab(byte: u8) -> bool
     ensures { result ≡ is_ows byte }
 {

@@ -15,6 +15,6 @@ mod route;
 mod serving;
 
 pub use archive::{serve, serve_in_memory};
-pub use asked::PageRefusal;
+pub use asked::MessageRefusal;
 pub use laws::laws_of_messages;
 pub use serving::IoFault;

@@ -3,10 +3,10 @@ ghost use Rattle.std.specs.Prelude.{◌≡◌, ℕ, ◌+◌, ◌≤◌, ◌<◌,
 ghost use Rattle.http.specs.StatusCode.{code_digits, reason_phrase, IsStatusCode};
 ghost use Rattle.life_desk.specs.Refusals as refusals;
 ghost use Rattle.life_desk.specs.Replies.{is_shown};
-ghost use Rattle.life_pages.specs.Reply.{phrase, reply_bytes, json, number_body, refusal_body, fault_part, bytes_of, refusal_status, reply_status, type_of, reply_body, page_bytes, bad_bytes, unavailable_bytes};
+ghost use Rattle.life_pages.specs.Reply.{phrase, reply_bytes, json, number_body, refusal_body, fault_part, bytes_of, refusal_status, reply_status, type_of, reply_body, message_refusal_bytes, bad_bytes, unavailable_bytes};
 ghost use Rattle.life_pages.specs.ReplyState.{Writes};
 
-use crate::asked::PageRefusal;
+use crate::asked::MessageRefusal;
 use crate::json::{kind_body, list_body, shown_body};
 use http::StatusCode;
 use itoa::Buffer;
@@ -35,14 +35,14 @@ static UNAVAILABLE: &[u8] =
     b"HTTP/1.1 503 Service Unavailable\r\ncontent-type: application/json\r\ncontent-length: 36\r\n\r\n{\"error\":\"unavailable\",\"refusal\":11}";
 
 /// The reply to a message that the archive is not asked about.
-pub(crate) fn page_reply(refusal: PageRefusal) -> &'static [u8]
-    ensures bytes { result.now ≡ page_bytes refusal }
+pub(crate) fn page_reply(refusal: MessageRefusal) -> &'static [u8]
+    ensures bytes { result.now ≡ message_refusal_bytes refusal }
     ensures short { length result.now ≤ 160 }
 {
     match refusal {
-        PageRefusal::NoSuchPage => NO_SUCH_PAGE,
-        PageRefusal::BadMethod => BAD_METHOD,
-        PageRefusal::BadMessage => BAD_MESSAGE,
+        MessageRefusal::NoSuchRoute => NO_SUCH_PAGE,
+        MessageRefusal::BadMethod => BAD_METHOD,
+        MessageRefusal::BadMessage => BAD_MESSAGE,
     }
 }
 
@@ -209,9 +209,9 @@ fn write_unavailable(out: &mut Vec<u8>)
 }
 
 /// Writes why a message is refused before the archive is asked.
-pub(crate) fn write_page(out: &mut Vec<u8>, refusal: PageRefusal)
+pub(crate) fn write_page(out: &mut Vec<u8>, refusal: MessageRefusal)
     requires { REPLY_ROOM ≤ vec_capacity out.old }
-    ensures bytes { out.new.items ≡ page_bytes refusal }
+    ensures bytes { out.new.items ≡ message_refusal_bytes refusal }
     ensures room { vec_capacity out.old ≤ vec_capacity out.new }
 {
     out.clear();

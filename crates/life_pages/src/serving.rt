@@ -12,7 +12,7 @@ ghost use Rattle.life_pages.specs.Serving.{IsServed, UsesStreams, ReportsTakeFai
 ghost use Rattle.life_pages.specs.ServingState.{AtEnd, IsStep, IsHeldServed, IsOutcome, Feeds, IsPassed, HearsPassed, IsBlankEnd};
 
 use crate::answer::{ReplyBuffers, answer_message};
-use crate::asked::PageRefusal;
+use crate::asked::MessageRefusal;
 use crate::desk::Desk;
 use crate::message::{HEAD_LIMIT, Next, are_blank, next_message};
 use crate::reply::{add, page_reply};
@@ -83,7 +83,7 @@ fn put_bad<O: Outlet>(output: &mut O) -> Result<(), Failed>
     ensures count { OnOk result (O.failures output.new ≡ O.failures output.old) }
     ensures failed { OnErr result (FailsLast (O.failures output.old) (O.failures output.new) (O.last_failed output.new)) }
 {
-    put_all(output, page_reply(PageRefusal::BadMessage))
+    put_all(output, page_reply(MessageRefusal::BadMessage))
 }
 
 /// Answers the first message, if it has come whole. If fewer bytes are held than are wanted, it has not.

@@ -28,7 +28,7 @@ impl<A: Allocator> Text<A> {
         })
     }
 
-    /// The bytes.
+    /// The text's bytes, without a line end.
     pub fn as_bytes(&self) -> &[u8]
         ensures { result.now ≡ self.now }
     {

@@ -44,7 +44,6 @@ impl<A: Allocator + Copy> ItemLines<A> {
         }
     }
 
-    /// Ends the line.
     fn end_line(&mut self) -> Result<(), AllocError>
         ensures out { OnOk result (self.new.out.items ≡ self.old.out.items ++ (take self.old.used self.old.line ++ 10 ∷ [])) }
         ensures used { OnOk result (self.new.used ≡ 0) }

@@ -135,7 +135,6 @@ fn insert_row<S: Alter>(
     Ok(())
 }
 
-/// These rows of it.
 fn insert_rows<S: Alter>(
     tx: &mut Transaction<'_, S>,
     id: u64,

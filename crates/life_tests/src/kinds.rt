@@ -75,7 +75,6 @@ fn compared(first: &Option<Coded>, second: &Option<Coded>, text: &[u8]) -> Optio
     }
 }
 
-/// The glider with its code.
 fn coded_glider(alloc: Global) -> Result<Option<Coded>, Fault> {
     let glider = Pattern::from_cells(alloc, &GLIDER)?;
     coded(alloc, &Rule::LIFE, &glider, 4)
@@ -92,7 +91,6 @@ fn coded_other(alloc: Global) -> Result<Option<Coded>, Fault> {
     coded(alloc, &Rule::LIFE, &mirrored, 100)
 }
 
-/// Compares the gliders.
 fn compared_gliders(alloc: Global) -> Result<Option<(bool, bool)>, Fault> {
     let glider = coded_glider(alloc)?;
     let other = coded_other(alloc)?;

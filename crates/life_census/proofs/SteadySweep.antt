@@ -196,11 +196,11 @@ rows_more rows visits from i e low room behind here before a b d first high row 
       elim (cases_lt b from) [
         | inl passed ↦ λ differ. far_before rows (get_or visits a d) (get_or visits b d) row (behind b a d passed (omega arith) (omega arith))
         | inr ahead ↦
-            let place : ℕ = b - from in
+            let index : ℕ = b - from in
             let long : length (rest visits from) ≡ length visits - from = length_rest visits from room in
-            let at : get_or (rest visits from) place d ≡ get_or visits b d = at_rest visits from place d (omega arith) ∙ ap (λ k. get_or visits k d) (let e : from + place ≡ b = omega arith in e) in
+            let at : get_or (rest visits from) index d ≡ get_or visits b d = at_rest visits from index d (omega arith) ∙ ap (λ k. get_or visits k d) (let e : from + index ≡ b = omega arith in e) in
             apart_in_row rows (get_or visits a d) (get_or visits b d) row
-            (subst (λ w. KeepApartUpTo (last_near rows w) w (get_or visits b d)) is (subst (KeepApartUpTo (last_near rows (get_or visits i e)) (get_or visits i e)) at (here place d (omega arith))))
+            (subst (λ w. KeepApartUpTo (last_near rows w) w (get_or visits b d)) is (subst (KeepApartUpTo (last_near rows (get_or visits i e)) (get_or visits i e)) at (here index d (omega arith))))
       ]
 ]
 

@@ -13,7 +13,7 @@ ghost use Rattle.life_census.specs.SurveyState.{IsSurvey};
 use crate::code_text::CodeText;
 use crate::cluster::clusters;
 use crate::rows::{Row, Rows, Tally};
-use crate::survey::{Shape, code_of_cluster, shape_place};
+use crate::survey::{Shape, code_of_cluster, shape_index};
 use life_code::{Kind, PERIOD_LIMIT, kind};
 use life_core::{Fault, Pattern, Rule};
 use std::alloc::{AllocError, Allocator};
@@ -89,7 +89,7 @@ pub fn tally_of<A: Allocator + Copy>(
     let mut rows = Vec::new(alloc);
     let mut unresolved = 0;
     for cluster in clusters {
-        let (i, _) = shape_place(alloc, rule, cluster, limit, false, shapes)?;
+        let (i, _) = shape_index(alloc, rule, cluster, limit, false, shapes)?;
         match &shapes[i].code {
             Some(code) => count_code(alloc, &mut rows, code)?,
             None => unresolved += 1,
@@ -122,7 +122,7 @@ fn count_code<A: Allocator + Copy>(
     Ok(())
 }
 
-/// The place of a code among rows, or the place where it belongs.
+/// The index of a code among rows, or the one where it belongs.
 fn place_of<A: Allocator>(rows: &[Row<A>], code: &[u8]) -> Result<usize, usize>
     ensures before { MatchResult result (AreBelow rows.now code.now) (AreBelow rows.now code.now) }
     ensures here { MatchResult result (IsRowOf rows.now code.now) (IsPlaceFor rows.now code.now) }

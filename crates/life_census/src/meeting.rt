@@ -19,7 +19,7 @@ ghost use Rattle.life_census.specs.SurveyState.{IsSurvey};
 use crate::counting::{tally_of, tally_of_one};
 use crate::cluster::clusters;
 use crate::rows::Tally;
-use crate::survey::{Shape, shape_place, stays};
+use crate::survey::{Shape, shape_index, stays};
 use life_code::{PERIOD_LIMIT, kind};
 use life_core::{Cell, Fault, Pattern, Rule};
 use std::alloc::{AllocError, Allocator};
@@ -117,7 +117,7 @@ fn all_visits<A: Allocator + Copy>(
 {
     let mut visits = Vec::new(alloc);
     for (number, cluster) in clusters.iter().enumerate() {
-        let (i, move_by) = shape_place(alloc, rule, cluster, limit, true, shapes)?;
+        let (i, move_by) = shape_index(alloc, rule, cluster, limit, true, shapes)?;
         let Some(phases) = &shapes[i].phases else {
             return Ok(None);
         };
@@ -161,7 +161,7 @@ fn are_apart(visits: &[Visit]) -> bool
 }
 
 /// Whether no cell is near one of another cluster that lies so many rows below it. From one cell to
-/// the next, the place of the first that can be near only moves on.
+/// the next, the index of the first that can be near only moves on.
 fn are_rows_apart(visits: &[Visit], rows: i64) -> bool
     requires sorted { IsSorted visit_cmp visits.now }
     requires inside { All IsVisitInPlane visits.now }
@@ -179,17 +179,17 @@ fn are_rows_apart(visits: &[Visit], rows: i64) -> bool
     true
 }
 
-/// The first place, from the start on, of a visit whose cell does not come before a cell.
+/// The first index, from the start on, of a visit whose cell does not come before a cell.
 fn first_from(visits: &[Visit], start: usize, cell: Cell) -> usize
     requires { start ≤ length visits.now }
     ensures bound { result ≤ length visits.now }
     ensures before { (k : ℕ) (d : VisitValue) → start ≤ k → k < result → ComesBefore (slice_index_or visits.now k d).cell cell }
 {
-    let mut place = start;
-    while place < visits.len() && visits[place].cell < cell {
-        place += 1;
+    let mut index = start;
+    while index < visits.len() && visits[index].cell < cell {
+        index += 1;
     }
-    place
+    index
 }
 
 /// Whether a cell is near one of another cluster, among those up to the last that can be near.

@@ -8,7 +8,7 @@ ghost use Rattle.life_census.specs.SurveyState.{IsSurvey};
 
 use crate::code_text::CodeText;
 use crate::cluster::clusters;
-use crate::survey::{Shape, shape_place};
+use crate::survey::{Shape, shape_index};
 use life_code::PERIOD_LIMIT;
 use life_core::{Fault, Pattern, Rule};
 use std::alloc::{AllocError, Allocator};
@@ -81,7 +81,7 @@ fn named<A: Allocator + Copy>(
 {
     let mut codes = Vec::new(alloc);
     for cluster in clusters {
-        let (i, _) = shape_place(alloc, rule, cluster, limit, false, shapes)?;
+        let (i, _) = shape_index(alloc, rule, cluster, limit, false, shapes)?;
         put_code(alloc, &mut codes, &shapes[i].code)?;
     }
     Ok(codes)

@@ -20,9 +20,9 @@ pub struct Shape<A: Allocator> {
     pub phases: Option<Vec<Cell, A>>,
 }
 
-/// The place of a cluster's shape in the table, and the move that takes the first cluster of this
-/// shape to it. A new shape gets the last place. `listed` says whether its phases are listed.
-pub fn shape_place<A: Allocator + Copy>(
+/// The index of a cluster's shape in the table, and the move that takes the first cluster of this
+/// shape to it. A new shape gets the last index. `listed` says whether its phases are listed.
+pub fn shape_index<A: Allocator + Copy>(
     alloc: A,
     rule: &Rule,
     cluster: &Pattern<A>,
@@ -33,11 +33,11 @@ pub fn shape_place<A: Allocator + Copy>(
     requires room { IsWithin 400_000_000 cluster.now }
     requires survey { IsSurvey rule.now limit listed shapes.old.items }
     ensures survey { IsSurvey rule.now limit listed shapes.new.items }
-    ensures place { IfOk result (λ p. HasShapeAt shapes.new.items cluster.now p.0 p.1) }
+    ensures index { IfOk result (λ p. HasShapeAt shapes.new.items cluster.now p.0 p.1) }
     ensures code { IfOk result (λ p. HasCodeAt shapes.new.items (code_of rule.now cluster.now limit) p.0) }
 {
-    if let Some(place) = known_place(shapes, cluster) {
-        return Ok(place);
+    if let Some(index) = known_index(shapes, cluster) {
+        return Ok(index);
     }
     let shape = surveyed(alloc, rule, cluster, limit, listed)?;
     let i = shapes.len();
@@ -45,8 +45,8 @@ pub fn shape_place<A: Allocator + Copy>(
     Ok((i, Cell { row: 0, column: 0 }))
 }
 
-/// The place of a cluster's shape and the move, if the shape is known.
-fn known_place<A: Allocator + Copy>(
+/// The index of a cluster's shape and the move, if the shape is known.
+fn known_index<A: Allocator + Copy>(
     shapes: &[Shape<A>],
     cluster: &Pattern<A>,
 ) -> Option<(usize, Cell)>

@@ -11,7 +11,7 @@ use Rattle.life_core.proofs.PatternMembers.{within_from_list}
 use Rattle.life_code.specs.DecodeState.{spells_cell, cell_of_place, decoded}
 
 -- if nothing is left, no cell is spelled
-pub spells_nothing : (k : ℕ) (behind_y : Bool) (x y : ℕ) → spells_cell k behind_y [] x y ≡ false
+pub spells_nothing : (k : ℕ) (after_y : Bool) (x y : ℕ) → spells_cell k after_y [] x y ≡ false
 unfolding spells_cell
 spells_nothing k true x y = refl
 spells_nothing k false x y = refl

@@ -13,7 +13,7 @@ use Rattle.life_core.proofs.PatternMembers.{cell_cmp_total, same_cell, same_cell
 use Rattle.life_core.proofs.PatternCorners.{Has, normal_low, normal-normal}
 use Rattle.life_code.specs.Wechsler.{wechsler}
 use Rattle.life_code.specs.Codes.{fits}
-use Rattle.life_code.specs.DecodeState.{spells_cell, cell_of_place, decoded}
+use Rattle.life_code.specs.DecodeState.{spells_cell, cell_of_index, decoded}
 use Rattle.life_code.proofs.WechslerTexts.{cell, narrow, low, negative, within_width, within_height, read_wechsler}
 
 -- a set of a list has at most as many cells as the list
@@ -31,57 +31,57 @@ len-from_list (k ∷ ks) =
 
 -- a place below n that passes the test and has the cell
 record IsPlace (p : ℕ → Bool) (n : ℕ) (c : Cell) : Type 0 where
-  pub place : ℕ
-  pub below : place < n
-  pub passes : p place ≡ true
-  pub cell_is : c ≡ cell_of_place place
+  pub index : ℕ
+  pub below : index < n
+  pub passes : p index ≡ true
+  pub cell_is : c ≡ cell_of_index index
 
 module _ (p : ℕ → Bool) where
   -- the cells of n places from a on
   abbrev cells_from : ℕ → ℕ → List Cell
-  cells_from a n = map cell_of_place (filter p (range_with_len a n))
+  cells_from a n = map cell_of_index (filter p (range_with_len a n))
 
   -- a cell among them is one of a place that passes
   found_place : (a n : ℕ) (c : Cell) → has_cell (cells_from a n) c ≡ true → IsPlace p (a + n) c
   found_place a zero c h = absurd (false≢true h)
   found_place a (suc n) c h =
-      elim (p a) as (λ b. p a ≡ b → has_cell (map cell_of_place (cond b (a ∷ filter p (range_with_len (a + 1) n)) (filter p (range_with_len (a + 1) n)))) c ≡ true → IsPlace p (a + suc n) c) [
-        | true ↦ λ e h. elim (or_cases (same_cell c (cell_of_place a)) (has_cell (cells_from (a + 1) n) c) h) [
-          | inl here ↦ record { place = a; below = omega arith; passes = e; cell_is = same_cell-true c (cell_of_place a) here }
+      elim (p a) as (λ b. p a ≡ b → has_cell (map cell_of_index (cond b (a ∷ filter p (range_with_len (a + 1) n)) (filter p (range_with_len (a + 1) n)))) c ≡ true → IsPlace p (a + suc n) c) [
+        | true ↦ λ e h. elim (or_cases (same_cell c (cell_of_index a)) (has_cell (cells_from (a + 1) n) c) h) [
+          | inl here ↦ record { index = a; below = omega arith; passes = e; cell_is = same_cell-true c (cell_of_index a) here }
           | inr there ↦ further a n c (found_place (a + 1) n c there)
         ]
         | false ↦ λ e h. further a n c (found_place (a + 1) n c h)
       ] refl h
     where
       further : (a n : ℕ) (c : Cell) → IsPlace p (a + 1 + n) c → IsPlace p (a + suc n) c
-      further a n c found = record { place = found.place; below = let h = found.below in omega arith; passes = found.passes; cell_is = found.cell_is }
+      further a n c found = record { index = found.index; below = let h = found.below in omega arith; passes = found.passes; cell_is = found.cell_is }
 
   -- the cell of a place that passes is among them
-  place_found : (a n i : ℕ) → a ≤ i → i < a + n → p i ≡ true → has_cell (cells_from a n) (cell_of_place i) ≡ true
+  place_found : (a n i : ℕ) → a ≤ i → i < a + n → p i ≡ true → has_cell (cells_from a n) (cell_of_index i) ≡ true
   place_found a zero i from below e = absurd (omega arith)
   place_found a (suc n) i from below e = ⊎_elim
       (λ after.
-      let there : has_cell (cells_from (a + 1) n) (cell_of_place i) ≡ true = place_found (a + 1) n i (omega arith) (omega arith) e in
-      elim (p a) as (λ b. has_cell (map cell_of_place (cond b (a ∷ filter p (range_with_len (a + 1) n)) (filter p (range_with_len (a + 1) n)))) (cell_of_place i) ≡ true) [
-        | true ↦ or_right (same_cell (cell_of_place i) (cell_of_place a)) (has_cell (cells_from (a + 1) n) (cell_of_place i)) there
+      let there : has_cell (cells_from (a + 1) n) (cell_of_index i) ≡ true = place_found (a + 1) n i (omega arith) (omega arith) e in
+      elim (p a) as (λ b. has_cell (map cell_of_index (cond b (a ∷ filter p (range_with_len (a + 1) n)) (filter p (range_with_len (a + 1) n)))) (cell_of_index i) ≡ true) [
+        | true ↦ or_right (same_cell (cell_of_index i) (cell_of_index a)) (has_cell (cells_from (a + 1) n) (cell_of_index i)) there
         | false ↦ there
       ])
       (λ until.
       let at : i ≡ a = omega arith in
-      subst (λ b. has_cell (map cell_of_place (cond b (a ∷ filter p (range_with_len (a + 1) n)) (filter p (range_with_len (a + 1) n)))) (cell_of_place i) ≡ true) (sym e ∙ ap p at)
-      (or_left (same_cell (cell_of_place i) (cell_of_place a)) (has_cell (cells_from (a + 1) n) (cell_of_place i)) (ap (λ k. same_cell (cell_of_place k) (cell_of_place a)) at ∙ same_cell-self (cell_of_place a))))
+      subst (λ b. has_cell (map cell_of_index (cond b (a ∷ filter p (range_with_len (a + 1) n)) (filter p (range_with_len (a + 1) n)))) (cell_of_index i) ≡ true) (sym e ∙ ap p at)
+      (or_left (same_cell (cell_of_index i) (cell_of_index a)) (has_cell (cells_from (a + 1) n) (cell_of_index i)) (ap (λ k. same_cell (cell_of_index k) (cell_of_index a)) at ∙ same_cell-self (cell_of_index a))))
       (cases_lt a i)
 
   -- a set whose cells all have places below n is the set of the cells of the places below n that it has
-  set_of_places : (X : Cells) (n : ℕ) → ((i : ℕ) → p i ≡ set.contains X (cell_of_place i)) → ((c : Cell) → Has X c → (i : ℕ) × (i < n) × (c ≡ cell_of_place i)) → set.from_list {R = cell_cmp} (cells_from 0 n) ≡ X
-  set_of_places X n tests place = cells_by_members _ _ (λ c. same_answer _ _ (is_in c) (is_found c))
+  set_of_places : (X : Cells) (n : ℕ) → ((i : ℕ) → p i ≡ set.contains X (cell_of_index i)) → ((c : Cell) → Has X c → (i : ℕ) × (i < n) × (c ≡ cell_of_index i)) → set.from_list {R = cell_cmp} (cells_from 0 n) ≡ X
+  set_of_places X n tests index = cells_by_members _ _ (λ c. same_answer _ _ (is_in c) (is_found c))
     where
       is_in : (c : Cell) → set.contains (set.from_list {R = cell_cmp} (cells_from 0 n)) c ≡ true → Has X c
-      is_in c h = let found = found_place 0 n c (sym (contains-list (cells_from 0 n) c) ∙ h) in ap (set.contains X) found.cell_is ∙ sym (tests found.place) ∙ found.passes
+      is_in c h = let found = found_place 0 n c (sym (contains-list (cells_from 0 n) c) ∙ h) in ap (set.contains X) found.cell_is ∙ sym (tests found.index) ∙ found.passes
 
       is_found : (c : Cell) → Has X c → set.contains (set.from_list {R = cell_cmp} (cells_from 0 n)) c ≡ true
       is_found c has =
-          let at = place c has in
+          let at = index c has in
           contains-list (cells_from 0 n) c
           ∙ ap (has_cell (cells_from 0 n)) at.2
           ∙ place_found 0 n at.0 (omega arith) (let h = at.1 in omega arith) (tests at.0 ∙ ap (set.contains X) (sym at.2) ∙ has)
@@ -90,7 +90,7 @@ module _ (p : ℕ → Bool) where
   few_places : (n : ℕ) → set.len (set.from_list {R = cell_cmp} (cells_from 0 n)) ≤ n
   few_places n =
       let h = len-from_list (cells_from 0 n) in
-      let e = length-map (filter p (range_with_len 0 n)) cell_of_place in
+      let e = length-map (filter p (range_with_len 0 n)) cell_of_index in
       let f = length-filter p (range_with_len 0 n) in
       let g = count_by-le-length p (range_with_len 0 n) in
       let m = length-range_with_len 0 n in
@@ -99,7 +99,7 @@ module _ (p : ℕ → Bool) where
 -- ---- decoding
 
 -- the place of a cell of a normal set of at most 40 by 40
-place_of : (X : Cells) → normal X ≡ X → fits X ≡ true → (row column : ℤ) → Has X (record { row = row; column = column }) → (i : ℕ) × (i < 1600) × (record { row = row; column = column } ≡ cell_of_place i)
+place_of : (X : Cells) → normal X ≡ X → fits X ≡ true → (row column : ℤ) → Has X (record { row = row; column = column }) → (i : ℕ) × (i < 1600) × (record { row = row; column = column } ≡ cell_of_index i)
 place_of X at_origin small (pos y) (pos x) has =
     let a = within_width X (cell x y) has in
     let b = within_height X (cell x y) has in

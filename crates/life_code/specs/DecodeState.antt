@@ -14,7 +14,7 @@ has_bit n value = ((value / 2 ^ n) % 2) == 1
 
 -- whether a text spells the cell in column x and row y, counted from the top of a strip; the text continues at column k of that strip, after a `y` if the flag is set
 unfoldable pub spells_cell : ℕ → Bool → List ℕ → ℕ → ℕ → Bool
-spells_cell k behind_y [] x y = false
+spells_cell k after_y [] x y = false
 spells_cell k true (c ∷ text) x y = spells_cell (k + 4 + value_of c) false text x y
 spells_cell k false (c ∷ text) x y =
     if c == letter_z then (if nat_lt y 5 then false else spells_cell 0 false text x (y - 5))
@@ -26,9 +26,9 @@ spells_cell k false (c ∷ text) x y =
     else spells_cell (k + 1) false text x y
 
 -- the cell of place i of a box of 40 columns, row by row
-abbrev pub cell_of_place : ℕ → Cell
-cell_of_place i = cell_at (pos (i % 40), pos (i / 40))
+abbrev pub cell_of_index : ℕ → Cell
+cell_of_index i = cell_at (pos (i % 40), pos (i / 40))
 
 -- the cells of the box of 40 by 40 that a text spells
 unfoldable pub decoded : List ℕ → Cells
-decoded text = set.from_list (map cell_of_place (filter (λ i. spells_cell 0 false text (i % 40) (i / 40)) (range_with_len 0 1600)))
+decoded text = set.from_list (map cell_of_index (filter (λ i. spells_cell 0 false text (i % 40) (i / 40)) (range_with_len 0 1600)))

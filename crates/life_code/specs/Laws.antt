@@ -53,7 +53,7 @@ BoxesHaveOneSize = (X : Cells) (left top : ℤ) (columns rows : ℕ) → normal 
 -- the columns that the text of a strip stands for: `0`, `w` and `x` for one, two and three of zero, `y` and a character for four more than
 -- it says, and another character for a column of its value; the flag says that the character before was `y`
 unfoldable pub columns_of : Bool → List ℕ → List ℕ
-columns_of behind_y [] = []
+columns_of after_y [] = []
 columns_of true (c ∷ text) = replicate (4 + value_of c) 0 ++ columns_of false text
 columns_of false (c ∷ text) =
     if c == digit_0 then replicate 1 0 ++ columns_of false text

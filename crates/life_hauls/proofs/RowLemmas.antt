@@ -96,16 +96,16 @@ module _ {A : Type 0} (i : ℕ) (t : List ℕ) where
   -- a new row
   pub new_row : (rows : List (HaulRow A)) (k : ℕ) (row : HaulRow A) → IsSorted (map row_seen rows) → row_seen row ≡ (t, once i) → AreBelow rows t k → IsPlaceFor rows t k
       → map row_seen (insert rows k row) ≡ noted i (map row_seen rows) t
-  new_row [] zero row sorted new below place = ap (λ e. e ∷ []) new
-  new_row [] (suc k) row sorted new below place = let end = place.0 in absurd (omega (arith, end))
-  new_row (r ∷ rs) zero row sorted new below place =
-      let less = place.1 (omega arith) r in
+  new_row [] zero row sorted new below index = ap (λ e. e ∷ []) new
+  new_row [] (suc k) row sorted new below index = let end = index.0 in absurd (omega (arith, end))
+  new_row (r ∷ rs) zero row sorted new below index =
+      let less = index.1 (omega arith) r in
       ap (λ e. e ∷ row_seen r ∷ map row_seen rs) new
       ∙ sym (ap (put_one i t (map row_seen (r ∷ rs))) (none_below t (row_seen r) (map row_seen rs) less sorted)
       ∙ ap (λ o. match_ordering o ((t, once i) ∷ map row_seen (r ∷ rs)) ((r.code, once i) ∷ map row_seen rs) (row_seen r ∷ table.put row_cmp t (once i) (map row_seen rs))) less)
-  new_row (r ∷ rs) (suc k) row sorted new below place =
-      let end = place.0 in
-      ap (λ es. row_seen r ∷ es) (new_row rs k row (sorted_rest (row_seen r) (map row_seen rs) sorted) new (below_rest r rs k below) (omega (arith, end), λ low d. place.1 (omega (arith, low)) d))
+  new_row (r ∷ rs) (suc k) row sorted new below index =
+      let end = index.0 in
+      ap (λ es. row_seen r ∷ es) (new_row rs k row (sorted_rest (row_seen r) (map row_seen rs) sorted) new (below_rest r rs k below) (omega (arith, end), λ low d. index.1 (omega (arith, low)) d))
       ∙ sym (passed r rs (below 0 r (omega arith)))
 
   -- one more in a row
@@ -126,16 +126,16 @@ module _ {A : Type 0} (i : ℕ) (t : List ℕ) where
 module _ {A : Type 0} (i : ℕ) (rows ys : List (HaulRow A)) (t s : List ℕ) (same : ys ≡ rows) (text : s ≡ t) where
   pub new_row_at : (k : ℕ) (zs : List (HaulRow A)) (code : List ℕ) (v : Sighting) → IsSorted (map row_seen rows) → zs ≡ insert rows k (record { code = code; seen = v }) → code ≡ t → v ≡ once i → AreBelow ys s k → IsPlaceFor ys s k
       → map row_seen zs ≡ noted i (map row_seen rows) t
-  new_row_at k zs code v sorted made is one below place =
+  new_row_at k zs code v sorted made is one below index =
       ap (map row_seen) made
       ∙ new_row i t rows k (record { code = code; seen = v }) sorted (λ j. (is j, one j))
       (subst (λ (us : List (HaulRow A)). AreBelow us t k) same (subst (λ (u : List ℕ). AreBelow ys u k) text below))
-      (subst (λ (us : List (HaulRow A)). IsPlaceFor us t k) same (subst (λ (u : List ℕ). IsPlaceFor ys u k) text place))
+      (subst (λ (us : List (HaulRow A)). IsPlaceFor us t k) same (subst (λ (u : List ℕ). IsPlaceFor ys u k) text index))
 
   pub old_row_at : (k : ℕ) (read written : HaulRow A) (v : Sighting) → read ≡ slice_index_or rows k read → written ≡ slice_index_or rows k written → v ≡ more (Some read.seen) (once i) → AreBelow ys s k → IsRowOf ys s k
       → map row_seen (set rows k (record { code = written.code; seen = v })) ≡ noted i (map row_seen rows) t
-  old_row_at k read written v item place is below here =
+  old_row_at k read written v item index is below here =
       let here' : IsRowOf rows t k = subst (λ (us : List (HaulRow A)). IsRowOf us t k) same (subst (λ (u : List ℕ). IsRowOf ys u k) text here) in
-      let one : read ≡ written = item ∙ get_or_default rows k read written here'.0 ∙ sym place in
-      old_row i t rows k (record { code = written.code; seen = v }) written place refl (is ∙ ap (λ (r : HaulRow A). more (Some r.seen) (once i)) one)
+      let one : read ≡ written = item ∙ get_or_default rows k read written here'.0 ∙ sym index in
+      old_row i t rows k (record { code = written.code; seen = v }) written index refl (is ∙ ap (λ (r : HaulRow A). more (Some r.seen) (once i)) one)
       (subst (λ (us : List (HaulRow A)). AreBelow us t k) same (subst (λ (u : List ℕ). AreBelow ys u k) text below)) here'

@@ -211,11 +211,11 @@ bits_are_cells s root i j k few bits =
     let bytes = sha256 (root ++ decimal i) in
     let q = 8 * j + k in
     let low : q < 256 = omega (arith, few, bits) in
-    let place = cell_of_bit s j k bits in
+    let index = cell_of_bit s j k bits in
     let byte : q / 8 ≡ j = omega (arith, bits) in
     let bit : q % 8 ≡ k = omega (arith, bits) in
     live_at s root i (record { row = pos (j / row_bytes s); column = pos (k + 8 * (j % row_bytes s)) })
-    ∙ (λ m. has_cell (soup_cells s bytes) (record { row = pos (place.0 m); column = pos (place.1 m) }))
+    ∙ (λ m. has_cell (soup_cells s bytes) (record { row = pos (index.0 m); column = pos (index.1 m) }))
     ∙ images_in_field (mirror s) (width s) bytes q
     ∙ live_bits (width s) bytes q low
     ∙ (λ m. (slice_index bytes (byte m) / 2 ^ (7 - bit m)) % 2 == 1)

@@ -55,7 +55,7 @@ fn note<A: Allocator + Copy>(
     Ok(())
 }
 
-/// The place of a code among rows, or the place where it belongs.
+/// The index of a code among rows, or the one where it belongs.
 fn place_of<A: Allocator>(rows: &[HaulRow<A>], code: &[u8]) -> Result<usize, usize>
     requires { T (table.is_sorted row_cmp (map row_seen rows.now)) }
     ensures before { MatchResult result (AreBelow rows.now code.now) (AreBelow rows.now code.now) }
@@ -71,7 +71,7 @@ fn place_of<A: Allocator>(rows: &[HaulRow<A>], code: &[u8]) -> Result<usize, usi
     }
 }
 
-/// The place of the first row whose code is not below a code.
+/// The index of the first row whose code is not below a code.
 fn first_not_below<A: Allocator>(rows: &[HaulRow<A>], code: &[u8]) -> usize
     requires { T (table.is_sorted row_cmp (map row_seen rows.now)) }
     ensures bound { result ≤ length rows.now }

@@ -83,31 +83,31 @@ fn live_cells<A: Allocator>(
     ensures inside { IfOk result (λ v. All (IsCellWithin 255) v.items) }
 {
     let mut cells = Vec::new(alloc);
-    for place in 0..256 {
-        if bit_at(digest, place) {
-            cells.push(field_cell(width, place))?;
+    for index in 0..256 {
+        if bit_at(digest, index) {
+            cells.push(field_cell(width, index))?;
         }
     }
     Ok(cells)
 }
 
-/// Whether the bit at this place is 1, of each byte the highest first.
-fn bit_at(digest: &[u8; 32], place: usize) -> bool
-    requires { place < 256 }
-    ensures { result ≡ bit_at digest.now place }
+/// Whether the bit of this index is 1, of each byte the highest first.
+fn bit_at(digest: &[u8; 32], index: usize) -> bool
+    requires { index < 256 }
+    ensures { result ≡ bit_at digest.now index }
 {
-    (digest[place / 8] >> (7 - place % 8)) % 2 == 1
+    (digest[index / 8] >> (7 - index % 8)) % 2 == 1
 }
 
-/// The cell at this place of the field, row by row in rows of so many cells.
-fn field_cell(width: usize, place: usize) -> Cell
+/// The cell of this index in the field, row by row in rows of so many cells.
+fn field_cell(width: usize, index: usize) -> Cell
     requires some { 0 < width }
-    requires place { place < 256 }
-    ensures cell { result ≡ field_cell width place }
+    requires index { index < 256 }
+    ensures cell { result ≡ field_cell width index }
     ensures inside { IsCellWithin 255 result }
 {
     Cell {
-        row: (place / width) as i64,
-        column: (place % width) as i64,
+        row: (index / width) as i64,
+        column: (index % width) as i64,
     }
 }

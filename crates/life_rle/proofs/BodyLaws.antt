@@ -6,18 +6,18 @@ use Rattle.std.proofs.lemmas.Bool.{cases_eq, cases_lt, ne_eqb, lt-ltb, le-ltb, l
 use Rattle.life_rle.specs.declared.fault.RleFault.{RleFault}
 use Rattle.life_rle.specs.declared.fault.RleFault.TheVariants.{BadCount, TooWide, NoEnd}
 use Rattle.life_rle.specs.Body.{Item, count_of, is_bad_number, is_end, row_after, column_after, run, placed_after, placed, items_after, fault_at, fault_at_tag, unless_faulty, judged_after, placed_unless_faulty, body_cells}
-use Rattle.life_rle.specs.BodyState.{Place, start, Step, goes, ends, fails, next_count, is_bad_count, moved, down, live, item_step, step, going, body_from}
+use Rattle.life_rle.specs.BodyState.{Position, start, Step, goes, ends, fails, next_count, is_bad_count, moved, down, live, item_step, step, going, body_from}
 use Rattle.life_rle.proofs.BodyCounts.{so_far, so_far_push, bad_so_far, count_so_far, count_above}
 use Rattle.life_rle.proofs.BodyPositions.{row_after_push, column_after_row_end, column_after_push, placed_push}
 
 -- where an item stands after these items, with these digits of its count
-abbrev pub stands : List Item → List ℕ → Place
+abbrev pub stands : List Item → List ℕ → Position
 stands before digits = record { row = min (row_after before) 1024; column = min (column_after before) 1024; count = so_far digits; cells = placed before }
 
 abbrev item_of : List ℕ → ℕ → Item
 item_of digits b = record { digits = digits; tag = Some b }
 
-same_place : (r r' c c' : ℕ) (cells cells' : List (ℕ × ℕ)) → r ≡ r' → c ≡ c' → cells ≡ cells' → (let p : Place = record { row = r; column = c; count = None; cells = cells } in p) ≡ (let p : Place = record { row = r'; column = c'; count = None; cells = cells' } in p)
+same_place : (r r' c c' : ℕ) (cells cells' : List (ℕ × ℕ)) → r ≡ r' → c ≡ c' → cells ≡ cells' → (let p : Position = record { row = r; column = c; count = None; cells = cells } in p) ≡ (let p : Position = record { row = r'; column = c'; count = None; cells = cells' } in p)
 same_place r r' c c' cells cells' er ec e = cc
 
 -- the steps of one item, by its tag, for a count that is not wrong
@@ -53,15 +53,15 @@ stands_live before digits in_columns in_rows =
     same_place _ _ _ _ _ _ r c p
 
 -- steps, by cases
-pub step_digit : (p : Place) (b : ℕ) → is_ascii_digit b ≡ true → step p b ≡ goes (record p { count = Some (next_count p.count b) })
+pub step_digit : (p : Position) (b : ℕ) → is_ascii_digit b ≡ true → step p b ≡ goes (record p { count = Some (next_count p.count b) })
 unfolding step
 step_digit p b h = rw h refl
 
-step_bad : (p : Place) (b : ℕ) → is_ascii_digit b ≡ false → is_bad_count p.count ≡ true → step p b ≡ fails BadCount
+step_bad : (p : Position) (b : ℕ) → is_ascii_digit b ≡ false → is_bad_count p.count ≡ true → step p b ≡ fails BadCount
 unfolding step
 step_bad p b h bad = rw (h, bad) refl
 
-pub step_good : (p : Place) (b : ℕ) → is_ascii_digit b ≡ false → is_bad_count p.count ≡ false → step p b ≡ cond (eqb b 33) (cond (is_some p.count) (fails BadCount) (ends p.cells)) (item_step p (unwrap_or p.count 1) b)
+pub step_good : (p : Position) (b : ℕ) → is_ascii_digit b ≡ false → is_bad_count p.count ≡ false → step p b ≡ cond (eqb b 33) (cond (is_some p.count) (fails BadCount) (ends p.cells)) (item_step p (unwrap_or p.count 1) b)
 unfolding step
 step_good p b h good = rw (h, good) refl
 
@@ -159,7 +159,7 @@ unfolding body_from items_after judged_after
 at_file_end before [] = refl
 at_file_end before (d ∷ ds) = elim (is_bad_number (count_of (d ∷ ds))) as (λ t. Err BadCount ≡ placed_unless_faulty (unless_faulty (cond t (Some BadCount) (Some BadCount)) (Err NoEnd))) [ true ↦ refl | false ↦ refl ]
 
-pub body_next : (p : Place) (b : ℕ) (bytes : List ℕ) → body_from p (b ∷ bytes) ≡ onward bytes (step p b)
+pub body_next : (p : Position) (b : ℕ) (bytes : List ℕ) → body_from p (b ∷ bytes) ≡ onward bytes (step p b)
 unfolding body_from
 body_next p b bytes = refl
 
@@ -175,7 +175,7 @@ by_digit : (bytes : List ℕ) → Agrees bytes → (before : List Item) (digits 
     onward bytes (step (stands before digits) b) ≡ placed_unless_faulty (judged_after before (items_after digits (b ∷ bytes)))
 by_digit bytes agrees before digits b true h =
     ap (λ s. onward bytes s) (step_digit (stands before digits) b h)
-    ∙ ap (λ c. body_from (let p : Place = record { row = min (row_after before) 1024; column = min (column_after before) 1024; count = c; cells = placed before } in p) bytes) (so_far_push digits b h)
+    ∙ ap (λ c. body_from (let p : Position = record { row = min (row_after before) 1024; column = min (column_after before) 1024; count = c; cells = placed before } in p) bytes) (so_far_push digits b h)
     ∙ agrees before (digits ++ b ∷ [])
     ∙ sym (ap (λ items. placed_unless_faulty (judged_after before items)) (items_digit digits b bytes h))
 by_digit bytes agrees before digits b false h =

@@ -10,17 +10,17 @@ use Rattle.std.proofs.lemmas.List.{append_assoc, append-nil}
 use Rattle.std.proofs.lemmas.Bool.{cases_eq, cases_lt, ne_eqb, eq-eqb, le-leb, and_from, le-ltb}
 use Rattle.life_rle.specs.declared.fault.RleFault.TheVariants.{BadCount, TooWide}
 use Rattle.life_rle.specs.Body.{run, is_bad_number}
-use Rattle.life_rle.specs.BodyState.{Place, goes, ends, fails, live, item_step, going, body_from, is_bad_count}
+use Rattle.life_rle.specs.BodyState.{Position, goes, ends, fails, live, item_step, going, body_from, is_bad_count}
 use Rattle.life_rle.specs.Writer.{item_text}
 use Rattle.life_rle.specs.WriterState.{counted}
 use Rattle.life_rle.proofs.BodyCounts.{so_far, so_far_push}
 use Rattle.life_rle.proofs.BodyLaws.{step_digit, step_good, body_next}
 
 -- between two items, and after these digits of a count
-abbrev pub between : ℕ → ℕ → List (ℕ × ℕ) → Place
+abbrev pub between : ℕ → ℕ → List (ℕ × ℕ) → Position
 between row column cells = record { row = row; column = column; count = None; cells = cells }
 
-abbrev pub counting : ℕ → ℕ → List (ℕ × ℕ) → Option ℕ → Place
+abbrev pub counting : ℕ → ℕ → List (ℕ × ℕ) → Option ℕ → Position
 counting row column cells count = record { row = row; column = column; count = count; cells = cells }
 
 pub is_digit : (c : ℕ) → digit_value c < 10 → is_ascii_digit c ≡ true

@@ -12,19 +12,19 @@ use Rattle.life_rle.specs.Body.{run, is_bad_number}
 use Rattle.life_rle.specs.Writer.{coordinates}
 
 -- where the next item stands, the count so far, and the cells placed so far. A row or a column past 1023 is 1024, and a count over 1,000,000 is 1,000,001.
-pub record Place : Type 0 where
+pub record Position : Type 0 where
   pub row : ℕ
   pub column : ℕ
   pub count : Option ℕ
   pub cells : List (ℕ × ℕ)
 
 -- where a body starts
-abbrev pub start : Place
+abbrev pub start : Position
 start = record { row = 0; column = 0; count = None; cells = [] }
 
 -- a byte leads to a place, to the end with its cells, or to a fault
 pub data Step : Type 0 where
-  goes : Place → Step
+  goes : Position → Step
   ends : List (ℕ × ℕ) → Step
   fails : RleFault → Step
 
@@ -38,19 +38,19 @@ is_bad_count None = false
 is_bad_count (Some n) = is_bad_number n
 
 -- after a run of dead cells
-abbrev pub moved : Place → ℕ → Place
+abbrev pub moved : Position → ℕ → Position
 moved p n = record { row = p.row; column = min (p.column + n) 1024; count = None; cells = p.cells }
 
 -- after row ends
-abbrev pub down : Place → ℕ → Place
+abbrev pub down : Position → ℕ → Position
 down p n = record { row = min (p.row + n) 1024; column = 0; count = None; cells = p.cells }
 
 -- after a run of live cells
-abbrev pub live : Place → ℕ → Place
+abbrev pub live : Position → ℕ → Position
 live p n = record { row = p.row; column = p.column + n; count = None; cells = p.cells ++ run p.column p.row n }
 
 -- an item with this tag and this count
-abbrev pub item_step : Place → ℕ → ℕ → Step
+abbrev pub item_step : Position → ℕ → ℕ → Step
 item_step p n b =
     if b == dead_tag then goes (moved p n)
     else (if b == row_end_tag then goes (down p n)
@@ -59,7 +59,7 @@ item_step p n b =
     else goes (live p n))))
 
 -- what the next byte leads to
-unfoldable pub step : Place → ℕ → Step
+unfoldable pub step : Position → ℕ → Step
 step p b =
     if is_ascii_digit b then goes (record p { count = Some (next_count p.count b) })
     else (if is_bad_count p.count then fails BadCount
@@ -67,34 +67,34 @@ step p b =
     else item_step p (unwrap_or p.count 1) b))
 
 -- What the function of a step answered, with the place that it left. If there is a place to go on at, memory may be refused.
-abbrev pub Took : Step → Place → Result Bool RleFault → Type 0
+abbrev pub Took : Step → Position → Result Bool RleFault → Type 0
 Took (goes q) new answer = MatchResult answer (λ ended. (ended ≡ false) × (new ≡ q)) (λ e. e ≡ Memory)
 Took (ends cells) new answer = (answer ≡ Ok true) × (new.cells ≡ cells)
 Took (fails fault) new answer = answer ≡ Err fault
 
 -- the same for a function that never ends the body
-abbrev pub Acts : {X : Type 0} → Step → Place → Result X RleFault → Type 0
+abbrev pub Acts : {X : Type 0} → Step → Position → Result X RleFault → Type 0
 Acts (goes q) new answer = MatchResult answer (λ _. new ≡ q) (λ e. e ≡ Memory)
 Acts (ends cells) new answer = ⊥
 Acts (fails fault) new answer = answer ≡ Err fault
 
 -- what follows from where a step leads to
-abbrev pub going : Step → (Place → Result (List (ℕ × ℕ)) RleFault) → Result (List (ℕ × ℕ)) RleFault
+abbrev pub going : Step → (Position → Result (List (ℕ × ℕ)) RleFault) → Result (List (ℕ × ℕ)) RleFault
 going (goes q) next = next q
 going (ends cells) next = Ok cells
 going (fails fault) next = Err fault
 
 -- the cells that a body places from here on, with those so far, or its first fault
-unfoldable pub body_from : Place → List ℕ → Result (List (ℕ × ℕ)) RleFault
+unfoldable pub body_from : Position → List ℕ → Result (List (ℕ × ℕ)) RleFault
 body_from p [] = if is_some p.count then Err BadCount else Err NoEnd
 body_from p (b ∷ bytes) = going (step p b) (λ q. body_from q bytes)
 
 -- what a body so far means
-abbrev pub place_reached : {A : Type 0} → Body A → Place
+abbrev pub place_reached : {A : Type 0} → Body A → Position
 place_reached b = record { row = b.row; column = b.column; count = b.count; cells = map coordinates b.cells }
 
 -- the cells or the fault by how far the body has come, if these bytes are what is left
-abbrev pub outcome_at : Progress → Place → List ℕ → Result (List (ℕ × ℕ)) RleFault
+abbrev pub outcome_at : Progress → Position → List ℕ → Result (List (ℕ × ℕ)) RleFault
 outcome_at More p rest = body_from p rest
 outcome_at Ended p rest = Ok p.cells
 outcome_at (Failed fault) p rest = Err fault

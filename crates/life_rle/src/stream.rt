@@ -21,7 +21,7 @@ pub trait Inlet {
 
     ghost ends: { Self → ℕ };
 
-    /// Takes some of the next bytes into the front of `place`.
+    /// Takes some of the next bytes into the front of `space`.
     fn take(&mut self, space: &mut [u8]) -> Result<usize, Failed>
         ensures within { IfOk result (λ k. k ≤ length space.new) }
         ensures bytes { Takes (to_come self.old) (to_come self.new) result space.new }

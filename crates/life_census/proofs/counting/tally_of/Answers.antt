@@ -29,18 +29,18 @@ offset_bounds-clusters-cluster-index g c = omega (arith, c.loop-cluster-test.tru
 pub bounds-clusters-cluster-index : goal.bounds-clusters-cluster-index
 bounds-clusters-cluster-index g c = c.loop-cluster-test.true
 
-pub shape_place-requires-clause-room : goal.shape_place-requires-clause-room
-shape_place-requires-clause-room g c =
+pub shape_index-requires-clause-room : goal.shape_index-requires-clause-room
+shape_index-requires-clause-room g c =
     subst (IsWithin 400000000) (sym c.cluster-item.is) (c.requires.room c.loop-cluster.cluster-index c.cluster-item.result c.loop-cluster-test.true)
 
-pub shape_place-requires-clause-survey : goal.shape_place-requires-clause-survey
-shape_place-requires-clause-survey g c = c.loop-cluster.invariant.survey
+pub shape_index-requires-clause-survey : goal.shape_index-requires-clause-survey
+shape_index-requires-clause-survey g c = c.loop-cluster.invariant.survey
 
 pub returns-in_err-i : goal.returns-in_err-i
 returns-in_err-i g c = IfOk-from_err c.from_residual.result _ c.from_residual.ensures.0
 
 pub index-requires : goal.index-requires
-index-requires g c = omega (arith, c.in_ok-i.ensures.code.0, c.shape_place.new.shapes.ok)
+index-requires g c = omega (arith, c.in_ok-i.ensures.code.0, c.shape_index.new.shapes.ok)
 
 pub count_code-requires : goal.count_code-requires
 count_code-requires g c k d low =
@@ -69,7 +69,7 @@ loop-cluster-preserved g c =
           let text : List ℕ = w.in-Some.code in
           let named : code (get_or c.args.clusters.now i item) ≡ Some text = answer ∙ w.in-Some.is in
           record {
-            survey = c.shape_place.ensures.survey;
+            survey = c.shape_index.ensures.survey;
             rows = rw w.rows-is (w.in_ok-count_code-in-Some.ensures.counted ∙ ap (λ es. one_more es text) before.rows ∙ sym (with_code code c.args.clusters.now i item low text named));
             unresolved = rw w.unresolved-is (before.unresolved ∙ sym (resolved code c.args.clusters.now i item low text named));
             bounded = rw w.rows-is (w.in_ok-count_code-in-Some.ensures.bounded i before.bounded);
@@ -78,7 +78,7 @@ loop-cluster-preserved g c =
       | in-None w ↦
           let nameless : code (get_or c.args.clusters.now i item) ≡ None = answer ∙ w.in-None.is in
           record {
-            survey = c.shape_place.ensures.survey;
+            survey = c.shape_index.ensures.survey;
             rows = rw w.rows-is (before.rows ∙ sym (without_code code c.args.clusters.now i item low nameless));
             unresolved = w.unresolved-is ∙ ap (λ n. n + 1) before.unresolved ∙ sym (unresolved code c.args.clusters.now i item low nameless);
             bounded = rw w.rows-is (All-weaker (λ (r : Row g.row.A.Denot). r.count ≤ i) (λ (r : Row g.row.A.Denot). r.count ≤ i + 1) (λ (r : Row g.row.A.Denot) h. let k : r.count ≤ i = h in omega arith) c.loop-cluster.rows.items before.bounded);

@@ -13,15 +13,15 @@ use Rattle.life_census.proofs.meeting.all_visits.Goals as goal
 pub returns-in_default-clause-stay : goal.returns-in_default-clause-stay
 returns-in_default-clause-stay g c all =
     let P = c.index-clusters-number.result in
-    goes_at c.args.rule.now c.args.limit c.shape_place.new.shapes.items P c.in_ok-i.i c.in_ok-i.move_by c.in_ok-i.ensures.place c.index.result.now c.index.ensures c.in_ok-i.ensures.survey c.in_default.is
+    goes_at c.args.rule.now c.args.limit c.shape_index.new.shapes.items P c.in_ok-i.i c.in_ok-i.move_by c.in_ok-i.ensures.index c.index.result.now c.index.ensures c.in_ok-i.ensures.survey c.in_default.is
     (subst (Stays c.args.rule.now c.args.limit) (sym c.index-clusters-number.is) (all c.loop-number.number P c.loop-number-test.true))
 
 pub visit_cells-requires : goal.visit_cells-requires
 visit_cells-requires g c =
     let r = c.args.rule.now in
     let P = c.index-clusters-number.result in
-    let is = moved_shape r c.args.limit c.shape_place.new.shapes.items P c.in_ok-i.i c.in_ok-i.move_by c.in_ok-i.ensures.place c.index.result.now c.index.ensures c.in_ok-i.ensures.survey in
-    let are = phases_at r c.args.limit c.shape_place.new.shapes.items P c.in_ok-i.i c.in_ok-i.move_by c.in_ok-i.ensures.place c.index.result.now c.index.ensures c.in_ok-i.ensures.survey c.in-Some.phases c.in-Some.is in
+    let is = moved_shape r c.args.limit c.shape_index.new.shapes.items P c.in_ok-i.i c.in_ok-i.move_by c.in_ok-i.ensures.index c.index.result.now c.index.ensures c.in_ok-i.ensures.survey in
+    let are = phases_at r c.args.limit c.shape_index.new.shapes.items P c.in_ok-i.i c.in_ok-i.move_by c.in_ok-i.ensures.index c.index.result.now c.index.ensures c.in_ok-i.ensures.survey c.in-Some.phases c.in-Some.is in
     let room = subst (IsWithin 400000000) (sym c.index-clusters-number.is) (c.requires.room c.loop-number.number P c.loop-number-test.true) in
     let few : are.0 ≤ PERIOD_LIMIT = omega (arith, are.1.few, c.requires.survey.few) in
     phases_inside r c.index.result.now.cluster P c.in_ok-i.move_by are.0 c.deref.result.now is room few (c.deref.ensures.value ∙ are.2)
@@ -37,8 +37,8 @@ loop-number-preserved g c =
     let v = c.in_ok-i.move_by in
     let X = c.index.result.now.cluster in
     let before = c.loop-number.invariant in
-    let is = moved_shape r limit c.shape_place.new.shapes.items P c.in_ok-i.i v c.in_ok-i.ensures.place c.index.result.now c.index.ensures c.in_ok-i.ensures.survey in
-    let are = phases_at r limit c.shape_place.new.shapes.items P c.in_ok-i.i v c.in_ok-i.ensures.place c.index.result.now c.index.ensures c.in_ok-i.ensures.survey c.in-Some.phases c.in-Some.is in
+    let is = moved_shape r limit c.shape_index.new.shapes.items P c.in_ok-i.i v c.in_ok-i.ensures.index c.index.result.now c.index.ensures c.in_ok-i.ensures.survey in
+    let are = phases_at r limit c.shape_index.new.shapes.items P c.in_ok-i.i v c.in_ok-i.ensures.index c.index.result.now c.index.ensures c.in_ok-i.ensures.survey c.in-Some.phases c.in-Some.is in
     let room = subst (IsWithin 400000000) (sym c.index-clusters-number.is) (c.requires.room n P low) in
     let few : are.0 ≤ PERIOD_LIMIT = omega (arith, are.1.few, c.requires.survey.few) in
     let cells = c.deref.ensures.value ∙ are.2 in

@@ -13,7 +13,7 @@ loop-cluster-preserved g c =
     let item = c.cluster-item.result in
     let answer = ap (λ one. one.code) c.index.ensures ∙ c.in_ok-i.ensures.code.1 c.index.result.now ∙ ap code c.cluster-item.is in
     record {
-      survey = c.shape_place.ensures.survey;
+      survey = c.shape_index.ensures.survey;
       codes =
           c.in_ok-put_code.ensures
           ∙ ap (λ (os : List (Option (List ℕ))). os ++ c.index.result.now.code ∷ []) c.loop-cluster.invariant.codes

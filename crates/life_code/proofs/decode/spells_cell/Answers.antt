@@ -7,6 +7,6 @@ use Rattle.life_code.proofs.decode.spells_cell.Goals as goal
 pub returns : goal.returns
 returns c =
     let past : length c.args.text.now ≤ c.loop-c.c-index = omega arith in
-    sym (spells_nothing c.loop-c.place.column c.loop-c.place.behind_y c.args.x c.loop-c.place.row)
-    ∙ ap (λ t. spells_cell c.loop-c.place.column c.loop-c.place.behind_y t c.args.x c.loop-c.place.row) (sym (drop_of_length-le c.args.text.now past))
+    sym (spells_nothing c.loop-c.reading.column c.loop-c.reading.after_y c.args.x c.loop-c.reading.row)
+    ∙ ap (λ t. spells_cell c.loop-c.reading.column c.loop-c.reading.after_y t c.args.x c.loop-c.reading.row) (sym (drop_of_length-le c.args.text.now past))
     ∙ c.loop-c.invariant.reads

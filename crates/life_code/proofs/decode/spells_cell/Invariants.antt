@@ -4,6 +4,6 @@ use Rattle.life_code.proofs.decode.spells_cell.Given as goal
 
 abbrev pub invariant-loop-c : goal.invariant-loop-c
 invariant-loop-c l = record {
-  reads : spells_cell l.place.column l.place.behind_y (drop l.c-index l.text) l.x l.place.row ≡ spells_cell 0 false l.text l.x l.y;
-  near : l.place.column ≤ 300 * l.c-index;
+  reads : spells_cell l.reading.column l.reading.after_y (drop l.c-index l.text) l.x l.reading.row ≡ spells_cell 0 false l.text l.x l.y;
+  near : l.reading.column ≤ 300 * l.c-index;
 }

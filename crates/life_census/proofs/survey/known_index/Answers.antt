@@ -1,6 +1,6 @@
 use Rattle.std.proofs.Common.{rules, SFits, w64, to_z-of_z}
 use Rattle.life_census.proofs.SurveyLaws.{shape_moved}
-use Rattle.life_census.proofs.survey.known_place.Goals as goal
+use Rattle.life_census.proofs.survey.known_index.Goals as goal
 
 pub returns-in-Some : goal.returns-in-Some
 returns-in-Some g c =

@@ -7,7 +7,7 @@ use Rattle.life_census.specs.Steady.{is_steady}
 use Rattle.life_census.specs.Laws.{SteadyIsDecided}
 use Rattle.life_store.specs.declared.kept.Deposit.{Deposit}
 use Rattle.life_store.specs.declared.kept.Census.{Census}
-use Rattle.life_store.specs.Carrying.{CarriedOver, IsFlagged, unflagged}
+use Rattle.life_store.specs.Migration.{Migrated, IsFlagged, unflagged}
 use Rattle.life_store.specs.Kept.{Kept, Tallied}
 use Rattle.life_store.specs.Tables.{Tables, Holds}
 use Rattle.life_desk.specs.Archive.{Archive, tally_at, steady_at, steady_for}
@@ -44,7 +44,7 @@ same_tallied decided ds (c ∷ cs) (t ∷ ts) same flagged =
     ap₂ (λ (x : Tallied) (xs : List Tallied). x ∷ xs) (one_is t c (tally_at ds c) (steady_at ds c) census tally (flag_is decided ds c t census flagged.0)) (same_tallied decided ds cs ts rest flagged.1)
 
 -- so what was migrated is the archive
-pub migrated_is : SteadyIsDecided → (t : Tables) (A : Archive) → CarriedOver t (kept_of A) → Holds t (kept_of A)
+pub migrated_is : SteadyIsDecided → (t : Tables) (A : Archive) → Migrated t (kept_of A) → Holds t (kept_of A)
 migrated_is decided t A it =
     let same : it.censuses ≡ map (tallied A.deposits) A.censuses = same_tallied decided A.deposits A.censuses it.censuses it.same it.flagged in
     subst (λ (ts : List Tallied). let k : Kept = record { deposits = A.deposits; censuses = ts } in Holds t k) same it.holds

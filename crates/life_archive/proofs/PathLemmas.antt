@@ -25,7 +25,7 @@ module _ {D : Type 0} {g : disk.Ghosts D} (a last : ArchiveView (FileStore D g))
   closed_leaves image capacity opens A fits begins clean =
       let now = healthy clean in
       let was = serves.served.transition.was_healthy now in
-      let done = serves.served.run now A (begun_with a image opens.found opens.fresh opens.carried decided capacity opens.capacity A fits begins was) in
+      let done = serves.served.run now A (begun_with a image opens.found opens.fresh opens.migrated decided capacity opens.capacity A fits begins was) in
       let held = holds_of last done.0 done.2 in
       (done.0, done.1, λ image may. (each_of last done.0 done.2, left (kept_of done.0) clean held image may), (each_of last done.0 done.2, alone (kept_of done.0) clean held))
 

@@ -19,7 +19,7 @@ use Rattle.life_store.specs.Crash.{NoMore}
 use Rattle.life_store.specs.declared.kept.Deposit.{Deposit}
 use Rattle.life_store.specs.declared.kept.Census.{Census}
 use Rattle.life_store.specs.Kept.{Kept}
-use Rattle.life_store.specs.Carrying.{CarriedOver}
+use Rattle.life_store.specs.Migration.{Migrated}
 use Rattle.life_store.specs.Opening.{FilesHold, FilesHoldFirst, LeftHold, AreLeftOf, ListNothing, nothing_kept}
 use Rattle.life_store.specs.Tables.{ArchiveView, Holds, TreesHold, IsTransition, HoldsTheSame, IsHealthyIfClean}
 use Rattle.life_desk.specs.declared.request.Request.{Request}
@@ -183,7 +183,7 @@ either_clean {D} g files left is clean = subst (λ (x : Files D). AreClean g x.l
 
 -- an archive that an opening found
 module _ {D : Type 0} {g : disk.Ghosts D} (a : ArchiveView (FileStore D g)) (image : Image) (found : (k : Kept) → IsTrue a.tables.is_healthy → FilesHold image k → Holds a.tables k)
-    (fresh : IsTrue a.tables.is_healthy → ListNothing image → Holds a.tables nothing_kept) (carried : (k : Kept) → IsTrue a.tables.is_healthy → FilesHoldFirst image k → CarriedOver a.tables k)
+    (fresh : IsTrue a.tables.is_healthy → ListNothing image → Holds a.tables nothing_kept) (carried : (k : Kept) → IsTrue a.tables.is_healthy → FilesHoldFirst image k → Migrated a.tables k)
     (decided : SteadyIsDecided) (capacity : ℕ) (is : a.capacity ≡ capacity) where
   pub begun_with : (A : Archive) → A.capacity ≡ capacity → Begins image A → IsTrue a.tables.is_healthy → Represents a A
   unfolding Represents
@@ -199,7 +199,7 @@ module _ {D : Type 0} {g : disk.Ghosts D} (a : ArchiveView (FileStore D g)) (ima
 
 pub is_session : {D : Type 0} {g : disk.Ghosts D} (a : ArchiveView (FileStore D g)) (files : Files D) (capacity count : ℕ) (x y : Traffic) (left : Result (Files D) (Files D))
     → ((k : Kept) → IsTrue a.tables.is_healthy → FilesHold (image_of g files) k → Holds a.tables k) → (IsTrue a.tables.is_healthy → ListNothing (image_of g files) → Holds a.tables nothing_kept)
-    → ((k : Kept) → IsTrue a.tables.is_healthy → FilesHoldFirst (image_of g files) k → CarriedOver a.tables k) → SteadyIsDecided → a.capacity ≡ capacity
+    → ((k : Kept) → IsTrue a.tables.is_healthy → FilesHoldFirst (image_of g files) k → Migrated a.tables k) → SteadyIsDecided → a.capacity ≡ capacity
     → IsHealthyIfClean over_files a → (IsTrue a.tables.is_healthy → AreClean g files.log files.db) → EndsSession g a count x y left → IsSession g files capacity count x y left
 is_session {g = g} a files capacity count x y left found fresh carried decided is up honest ended = record {
   exchanges = ended.exchanges;

@@ -10,7 +10,7 @@ use Rattle.sqlite.specs.Files.{image_of, over_files}
 use Rattle.life_jobs.specs.declared.stop.Stop.TheVariants.{Unavailable}
 use Rattle.life_store.specs.declared.fault.OpenFault.{OpenFault}
 use Rattle.life_store.specs.declared.fault.OpenFault.TheVariants as faults
-use Rattle.life_store.specs.Carrying.{CarriedOver}
+use Rattle.life_store.specs.Migration.{Migrated}
 use Rattle.life_store.specs.Kept.{Kept}
 use Rattle.life_store.specs.Opening.{FilesHold, FilesHoldFirst, ListNothing, nothing_kept, without_log}
 use Rattle.life_store.specs.Tables.{ArchiveView, Holds, IsHealthyIfClean}
@@ -37,7 +37,7 @@ pub record OpensAs {D : Type 0} {g : disk.Ghosts D} (image : Image) (most : ℕ)
   pub capacity : a.capacity ≡ most
   pub healthy : IsHealthyIfClean over_files a
   pub found : (k : Kept) → IsTrue a.tables.is_healthy → FilesHold image k → Holds a.tables k
-  pub carried : (k : Kept) → IsTrue a.tables.is_healthy → FilesHoldFirst image k → CarriedOver a.tables k
+  pub migrated : (k : Kept) → IsTrue a.tables.is_healthy → FilesHoldFirst image k → Migrated a.tables k
   pub fresh : IsTrue a.tables.is_healthy → ListNothing image → Holds a.tables nothing_kept
 
 -- the line that is printed for an answer

@@ -10,8 +10,8 @@ ghost use Rattle.life_census.specs.Counting.{IsTally};
 ghost use Rattle.life_census.specs.CountingState.{one_more, AreBelow, IsRowOf, IsPlaceFor};
 ghost use Rattle.life_census.specs.SurveyState.{IsSurvey};
 
-use crate::code_text::CodeText;
 use crate::cluster::clusters;
+use crate::code_text::CodeText;
 use crate::rows::{Row, Rows, Tally};
 use crate::survey::{Shape, code_of_cluster, shape_index};
 use life_code::{Kind, PERIOD_LIMIT, kind};

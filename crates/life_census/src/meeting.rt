@@ -16,8 +16,8 @@ ghost use Rattle.life_census.specs.Steady.{Stays, IsSteady, is_steady};
 ghost use Rattle.life_census.specs.SteadyState.{visit_cmp, visit_of, IsVisitInPlane, AreVisits, ComesBefore, KeepApart, KeepApartUpTo, AreAllApart, AreRowsApart};
 ghost use Rattle.life_census.specs.SurveyState.{IsSurvey};
 
-use crate::counting::{tally_of, tally_of_one};
 use crate::cluster::clusters;
+use crate::counting::{tally_of, tally_of_one};
 use crate::rows::Tally;
 use crate::survey::{Shape, shape_index, stays};
 use life_code::{PERIOD_LIMIT, kind};

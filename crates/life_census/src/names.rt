@@ -6,8 +6,8 @@ ghost use Rattle.life_code.specs.Codes.{code_of};
 ghost use Rattle.life_census.specs.Cluster.{clusters_of};
 ghost use Rattle.life_census.specs.SurveyState.{IsSurvey};
 
-use crate::code_text::CodeText;
 use crate::cluster::clusters;
+use crate::code_text::CodeText;
 use crate::survey::{Shape, shape_index};
 use life_code::PERIOD_LIMIT;
 use life_core::{Fault, Pattern, Rule};

@@ -1,7 +1,7 @@
 //! The connections that come to a port of this machine.
 
 ghost use Rattle.std.specs.Prelude.{◌≡◌, ℕ, is_ok};
-ghost use Rattle.life_archive.specs.Session.{ServesOne, untold, failures_after};
+ghost use Rattle.life_archive.specs.Session.{ServesOne, unknown, failures_after};
 
 use crate::peer::Peer;
 use life_archive::{ArchiveStop, Connections, run_serve};
@@ -47,7 +47,7 @@ fn serve_next<S: Alter>(
     archive: &mut Archive<S>,
     listener: &Option<TcpListener>,
 ) -> Result<(), IoFault>
-    ensures { (n : ℕ) → ServesOne S.Store archive.old archive.new (untold n) (untold (failures_after (is_ok result) n)) }
+    ensures { (n : ℕ) → ServesOne S.Store archive.old archive.new (unknown n) (unknown (failures_after (is_ok result) n)) }
 {
     let Some(listener) = listener else {
         return Err(IoFault::Read);
@@ -80,7 +80,7 @@ pub struct Port<'a> {
 impl<'a> Port<'a> {
     /// The port, before it is listened at.
     pub fn new(rt: &'a HostRuntime, port: u64) -> Port<'a>
-        ensures { ⟦<Port<'static> as Connections>⟧.traffic result ≡ untold 0 }
+        ensures { ⟦<Port<'static> as Connections>⟧.traffic result ≡ unknown 0 }
     {
         Port {
             rt,
@@ -93,7 +93,7 @@ impl<'a> Port<'a> {
 
 impl Connections for Port<'_> {
     // What a socket carries is unknown: only how many connections were not served to their end is counted.
-    ghost traffic = { λ s. untold s.failures };
+    ghost traffic = { λ s. unknown s.failures };
 
     /// Listens at the port, and prints the line that says so.
     fn listen(&mut self) -> Result<(), ArchiveStop> {

@@ -41,7 +41,7 @@ has_spelled : (rule : RuleSets) (text : List ℕ) (limit : ℕ) (X : Cells) → 
 unfolding spelled
 has_spelled rule text limit X small is =
     let s = codes_spell rule X limit text small is in
-    let back : behind text ≡ s.1.back = ap behind s.1.clusters_of ∙ behind_front s.1.front s.1.back (front_unmarked s.1.front s.1.is_front) in
+    let back : behind text ≡ s.1.back = ap behind s.1.parts ∙ behind_front s.1.front s.1.back (front_unmarked s.1.front s.1.is_front) in
     let same : decoded (behind text) ≡ s.0 = ap decoded back ∙ decoded_is s.1.back s.0 s.1.is_wechsler in
     ap (λ Y. code_of rule Y limit) same ∙ s.2
 

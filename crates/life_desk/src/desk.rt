@@ -23,13 +23,13 @@ ghost use Rattle.life_census.specs.Table.{csv_text};
 
 use crate::bytes::Bytes;
 use crate::headline::law_of_the_archive;
-use crate::validation::validate;
 use crate::looking::{
     add_census, add_deposit, counted_census, counts_of, deposit_of, deposits_after, file_of,
     find_census, find_file, has_census_room, has_room,
 };
 use crate::refusal::Refusal;
-use crate::request::{ValidRequest, Reply, Request, Shown};
+use crate::request::{Reply, Request, Shown, ValidRequest};
+use crate::validation::validate;
 use life_census::{Tally, csv, laws_of_tallies, tally_and_steady};
 use life_code::{CodeFault, Kind, PERIOD_LIMIT, code_of_kind, kind, open_code};
 use life_core::{Fault, GENERATION_LIMIT, Pattern, Rule, generation};
@@ -478,7 +478,13 @@ fn act<S: Alter>(
         ValidRequest::Census(census) => take_census(archive, alloc, &census),
         ValidRequest::ShowCensus { id } => show_census(archive, alloc, id),
         ValidRequest::CensusCsv { id } => census_csv(archive, alloc, id),
-        ValidRequest::Total { rule, code, limit } => total(archive, alloc, &rule, code.as_slice(), limit),
+        ValidRequest::Total { rule, code, limit } => total(
+            archive,
+            alloc,
+            &rule,
+            code.as_slice(),
+            limit,
+        ),
     }
 }
 

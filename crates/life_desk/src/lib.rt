@@ -4,16 +4,16 @@
 mod bytes;
 mod desk;
 mod headline;
-mod validation;
 mod laws;
 mod looking;
 mod refusal;
 mod request;
+mod validation;
 
 pub use bytes::Bytes;
 pub use desk::{answer, answer_all, answer_all_in_memory};
 pub use headline::{law_of_durability, law_of_new_archives, law_of_the_archive};
-pub use validation::{check_census, check_deposit, check_total};
 pub use laws::laws_of_runs;
 pub use refusal::Refusal;
 pub use request::{Reply, Request, Shown};
+pub use validation::{check_census, check_deposit, check_total};

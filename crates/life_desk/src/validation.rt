@@ -8,7 +8,7 @@ ghost use Rattle.life_desk.specs.ValidationState.{IsGood};
 
 use crate::bytes::Bytes;
 use crate::refusal::Refusal;
-use crate::request::{ValidRequest, Request};
+use crate::request::{Request, ValidRequest};
 use life_code::PERIOD_LIMIT;
 use life_core::{GENERATION_LIMIT, Rule};
 use life_rle::Text;

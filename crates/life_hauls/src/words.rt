@@ -80,7 +80,11 @@ fn root_arg<'a>(alloc: Global) -> Arg<'a>
     ensures rule { rule_of result ≡ text_rule (codes "ROOT") }
     ensures local { result.global ≡ false }
 {
-    text_arg(alloc, "ROOT", "The root of the soups, 1 to 64 characters of graphic ASCII")
+    text_arg(
+        alloc,
+        "ROOT",
+        "The root of the soups, 1 to 64 characters of graphic ASCII",
+    )
 }
 
 fn soup_command<'a>(alloc: Global) -> Result<Command<'a>, AllocError>
@@ -91,7 +95,11 @@ fn soup_command<'a>(alloc: Global) -> Result<Command<'a>, AllocError>
     let command = with_arg(command, root_arg(alloc));
     let command = with_arg(
         command,
-        number_arg(alloc, "NUMBER", "The number of the soup, from 0 to 9007199255740991"),
+        number_arg(
+            alloc,
+            "NUMBER",
+            "The number of the soup, from 0 to 9007199255740991",
+        ),
     );
     let command = with_arg(command, rule_arg(alloc));
     with_arg(command, symmetry_arg(alloc))
@@ -119,11 +127,19 @@ pub fn haul_command<'a>(alloc: Global) -> Result<Command<'a>, AllocError>
     let command = with_arg(Ok(command_alone(alloc)), root_arg(alloc));
     let command = with_arg(
         command,
-        number_arg(alloc, "FIRST", "The number of the first soup, from 0 to 9007199254740992"),
+        number_arg(
+            alloc,
+            "FIRST",
+            "The number of the first soup, from 0 to 9007199254740992",
+        ),
     );
     let command = with_arg(
         command,
-        number_arg(alloc, "COUNT", "How many soups there are, from 1 to 1000000"),
+        number_arg(
+            alloc,
+            "COUNT",
+            "How many soups there are, from 1 to 1000000",
+        ),
     );
     let command = with_arg(command, generation_arg(alloc));
     let command = with_arg(command, limit_arg(alloc));

@@ -58,7 +58,7 @@ abbrev pub texts_of : List (List ℕ × List ℕ) → List (List ℕ)
 texts_of [] = []
 texts_of (p ∷ ps) = p.1 ∷ texts_of ps
 
--- each of these texts is one
+-- the text of each parameter that is left is UTF-8, as the path is
 abbrev pub AreTexts : List (List ℕ × List ℕ) → Type 0
 AreTexts [] = Unit {0}
 AreTexts (p ∷ ps) = IsUtf8 p.1 × AreTexts ps

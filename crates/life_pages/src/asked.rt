@@ -1,8 +1,6 @@
 //! What a good message asks for.
 ghost use Rattle.std.specs.Prelude.{◌≡◌, IfOk};
 ghost use Rattle.life_pages.specs.HeadState.{said};
-ghost use Rattle.life_pages.specs.Path.{path_of};
-ghost use Rattle.life_pages.specs.Route.{route_of};
 ghost use Rattle.life_pages.specs.RouteState.{route_rows};
 ghost use Rattle.life_pages.specs.Asked.{method_of, asked, request_of};
 ghost use Rattle.life_pages.specs.AskedState.{IsAsked, GivesRequest};

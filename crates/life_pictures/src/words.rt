@@ -90,11 +90,19 @@ fn animation_command<'a>(alloc: Global) -> Result<Command<'a>, AllocError>
     ));
     let command = with_arg(
         command,
-        number_arg(alloc, "FIRST", "The number of the first generation, from 0 to 2048"),
+        number_arg(
+            alloc,
+            "FIRST",
+            "The number of the first generation, from 0 to 2048",
+        ),
     );
     with_arg(
         command,
-        number_arg(alloc, "LAST", "The number of the last generation, at most FIRST + 239"),
+        number_arg(
+            alloc,
+            "LAST",
+            "The number of the last generation, at most FIRST + 239",
+        ),
     )
 }
 

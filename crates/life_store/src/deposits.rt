@@ -10,7 +10,7 @@ ghost use Rattle.life_store.specs.DepositsState.{AreValuesOf, AddsUnder};
 ghost use Rattle.life_store.specs.Statements.{Looks};
 ghost use Rattle.life_store.specs.Tables.{tables_of, ForAllHeld};
 
-use crate::executing::{query, blob, text, whole, write};
+use crate::executing::{blob, query, text, whole, write};
 use crate::fault::Unavailable;
 use crate::kept::Deposit;
 use sqlite::{Alter, Connection, Error, Row};

@@ -11,7 +11,7 @@ ghost use Rattle.life_store.specs.ReadingState.{ShowsFlag};
 ghost use Rattle.life_store.specs.Statements.{Withstands, Looks, StaysInside};
 ghost use Rattle.life_store.specs.Tables.{tables_of, ForAllHeld};
 
-use crate::executing::{query, flag, whole};
+use crate::executing::{flag, query, whole};
 use crate::fault::Unavailable;
 use sqlite::{Alter, Connection, Error, Row, Transaction};
 

@@ -5,16 +5,16 @@
 #![tactic(auto)]
 
 mod archive;
-mod executing;
-mod log_path;
-mod migration;
 mod censuses;
+mod creating;
 mod deposits;
+mod executing;
 mod fault;
 mod flags;
 mod kept;
 mod laws;
-mod creating;
+mod log_path;
+mod migration;
 mod opening;
 mod reading;
 

@@ -17,11 +17,11 @@ ghost use Rattle.life_store.specs.Stored.{IsFiled};
 ghost use Rattle.life_store.specs.Statements.{StaysInside};
 ghost use Rattle.life_store.specs.Tables.{version_2};
 
+use crate::creating::create_census_flags;
 use crate::executing::{query_inside, whole};
 use crate::fault::Unavailable;
 use crate::flags;
 use crate::kept::Deposit;
-use crate::creating::create_census_flags;
 use crate::reading::{count_in, first_census, first_deposit};
 use life_census::steady;
 use life_code::PERIOD_LIMIT;
@@ -229,10 +229,7 @@ fn migrate_at_once<S: Alter>(alloc: Global, conn: &mut Connection<S>) -> Result<
 }
 
 /// Carries an archive of layout 1 over to layout 2, or leaves it as it is.
-pub(crate) fn migrate<S: Alter>(
-    alloc: Global,
-    conn: &mut Connection<S>,
-) -> Result<(), Unavailable>
+pub(crate) fn migrate<S: Alter>(alloc: Global, conn: &mut Connection<S>) -> Result<(), Unavailable>
     ensures migrated { HasCleanDisk (state S.Store conn.new) → (p : Parts) → AllByRecursion IsFiled p.deposits → HoldsFirstParts (state S.Store conn.old).now p → p.layout ≡ version_1 → OnOk result (IsMigrated p (state S.Store conn.new).now) }
     ensures undone { HasCleanDisk (state S.Store conn.new) → OnErr result (IsSeenAgain (state S.Store conn.old) (state S.Store conn.new)) }
     ensures ended { OnOk result (conn.new.in_transaction ≡ false) }

@@ -22,11 +22,11 @@ ghost use Rattle.life_store.specs.OpeningState.{HaveVersions, has_table, has_vie
 ghost use Rattle.life_store.specs.Tables.{tables_of, Holds, HoldsTheSame, IsHealthyIfClean};
 
 use crate::archive::Archive;
+use crate::creating::create_tables;
 use crate::executing::query;
+use crate::fault::{OpenFault, Unavailable};
 use crate::log_path::{missing_log, remove_blank};
 use crate::migration::migrate;
-use crate::fault::{OpenFault, Unavailable};
-use crate::creating::create_tables;
 use sqlite::types::ValueRef;
 use sqlite::{Alter, Connection, Error, FileFrom, FileStore, Files, MemStore, Options, Row, Start};
 use sqlite_disk::Disk;

@@ -22,12 +22,12 @@ const LEAST_CELLS: [Cell; 4] = [
 ];
 
 /// Whether there are as many clusters as cells, and each has the cell that stands in its place.
-fn each_has(clusters_of: &[Pattern], cells: &[Cell]) -> bool {
-    if clusters_of.len() != cells.len() {
+fn each_has(found: &[Pattern], cells: &[Cell]) -> bool {
+    if found.len() != cells.len() {
         return false;
     }
     for place in 0..cells.len() {
-        if !clusters_of[place].contains(cells[place]) {
+        if !found[place].contains(cells[place]) {
             return false;
         }
     }
@@ -37,9 +37,9 @@ fn each_has(clusters_of: &[Pattern], cells: &[Cell]) -> bool {
 /// Whether the clusters stand in the order of their least cells, and a cell that is near one of them is in it.
 fn clusters_are_in_order(alloc: Global) -> Result<bool, Fault> {
     let field = Pattern::from_cells(alloc, &CELLS)?;
-    let both = clusters(alloc, &field)?;
+    let found = clusters(alloc, &field)?;
     let near = Cell { row: 6, column: 8 };
-    Ok(each_has(&clusters_of, &LEAST_CELLS) && clusters_of.len() > 2 && clusters_of[2].contains(near))
+    Ok(each_has(&found, &LEAST_CELLS) && found.len() > 2 && found[2].contains(near))
 }
 
 #[test]
@@ -73,7 +73,7 @@ const CLUSTERS: [(&str, usize); 10] = [
 fn clusters_of_file(alloc: Global, file: &str) -> Option<usize> {
     match read(alloc, file.as_bytes()) {
         Ok(record) => match clusters(alloc, &record.cells) {
-            Ok(clusters_of) => Some(clusters_of.len()),
+            Ok(found) => Some(found.len()),
             Err(_) => None,
         },
         Err(_) => None,

@@ -179,7 +179,10 @@ fn deposit_command<'a>(alloc: Global) -> Result<Command<'a>, AllocError>
     ));
     let command = with_arg(command, file_arg(alloc));
     let command = with_arg(command, text_arg(alloc, "MEMBER", "The member, as ann"));
-    with_arg(command, text_arg(alloc, "TOKEN", "The member's token of the deposit, as t1"))
+    with_arg(
+        command,
+        text_arg(alloc, "TOKEN", "The member's token of the deposit, as t1"),
+    )
 }
 
 // The option `--port`.
@@ -197,9 +200,13 @@ fn connections_arg<'a>(alloc: Global) -> Arg<'a>
     ensures rule { rule_of result ≡ number_rule_in (codes "N") (codes "connections") 1000000 }
     ensures local { result.global ≡ false }
 {
-    text_arg(alloc, "N", "How many connections are served, from 1 to 1000000")
-        .value_parser(ValueParser::unsigned(1, 1_000_000))
-        .long("connections")
+    text_arg(
+        alloc,
+        "N",
+        "How many connections are served, from 1 to 1000000",
+    )
+    .value_parser(ValueParser::unsigned(1, 1_000_000))
+    .long("connections")
 }
 
 fn serve_command<'a>(alloc: Global) -> Result<Command<'a>, AllocError>

@@ -30,6 +30,6 @@ loop-index-preserved g c =
 
 pub returns-clause-cells : goal.returns-clause-cells
 returns-clause-cells g c =
-    let end = c.loop-index.auto.place-end in
+    let end = c.loop-index.auto.index-end in
     let all : c.loop-index.index ≡ 256 = omega (arith, end, c.loop-index-test.false) in
     c.loop-index.invariant.cells ∙ ap (live_cells c.args.width c.args.digest.now) all

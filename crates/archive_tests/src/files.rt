@@ -81,6 +81,30 @@ fn over_again<D: Disk + Drop>(alloc: Global, files: Files<D>, rows: &[Row]) -> (
     }
 }
 
+/// Something that is done over files that stop after so many calls.
+pub trait Stoppable: Copy {
+    /// Whether it was done with no stop, and whether what is found afterwards is sound.
+    fn stop_at(self, alloc: Global, log_calls: u64, db_calls: u64) -> Option<(bool, bool)>;
+}
+
+/// Whether it is tried with a stop at each call on the log, or else on the database file, up to one with no stop, and none of them left
+/// what is not sound.
+pub fn stands<T: Stoppable>(alloc: Global, run: T, is_log: bool) -> bool {
+    for calls in 0..1000u64 {
+        let (log_calls, db_calls) = if is_log {
+            (calls, u64::MAX)
+        } else {
+            (u64::MAX, calls)
+        };
+        match run.stop_at(alloc, log_calls, db_calls) {
+            Some((true, true)) => return calls > 0,
+            Some((false, true)) => {}
+            _ => return false,
+        }
+    }
+    false
+}
+
 /// The glider and the block are kept as 1 and 2, and nothing else in an archive of capacity 2.
 const KEEPS_TWO: [Row; 3] = [
     (Asked::Deposit("ann", "t1", GLIDER), Said::Deposited(1)),

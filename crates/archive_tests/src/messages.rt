@@ -1,22 +1,32 @@
 //! Worked messages in pieces: byte by byte, with each take that fails, and with each put that fails.
 use crate::pages::{
-    Act, BAD, BLOCK_UNDER_T1, CENSUS, COUNTED, DEPOSITED, Exchange, FIELD, GLIDER, comes,
-    other_act, whole,
+    Act, BAD, BLOCK_UNDER_T1, CENSUS, COUNTED, DEPOSITED, Exchange, FIELD, GLIDER, NO_SUCH_DEPOSIT,
+    SHOW_9, TOKEN_REUSED, comes, whole,
 };
+use crate::requests::{Example, other_in_memory};
 use life_pages::IoFault;
 use life_store::Archive;
+use shared_tests::jobs::Flow;
 use sqlite::Alter;
 use std::alloc::{AllocError, Global};
 use std::test::Fail;
+
+/// How a stream of messages ends.
+#[derive(Clone, Copy, PartialEq, Eq)]
+enum End {
+    /// It is found to end.
+    Found,
+    /// It is found to end within a message.
+    Within,
+    /// Nothing is taken after the last message.
+    Last,
+}
 
 /// A stream of messages with the reply to each.
 #[derive(Clone, Copy)]
 struct Worked {
     messages: &'static [(&'static str, &'static str)],
-    /// What is put when the stream is found to end.
-    at_end: &'static str,
-    /// Whether nothing is taken after the last message.
-    is_last: bool,
+    end: End,
 }
 
 fn stream(alloc: Global, worked: Worked) -> Result<String, AllocError> {
@@ -43,7 +53,9 @@ fn replies_after(alloc: Global, worked: Worked, bytes: usize) -> Result<String, 
 /// All that is put.
 fn all_replies(alloc: Global, worked: Worked) -> Result<String, AllocError> {
     let mut text = replies_after(alloc, worked, usize::MAX)?;
-    text.push_str(worked.at_end)?;
+    if worked.end == End::Within {
+        text.push_str(BAD)?;
+    }
     Ok(text)
 }
 
@@ -57,13 +69,13 @@ fn takes_fail<S: Alter>(
     let takes = exchange
         .stream
         .len()
-        .saturating_add(usize::from(!worked.is_last));
+        .saturating_add(usize::from(worked.end != End::Last));
     for taken in 0..takes {
         let Ok(put) = replies_after(alloc, worked, taken) else {
             return false;
         };
         let failing = Exchange {
-            take_fails: Some((taken as u64).saturating_add(1)),
+            flow: Flow::Unreadable((taken as u64).saturating_add(1)),
             done: Err(IoFault::Read),
             put: put.as_bytes(),
             ..exchange
@@ -79,7 +91,7 @@ fn takes_fail<S: Alter>(
 fn puts_fail<S: Alter>(alloc: Global, archive: &mut Archive<S>, exchange: Exchange<'_>) -> bool {
     for end in 0..exchange.put.len() {
         let failing = Exchange {
-            put_fails: Some((end as u64).saturating_add(1)),
+            flow: Flow::Unwritable,
             done: Err(IoFault::Write),
             put: &exchange.put[..end],
             ..exchange
@@ -97,7 +109,7 @@ fn is_served<S: Alter>(alloc: Global, archive: &mut Archive<S>, worked: Worked) 
         return false;
     };
     let exchange = Exchange {
-        bytewise: true,
+        flow: Flow::Bytewise,
         ..whole(stream.as_str(), replies.as_str())
     };
     comes(alloc, archive, exchange)
@@ -105,130 +117,81 @@ fn is_served<S: Alter>(alloc: Global, archive: &mut Archive<S>, worked: Worked) 
         && puts_fail(alloc, archive, exchange)
 }
 
-/// The first of these that an archive that did so answers otherwise.
-fn other_worked<S: Alter>(
-    alloc: Global,
-    archive: &mut Archive<S>,
-    before: &[Act],
-    all: &[Worked],
-) -> Option<usize> {
-    if other_act(alloc, archive, before).is_some() {
-        return Some(all.len());
-    }
-    for (at, worked) in all.iter().enumerate() {
-        if !is_served(alloc, archive, *worked) {
-            return Some(at);
+/// What an archive does.
+#[derive(Clone, Copy)]
+enum Step {
+    Does(Act),
+    /// It answers these messages byte by byte, and whichever take or put fails.
+    Serves(&'static [(&'static str, &'static str)], End),
+}
+
+impl Example for Step {
+    fn holds<S: Alter>(self, alloc: Global, archive: &mut Archive<S>) -> bool {
+        match self {
+            Step::Does(act) => act.holds(alloc, archive),
+            Step::Serves(messages, end) => is_served(alloc, archive, Worked { messages, end }),
         }
     }
-    None
 }
 
-/// The first of these that a new archive of capacity 2 answers otherwise after it did so.
-fn other(alloc: Global, before: &[Act], all: &[Worked]) -> Option<usize> {
-    match Archive::open_in_memory(alloc, 2) {
-        Ok(mut archive) => other_worked(alloc, &mut archive, before, all),
-        Err(_) => Some(all.len()),
-    }
-}
+/// The deposit of the glider without its last byte.
+const CUT_GLIDER: &str =
+    "POST /deposits HTTP/1.1\r\nhost: a\r\nx-member: ann\r\nx-token: t1\r\ncontent-length: 24\r\n\r\nx = 3, y = 3\nbo$2bo$3o!";
 
-/// No message.
-const NONE: Worked = Worked {
-    messages: &[],
-    at_end: "",
-    is_last: false,
-};
-
-/// What an archive with the glider is sent: its deposit again; another under its token; a number that is not stored; the deposit without
-/// its last byte; two messages of which the second is the last; nothing; and a line end alone.
-const BY_THE_GLIDER: [Worked; 7] = [
-    Worked {
-        messages: &[(GLIDER, DEPOSITED)],
-        ..NONE
-    },
-    Worked {
-        messages: &[(
-            BLOCK_UNDER_T1,
-            "HTTP/1.1 409 Conflict\r\ncontent-type: application/json\r\ncontent-length: 36\r\n\r\n{\"error\":\"token-reused\",\"refusal\":5}",
-        )],
-        ..NONE
-    },
-    Worked {
-        messages: &[(
-            "GET /deposits/9 HTTP/1.1\r\n\r\n",
-            "HTTP/1.1 404 Not Found\r\ncontent-type: application/json\r\ncontent-length: 39\r\n\r\n{\"error\":\"no-such-deposit\",\"refusal\":1}",
-        )],
-        ..NONE
-    },
-    Worked {
-        messages: &[(
-            "POST /deposits HTTP/1.1\r\nhost: a\r\nx-member: ann\r\nx-token: t1\r\ncontent-length: 24\r\n\r\nx = 3, y = 3\nbo$2bo$3o!",
-            "",
-        )],
-        at_end: BAD,
-        ..NONE
-    },
-    Worked {
-        messages: &[
-            (
-                "GET /deposits/1 HTTP/1.1\r\n\r\n",
-                "HTTP/1.1 200 OK\r\ncontent-type: text/plain\r\ncontent-length: 39\r\n\r\nx = 3, y = 3, rule = B3/S23\nbo$2bo$3o!\n",
-            ),
-            (
-                "GET /deposits/1/kind/4 HTTP/1.0\r\n\r\n",
-                "HTTP/1.1 200 OK\r\ncontent-type: application/json\r\ncontent-length: 57\r\n\r\n{\"code\":\"xq4_153\",\"dx\":1,\"dy\":1,\"kind\":\"ship\",\"period\":4}",
-            ),
-        ],
-        is_last: true,
-        ..NONE
-    },
-    NONE,
-    Worked {
-        messages: &[("\r\n", "")],
-        ..NONE
-    },
+/// Two messages of which the second is the last.
+const TWO_MESSAGES: [(&str, &str); 2] = [
+    (
+        "GET /deposits/1 HTTP/1.1\r\n\r\n",
+        "HTTP/1.1 200 OK\r\ncontent-type: text/plain\r\ncontent-length: 39\r\n\r\nx = 3, y = 3, rule = B3/S23\nbo$2bo$3o!\n",
+    ),
+    (
+        "GET /deposits/1/kind/4 HTTP/1.0\r\n\r\n",
+        "HTTP/1.1 200 OK\r\ncontent-type: application/json\r\ncontent-length: 57\r\n\r\n{\"code\":\"xq4_153\",\"dx\":1,\"dy\":1,\"kind\":\"ship\",\"period\":4}",
+    ),
 ];
 
+/// What an archive with the glider is sent: its deposit again; another under its token; a number that is not stored; the deposit without
+/// its last byte; two messages; nothing; and a line end alone.
+const BY_THE_GLIDER: [Step; 8] = [
+    Step::Does(Act::Answers(GLIDER, DEPOSITED)),
+    Step::Serves(&[(GLIDER, DEPOSITED)], End::Found),
+    Step::Serves(&[(BLOCK_UNDER_T1, TOKEN_REUSED)], End::Found),
+    Step::Serves(&[(SHOW_9, NO_SUCH_DEPOSIT)], End::Found),
+    Step::Serves(&[(CUT_GLIDER, "")], End::Within),
+    Step::Serves(&TWO_MESSAGES, End::Last),
+    Step::Serves(&[], End::Found),
+    Step::Serves(&[("\r\n", "")], End::Found),
+];
+
+/// The table of a census.
+const TABLE: (&str, &str) = (
+    "GET /censuses/1/csv HTTP/1.1\r\n\r\n",
+    "HTTP/1.1 200 OK\r\ncontent-type: text/csv\r\ncontent-length: 33\r\n\r\ncode,count\nxs4_33,2\nunresolved,0\n",
+);
+
+/// The total of an object.
+const TOTAL: (&str, &str) = (
+    "GET /objects/B3S23/xs4_33/1 HTTP/1.1\r\n\r\n",
+    "HTTP/1.1 200 OK\r\ncontent-type: application/json\r\ncontent-length: 11\r\n\r\n{\"total\":2}",
+);
+
 /// What an archive with a field and its census is sent: the census again, its table, and its object's total.
-const BY_THE_FIELD: [Worked; 3] = [
-    Worked {
-        messages: &[(CENSUS, COUNTED)],
-        ..NONE
-    },
-    Worked {
-        messages: &[(
-            "GET /censuses/1/csv HTTP/1.1\r\n\r\n",
-            "HTTP/1.1 200 OK\r\ncontent-type: text/csv\r\ncontent-length: 33\r\n\r\ncode,count\nxs4_33,2\nunresolved,0\n",
-        )],
-        ..NONE
-    },
-    Worked {
-        messages: &[(
-            "GET /objects/B3S23/xs4_33/1 HTTP/1.1\r\n\r\n",
-            "HTTP/1.1 200 OK\r\ncontent-type: application/json\r\ncontent-length: 11\r\n\r\n{\"total\":2}",
-        )],
-        ..NONE
-    },
+const BY_THE_FIELD: [Step; 5] = [
+    Step::Does(Act::Answers(FIELD, DEPOSITED)),
+    Step::Does(Act::Answers(CENSUS, COUNTED)),
+    Step::Serves(&[(CENSUS, COUNTED)], End::Found),
+    Step::Serves(&[TABLE], End::Found),
+    Step::Serves(&[TOTAL], End::Found),
 ];
 
 #[test]
 fn messages_about_a_deposit_come_in_pieces(rt: HostRuntime) -> Result<(), Fail> {
-    let before = [Act::Answers(GLIDER, DEPOSITED)];
-    assert_eq!(rt;
-        other(rt.alloc(), before.as_slice(), BY_THE_GLIDER.as_slice()),
-        None
-    );
+    assert_eq!(rt; other_in_memory(rt.alloc(), BY_THE_GLIDER.as_slice()), None);
     Ok(())
 }
 
 #[test]
 fn messages_about_a_census_come_in_pieces(rt: HostRuntime) -> Result<(), Fail> {
-    let before = [
-        Act::Answers(FIELD, DEPOSITED),
-        Act::Answers(CENSUS, COUNTED),
-    ];
-    assert_eq!(rt;
-        other(rt.alloc(), before.as_slice(), BY_THE_FIELD.as_slice()),
-        None
-    );
+    assert_eq!(rt; other_in_memory(rt.alloc(), BY_THE_FIELD.as_slice()), None);
     Ok(())
 }

@@ -2,12 +2,12 @@
 //!
 //! What is sent and what is put are values with nothing to drop, and all streams are of one kind, which comes and goes in
 //! pieces.
-ghost use Rattle.std.specs.Prelude.{◌<◌};
-
+use crate::requests::{Example, other_in_memory};
 use life_archive::run_serve;
 use life_pages::IoFault;
 use life_rle::{PieceInlet, PieceOutlet};
 use life_store::Archive;
+use shared_tests::jobs::Flow;
 use sqlite::Alter;
 use std::alloc::{AllocError, Global};
 use std::test::Fail;
@@ -24,6 +24,14 @@ pub const FIELD: &str =
 pub const DEPOSITED: &str =
     "HTTP/1.1 201 Created\r\ncontent-type: application/json\r\ncontent-length: 13\r\n\r\n{\"deposit\":1}";
 
+pub const TOKEN_REUSED: &str =
+    "HTTP/1.1 409 Conflict\r\ncontent-type: application/json\r\ncontent-length: 36\r\n\r\n{\"error\":\"token-reused\",\"refusal\":5}";
+
+pub const SHOW_9: &str = "GET /deposits/9 HTTP/1.1\r\n\r\n";
+
+pub const NO_SUCH_DEPOSIT: &str =
+    "HTTP/1.1 404 Not Found\r\ncontent-type: application/json\r\ncontent-length: 39\r\n\r\n{\"error\":\"no-such-deposit\",\"refusal\":1}";
+
 pub const BAD: &str =
     "HTTP/1.1 400 Bad Request\r\ncontent-type: application/json\r\ncontent-length: 36\r\n\r\n{\"error\":\"bad-message\",\"refusal\":14}";
 
@@ -34,12 +42,7 @@ const NOT_FOUND: &str =
 #[derive(Clone, Copy)]
 pub struct Exchange<'a> {
     pub stream: &'a [u8],
-    /// Whether it comes and goes byte by byte.
-    pub bytewise: bool,
-    /// The number of the take that fails.
-    pub take_fails: Option<u64>,
-    /// The number of the put that fails.
-    pub put_fails: Option<u64>,
+    pub flow: Flow,
     pub done: Result<(), IoFault>,
     pub put: &'a [u8],
 }
@@ -48,29 +51,18 @@ pub struct Exchange<'a> {
 pub fn whole<'a>(stream: &'a str, replies: &'a str) -> Exchange<'a> {
     Exchange {
         stream: stream.as_bytes(),
-        bytewise: false,
-        take_fails: None,
-        put_fails: None,
+        flow: Flow::Whole,
         done: Ok(()),
         put: replies.as_bytes(),
     }
 }
 
-/// The most bytes of a take and a put.
-fn piece(bytewise: bool) -> usize
-    ensures { 0 < result }
-{
-    if bytewise { 1 } else { usize::MAX }
-}
-
 /// Whether this comes of a stream.
 pub fn comes<S: Alter>(alloc: Global, archive: &mut Archive<S>, exchange: Exchange<'_>) -> bool {
-    let Ok(stream) = exchange.stream.to_vec(alloc) else {
+    let Ok(mut input) = exchange.flow.inlet(alloc, exchange.stream) else {
         return false;
     };
-    let piece = piece(exchange.bytewise);
-    let mut input = PieceInlet::new(stream, piece, exchange.take_fails);
-    let mut output = PieceOutlet::new(alloc, piece, exchange.put_fails);
+    let mut output = exchange.flow.outlet(alloc, exchange.put);
     let done = run_serve(alloc, archive, &mut input, &mut output);
     done == exchange.done && output.bytes() == exchange.put
 }
@@ -159,75 +151,46 @@ fn has_bad_beginnings<S: Alter>(alloc: Global, archive: &mut Archive<S>) -> bool
     true
 }
 
-/// Whether the archive does so.
-fn does<S: Alter>(alloc: Global, archive: &mut Archive<S>, act: Act) -> bool {
-    match act {
-        Act::Answers(stream, replies) => comes(alloc, archive, whole(stream, replies)),
-        Act::AnswersBytes(stream, replies) => {
-            let exchange = Exchange {
-                stream,
-                ..whole("", replies)
-            };
-            comes(alloc, archive, exchange)
+impl Example for Act {
+    fn holds<S: Alter>(self, alloc: Global, archive: &mut Archive<S>) -> bool {
+        match self {
+            Act::Answers(stream, replies) => comes(alloc, archive, whole(stream, replies)),
+            Act::AnswersBytes(stream, replies) => {
+                let exchange = Exchange {
+                    stream,
+                    ..whole("", replies)
+                };
+                comes(alloc, archive, exchange)
+            }
+            Act::Shows(page) => shows(alloc, archive, page),
+            Act::Has(number) => kept(archive) == Some(number),
+            Act::AnswersLines(lines, reply) => {
+                let message = repeated(alloc, "GET /x HTTP/1.1\r\n", "a: b\r\n", lines, "\r\n");
+                comes_of(alloc, archive, message, reply)
+            }
+            Act::AnswersBehindLineEnds(text, reply) => {
+                comes_of(
+                    alloc,
+                    archive,
+                    repeated(alloc, "", "\n", 20_000, text),
+                    reply,
+                )
+            }
+            Act::AnswersBeginnings => has_bad_beginnings(alloc, archive),
         }
-        Act::Shows(page) => shows(alloc, archive, page),
-        Act::Has(number) => kept(archive) == Some(number),
-        Act::AnswersLines(lines, reply) => {
-            let message = repeated(alloc, "GET /x HTTP/1.1\r\n", "a: b\r\n", lines, "\r\n");
-            comes_of(alloc, archive, message, reply)
-        }
-        Act::AnswersBehindLineEnds(text, reply) => {
-            comes_of(
-                alloc,
-                archive,
-                repeated(alloc, "", "\n", 20_000, text),
-                reply,
-            )
-        }
-        Act::AnswersBeginnings => has_bad_beginnings(alloc, archive),
-    }
-}
-
-/// The first act of these that the archive does otherwise.
-pub fn other_act<S: Alter>(alloc: Global, archive: &mut Archive<S>, acts: &[Act]) -> Option<usize> {
-    for (at, act) in acts.iter().enumerate() {
-        if !does(alloc, archive, *act) {
-            return Some(at);
-        }
-    }
-    None
-}
-
-/// The first act of these that a new archive of capacity 2 does otherwise.
-fn other(alloc: Global, acts: &[Act]) -> Option<usize> {
-    match Archive::open_in_memory(alloc, 2) {
-        Ok(mut archive) => other_act(alloc, &mut archive, acts),
-        Err(_) => Some(acts.len()),
     }
 }
 
 /// A deposit, the same again, another under its token, and a number that is not kept.
-const DEPOSITS: [Act; 5] = [
+const DEPOSITS: &[Act] = &[
     Act::Answers(GLIDER, DEPOSITED),
     Act::Answers(GLIDER, DEPOSITED),
-    Act::Answers(
-        BLOCK_UNDER_T1,
-        "HTTP/1.1 409 Conflict\r\ncontent-type: application/json\r\ncontent-length: 36\r\n\r\n{\"error\":\"token-reused\",\"refusal\":5}",
-    ),
-    Act::Answers(
-        "GET /deposits/9 HTTP/1.1\r\n\r\n",
-        "HTTP/1.1 404 Not Found\r\ncontent-type: application/json\r\ncontent-length: 39\r\n\r\n{\"error\":\"no-such-deposit\",\"refusal\":1}",
-    ),
+    Act::Answers(BLOCK_UNDER_T1, TOKEN_REUSED),
+    Act::Answers(SHOW_9, NO_SUCH_DEPOSIT),
     Act::Has(1),
 ];
 
-#[test]
-fn a_deposit_comes_again(rt: HostRuntime) -> Result<(), Fail> {
-    assert_eq!(rt; other(rt.alloc(), DEPOSITS.as_slice()), None);
-    Ok(())
-}
-
-const BAD_MESSAGES: [Act; 8] = [
+const BAD_MESSAGES: &[Act] = &[
     // The target is not UTF-8, and the message after it is not answered.
     Act::AnswersBytes(
         b"GET /deposits/\xff HTTP/1.1\r\n\r\nGET /deposits/1 HTTP/1.1\r\n\r\n",
@@ -248,14 +211,8 @@ const BAD_MESSAGES: [Act; 8] = [
     Act::Has(0),
 ];
 
-#[test]
-fn bad_messages_are_refused(rt: HostRuntime) -> Result<(), Fail> {
-    assert_eq!(rt; other(rt.alloc(), BAD_MESSAGES.as_slice()), None);
-    Ok(())
-}
-
 /// Streams of nothing, of line ends, and of two messages, of which the second is the last.
-const STREAMS: [Act; 5] = [
+const STREAMS: &[Act] = &[
     Act::Answers("", ""),
     Act::Answers("\r\n\r\n", ""),
     Act::AnswersBehindLineEnds("", ""),
@@ -266,12 +223,6 @@ const STREAMS: [Act; 5] = [
     ),
 ];
 
-#[test]
-fn streams_are_answered_to_their_ends(rt: HostRuntime) -> Result<(), Fail> {
-    assert_eq!(rt; other(rt.alloc(), STREAMS.as_slice()), None);
-    Ok(())
-}
-
 pub const CENSUS: &str =
     "POST /deposits/1/censuses/0/1 HTTP/1.1\r\nx-member: ann\r\nx-token: c1\r\n\r\n";
 
@@ -279,7 +230,7 @@ pub const COUNTED: &str =
     "HTTP/1.1 201 Created\r\ncontent-type: application/json\r\ncontent-length: 12\r\n\r\n{\"census\":1}";
 
 /// A field, its census, the same census again, and what is shown of it.
-const CENSUSES: [Act; 8] = [
+const CENSUSES: &[Act] = &[
     Act::Answers(FIELD, DEPOSITED),
     Act::Answers(CENSUS, COUNTED),
     Act::Answers(CENSUS, COUNTED),
@@ -315,12 +266,6 @@ const CENSUSES: [Act; 8] = [
     )),
 ];
 
-#[test]
-fn a_census_is_counted_and_shown(rt: HostRuntime) -> Result<(), Fail> {
-    assert_eq!(rt; other(rt.alloc(), CENSUSES.as_slice()), None);
-    Ok(())
-}
-
 /// Two blocks so far apart that a code has no room for them.
 const APART: &str =
     "POST /deposits HTTP/1.1\r\nx-member: ann\r\nx-token: t1\r\ncontent-length: 31\r\n\r\nx = 54, y = 2\n2o50b2o$2o50b2o!\n";
@@ -329,7 +274,7 @@ const R_PENTOMINO: &str =
     "POST /deposits HTTP/1.1\r\nx-member: ann\r\nx-token: t2\r\ncontent-length: 24\r\n\r\nx = 3, y = 3\nb2o$2o$bo!\n";
 
 /// A pattern that is too wide for a code, and one that does not repeat within the limit: the key `code` is left out.
-const WITHOUT_A_CODE: [Act; 4] = [
+const WITHOUT_A_CODE: &[Act] = &[
     Act::Answers(APART, DEPOSITED),
     Act::Shows((
         "/deposits/1/kind/1",
@@ -349,16 +294,10 @@ const WITHOUT_A_CODE: [Act; 4] = [
     )),
 ];
 
-#[test]
-fn kinds_without_a_code(rt: HostRuntime) -> Result<(), Fail> {
-    assert_eq!(rt; other(rt.alloc(), WITHOUT_A_CODE.as_slice()), None);
-    Ok(())
-}
-
 const NO_PAGE: &str = "{\"error\":\"no-such-page\",\"refusal\":12}";
 
 /// A deposit, one without its end, pages of the deposit, and pages that are none.
-const PAGES: [Act; 13] = [
+const PAGES: &[Act] = &[
     Act::Answers(GLIDER, DEPOSITED),
     Act::Answers(
         "POST /deposits HTTP/1.1\r\nx-member: ann\r\nx-token: t9\r\ncontent-length: 12\r\n\r\nx = 1, y = 1",
@@ -417,9 +356,21 @@ const PAGES: [Act; 13] = [
     )),
 ];
 
+/// What new archives do, each row from its table.
+const TABLES: [(&str, &[Act]); 6] = [
+    ("a deposit comes again", DEPOSITS),
+    ("bad messages are refused", BAD_MESSAGES),
+    ("streams are answered to their ends", STREAMS),
+    ("a census is counted and shown", CENSUSES),
+    ("kinds without a code", WITHOUT_A_CODE),
+    ("routes and methods", PAGES),
+];
+
 #[test]
-fn pages_and_methods(rt: HostRuntime) -> Result<(), Fail> {
-    assert_eq!(rt; other(rt.alloc(), PAGES.as_slice()), None);
+fn archives_answer_messages(rt: HostRuntime) -> Result<(), Fail> {
+    for (name, acts) in TABLES {
+        assert_eq!(rt; other_in_memory(rt.alloc(), acts), None, "{name}");
+    }
     Ok(())
 }
 
@@ -437,8 +388,7 @@ fn comes_to_a_new_one(alloc: Global, exchange: Exchange<'_>, number: u64) -> boo
 fn stops_at_the_take(alloc: Global, number: usize) -> bool {
     let is_whole = number > GLIDER.len();
     let exchange = Exchange {
-        bytewise: true,
-        take_fails: Some(number as u64),
+        flow: Flow::Unreadable(number as u64),
         done: Err(IoFault::Read),
         ..whole(GLIDER, if is_whole { DEPOSITED } else { "" })
     };
@@ -456,8 +406,7 @@ fn a_take_fails(rt: HostRuntime) -> Result<(), Fail> {
 /// Whether the glider's deposit is kept, and is found again, if a put fails after these bytes.
 fn stops_behind<S: Alter>(alloc: Global, archive: &mut Archive<S>, put: &[u8]) -> bool {
     let exchange = Exchange {
-        bytewise: true,
-        put_fails: Some(put.len() as u64 + 1),
+        flow: Flow::Unwritable,
         done: Err(IoFault::Write),
         put,
         ..whole(GLIDER, "")
@@ -548,7 +497,7 @@ fn ends_bytewise(alloc: Global, bytes: usize, done: Result<(), IoFault>) -> bool
     match long_deposit(alloc, bytes) {
         Ok(text) => {
             let exchange = Exchange {
-                bytewise: true,
+                flow: Flow::Bytewise,
                 done,
                 ..whole(text.as_str(), DEPOSITED)
             };

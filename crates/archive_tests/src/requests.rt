@@ -256,22 +256,41 @@ fn says(reply: &Reply, said: Said) -> bool {
     }
 }
 
-/// Whether an archive answers a row so.
-fn tells<S: Alter>(alloc: Global, archive: &mut Archive<S>, row: Row) -> bool {
-    match request(alloc, row.0) {
-        Ok(request) => says(&answer(archive, alloc, request), row.1),
-        Err(_) => false,
+/// A row of a table: what an archive does.
+pub trait Example: Copy {
+    /// Whether the archive does so.
+    fn holds<S: Alter>(self, alloc: Global, archive: &mut Archive<S>) -> bool;
+}
+
+impl Example for Row {
+    fn holds<S: Alter>(self, alloc: Global, archive: &mut Archive<S>) -> bool {
+        match request(alloc, self.0) {
+            Ok(request) => says(&answer(archive, alloc, request), self.1),
+            Err(_) => false,
+        }
     }
 }
 
-/// The first row that an archive answers otherwise, the rows asked one by one.
-pub fn other<S: Alter>(alloc: Global, archive: &mut Archive<S>, rows: &[Row]) -> Option<usize> {
+/// The first row that an archive does otherwise, the rows one by one.
+pub fn other<S: Alter, E: Example>(
+    alloc: Global,
+    archive: &mut Archive<S>,
+    rows: &[E],
+) -> Option<usize> {
     for (at, row) in rows.iter().enumerate() {
-        if !tells(alloc, archive, *row) {
+        if !row.holds(alloc, archive) {
             return Some(at);
         }
     }
     None
+}
+
+/// The first row that a new archive of capacity 2 in memory does otherwise.
+pub fn other_in_memory<E: Example>(alloc: Global, rows: &[E]) -> Option<usize> {
+    match Archive::open_in_memory(alloc, 2) {
+        Ok(mut archive) => other(alloc, &mut archive, rows),
+        Err(_) => Some(rows.len()),
+    }
 }
 
 /// Puts a request that was made after the others.
@@ -337,30 +356,26 @@ fn other_as_a_list<S: Alter>(
     }
 }
 
-/// What is asked of a new archive in memory.
+/// What is asked of a new archive in memory as one list.
 #[derive(Clone, Copy)]
-enum Way<'a> {
-    /// The first row that is answered otherwise, the rows asked one by one.
-    OneByOne(&'a [Row]),
-    /// The first row that is answered otherwise, the rows asked as one list.
-    AsAList(&'a [Row]),
+enum List<'a> {
+    Rows(&'a [Row]),
     /// Many deposits, and lists of them.
     Many,
 }
 
 /// What an archive answers otherwise.
-fn otherwise<S: Alter>(alloc: Global, archive: &mut Archive<S>, way: Way<'_>) -> Option<usize> {
-    match way {
-        Way::OneByOne(rows) => other(alloc, archive, rows),
-        Way::AsAList(rows) => other_as_a_list(alloc, archive, rows),
-        Way::Many => other_of_many(replies(alloc, archive, many(alloc))),
+fn otherwise<S: Alter>(alloc: Global, archive: &mut Archive<S>, list: List<'_>) -> Option<usize> {
+    match list {
+        List::Rows(rows) => other_as_a_list(alloc, archive, rows),
+        List::Many => other_of_many(replies(alloc, archive, many(alloc))),
     }
 }
 
 /// What a new archive in memory answers otherwise.
-fn in_memory(alloc: Global, capacity: u64, way: Way<'_>) -> Option<usize> {
+fn in_memory(alloc: Global, capacity: u64, list: List<'_>) -> Option<usize> {
     match Archive::open_in_memory(alloc, capacity) {
-        Ok(mut archive) => otherwise(alloc, &mut archive, way),
+        Ok(mut archive) => otherwise(alloc, &mut archive, list),
         Err(_) => Some(0),
     }
 }
@@ -373,8 +388,8 @@ fn the_laws_are_called() {
 
 /// The first row that is answered otherwise, one by one and as one list.
 fn others(alloc: Global, rows: &[Row]) -> (Option<usize>, Option<usize>) {
-    let one_by_one = in_memory(alloc, 2, Way::OneByOne(rows));
-    (one_by_one, in_memory(alloc, 2, Way::AsAList(rows)))
+    let one_by_one = other_in_memory(alloc, rows);
+    (one_by_one, in_memory(alloc, 2, List::Rows(rows)))
 }
 
 #[test]
@@ -466,6 +481,6 @@ fn other_of_many(replies: Result<Vec<Reply>, Unavailable>) -> Option<usize> {
 
 #[test]
 fn a_list_has_at_most_a_hundred_lines(rt: HostRuntime) -> Result<(), Fail> {
-    assert_eq!(rt; in_memory(rt.alloc(), 200, Way::Many), None);
+    assert_eq!(rt; in_memory(rt.alloc(), 200, List::Many), None);
     Ok(())
 }

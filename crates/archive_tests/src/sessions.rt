@@ -5,7 +5,7 @@ ghost use Rattle.life_rle.specs.Stream.{raised};
 ghost use Rattle.life_archive.specs.Session.{ServesOne};
 ghost use Rattle.archive_tests.specs.Sessions.{sends, streams_from};
 
-use crate::files::{Stopping, blank};
+use crate::files::{Stoppable, Stopping, blank, stands};
 use crate::stops::again;
 use life_archive::{ArchiveStop, Connections, run_serve, serve_files};
 use life_rle::{MemoryOutlet, SliceInlet};
@@ -13,7 +13,6 @@ use life_store::Archive;
 use sqlite::{Alter, Files};
 use sqlite_disk::Disk;
 use std::alloc::Global;
-use std::test::Fail;
 
 /// One more than so many failures, if there is a number for it.
 fn one_more(failures: u64) -> u64
@@ -160,45 +159,28 @@ const LISTS: [&[u8]; 1] = [LIST];
 /// What the third is sent: the same deposits once more, and the list.
 const KEEPS_AGAIN: [&[u8]; 3] = [GLIDER, BLOCK, LIST];
 
-/// What came of sessions over files that stop after so many calls, and over what that left: how many deposits the first acknowledged, and whether the
-/// next found them all, and no more than were asked for; and whether what is deposited once more is there once.
-fn stopped(alloc: Global, log_calls: u64, db_calls: u64) -> Option<(usize, bool)> {
-    let (first, files) = session(alloc, blank(alloc, log_calls, db_calls), KEEPS.as_slice());
-    let files = again(alloc, &files, u64::MAX, u64::MAX)?;
-    let (found, files) = session(alloc, files, LISTS.as_slice());
-    let (last, _files) = session(alloc, files, KEEPS_AGAIN.as_slice());
-    let all = first.acknowledged <= found.listed && found.listed <= 2;
-    Some((
-        first.acknowledged,
-        all && last.acknowledged == 2 && last.listed == 2,
-    ))
-}
+/// Three sessions, of which the first is over files that stop.
+#[derive(Clone, Copy)]
+struct Sessions;
 
-/// Whether sessions stand a stop at each call on the log, or else on the database file, up to one with no stop.
-fn stand(alloc: Global, is_log: bool) -> bool {
-    for calls in 0..1000u64 {
-        let outcome = if is_log {
-            stopped(alloc, calls, u64::MAX)
-        } else {
-            stopped(alloc, u64::MAX, calls)
-        };
-        match outcome {
-            Some((2, true)) if calls > 100 => return true,
-            Some((_, true)) => {}
-            _ => return false,
-        }
+impl Stoppable for Sessions {
+    /// Whether the first acknowledged both deposits, after 100 calls or more; and whether the second found all that it acknowledged, and no more than were
+    /// asked for, and what is deposited once more is there once.
+    fn stop_at(self, alloc: Global, log_calls: u64, db_calls: u64) -> Option<(bool, bool)> {
+        let (first, files) = session(alloc, blank(alloc, log_calls, db_calls), KEEPS.as_slice());
+        let files = again(alloc, &files, u64::MAX, u64::MAX)?;
+        let (found, files) = session(alloc, files, LISTS.as_slice());
+        let (last, _files) = session(alloc, files, KEEPS_AGAIN.as_slice());
+        let all = first.acknowledged <= found.listed && found.listed <= 2;
+        Some((
+            first.acknowledged == 2 && log_calls.min(db_calls) > 100,
+            all && last.acknowledged == 2 && last.listed == 2,
+        ))
     }
-    false
 }
 
 #[test]
-fn sessions_stand_a_stop_of_the_log(rt: HostRuntime) -> Result<(), Fail> {
-    assert!(rt; stand(rt.alloc(), true));
-    Ok(())
-}
-
-#[test]
-fn sessions_stand_a_stop_of_the_database(rt: HostRuntime) -> Result<(), Fail> {
-    assert!(rt; stand(rt.alloc(), false));
-    Ok(())
+fn sessions_stand_each_stop(rt: HostRuntime) {
+    assert!(rt; stands(rt.alloc(), Sessions, true), "the log");
+    assert!(rt; stands(rt.alloc(), Sessions, false), "the database");
 }

@@ -1,11 +1,12 @@
 //! A stop at each call of a file: as a deposit and a census are kept, and as an archive of layout 1 is migrated.
-use crate::files::{Outcome, Stopping, blank, made_by, over, schema_of, stopping};
+use crate::files::{
+    Outcome, Stoppable, Stopping, blank, made_by, over, schema_of, stands, stopping,
+};
 use crate::requests::{Asked, FIELD, FIELD_SHOWN, Row, Said};
 use life_store::Unavailable;
 use sqlite::Files;
 use sqlite_disk::{Disk, Memory};
 use std::alloc::Global;
-use std::test::Fail;
 
 /// An archive of layout 1: two blocks at distance 3 (`2o2b2o$2o2b2o!`) and two blinkers whose phases touch
 /// (`o2bo$o2bo$o2bo!`), each with a census of generation 0. Their files are in hexadecimal digits.
@@ -54,11 +55,8 @@ const CENSUS: Row = (Asked::Census("c1", 1, 0, 1), Said::Counted(1));
 
 const SHOWN: Row = (Asked::ShowCensus(1), Said::Census(1, true, "xs4_33"));
 
-/// What a new archive is asked.
-const KEEPS: [Row; 2] = [DEPOSIT, CENSUS];
-
-/// What it answers afterwards: if the census was not answered all but the first row, and where the deposit was not either
-/// all but the first two. In each case both are taken again, and are there once and whole.
+/// What a new archive answers after a deposit and a census: if the census was not answered all but the first row, and if the deposit
+/// was not either all but the first two. In each case both are taken again, and are there once and whole.
 const KEPT: [Row; 8] = [
     SHOWN,
     (Asked::Show(1), Said::File(FIELD_SHOWN)),
@@ -83,14 +81,28 @@ const CARRIED: [Row; 6] = [
 
 /// A run that is stopped.
 #[derive(Clone, Copy)]
-struct Run<'a> {
+struct Run {
     /// Whether an archive of layout 1 is migrated as it is opened; or else it is a new one.
     carries_over: bool,
     /// What is asked.
-    asked: &'a [Row],
+    asked: &'static [Row],
     /// What is answered afterwards: of its first rows one less for each row that was asked and not answered.
-    behind: &'a [Row],
+    behind: &'static [Row],
 }
+
+/// A deposit and a census in a new archive.
+const KEEPING: Run = Run {
+    carries_over: false,
+    asked: &[DEPOSIT, CENSUS],
+    behind: &KEPT,
+};
+
+/// The opening of an archive of layout 1.
+const CARRYING: Run = Run {
+    carries_over: true,
+    asked: &[],
+    behind: &CARRIED,
+};
 
 /// The files that a run begins with, which stop after so many calls.
 fn begun(
@@ -118,7 +130,7 @@ fn unanswered(asked: usize, outcome: Outcome) -> usize {
 }
 
 /// What is answered after a run of which this came.
-fn rows_behind<'a>(run: Run<'a>, outcome: Outcome) -> &'a [Row] {
+fn rows_behind(run: Run, outcome: Outcome) -> &'static [Row] {
     let from = unanswered(run.asked.len(), outcome).min(run.behind.len());
     &run.behind[from..]
 }
@@ -156,77 +168,24 @@ fn is_one_version(alloc: Global, files: &Files<Stopping>) -> bool {
     }
 }
 
-/// Whether a run ended with no stop, and whether what is found afterwards is sound.
-fn stop_at(alloc: Global, run: Run<'_>, log_calls: u64, db_calls: u64) -> Option<(bool, bool)> {
-    match begun(alloc, run.carries_over, log_calls, db_calls) {
-        Some(files) => {
-            let (outcome, files) = over(alloc, files, 2, run.asked);
-            let is_whole = !run.carries_over || is_one_version(alloc, &files);
-            let is_sound = is_sound(alloc, &files, rows_behind(run, outcome));
-            Some((outcome == Ok(None), is_whole && is_sound))
-        }
-        None => None,
+impl Stoppable for Run {
+    fn stop_at(self, alloc: Global, log_calls: u64, db_calls: u64) -> Option<(bool, bool)> {
+        let files = begun(alloc, self.carries_over, log_calls, db_calls)?;
+        let (outcome, files) = over(alloc, files, 2, self.asked);
+        let is_whole = !self.carries_over || is_one_version(alloc, &files);
+        let is_sound = is_sound(alloc, &files, rows_behind(self, outcome));
+        Some((outcome == Ok(None), is_whole && is_sound))
     }
 }
 
-/// Whether the run is tried with a stop at each call on the log, or else on the database file, up to one with no stop, and
-/// none of them left what is not sound.
-fn stands(alloc: Global, run: Run<'_>, is_log: bool) -> bool {
-    for calls in 0..1000u64 {
-        let (log_calls, db_calls) = if is_log {
-            (calls, u64::MAX)
-        } else {
-            (u64::MAX, calls)
-        };
-        match stop_at(alloc, run, log_calls, db_calls) {
-            Some((true, true)) => return calls > 0,
-            Some((false, true)) => {}
-            _ => return false,
-        }
-    }
-    false
-}
-
-/// Whether a new archive that is asked for a deposit and a census stands each stop.
-fn keeps(alloc: Global, is_log: bool) -> bool {
-    let run = Run {
-        carries_over: false,
-        asked: KEEPS.as_slice(),
-        behind: KEPT.as_slice(),
-    };
-    stands(alloc, run, is_log)
-}
-
-/// Whether an archive of layout 1 that is opened stands each stop.
-fn carries_over(alloc: Global, is_log: bool) -> bool {
-    let run = Run {
-        carries_over: true,
-        asked: &[],
-        behind: CARRIED.as_slice(),
-    };
-    stands(alloc, run, is_log)
+#[test]
+fn a_stop_loses_nothing(rt: HostRuntime) {
+    assert!(rt; stands(rt.alloc(), KEEPING, true), "the log");
+    assert!(rt; stands(rt.alloc(), KEEPING, false), "the database");
 }
 
 #[test]
-fn a_stop_of_the_log_loses_nothing(rt: HostRuntime) -> Result<(), Fail> {
-    assert!(rt; keeps(rt.alloc(), true));
-    Ok(())
-}
-
-#[test]
-fn a_stop_of_the_database_loses_nothing(rt: HostRuntime) -> Result<(), Fail> {
-    assert!(rt; keeps(rt.alloc(), false));
-    Ok(())
-}
-
-#[test]
-fn a_stop_of_the_log_leaves_layout_1_or_2(rt: HostRuntime) -> Result<(), Fail> {
-    assert!(rt; carries_over(rt.alloc(), true));
-    Ok(())
-}
-
-#[test]
-fn a_stop_of_the_database_leaves_layout_1_or_2(rt: HostRuntime) -> Result<(), Fail> {
-    assert!(rt; carries_over(rt.alloc(), false));
-    Ok(())
+fn a_stop_leaves_layout_1_or_2(rt: HostRuntime) {
+    assert!(rt; stands(rt.alloc(), CARRYING, true), "the log");
+    assert!(rt; stands(rt.alloc(), CARRYING, false), "the database");
 }

@@ -1,13 +1,12 @@
-//! Hauls that are put into memory, with tables that a program of its own made from Python's SHA-256.
-
-use life_hauls::{HaulWords, Symmetry, Unwatched, Watch, laws_of_hauls, laws_of_soups, run_haul};
+//! Hauls and soups that are put into memory. The tables of hauls, and soups of other symmetries than C1, are from a program of its own
+//! that has Python's SHA-256; the soup of C1 is from `sha256sum` and `basenc`.
+use life_hauls::{
+    HaulWords, Job, SoupWords, Symmetry, Unwatched, Watch, laws_of_hauls, laws_of_soups, run_haul,
+    run_soup,
+};
 use life_jobs::Stop;
-use life_rle::{MemoryOutlet, PieceOutlet};
+use life_rle::{MemoryOutlet, Outlet, PieceOutlet};
 use std::alloc::Global;
-use std::test::Fail;
-
-/// Words, what is answered, and what is put.
-type Run = (HaulWords<'static>, Result<(), Stop>, &'static str);
 
 /// Three soups under Conway's Life, 500 generations on.
 const THREE: HaulWords<'static> = HaulWords {
@@ -88,85 +87,175 @@ clusters,108,
 soups,3,0
 ";
 
-const RUNS: [Run; 10] = [
-    (THREE, Ok(()), TABLE),
-    (
-        HaulWords {
-            symmetry: Symmetry::EightRows,
-            ..THREE
-        },
-        Ok(()),
-        WIDE,
-    ),
-    (
-        HaulWords {
-            symmetry: Symmetry::D2Plus2,
-            ..THREE
-        },
-        Ok(()),
-        MIRRORED,
-    ),
-    (HaulWords { count: 0, ..THREE }, Err(Stop::OutOfLimit), ""),
-    (
-        HaulWords {
-            count: 1_000_001,
-            ..THREE
-        },
-        Err(Stop::OutOfLimit),
-        "",
-    ),
-    (
-        HaulWords {
-            first: 9_007_199_254_740_993,
-            ..THREE
-        },
-        Err(Stop::OutOfLimit),
-        "",
-    ),
-    (HaulWords { n: 2049, ..THREE }, Err(Stop::OutOfLimit), ""),
-    (HaulWords { limit: 0, ..THREE }, Err(Stop::OutOfLimit), ""),
-    (
-        HaulWords {
-            root: "a b",
-            ..THREE
-        },
-        Err(Stop::OutOfLimit),
-        "",
-    ),
-    (
-        HaulWords {
-            rule: "B0/S",
-            ..THREE
-        },
-        Err(Stop::BadRule),
-        "",
-    ),
+/// A soup under Conway's Life.
+const SOUP: SoupWords<'static> = SoupWords {
+    root: "ann-2026",
+    number: 481,
+    rule: "23/3",
+    symmetry: Symmetry::C1,
+};
+
+const TEXT: &str = "\
+x = 16, y = 16, rule = B3/S23
+4ob9o$5bo2b3o2bobo$2o4b2obobobo$3obob2ob3ob3o$2b4o2b4o2bo$o2b2o3b6o$2b
+o2b2o2bo3bo$6o2b7o$b3o4bo4b3o$bo3bob2o2b5o$o2b3o3b3o2bo$obobo4bo3bobo$
+3bobob2o2b5o$2bo2bobo2b6o$bo3bobob4o2bo$b2o3b2obo4bo!
+";
+
+const EIGHT_ROWS: &str = "\
+x = 32, y = 8, rule = B3/S23
+4ob9o7bo2b3o2bobo$2o4b2obobobo2b3obob2ob3ob3o$2b4o2b4o2bobo2b2o3b6o$2b
+o2b2o2bo3bo2b6o2b7o$b3o4bo4b3obo3bob2o2b5o$o2b3o3b3o2bobobobo4bo3bobo$
+3bobob2o2b5o2bo2bobo2b6o$bo3bobob4o2bob2o3b2obo4bo!
+";
+
+const FOUR_ROWS: &str = "\
+x = 64, y = 4, rule = B3/S23
+4ob9o7bo2b3o2bob3o4b2obobobo2b3obob2ob3ob3o$2b4o2b4o2bobo2b2o3b6o4bo2b
+2o2bo3bo2b6o2b7o$b3o4bo4b3obo3bob2o2b6o2b3o3b3o2bobobobo4bo3bobo$3bobo
+b2o2b5o2bo2bobo2b6obo3bobob4o2bob2o3b2obo4bo!
+";
+
+const TWO_ROWS: &str = "\
+x = 127, y = 2, rule = B3/S23
+4ob9o7bo2b3o2bob3o4b2obobobo2b3obob2ob3ob3o2b4o2b4o2bobo2b2o3b6o4bo2b
+2o2bo3bo2b6o2b7o$b3o4bo4b3obo3bob2o2b6o2b3o3b3o2bobobobo4bo3bobo3bobob
+2o2b5o2bo2bobo2b6obo3bobob4o2bob2o3b2obo4bo!
+";
+
+const ONE_ROW: &str = "\
+x = 255, y = 1, rule = B3/S23
+4ob9o7bo2b3o2bob3o4b2obobobo2b3obob2ob3ob3o2b4o2b4o2bobo2b2o3b6o4bo2b
+2o2bo3bo2b6o2b7o2b3o4bo4b3obo3bob2o2b6o2b3o3b3o2bobobobo4bo3bobo3bobob
+2o2b5o2bo2bobo2b6obo3bobob4o2bob2o3b2obo4bo!
+";
+
+const ODD: &str = "\
+x = 16, y = 31, rule = B3/S23
+b2o3b2obo4bo$bo3bobob4o2bo$2bo2bobo2b6o$3bobob2o2b5o$obobo4bo3bobo$o2b
+3o3b3o2bo$bo3bob2o2b5o$b3o4bo4b3o$6o2b7o$2bo2b2o2bo3bo$o2b2o3b6o$2b4o
+2b4o2bo$3obob2ob3ob3o$2o4b2obobobo$5bo2b3o2bobo$4ob9o$5bo2b3o2bobo$2o
+4b2obobobo$3obob2ob3ob3o$2b4o2b4o2bo$o2b2o3b6o$2bo2b2o2bo3bo$6o2b7o$b
+3o4bo4b3o$bo3bob2o2b5o$o2b3o3b3o2bo$obobo4bo3bobo$3bobob2o2b5o$2bo2bob
+o2b6o$bo3bobob4o2bo$b2o3b2obo4bo!
+";
+
+const EVEN: &str = "\
+x = 16, y = 32, rule = B3/S23
+b2o3b2obo4bo$bo3bobob4o2bo$2bo2bobo2b6o$3bobob2o2b5o$obobo4bo3bobo$o2b
+3o3b3o2bo$bo3bob2o2b5o$b3o4bo4b3o$6o2b7o$2bo2b2o2bo3bo$o2b2o3b6o$2b4o
+2b4o2bo$3obob2ob3ob3o$2o4b2obobobo$5bo2b3o2bobo$4ob9o$4ob9o$5bo2b3o2bo
+bo$2o4b2obobobo$3obob2ob3ob3o$2b4o2b4o2bo$o2b2o3b6o$2bo2b2o2bo3bo$6o2b
+7o$b3o4bo4b3o$bo3bob2o2b5o$o2b3o3b3o2bo$obobo4bo3bobo$3bobob2o2b5o$2bo
+2bobo2b6o$bo3bobob4o2bo$b2o3b2obo4bo!
+";
+
+/// Symmetries, and what is put for the three soups in them.
+const HAULS: [(Symmetry, &str); 3] = [
+    (Symmetry::C1, TABLE),
+    (Symmetry::EightRows, WIDE),
+    (Symmetry::D2Plus2, MIRRORED),
 ];
 
-/// Whether the words are answered so, with this text.
-fn runs_so(alloc: Global, run: Run) -> bool {
-    let (words, answer, text) = run;
-    let mut output = MemoryOutlet::new(alloc);
-    run_haul(alloc, words, &mut output, &mut Unwatched) == answer
-        && output.bytes() == text.as_bytes()
-}
+/// Symmetries, and what is put for the soup in them.
+const SOUPS: [(Symmetry, &str); 7] = [
+    (Symmetry::C1, TEXT),
+    (Symmetry::EightRows, EIGHT_ROWS),
+    (Symmetry::FourRows, FOUR_ROWS),
+    (Symmetry::TwoRows, TWO_ROWS),
+    (Symmetry::OneRow, ONE_ROW),
+    (Symmetry::D2Plus1, ODD),
+    (Symmetry::D2Plus2, EVEN),
+];
 
-#[test]
-fn hauls_are_put(rt: HostRuntime) -> Result<(), Fail> {
-    for run in RUNS {
-        assert!(rt; runs_so(rt.alloc(), run));
+/// Numbers of hauls that are out of their limits: the first soup, how many, their generation, and the limit of periods.
+const OUT_OF_LIMIT: [(u64, u64, u64, u64); 5] = [
+    (0, 0, 500, 4),
+    (0, 1_000_001, 500, 4),
+    (9_007_199_254_740_993, 3, 500, 4),
+    (0, 3, 2049, 4),
+    (0, 3, 500, 0),
+];
+
+/// Roots and rules of which one is none, and why it is refused.
+const BAD_TEXTS: [(&str, &str, Stop); 3] = [
+    ("a b", "B3/S23", Stop::OutOfLimit),
+    ("", "B3/S23", Stop::OutOfLimit),
+    ("tst", "B0/S", Stop::BadRule),
+];
+
+/// Does the job, and puts what it prints.
+fn done<O: Outlet>(alloc: Global, job: Job<'_>, output: &mut O) -> Result<(), Stop> {
+    match job {
+        Job::Haul(words) => run_haul(alloc, words, output, &mut Unwatched),
+        Job::Soup(words) => run_soup(alloc, words, output),
     }
-    Ok(())
+}
+
+/// Whether the job answers so, and puts this.
+fn answers(alloc: Global, job: Job<'_>, answer: Result<(), Stop>, text: &str) -> bool {
+    let mut output = MemoryOutlet::new(alloc);
+    done(alloc, job, &mut output) == answer && output.bytes() == text.as_bytes()
 }
 
 #[test]
-fn a_failed_put_is_told(rt: HostRuntime) -> Result<(), Fail> {
-    let mut output = PieceOutlet::new(rt.alloc(), 10, Some(1));
-    assert_eq!(rt;
-        run_haul(rt.alloc(), THREE, &mut output, &mut Unwatched),
-        Err(Stop::Unwritable)
-    );
-    Ok(())
+fn hauls_are_put(rt: HostRuntime) {
+    for (symmetry, text) in HAULS {
+        let job = Job::Haul(HaulWords { symmetry, ..THREE });
+        assert!(rt; answers(rt.alloc(), job, Ok(()), text), "{job:?}");
+    }
+}
+
+#[test]
+fn soups_are_put(rt: HostRuntime) {
+    for (symmetry, text) in SOUPS {
+        let job = Job::Soup(SoupWords { symmetry, ..SOUP });
+        assert!(rt; answers(rt.alloc(), job, Ok(()), text), "{job:?}");
+    }
+}
+
+#[test]
+fn numbers_are_out_of_their_limits(rt: HostRuntime) {
+    let out = Err(Stop::OutOfLimit);
+    let number = 9_007_199_255_740_992;
+    let soup = Job::Soup(SoupWords { number, ..SOUP });
+    assert!(rt; answers(rt.alloc(), soup, out, ""), "{soup:?}");
+    for (first, count, n, limit) in OUT_OF_LIMIT {
+        let haul = Job::Haul(HaulWords {
+            first,
+            count,
+            n,
+            limit,
+            ..THREE
+        });
+        assert!(rt; answers(rt.alloc(), haul, out, ""), "{haul:?}");
+    }
+}
+
+#[test]
+fn roots_and_rules_are_refused(rt: HostRuntime) {
+    for (root, rule, stop) in BAD_TEXTS {
+        let haul = Job::Haul(HaulWords {
+            root,
+            rule,
+            ..THREE
+        });
+        assert!(rt; answers(rt.alloc(), haul, Err(stop), ""), "{haul:?}");
+        let soup = Job::Soup(SoupWords { root, rule, ..SOUP });
+        assert!(rt; answers(rt.alloc(), soup, Err(stop), ""), "{soup:?}");
+    }
+}
+
+#[test]
+fn a_failed_put_is_told(rt: HostRuntime) {
+    for job in [Job::Haul(THREE), Job::Soup(SOUP)] {
+        let mut output = PieceOutlet::new(rt.alloc(), 10, Some(1));
+        assert_eq!(rt;
+            done(rt.alloc(), job, &mut output),
+            Err(Stop::Unwritable),
+            "{job:?}"
+        );
+    }
 }
 
 /// What a watch was told: how often, and last.
@@ -184,7 +273,7 @@ impl Watch for Told {
 }
 
 #[test]
-fn the_watch_is_told_of_each_soup(rt: HostRuntime) -> Result<(), Fail> {
+fn the_watch_is_told_of_each_soup(rt: HostRuntime) {
     let mut told = Told {
         times: 0,
         last: (0, 0),
@@ -194,12 +283,10 @@ fn the_watch_is_told_of_each_soup(rt: HostRuntime) -> Result<(), Fail> {
     assert_eq!(rt; output.bytes(), TABLE.as_bytes());
     assert_eq!(rt; told.times, 3);
     assert_eq!(rt; told.last, (3, 3));
-    Ok(())
 }
 
 #[test]
-fn laws_are_calls(_rt: HostRuntime) -> Result<(), Fail> {
+fn laws_are_calls() {
     laws_of_soups();
     laws_of_hauls();
-    Ok(())
 }

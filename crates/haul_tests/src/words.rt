@@ -1,9 +1,7 @@
-//! Words of the command line of `life-haul`, and the jobs that they name.
-
+//! Command lines of `life-haul`, and the jobs that their arguments name.
 use life_hauls::{HaulWords, Job, SoupWords, Symmetry, read_words};
-use life_words::WordFault;
+use shared_tests::arguments::{is_named, other_line};
 use std::alloc::Global;
-use std::test::Fail;
 
 /// A thousand soups under Conway's Life.
 const THOUSAND: HaulWords<'static> = HaulWords {
@@ -35,129 +33,73 @@ const NAMES: [(&str, Symmetry); 7] = [
     ("D2_+2", Symmetry::D2Plus2),
 ];
 
-/// Words, the program's name first, and the job that they name; none if they are a usage error.
-const WORDS: [(&[&str], Option<Job<'static>>); 18] = [
-    (&["life-haul"], None),
-    (&["life-haul", "abc", "1", "1000", "2048"], None),
-    (&["life-haul", "abc", "one", "1000", "2048", "60"], None),
+/// Command lines, and the job that each names; none if it is a usage error.
+const LINES: [(&str, Option<Job<'static>>); 18] = [
+    ("life-haul", None),
+    ("life-haul abc 1 1000 2048", None),
+    ("life-haul abc one 1000 2048 60", None),
+    ("life-haul abc 1 1000 2048 60 --help", None),
+    ("life-haul abc 1 1000 2048 60", Some(Job::Haul(THOUSAND))),
     (
-        &["life-haul", "abc", "1", "1000", "2048", "60", "--help"],
-        None,
-    ),
-    (
-        &["life-haul", "abc", "1", "1000", "2048", "60"],
-        Some(Job::Haul(THOUSAND)),
-    ),
-    (
-        &[
-            "life-haul",
-            "--rule",
-            "B36/S23",
-            "abc",
-            "1",
-            "1000",
-            "2048",
-            "60",
-        ],
+        "life-haul --rule B36/S23 abc 1 1000 2048 60",
         Some(Job::Haul(HaulWords {
             rule: "B36/S23",
             ..THOUSAND
         })),
     ),
     (
-        &["life-haul", "--", "soup", "1", "1000", "2048", "60"],
+        "life-haul -- soup 1 1000 2048 60",
         Some(Job::Haul(HaulWords {
             root: "soup",
             ..THOUSAND
         })),
     ),
-    (&["life-haul", "soup", "abc", "17"], Some(Job::Soup(SOUP))),
+    ("life-haul soup abc 17", Some(Job::Soup(SOUP))),
     (
-        &["life-haul", "soup", "abc", "17", "--rule", "B36/S23"],
+        "life-haul soup abc 17 --rule B36/S23",
         Some(Job::Soup(SoupWords {
             rule: "B36/S23",
             ..SOUP
         })),
     ),
     (
-        &[
-            "life-haul",
-            "--symmetry",
-            "8x32",
-            "abc",
-            "1",
-            "1000",
-            "2048",
-            "60",
-        ],
+        "life-haul --symmetry 8x32 abc 1 1000 2048 60",
         Some(Job::Haul(HaulWords {
             symmetry: Symmetry::EightRows,
             ..THOUSAND
         })),
     ),
     (
-        &["life-haul", "soup", "abc", "17", "--symmetry", "D2_+2"],
+        "life-haul soup abc 17 --symmetry D2_+2",
         Some(Job::Soup(SoupWords {
             symmetry: Symmetry::D2Plus2,
             ..SOUP
         })),
     ),
-    (
-        &["life-haul", "soup", "abc", "17", "--symmetry=C1"],
-        Some(Job::Soup(SOUP)),
-    ),
-    (
-        &[
-            "life-haul",
-            "abc",
-            "1",
-            "1000",
-            "2048",
-            "60",
-            "--symmetry",
-            "32x8",
-        ],
-        None,
-    ),
-    (
-        &["life-haul", "soup", "abc", "17", "--symmetry", "d2_+2"],
-        None,
-    ),
-    (
-        &["life-haul", "--symmetry", "8x32", "soup", "abc", "17"],
-        None,
-    ),
-    (&["life-haul", "soup", "abc"], None),
-    (&["life-haul", "abc", "soup", "abc", "17"], None),
-    (
-        &["life-haul", "--rule", "B36/S23", "soup", "abc", "17"],
-        None,
-    ),
+    ("life-haul soup abc 17 --symmetry=C1", Some(Job::Soup(SOUP))),
+    ("life-haul abc 1 1000 2048 60 --symmetry 32x8", None),
+    ("life-haul soup abc 17 --symmetry d2_+2", None),
+    ("life-haul --symmetry 8x32 soup abc 17", None),
+    ("life-haul soup abc", None),
+    ("life-haul abc soup abc 17", None),
+    ("life-haul --rule B36/S23 soup abc 17", None),
 ];
 
-/// Whether the words name the job, or are a usage error if there is none.
-fn name(alloc: Global, words: &'static [&'static str], job: Option<Job<'static>>) -> bool {
-    match read_words(alloc, words) {
-        Ok(named) => job == Some(named),
-        Err(WordFault::BadWords(_)) => job.is_none(),
-        Err(WordFault::Memory) => false,
-    }
-}
-
 #[test]
-fn symmetries_are_read_by_their_names(rt: HostRuntime) -> Result<(), Fail> {
+fn symmetries_are_read_by_their_names(rt: HostRuntime) {
     for (name, symmetry) in NAMES {
         assert_eq!(rt; symmetry.name(), name);
         assert_eq!(rt; Symmetry::named(name), Some(symmetry));
     }
     assert_eq!(rt; Symmetry::named(""), None);
-    Ok(())
+}
+
+/// Whether the arguments name the job, or are a usage error if there is none.
+fn name(alloc: Global, words: &[&str], job: Option<Job<'_>>) -> bool {
+    is_named(read_words(alloc, words), job)
 }
 
 #[test]
-fn words_name_jobs(rt: HostRuntime) -> Result<(), Fail> {
-    for (words, job) in WORDS {
-        assert!(rt; name(rt.alloc(), words, job));
-    }
-    Ok(())
+fn arguments_name_jobs(rt: HostRuntime) {
+    assert_eq!(rt; other_line(rt.alloc(), &LINES, name), None);
 }

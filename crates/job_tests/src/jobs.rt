@@ -1,13 +1,11 @@
 //! Jobs over streams in memory: whole, byte by byte, and with a take or a put that fails.
-ghost use Rattle.std.specs.Prelude.{◌<◌};
-
 use life_code::CodeFault;
 use life_jobs::{Stop, run_census, run_generation, run_kind, run_object};
-use life_rle::{Inlet, Outlet, PieceInlet, PieceOutlet, RleFault};
+use life_rle::{PieceInlet, PieceOutlet, RleFault};
+use shared_tests::jobs::{End, Run, other_run};
 use std::alloc::Global;
-use std::test::Fail;
 
-/// A job, with its numbers and words.
+/// A job, with its numbers and arguments.
 #[derive(Clone, Copy)]
 enum Job {
     Generation(u64),
@@ -15,22 +13,6 @@ enum Job {
     Object(&'static str, &'static str, u64),
     Census(u64, u64),
 }
-
-/// How a stream comes and goes.
-#[derive(Clone, Copy)]
-enum Flow {
-    /// Whole.
-    Whole,
-    /// Byte by byte.
-    Bytewise,
-    /// Byte by byte, and the take of this number fails.
-    Unreadable(u64),
-    /// Byte by byte, and the put after what was put fails.
-    Unwritable,
-}
-
-/// A job over a stream, what it answers, and what it puts.
-type Run = (Job, &'static str, Flow, Result<(), Stop>, &'static str);
 
 const GLIDER: &str = "#N Glider\nx = 3, y = 3\nbo$2bo$3o!\n";
 
@@ -53,144 +35,65 @@ const CENSUS: Job = Job::Census(1, 1);
 
 const TABLE: &str = "code,count\nxs4_33,1\nunresolved,0\n";
 
-/// Jobs over streams that come and go whole, byte by byte, and that fail.
-const FLOWS: [Run; 15] = [
-    (GENERATION, GLIDER, Flow::Whole, Ok(()), NEXT_GLIDER),
-    (GENERATION, GLIDER, Flow::Bytewise, Ok(()), NEXT_GLIDER),
-    (
-        GENERATION,
-        GLIDER,
-        Flow::Unreadable(1),
-        Err(Stop::Unreadable),
-        "",
-    ),
-    (
-        GENERATION,
-        GLIDER,
-        Flow::Unreadable(12),
-        Err(Stop::Unreadable),
-        "",
-    ),
-    (
-        GENERATION,
-        GLIDER,
-        Flow::Unwritable,
-        Err(Stop::Unwritable),
-        "x = 3, y",
-    ),
-    (KIND, GLIDER, Flow::Whole, Ok(()), KIND_LINE),
-    (KIND, GLIDER, Flow::Bytewise, Ok(()), KIND_LINE),
-    (KIND, GLIDER, Flow::Unreadable(3), Err(Stop::Unreadable), ""),
-    (KIND, GLIDER, Flow::Unwritable, Err(Stop::Unwritable), ""),
-    (OBJECT, "", Flow::Bytewise, Ok(()), BEEHIVE),
+const NO_END: Stop = Stop::BadPattern(RleFault::NoEnd);
+
+const NO_HEADER: Stop = Stop::BadPattern(RleFault::NoHeader);
+
+const NOT_CANONICAL: Stop = Stop::BadCode(CodeFault::NotCanonical);
+
+const OUT_OF_LIMIT: End = End::Stopped(Stop::OutOfLimit);
+
+/// Jobs that are done, and whose streams fail.
+const FLOWS: [Run<Job>; 12] = [
+    (GENERATION, GLIDER, End::Done(NEXT_GLIDER)),
+    (GENERATION, GLIDER, End::Unreadable(1)),
+    (GENERATION, GLIDER, End::Unreadable(12)),
+    (GENERATION, GLIDER, End::Unwritable("x = 3, y")),
+    (KIND, GLIDER, End::Done(KIND_LINE)),
+    (KIND, GLIDER, End::Unreadable(3)),
+    (KIND, GLIDER, End::Unwritable("")),
+    (OBJECT, "", End::Done(BEEHIVE)),
     (
         OBJECT,
         "",
-        Flow::Unwritable,
-        Err(Stop::Unwritable),
-        "x = 3, y = 4, rule = B3/S23\nbo$",
+        End::Unwritable("x = 3, y = 4, rule = B3/S23\nbo$"),
     ),
-    (CENSUS, BEFORE_A_BLOCK, Flow::Whole, Ok(()), TABLE),
-    (CENSUS, BEFORE_A_BLOCK, Flow::Bytewise, Ok(()), TABLE),
-    (
-        CENSUS,
-        BEFORE_A_BLOCK,
-        Flow::Unreadable(16),
-        Err(Stop::Unreadable),
-        "",
-    ),
-    (
-        CENSUS,
-        BEFORE_A_BLOCK,
-        Flow::Unwritable,
-        Err(Stop::Unwritable),
-        "code,count\nxs4",
-    ),
+    (CENSUS, BEFORE_A_BLOCK, End::Done(TABLE)),
+    (CENSUS, BEFORE_A_BLOCK, End::Unreadable(16)),
+    (CENSUS, BEFORE_A_BLOCK, End::Unwritable("code,count\nxs4")),
 ];
 
 /// Jobs that are refused, and the limits of their numbers.
-const LIMITS: [Run; 13] = [
-    (
-        Job::Generation(2049),
-        GLIDER,
-        Flow::Whole,
-        Err(Stop::OutOfLimit),
-        "",
-    ),
-    (
-        GENERATION,
-        "x = 1, y = 1\n3o",
-        Flow::Whole,
-        Err(Stop::BadPattern(RleFault::NoEnd)),
-        "",
-    ),
-    (
-        GENERATION,
-        "",
-        Flow::Whole,
-        Err(Stop::BadPattern(RleFault::NoHeader)),
-        "",
-    ),
-    (Job::Kind(3), GLIDER, Flow::Whole, Ok(()), "unresolved\n"),
-    (Job::Kind(2048), GLIDER, Flow::Whole, Ok(()), KIND_LINE),
-    (Job::Kind(0), GLIDER, Flow::Whole, Err(Stop::OutOfLimit), ""),
-    (
-        Job::Kind(2049),
-        GLIDER,
-        Flow::Whole,
-        Err(Stop::OutOfLimit),
-        "",
-    ),
-    (
-        Job::Object("B0/S23", "xs6_696", 0),
-        "",
-        Flow::Whole,
-        Err(Stop::OutOfLimit),
-        "",
-    ),
+const LIMITS: [Run<Job>; 13] = [
+    (Job::Generation(2049), GLIDER, OUT_OF_LIMIT),
+    (GENERATION, "x = 1, y = 1\n3o", End::Stopped(NO_END)),
+    (GENERATION, "", End::Stopped(NO_HEADER)),
+    (Job::Kind(3), GLIDER, End::Done("unresolved\n")),
+    (Job::Kind(2048), GLIDER, End::Done(KIND_LINE)),
+    (Job::Kind(0), GLIDER, OUT_OF_LIMIT),
+    (Job::Kind(2049), GLIDER, OUT_OF_LIMIT),
+    (Job::Object("B0/S23", "xs6_696", 0), "", OUT_OF_LIMIT),
     (
         Job::Object("B0/S23", "xs6_696", 1),
         "",
-        Flow::Whole,
-        Err(Stop::BadRule),
-        "",
+        End::Stopped(Stop::BadRule),
     ),
     (
         Job::Object("B3/S23", "xp2_111", 2),
         "",
-        Flow::Whole,
-        Err(Stop::BadCode(CodeFault::NotCanonical)),
-        "",
+        End::Stopped(NOT_CANONICAL),
     ),
-    (
-        Job::Census(2049, 1),
-        BEFORE_A_BLOCK,
-        Flow::Whole,
-        Err(Stop::OutOfLimit),
-        "",
-    ),
-    (
-        Job::Census(0, 0),
-        BEFORE_A_BLOCK,
-        Flow::Whole,
-        Err(Stop::OutOfLimit),
-        "",
-    ),
-    (
-        Job::Census(0, 2049),
-        BEFORE_A_BLOCK,
-        Flow::Whole,
-        Err(Stop::OutOfLimit),
-        "",
-    ),
+    (Job::Census(2049, 1), BEFORE_A_BLOCK, OUT_OF_LIMIT),
+    (Job::Census(0, 0), BEFORE_A_BLOCK, OUT_OF_LIMIT),
+    (Job::Census(0, 2049), BEFORE_A_BLOCK, OUT_OF_LIMIT),
 ];
 
 /// Does a job over these streams.
-fn done<I: Inlet, O: Outlet>(
+fn done(
     alloc: Global,
     job: Job,
-    input: &mut I,
-    output: &mut O,
+    input: &mut PieceInlet,
+    output: &mut PieceOutlet,
 ) -> Result<(), Stop> {
     match job {
         Job::Generation(n) => run_generation(alloc, n, input, output),
@@ -200,73 +103,22 @@ fn done<I: Inlet, O: Outlet>(
     }
 }
 
-/// The most bytes of a take and a put.
-fn piece(flow: Flow) -> usize
-    ensures { 0 < result }
-{
-    match flow {
-        Flow::Whole => usize::MAX,
-        _ => 1,
-    }
-}
-
-/// The number of the take that fails.
-fn failing_take(flow: Flow) -> Option<u64> {
-    match flow {
-        Flow::Unreadable(take) => Some(take),
-        _ => None,
-    }
-}
-
-/// The number of the put that fails, which is the one after so many bytes.
-fn failing_put(flow: Flow, bytes: usize) -> Option<u64> {
-    match flow {
-        Flow::Unwritable => Some((bytes as u64).saturating_add(1)),
-        _ => None,
-    }
-}
-
-/// Whether this comes of a run, and no byte is taken where a number is out of its range.
-fn comes(alloc: Global, run: Run) -> bool {
-    let (job, bytes, flow, answer, put) = run;
-    let Ok(bytes) = bytes.as_bytes().to_vec(alloc) else {
-        return false;
-    };
-    let mut input = PieceInlet::new(bytes, piece(flow), failing_take(flow));
-    let mut output = PieceOutlet::new(alloc, piece(flow), failing_put(flow, put.len()));
-    let done = done(alloc, job, &mut input, &mut output);
-    let untouched = answer != Err(Stop::OutOfLimit) || input.calls() == 0;
-    done == answer && output.bytes() == put.as_bytes() && untouched
+#[test]
+fn jobs_go_by_their_streams(rt: HostRuntime) {
+    assert_eq!(rt; other_run(rt.alloc(), &FLOWS, done), None);
 }
 
 #[test]
-fn jobs_go_by_their_streams(rt: HostRuntime) -> Result<(), Fail> {
-    for run in FLOWS {
-        assert!(rt; comes(rt.alloc(), run));
-    }
-    Ok(())
-}
-
-#[test]
-fn jobs_are_refused(rt: HostRuntime) -> Result<(), Fail> {
-    for run in LIMITS {
-        assert!(rt; comes(rt.alloc(), run));
-    }
-    Ok(())
+fn jobs_are_refused(rt: HostRuntime) {
+    assert_eq!(rt; other_run(rt.alloc(), &LIMITS, done), None);
 }
 
 /// Stops, and the lines that are printed for them.
 const LINES: [(Stop, &str); 7] = [
     (Stop::OutOfLimit, "refused: out-of-limit"),
-    (
-        Stop::BadPattern(RleFault::NoEnd),
-        "refused: bad-pattern no-end",
-    ),
+    (NO_END, "refused: bad-pattern no-end"),
     (Stop::BadRule, "refused: bad-rule"),
-    (
-        Stop::BadCode(CodeFault::NotCanonical),
-        "refused: bad-code not-canonical",
-    ),
+    (NOT_CANONICAL, "refused: bad-code not-canonical"),
     (Stop::Unreadable, "refused: unreadable"),
     (Stop::Unavailable, "refused: unavailable"),
     (Stop::Unwritable, ""),

@@ -30,10 +30,10 @@ use Rattle.life_desk.specs.Run.{RequestStep}
 use Rattle.life_desk.proofs.Representing.{holds_of, each_of, represents_same}
 use Rattle.life_desk.proofs.Runs.{IsSettled}
 use Rattle.life_desk.proofs.Steps.{step_each, after_each}
-use Rattle.life_pages.specs.declared.asked.MessageRefusal.{MessageRefusal}
+use Rattle.life_pages.specs.declared.fault.MessageRefusal.{MessageRefusal}
 use Rattle.life_pages.specs.Head.{Head}
 use Rattle.life_pages.specs.Asked.{asked}
-use Rattle.life_pages.specs.declared.serving.IoFault.{IoFault}
+use Rattle.life_pages.specs.declared.fault.IoFault.{IoFault}
 use Rattle.life_pages.specs.Message.{Message, good, bad, MessageRun, AnswersAsked, AnswersMessage}
 use Rattle.life_pages.specs.Reply.{bad_bytes}
 use Rattle.life_pages.specs.Archive.{StoreAnswers, IsAnswered, IsLeftOf}

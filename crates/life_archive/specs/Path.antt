@@ -20,7 +20,7 @@ use Rattle.life_archive.specs.declared.stop.ArchiveStop.{ArchiveStop}
 use Rattle.life_archive.specs.declared.stop.ArchiveStop.TheVariants.{Job, NotOurs}
 use Rattle.life_archive.specs.Stop.{line_of}
 use Rattle.life_archive.specs.Deposit.{Deposits, IsDepositSafe}
-use Rattle.life_archive.specs.Session.{Traffic, unknown, Runs, ServesConnections, FilesRepresent, Begins, messages_of, replies_of}
+use Rattle.life_archive.specs.Session.{Traffic, unknown, Runs, ServesConnections, FilesRepresent, Begins, CannotListen, messages_of, replies_of}
 
 -- the stop for an opening that is refused
 abbrev pub opening_stop : OpenFault → ArchiveStop
@@ -67,6 +67,10 @@ LeavesClosed g A ms bytes (Some files) = AreClean g files.log files.db
     → (B : Archive) × Runs ms bytes A B × ((image : Image) → outcomes g files.log files.db image → FilesRepresent image B) × FilesRepresent (without_log (image_of g files)) B
 LeavesClosed g A ms bytes None = ⊤
 
+-- why nobody is served: the opening was refused, or nobody can be listened to
+abbrev pub IsUnserved : ArchiveStop → Type 0
+IsUnserved stop = ((fault : OpenFault) × (stop ≡ opening_stop fault)) ⊎ CannotListen stop
+
 -- A session over the files of a path: they were opened as an archive, which served so many connections, and were closed. What serving did to the archive,
 -- what a crash during it leaves, and what it leaves at its end, are of one list of connections.
 pub record IsPathSession {D : Type 0} (g : disk.Ghosts D) (image : Image) (capacity count : ℕ) (before after : Traffic) (left : Option (Files D)) : Type 0 where
@@ -94,4 +98,4 @@ AnswersDeposit g image capacity member token known before after line =
 abbrev pub AnswersServing : {D : Type 0} → disk.Ghosts D → Image → ℕ → ℕ → Option (List ℕ) → Type 0
 AnswersServing {D} g image capacity count line =
     ((failures : ℕ) × (left : Option (Files D)) × IsPathSession g image capacity count (unknown 0) (unknown failures) left × (line ≡ None))
-    ⊎ ((stop : ArchiveStop) × (line ≡ Some (line_of stop)))
+    ⊎ ((stop : ArchiveStop) × IsUnserved stop × (line ≡ Some (line_of stop)))

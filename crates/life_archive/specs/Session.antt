@@ -7,7 +7,6 @@ use Rattle.sqlite_wal.specs.Reads.{AreClean}
 use Rattle.sqlite_wal.specs.Recovery.{Image}
 use Rattle.sqlite_trees.specs.declared.store.Store.{Ghosts}
 use Rattle.sqlite_store.specs.declared.store.FileStore.{FileStore}
-use Rattle.sqlite_store.specs.FileStore.{view}
 use Rattle.sqlite.specs.Files.{image_of, over_files}
 use Rattle.life_rle.specs.Stream.{raised}
 use Rattle.life_store.specs.Opening.{FilesHold, FilesHoldFirst, ListNothing}
@@ -19,6 +18,9 @@ use Rattle.life_desk.specs.Run.{RequestStep}
 use Rattle.life_pages.specs.Message.{Message, MessageRun, AnswersMessage}
 use Rattle.life_pages.specs.Serving.{AreAllOf, AreFirstOf}
 use Rattle.life_pages.specs.Archive.{StoreAnswers, AnswersFirmly, ByArchive, IsLeftOf, IsServedUntil}
+use Rattle.life_jobs.specs.declared.stop.Stop.TheVariants.{Unavailable, Unwritable}
+use Rattle.life_archive.specs.declared.stop.ArchiveStop.{ArchiveStop}
+use Rattle.life_archive.specs.declared.stop.ArchiveStop.TheVariants.{Job, NoPort}
 
 -- ---- connections
 
@@ -48,6 +50,13 @@ pub record Traffic : Type 0 where
   pub to_come : Option (List (List ℕ))
   pub put : Option (List (List ℕ))
   pub failures : ℕ
+
+-- nobody can be listened to: the port is not free, the line that names it could not be put, or memory ran out
+abbrev pub CannotListen : ArchiveStop → Type 0
+CannotListen NoPort = ⊤
+CannotListen (Job Unwritable) = ⊤
+CannotListen (Job Unavailable) = ⊤
+CannotListen stop = ⊥
 
 -- if only the failures are known
 abbrev pub unknown : ℕ → Traffic

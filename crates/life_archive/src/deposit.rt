@@ -125,30 +125,6 @@ fn reply_of<S: Alter>(alloc: Global, archive: &mut Archive<S>, request: Request)
     answer(archive, alloc, request)
 }
 
-/// Takes a file to its end, asks the archive once, and puts its reply.
-fn deposit_once<S: Alter, I: Inlet, O: Outlet>(
-    alloc: Global,
-    archive: &mut Archive<S>,
-    member: &str,
-    token: &str,
-    input: &mut I,
-    output: &mut O,
-) -> Result<(), ArchiveStop>
-    ensures deposits { Deposits S.Store archive.old archive.new member.now token.now (I.to_come input.old) (O.already output.old) (O.already output.new) result }
-    ensures takes { TakesFile (I.to_come input.old) (I.to_come input.new) (I.failures input.old) (I.failures input.new) (I.ends input.old) (I.ends input.new) (I.last_take input.new) (by_streams result) }
-    ensures once { PutsOnce output.old output.new (O.failures output.old) (O.failures output.new) (O.last_failed output.new) (by_streams result) }
-{
-    let file = match take_file(alloc, input) {
-        Ok(file) => file,
-        Err(stop) => return Err(stop),
-    };
-    let request = match deposit_request(alloc, member, token, file) {
-        Ok(request) => request,
-        Err(_) => return Err(ArchiveStop::Job(Stop::Unavailable)),
-    };
-    put_reply(output, reply_of(alloc, archive, request))
-}
-
 /// Takes a file to its end and deposits it under the member and the token; puts the number of the
 /// deposit as one line.
 pub fn run_deposit<S: Alter, I: Inlet, O: Outlet>(
@@ -167,5 +143,13 @@ pub fn run_deposit<S: Alter, I: Inlet, O: Outlet>(
     ensures once { PutsOnce output.old output.new (O.failures output.old) (O.failures output.new) (O.last_failed output.new) (by_streams result) }
 {
     archive.law_of_crashes();
-    deposit_once(alloc, archive, member, token, input, output)
+    let file = match take_file(alloc, input) {
+        Ok(file) => file,
+        Err(stop) => return Err(stop),
+    };
+    let request = match deposit_request(alloc, member, token, file) {
+        Ok(request) => request,
+        Err(_) => return Err(ArchiveStop::Job(Stop::Unavailable)),
+    };
+    put_reply(output, reply_of(alloc, archive, request))
 }

@@ -1,7 +1,7 @@
 //! The jobs over an archive in the file of a path, as the program does them: the archive is opened, asked and closed.
-ghost use Rattle.std.specs.Prelude.{◌≡◌, OnErr, IfOk};
+ghost use Rattle.std.specs.Prelude.{◌≡◌, OnErr, IfOk, IfErr};
 ghost use Rattle.sqlite_wal.specs.Files.{image_at};
-ghost use Rattle.life_archive.specs.Path.{opening_stop, DepositsIn, DepositsAt, EndsPathSession, IsPathSession};
+ghost use Rattle.life_archive.specs.Path.{opening_stop, DepositsIn, DepositsAt, EndsPathSession, IsPathSession, IsUnserved};
 
 use crate::deposit::run_deposit;
 use crate::session::{Connections, serve_connections};
@@ -94,6 +94,7 @@ pub fn serve_path<T: Start, C: Connections>(
     ensures session { IfOk result (IsPathSession ⟦<FileFrom<T> as Disk>⟧ (image_at T.Start) capacity count (C.traffic connections.old) (C.traffic connections.new)) }
     // If the archive is not opened, or nobody can be listened to, nobody was served.
     ensures unserved { OnErr result (C.traffic connections.new ≡ C.traffic connections.old) }
+    ensures refused { IfErr result IsUnserved }
 {
     match Archive::open_path(rt, path, capacity, start) {
         Ok(archive) => match connections.listen() {

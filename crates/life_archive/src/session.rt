@@ -4,7 +4,7 @@ ghost use Rattle.sqlite_wal.specs.Reads.{AreClean};
 ghost use Rattle.sqlite.specs.Files.{image_of};
 ghost use Rattle.life_store.specs.Kept.{Kept};
 ghost use Rattle.life_store.specs.Opening.{is_capacity, FilesHold, ListNothing};
-ghost use Rattle.life_archive.specs.Session.{Traffic, ServesOne, ServesSome, ServesConnections, AreUsable, either, EndsSession, IsSession, SessionsCompose, SessionsComposeOverCrashes};
+ghost use Rattle.life_archive.specs.Session.{Traffic, CannotListen, ServesOne, ServesSome, ServesConnections, AreUsable, either, EndsSession, IsSession, SessionsCompose, SessionsComposeOverCrashes};
 
 use crate::stop::ArchiveStop;
 use life_census::laws_of_steady_fields;
@@ -20,7 +20,8 @@ pub trait Connections {
 
     /// Makes ready for the first connection, once the archive is open.
     fn listen(&mut self) -> Result<(), ArchiveStop>
-        ensures { traffic self.new ≡ traffic self.old };
+        ensures traffic { traffic self.new ≡ traffic self.old }
+        ensures refused { IfErr result CannotListen };
 
     /// Waits for the next connection, and answers its messages from the archive, as [`crate::run_serve`] does it, whatever comes of it.
     fn serve_next<S: Alter>(&mut self, alloc: Global, archive: &mut Archive<S>)

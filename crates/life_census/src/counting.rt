@@ -13,7 +13,7 @@ ghost use Rattle.life_census.specs.SurveyState.{IsSurvey};
 use crate::cluster::clusters;
 use crate::code_text::CodeText;
 use crate::rows::{Row, Rows, Tally};
-use crate::survey::{Shape, code_of_cluster, shape_index};
+use crate::survey::{Search, Shape};
 use life_code::{Kind, PERIOD_LIMIT, kind};
 use life_core::{Fault, Pattern, Rule};
 use std::alloc::{AllocError, Allocator};
@@ -31,26 +31,25 @@ pub fn tally<A: Allocator + Copy>(
     ensures { IfOk result (IsTally (λ P. code_of rule.now P limit) (clusters_of pattern.now)) }
 {
     let clusters = clusters(alloc, pattern)?;
+    let search = Search::new(alloc, rule, limit);
     if clusters.len() == 1 {
         let kind = kind(alloc, rule, pattern, limit)?;
-        return tally_of_one(alloc, rule, pattern, limit, kind);
+        return tally_of_one(&search, pattern, kind);
     }
-    tally_of(alloc, rule, &clusters, limit, &mut Vec::new(alloc))
+    tally_of(&search, &clusters, &mut Vec::new(alloc))
 }
 
 /// The tally of a field that is one cluster, of this kind.
 pub fn tally_of_one<A: Allocator + Copy>(
-    alloc: A,
-    rule: &Rule,
+    search: &Search<A>,
     cluster: &Pattern<A>,
-    limit: u32,
     kind: Kind,
 ) -> Result<Tally<A>, Fault>
-    requires { IsKindOf rule.now cluster.now limit kind }
-    ensures { IfOk result (IsTally (λ P. code_of rule.now P limit) (cluster.now ∷ [])) }
+    requires { IsKindOf search.now.rule cluster.now search.now.limit kind }
+    ensures { IfOk result (IsTally (λ P. code_of search.now.rule P search.now.limit) (cluster.now ∷ [])) }
 {
-    let code = code_of_cluster(alloc, rule, cluster, limit, kind)?;
-    Ok(counted_once(alloc, &code)?)
+    let code = search.code_of(cluster, kind)?;
+    Ok(counted_once(search.alloc, &code)?)
 }
 
 /// The tally of one cluster that has this code, or none.
@@ -76,22 +75,20 @@ fn counted_once<A: Allocator + Copy>(
 /// How many of the clusters have each code, and how many have none. Shapes that are new are added to
 /// the table.
 pub fn tally_of<A: Allocator + Copy>(
-    alloc: A,
-    rule: &Rule,
+    search: &Search<A>,
     clusters: &[Pattern<A>],
-    limit: u32,
     shapes: &mut Vec<Shape<A>, A>,
 ) -> Result<Tally<A>, Fault>
     requires room { All (IsWithin 400_000_000) clusters.now }
-    requires survey { IsSurvey rule.now limit false shapes.old.items }
-    ensures { IfOk result (IsTally (λ P. code_of rule.now P limit) clusters.now) }
+    requires survey { IsSurvey search.now.rule search.now.limit false shapes.old.items }
+    ensures { IfOk result (IsTally (λ P. code_of search.now.rule P search.now.limit) clusters.now) }
 {
-    let mut rows = Vec::new(alloc);
+    let mut rows = Vec::new(search.alloc);
     let mut unresolved = 0;
     for cluster in clusters {
-        let (i, _) = shape_index(alloc, rule, cluster, limit, false, shapes)?;
+        let (i, _) = search.shape_index(cluster, false, shapes)?;
         match &shapes[i].code {
-            Some(code) => count_code(alloc, &mut rows, code)?,
+            Some(code) => count_code(search.alloc, &mut rows, code)?,
             None => unresolved += 1,
         }
     }

@@ -19,7 +19,7 @@ ghost use Rattle.life_census.specs.SurveyState.{IsSurvey};
 use crate::cluster::clusters;
 use crate::counting::{tally_of, tally_of_one};
 use crate::rows::Tally;
-use crate::survey::{Shape, shape_index, stays};
+use crate::survey::{Search, Shape, stays};
 use life_code::{PERIOD_LIMIT, kind};
 use life_core::{Cell, Fault, Pattern, Rule};
 use std::alloc::{AllocError, Allocator};
@@ -49,7 +49,8 @@ pub fn steady<A: Allocator + Copy>(
     if clusters.len() == 1 {
         return Ok(stays(kind(alloc, rule, pattern, limit)?));
     }
-    never_meet(alloc, rule, &clusters, limit, &mut Vec::new(alloc))
+    let search = Search::new(alloc, rule, limit);
+    never_meet(&search, &clusters, &mut Vec::new(alloc))
 }
 
 /// The tally of a field, as [`tally`](crate::tally) gives it, and whether the field is steady, as
@@ -66,33 +67,32 @@ pub fn tally_and_steady<A: Allocator + Copy>(
     ensures computed { IfOk result (λ p. p.1 ≡ is_steady rule.now pattern.now limit) }
 {
     let clusters = clusters(alloc, pattern)?;
+    let search = Search::new(alloc, rule, limit);
     if clusters.len() == 1 {
         let kind = kind(alloc, rule, pattern, limit)?;
-        let tally = tally_of_one(alloc, rule, pattern, limit, kind)?;
+        let tally = tally_of_one(&search, pattern, kind)?;
         return Ok((tally, stays(kind)));
     }
     let mut shapes = Vec::new(alloc);
     // It ends at the first cluster that does not stay, so no phases of later shapes are listed.
-    let steady = never_meet(alloc, rule, &clusters, limit, &mut shapes)?;
-    let tally = tally_of(alloc, rule, &clusters, limit, &mut shapes)?;
+    let steady = never_meet(&search, &clusters, &mut shapes)?;
+    let tally = tally_of(&search, &clusters, &mut shapes)?;
     Ok((tally, steady))
 }
 
 /// Whether these clusters stay, and never come near each other. Shapes that are new are added to the
 /// table, with their phases.
 fn never_meet<A: Allocator + Copy>(
-    alloc: A,
-    rule: &Rule,
+    search: &Search<A>,
     clusters: &[Pattern<A>],
-    limit: u32,
     shapes: &mut Vec<Shape<A>, A>,
 ) -> Result<bool, Fault>
     requires room { All (IsWithin 400_000_000) clusters.now }
-    requires survey { IsSurvey rule.now limit true shapes.old.items }
-    ensures survey { IsSurvey rule.now limit true shapes.new.items }
-    ensures answer { IfOk result (λ b. (X : Cells) → clusters_of X ≡ clusters.now → (IsTrue b ↔ IsSteady rule.now X limit)) }
+    requires survey { IsSurvey search.now.rule search.now.limit true shapes.old.items }
+    ensures survey { IsSurvey search.now.rule search.now.limit true shapes.new.items }
+    ensures answer { IfOk result (λ b. (X : Cells) → clusters_of X ≡ clusters.now → (IsTrue b ↔ IsSteady search.now.rule X search.now.limit)) }
 {
-    let Some(mut visits) = all_visits(alloc, rule, clusters, limit, shapes)? else {
+    let Some(mut visits) = all_visits(search, clusters, shapes)? else {
         return Ok(false);
     };
     visits.sort_unstable();
@@ -102,22 +102,20 @@ fn never_meet<A: Allocator + Copy>(
 /// The cells of all phases of the clusters, if all of them stay: up to the first that does not, each
 /// new shape is added to the table.
 fn all_visits<A: Allocator + Copy>(
-    alloc: A,
-    rule: &Rule,
+    search: &Search<A>,
     clusters: &[Pattern<A>],
-    limit: u32,
     shapes: &mut Vec<Shape<A>, A>,
 ) -> Result<Option<Vec<Visit, A>>, Fault>
     requires room { All (IsWithin 400_000_000) clusters.now }
-    requires survey { IsSurvey rule.now limit true shapes.old.items }
-    ensures survey { IsSurvey rule.now limit true shapes.new.items }
-    ensures stay { IfOk result (λ o. MatchOption o (All (Stays rule.now limit) clusters.now → ⊥) (λ v. All (Stays rule.now limit) clusters.now)) }
-    ensures visits { IfOk result (λ o. IfSome o (λ v. AreVisits rule.now clusters.now (length clusters.now) v.items)) }
+    requires survey { IsSurvey search.now.rule search.now.limit true shapes.old.items }
+    ensures survey { IsSurvey search.now.rule search.now.limit true shapes.new.items }
+    ensures stay { IfOk result (λ o. MatchOption o (All (Stays search.now.rule search.now.limit) clusters.now → ⊥) (λ v. All (Stays search.now.rule search.now.limit) clusters.now)) }
+    ensures visits { IfOk result (λ o. IfSome o (λ v. AreVisits search.now.rule clusters.now (length clusters.now) v.items)) }
     ensures inside { IfOk result (λ o. IfSome o (λ v. All IsVisitInPlane v.items)) }
 {
-    let mut visits = Vec::new(alloc);
+    let mut visits = Vec::new(search.alloc);
     for (number, cluster) in clusters.iter().enumerate() {
-        let (i, move_by) = shape_index(alloc, rule, cluster, limit, true, shapes)?;
+        let (i, move_by) = search.shape_index(cluster, true, shapes)?;
         let Some(phases) = &shapes[i].phases else {
             return Ok(None);
         };

@@ -8,7 +8,7 @@ ghost use Rattle.life_census.specs.SurveyState.{IsSurvey};
 
 use crate::cluster::clusters;
 use crate::code_text::CodeText;
-use crate::survey::{Shape, shape_index};
+use crate::survey::{Search, Shape};
 use life_code::PERIOD_LIMIT;
 use life_core::{Fault, Pattern, Rule};
 use std::alloc::{AllocError, Allocator};
@@ -62,27 +62,26 @@ impl<A: Allocator + Copy> Names<A> {
         ensures codes { IfOk result (λ v. v.items ≡ map (λ P. code_of self.old.rule P self.old.limit) (clusters_of pattern.now)) }
     {
         let clusters = clusters(alloc, pattern)?;
-        named(alloc, &self.rule, self.limit, &clusters, &mut self.shapes)
+        let search = Search::new(alloc, &self.rule, self.limit);
+        named(&search, &clusters, &mut self.shapes)
     }
 }
 
 /// The codes of clusters, in their order.
 fn named<A: Allocator + Copy>(
-    alloc: A,
-    rule: &Rule,
-    limit: u32,
+    search: &Search<A>,
     clusters: &[Pattern<A>],
     shapes: &mut Vec<Shape<A>, A>,
 ) -> Result<Vec<Option<CodeText<A>>, A>, Fault>
-    requires survey { IsSurvey rule.now limit false shapes.old.items }
+    requires survey { IsSurvey search.now.rule search.now.limit false shapes.old.items }
     requires room { All (IsWithin 400_000_000) clusters.now }
-    ensures survey { IsSurvey rule.now limit false shapes.new.items }
-    ensures codes { IfOk result (λ v. v.items ≡ map (λ P. code_of rule.now P limit) clusters.now) }
+    ensures survey { IsSurvey search.now.rule search.now.limit false shapes.new.items }
+    ensures codes { IfOk result (λ v. v.items ≡ map (λ P. code_of search.now.rule P search.now.limit) clusters.now) }
 {
-    let mut codes = Vec::new(alloc);
+    let mut codes = Vec::new(search.alloc);
     for cluster in clusters {
-        let (i, _) = shape_index(alloc, rule, cluster, limit, false, shapes)?;
-        put_code(alloc, &mut codes, &shapes[i].code)?;
+        let (i, _) = search.shape_index(cluster, false, shapes)?;
+        put_code(search.alloc, &mut codes, &shapes[i].code)?;
     }
     Ok(codes)
 }

@@ -20,29 +20,125 @@ pub struct Shape<A: Allocator> {
     pub phases: Option<Vec<Cell, A>>,
 }
 
-/// The index of a cluster's shape in the table, and the move that takes the first cluster of this
-/// shape to it. A new shape gets the last index. `listed` says whether its phases are listed.
-pub fn shape_index<A: Allocator + Copy>(
-    alloc: A,
-    rule: &Rule,
-    cluster: &Pattern<A>,
-    limit: u32,
-    listed: bool,
-    shapes: &mut Vec<Shape<A>, A>,
-) -> Result<(usize, Cell), Fault>
-    requires room { IsWithin 400_000_000 cluster.now }
-    requires survey { IsSurvey rule.now limit listed shapes.old.items }
-    ensures survey { IsSurvey rule.now limit listed shapes.new.items }
-    ensures index { IfOk result (λ p. HasShapeAt shapes.new.items cluster.now p.0 p.1) }
-    ensures code { IfOk result (λ p. HasCodeAt shapes.new.items (code_of rule.now cluster.now limit) p.0) }
-{
-    if let Some(index) = known_index(shapes, cluster) {
-        return Ok(index);
+/// What is asked of each cluster: its kind and code under a rule and a limit of the period.
+#[derive(Clone, Copy)]
+pub struct Search<A: Allocator> {
+    pub alloc: A,
+    pub rule: Rule,
+    pub limit: u32,
+}
+
+impl<A: Allocator + Copy> Search<A> {
+    pub fn new(alloc: A, rule: &Rule, limit: u32) -> Search<A>
+        ensures rule { result.rule ≡ rule.now }
+        ensures limit { result.limit ≡ limit }
+    {
+        Search {
+            alloc,
+            rule: *rule,
+            limit,
+        }
     }
-    let shape = surveyed(alloc, rule, cluster, limit, listed)?;
-    let i = shapes.len();
-    learn(shapes, shape)?;
-    Ok((i, Cell { row: 0, column: 0 }))
+
+    /// The index of a cluster's shape in the table, and the move that takes the first cluster of this
+    /// shape to it. A new shape gets the last index. `listed` says whether its phases are listed.
+    pub fn shape_index(
+        &self,
+        cluster: &Pattern<A>,
+        listed: bool,
+        shapes: &mut Vec<Shape<A>, A>,
+    ) -> Result<(usize, Cell), Fault>
+        requires room { IsWithin 400_000_000 cluster.now }
+        requires survey { IsSurvey self.now.rule self.now.limit listed shapes.old.items }
+        ensures survey { IsSurvey self.now.rule self.now.limit listed shapes.new.items }
+        ensures index { IfOk result (λ p. HasShapeAt shapes.new.items cluster.now p.0 p.1) }
+        ensures code { IfOk result (λ p. HasCodeAt shapes.new.items (code_of self.now.rule cluster.now self.now.limit) p.0) }
+    {
+        if let Some(index) = known_index(shapes, cluster) {
+            return Ok(index);
+        }
+        let shape = self.surveyed(cluster, listed)?;
+        let i = shapes.len();
+        learn(shapes, shape)?;
+        Ok((i, Cell { row: 0, column: 0 }))
+    }
+
+    /// The shape of a cluster. Its kind is searched once.
+    fn surveyed(&self, cluster: &Pattern<A>, listed: bool) -> Result<Shape<A>, Fault>
+        requires { IsSearchable self.now.limit cluster.now }
+        ensures cluster { IfOk result (λ s. s.cluster ≡ cluster.now) }
+        ensures shape { IfOk result (IsShape self.now.rule self.now.limit listed) }
+    {
+        let kind = kind(self.alloc, &self.rule, cluster, self.limit)?;
+        Ok(Shape {
+            cluster: cluster.copy(self.alloc)?,
+            code: self.code_of(cluster, kind)?,
+            phases: self.listed_phases(cluster, kind, listed)?,
+        })
+    }
+
+    /// The code of a cluster of this kind, if it has one.
+    pub fn code_of(&self, cluster: &Pattern<A>, kind: Kind) -> Result<Option<CodeText<A>>, Fault>
+        requires { IsKindOf self.now.rule cluster.now self.now.limit kind }
+        ensures { IfOk result (λ o. o ≡ code_of self.now.rule cluster.now self.now.limit) }
+    {
+        match code_of_kind(self.alloc, &self.rule, cluster, self.limit, kind)? {
+            Some(coded) => Ok(Some(CodeText::from_slice(self.alloc, coded.text())?)),
+            None => Ok(None),
+        }
+    }
+
+    /// The cells of all phases of a cluster of this kind, if they are listed and it stays.
+    fn listed_phases(
+        &self,
+        cluster: &Pattern<A>,
+        kind: Kind,
+        listed: bool,
+    ) -> Result<Option<Vec<Cell, A>>, Fault>
+        requires { IsKindOf self.now.rule cluster.now self.now.limit kind }
+        ensures { IfOk result (λ o. IsTrue listed → MatchOption o (Stays self.now.rule self.now.limit cluster.now → ⊥) (λ v. ArePhases self.now.rule self.now.limit cluster.now v.items)) }
+    {
+        if !listed {
+            return Ok(None);
+        }
+        match kind {
+            Kind::Still => Ok(Some(self.phases(cluster, 1)?)),
+            Kind::Oscillator(period) => Ok(Some(self.phases(cluster, period)?)),
+            Kind::Empty | Kind::Ship(..) | Kind::Unresolved => Ok(None),
+        }
+    }
+
+    /// The cells of as many phases of a cluster as its period says.
+    fn phases(&self, cluster: &Pattern<A>, period: u32) -> Result<Vec<Cell, A>, Fault>
+        requires few { period ≤ PERIOD_LIMIT }
+        requires room { IsWithin 400_000_000 cluster.now }
+        ensures { IfOk result (λ v. v.items ≡ phases_of self.now.rule cluster.now period) }
+    {
+        if is_packed(cluster.bounds(), period) {
+            self.phases_by::<PackedRows<A>>(cluster, period)
+        } else {
+            self.phases_by::<CellList<A>>(cluster, period)
+        }
+    }
+
+    /// The cells of as many phases, made on one plane of the kind `P`.
+    fn phases_by<P: Plane<A>>(
+        &self,
+        cluster: &Pattern<A>,
+        period: u32,
+    ) -> Result<Vec<Cell, A>, Fault>
+        requires few { period ≤ PERIOD_LIMIT }
+        requires room { IsWithin 400_000_000 cluster.now }
+        ensures { IfOk result (λ v. v.items ≡ phases_of self.now.rule cluster.now period) }
+    {
+        let mut cells = Vec::new(self.alloc);
+        let mut plane = P::from_pattern(self.alloc, cluster)?;
+        for _i in 0..period {
+            list_runs(&mut cells, plane.to_pattern(self.alloc)?.cells().runs())?;
+            plane.step(&self.rule)?;
+        }
+        Ok(cells)
+    }
 }
 
 /// The index of a cluster's shape and the move, if the shape is known.
@@ -69,106 +165,9 @@ fn learn<A: Allocator>(shapes: &mut Vec<Shape<A>, A>, shape: Shape<A>) -> Result
     Ok(())
 }
 
-/// The shape of a cluster. Its kind is searched once.
-fn surveyed<A: Allocator + Copy>(
-    alloc: A,
-    rule: &Rule,
-    cluster: &Pattern<A>,
-    limit: u32,
-    listed: bool,
-) -> Result<Shape<A>, Fault>
-    requires { IsSearchable limit cluster.now }
-    ensures cluster { IfOk result (λ s. s.cluster ≡ cluster.now) }
-    ensures shape { IfOk result (IsShape rule.now limit listed) }
-{
-    let kind = kind(alloc, rule, cluster, limit)?;
-    Ok(Shape {
-        cluster: cluster.copy(alloc)?,
-        code: code_of_cluster(alloc, rule, cluster, limit, kind)?,
-        phases: listed_phases(alloc, rule, cluster, limit, kind, listed)?,
-    })
-}
-
-/// The code of a cluster of this kind, if it has one.
-pub fn code_of_cluster<A: Allocator + Copy>(
-    alloc: A,
-    rule: &Rule,
-    cluster: &Pattern<A>,
-    limit: u32,
-    kind: Kind,
-) -> Result<Option<CodeText<A>>, Fault>
-    requires { IsKindOf rule.now cluster.now limit kind }
-    ensures { IfOk result (λ o. o ≡ code_of rule.now cluster.now limit) }
-{
-    match code_of_kind(alloc, rule, cluster, limit, kind)? {
-        Some(coded) => Ok(Some(CodeText::from_slice(alloc, coded.text())?)),
-        None => Ok(None),
-    }
-}
-
 /// Whether a cluster of this kind stays.
 pub fn stays(kind: Kind) -> bool
     ensures { result ≡ is_staying kind }
 {
     matches!(kind, Kind::Still | Kind::Oscillator(_))
-}
-
-/// The cells of all phases of a cluster of this kind, if they are listed and it stays.
-fn listed_phases<A: Allocator + Copy>(
-    alloc: A,
-    rule: &Rule,
-    cluster: &Pattern<A>,
-    limit: u32,
-    kind: Kind,
-    listed: bool,
-) -> Result<Option<Vec<Cell, A>>, Fault>
-    requires { IsKindOf rule.now cluster.now limit kind }
-    ensures { IfOk result (λ o. IsTrue listed → MatchOption o (Stays rule.now limit cluster.now → ⊥) (λ v. ArePhases rule.now limit cluster.now v.items)) }
-{
-    if !listed {
-        return Ok(None);
-    }
-    match kind {
-        Kind::Still => Ok(Some(phases(alloc, rule, cluster, 1)?)),
-        Kind::Oscillator(period) => Ok(Some(phases(alloc, rule, cluster, period)?)),
-        Kind::Empty | Kind::Ship(..) | Kind::Unresolved => Ok(None),
-    }
-}
-
-/// The cells of as many phases of a cluster as its period says.
-fn phases<A: Allocator + Copy>(
-    alloc: A,
-    rule: &Rule,
-    cluster: &Pattern<A>,
-    period: u32,
-) -> Result<Vec<Cell, A>, Fault>
-    requires few { period ≤ PERIOD_LIMIT }
-    requires room { IsWithin 400_000_000 cluster.now }
-    ensures { IfOk result (λ v. v.items ≡ phases_of rule.now cluster.now period) }
-{
-    if is_packed(cluster.bounds(), period) {
-        phases_by::<A, PackedRows<A>>(alloc, rule, cluster, period)
-    } else {
-        phases_by::<A, CellList<A>>(alloc, rule, cluster, period)
-    }
-}
-
-/// The cells of as many phases, made on one plane of the kind `P`.
-fn phases_by<A: Allocator + Copy, P: Plane<A>>(
-    alloc: A,
-    rule: &Rule,
-    cluster: &Pattern<A>,
-    period: u32,
-) -> Result<Vec<Cell, A>, Fault>
-    requires few { period ≤ PERIOD_LIMIT }
-    requires room { IsWithin 400_000_000 cluster.now }
-    ensures { IfOk result (λ v. v.items ≡ phases_of rule.now cluster.now period) }
-{
-    let mut cells = Vec::new(alloc);
-    let mut plane = P::from_pattern(alloc, cluster)?;
-    for _i in 0..period {
-        list_runs(&mut cells, plane.to_pattern(alloc)?.cells().runs())?;
-        plane.step(rule)?;
-    }
-    Ok(cells)
 }

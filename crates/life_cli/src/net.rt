@@ -1,7 +1,7 @@
 //! The connections that come to a port of this machine.
 
-ghost use Rattle.std.specs.Prelude.{◌≡◌, ℕ, is_ok};
-ghost use Rattle.life_archive.specs.Session.{ServesOne, unknown, failures_after};
+ghost use Rattle.std.specs.Prelude.{◌≡◌, ℕ, is_ok, IfErr};
+ghost use Rattle.life_archive.specs.Session.{CannotListen, ServesOne, unknown, failures_after};
 
 use crate::peer::Peer;
 use life_archive::{ArchiveStop, Connections, run_serve};
@@ -15,7 +15,9 @@ use std::io;
 use std::net::{OpenListener, TcpListener};
 
 /// Listens at a port of this machine.
-fn listen(rt: &HostRuntime, port: u64) -> Result<TcpListener, ArchiveStop> {
+fn listen(rt: &HostRuntime, port: u64) -> Result<TcpListener, ArchiveStop>
+    ensures { IfErr result CannotListen }
+{
     let Ok(address) = format!(in rt.alloc(); "127.0.0.1:{port}") else {
         return Err(ArchiveStop::Job(Stop::Unavailable));
     };

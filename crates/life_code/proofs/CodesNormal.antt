@@ -7,11 +7,11 @@ use Rattle.life_core.specs.declared.cell.Cell.{Cell}
 use Rattle.life_core.specs.declared.orientation.Orientation.TheVariants.{O0}
 use Rattle.life_core.specs.Cell.{cell_cmp}
 use Rattle.life_core.specs.Generations.{generation_of}
-use Rattle.life_core.specs.Pattern.{Cells, corner, normal}
+use Rattle.life_core.specs.Pattern.{Cells, normal}
 use Rattle.life_core.specs.Rule.{RuleSets}
 use Rattle.life_core.proofs.PatternCorners.{Has, cases_cells, normal-moved}
 use Rattle.life_core.proofs.PatternMembers.{cells_by_members}
-use Rattle.life_core.proofs.Placements.{minus, moved, contains-placed, len-placed}
+use Rattle.life_core.proofs.Placements.{moved, contains-placed, len-placed}
 use Rattle.life_code.specs.Period.{same_cells, returns, period_of, kind_at}
 use Rattle.life_code.specs.Codes.{code_by_kind, code_of}
 use Rattle.life_code.proofs.PeriodLemmas.{generation-moved}
@@ -53,6 +53,3 @@ code_moved r X v limit = ⊎_elim some none (cases_cells X)
     some (d, has) =
         by_period r X v limit (λ e. false≢true (sym (set.contains-empty cell_cmp d) ∙ ap (λ (Z : Cells). set.contains Z d) (sym e) ∙ has))
         (period_of r X limit) refl (find_from (returns r X) 1 limit)
-
-pub code_normal : (r : RuleSets) (X : Cells) (limit : ℕ) → code_of r (normal X) limit ≡ code_of r X limit
-code_normal r X limit = code_moved r X (minus (corner X)) limit

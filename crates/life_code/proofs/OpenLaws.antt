@@ -18,8 +18,8 @@ use Rattle.life_core.proofs.Placements.{len-placed}
 use Rattle.life_core.proofs.PatternCorners.{normal-normal}
 use Rattle.life_core.proofs.PatternMembers.{contains-keep, contains-list, list_any-flat_map, passing_cell, same_cell, has_cell, contains-items, cells_by_members, same_answer}
 use Rattle.life_code.specs.declared.kinds.Kind.TheVariants.{Unresolved}
-use Rattle.life_code.specs.declared.open.CodeFault.{CodeFault}
-use Rattle.life_code.specs.declared.open.CodeFault.TheVariants.{BadText, NotCanonical, NotWithinLimit, Memory}
+use Rattle.life_code.specs.declared.fault.CodeFault.{CodeFault}
+use Rattle.life_code.specs.declared.fault.CodeFault.TheVariants.{BadText, NotCanonical, NotWithinLimit, Memory}
 use Rattle.life_code.specs.Period.{HasPeriod, returns, period_of, kind_at, kind_of}
 use Rattle.life_code.specs.Codes.{text_cmp, shape, candidates, least_text, with_prefix, code_by_kind, code_of}
 use Rattle.life_code.specs.Open.{IsPrefix, IsWechsler, Spells, Refuses}

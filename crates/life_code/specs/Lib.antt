@@ -7,6 +7,7 @@ pub mod Wechsler
 pub mod DecodeState
 pub mod Codes
 pub mod CodesState
+pub mod Fault
 pub mod Object
 pub mod Open
 pub mod Laws

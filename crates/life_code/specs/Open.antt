@@ -7,25 +7,11 @@ use Rattle.life_core.specs.Ascii.{digit_0, underscore}
 use Rattle.life_core.specs.Pattern.{Cells, normal}
 use Rattle.life_core.specs.Rule.{RuleSets}
 use Rattle.life_code.specs.declared.kinds.Kind.TheVariants.{Unresolved}
-use Rattle.life_code.specs.declared.open.CodeFault.{CodeFault}
-use Rattle.life_code.specs.declared.open.CodeFault.TheVariants.{BadText, NotCanonical, NotWithinLimit, Memory}
+use Rattle.life_code.specs.declared.fault.CodeFault.{CodeFault}
+use Rattle.life_code.specs.declared.fault.CodeFault.TheVariants.{BadText, NotCanonical, NotWithinLimit, Memory}
 use Rattle.life_code.specs.Period.{kind_of}
 use Rattle.life_code.specs.Wechsler.{wechsler}
 use Rattle.life_code.specs.Codes.{fits, code_of}
-
--- the numbers of the faults
-abbrev pub fault_number : CodeFault → ℕ
-fault_number BadText = 1
-fault_number NotCanonical = 2
-fault_number NotWithinLimit = 3
-fault_number Memory = 4
-
--- what a fault is called
-abbrev pub fault_name : CodeFault → List ℕ
-fault_name BadText = codes "bad-text"
-fault_name NotCanonical = codes "not-canonical"
-fault_name NotWithinLimit = codes "not-within-limit"
-fault_name Memory = codes "memory"
 
 -- a prefix of a code
 abbrev pub IsPrefix : List ℕ → Type 0

@@ -5,7 +5,7 @@ ghost use Rattle.std.specs.FinSet as set;
 ghost use Rattle.life_core.specs.Pattern.{IsWithin};
 ghost use Rattle.life_core.specs.Rule.{IsRule};
 ghost use Rattle.life_code.specs.Apart.{union_of};
-ghost use Rattle.life_code.specs.ApartState.{IsOrbit, KeepsLeft, KeepsAbove, KeepApart, MoveDifferently, IsMoving, AreMoving, KeepsApartFrom, PartWays, AreParted, parts_of};
+ghost use Rattle.life_code.specs.ApartState.{IsOrbit, ComesNoNearer, KeepsLeft, KeepsAbove, KeepApart, MoveDifferently, IsMoving, AreMoving, KeepsApartFrom, PartWays, AreParted, parts_of};
 ghost use Rattle.life_code.specs.PeriodState.{NeverReturns};
 
 use crate::frames::{Frame, frames_of};
@@ -35,10 +35,7 @@ impl Orbit {
         if !self.frame.columns.is_before(&other.frame.columns) {
             return false;
         }
-        if self.dx <= 0 && 0 <= other.dx {
-            return true;
-        }
-        self.period == other.period && self.dx <= other.dx
+        comes_no_nearer(self.period, self.dx, other.period, other.dx)
     }
 
     /// Whether it stays more than 2 rows above another.
@@ -48,10 +45,7 @@ impl Orbit {
         if !self.frame.rows.is_before(&other.frame.rows) {
             return false;
         }
-        if self.dy <= 0 && 0 <= other.dy {
-            return true;
-        }
-        self.period == other.period && self.dy <= other.dy
+        comes_no_nearer(self.period, self.dy, other.period, other.dy)
     }
 
     /// Whether it is seen that the two are never near each other.
@@ -92,6 +86,17 @@ impl Orbit {
         }
         false
     }
+}
+
+/// Whether what moves by `here` in each period comes no nearer to what lies after it and moves by `there` in
+/// each period of its own.
+fn comes_no_nearer(period: u32, here: i64, other_period: u32, there: i64) -> bool
+    ensures { IsTrue result → ComesNoNearer period here other_period there }
+{
+    if here <= 0 && 0 <= there {
+        return true;
+    }
+    period == other_period && here <= there
 }
 
 /// A part of a pattern, and the orbit that it goes when it is alone.

@@ -4,6 +4,7 @@
 mod apart;
 mod codes;
 mod decode;
+mod fault;
 mod frames;
 mod kinds;
 mod laws;
@@ -12,8 +13,9 @@ mod open;
 mod period;
 mod wechsler;
 
+pub use fault::CodeFault;
 pub use kinds::Kind;
 pub use laws::laws_of_codes;
 pub use object::{Coded, code, code_of_kind, same_object};
-pub use open::{CodeFault, open_code};
+pub use open::open_code;
 pub use period::{PERIOD_LIMIT, kind, kind_by};

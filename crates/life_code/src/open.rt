@@ -9,67 +9,12 @@ ghost use Rattle.life_code.specs.Open.{IsPrefix, is_number, IsFront, IsWechsler,
 
 use crate::codes::{LARGEST_BOX, text_of};
 use crate::decode::decoded;
+use crate::fault::CodeFault;
 use crate::kinds::Kind;
 use crate::object::code_of_kind;
 use crate::period::{PERIOD_LIMIT, kind};
 use life_core::{Fault, Pattern, Rule};
 use std::alloc::{AllocError, Allocator};
-
-/// Why a text is not opened as a code. `NotWithinLimit` is judged before `NotCanonical`.
-#[derive(Clone, Copy, Debug, PartialEq, Eq)]
-pub enum CodeFault {
-    /// It is no prefix, number, `_` and Wechsler text.
-    BadText = 1,
-    /// The pattern that it spells has another code, or none.
-    NotCanonical = 2,
-    /// The pattern that it spells is not back within the limit.
-    NotWithinLimit = 3,
-    /// An allocation was refused.
-    Memory = 4,
-}
-
-impl CodeFault {
-    ghost use Rattle.life_code.specs.Open.{fault_number, fault_name};
-
-    /// The fault's number, from 1 on.
-    pub fn number(self) -> u8
-        ensures { result ≡ fault_number self }
-    {
-        self as u8
-    }
-
-    /// What the fault is called, in small letters.
-    pub fn name(self) -> &'static str
-        ensures { result.now ≡ fault_name self }
-    {
-        match self {
-            CodeFault::BadText => "bad-text",
-            CodeFault::NotCanonical => "not-canonical",
-            CodeFault::NotWithinLimit => "not-within-limit",
-            CodeFault::Memory => "memory",
-        }
-    }
-}
-
-impl From<AllocError> for CodeFault {
-    ghost use Rattle.life_code.specs.declared.open.CodeFault.TheVariants.{Memory};
-
-    ghost from_gives = { λ _ fault. fault ≡ Memory };
-
-    fn from(_error: AllocError) -> CodeFault {
-        CodeFault::Memory
-    }
-}
-
-impl From<Fault> for CodeFault {
-    ghost use Rattle.life_code.specs.declared.open.CodeFault.TheVariants.{Memory};
-
-    ghost from_gives = { λ _ fault. fault ≡ Memory };
-
-    fn from(_fault: Fault) -> CodeFault {
-        CodeFault::Memory
-    }
-}
 
 /// Whether the bytes are digits.
 fn are_digits(bytes: &[u8]) -> bool

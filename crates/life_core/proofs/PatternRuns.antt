@@ -188,7 +188,3 @@ no_shift_of_runs rs ss r s shift h k p q columns rows other = λ dx dy e.
     let x = same_step r.first s.first shift.0 dx columns (ap (λ (t : Run). t.first) first) in
     let y = same_step r.row s.row shift.1 dy rows (ap (λ (t : Run). t.row) first) in
     absurd (other ((λ i. map (moved_run (x i) (y i)) rs) ∙ all))
-
-pub no_cells_of_none : (rs : List Run) → None ≡ slice_get rs 0 → runs_cells rs ≡ []
-no_cells_of_none [] p = refl
-no_cells_of_none (r ∷ rs) p = absurd (false≢true (ap is_some p))

@@ -1,3 +1,4 @@
+pub mod Fault
 pub mod Ascii
 pub mod Cell
 pub mod Rule

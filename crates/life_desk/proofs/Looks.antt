@@ -46,10 +46,6 @@ pub no_file : (o : Option (ℕ × Deposit)) → ◌≡◌ {A = Option (ℕ × Li
 no_file None is = refl
 no_file (Some stored) is = absurd cc
 
--- what is found under the words of a deposit, or a census, is what is found under the bytes that are asked for
-pub kept_by : {X : Type 0} (found : Option X) (member token member' token' : List ℕ) (find : List ℕ → List ℕ → Option X) → member ≡ member' → token ≡ token' → found ≡ find member token → found ≡ find member' token'
-kept_by found member token member' token' find one other is = is ∙ ap (λ w. find w token) one ∙ ap (λ w. find member' w) other
-
 -- ---- tallies
 
 abbrev Found : Type 0

@@ -1,5 +1,5 @@
 -- What stays of a meaning as an archive grows, and what its tables tell.
-use Rattle.std.proofs.Common.{◌≡◌, nat_lt, ℕ, zero, suc, List, [], ◌∷◌, ◌++◌, ◌+◌, length, Some, option_map, Result, Ok, Err, OnOk, OnErr, map, sum_by, IsTrue, IsSome, Bool, refl, sym, ◌∙◌, ap, subst}
+use Rattle.std.proofs.Common.{◌≡◌, nat_lt, ℕ, zero, suc, List, [], ◌∷◌, ◌++◌, ◌+◌, length, Some, option_map, Result, Ok, Err, IfOk, OnOk, OnErr, map, sum_by, IsTrue, IsSome, Bool, refl, sym, ◌∙◌, ap, subst}
 use Rattle.std.specs.List.{slice_get, AllByRecursion}
 use Rattle.std.proofs.lemmas.Option.{slice_get-map}
 use Rattle.std.proofs.lemmas.List.Sums.{sum_by-cons}
@@ -10,13 +10,14 @@ use Rattle.life_store.specs.declared.kept.Deposit.{Deposit}
 use Rattle.life_store.specs.declared.kept.Census.{Census}
 use Rattle.life_store.specs.Kept.{Tallied, numbered, share, total_of}
 use Rattle.life_store.specs.Stored.{IsFiled}
-use Rattle.life_store.specs.Tables.{ArchiveView, Holds, TreesHold, HoldChanged, IsTransition, HoldsTheSame, AddsDeposit, AddsCensus}
+use Rattle.life_store.specs.Crash.{NoMore}
+use Rattle.life_store.specs.Tables.{ArchiveView, IsHealthyIfClean, Holds, TreesHold, HoldChanged, IsTransition, HoldsTheSame, AddsDeposit, AddsCensus}
 use Rattle.life_desk.specs.Archive.{Archive, tally_at, tally_for, steady_at, steady_for, clusters_in, clusters_with}
 use Rattle.life_census.specs.Rows.{TallyCounts}
 use Rattle.life_desk.specs.Represents.{Represents, NewIsEmpty, EachHasDeposit, EachIsReadAgain, IsRepresentable, tallied, kept_of}
 use Rattle.life_desk.proofs.Submissions.{all_push}
 use Rattle.life_desk.specs.DeskState.{RepresentChanged, RepresentChangedIf}
-use Rattle.life_desk.specs.LookingState.{ForAllRepresented, RepresentsTheSame}
+use Rattle.life_desk.specs.LookingState.{ForAllRepresented, RepresentsTheSame, LooksUp}
 
 slice_get_longer : {X : Type 0} → (xs ys : List X) (i : ℕ) → IsSome (slice_get xs i) → slice_get (xs ++ ys) i ≡ slice_get xs i
 slice_get_longer [] ys i some = cc
@@ -64,6 +65,16 @@ representable_of t A m = record { again = each_again A.deposits m.holds.filed; e
 pub represents_same : {S : Type 0} {g : Ghosts S} {More : Trees → Type 0} (old new : ArchiveView S) (A : Archive) → IsTransition g More old new → HoldsTheSame old.tables new.tables → IsTrue new.tables.is_healthy → Represents old A → Represents new A
 unfolding Represents
 represents_same old new A transition keeps healthy m = record { capacity = transition.capacity ∙ m.capacity; each = m.each; holds = keeps (kept_of A) healthy m.holds }
+
+-- a call that looks, said of archives
+pub looks_as : {S X E : Type 0} {g : Ghosts S} {Q : Archive → X → Type 0} (old new : ArchiveView S) (r : Result X E) → IsTransition g NoMore old new → OnOk r (IsHealthyIfClean g new) → HoldsTheSame old.tables new.tables
+    → ((A : Archive) → IsTrue new.tables.is_healthy → Holds old.tables (kept_of A) → IfOk r (Q A)) → LooksUp g old new r Q
+looks_as old new r transition healthy keeps value = record {
+  transition = transition;
+  healthy = healthy;
+  same = λ A up m. represents_same old new A transition keeps up m;
+  value = λ A up m. value A up (holds_of old A m);
+}
 
 -- one deposit more
 pub represents_deposit : {S : Type 0} {g : Ghosts S} {More : Trees → Type 0} (old new : ArchiveView S) (A : Archive) (d : Deposit) → IsTransition g More old new → AddsDeposit old.tables new.tables d → IsTrue new.tables.is_healthy → Represents old A

@@ -1,8 +1,9 @@
 -- What the private calls that answer one kind of request leave.
-use Rattle.std.specs.Prelude.{◌≡◌, ◌⊎◌, true, Result, IfOk, IsTrue, MatchResult}
+use Rattle.std.specs.Prelude.{◌≡◌, ◌⊎◌, true, Result, IfOk, OnOk, IsTrue, MatchResult}
 use Rattle.sqlite_trees.specs.declared.store.Store.{Ghosts}
+use Rattle.life_store.specs.Crash.{NoMore}
 use Rattle.life_store.specs.Left.{Left}
-use Rattle.life_store.specs.Tables.{ArchiveView, IsHealthyIfClean}
+use Rattle.life_store.specs.Tables.{ArchiveView, IsTransition, IsHealthyIfClean}
 use Rattle.life_store.specs.declared.fault.Unavailable.{Unavailable}
 use Rattle.life_desk.specs.declared.request.Reply.{Reply}
 use Rattle.life_desk.specs.Archive.{Archive}
@@ -41,3 +42,12 @@ RepresentChanged old change found = RepresentChangedIf old (λ A. Unit {0}) chan
 -- what is acknowledged was done by a database that is healthy, unless its disk has lied
 abbrev pub Promises : {S : Type 0} → Ghosts S → ArchiveView S → Result Reply Unavailable → Type 0
 Promises g new result = IfOk result (λ r. acknowledges r ≡ true → IsHealthyIfClean g new)
+
+-- ---- calls that only show something
+
+-- A crash leaves what it might have left before, the database that answers is healthy unless its disk has lied, and the reply is this one, while the archive stays.
+pub record OnlyShows {S : Type 0} (g : Ghosts S) (old new : ArchiveView S) (result : Result Reply Unavailable) (gives : Archive → Reply → Type 0) : Type 0 where
+  pub transition : IsTransition g NoMore old new
+  pub promised : Promises g new result
+  pub healthy : OnOk result (IsHealthyIfClean g new)
+  pub effect : Acts old new result gives (λ A. A)

@@ -13,7 +13,7 @@ ghost use Rattle.life_code.specs.Codes as codes;
 ghost use Rattle.life_code.specs.Period as periods;
 ghost use Rattle.life_desk.specs.Validation.{validated};
 ghost use Rattle.life_desk.specs.ValidationState.{IsGood};
-ghost use Rattle.life_desk.specs.DeskState.{Acts, ActsIf, RepresentChanged, RepresentChangedIf, Promises, SpeaksIfHealthy};
+ghost use Rattle.life_desk.specs.DeskState.{Acts, ActsIf, OnlyShows, RepresentChanged, RepresentChangedIf, Promises, SpeaksIfHealthy};
 ghost use Rattle.life_desk.specs.Headline.{IsTheArchive, IsTheArchiveOrFaults, IsTheArchiveInMemory};
 ghost use Rattle.life_desk.specs.Run.{Answered, IsIdle, IsCrashSafe};
 ghost use Rattle.life_desk.specs.Archive.{tally_for, tally_at, tally_of_cells, steady_for};
@@ -91,12 +91,7 @@ fn keep_deposit<S: Alter>(
         (λ A r. r ≡ deposit_reply A (deposit_by_token A deposit.now (deposit_by deposit.now.member deposit.now.token A.deposits)))
         (λ A. with_deposit A (deposit_by_token A deposit.now (deposit_by deposit.now.member deposit.now.token A.deposits))) }
 {
-    match find_file(
-        archive,
-        alloc,
-        deposit.member.as_bytes(),
-        deposit.token.as_bytes(),
-    )? {
+    match find_file(archive, alloc, deposit)? {
         Some((id, file)) => kept_again(alloc, id, file.as_slice(), deposit),
         None => keep_new(archive, alloc, deposit),
     }
@@ -134,10 +129,7 @@ fn deposit<S: Alter>(
 
 /// Answers with the file of a deposit.
 fn show<S: Alter>(archive: &mut Archive<S>, alloc: Global, id: u64) -> Result<Reply, Unavailable>
-    ensures transition { IsTransition S.Store NoMore archive.old archive.new }
-    ensures promised { Promises S.Store archive.new result }
-    ensures healthy { OnOk result (IsHealthyIfClean S.Store archive.new) }
-    ensures effect { Acts archive.old archive.new result (λ A r. r ≡ file_reply (numbered A.deposits id)) (λ A. A) }
+    ensures { OnlyShows S.Store archive.old archive.new result (λ A r. r ≡ file_reply (numbered A.deposits id)) }
 {
     match file_of(archive, alloc, id)? {
         None => Ok(Reply::Refused(Refusal::NoSuchDeposit)),
@@ -151,10 +143,7 @@ fn list_after<S: Alter>(
     alloc: Global,
     id: u64,
 ) -> Result<Reply, Unavailable>
-    ensures transition { IsTransition S.Store NoMore archive.old archive.new }
-    ensures promised { Promises S.Store archive.new result }
-    ensures healthy { OnOk result (IsHealthyIfClean S.Store archive.new) }
-    ensures effect { Acts archive.old archive.new result (λ A r. r ≡ says.Deposits (listed_after id A.deposits)) (λ A. A) }
+    ensures { OnlyShows S.Store archive.old archive.new result (λ A r. r ≡ says.Deposits (listed_after id A.deposits)) }
 {
     Ok(Reply::Deposits(deposits_after(archive, alloc, id)?))
 }
@@ -179,10 +168,7 @@ fn show_at<S: Alter>(
     n: u32,
 ) -> Result<Reply, Unavailable>
     requires { n ≤ GENERATION_LIMIT }
-    ensures transition { IsTransition S.Store NoMore archive.old archive.new }
-    ensures promised { Promises S.Store archive.new result }
-    ensures healthy { OnOk result (IsHealthyIfClean S.Store archive.new) }
-    ensures effect { Acts archive.old archive.new result (λ A r. r ≡ at_reply n (numbered A.deposits id)) (λ A. A) }
+    ensures { OnlyShows S.Store archive.old archive.new result (λ A r. r ≡ at_reply n (numbered A.deposits id)) }
 {
     match deposit_of(archive, alloc, id)? {
         None => Ok(Reply::Refused(Refusal::NoSuchDeposit)),
@@ -231,10 +217,7 @@ fn name_kind<S: Alter>(
 ) -> Result<Reply, Unavailable>
     requires some { 1 ≤ limit }
     requires few { limit ≤ PERIOD_LIMIT }
-    ensures transition { IsTransition S.Store NoMore archive.old archive.new }
-    ensures promised { Promises S.Store archive.new result }
-    ensures healthy { OnOk result (IsHealthyIfClean S.Store archive.new) }
-    ensures effect { Acts archive.old archive.new result (λ A r. r ≡ kind_reply limit (numbered A.deposits id)) (λ A. A) }
+    ensures { OnlyShows S.Store archive.old archive.new result (λ A r. r ≡ kind_reply limit (numbered A.deposits id)) }
 {
     match deposit_of(archive, alloc, id)? {
         None => Ok(Reply::Refused(Refusal::NoSuchDeposit)),
@@ -342,12 +325,7 @@ fn keep_census<S: Alter>(
         (λ A r. r ≡ census_reply A (census_by_token A census.now (census_by census.now.member census.now.token A.censuses)))
         (λ A. with_census A (census_by_token A census.now (census_by census.now.member census.now.token A.censuses))) }
 {
-    match find_census(
-        archive,
-        alloc,
-        census.member.as_bytes(),
-        census.token.as_bytes(),
-    )? {
+    match find_census(archive, alloc, census)? {
         Some((id, stored)) => Ok(repeated(is_same_census(&stored, census), Reply::Counted(id))),
         None => count_new(archive, alloc, deposit, census),
     }
@@ -388,10 +366,7 @@ fn show_census<S: Alter>(
     alloc: Global,
     id: u64,
 ) -> Result<Reply, Unavailable>
-    ensures transition { IsTransition S.Store NoMore archive.old archive.new }
-    ensures promised { Promises S.Store archive.new result }
-    ensures healthy { OnOk result (IsHealthyIfClean S.Store archive.new) }
-    ensures effect { Acts archive.old archive.new result (λ A r. r ≡ shown_reply A.deposits id (numbered A.censuses id)) (λ A. A) }
+    ensures { OnlyShows S.Store archive.old archive.new result (λ A r. r ≡ shown_reply A.deposits id (numbered A.censuses id)) }
 {
     match counted_census(archive, alloc, id)? {
         None => Ok(Reply::Refused(Refusal::NoSuchCensus)),
@@ -419,10 +394,7 @@ fn census_csv<S: Alter>(
     alloc: Global,
     id: u64,
 ) -> Result<Reply, Unavailable>
-    ensures transition { IsTransition S.Store NoMore archive.old archive.new }
-    ensures promised { Promises S.Store archive.new result }
-    ensures healthy { OnOk result (IsHealthyIfClean S.Store archive.new) }
-    ensures effect { Acts archive.old archive.new result (λ A r. r ≡ csv_reply A.deposits (numbered A.censuses id)) (λ A. A) }
+    ensures { OnlyShows S.Store archive.old archive.new result (λ A r. r ≡ csv_reply A.deposits (numbered A.censuses id)) }
 {
     match counted_census(archive, alloc, id)? {
         None => Ok(Reply::Refused(Refusal::NoSuchCensus)),
@@ -471,13 +443,13 @@ fn act<S: Alter>(
             token,
             file,
         } => deposit(archive, alloc, member, token, file),
-        ValidRequest::Show { id } => show(archive, alloc, id),
-        ValidRequest::ListAfter { id } => list_after(archive, alloc, id),
+        ValidRequest::Show(id) => show(archive, alloc, id),
+        ValidRequest::ListAfter(id) => list_after(archive, alloc, id),
         ValidRequest::At { id, generation } => show_at(archive, alloc, id, generation),
         ValidRequest::KindOf { id, limit } => name_kind(archive, alloc, id, limit),
         ValidRequest::Census(census) => take_census(archive, alloc, &census),
-        ValidRequest::ShowCensus { id } => show_census(archive, alloc, id),
-        ValidRequest::CensusCsv { id } => census_csv(archive, alloc, id),
+        ValidRequest::ShowCensus(id) => show_census(archive, alloc, id),
+        ValidRequest::CensusCsv(id) => census_csv(archive, alloc, id),
         ValidRequest::Total { rule, code, limit } => total(
             archive,
             alloc,

@@ -9,7 +9,7 @@ ghost use Rattle.life_store.specs.declared.kept.Deposit.{Deposit as Kept};
 ghost use Rattle.life_desk.specs.Archive.{clusters_with, tally_at, tally_for, steady_at, steady_for};
 ghost use Rattle.life_desk.specs.Represents.{Represents, tallied};
 ghost use Rattle.life_desk.specs.DeskState.{RepresentChanged, RepresentChangedIf};
-ghost use Rattle.life_desk.specs.LookingState.{ForAllRepresented, RepresentsTheSame};
+ghost use Rattle.life_desk.specs.LookingState.{ForAllRepresented, RepresentsTheSame, LooksUp};
 
 use life_census::{Rows, Tally};
 use life_core::Rule;
@@ -23,10 +23,7 @@ pub(crate) fn deposit_of<S: Alter>(
     alloc: Global,
     id: u64,
 ) -> Result<Option<Deposit>, Unavailable>
-    ensures transition { IsTransition S.Store NoMore archive.old archive.new }
-    ensures healthy { OnOk result (IsHealthyIfClean S.Store archive.new) }
-    ensures same { RepresentsTheSame archive.old archive.new }
-    ensures value { ForAllRepresented archive.old archive.new (λ A. IfOk result (λ d. d ≡ numbered A.deposits id)) }
+    ensures looks { LooksUp S.Store archive.old archive.new result (λ A d. d ≡ numbered A.deposits id) }
     ensures inside { IfOk result (λ o. IfSome o (λ d. IsInside 1024 d.content.cells)) }
 {
     archive.deposit_of(alloc, id)
@@ -38,27 +35,20 @@ pub(crate) fn file_of<S: Alter>(
     alloc: Global,
     id: u64,
 ) -> Result<Option<Vec<u8>>, Unavailable>
-    ensures transition { IsTransition S.Store NoMore archive.old archive.new }
-    ensures healthy { OnOk result (IsHealthyIfClean S.Store archive.new) }
-    ensures same { RepresentsTheSame archive.old archive.new }
-    ensures value { ForAllRepresented archive.old archive.new (λ A. IfOk result (λ file. option_map (λ v. v.items) file ≡ option_map (λ d. text d.content) (numbered A.deposits id))) }
+    ensures { LooksUp S.Store archive.old archive.new result (λ A file. option_map (λ v. v.items) file ≡ option_map (λ d. text d.content) (numbered A.deposits id)) }
 {
     archive.file_of(alloc, id)
 }
 
-/// The number and the pattern file of the deposit under the member and the token.
+/// The number and the pattern file of what is stored under the member and the token of the deposit.
 pub(crate) fn find_file<S: Alter>(
     archive: &mut Archive<S>,
     alloc: Global,
-    member: &[u8],
-    token: &[u8],
+    deposit: &Deposit,
 ) -> Result<Option<(u64, Vec<u8>)>, Unavailable>
-    ensures transition { IsTransition S.Store NoMore archive.old archive.new }
-    ensures healthy { OnOk result (IsHealthyIfClean S.Store archive.new) }
-    ensures same { RepresentsTheSame archive.old archive.new }
-    ensures value { ForAllRepresented archive.old archive.new (λ A. IfOk result (λ f. option_map {U = ℕ × List ℕ} (λ p. (p.0, p.1.items)) f ≡ option_map file_of_deposit (deposit_by member.now token.now A.deposits))) }
+    ensures { LooksUp S.Store archive.old archive.new result (λ A f. option_map {U = ℕ × List ℕ} (λ p. (p.0, p.1.items)) f ≡ option_map file_of_deposit (deposit_by deposit.now.member deposit.now.token A.deposits)) }
 {
-    archive.find_file(alloc, member, token)
+    archive.find_file(alloc, deposit.member.as_bytes(), deposit.token.as_bytes())
 }
 
 /// The deposits after a number.
@@ -67,27 +57,20 @@ pub(crate) fn deposits_after<S: Alter>(
     alloc: Global,
     id: u64,
 ) -> Result<Listing, Unavailable>
-    ensures transition { IsTransition S.Store NoMore archive.old archive.new }
-    ensures healthy { OnOk result (IsHealthyIfClean S.Store archive.new) }
-    ensures same { RepresentsTheSame archive.old archive.new }
-    ensures value { ForAllRepresented archive.old archive.new (λ A. IfOk result (λ lines. lines ≡ listed_after id A.deposits)) }
+    ensures { LooksUp S.Store archive.old archive.new result (λ A lines. lines ≡ listed_after id A.deposits) }
 {
     archive.deposits_after(alloc, id)
 }
 
-/// The census under the member and the token.
+/// What is stored under the member and the token of the census.
 pub(crate) fn find_census<S: Alter>(
     archive: &mut Archive<S>,
     alloc: Global,
-    member: &[u8],
-    token: &[u8],
+    census: &Census,
 ) -> Result<Option<(u64, Census)>, Unavailable>
-    ensures transition { IsTransition S.Store NoMore archive.old archive.new }
-    ensures healthy { OnOk result (IsHealthyIfClean S.Store archive.new) }
-    ensures same { RepresentsTheSame archive.old archive.new }
-    ensures value { ForAllRepresented archive.old archive.new (λ A. IfOk result (λ o. o ≡ census_by member.now token.now A.censuses)) }
+    ensures { LooksUp S.Store archive.old archive.new result (λ A o. o ≡ census_by census.now.member census.now.token A.censuses) }
 {
-    archive.find_census(alloc, member, token)
+    archive.find_census(alloc, census.member.as_bytes(), census.token.as_bytes())
 }
 
 /// How many clusters with the code there are in the censuses of deposits of the rule.
@@ -97,10 +80,7 @@ pub(crate) fn counts_of<S: Alter>(
     rule: &Rule,
     code: &[u8],
 ) -> Result<u64, Unavailable>
-    ensures transition { IsTransition S.Store NoMore archive.old archive.new }
-    ensures healthy { OnOk result (IsHealthyIfClean S.Store archive.new) }
-    ensures same { RepresentsTheSame archive.old archive.new }
-    ensures value { ForAllRepresented archive.old archive.new (λ A. IfOk result (λ n. n ≡ clusters_with A rule.now code.now)) }
+    ensures { LooksUp S.Store archive.old archive.new result (λ A n. n ≡ clusters_with A rule.now code.now) }
 {
     archive.counts_of(alloc, rule, code)
 }
@@ -111,10 +91,7 @@ fn census_of<S: Alter>(
     alloc: Global,
     id: u64,
 ) -> Result<Option<KeptCensus>, Unavailable>
-    ensures transition { IsTransition S.Store NoMore archive.old archive.new }
-    ensures healthy { OnOk result (IsHealthyIfClean S.Store archive.new) }
-    ensures same { RepresentsTheSame archive.old archive.new }
-    ensures value { ForAllRepresented archive.old archive.new (λ A. IfOk result (λ c. c ≡ option_map kept_census (option_map (tallied A.deposits) (numbered A.censuses id)))) }
+    ensures { LooksUp S.Store archive.old archive.new result (λ A c. c ≡ option_map kept_census (option_map (tallied A.deposits) (numbered A.censuses id))) }
 {
     archive.census_of(alloc, id)
 }
@@ -125,10 +102,7 @@ fn rows_and_flag_of<S: Alter>(
     alloc: Global,
     id: u64,
 ) -> Result<Option<(Rows, bool)>, Unavailable>
-    ensures transition { IsTransition S.Store NoMore archive.old archive.new }
-    ensures healthy { OnOk result (IsHealthyIfClean S.Store archive.new) }
-    ensures same { RepresentsTheSame archive.old archive.new }
-    ensures value { ForAllRepresented archive.old archive.new (λ A. IfOk result (λ found. found ≡ option_map (λ t. record { 0 = t.tally.rows; 1 = t.steady }) (option_map (tallied A.deposits) (numbered A.censuses id)))) }
+    ensures { LooksUp S.Store archive.old archive.new result (λ A found. found ≡ option_map (λ t. record { 0 = t.tally.rows; 1 = t.steady }) (option_map (tallied A.deposits) (numbered A.censuses id))) }
 {
     archive.rows_and_flag_of(alloc, id)
 }
@@ -147,11 +121,7 @@ pub(crate) fn counted_census<S: Alter>(
     alloc: Global,
     id: u64,
 ) -> Result<Option<CountedCensus>, Unavailable>
-    ensures transition { IsTransition S.Store NoMore archive.old archive.new }
-    ensures healthy { OnOk result (IsHealthyIfClean S.Store archive.new) }
-    ensures same { RepresentsTheSame archive.old archive.new }
-    ensures value { ForAllRepresented archive.old archive.new (λ A.
-        IfOk result (λ o. o ≡ option_map (λ c. record { census = c; tally = tally_at A.deposits c; steady = steady_at A.deposits c }) (numbered A.censuses id))) }
+    ensures { LooksUp S.Store archive.old archive.new result (λ A o. o ≡ option_map (λ c. record { census = c; tally = tally_at A.deposits c; steady = steady_at A.deposits c }) (numbered A.censuses id)) }
 {
     match census_of(archive, alloc, id)? {
         None => Ok(None),
@@ -175,40 +145,28 @@ pub(crate) fn counted_census<S: Alter>(
 
 /// How many deposits there are.
 fn count_deposits<S: Alter>(archive: &mut Archive<S>) -> Result<u64, Unavailable>
-    ensures transition { IsTransition S.Store NoMore archive.old archive.new }
-    ensures healthy { OnOk result (IsHealthyIfClean S.Store archive.new) }
-    ensures same { RepresentsTheSame archive.old archive.new }
-    ensures value { ForAllRepresented archive.old archive.new (λ A. IfOk result (λ n. n ≡ length A.deposits)) }
+    ensures { LooksUp S.Store archive.old archive.new result (λ A n. n ≡ length A.deposits) }
 {
     archive.count_deposits()
 }
 
 /// How many censuses there are.
 fn count_censuses<S: Alter>(archive: &mut Archive<S>) -> Result<u64, Unavailable>
-    ensures transition { IsTransition S.Store NoMore archive.old archive.new }
-    ensures healthy { OnOk result (IsHealthyIfClean S.Store archive.new) }
-    ensures same { RepresentsTheSame archive.old archive.new }
-    ensures value { ForAllRepresented archive.old archive.new (λ A. IfOk result (λ n. n ≡ length A.censuses)) }
+    ensures { LooksUp S.Store archive.old archive.new result (λ A n. n ≡ length A.censuses) }
 {
     archive.count_censuses()
 }
 
 /// Whether there is room for one more deposit.
 pub(crate) fn has_room<S: Alter>(archive: &mut Archive<S>) -> Result<bool, Unavailable>
-    ensures transition { IsTransition S.Store NoMore archive.old archive.new }
-    ensures healthy { OnOk result (IsHealthyIfClean S.Store archive.new) }
-    ensures same { RepresentsTheSame archive.old archive.new }
-    ensures value { ForAllRepresented archive.old archive.new (λ A. IfOk result (λ room. room ≡ nat_lt (length A.deposits) A.capacity)) }
+    ensures { LooksUp S.Store archive.old archive.new result (λ A room. room ≡ nat_lt (length A.deposits) A.capacity) }
 {
     Ok(count_deposits(archive)? < archive.capacity())
 }
 
 /// Whether there is room for one more census.
 pub(crate) fn has_census_room<S: Alter>(archive: &mut Archive<S>) -> Result<bool, Unavailable>
-    ensures transition { IsTransition S.Store NoMore archive.old archive.new }
-    ensures healthy { OnOk result (IsHealthyIfClean S.Store archive.new) }
-    ensures same { RepresentsTheSame archive.old archive.new }
-    ensures value { ForAllRepresented archive.old archive.new (λ A. IfOk result (λ room. room ≡ nat_lt (length A.censuses) A.capacity)) }
+    ensures { LooksUp S.Store archive.old archive.new result (λ A room. room ≡ nat_lt (length A.censuses) A.capacity) }
 {
     Ok(count_censuses(archive)? < archive.capacity())
 }

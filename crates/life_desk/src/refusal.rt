@@ -1,6 +1,7 @@
 //! Refusals.
 
 use life_rle::RleFault;
+use std::alloc::AllocError;
 
 /// Why a request is refused. If several reasons apply, the first of this order is given: member, token, limits,
 /// pattern, or rule and then code, the row that is referred to, the token that is kept, full.
@@ -70,5 +71,16 @@ impl Refusal {
             Refusal::Full => "full",
             Refusal::Unavailable => "unavailable",
         }
+    }
+}
+
+impl From<AllocError> for Refusal {
+    ghost use Rattle.std.specs.Prelude.{◌≡◌};
+    ghost use Rattle.life_desk.specs.declared.refusal.Refusal.TheVariants.{Unavailable};
+
+    ghost from_gives = { λ _ refusal. refusal ≡ Unavailable };
+
+    fn from(_error: AllocError) -> Refusal {
+        Refusal::Unavailable
     }
 }

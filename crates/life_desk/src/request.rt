@@ -112,12 +112,8 @@ pub(crate) enum ValidRequest {
         token: Text,
         file: Bytes,
     },
-    Show {
-        id: u64,
-    },
-    ListAfter {
-        id: u64,
-    },
+    Show(u64),
+    ListAfter(u64),
     At {
         id: u64,
         generation: u32,
@@ -127,12 +123,8 @@ pub(crate) enum ValidRequest {
         limit: u32,
     },
     Census(Census),
-    ShowCensus {
-        id: u64,
-    },
-    CensusCsv {
-        id: u64,
-    },
+    ShowCensus(u64),
+    CensusCsv(u64),
     Total {
         rule: Rule,
         code: Bytes,

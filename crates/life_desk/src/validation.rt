@@ -188,8 +188,8 @@ pub(crate) fn validate(request: Request) -> Result<ValidRequest, Refusal>
             token,
             file,
         } => validate_deposit(member, token, file),
-        Request::Show { id } => Ok(ValidRequest::Show { id }),
-        Request::ListAfter { id } => Ok(ValidRequest::ListAfter { id }),
+        Request::Show { id } => Ok(ValidRequest::Show(id)),
+        Request::ListAfter { id } => Ok(ValidRequest::ListAfter(id)),
         Request::At { id, generation } => Ok(ValidRequest::At {
             id,
             generation: generation_in(generation)?,
@@ -205,8 +205,8 @@ pub(crate) fn validate(request: Request) -> Result<ValidRequest, Refusal>
             generation,
             limit,
         } => validate_census(member, token, deposit, generation, limit),
-        Request::ShowCensus { id } => Ok(ValidRequest::ShowCensus { id }),
-        Request::CensusCsv { id } => Ok(ValidRequest::CensusCsv { id }),
+        Request::ShowCensus { id } => Ok(ValidRequest::ShowCensus(id)),
+        Request::CensusCsv { id } => Ok(ValidRequest::CensusCsv(id)),
         Request::Total { rule, code, limit } => validate_total(rule, code, limit),
     }
 }

@@ -72,12 +72,6 @@ pub compared : {A : Type 0} (rows : List (HaulRow A)) (i : ℕ) (row : HaulRow A
     → (d : HaulRow A) → row_cmp t (slice_index_or rows i d).code ≡ o
 compared {A} rows i row t s o low item bytes told d = ap (λ (r : HaulRow A). row_cmp t r.code) (get_or_default rows i d row low ∙ sym item) ∙ ap (row_cmp t) (sym bytes) ∙ told
 
--- neither equal nor greater
-pub is_less : (o : Ordering) → o ≢ Greater → o ≢ Equal → o ≡ Less
-is_less Less a b = refl
-is_less Equal a b = absurd (b refl)
-is_less Greater a b = absurd (a refl)
-
 -- ---- one more of a code
 
 -- rows with a text, by what was found of it

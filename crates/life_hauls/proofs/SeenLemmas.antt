@@ -106,8 +106,3 @@ sighted-more x n i = go x n ∙ ap (λ k. joined x (sighted k i)) (next n)
         let first : min (min s.first i) i ≡ min s.first i = omega arith in
         let count : (s.count + suc n) + 1 ≡ s.count + suc (suc n) = omega arith in
         λ j. Some (record { count = count j; first = first j })
-
--- if nothing has been seen in two hauls
-pub joined-none : (x : Option Sighting) → joined None x ≡ x
-joined-none None = refl
-joined-none (Some s) = refl

@@ -8,7 +8,7 @@ use Rattle.life_code.proofs.ApartUnions.{IsIn, in_from_contains}
 use Rattle.life_census.proofs.ClusterLaws.{contains_from_in}
 use Rattle.life_hauls.specs.declared.rows.Sighting.{Sighting}
 use Rattle.life_hauls.specs.Hauls.{is_positive, lesser_number, least_number, seen, joined}
-use Rattle.life_hauls.specs.Laws.{count_of, SeenIsLeast, NothingIsSeen}
+use Rattle.life_hauls.specs.Laws.{SeenIsLeast, NothingIsSeen}
 use Rattle.life_hauls.proofs.SeenLemmas.{has, sighting, none_are_none, seen-none, seen-append, seen-one, sighted}
 
 -- ---- the least of a list
@@ -114,12 +114,3 @@ nothing_is_seen f ns = (λ none. go (least_number (filter (has f) ns)) refl none
       where
         some_none : {s : Sighting} → Some s ≡ None → ⊥
         some_none h = cc
-
--- how many were seen is the sum
-pub count_seen : (f : ℕ → ℕ) (ns : List ℕ) → count_of (seen f ns) ≡ sum_by f ns
-unfolding seen
-count_seen f ns = go (least_number (filter (has f) ns)) refl
-  where
-    go : (o : Option ℕ) → least_number (filter (has f) ns) ≡ o → count_of (sighting f (sum_by f ns) o) ≡ sum_by f ns
-    go None is = sym (none_are_none f ns is)
-    go (Some m) is = refl

@@ -13,15 +13,29 @@ use Rattle.life_hauls.specs.declared.symmetry.Mirror.TheVariants.{OnRow, Between
 
 -- ---- symmetries
 
--- the field's name of a symmetry
+-- what a symmetry is: its name in the field, how many cells a row has, and the mirror whose image is added, if there is one
+pub record SymmetryRow : Type 0 where
+  pub name : List ℕ
+  pub width : ℕ
+  pub mirror : Option Mirror
+
+abbrev pub row_of : Symmetry → SymmetryRow
+row_of C1 = record { name = codes "C1"; width = 16; mirror = None }
+row_of EightRows = record { name = codes "8x32"; width = 32; mirror = None }
+row_of FourRows = record { name = codes "4x64"; width = 64; mirror = None }
+row_of TwoRows = record { name = codes "2x128"; width = 128; mirror = None }
+row_of OneRow = record { name = codes "1x256"; width = 256; mirror = None }
+row_of D2Plus1 = record { name = codes "D2_+1"; width = 16; mirror = Some OnRow }
+row_of D2Plus2 = record { name = codes "D2_+2"; width = 16; mirror = Some BetweenRows }
+
 abbrev pub symmetry_name : Symmetry → List ℕ
-symmetry_name C1 = codes "C1"
-symmetry_name EightRows = codes "8x32"
-symmetry_name FourRows = codes "4x64"
-symmetry_name TwoRows = codes "2x128"
-symmetry_name OneRow = codes "1x256"
-symmetry_name D2Plus1 = codes "D2_+1"
-symmetry_name D2Plus2 = codes "D2_+2"
+symmetry_name s = (row_of s).name
+
+abbrev pub width : Symmetry → ℕ
+width s = (row_of s).width
+
+abbrev pub mirror : Symmetry → Option Mirror
+mirror s = (row_of s).mirror
 
 -- the symmetry of a name
 abbrev pub symmetry_named : List ℕ → Option Symmetry
@@ -34,26 +48,6 @@ symmetry_named name =
     else if bytes_eq name (codes "D2_+1") then Some D2Plus1
     else if bytes_eq name (codes "D2_+2") then Some D2Plus2
     else None
-
--- how many cells a row of the field has
-abbrev pub width : Symmetry → ℕ
-width C1 = 16
-width EightRows = 32
-width FourRows = 64
-width TwoRows = 128
-width OneRow = 256
-width D2Plus1 = 16
-width D2Plus2 = 16
-
--- the mirror of a symmetry, if it has one
-abbrev pub mirror : Symmetry → Option Mirror
-mirror C1 = None
-mirror EightRows = None
-mirror FourRows = None
-mirror TwoRows = None
-mirror OneRow = None
-mirror D2Plus1 = Some OnRow
-mirror D2Plus2 = Some BetweenRows
 
 -- the mirror image of a cell: row y goes to row -y, or to row -y - 1
 abbrev pub mirrored : Mirror → Cell → Cell

@@ -1,12 +1,10 @@
 -- The words of the command line of `life-haul`, and the job that they name.
 -- What a command is, which words it takes and what it reads of them is said by the kit's `clap`; the names of the
 -- words are the program's own.
-use Rattle.std.specs.Prelude.{◌≡◌, ℕ, Bool, true, ◌||◌, is_some, if◌then◌else◌, List, [], ◌∷◌, Option, None, Some, codes, bytes_eq, Result, Ok, Err}
-use Rattle.clap.specs.Words.{App, Row, Rule, Text, Kinds, new_app, new_rule, with_rule, with_subcommand, fault_of, matches_of, subcommand_of}
+use Rattle.std.specs.Prelude.{ℕ, Bool, true, ◌||◌, is_some, if◌then◌else◌, List, Option, None, Some, option_and_then, codes, bytes_eq}
+use Rattle.clap.specs.Words.{App, Row, Rule, Text, new_app, new_rule, with_rule, with_subcommand}
 use Rattle.clap.specs.Simple.{on_top}
-use Rattle.life_words.specs.Words.{with_version, number_rule, text_rule, number_at, text_at}
-use Rattle.life_words.specs.declared.fault.WordFault.{WordFault}
-use Rattle.life_words.specs.declared.fault.WordFault.TheVariants.{BadWords, Memory}
+use Rattle.life_words.specs.Words.{with_version, number_rule, text_rule, number_at, text_at, matches_in, if_all}
 use Rattle.life_hauls.specs.declared.symmetry.Symmetry.{Symmetry}
 use Rattle.life_hauls.specs.declared.symmetry.Symmetry.TheVariants.{C1}
 use Rattle.life_hauls.specs.Soups.{symmetry_named}
@@ -70,14 +68,10 @@ abbrev pub haul_in : List Row → Option Asked
 haul_in rows =
     haul_of_words (text_at (codes "ROOT") rows) (number_at (codes "FIRST") rows) (number_at (codes "COUNT") rows) (rule_or_life (text_at (codes "RULE") rows)) (symmetry_or_c1 (text_at (codes "NAME") rows)) (number_at (codes "N") rows) (number_at (codes "LIMIT") rows)
 
--- the soup of these words, if all of them are there
-abbrev pub soup_of_words : Option Text → Option ℕ → Text → Option Symmetry → Option Asked
-soup_of_words (Some root) (Some number) rule (Some symmetry) = Some (AsksSoup root number rule symmetry)
-soup_of_words root number rule symmetry = None
-
 -- the soup of the words that were found after the name of the subcommand
 abbrev pub soup_in : List Row → Option Asked
-soup_in rows = soup_of_words (text_at (codes "ROOT") rows) (number_at (codes "NUMBER") rows) (rule_or_life (text_at (codes "RULE") rows)) (symmetry_or_c1 (text_at (codes "NAME") rows))
+soup_in rows =
+    if_all (λ root number symmetry. AsksSoup root number (rule_or_life (text_at (codes "RULE") rows)) symmetry) (text_at (codes "ROOT") rows) (number_at (codes "NUMBER") rows) (symmetry_or_c1 (text_at (codes "NAME") rows))
 
 -- the job of the subcommand of this name
 abbrev pub job_named : Text → List Row → Option Asked
@@ -92,17 +86,6 @@ abbrev pub job_of : List Row → Option (Text × List Row) → Option Asked
 job_of rows None = haul_in rows
 job_of rows (Some met) = if is_any_before rows then None else job_named met.0 met.1
 
--- no job, where the words have a fault of one of these kinds
-abbrev pub unless_fault : Kinds → Option Asked → Option Asked
-unless_fault [] job = job
-unless_fault (first ∷ others) job = None
-
 -- the job that the words name, the program's name first
 unfoldable pub words_job : List Text → Option Asked
-words_job words = unless_fault (fault_of haul_app words) (job_of (matches_of haul_app words) (subcommand_of haul_app words))
-
--- the answer to arguments: their job, or a usage error if they name none; out of memory may come with any arguments
-abbrev pub Answers : List Text → Result Job WordFault → Type 0
-Answers words (Ok job) = words_job words ≡ Some (asked_by job)
-Answers words (Err (BadWords error)) = words_job words ≡ None
-Answers words (Err Memory) = Unit {0}
+words_job words = option_and_then (λ found. job_of found.0 found.1) (matches_in haul_app words)

@@ -34,19 +34,28 @@ pub enum Mirror {
 }
 
 impl Symmetry {
+    /// The name, how many cells a row of the field has, and the mirror, if there is one.
+    fn row(self) -> (&'static str, usize, Option<Mirror>)
+        ensures name { result.0.now ≡ symmetry_name self }
+        ensures width { result.1 ≡ width self }
+        ensures mirror { result.2 ≡ mirror self }
+    {
+        match self {
+            Symmetry::C1 => ("C1", 16, None),
+            Symmetry::EightRows => ("8x32", 32, None),
+            Symmetry::FourRows => ("4x64", 64, None),
+            Symmetry::TwoRows => ("2x128", 128, None),
+            Symmetry::OneRow => ("1x256", 256, None),
+            Symmetry::D2Plus1 => ("D2_+1", 16, Some(Mirror::OnRow)),
+            Symmetry::D2Plus2 => ("D2_+2", 16, Some(Mirror::BetweenRows)),
+        }
+    }
+
     /// The field's name of the symmetry.
     pub fn name(self) -> &'static str
         ensures { result.now ≡ symmetry_name self }
     {
-        match self {
-            Symmetry::C1 => "C1",
-            Symmetry::EightRows => "8x32",
-            Symmetry::FourRows => "4x64",
-            Symmetry::TwoRows => "2x128",
-            Symmetry::OneRow => "1x256",
-            Symmetry::D2Plus1 => "D2_+1",
-            Symmetry::D2Plus2 => "D2_+2",
-        }
+        self.row().0
     }
 
     /// The symmetry of this name, if there is one.
@@ -70,28 +79,14 @@ impl Symmetry {
         ensures cells { result ≡ width self }
         ensures some { 0 < result }
     {
-        match self {
-            Symmetry::C1 | Symmetry::D2Plus1 | Symmetry::D2Plus2 => 16,
-            Symmetry::EightRows => 32,
-            Symmetry::FourRows => 64,
-            Symmetry::TwoRows => 128,
-            Symmetry::OneRow => 256,
-        }
+        self.row().1
     }
 
     /// The mirror of the symmetry, if it has one.
     pub(crate) fn mirror(self) -> Option<Mirror>
         ensures { result ≡ mirror self }
     {
-        match self {
-            Symmetry::D2Plus1 => Some(Mirror::OnRow),
-            Symmetry::D2Plus2 => Some(Mirror::BetweenRows),
-            Symmetry::C1
-            | Symmetry::EightRows
-            | Symmetry::FourRows
-            | Symmetry::TwoRows
-            | Symmetry::OneRow => None,
-        }
+        self.row().2
     }
 }
 

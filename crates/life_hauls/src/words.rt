@@ -1,10 +1,9 @@
 //! The words of the command line, read by `clap`.
 ghost use Rattle.std.specs.Prelude.{◌≡◌, codes, map, option_map, IfOk, false};
 ghost use Rattle.clap.specs.Words.{app_of, rule_of, rows_of, found_of, subcommand_rows_of};
-ghost use Rattle.clap.specs.declared.builder.command.Command.TheViews.{out-Command as fields_of};
-ghost use Rattle.life_words.specs.Words.{number_rule, text_rule, number_at, text_at};
+ghost use Rattle.life_words.specs.Words.{text_rule, text_at, MakesCommand, Answers};
 ghost use Rattle.life_hauls.specs.Words.{rule_rule, symmetry_rule, soup_app, haul_alone, haul_app, asked_by, rule_or_life, symmetry_or_c1, is_any_before};
-ghost use Rattle.life_hauls.specs.Words.{haul_in as haul_of_rows, soup_in as soup_of_rows, job_named, job_of, Answers};
+ghost use Rattle.life_hauls.specs.Words.{haul_in as haul_of_rows, soup_in as soup_of_rows, job_named, job_of, words_job};
 
 use crate::jobs::{HaulWords, SoupWords};
 use crate::symmetry::Symmetry;
@@ -12,7 +11,7 @@ use clap::error::ErrorKind;
 use clap::{Arg, ArgMatches, Command, Error};
 use life_words::{
     WordFault, generation_arg, limit_arg, named_command, number_arg, number_in, program_command,
-    text_arg, text_in, with_arg, with_command,
+    read_matches, text_arg, text_in, with_arg, with_command,
 };
 use std::alloc::{AllocError, Global};
 use std::convert::AsStr;
@@ -88,8 +87,7 @@ fn root_arg<'a>(alloc: Global) -> Arg<'a>
 }
 
 fn soup_command<'a>(alloc: Global) -> Result<Command<'a>, AllocError>
-    ensures app { IfOk result (λ command. app_of command ≡ soup_app) }
-    ensures local { IfOk result (λ command. (fields_of command).has_globals ≡ false) }
+    ensures { MakesCommand soup_app result }
 {
     let command = Ok(named_command(alloc, "soup", "Prints a soup as a pattern file", SOUP_HELP));
     let command = with_arg(command, root_arg(alloc));
@@ -246,9 +244,9 @@ fn no_job(alloc: Global, matches: &ArgMatches<'_>) -> Result<Error, AllocError> 
 ///
 /// A request for help is a fault too, `BadWords` with the text of the help.
 pub fn read_words<'a, S: AsStr>(alloc: Global, words: &'a [S]) -> Result<Job<'a>, WordFault>
-    ensures { Answers (map S.text words.entry.now) result }
+    ensures { Answers asked_by (words_job (map S.text words.entry.now)) result }
 {
-    let matches = haul_command(alloc)?.try_get_matches_from(words)?;
+    let matches = read_matches(haul_command(alloc), words)?;
     let Some(job) = job_in(&matches) else {
         return Err(WordFault::BadWords(Some(no_job(alloc, &matches)?)));
     };

@@ -12,8 +12,8 @@ use Rattle.life_rle.specs.Record.{Contents, plain}
 use Rattle.life_rle.specs.Writer.{text as printed}
 use Rattle.life_code.specs.declared.kinds.Kind.{Kind}
 use Rattle.life_code.specs.declared.kinds.Kind.TheVariants.{Empty, Unresolved}
-use Rattle.life_code.specs.declared.open.CodeFault.{CodeFault}
-use Rattle.life_code.specs.declared.open.CodeFault.TheVariants as code_faults
+use Rattle.life_code.specs.declared.fault.CodeFault.{CodeFault}
+use Rattle.life_code.specs.declared.fault.CodeFault.TheVariants as code_faults
 use Rattle.life_code.specs.Period.{kind_of}
 use Rattle.life_code.specs.Codes.{code_of, code_by_kind}
 use Rattle.life_code.specs.Open.{Spells, Refuses}

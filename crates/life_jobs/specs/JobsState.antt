@@ -4,8 +4,8 @@ use Rattle.life_core.specs.declared.generations.TheConstants.{GENERATION_LIMIT}
 use Rattle.life_rle.specs.declared.fault.RleFault.{RleFault}
 use Rattle.life_rle.specs.Record.{Contents}
 use Rattle.life_rle.specs.Writer.{text}
-use Rattle.life_code.specs.declared.open.CodeFault.{CodeFault}
-use Rattle.life_code.specs.declared.open.CodeFault.TheVariants as code_faults
+use Rattle.life_code.specs.declared.fault.CodeFault.{CodeFault}
+use Rattle.life_code.specs.declared.fault.CodeFault.TheVariants as code_faults
 use Rattle.life_jobs.specs.declared.jobs.Print.{Print}
 use Rattle.life_jobs.specs.declared.jobs.Print.TheVariants.{Generation, Kind, Census}
 use Rattle.life_jobs.specs.declared.stop.Stop.{Stop}

@@ -2,8 +2,8 @@
 use Rattle.std.specs.Prelude.{ℕ, List, [], ◌++◌, codes}
 use Rattle.life_rle.specs.declared.fault.RleFault.TheVariants as rle_faults
 use Rattle.life_rle.specs.Fault as rle
-use Rattle.life_code.specs.declared.open.CodeFault.TheVariants as code_faults
-use Rattle.life_code.specs.Open as code
+use Rattle.life_code.specs.declared.fault.CodeFault.TheVariants as code_faults
+use Rattle.life_code.specs.Fault as code
 use Rattle.life_jobs.specs.declared.stop.Stop.{Stop}
 use Rattle.life_jobs.specs.declared.stop.Stop.TheVariants.{OutOfLimit, BadPattern, BadRule, BadCode, Unreadable, Unavailable, Unwritable}
 
@@ -14,7 +14,7 @@ line_of (BadPattern rle_faults.Memory) = codes "refused: unavailable"
 line_of (BadPattern fault) = codes "refused: bad-pattern " ++ rle.fault_name fault
 line_of BadRule = codes "refused: bad-rule"
 line_of (BadCode code_faults.Memory) = codes "refused: unavailable"
-line_of (BadCode fault) = codes "refused: bad-code " ++ code.fault_name fault
+line_of (BadCode fault) = codes "refused: bad-code " ++ (code.label_of fault).name
 line_of Unreadable = codes "refused: unreadable"
 line_of Unavailable = codes "refused: unavailable"
 line_of Unwritable = []

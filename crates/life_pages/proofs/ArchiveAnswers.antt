@@ -4,7 +4,7 @@ use Rattle.sqlite_trees.specs.declared.store.Store.{Ghosts}
 use Rattle.life_rle.specs.Stream.{Gains, GainsSome}
 use Rattle.life_store.specs.Tables.{ArchiveView}
 use Rattle.life_desk.proofs.Runs.{IsSettled}
-use Rattle.life_pages.specs.declared.serving.IoFault.{IoFault}
+use Rattle.life_pages.specs.declared.fault.IoFault.{IoFault}
 use Rattle.life_pages.specs.Message.{Message, MessageRun, AnswersMessage}
 use Rattle.life_pages.specs.Serving.{AreAllOf, AreFirstOf, Served, RepliesCutShort}
 use Rattle.life_pages.specs.Archive.{StoreAnswers, IsAnswered}
@@ -28,7 +28,7 @@ module _ {S : Type 0} (g : Ghosts S) (old new : ArchiveView S) (law : IsSettled 
       }
 
   pub first_answered : (stream x y : Option (List ℕ)) → RepliesCutShort (AnswersMessage (StoreAnswers g)) stream old new x y → IsAnswered g (AreFirstOf stream) (GainsSome x y) old new
-  first_answered stream x y some = is_answered (AreFirstOf stream) (GainsSome x y) some.done some.bytes some.begun some.put some.run
+  first_answered stream x y some = is_answered (AreFirstOf stream) (GainsSome x y) some.done some.bytes some.messages some.put some.run
 
   pub all_answered : (stream x y : Option (List ℕ)) (r : Result (Unit {0}) IoFault) → OnOk r (Served (AnswersMessage (StoreAnswers g)) stream old new x y)
       → OnOk r (IsAnswered g (AreAllOf stream) (Gains x y) old new)

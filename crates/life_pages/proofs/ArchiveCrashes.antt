@@ -8,7 +8,7 @@ use Rattle.life_desk.specs.Archive.{Archive}
 use Rattle.life_desk.specs.Represents.{LeftRepresents}
 use Rattle.life_desk.specs.Replies.{after}
 use Rattle.life_desk.specs.Run.{RequestStep, RequestRun, IsCrashOf, PromiseNothing}
-use Rattle.life_pages.specs.declared.asked.MessageRefusal.{MessageRefusal}
+use Rattle.life_pages.specs.declared.fault.MessageRefusal.{MessageRefusal}
 use Rattle.life_pages.specs.Head.{Head}
 use Rattle.life_pages.specs.Asked.{asked}
 use Rattle.life_pages.specs.Message.{Message, good, bad, AnswersAsked, AnswersMessage}

@@ -8,7 +8,7 @@ use Rattle.life_desk.specs.Represents.{IsRepresentable, Represents}
 use Rattle.life_desk.specs.Run.{RequestStep}
 use Rattle.life_desk.specs.Headline.{HeadlineHolds}
 use Rattle.life_desk.proofs.Representing.{representable_of}
-use Rattle.life_pages.specs.declared.serving.IoFault.{IoFault}
+use Rattle.life_pages.specs.declared.fault.IoFault.{IoFault}
 use Rattle.life_pages.specs.Message.{Message, MessageRun, AnswersMessage}
 use Rattle.life_pages.specs.Serving.{AreAllOf, AreFirstOf, Served, RepliesCutShort}
 use Rattle.life_pages.specs.Archive.{ByArchive}
@@ -37,7 +37,7 @@ module _ {S : Type 0} (g : Ghosts S) (law : HeadlineHolds) (stream : Option (Lis
   pub headline_first : ByArchive g (λ A B. RepliesCutShort (AnswersMessage RequestStep) stream A B x y) old new → ByArchive g (ServesTheHeadline (AreFirstOf stream) (GainsSome x y)) old new
   headline_first by =
       by_more g (λ A B. RepliesCutShort (AnswersMessage RequestStep) stream A B x y) (ServesTheHeadline (AreFirstOf stream) (GainsSome x y)) old new
-      (λ A B m b. says law (AreFirstOf stream) (GainsSome x y) A B b.done b.bytes (representable_of old A m) b.begun b.run b.put) by
+      (λ A B m b. says law (AreFirstOf stream) (GainsSome x y) A B b.done b.bytes (representable_of old A m) b.messages b.run b.put) by
 
   pub headline_all : (r : Result (Unit {0}) IoFault) → OnOk r (ByArchive g (λ A B. Served (AnswersMessage RequestStep) stream A B x y) old new)
       → OnOk r (ByArchive g (ServesTheHeadline (AreAllOf stream) (Gains x y)) old new)

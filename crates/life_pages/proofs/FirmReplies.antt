@@ -8,7 +8,7 @@ use Rattle.life_desk.specs.declared.request.Reply.{Reply}
 use Rattle.life_desk.specs.declared.request.Reply.TheVariants as says
 use Rattle.life_desk.specs.Validation.{validated, MayRefuse}
 use Rattle.life_desk.specs.Replies.{is_shown}
-use Rattle.life_pages.specs.declared.asked.MessageRefusal.{MessageRefusal}
+use Rattle.life_pages.specs.declared.fault.MessageRefusal.{MessageRefusal}
 use Rattle.life_pages.specs.Asked.{asked}
 use Rattle.life_pages.specs.Message.{Message, good, bad, MessageRun, AnswersAsked, AnswersMessage}
 use Rattle.life_pages.specs.Serving.{RepliesCutShort}
@@ -45,4 +45,4 @@ module _ {S : Type 0} (g : Ghosts S) where
 
   pub firm_replies : (stream : Option (List ℕ)) (old new : ArchiveView S) (x y : Option (List ℕ)) → RepliesCutShort (AnswersMessage (StoreAnswers g)) stream old new x y
       → RepliesCutShort (AnswersMessage AnswersFirmly) stream tt tt x y
-  firm_replies stream old new x y b = record { done = b.done; bytes = b.bytes; begun = b.begun; run = firm_run old new b.done b.bytes b.run; put = b.put }
+  firm_replies stream old new x y b = record { done = b.done; bytes = b.bytes; messages = b.messages; run = firm_run old new b.done b.bytes b.run; put = b.put }

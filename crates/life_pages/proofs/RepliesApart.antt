@@ -10,9 +10,9 @@ use Rattle.life_desk.specs.declared.refusal.Refusal.{Refusal}
 use Rattle.life_desk.specs.declared.refusal.Refusal.TheVariants.{NoSuchDeposit, NoSuchCensus, BadMember, BadToken, TokenReused, OutOfLimit, BadPattern, BadRule, BadCode, Full, Unavailable}
 use Rattle.life_desk.specs.declared.request.Reply.{Reply}
 use Rattle.life_desk.specs.declared.request.Reply.TheVariants as replies
-use Rattle.life_pages.specs.declared.asked.MessageRefusal.{MessageRefusal}
-use Rattle.life_pages.specs.declared.asked.MessageRefusal.TheVariants.{NoSuchRoute, BadMethod, BadMessage}
-use Rattle.life_pages.specs.Asked.{refusal_name, refusal_number}
+use Rattle.life_pages.specs.declared.fault.MessageRefusal.{MessageRefusal}
+use Rattle.life_pages.specs.declared.fault.MessageRefusal.TheVariants.{NoSuchRoute, BadMethod, BadMessage}
+use Rattle.life_pages.specs.Fault.{label_of}
 use Rattle.life_pages.specs.Reply.{phrase, refusal_body, reply_bytes, message_refusal_bytes, refusal_status, reply_status, type_of, reply_body, page_status, json}
 use Rattle.life_pages.specs.Laws.{AreReplyBytes, RepliesAreReadInOneWay}
 
@@ -124,7 +124,7 @@ apart a b x y one two same =
 -- ---- all replies
 
 abbrev page_body : MessageRefusal → List ℕ
-page_body refusal = refusal_body (refusal_name refusal) (refusal_number refusal) []
+page_body refusal = refusal_body (label_of refusal).name (label_of refusal).number []
 
 refusal_line : (refusal : Refusal) → is_free (first_line (refusal_status refusal)) ≡ true
 unfolding phrase
@@ -175,9 +175,9 @@ number_short n few = omega (arith, length-append (decimal n ++ []) (codes "}"), 
 
 page_short : (refusal : MessageRefusal) → length (page_body refusal) < 2 ^ 64
 unfolding refusal_body
-page_short NoSuchRoute = omega (arith, number_short (refusal_number NoSuchRoute) (omega arith))
-page_short BadMethod = omega (arith, number_short (refusal_number BadMethod) (omega arith))
-page_short BadMessage = omega (arith, number_short (refusal_number BadMessage) (omega arith))
+page_short NoSuchRoute = omega (arith, number_short (label_of NoSuchRoute).number (omega arith))
+page_short BadMethod = omega (arith, number_short (label_of BadMethod).number (omega arith))
+page_short BadMessage = omega (arith, number_short (label_of BadMessage).number (omega arith))
 
 page_is : (refusal : MessageRefusal) → message_refusal_bytes refusal ≡ reply_bytes (page_status refusal) json (page_body refusal)
 unfolding message_refusal_bytes

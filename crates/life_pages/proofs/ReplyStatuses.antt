@@ -5,8 +5,8 @@ use Rattle.life_desk.specs.declared.refusal.Refusal.TheVariants.{NoSuchDeposit, 
 use Rattle.life_desk.specs.declared.request.Reply.{Reply}
 use Rattle.life_desk.specs.declared.request.Reply.TheVariants as replies
 use Rattle.life_desk.specs.Replies.{acknowledges}
-use Rattle.life_pages.specs.declared.asked.MessageRefusal.{MessageRefusal}
-use Rattle.life_pages.specs.declared.asked.MessageRefusal.TheVariants.{NoSuchRoute, BadMethod, BadMessage}
+use Rattle.life_pages.specs.declared.fault.MessageRefusal.{MessageRefusal}
+use Rattle.life_pages.specs.declared.fault.MessageRefusal.TheVariants.{NoSuchRoute, BadMethod, BadMessage}
 use Rattle.life_pages.specs.Reply.{reply_bytes, bytes_of, message_refusal_bytes}
 use Rattle.life_pages.specs.Laws.{AcknowledgementsAreKnown, PagesAcknowledgeNothing}
 

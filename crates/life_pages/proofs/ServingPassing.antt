@@ -35,11 +35,6 @@ passes_more old mid new n k space (bytes, many, blank, lost) more some within wh
     let s = some_length k space some within in
     (bytes ++ take k space, omega (arith, l, s, many), blank_both bytes (take k space) blank white, loses_then old mid new bytes (take k space) lost more)
 
-pub passed_end : (old mid : Option (List ℕ)) (n : ℕ) → PassesBlank n old mid → IsEnded mid → IsBlankRest old true
-passed_end None mid n p e = tt
-passed_end (Some old) None n (bytes, many, blank, lost) e = absurd lost
-passed_end (Some old) (Some mid) n (bytes, many, blank, lost) e = rw lost (blank_both bytes mid blank (rw e refl))
-
 other_later : (x y z : List ℕ) → are_line_breaks y ≡ false → are_line_breaks (x ++ (y ++ z)) ≡ false
 other_later x y z e = list_all-append _ x (y ++ z) ∙ ap (λ (b : Bool). are_line_breaks x && b) (list_all-append _ y z) ∙ rw e (and_false (are_line_breaks x))
   where
@@ -96,14 +91,6 @@ pub most_fed : (a b c : Option (List ℕ)) (n k : ℕ) (held all : List ℕ) →
 most_fed a b c n k held all before f short =
     loses_on a b c (n * most_taken) most_taken ((n + 1) * most_taken) f.0 before f.1 (let l = f.4 in omega arith) (omega arith)
 
--- of at most as many takes as there may be
-pub most_weaker : (old new : Option (List ℕ)) (n : ℕ) → n ≤ most_takes → LosesUpTo (n * most_taken) old new → LosesUpTo (most_takes * most_taken) old new
-most_weaker old new n few (bytes, short, lost) = (bytes, omega arith, lost)
-
--- and then no byte, or those of the takes that are left
-pub most_none : (a b c : Option (List ℕ)) (n : ℕ) → n ≤ most_takes → LosesUpTo (n * most_taken) a b → Loses b c [] → LosesUpTo (most_takes * most_taken) a c
-most_none a b c n few before none = loses_on a b c (n * most_taken) 0 (most_takes * most_taken) [] before none (omega arith) (omega arith)
-
 pub most_blank : (a b c : Option (List ℕ)) (n : ℕ) → n ≤ most_takes → LosesUpTo (n * most_taken) a b → LosesUpTo ((most_takes - n) * most_taken) b c
     → LosesUpTo (most_takes * most_taken) a c
 most_blank a b c n few before (piece, short, lost) =
@@ -113,15 +100,6 @@ most_blank a b c n few before (piece, short, lost) =
 
 pub one_take : (start now next n : ℕ) → now ≤ start + n → next ≡ raised now → next ≤ start + (n + 1)
 one_take start now next n before is = let most = min-le_left (now + 1) last_count in omega (arith, before, is, most)
-
-pub take_within : (start now next n all : ℕ) → now ≤ start + n → next ≡ raised now → n < all → next ≤ start + all
-take_within start now next n all before is more = let one = one_take start now next n before is in omega (arith, one, more)
-
-pub takes_rest : (start now next n all : ℕ) → now ≤ start + n → next ≤ now + (all - n) → n ≤ all → next ≤ start + all
-takes_rest start now next n all before rest few = omega (arith, before, rest, few)
-
-pub still_few : (a b n : ℕ) → n ≢ b → n ≤ b → n < b
-still_few a b n other few = omega (arith, other)
 
 -- ---- what became of a stream after long blank bytes
 

@@ -120,7 +120,7 @@ module _ {D : Type 0} (answers : D → Head → List ℕ → List ℕ → D → 
   served_broke stream old new x y e = record {
     done = e.done;
     bytes = e.bytes;
-    begun = all_first stream e.done e.messages;
+    messages = all_first stream e.done e.messages;
     run = e.run;
     put = (e.bytes, [], sym (append-nil e.bytes), e.put);
   }
@@ -129,7 +129,7 @@ module _ {D : Type 0} (answers : D → Head → List ℕ → List ℕ → D → 
   so_far_broke stream left old new x y e = record {
     done = e.done;
     bytes = e.bytes;
-    begun = fronts_first stream left e.done e.held e.front;
+    messages = fronts_first stream left e.done e.held e.front;
     run = e.run;
     put = (e.bytes, [], sym (append-nil e.bytes), e.put);
   }

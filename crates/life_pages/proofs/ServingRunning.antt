@@ -188,7 +188,7 @@ module _ {D : Type 0} (answers : D → Head → List ℕ → List ℕ → D → 
   cut_broke stream left old new x y c = record {
     done = c.done ++ c.last ∷ [];
     bytes = c.bytes ++ c.reply;
-    begun = c.begun.0;
+    messages = c.begun.0;
     run = run_then answers old c.mid new c.done (c.last ∷ []) c.bytes c.reply c.run c.step;
     put = some_more x c.whole y c.bytes c.reply c.put c.some;
   }

@@ -5,23 +5,11 @@ use Rattle.life_desk.specs.declared.request.Request.{Request}
 use Rattle.life_desk.specs.declared.request.Request.TheVariants as ask
 use Rattle.life_pages.specs.declared.route.Route.{Route}
 use Rattle.life_pages.specs.declared.route.Route.TheVariants as routes
-use Rattle.life_pages.specs.declared.asked.MessageRefusal.{MessageRefusal}
-use Rattle.life_pages.specs.declared.asked.MessageRefusal.TheVariants.{NoSuchRoute, BadMethod, BadMessage}
+use Rattle.life_pages.specs.declared.fault.MessageRefusal.{MessageRefusal}
+use Rattle.life_pages.specs.declared.fault.MessageRefusal.TheVariants.{NoSuchRoute, BadMethod}
 use Rattle.life_pages.specs.Head.{Head}
 use Rattle.life_pages.specs.Path.{path_of}
 use Rattle.life_pages.specs.Route.{route_of}
-
--- the numbers of the refusals, after those of the archive
-abbrev pub refusal_number : MessageRefusal → ℕ
-refusal_number NoSuchRoute = 12
-refusal_number BadMethod = 13
-refusal_number BadMessage = 14
-
--- what they are called
-abbrev pub refusal_name : MessageRefusal → List ℕ
-refusal_name NoSuchRoute = codes "no-such-page"
-refusal_name BadMethod = codes "bad-method"
-refusal_name BadMessage = codes "bad-message"
 
 -- the method that a route wants
 abbrev pub method_of : Route → List ℕ

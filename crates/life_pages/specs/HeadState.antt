@@ -16,10 +16,6 @@ pub record BeginsWith (bytes : List ℕ) (said : Head) (rest : List ℕ) : Type 
 abbrev pub NeverBegins : List ℕ → Type 0
 NeverBegins bytes = (more : List ℕ) (said : Head) (rest : List ℕ) → ¬ (BeginsWith (bytes ++ more) said rest)
 
--- no whole good head stands at the front
-abbrev pub NotYetBegins : List ℕ → Type 0
-NotYetBegins bytes = (said : Head) (rest : List ℕ) → ¬ (BeginsWith bytes said rest)
-
 -- what the parts of a good head are
 abbrev pub said : GoodHead → Head
 said g = record {

@@ -1,3 +1,4 @@
+pub mod Fault
 pub mod Head
 pub mod Path
 pub mod Route

@@ -8,9 +8,9 @@ use Rattle.life_desk.specs.declared.refusal.Refusal.TheVariants.{NoSuchDeposit, 
 use Rattle.life_desk.specs.declared.request.Reply.{Reply}
 use Rattle.life_desk.specs.declared.request.Reply.TheVariants as says
 use Rattle.life_desk.specs.Refusals as refusals
-use Rattle.life_pages.specs.declared.asked.MessageRefusal.{MessageRefusal}
-use Rattle.life_pages.specs.declared.asked.MessageRefusal.TheVariants.{NoSuchRoute, BadMethod, BadMessage}
-use Rattle.life_pages.specs.Asked.{refusal_number, refusal_name}
+use Rattle.life_pages.specs.declared.fault.MessageRefusal.{MessageRefusal}
+use Rattle.life_pages.specs.declared.fault.MessageRefusal.TheVariants.{NoSuchRoute, BadMethod, BadMessage}
+use Rattle.life_pages.specs.Fault.{label_of}
 use Rattle.life_pages.specs.Json.{kind_data, shown_data, list_data}
 
 -- the words after a status
@@ -91,7 +91,7 @@ page_status BadMethod = 405
 page_status BadMessage = 400
 
 unfoldable pub message_refusal_bytes : MessageRefusal → List ℕ
-message_refusal_bytes refusal = reply_bytes (page_status refusal) json (refusal_body (refusal_name refusal) (refusal_number refusal) [])
+message_refusal_bytes refusal = reply_bytes (page_status refusal) json (refusal_body (label_of refusal).name (label_of refusal).number [])
 
 -- the reply to a bad message
 abbrev pub bad_bytes : List ℕ

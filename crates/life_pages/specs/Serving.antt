@@ -5,15 +5,8 @@ use Rattle.life_rle.specs.declared.stream.Outlet as outlet
 use Rattle.life_rle.specs.Stream.{raised, FailedBetween, FailsLast, Loses, LosesUpTo, Gains, GainsSome}
 use Rattle.life_pages.specs.Head.{Head}
 use Rattle.life_pages.specs.Message.{Message, Messages, Front, Starts, MessageRun, HasNone, IsAwaited}
-use Rattle.life_pages.specs.declared.serving.IoFault.{IoFault}
-use Rattle.life_pages.specs.declared.serving.IoFault.TheVariants.{Read, Write, TooManyReads, Memory}
-
--- the faults from 1 on
-abbrev pub io_fault_number : IoFault → ℕ
-io_fault_number Read = 1
-io_fault_number Write = 2
-io_fault_number TooManyReads = 3
-io_fault_number Memory = 4
+use Rattle.life_pages.specs.declared.fault.IoFault.{IoFault}
+use Rattle.life_pages.specs.declared.fault.IoFault.TheVariants.{Read, Write, TooManyReads, Memory}
 
 -- the most takes of one call
 abbrev pub most_takes : ℕ
@@ -46,21 +39,21 @@ module _ {D : Type 0} (answers : D → Head → List ℕ → List ℕ → D → 
     pub put : Gains before whole bytes
     pub some : GainsSome whole after reply
 
-  -- the first messages of a stream were answered, and a beginning of their replies was put
-  pub record RepliesCutShort (stream : Option (List ℕ)) (old new : D) (before after : Option (List ℕ)) : Type 0 where
+  -- messages were answered, and of the bytes of their replies so much was put
+  pub record ServedMessages (are : List Message → Type 0) (puts : List ℕ → Type 0) (old new : D) : Type 0 where
     pub done : List Message
     pub bytes : List ℕ
-    pub begun : AreFirstOf stream done
+    pub messages : are done
     pub run : MessageRun answers old done bytes new
-    pub put : GainsSome before after bytes
+    pub put : puts bytes
+
+  -- the first messages of a stream were answered, and a beginning of their replies was put
+  abbrev pub RepliesCutShort : Option (List ℕ) → D → D → Option (List ℕ) → Option (List ℕ) → Type 0
+  RepliesCutShort stream old new before after = ServedMessages (AreFirstOf stream) (GainsSome before after) old new
 
   -- all the messages of a stream were answered, and their replies were put
-  pub record Served (stream : Option (List ℕ)) (old new : D) (before after : Option (List ℕ)) : Type 0 where
-    pub done : List Message
-    pub bytes : List ℕ
-    pub messages : AreAllOf stream done
-    pub run : MessageRun answers old done bytes new
-    pub put : Gains before after bytes
+  abbrev pub Served : Option (List ℕ) → D → D → Option (List ℕ) → Option (List ℕ) → Type 0
+  Served stream old new before after = ServedMessages (AreAllOf stream) (Gains before after) old new
 
 -- the messages stand at the front of a stream of known bytes, before what is held and what is left
 abbrev pub Fronts : Option (List ℕ) → List Message → List ℕ → Option (List ℕ) → Type 0

@@ -1,8 +1,8 @@
 -- What the private calls that serve a stream do, one after the other.
 use Rattle.std.specs.Prelude.{◌≡◌, ◌⊎◌, ℕ, ◌<◌, ◌≤◌, Bool, true, false, List, [], ◌++◌, length, Option, None, Some, Result, Ok, Err}
 use Rattle.life_rle.specs.Stream.{raised, Loses, Gains, GainsSome, IsEnded}
-use Rattle.life_pages.specs.declared.serving.IoFault.{IoFault}
-use Rattle.life_pages.specs.declared.serving.IoFault.TheVariants as faults
+use Rattle.life_pages.specs.declared.fault.IoFault.{IoFault}
+use Rattle.life_pages.specs.declared.fault.IoFault.TheVariants as faults
 use Rattle.life_pages.specs.declared.serving.Step.{Step}
 use Rattle.life_pages.specs.declared.serving.Step.TheVariants.{Wants, Goes, Ends}
 use Rattle.life_pages.specs.declared.serving.Passed.{Passed}

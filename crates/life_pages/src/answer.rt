@@ -1,7 +1,7 @@
 //! The reply to a good message.
 ghost use Rattle.std.specs.Prelude.{◌≡◌, ◌≤◌, vec_capacity, Result, Ok, Err, IfOk};
 ghost use Rattle.life_desk.specs.declared.request.Request.{Request};
-ghost use Rattle.life_pages.specs.declared.asked.MessageRefusal.{MessageRefusal};
+ghost use Rattle.life_pages.specs.declared.fault.MessageRefusal.{MessageRefusal};
 ghost use Rattle.life_pages.specs.AskedState.{IsAsked};
 ghost use Rattle.life_pages.specs.HeadState.{said};
 ghost use Rattle.life_pages.specs.RouteState.{route_rows};

@@ -8,7 +8,8 @@ ghost use Rattle.life_pages.specs.Archive.{AnswersFirmly, ByArchive, InMemory, I
 ghost use Rattle.life_pages.specs.Requests.{ServesTheHeadline};
 
 use crate::desk::Desk;
-use crate::serving::{IoFault, serve_desk};
+use crate::fault::IoFault;
+use crate::serving::serve_desk;
 use life_desk::{Reply, Request, answer, law_of_the_archive};
 use life_rle::{Inlet, Outlet};
 use life_store::Archive;

@@ -1,50 +1,18 @@
 //! What a good message asks for.
-ghost use Rattle.std.specs.Prelude.{◌≡◌, IfOk};
+ghost use Rattle.std.specs.Prelude.{◌≡◌};
 ghost use Rattle.life_pages.specs.HeadState.{said};
 ghost use Rattle.life_pages.specs.RouteState.{route_rows};
 ghost use Rattle.life_pages.specs.Asked.{method_of, asked, request_of};
 ghost use Rattle.life_pages.specs.AskedState.{IsAsked, GivesRequest};
 
+use crate::fault::MessageRefusal;
 use crate::head::GoodHead;
 use crate::path::path_of;
 use crate::route::{Captured, Route, Template, find_route};
 use life_desk::{Bytes, Refusal, Request, check_census, check_deposit, check_total};
 use life_rle::Text;
 use matchit::Router;
-use std::alloc::{AllocError, Global};
-
-/// Why a message is refused before the archive is asked.
-#[derive(Clone, Copy, Debug, PartialEq, Eq)]
-pub enum MessageRefusal {
-    /// No route has the path.
-    NoSuchRoute = 12,
-    /// The route wants another method.
-    BadMethod = 13,
-    /// The bytes are no good message.
-    BadMessage = 14,
-}
-
-impl MessageRefusal {
-    ghost use Rattle.life_pages.specs.Asked.{refusal_number, refusal_name};
-
-    /// The refusal's number. Those below it are the archive's.
-    pub fn number(self) -> u8
-        ensures { result ≡ refusal_number self }
-    {
-        self as u8
-    }
-
-    /// What the refusal is called, in small letters.
-    pub fn name(self) -> &'static str
-        ensures { result.now ≡ refusal_name self }
-    {
-        match self {
-            MessageRefusal::NoSuchRoute => "no-such-page",
-            MessageRefusal::BadMethod => "bad-method",
-            MessageRefusal::BadMessage => "bad-message",
-        }
-    }
-}
+use std::alloc::Global;
 
 /// The method that a route wants.
 fn method_of(route: &Route<'_>) -> &'static str
@@ -56,10 +24,11 @@ fn method_of(route: &Route<'_>) -> &'static str
     }
 }
 
-/// The request for a deposit, copied.
-fn copy_deposit(alloc: Global, head: &GoodHead<'_>, body: &[u8]) -> Result<Request, AllocError>
-    ensures { IfOk result (λ q. q ≡ Request.Deposit head.now.member.now head.now.token.now body.now) }
+/// The request for a deposit. Its fields are validated before anything is copied.
+fn deposit_request(alloc: Global, head: &GoodHead<'_>, body: &[u8]) -> Result<Request, Refusal>
+    ensures { GivesRequest result (Request.Deposit head.now.member.now head.now.token.now body.now) }
 {
+    check_deposit(head.member, head.token)?;
     Ok(Request::Deposit {
         member: Text::from_slice(alloc, head.member)?,
         token: Text::from_slice(alloc, head.token)?,
@@ -67,37 +36,7 @@ fn copy_deposit(alloc: Global, head: &GoodHead<'_>, body: &[u8]) -> Result<Reque
     })
 }
 
-/// The request for a deposit. Its words are validated before anything is copied.
-fn deposit_request(alloc: Global, head: &GoodHead<'_>, body: &[u8]) -> Result<Request, Refusal>
-    ensures { GivesRequest result (Request.Deposit head.now.member.now head.now.token.now body.now) }
-{
-    check_deposit(head.member, head.token)?;
-    match copy_deposit(alloc, head, body) {
-        Ok(request) => Ok(request),
-        Err(_) => Err(Refusal::Unavailable),
-    }
-}
-
-/// The request for a census, copied.
-fn copy_census(
-    alloc: Global,
-    head: &GoodHead<'_>,
-    deposit: u64,
-    generation: u64,
-    limit: u64,
-) -> Result<Request, AllocError>
-    ensures { IfOk result (λ q. q ≡ Request.Census head.now.member.now head.now.token.now deposit generation limit) }
-{
-    Ok(Request::Census {
-        member: Text::from_slice(alloc, head.member)?,
-        token: Text::from_slice(alloc, head.token)?,
-        deposit,
-        generation,
-        limit,
-    })
-}
-
-/// The request for a census. Its words are validated before anything is copied.
+/// The request for a census. Its fields are validated before anything is copied.
 fn census_request(
     alloc: Global,
     head: &GoodHead<'_>,
@@ -108,29 +47,16 @@ fn census_request(
     ensures { GivesRequest result (Request.Census head.now.member.now head.now.token.now deposit generation limit) }
 {
     check_census(head.member, head.token, generation, limit)?;
-    match copy_census(alloc, head, deposit, generation, limit) {
-        Ok(request) => Ok(request),
-        Err(_) => Err(Refusal::Unavailable),
-    }
-}
-
-/// The request for a total, copied.
-fn copy_total(
-    alloc: Global,
-    rule: &Captured<'_>,
-    code: &Captured<'_>,
-    limit: u64,
-) -> Result<Request, AllocError>
-    ensures { IfOk result (λ q. q ≡ Request.Total rule.now code.now limit) }
-{
-    Ok(Request::Total {
-        rule: Bytes::from_slice(alloc, rule.as_bytes())?,
-        code: Bytes::from_slice(alloc, code.as_bytes())?,
+    Ok(Request::Census {
+        member: Text::from_slice(alloc, head.member)?,
+        token: Text::from_slice(alloc, head.token)?,
+        deposit,
+        generation,
         limit,
     })
 }
 
-/// The request for a total. Its words are validated before anything is copied.
+/// The request for a total. Its fields are validated before anything is copied.
 fn total_request(
     alloc: Global,
     rule: &Captured<'_>,
@@ -140,13 +66,14 @@ fn total_request(
     ensures { GivesRequest result (Request.Total rule.now code.now limit) }
 {
     check_total(rule.as_bytes(), limit)?;
-    match copy_total(alloc, rule, code, limit) {
-        Ok(request) => Ok(request),
-        Err(_) => Err(Refusal::Unavailable),
-    }
+    Ok(Request::Total {
+        rule: Bytes::from_slice(alloc, rule.as_bytes())?,
+        code: Bytes::from_slice(alloc, code.as_bytes())?,
+        limit,
+    })
 }
 
-/// The request of a route. One that is refused for its own words is so before anything is copied.
+/// The request of a route. One that is refused for its own fields is refused before anything is copied.
 fn request_of(
     alloc: Global,
     route: &Route<'_>,
@@ -183,7 +110,7 @@ fn request_of(
 pub(crate) enum Unasked {
     /// The message makes no request.
     Message(MessageRefusal),
-    /// The request is refused: for its own words, or since there is no memory to copy them.
+    /// The request is refused: for its own fields, or since there is no memory to copy them.
     Request(Refusal),
 }
 

@@ -5,6 +5,7 @@ mod answer;
 mod archive;
 mod asked;
 mod desk;
+mod fault;
 mod head;
 mod json;
 mod laws;
@@ -15,6 +16,5 @@ mod route;
 mod serving;
 
 pub use archive::{serve, serve_in_memory};
-pub use asked::MessageRefusal;
+pub use fault::{IoFault, MessageRefusal};
 pub use laws::laws_of_messages;
-pub use serving::IoFault;

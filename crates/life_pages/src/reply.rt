@@ -6,7 +6,7 @@ ghost use Rattle.life_desk.specs.Replies.{is_shown};
 ghost use Rattle.life_pages.specs.Reply.{phrase, reply_bytes, json, number_body, refusal_body, fault_part, bytes_of, refusal_status, reply_status, type_of, reply_body, message_refusal_bytes, bad_bytes, unavailable_bytes};
 ghost use Rattle.life_pages.specs.ReplyState.{Writes};
 
-use crate::asked::MessageRefusal;
+use crate::fault::MessageRefusal;
 use crate::json::{kind_body, list_body, shown_body};
 use http::StatusCode;
 use itoa::Buffer;

@@ -12,8 +12,8 @@ ghost use Rattle.life_pages.specs.Serving.{IsServed, UsesStreams, ReportsTakeFai
 ghost use Rattle.life_pages.specs.ServingState.{AtEnd, IsStep, IsHeldServed, IsOutcome, Feeds, IsPassed, HearsPassed, IsBlankEnd};
 
 use crate::answer::{ReplyBuffers, answer_message};
-use crate::asked::MessageRefusal;
 use crate::desk::Desk;
+use crate::fault::{IoFault, MessageRefusal};
 use crate::message::{HEAD_LIMIT, Next, are_blank, next_message};
 use crate::reply::{add, page_reply};
 use crate::route::{Template, route_table};
@@ -29,30 +29,6 @@ const TAKES: u64 = 1_048_576;
 
 /// The most bytes of one take.
 const MOST_TAKEN: usize = 4096;
-
-/// Why serving a stream stopped before its end.
-#[derive(Clone, Copy, Debug, PartialEq, Eq)]
-pub enum IoFault {
-    /// A take failed.
-    Read = 1,
-    /// A put failed.
-    Write = 2,
-    /// A take past the limit would be needed.
-    TooManyReads = 3,
-    /// An allocation was refused before the first take.
-    Memory = 4,
-}
-
-impl IoFault {
-    ghost use Rattle.life_pages.specs.Serving.{io_fault_number};
-
-    /// The fault's number, from 1 on.
-    pub fn number(self) -> u8
-        ensures { result ≡ io_fault_number self }
-    {
-        self as u8
-    }
-}
 
 /// What became of the first message that is held.
 #[derive(Clone, Copy)]

@@ -145,6 +145,10 @@ next_one rule X Y Z i now is =
     let more : suc i ≡ i + 1 = omega arith in
     is ∙ ap (λ (W : Cells). next rule W) now ∙ ap (generation_of rule X) more
 
+-- all of the frames
+pub all_frames : (rule : RuleSets) (X : Cells) (at : Cell) (i count : ℕ) (o₀ o₁ : List ℕ) → i ≡ count → o₁ ≡ o₀ ++ next_frames rule X at i → o₁ ≡ o₀ ++ next_frames rule X at count
+all_frames rule X at i count o₀ o₁ end is = is ∙ ap (λ k. o₀ ++ next_frames rule X at k) end
+
 -- a generation lies near
 pub roomy : (rule : RuleSets) (X Y : Cells) (i : ℕ) → Y ≡ generation_of rule X i → i ≤ 1024 → IsWithin 3072 X → IsWithin 4096 Y
 roomy rule X Y i is few within =

@@ -1,11 +1,11 @@
 //! A pattern in motion as an SVG document: a frame for each generation, all in one box.
-ghost use Rattle.std.specs.Prelude.{◌≡◌, ◌≤◌, ◌<◌, ◌++◌, ℕ, IfOk, OnOk};
+ghost use Rattle.std.specs.Prelude.{◌≡◌, ◌≤◌, ◌<◌, ◌+◌, ◌++◌, ℕ, IfOk, OnOk};
 ghost use Rattle.life_core.specs.Cell.{IsCellWithin};
 ghost use Rattle.life_core.specs.Generations.{generation_of};
 ghost use Rattle.life_core.specs.Pattern.{IsWithin, corner};
 ghost use Rattle.life_rle.specs.Record.{IsInside};
-ghost use Rattle.life_pictures.specs.Frames.{trail, frame, next_frames, animated_path, moving, animation};
-ghost use Rattle.life_pictures.specs.FramesState.{IsCornerOf};
+ghost use Rattle.life_pictures.specs.Frames.{trail, frame, animated_path, moving, animation};
+ghost use Rattle.life_pictures.specs.FramesState.{IsCornerOf, AreFrames};
 
 use crate::document::put_front;
 use crate::extent::extent_of;
@@ -34,21 +34,20 @@ fn corner_of<A: Allocator>(pattern: &Pattern<A>) -> Cell
     }
 }
 
-/// All cells that are live in a pattern or in one of its generations, so many in all.
+/// All cells that are live in a pattern or in one of so many generations after it.
 fn trail<A: Allocator + Copy>(
     alloc: A,
     rule: &Rule,
     start: &Pattern<A>,
-    count: u32,
+    more: u32,
 ) -> Result<Pattern<A>, Fault>
-    requires few { count ≤ MOST_FRAMES }
-    requires within { IsWithin 3072 start.now }
-    ensures trail { IfOk result (λ X. X ≡ trail rule.now start.now count) }
+    requires { AreFrames start.now more }
+    ensures trail { IfOk result (λ X. X ≡ trail rule.now start.now (more + 1)) }
     ensures within { IfOk result (IsWithin 4096) }
 {
     let mut cells = Vec::new(alloc);
     let mut now = start.copy(alloc)?;
-    for _i in 0..count {
+    for _i in 0..more + 1 {
         list_runs(&mut cells, now.cells().runs())?;
         now = generation(alloc, rule, &now, 1)?;
     }
@@ -73,30 +72,6 @@ fn put_frame<A: Allocator + Copy>(
     Ok(())
 }
 
-/// Writes the frames of so many generations after a pattern.
-fn put_next_frames<A: Allocator + Copy>(
-    alloc: A,
-    out: &mut Vec<u8, A>,
-    rule: &Rule,
-    start: &Pattern<A>,
-    at: Cell,
-    count: u32,
-) -> Result<(), Fault>
-    requires few { count < MOST_FRAMES }
-    requires within { IsWithin 3072 start.now }
-    requires at { IsCellWithin 4096 at }
-    requires first { (k : ℕ) → k ≤ count → IsCornerOf at (generation_of rule.now start.now k) }
-    ensures { OnOk result (out.new.items ≡ out.old.items ++ next_frames rule.now start.now at count) }
-{
-    let mut now = start.copy(alloc)?;
-    for _i in 0..count {
-        now = generation(alloc, rule, &now, 1)?;
-        out.extend_from_slice(b";")?;
-        put_frame(alloc, out, &now, at)?;
-    }
-    Ok(())
-}
-
 /// Writes the path that shows a pattern and so many generations after it.
 fn put_animated_path<A: Allocator + Copy>(
     alloc: A,
@@ -106,8 +81,7 @@ fn put_animated_path<A: Allocator + Copy>(
     at: Cell,
     more: u32,
 ) -> Result<(), Fault>
-    requires few { more < MOST_FRAMES }
-    requires within { IsWithin 3072 start.now }
+    requires frames { AreFrames start.now more }
     requires at { IsCellWithin 4096 at }
     requires first { (k : ℕ) → k ≤ more → IsCornerOf at (generation_of rule.now start.now k) }
     ensures { OnOk result (out.new.items ≡ out.old.items ++ animated_path rule.now start.now at more) }
@@ -118,7 +92,12 @@ fn put_animated_path<A: Allocator + Copy>(
     put_numbered(out, opening, 125 * (u64::from(more) + 1))?;
     out.extend_from_slice(b"ms\" repeatCount=\"indefinite\" values=\"")?;
     put_frame(alloc, out, start, at)?;
-    put_next_frames(alloc, out, rule, start, at, more)?;
+    let mut now = start.copy(alloc)?;
+    for _i in 0..more {
+        now = generation(alloc, rule, &now, 1)?;
+        out.extend_from_slice(b";")?;
+        put_frame(alloc, out, &now, at)?;
+    }
     out.extend_from_slice(b"\"/></path>\n")?;
     Ok(())
 }
@@ -131,11 +110,10 @@ fn moving<A: Allocator + Copy>(
     start: &Pattern<A>,
     more: u32,
 ) -> Result<Vec<u8, A>, Fault>
-    requires few { more < MOST_FRAMES }
-    requires within { IsWithin 3072 start.now }
+    requires { AreFrames start.now more }
     ensures { IfOk result (λ v. v.items ≡ moving name.now rule.now start.now more) }
 {
-    let all = trail(alloc, rule, start, more + 1)?;
+    let all = trail(alloc, rule, start, more)?;
     let at = corner_of(&all);
     let all = all.into_normal();
     let extent = extent_of(all.cells());

@@ -1,5 +1,5 @@
 -- The count of an item as far as it has come.
-use Rattle.std.proofs.Common.{◌≡◌, ℕ, ◌+◌, ◌-◌, ◌*◌, ◌<◌, ◌≤◌, Bool, true, false, not, ◌||◌, ◌&&◌, List, [], ◌∷◌, ◌++◌, refl, ap, ◌∙◌, sym, arith, Option, Some, None, is_some, ltb, leb, eqb, min, unwrap_or, inl, inr}
+use Rattle.std.proofs.Common.{◌≡◌, ℕ, ◌+◌, ◌-◌, ◌*◌, ◌<◌, ◌≤◌, Bool, true, false, not, ◌||◌, ◌&&◌, List, [], ◌∷◌, ◌++◌, refl, ap, ◌∙◌, sym, arith, Option, Some, None, ltb, leb, eqb, min, unwrap_or, inl, inr}
 use Rattle.std.specs.Char.{is_ascii_digit, digit_value}
 use Rattle.std.specs.Str.Parse.{digits_value}
 use Rattle.std.proofs.lemmas.Int.Digits.{digits_value_push}
@@ -50,10 +50,6 @@ count_so_far (d ∷ ds) h =
     let most : min v 1000001 ≤ 1000000 = ltb-false 1000000 (min v 1000001) (or_second (eqb (min v 1000001) 0) _ h) in
     let same : min v 1000001 ≡ v = omega arith in
     same
-
-pub some_so_far : (digits : List ℕ) → is_some (so_far digits) ≡ not (is_empty digits)
-some_so_far [] = refl
-some_so_far (d ∷ ds) = refl
 
 or_first : (x y : Bool) → (x || y) ≡ false → x ≡ false
 or_first true y h = h

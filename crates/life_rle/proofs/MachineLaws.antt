@@ -5,7 +5,7 @@ use Rattle.life_rle.specs.declared.machine.Machine.{Machine}
 use Rattle.std.proofs.lemmas.Bool.{lt-ltb, le-ltb}
 use Rattle.life_rle.specs.declared.fault.RleFault.{RleFault}
 use Rattle.life_rle.specs.declared.fault.RleFault.TheVariants.{TooLong}
-use Rattle.life_rle.specs.declared.machine.ReadFault.TheVariants.{Rle}
+use Rattle.life_rle.specs.declared.fault.ReadFault.TheVariants.{Rle}
 use Rattle.life_rle.specs.Fault.{Fails}
 use Rattle.life_rle.specs.Record.{Contents}
 use Rattle.life_rle.specs.File.{kept, file}

@@ -1,37 +1,44 @@
--- Why a file is not read: the faults, their numbers and names, and what a function that reads may answer.
+-- Why a file is not read or written: the faults, their numbers and names, and what a function that reads may answer.
 use Rattle.std.specs.Prelude.{◌≡◌, ◌⊎◌, ℕ, List, codes, Result, Ok, Err}
+use Rattle.life_core.specs.Fault.{Label, label}
 use Rattle.life_core.specs.declared.rule_text.RuleFault.{RuleFault}
 use Rattle.life_core.specs.declared.rule_text.RuleFault.TheVariants as rule_faults
 use Rattle.life_rle.specs.declared.fault.RleFault.{RleFault}
 use Rattle.life_rle.specs.declared.fault.RleFault.TheVariants.{TooLong, TextLimit, NoHeader, BadHeader, BadRule, BirthZero, OtherTag, BadCount, TooWide, NoEnd, Memory}
+use Rattle.life_rle.specs.declared.fault.ReadFault.{ReadFault}
+use Rattle.life_rle.specs.declared.fault.ReadFault.TheVariants.{Rle, Unreadable}
+use Rattle.life_rle.specs.declared.fault.WriteFault.{WriteFault}
+use Rattle.life_rle.specs.declared.fault.WriteFault.TheVariants.{Unwritable}
+use Rattle.life_rle.specs.declared.fault.WriteFault.TheVariants as write_faults
 
--- the faults from 1 on, in the order in which they are judged; the last may come at any point
+-- the number and the name of each fault, in the order in which they are judged; the last may come at any point
+abbrev pub label_of : RleFault → Label
+label_of TooLong = label 1 (codes "too-long")
+label_of TextLimit = label 2 (codes "text-limit")
+label_of NoHeader = label 3 (codes "no-header")
+label_of BadHeader = label 4 (codes "bad-header")
+label_of BadRule = label 5 (codes "bad-rule")
+label_of BirthZero = label 6 (codes "birth-zero")
+label_of OtherTag = label 7 (codes "other-tag")
+label_of BadCount = label 8 (codes "bad-count")
+label_of TooWide = label 9 (codes "too-wide")
+label_of NoEnd = label 10 (codes "no-end")
+label_of Memory = label 11 (codes "memory")
+
 abbrev pub fault_number : RleFault → ℕ
-fault_number TooLong = 1
-fault_number TextLimit = 2
-fault_number NoHeader = 3
-fault_number BadHeader = 4
-fault_number BadRule = 5
-fault_number BirthZero = 6
-fault_number OtherTag = 7
-fault_number BadCount = 8
-fault_number TooWide = 9
-fault_number NoEnd = 10
-fault_number Memory = 11
+fault_number fault = (label_of fault).number
 
--- what a fault is called
 abbrev pub fault_name : RleFault → List ℕ
-fault_name TooLong = codes "too-long"
-fault_name TextLimit = codes "text-limit"
-fault_name NoHeader = codes "no-header"
-fault_name BadHeader = codes "bad-header"
-fault_name BadRule = codes "bad-rule"
-fault_name BirthZero = codes "birth-zero"
-fault_name OtherTag = codes "other-tag"
-fault_name BadCount = codes "bad-count"
-fault_name TooWide = codes "too-wide"
-fault_name NoEnd = codes "no-end"
-fault_name Memory = codes "memory"
+fault_name fault = (label_of fault).name
+
+-- the numbers of the file's faults, and after them that of a take that failed
+abbrev pub read_fault_number : ReadFault → ℕ
+read_fault_number (Rle fault) = fault_number fault
+read_fault_number Unreadable = 12
+
+abbrev pub write_fault_number : WriteFault → ℕ
+write_fault_number Unwritable = 1
+write_fault_number write_faults.Memory = 2
 
 -- the fault of a file whose rule text has this fault
 abbrev pub fault_of_rule : RuleFault → RleFault

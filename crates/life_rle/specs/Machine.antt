@@ -1,16 +1,11 @@
 -- What a function answers that reads a file from a stream.
 use Rattle.std.specs.Prelude.{◌≡◌, ℕ, List, Option, None, Some, Result, Ok, Err}
-use Rattle.life_rle.specs.declared.machine.ReadFault.{ReadFault}
-use Rattle.life_rle.specs.declared.machine.ReadFault.TheVariants.{Rle, Unreadable}
-use Rattle.life_rle.specs.Fault.{Fails, fault_number}
+use Rattle.life_rle.specs.declared.fault.ReadFault.{ReadFault}
+use Rattle.life_rle.specs.declared.fault.ReadFault.TheVariants.{Rle, Unreadable}
+use Rattle.life_rle.specs.Fault.{Fails}
 use Rattle.life_rle.specs.Stream.{raised}
 use Rattle.life_rle.specs.Record.{Contents}
 use Rattle.life_rle.specs.File.{file}
-
--- the numbers of the file's faults, and after them that of a take that failed
-abbrev pub read_fault_number : ReadFault → ℕ
-read_fault_number (Rle fault) = fault_number fault
-read_fault_number Unreadable = 12
 
 -- if no take failed, the count of failures is as it was; Unreadable is answered where one failed, and then alone
 abbrev pub ReportsFailures : {X : Type 0} → ℕ → ℕ → Result X ReadFault → Type 0

@@ -3,8 +3,8 @@ use Rattle.std.specs.Prelude.{◌≡◌, ℕ, ◌<◌, ◌≤◌, List, ◌++◌
 use Rattle.life_rle.specs.declared.fault.RleFault.{RleFault}
 use Rattle.life_rle.specs.declared.fault.RleFault.TheVariants.{Memory}
 use Rattle.life_rle.specs.declared.machine.Machine.{Machine}
-use Rattle.life_rle.specs.declared.machine.ReadFault.{ReadFault}
-use Rattle.life_rle.specs.declared.machine.ReadFault.TheVariants.{Rle, Unreadable}
+use Rattle.life_rle.specs.declared.fault.ReadFault.{ReadFault}
+use Rattle.life_rle.specs.declared.fault.ReadFault.TheVariants.{Rle, Unreadable}
 use Rattle.life_rle.specs.Stream.{FailedBetween}
 use Rattle.life_rle.specs.Lines.{lines_after}
 use Rattle.life_rle.specs.Record.{Contents, IsRecord}

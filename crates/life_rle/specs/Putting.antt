@@ -1,13 +1,8 @@
 -- What a function answers that puts a text into a stream.
 use Rattle.std.specs.Prelude.{ℕ, List, Option, Result, Ok, Err}
-use Rattle.life_rle.specs.declared.putting.WriteFault.{WriteFault}
-use Rattle.life_rle.specs.declared.putting.WriteFault.TheVariants.{Unwritable, Memory}
+use Rattle.life_rle.specs.declared.fault.WriteFault.{WriteFault}
+use Rattle.life_rle.specs.declared.fault.WriteFault.TheVariants.{Unwritable, Memory}
 use Rattle.life_rle.specs.Stream.{Gains, GainsSome}
-
--- the faults from 1 on
-abbrev pub write_fault_number : WriteFault → ℕ
-write_fault_number Unwritable = 1
-write_fault_number Memory = 2
 
 -- the text was put, or a beginning of it before a put that failed; out of memory has a clause of its own
 abbrev pub PutsText : Option (List ℕ) → Option (List ℕ) → List ℕ → Result (Unit {0}) WriteFault → Type 0

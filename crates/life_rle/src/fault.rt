@@ -1,4 +1,4 @@
-//! Why a file is not read.
+//! Why a file is not read or written.
 ghost use Rattle.std.specs.Prelude.{◌≡◌};
 ghost use Rattle.life_rle.specs.declared.fault.RleFault.TheVariants.{Memory};
 ghost use Rattle.life_rle.specs.Fault.{fault_of_rule};
@@ -95,5 +95,48 @@ impl From<RuleFault> for RleFault {
             RuleFault::BadRule => RleFault::BadRule,
             RuleFault::BirthZero => RleFault::BirthZero,
         }
+    }
+}
+
+/// Why a file was not read from a stream.
+#[derive(Clone, Copy, Debug, PartialEq, Eq)]
+pub enum ReadFault {
+    /// The file is not read, whatever pieces it comes in.
+    Rle(RleFault),
+    /// A take failed.
+    Unreadable,
+}
+
+impl ReadFault {
+    ghost use Rattle.life_rle.specs.Fault.{read_fault_number};
+
+    /// From 1 to 11 the number of the file's fault, and 12 for a take that failed.
+    pub fn number(self) -> u8
+        ensures { result ≡ read_fault_number self }
+    {
+        match self {
+            ReadFault::Rle(fault) => fault.number(),
+            ReadFault::Unreadable => 12,
+        }
+    }
+}
+
+/// Why the text of a record was not put whole.
+#[derive(Clone, Copy, Debug, PartialEq, Eq)]
+pub enum WriteFault {
+    /// A put failed. A beginning of the text was put before it.
+    Unwritable = 1,
+    /// An allocation was refused. Nothing was put.
+    Memory = 2,
+}
+
+impl WriteFault {
+    ghost use Rattle.life_rle.specs.Fault.{write_fault_number};
+
+    /// The fault's number, from 1 on.
+    pub fn number(self) -> u8
+        ensures { result ≡ write_fault_number self }
+    {
+        self as u8
     }
 }

@@ -17,12 +17,12 @@ mod stream;
 mod text;
 mod writer;
 
-pub use fault::RleFault;
+pub use fault::{ReadFault, RleFault, WriteFault};
 pub use laws::{laws_of_canonical_bodies, laws_of_files, laws_of_lines_and_runs, laws_of_texts};
-pub use machine::{ReadFault, read, read_from, read_kept};
+pub use machine::{read, read_from, read_kept};
 pub use memory::{MemoryOutlet, SliceInlet};
 pub use pieces::{PieceInlet, PieceOutlet};
-pub use putting::{WriteFault, write_to};
+pub use putting::write_to;
 pub use record::{Record, into_plain, plain};
 pub use stream::{Failed, FromRead, FromWrite, Inlet, Outlet, put_all};
 pub use text::{Text, Texts};

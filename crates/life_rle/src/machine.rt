@@ -8,7 +8,7 @@ ghost use Rattle.life_rle.specs.MachineState.{IsSound, Followed, FollowGives};
 ghost use Rattle.life_rle.specs.Record.{HasNoLineEnd, IsInside};
 ghost use Rattle.life_rle.specs.Stream.{LosesUpTo, EndsLast, FailedBetween};
 
-use crate::fault::RleFault;
+use crate::fault::{ReadFault, RleFault};
 use crate::reader::Reader;
 use crate::record::Record;
 use crate::stream::Inlet;
@@ -111,29 +111,6 @@ pub fn read<A: Allocator + Copy>(alloc: A, bytes: &[u8]) -> Result<Record<A>, Rl
         return Err(RleFault::TooLong);
     }
     read_kept(alloc, bytes)
-}
-
-/// Why a file was not read from a stream.
-#[derive(Clone, Copy, Debug, PartialEq, Eq)]
-pub enum ReadFault {
-    /// The file is not read, whatever pieces it comes in.
-    Rle(RleFault),
-    /// A take failed.
-    Unreadable,
-}
-
-impl ReadFault {
-    ghost use Rattle.life_rle.specs.Machine.{read_fault_number};
-
-    /// From 1 to 11 the number of the file's fault, and 12 for a take that failed.
-    pub fn number(self) -> u8
-        ensures { result ≡ read_fault_number self }
-    {
-        match self {
-            ReadFault::Rle(fault) => fault.number(),
-            ReadFault::Unreadable => 12,
-        }
-    }
 }
 
 /// Takes the bytes to their end, or to one more than a file may have; says how many there were.

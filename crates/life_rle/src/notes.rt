@@ -51,27 +51,18 @@ impl<A: Allocator> Notes<A> {
     {
         match kind {
             LineKind::Passed | LineKind::Header => Ok(()),
-            LineKind::Name(text) => {
-                if text.is_empty() {
-                    Ok(())
-                } else if self.name.is_some() {
-                    self.comment(alloc, text)
-                } else {
-                    self.name = Some(Text::from_slice(alloc, text)?);
-                    Ok(())
-                }
+            LineKind::Name(text) | LineKind::Author(text) if text.is_empty() => Ok(()),
+            LineKind::Name(text) if self.name.is_none() => {
+                self.name = Some(Text::from_slice(alloc, text)?);
+                Ok(())
             }
-            LineKind::Author(text) => {
-                if text.is_empty() {
-                    Ok(())
-                } else if self.author.is_some() {
-                    self.comment(alloc, text)
-                } else {
-                    self.author = Some(Text::from_slice(alloc, text)?);
-                    Ok(())
-                }
+            LineKind::Author(text) if self.author.is_none() => {
+                self.author = Some(Text::from_slice(alloc, text)?);
+                Ok(())
             }
-            LineKind::Comment(text) => self.comment(alloc, text),
+            LineKind::Name(text) | LineKind::Author(text) | LineKind::Comment(text) => {
+                self.comment(alloc, text)
+            }
             LineKind::Rule(text) => {
                 if !text.is_empty() && self.rule.is_none() {
                     self.rule = Some(Text::from_slice(alloc, text)?);

@@ -4,30 +4,11 @@ ghost use Rattle.life_rle.specs.Putting.{PutsText};
 ghost use Rattle.life_rle.specs.Stream.{FailsLast};
 ghost use Rattle.life_rle.specs.Writer.{text};
 
+use crate::fault::WriteFault;
 use crate::record::Record;
 use crate::stream::{Outlet, put_all};
 use crate::writer::write;
 use std::alloc::Allocator;
-
-/// Why the text of a record was not put whole.
-#[derive(Clone, Copy, Debug, PartialEq, Eq)]
-pub enum WriteFault {
-    /// A put failed. A beginning of the text was put before it.
-    Unwritable = 1,
-    /// An allocation was refused. Nothing was put.
-    Memory = 2,
-}
-
-impl WriteFault {
-    ghost use Rattle.life_rle.specs.Putting.{write_fault_number};
-
-    /// The fault's number, from 1 on.
-    pub fn number(self) -> u8
-        ensures { result ≡ write_fault_number self }
-    {
-        self as u8
-    }
-}
 
 /// Puts the text of a record, in as many puts as it takes.
 pub fn write_to<A: Allocator + Copy, O: Outlet>(

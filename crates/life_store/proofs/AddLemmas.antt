@@ -29,15 +29,20 @@ use Rattle.life_store.specs.declared.kept.Deposit.{Deposit}
 use Rattle.life_store.specs.ExecutingState.{IsSeenAgain}
 use Rattle.life_store.specs.Kept.{Kept}
 use Rattle.life_store.specs.Layout.{archive_schema, deposits_table}
-use Rattle.life_store.specs.StatementsState.{add_deposit_text, deposit_terms}
+use Rattle.life_store.proofs.Statements.{add_deposit_text, deposit_terms}
+use Rattle.life_store.specs.Statements.{HoldNext}
 use Rattle.life_store.specs.Stored.{IsFiled, rows_by, deposit_cells}
-use Rattle.life_store.specs.DepositsState.{AreValuesOf, HoldNewDeposit}
+use Rattle.life_store.specs.DepositsState.{AreValuesOf}
 use Rattle.life_store.specs.Tables.{Tables, tables_in, tables_of, Holds, TreesHold, HoldChanged, WasHealthy, HoldsTheSame, ForAllHeld}
 use Rattle.life_store.proofs.Texts.{add_deposit_is}
 use Rattle.life_store.proofs.CrashLemmas.{commits_as}
 use Rattle.life_store.proofs.KeepLemmas.{healthy_is, stays_lost, keeps_seen, open_before, trees_hold}
 use Rattle.life_store.proofs.InsertLemmas.{inserted}
 use Rattle.life_store.proofs.RowLemmas.{put_at_end}
+
+-- the trees represent the deposits of the tables and this one, if it has the next number
+abbrev pub HoldNewDeposit : Tables → ℤ → Deposit → Trees → Type 0
+HoldNewDeposit old id d db = HoldNext (λ k. id ≡ pos (length k.deposits + 1)) (λ k. record k { deposits = k.deposits ++ d ∷ [] }) old db
 
 either : (b : Bool) (x : Value) → cond b x x ≡ x
 either true x = refl

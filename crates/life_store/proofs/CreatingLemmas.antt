@@ -1,5 +1,5 @@
 -- What each CREATE TABLE of the archive makes.
-use Rattle.std.proofs.Common.{◌≡◌, ℕ, pos, List, [], ◌∷◌, false, None, Ok, Err, Result, refl, sym, ap, subst, ◌∙◌}
+use Rattle.std.proofs.Common.{◌≡◌, ℕ, pos, List, [], ◌∷◌, false, None, codes, Ok, Err, Result, refl, sym, ap, subst, ◌∙◌}
 use Rattle.sqlite_schema.specs.declared.schema.Table.{Table}
 use Rattle.sqlite_schema.specs.declared.schema.Schema.{Schema}
 use Rattle.sqlite_schema.specs.declared.command.Command.TheVariants.{CreateTable, Insert}
@@ -22,9 +22,24 @@ use Rattle.std.specs.Prelude.{IsTrue, OnOk}
 use Rattle.sqlite.specs.declared.error.Error.{Error}
 use Rattle.sqlite.proofs.Callers.{IsPlain, command_of, statement_of, runs_as}
 use Rattle.sqlite_tied.specs.Compute.{everything}
-use Rattle.life_store.specs.Layout.{layout_table, deposits_table, censuses_table, census_rows_table, census_flags_table, no_schema, first_schema, archive_schema}
-use Rattle.life_store.specs.CreatingState.{layout_text, deposits_text, censuses_text, census_rows_text, census_flags_text, schema_1, schema_2, schema_3, HasTables, IsNewArchive, version_text}
+use Rattle.life_store.specs.Layout.{layout_table, deposits_table, censuses_table, census_rows_table, census_flags_table, key_index, no_schema, first_schema, archive_schema}
+use Rattle.life_store.specs.CreatingState.{HasTables, IsNewArchive}
+use Rattle.life_store.proofs.Statements.{layout_text, deposits_text, censuses_text, census_rows_text, census_flags_text, add_version_text}
 use Rattle.life_store.proofs.Texts.{layout_is, deposits_is, censuses_is, census_rows_is, census_flags_is}
+
+-- the tables as they come, one after another
+abbrev schema_1 : Schema
+schema_1 = record { tables = layout_table ∷ []; indexes = []; views = [] }
+
+abbrev schema_2 : Schema
+schema_2 = record { tables = layout_table ∷ record deposits_table { tree = 1 } ∷ []; indexes = key_index (codes "sqlite_autoindex_deposits_1") 2 1 (2 ∷ 3 ∷ []) ∷ []; views = [] }
+
+abbrev schema_3 : Schema
+schema_3 = record {
+  tables = layout_table ∷ record deposits_table { tree = 1 } ∷ record censuses_table { tree = 3 } ∷ [];
+  indexes = key_index (codes "sqlite_autoindex_deposits_1") 2 1 (2 ∷ 3 ∷ []) ∷ key_index (codes "sqlite_autoindex_censuses_1") 4 3 (2 ∷ 3 ∷ []) ∷ [];
+  views = [];
+}
 
 -- the text makes this table over this schema
 pub record IsCreate (schema : Schema) (text : List ℕ) (table : Table) : Type 0 where
@@ -101,14 +116,14 @@ module _ (old new : State) (count : ℕ) where
 abbrev version_terms : List Term
 version_terms = lit Null ∷ lit (Int (pos 2)) ∷ []
 
-version_is : (command_of (understood archive_schema version_text) ≡ Insert 0 (Values version_terms 2)) × IsPlain (understood archive_schema version_text)
+version_is : (command_of (understood archive_schema add_version_text) ≡ Insert 0 (Values version_terms 2)) × IsPlain (understood archive_schema add_version_text)
 unfolding understood everything
 version_is = (refl, (refl, refl))
 
-pub creates_version : (old new : State) (count : ℕ) → HasTables archive_schema (0 ∷ 1 ∷ 3 ∷ 5 ∷ 7 ∷ []) old.now → Executes version_text [] old new (Ok count) → IsNewArchive new.now
+pub creates_version : (old new : State) (count : ℕ) → HasTables archive_schema (0 ∷ 1 ∷ 3 ∷ 5 ∷ 7 ∷ []) old.now → Executes add_version_text [] old new (Ok count) → IsNewArchive new.now
 creates_version old new count has_tables h =
-    let w = runs_as version_text [] old new archive_schema has_tables.is (Insert 0 (Values version_terms 2)) version_is.0 version_is.1 count h in
-    let text = statement_of version_text (understood archive_schema version_text) in
+    let w = runs_as add_version_text [] old new archive_schema has_tables.is (Insert 0 (Values version_terms 2)) version_is.0 version_is.1 count h in
+    let text = statement_of add_version_text (understood archive_schema add_version_text) in
     let was = record old.now { schema = archive_schema } in
     let it = inserted old.step_limit (mode_of old) [] was text 0 version_terms 2 layout_table w.tally new.now refl refl
     (subst (λ s. Does old.step_limit (mode_of old) [] (record old.now { schema = s }) text None (Insert 0 (Values version_terms 2)) (Ok (w.tally, new.now))) has_tables.is w.changed) in

@@ -1,5 +1,5 @@
 -- What each statement leaves, whatever its text is.
-use Rattle.std.proofs.Common.{arith, ap₂, ℤ, pos, [], ◌∷◌, ◌≡◌, inl, inr, List, Bool, true, false, Ok, Err, Result, Option, None, Some, refl, sym, subst, ◌∙◌}
+use Rattle.std.proofs.Common.{arith, ap₂, ℤ, pos, [], ◌∷◌, ◌≡◌, ◌⊎◌, inl, inr, List, Bool, true, false, Ok, Err, Result, Option, None, Some, refl, sym, subst, ◌∙◌}
 use Rattle.std.specs.Prelude.{IsTrue, ℕ, Vec, IfOk, IfErr, OnOk, OnErr, ◌≤◌, ◌&&◌}
 use Rattle.std.specs.declared.alloc.Global.{Global}
 use Rattle.sqlite_value.specs.declared.value.Value.{Value}
@@ -16,14 +16,18 @@ use Rattle.sqlite.specs.Clock.{timed}
 use Rattle.sqlite_catalog.specs.Listing.{IsSound}
 use Rattle.sqlite.specs.Effect.{Database, IsDatabase}
 use Rattle.sqlite.specs.Listing.{understood}
-use Rattle.sqlite.specs.State.{State, HasCleanDisk, IsUnchanged, IsNotRun, KeepsCommit, RunsCommand, Runs, ReleasesAt, text_of, Executes, ExecutesIn, shows_rows, FailsToQuery, FailsToShow, Shown, ShowsRows}
+use Rattle.sqlite.specs.State.{State, HasCleanDisk, IsUnchanged, IsRolledBack, IsNotRun, KeepsCommit, RunsCommand, Runs, ReleasesAt, text_of, Executes, ExecutesIn, shows_rows, FailsToQuery, FailsToShow, Shown, ShowsRows}
 use Rattle.sqlite.proofs.Callers.{IsPlain}
 use Rattle.sqlite_schema.specs.declared.schema.Schema.{Schema}
 use Rattle.life_store.specs.Migration.{HoldsFirst}
 use Rattle.life_store.specs.Layout.{archive_schema}
-use Rattle.life_store.specs.ExecutingState.{IsUndone, IsSeenAgain}
+use Rattle.life_store.specs.ExecutingState.{IsSeenAgain}
 use Rattle.life_store.specs.Kept.{Kept}
 use Rattle.life_store.specs.Tables.{tables_in, tables_of, Holds, TreesHold, WasHealthy, HoldsTheSame, ForAllHeld}
+
+-- a statement that was refused, or that failed
+abbrev pub IsUndone : State → State → Type 0
+IsUndone old new = IsUnchanged old new ⊎ IsRolledBack old new
 
 not_run : (old new : State) (sql : List ℕ) (params : Row) (e : Error) → IsNotRun old new sql params e → IsUndone old new
 unfolding IsNotRun
@@ -259,6 +263,14 @@ seen_same sql params schema old new plain (Ok rows) shown seen healthy is =
     (shown_unchanged sql params old new rows.items (subst (λ s. IsPlain (understood s sql)) (sym is) plain) (shown (healthy_is new healthy).0)).0.now_is
 seen_same sql params schema old new plain (Err e) shown seen healthy is = let now = healthy_is new healthy in (seen now.0).now_is now.1
 
+-- what was rolled back is seen again
+pub seen_rolled_back : (old last new : State) → (IsTrue old.is_open → old.now ≡ old.committed) → KeepsCommit old last → IsRolledBack last new → IsSeenAgain old new
+seen_rolled_back old last new settled kept back = record {
+  was_open = λ up. kept.was_open (back.was_open up);
+  now_is = λ up. let was = back.was_open up in (back.undone up).0 ∙ kept.committed was ∙ sym (settled (kept.was_open was));
+  mode = λ none. back.autocommit;
+}
+
 module _ (old new : State) (clean : doubt old.is_clean ≤ doubt new.is_clean) where
   pub stays_lost : (HasCleanDisk new → IsTrue new.is_open → IsTrue old.is_open) → WasHealthy (tables_of old) (tables_of new)
   stays_lost was healthy =
@@ -303,6 +315,6 @@ pub tells_held : (sql : List ℕ) (params : Row) (old new : State) (Q : Kept →
 tells_held sql params old new Q tells r shown k healthy holds = told new sql params old (Q k) r (λ rows. tells k rows holds) shown healthy
 
 -- the same of a query with one number
-pub tells_held_at : (sql : List ℕ) (id : ℤ) (n : ℕ) → id ≡ pos n → (old new : State) (Q : Kept → List Row → Type 0) → ((k : Kept) (rows : List Row) → Holds (tables_of old) k → Shown sql (Int (pos n) ∷ []) old new rows → Q k rows) → (r : Answered)
-    → (HasCleanDisk new → IfOk r (λ rows. Shown sql (Int id ∷ []) old new rows.items)) → ForAllHeld (tables_of old) (tables_of new) (λ k. IfOk r (λ rows. Q k rows.items))
-tells_held_at sql id n is old new Q tells r shown = tells_held sql (Int (pos n) ∷ []) old new Q tells r (λ now. subst (λ z. IfOk r (λ rows. Shown sql (Int z ∷ []) old new rows.items)) is (shown now))
+pub tells_held_at : (sql : List ℕ) (id : ℤ) (old new : State) (Q : ℕ → Kept → List Row → Type 0) → ((n : ℕ) (k : Kept) (rows : List Row) → Holds (tables_of old) k → Shown sql (Int (pos n) ∷ []) old new rows → Q n k rows) → (r : Answered)
+    → (HasCleanDisk new → IfOk r (λ rows. Shown sql (Int id ∷ []) old new rows.items)) → ForAllHeld (tables_of old) (tables_of new) (λ k. IfOk r (λ rows. (n : ℕ) → id ≡ pos n → Q n k rows.items))
+tells_held_at sql id old new Q tells = tells_held sql (Int id ∷ []) old new (λ k rows. (n : ℕ) → id ≡ pos n → Q n k rows) (λ k rows holds shown n is. tells n k rows holds (subst (λ z. Shown sql (Int z ∷ []) old new rows) is shown))

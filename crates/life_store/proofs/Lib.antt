@@ -1,3 +1,5 @@
+pub mod Statements
+pub mod Selecting
 pub mod Texts
 pub mod KeepLemmas
 pub mod LastingLemmas

@@ -17,19 +17,18 @@ use Rattle.sqlite_resolve.specs.declared.compiled.Compiled.{Compiled}
 use Rattle.sqlite.specs.Clock.{timed}
 use Rattle.sqlite.specs.Effect.{Database}
 use Rattle.sqlite.specs.Listing.{understood}
-use Rattle.sqlite.specs.State.{State, Shown, ShowsRows, FailsToQuery, IsTooLate, KeepsCommit, IsRolledBack, Shows, Executes}
+use Rattle.sqlite.specs.State.{State, Shown, ShowsRows, FailsToQuery, IsTooLate, KeepsCommit, Shows, Executes}
 use Rattle.sqlite.specs.declared.error.Error.{Error}
 use Rattle.sqlite.proofs.Callers.{IsPlain}
-use Rattle.life_store.specs.ExecutingState.{IsUndone, IsSeenAgain}
 use Rattle.life_store.specs.Migration.{IsFlagged, unflagged, generation_in, version_1, HoldsFirst, Migrated}
 use Rattle.life_store.specs.MigrationState.{HoldsFirstParts, IsFlaggedUpTo, IsMigrated}
 use Rattle.life_store.specs.CensusesState.{Parts, HoldsParts, with_flag}
 use Rattle.life_store.specs.Kept.{Kept, Tallied, numbered}
 use Rattle.life_store.specs.Layout.{archive_schema, first_schema, census_flags_table}
-use Rattle.life_store.specs.CreatingState.{census_flags_text}
+use Rattle.life_store.proofs.Statements.{census_flags_text}
 use Rattle.life_store.specs.Stored.{IsFiled, rows_by, census_cells, count_cells, counts_from, tagged}
 use Rattle.life_store.specs.Tables.{tables_of, version_2, HasOrder}
-use Rattle.life_store.proofs.KeepLemmas.{Answered, not_answered, shown_unchanged, keeps_then}
+use Rattle.life_store.proofs.KeepLemmas.{Answered, IsUndone, not_answered, shown_unchanged, keeps_then}
 use Rattle.life_store.proofs.CreatingLemmas.{creates, makes_census_flags}
 use Rattle.sqlite_tied.specs.Compute.{everything}
 
@@ -253,11 +252,3 @@ migrated_holds old new k none h it = record {
 
 pub migrated_committed : (last new : State) (p : Parts) → Shows last new last.now last.now false → IsMigrated p last.now → IsMigrated p new.now
 migrated_committed last new p shows it = subst (λ (d : Database). IsMigrated p d) (sym shows.now_is) it
-
--- what was rolled back is seen again
-pub seen_rolled_back : (old last new : State) → (IsTrue old.is_open → old.now ≡ old.committed) → KeepsCommit old last → IsRolledBack last new → IsSeenAgain old new
-seen_rolled_back old last new settled kept back = record {
-  was_open = λ up. kept.was_open (back.was_open up);
-  now_is = λ up. let was = back.was_open up in (back.undone up).0 ∙ kept.committed was ∙ sym (settled (kept.was_open was));
-  mode = λ none. back.autocommit;
-}

@@ -16,8 +16,8 @@ use Rattle.sqlite_keyed.proofs.ListLemmas.{ascending-map, ascending_weaker}
 use Rattle.sqlite_value.specs.declared.keys.Key.{Key}
 use Rattle.sqlite_value.specs.Keys.{by_key}
 use Rattle.sqlite_sql.specs.Term.{eval}
-use Rattle.life_store.specs.StatementsState.{ordered_query, rows_up_to}
-use Rattle.life_store.specs.SelectingState.{is_picked, picked, shows}
+use Rattle.life_store.proofs.Statements.{ordered_query, rows_up_to}
+use Rattle.life_store.proofs.Selecting.{is_picked, picked, shows}
 
 pub matches_are : (terms : List Term) (params : Row) (rows : List Row)
     → flat_map (λ r. if is_picked terms params r then (params ∷ r ∷ []) ∷ [] else []) rows ≡ map (λ r. params ∷ r ∷ []) (picked terms params rows)

@@ -1,6 +1,7 @@
 -- What a statement of SQL leaves (specs/Statements.antt), step after step.
-use Rattle.std.proofs.Common.{arith, ◌≡◌, ◌≤◌, List, ℕ, true, Ok, Err, Result}
+use Rattle.std.proofs.Common.{arith, ◌≡◌, ◌∙◌, ◌≤◌, List, ℕ, true, Ok, Err, Result}
 use Rattle.std.specs.Prelude.{IfOk, OnOk, OnErr}
+use Rattle.std.specs.Borrow.{MutBor}
 use Rattle.sqlite_trees.specs.Tree.{Trees}
 use Rattle.sqlite_trees.specs.View.{doubt, IsClean}
 use Rattle.sqlite_trees.specs.declared.store.Store.{Ghosts}
@@ -65,18 +66,19 @@ looks_by g old new sql params plain asks r clean shown seen it = record {
 -- ---- inside a transaction
 
 -- a step that succeeds, and the one that follows it
-pub stays_then : {S A B E F : Type 0} {g : Ghosts S} {x : A} {r : Result B F} (a b c : Held S) → StaysInside {E = E} g a b (Ok x) → StaysInside g b c r → StaysInside g a c r
+pub stays_then : {S A B E F : Type 0} {g : Ghosts S} {x : A} {r : Result B F} (a b c : MutBor (Held S)) → StaysInside {E = E} g a b (Ok x) → StaysInside g b c r → StaysInside g a c r
 stays_then {S} {A} {B} {E} {F} {g} a b c before after = record {
+  same_reference = after.same_reference ∙ before.same_reference;
   inside = λ clean begun. after.inside clean (before.inside (omega (arith, after.clean, clean)) begun);
   kept = λ clean begun.
-      let still : HasCleanDisk (state g b) = omega (arith, after.clean, clean) in
-      keeps_then (state g a) (state g b) (state g c) (before.kept still begun) (after.kept clean (before.inside still begun));
+      let still : HasCleanDisk (state g b.now) = omega (arith, after.clean, clean) in
+      keeps_then (state g a.now) (state g b.now) (state g c.now) (before.kept still begun) (after.kept clean (before.inside still begun));
   clean = omega (arith, before.clean, after.clean);
 }
 
 -- a transaction that stays open, whatever else a function answers
-pub stays_with : {S A B E F : Type 0} {g : Ghosts S} {x : A} (a b : Held S) (r : Result B F) → StaysInside {E = E} g a b (Ok x) → StaysInside g a b r
-stays_with a b r it = record { inside = λ clean begun. always r (it.inside clean begun); kept = it.kept; clean = it.clean }
+pub stays_with : {S A B E F : Type 0} {g : Ghosts S} {x : A} (a b : MutBor (Held S)) (r : Result B F) → StaysInside {E = E} g a b (Ok x) → StaysInside g a b r
+stays_with a b r it = record { same_reference = it.same_reference; inside = λ clean begun. always r (it.inside clean begun); kept = it.kept; clean = it.clean }
   where
     always : {B F P : Type 0} (o : Result B F) → P → OnOk o P
     always (Ok y) here = here

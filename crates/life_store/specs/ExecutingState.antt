@@ -1,10 +1,6 @@
 -- Used by the contracts of the code alone: what a statement that was refused leaves (the kit's `sqlite`).
-use Rattle.std.specs.Prelude.{◌≡◌, ◌⊎◌, false, IsTrue}
-use Rattle.sqlite.specs.State.{State, IsUnchanged, IsRolledBack}
-
--- a statement that was refused, or that failed
-abbrev pub IsUndone : State → State → Type 0
-IsUndone old new = IsUnchanged old new ⊎ IsRolledBack old new
+use Rattle.std.specs.Prelude.{◌≡◌, false, IsTrue}
+use Rattle.sqlite.specs.State.{State}
 
 -- what is open was open, and sees what it saw, and no transaction was begun
 pub record IsSeenAgain (old new : State) : Type 0 where

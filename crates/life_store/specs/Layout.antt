@@ -1,5 +1,5 @@
 -- The schemas of the tables of docs/FORMATS.md (SQLite's "CREATE TABLE"): the five tables of layout 2, and the four of layout 1.
--- That the texts of CreatingState.antt make them is proved.
+-- That the texts of the code make them is proved.
 use Rattle.std.specs.Prelude.{true, false, [], ◌∷◌, Some, None, codes, List, ℕ, pos}
 use Rattle.sqlite_value.specs.declared.keys.Collation.TheVariants.{Binary}
 use Rattle.sqlite_value.specs.declared.value.Value.TheVariants.{Null, Int}
@@ -31,11 +31,12 @@ no_stamps = record { places = []; terms = []; formats = [] }
 abbrev pub reference : ℕ → List ℕ → List ℕ → Reference
 reference column parent key = record { columns = column ∷ []; parent = parent; parent_columns = key ∷ []; on_delete = NoAction; on_update = NoAction; is_deferred = false }
 
-abbrev pub layout_table : Table
-layout_table = record {
-  name = codes "layout";
+-- a table of these columns alone: without keys, checks and references
+abbrev pub table_of : List ℕ → List Column → Table
+table_of name columns = record {
+  name = name;
   tree = 0;
-  columns = needed (codes "version") Integer ∷ [];
+  columns = columns;
   key = None;
   primary = [];
   uniques = [];
@@ -47,69 +48,43 @@ layout_table = record {
   is_counted = false;
 }
 
+-- its first column is its INTEGER PRIMARY KEY
+abbrev pub keyed : Table → Table
+keyed table = record table { key = Some 0; primary = 0 ∷ [] }
+
+-- these columns are UNIQUE together
+abbrev pub unique : List ℕ → Table → Table
+unique columns table = record table { uniques = columns ∷ []; orders = plain ∷ [] }
+
+-- what members hand in: an id, UNIQUE (member, token), and these columns
+abbrev pub handed_in : List ℕ → List Column → Table
+handed_in name columns = unique (2 ∷ 3 ∷ []) (keyed (table_of name (column_key ∷ needed (codes "member") Text ∷ needed (codes "token") Text ∷ columns)))
+
+abbrev pub layout_table : Table
+layout_table = table_of (codes "layout") (needed (codes "version") Integer ∷ [])
+
 abbrev pub deposits_table : Table
-deposits_table = record {
-  name = codes "deposits";
-  tree = 0;
-  columns = column_key ∷ needed (codes "member") Text ∷ needed (codes "token") Text ∷ needed (codes "rule") Text ∷ needed (codes "population") Integer ∷ needed (codes "rle") Blob ∷ [];
-  key = Some 0;
-  primary = 0 ∷ [];
-  uniques = (2 ∷ 3 ∷ []) ∷ [];
-  orders = plain ∷ [];
+deposits_table = record (handed_in (codes "deposits") (needed (codes "rule") Text ∷ needed (codes "population") Integer ∷ needed (codes "rle") Blob ∷ [])) {
   checks = op2 (Compare Ge Binary) (col 1 5) (lit (Int (pos 0))) ∷ [];
-  references = [];
-  computed = [];
-  stamps = no_stamps;
-  is_counted = false;
 }
+
+abbrev pub census_numbers : List Column
+census_numbers = needed (codes "deposit") Integer ∷ needed (codes "gens") Integer ∷ needed (codes "lim") Integer ∷ needed (codes "clusters") Integer ∷ needed (codes "unresolved") Integer ∷ []
 
 abbrev pub censuses_table : Table
-censuses_table = record {
-  name = codes "censuses";
-  tree = 0;
-  columns = column_key ∷ needed (codes "member") Text ∷ needed (codes "token") Text ∷ needed (codes "deposit") Integer ∷ needed (codes "gens") Integer
-      ∷ needed (codes "lim") Integer ∷ needed (codes "clusters") Integer ∷ needed (codes "unresolved") Integer ∷ [];
-  key = Some 0;
-  primary = 0 ∷ [];
-  uniques = (2 ∷ 3 ∷ []) ∷ [];
-  orders = plain ∷ [];
-  checks = [];
-  references = reference 4 (codes "deposits") (codes "id") ∷ [];
-  computed = [];
-  stamps = no_stamps;
-  is_counted = false;
-}
+censuses_table = record (handed_in (codes "censuses") census_numbers) { references = reference 4 (codes "deposits") (codes "id") ∷ [] }
 
 abbrev pub census_rows_table : Table
-census_rows_table = record {
-  name = codes "census_rows";
-  tree = 0;
-  columns = needed (codes "census") Integer ∷ needed (codes "code") Text ∷ needed (codes "n") Integer ∷ [];
-  key = None;
+census_rows_table = record (unique (1 ∷ 2 ∷ []) (table_of (codes "census_rows") (needed (codes "census") Integer ∷ needed (codes "code") Text ∷ needed (codes "n") Integer ∷ []))) {
   primary = 1 ∷ 2 ∷ [];
-  uniques = (1 ∷ 2 ∷ []) ∷ [];
-  orders = plain ∷ [];
   checks = op2 (Compare Gt Binary) (col 1 3) (lit (Int (pos 0))) ∷ [];
   references = reference 1 (codes "censuses") (codes "id") ∷ [];
-  computed = [];
-  stamps = no_stamps;
-  is_counted = false;
 }
 
 abbrev pub census_flags_table : Table
-census_flags_table = record {
-  name = codes "census_flags";
-  tree = 0;
-  columns = record column_key { name = codes "census" } ∷ needed (codes "steady") Integer ∷ [];
-  key = Some 0;
-  primary = 0 ∷ [];
-  uniques = [];
-  orders = [];
+census_flags_table = record (keyed (table_of (codes "census_flags") (record column_key { name = codes "census" } ∷ needed (codes "steady") Integer ∷ []))) {
   checks = op2 Or (op2 (Compare Eq Binary) (col 1 2) (lit (Int (pos 0)))) (op2 (Compare Eq Binary) (col 1 2) (lit (Int (pos 1)))) ∷ [];
   references = reference 0 (codes "censuses") (codes "id") ∷ [];
-  computed = [];
-  stamps = no_stamps;
-  is_counted = false;
 }
 
 abbrev pub key_index : List ℕ → ℕ → ℕ → List ℕ → Index

@@ -1,7 +1,5 @@
 pub mod Layout
 pub mod CreatingState
-pub mod StatementsState
-pub mod SelectingState
 pub mod Kept
 pub mod Fault
 pub mod Stored

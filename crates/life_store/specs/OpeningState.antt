@@ -1,5 +1,5 @@
--- Used by the contracts of the code alone: which tables stand in a database that is opened, and which versions its layout has.
-use Rattle.std.specs.Prelude.{◌≡◌, ◌||◌, ℕ, Bool, true, false, pos, codes, List, [], ◌∷◌, map}
+-- Used by the contracts of the code alone: which tables stand in a database that is opened or closed, and which versions its layout has.
+use Rattle.std.specs.Prelude.{◌≡◌, ◌||◌, ℕ, Bool, true, false, pos, codes, List, [], ◌∷◌, map, IsTrue}
 use Rattle.std.specs.List.{list_any}
 use Rattle.sqlite_value.specs.declared.value.Value.{Value}
 use Rattle.sqlite_value.specs.declared.value.Value.TheVariants.{Int}
@@ -8,11 +8,12 @@ use Rattle.sqlite_schema.specs.declared.schema.Table.{Table}
 use Rattle.sqlite_schema.specs.declared.schema.View.{View}
 use Rattle.sqlite_schema.specs.declared.schema.Schema.{Schema}
 use Rattle.sqlite_schema.specs.Names.{same_name}
+use Rattle.sqlite.specs.State.{State, IsLive}
 use Rattle.life_store.specs.declared.opening.Version.{Version}
 use Rattle.life_store.specs.declared.opening.Version.TheVariants.{First, Second}
 use Rattle.life_store.specs.Layout.{first_schema, archive_schema}
 use Rattle.life_store.specs.Opening.{versions_in}
-use Rattle.life_store.specs.Tables.{Tables}
+use Rattle.life_store.specs.Tables.{Tables, tables_of}
 
 abbrev pub has_table : List Table → List ℕ → Bool
 has_table tables name = list_any (λ t. same_name t.name name) tables
@@ -53,3 +54,9 @@ rows_of_version Second = version_shown 2
 abbrev pub schema_of : Version → Schema
 schema_of First = first_schema
 schema_of Second = archive_schema
+
+-- a database with no open transaction, whose tables are these
+pub record IsSettled (s : State) (t : Tables) : Type 0 where
+  pub tables : tables_of s ≡ t
+  pub live : IsLive s
+  pub settled : IsTrue s.is_open → s.now ≡ s.committed

@@ -1,4 +1,4 @@
--- Used by the contracts of the code alone: what the rows of an answer show, column by column as the queries of StatementsState.antt list them.
+-- Used by the contracts of the code alone: what the rows of an answer show, column by column as the queries list them.
 use Rattle.std.specs.Prelude.{◌≡◌, ◌⊎◌, ℕ, zero, suc, pos, Bool, List, [], ◌∷◌, Option, None, Some}
 use Rattle.std.specs.FinSet as set
 use Rattle.sqlite_value.specs.declared.value.Value.TheVariants.{Null, Int, Text, Blob}

@@ -1,12 +1,14 @@
 -- Used by the contracts of the code alone: what a statement of SQL leaves.
-use Rattle.std.specs.Prelude.{◌≤◌, Result, OnOk, IsTrue}
+use Rattle.std.specs.Prelude.{◌≡◌, ◌≤◌, Result, IfOk, OnOk, OnErr, IsTrue}
+use Rattle.std.specs.Borrow.{MutBor}
 use Rattle.sqlite_trees.specs.declared.store.Store.{Ghosts}
 use Rattle.sqlite_trees.specs.Tree.{Trees}
 use Rattle.sqlite_trees.specs.View.{doubt}
 use Rattle.sqlite.specs.Held.{Held, state}
 use Rattle.sqlite.specs.State.{HasCleanDisk, KeepsCommit}
 use Rattle.life_store.specs.Crash.{NoMore, CrashLeaves}
-use Rattle.life_store.specs.Tables.{tables_of, WasHealthy, StaysHealthy, HoldsTheSame}
+use Rattle.life_store.specs.Kept.{Kept}
+use Rattle.life_store.specs.Tables.{Tables, tables_of, Holds, TreesHold, WasHealthy, StaysHealthy, HoldsTheSame, ForAllHeld}
 
 -- Whatever the disk does in a step: a healthy database stays healthy unless the disk fails, and a crash leaves what it might have left before, or trees of which
 -- `Adds` holds.
@@ -21,9 +23,27 @@ pub record Looks {S A E : Type 0} (g : Ghosts S) (old new : Held S) (result : Re
   pub up : HasCleanDisk (state g new) → OnOk result (IsTrue (state g new).is_open)
   pub withstands : Withstands g NoMore old new
 
--- A statement inside a transaction commits nothing, and if it succeeds, the transaction stays open.
-pub record StaysInside {S A E : Type 0} (g : Ghosts S) (old new : Held S) (result : Result A E) : Type 0 where
-  pub inside : HasCleanDisk (state g new) → IsTrue old.in_transaction → OnOk result (IsTrue new.in_transaction)
-  pub kept : HasCleanDisk (state g new) → IsTrue old.in_transaction → KeepsCommit (state g old) (state g new)
+-- The same, and its answer is what `Tells` says of whatever the tables represented.
+pub record LooksFor {S A E : Type 0} (g : Ghosts S) (old new : Held S) (result : Result A E) (Tells : Kept → A → Type 0) : Type 0 where
+  pub looks : Looks g old new result
+  pub tells : ForAllHeld (tables_of (state g old)) (tables_of (state g new)) (λ k. IfOk result (Tells k))
+
+-- the trees represent what `adds` makes of whatever the tables represent, if this holds of that
+abbrev pub HoldNext : (Kept → Type 0) → (Kept → Kept) → Tables → Trees → Type 0
+HoldNext IsNext adds old db = (k : Kept) → Holds old k → IsNext k → TreesHold db (adds k)
+
+-- What adds something under a number: an `Ok` has added it, if the number is the next one; an `Err` has changed nothing.
+pub record AddsNext {S A E : Type 0} (g : Ghosts S) (IsNext : Kept → Type 0) (adds : Kept → Kept) (old new : Held S) (result : Result A E) : Type 0 where
+  pub lost : WasHealthy (tables_of (state g old)) (tables_of (state g new))
+  pub up : HasCleanDisk (state g new) → OnOk result (IsTrue (state g new).is_open)
+  pub withstands : Withstands g (HoldNext IsNext adds (tables_of (state g old))) old new
+  pub ok : OnOk result ((k : Kept) → IsTrue (tables_of (state g new)).is_healthy → Holds (tables_of (state g old)) k → IsNext k → Holds (tables_of (state g new)) (adds k))
+  pub err : OnErr result (HoldsTheSame (tables_of (state g old)) (tables_of (state g new)))
+
+-- A statement inside a transaction: the transaction is the same, commits nothing, and if the statement succeeds, stays open.
+pub record StaysInside {S A E : Type 0} (g : Ghosts S) (old new : MutBor (Held S)) (result : Result A E) : Type 0 where
+  pub same_reference : new.ghost_name ≡ old.ghost_name
+  pub inside : HasCleanDisk (state g new.now) → IsTrue old.now.in_transaction → OnOk result (IsTrue new.now.in_transaction)
+  pub kept : HasCleanDisk (state g new.now) → IsTrue old.now.in_transaction → KeepsCommit (state g old.now) (state g new.now)
   -- a disk that has returned what was written had done so before
-  pub clean : doubt (state g old).is_clean ≤ doubt (state g new).is_clean
+  pub clean : doubt (state g old.now).is_clean ≤ doubt (state g new.now).is_clean

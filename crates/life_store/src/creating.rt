@@ -7,56 +7,15 @@ ghost use Rattle.sqlite.specs.Held.{state};
 ghost use Rattle.life_store.specs.MigrationState.{HoldsFirstParts};
 ghost use Rattle.life_store.specs.CensusesState.{Parts, HoldsParts};
 ghost use Rattle.life_store.specs.Layout.{no_schema, first_schema, archive_schema};
-ghost use Rattle.life_store.specs.CreatingState.{schema_1, schema_2, schema_3, HasTables, IsNewArchive};
+ghost use Rattle.life_store.specs.CreatingState.{HasTables, IsNewArchive};
 ghost use Rattle.life_store.specs.Statements.{StaysInside};
 
 use sqlite::{Alter, Connection, Error, Transaction};
 
-fn create_layout<S: Alter>(tx: &mut Transaction<'_, S>) -> Result<usize, Error>
-    ensures same_reference { tx.new.conn.ghost_name ≡ tx.old.conn.ghost_name }
-    ensures has_tables { HasCleanDisk (state S.Store tx.new.conn.now) → IsTrue tx.old.conn.now.in_transaction → HasTables no_schema [] (state S.Store tx.old.conn.now).now → OnOk result (IsTrue tx.new.conn.now.in_transaction × HasTables schema_1 (0 ∷ []) (state S.Store tx.new.conn.now).now) }
-    ensures survives { Survives (state S.Store tx.old.conn.now) (state S.Store tx.new.conn.now) (λ _. ⊥) }
-{
-    tx.execute("CREATE TABLE layout (version INTEGER NOT NULL) STRICT", &[])
-}
-
-fn create_deposits<S: Alter>(tx: &mut Transaction<'_, S>) -> Result<usize, Error>
-    ensures same_reference { tx.new.conn.ghost_name ≡ tx.old.conn.ghost_name }
-    ensures has_tables { HasCleanDisk (state S.Store tx.new.conn.now) → IsTrue tx.old.conn.now.in_transaction → HasTables schema_1 (0 ∷ []) (state S.Store tx.old.conn.now).now → OnOk result (IsTrue tx.new.conn.now.in_transaction × HasTables schema_2 (0 ∷ 1 ∷ []) (state S.Store tx.new.conn.now).now) }
-    ensures survives { Survives (state S.Store tx.old.conn.now) (state S.Store tx.new.conn.now) (λ _. ⊥) }
-{
-    tx.execute(
-        "CREATE TABLE deposits (id INTEGER PRIMARY KEY, member TEXT NOT NULL, token TEXT NOT NULL, rule TEXT NOT NULL, population INTEGER NOT NULL CHECK (population >= 0), rle BLOB NOT NULL, UNIQUE (member, token)) STRICT",
-        &[],
-    )
-}
-
-fn create_censuses<S: Alter>(tx: &mut Transaction<'_, S>) -> Result<usize, Error>
-    ensures same_reference { tx.new.conn.ghost_name ≡ tx.old.conn.ghost_name }
-    ensures has_tables { HasCleanDisk (state S.Store tx.new.conn.now) → IsTrue tx.old.conn.now.in_transaction → HasTables schema_2 (0 ∷ 1 ∷ []) (state S.Store tx.old.conn.now).now → OnOk result (IsTrue tx.new.conn.now.in_transaction × HasTables schema_3 (0 ∷ 1 ∷ 3 ∷ []) (state S.Store tx.new.conn.now).now) }
-    ensures survives { Survives (state S.Store tx.old.conn.now) (state S.Store tx.new.conn.now) (λ _. ⊥) }
-{
-    tx.execute(
-        "CREATE TABLE censuses (id INTEGER PRIMARY KEY, member TEXT NOT NULL, token TEXT NOT NULL, deposit INTEGER NOT NULL REFERENCES deposits (id), gens INTEGER NOT NULL, lim INTEGER NOT NULL, clusters INTEGER NOT NULL, unresolved INTEGER NOT NULL, UNIQUE (member, token)) STRICT",
-        &[],
-    )
-}
-
-fn create_census_rows<S: Alter>(tx: &mut Transaction<'_, S>) -> Result<usize, Error>
-    ensures same_reference { tx.new.conn.ghost_name ≡ tx.old.conn.ghost_name }
-    ensures has_tables { HasCleanDisk (state S.Store tx.new.conn.now) → IsTrue tx.old.conn.now.in_transaction → HasTables schema_3 (0 ∷ 1 ∷ 3 ∷ []) (state S.Store tx.old.conn.now).now → OnOk result (IsTrue tx.new.conn.now.in_transaction × HasTables first_schema (0 ∷ 1 ∷ 3 ∷ 5 ∷ []) (state S.Store tx.new.conn.now).now) }
-    ensures survives { Survives (state S.Store tx.old.conn.now) (state S.Store tx.new.conn.now) (λ _. ⊥) }
-{
-    tx.execute(
-        "CREATE TABLE census_rows (census INTEGER NOT NULL REFERENCES censuses (id), code TEXT NOT NULL, n INTEGER NOT NULL CHECK (n > 0), PRIMARY KEY (census, code)) STRICT",
-        &[],
-    )
-}
-
+/// Makes the table of flags beside those of layout 1.
 pub(crate) fn create_census_flags<S: Alter>(tx: &mut Transaction<'_, S>) -> Result<usize, Error>
-    ensures same_reference { tx.new.conn.ghost_name ≡ tx.old.conn.ghost_name }
-    ensures stays { StaysInside S.Store tx.old.conn.now tx.new.conn.now result }
     ensures added { HasCleanDisk (state S.Store tx.new.conn.now) → IsTrue tx.old.conn.now.in_transaction → (p : Parts) → HoldsFirstParts (state S.Store tx.old.conn.now).now p → OnOk result (IsTrue tx.new.conn.now.in_transaction × HoldsParts (state S.Store tx.new.conn.now).now (record p { flagged = [] })) }
+    ensures stays { StaysInside S.Store tx.old.conn tx.new.conn result }
     ensures has_tables { HasCleanDisk (state S.Store tx.new.conn.now) → IsTrue tx.old.conn.now.in_transaction → HasTables first_schema (0 ∷ 1 ∷ 3 ∷ 5 ∷ []) (state S.Store tx.old.conn.now).now → OnOk result (IsTrue tx.new.conn.now.in_transaction × HasTables archive_schema (0 ∷ 1 ∷ 3 ∷ 5 ∷ 7 ∷ []) (state S.Store tx.new.conn.now).now) }
     ensures survives { Survives (state S.Store tx.old.conn.now) (state S.Store tx.new.conn.now) (λ _. ⊥) }
 {
@@ -66,25 +25,27 @@ pub(crate) fn create_census_flags<S: Alter>(tx: &mut Transaction<'_, S>) -> Resu
     )
 }
 
-fn create_version<S: Alter>(tx: &mut Transaction<'_, S>) -> Result<usize, Error>
-    ensures same_reference { tx.new.conn.ghost_name ≡ tx.old.conn.ghost_name }
-    ensures has_tables { HasCleanDisk (state S.Store tx.new.conn.now) → IsTrue tx.old.conn.now.in_transaction → HasTables archive_schema (0 ∷ 1 ∷ 3 ∷ 5 ∷ 7 ∷ []) (state S.Store tx.old.conn.now).now → OnOk result (IsTrue tx.new.conn.now.in_transaction × IsNewArchive (state S.Store tx.new.conn.now).now) }
-    ensures survives { Survives (state S.Store tx.old.conn.now) (state S.Store tx.new.conn.now) (λ _. ⊥) }
-{
-    tx.execute("INSERT INTO layout (version) VALUES (2)", &[])
-}
-
+/// Makes the five tables, and the row that names their layout.
 fn create_all<S: Alter>(tx: &mut Transaction<'_, S>) -> Result<(), Error>
     ensures same_reference { tx.new.conn.ghost_name ≡ tx.old.conn.ghost_name }
     ensures has_tables { HasCleanDisk (state S.Store tx.new.conn.now) → IsTrue tx.old.conn.now.in_transaction → HasTables no_schema [] (state S.Store tx.old.conn.now).now → OnOk result (IsNewArchive (state S.Store tx.new.conn.now).now) }
     ensures survives { Survives (state S.Store tx.old.conn.now) (state S.Store tx.new.conn.now) (λ _. ⊥) }
 {
-    create_layout(tx)?;
-    create_deposits(tx)?;
-    create_censuses(tx)?;
-    create_census_rows(tx)?;
+    tx.execute("CREATE TABLE layout (version INTEGER NOT NULL) STRICT", &[])?;
+    tx.execute(
+        "CREATE TABLE deposits (id INTEGER PRIMARY KEY, member TEXT NOT NULL, token TEXT NOT NULL, rule TEXT NOT NULL, population INTEGER NOT NULL CHECK (population >= 0), rle BLOB NOT NULL, UNIQUE (member, token)) STRICT",
+        &[],
+    )?;
+    tx.execute(
+        "CREATE TABLE censuses (id INTEGER PRIMARY KEY, member TEXT NOT NULL, token TEXT NOT NULL, deposit INTEGER NOT NULL REFERENCES deposits (id), gens INTEGER NOT NULL, lim INTEGER NOT NULL, clusters INTEGER NOT NULL, unresolved INTEGER NOT NULL, UNIQUE (member, token)) STRICT",
+        &[],
+    )?;
+    tx.execute(
+        "CREATE TABLE census_rows (census INTEGER NOT NULL REFERENCES censuses (id), code TEXT NOT NULL, n INTEGER NOT NULL CHECK (n > 0), PRIMARY KEY (census, code)) STRICT",
+        &[],
+    )?;
     create_census_flags(tx)?;
-    create_version(tx)?;
+    tx.execute("INSERT INTO layout (version) VALUES (2)", &[])?;
     Ok(())
 }
 

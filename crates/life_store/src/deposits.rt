@@ -7,7 +7,7 @@ ghost use Rattle.life_rle.specs.Record.{IsInside};
 ghost use Rattle.life_store.specs.ReadingState.{newest_rows, ShowsDeposit, line_shown};
 ghost use Rattle.life_store.specs.Kept.{numbered, deposit_by, listed_after};
 ghost use Rattle.life_store.specs.DepositsState.{AreValuesOf, AddsUnder};
-ghost use Rattle.life_store.specs.Statements.{Looks};
+ghost use Rattle.life_store.specs.Statements.{LooksFor};
 ghost use Rattle.life_store.specs.Tables.{tables_of, ForAllHeld};
 
 use crate::executing::{blob, query, text, whole, write};
@@ -18,8 +18,7 @@ use std::alloc::Global;
 
 /// The greatest number.
 pub(crate) fn newest<S: Alter>(conn: &mut Connection<S>) -> Result<Vec<Row>, Error>
-    ensures looks { Looks S.Store conn.old conn.new result }
-    ensures tells { ForAllHeld (tables_of (state S.Store conn.old)) (tables_of (state S.Store conn.new)) (λ k. IfOk result (λ rows. rows.items ≡ newest_rows (length k.deposits))) }
+    ensures { LooksFor S.Store conn.old conn.new result (λ k rows. rows.items ≡ newest_rows (length k.deposits)) }
 {
     query(
         conn,
@@ -30,8 +29,7 @@ pub(crate) fn newest<S: Alter>(conn: &mut Connection<S>) -> Result<Vec<Row>, Err
 
 /// The deposit of the number.
 pub(crate) fn show<S: Alter>(conn: &mut Connection<S>, id: i64) -> Result<Vec<Row>, Error>
-    ensures looks { Looks S.Store conn.old conn.new result }
-    ensures tells { (n : ℕ) → id ≡ pos n → ForAllHeld (tables_of (state S.Store conn.old)) (tables_of (state S.Store conn.new)) (λ k. IfOk result (λ rows. ShowsDeposit (option_map (λ d. (n, d)) (numbered k.deposits n)) rows.items)) }
+    ensures { LooksFor S.Store conn.old conn.new result (λ k rows. (n : ℕ) → id ≡ pos n → ShowsDeposit (option_map (λ d. (n, d)) (numbered k.deposits n)) rows.items) }
 {
     query(
         conn,
@@ -46,8 +44,7 @@ pub(crate) fn find<'a, S: Alter>(
     member: &'a [u8],
     token: &'a [u8],
 ) -> Result<Vec<Row>, Error>
-    ensures looks { Looks S.Store conn.old conn.new result }
-    ensures tells { ForAllHeld (tables_of (state S.Store conn.old)) (tables_of (state S.Store conn.new)) (λ k. IfOk result (λ rows. ShowsDeposit (deposit_by member.now token.now k.deposits) rows.items)) }
+    ensures { LooksFor S.Store conn.old conn.new result (λ k rows. ShowsDeposit (deposit_by member.now token.now k.deposits) rows.items) }
 {
     query(
         conn,
@@ -58,8 +55,7 @@ pub(crate) fn find<'a, S: Alter>(
 
 /// The first hundred deposits with a greater number.
 pub(crate) fn list_after<S: Alter>(conn: &mut Connection<S>, id: i64) -> Result<Vec<Row>, Error>
-    ensures looks { Looks S.Store conn.old conn.new result }
-    ensures tells { (n : ℕ) → id ≡ pos n → ForAllHeld (tables_of (state S.Store conn.old)) (tables_of (state S.Store conn.new)) (λ k. IfOk result (λ rows. rows.items ≡ map line_shown (listed_after n k.deposits))) }
+    ensures { LooksFor S.Store conn.old conn.new result (λ k rows. (n : ℕ) → id ≡ pos n → rows.items ≡ map line_shown (listed_after n k.deposits)) }
 {
     query(
         conn,
@@ -98,11 +94,9 @@ fn insert<S: Alter>(
     conn: &mut Connection<S>,
     id: i64,
     deposit: &Deposit,
-    rule: &[u8],
-    population: i64,
-    file: &[u8],
+    values: &Values,
 ) -> Result<usize, Error>
-    requires { AreValuesOf deposit.now rule.now population file.now }
+    requires { AreValuesOf deposit.now (string_bytes values.now.rule) values.now.population values.now.file.items }
     ensures { AddsUnder S.Store id deposit.now conn.old conn.new result }
 {
     write(
@@ -112,9 +106,9 @@ fn insert<S: Alter>(
             whole(id),
             text(deposit.member.as_bytes()),
             text(deposit.token.as_bytes()),
-            text(rule),
-            whole(population),
-            blob(file),
+            text(values.rule.as_bytes()),
+            whole(values.population),
+            blob(values.file.as_slice()),
         ],
     )
 }
@@ -130,14 +124,7 @@ pub(crate) fn add<S: Alter>(
     ensures { AddsUnder S.Store id deposit.now conn.old conn.new result }
 {
     let values = values_of(alloc, deposit)?;
-    match insert(
-        conn,
-        id,
-        deposit,
-        values.rule.as_bytes(),
-        values.population,
-        values.file.as_slice(),
-    ) {
+    match insert(conn, id, deposit, &values) {
         Ok(_) => Ok(()),
         Err(_) => Err(Unavailable),
     }

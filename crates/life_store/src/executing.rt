@@ -1,6 +1,6 @@
 //! Statements that are run outside a transaction, and the values that are bound to them.
 
-ghost use Rattle.std.specs.Prelude.{◌≡◌, ◌≤◌, pos, false, Ok, IsTrue, IfOk, OnOk, OnErr};
+ghost use Rattle.std.specs.Prelude.{◌≡◌, ◌≤◌, pos, false, [], ◌∷◌, Ok, IsTrue, IfOk, OnOk, OnErr};
 ghost use Rattle.sqlite_value.specs.declared.value.Value.TheVariants.{Int, Text, Blob};
 ghost use Rattle.sqlite_value.specs.Value.{owned};
 ghost use Rattle.sqlite_trees.specs.View.{doubt};
@@ -89,9 +89,23 @@ pub(crate) fn query_inside<S: Alter>(
     sql: &str,
     params: &[ValueRef<'_>],
 ) -> Result<Vec<Row>, Unavailable>
-    ensures same_reference { tx.new.conn.ghost_name ≡ tx.old.conn.ghost_name }
-    ensures stays { StaysInside S.Store tx.old.conn.now tx.new.conn.now result }
     ensures shown { HasCleanDisk (state S.Store tx.new.conn.now) → IfOk result (λ rows. Shown sql.now (bound params.now) (state S.Store tx.old.conn.now) (state S.Store tx.new.conn.now) rows.items) }
+    ensures stays { StaysInside S.Store tx.old.conn tx.new.conn result }
 {
     Ok(tx.query_all(sql, params)?)
+}
+
+/// The same of a query about a number.
+pub(crate) fn query_about<S: Alter>(
+    tx: &mut Transaction<'_, S>,
+    sql: &str,
+    id: u64,
+) -> Result<Vec<Row>, Unavailable>
+    ensures shown { HasCleanDisk (state S.Store tx.new.conn.now) → IfOk result (λ rows. Shown sql.now (Int (pos id) ∷ []) (state S.Store tx.old.conn.now) (state S.Store tx.new.conn.now) rows.items) }
+    ensures stays { StaysInside S.Store tx.old.conn tx.new.conn result }
+{
+    let Ok(id) = i64::try_from(id) else {
+        return Err(Unavailable);
+    };
+    query_inside(tx, sql, &[whole(id)])
 }

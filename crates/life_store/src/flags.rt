@@ -5,10 +5,10 @@ ghost use Rattle.sqlite.specs.Effect.{IsDatabase};
 ghost use Rattle.sqlite.specs.State.{HasCleanDisk};
 ghost use Rattle.sqlite.specs.Held.{state};
 ghost use Rattle.life_store.specs.Crash.{NoMore};
-ghost use Rattle.life_store.specs.CensusesState.{Parts, HoldsParts, with_flag};
+ghost use Rattle.life_store.specs.CensusesState.{Parts, HoldsParts, AddsInside, with_flag};
 ghost use Rattle.life_store.specs.Kept.{Tallied, numbered};
 ghost use Rattle.life_store.specs.ReadingState.{ShowsFlag};
-ghost use Rattle.life_store.specs.Statements.{Withstands, Looks, StaysInside};
+ghost use Rattle.life_store.specs.Statements.{Withstands, LooksFor, StaysInside};
 ghost use Rattle.life_store.specs.Tables.{tables_of, ForAllHeld};
 
 use crate::executing::{flag, query, whole};
@@ -17,8 +17,7 @@ use sqlite::{Alter, Connection, Error, Row, Transaction};
 
 /// The flag of the census of the number.
 pub(crate) fn show<S: Alter>(conn: &mut Connection<S>, id: i64) -> Result<Vec<Row>, Error>
-    ensures looks { Looks S.Store conn.old conn.new result }
-    ensures tells { (n : ℕ) → id ≡ pos n → ForAllHeld (tables_of (state S.Store conn.old)) (tables_of (state S.Store conn.new)) (λ k. IfOk result (λ rows. ShowsFlag (option_map (λ t. t.steady) (numbered k.censuses n)) rows.items)) }
+    ensures { LooksFor S.Store conn.old conn.new result (λ k rows. (n : ℕ) → id ≡ pos n → ShowsFlag (option_map (λ t. t.steady) (numbered k.censuses n)) rows.items) }
 {
     query(
         conn,
@@ -33,11 +32,9 @@ pub(crate) fn insert<S: Alter>(
     id: u64,
     steady: bool,
 ) -> Result<(), Unavailable>
-    ensures same_reference { tx.new.conn.ghost_name ≡ tx.old.conn.ghost_name }
-    ensures stays { StaysInside S.Store tx.old.conn.now tx.new.conn.now result }
+    ensures added { (p : Parts) (t : Tallied) → t.steady ≡ steady → id ≡ length p.flagged + 1 → AddsInside S.Store tx.old.conn.now tx.new.conn.now result p (with_flag t p) }
+    ensures stays { StaysInside S.Store tx.old.conn tx.new.conn result }
     ensures withstands { Withstands S.Store NoMore tx.old.conn.now tx.new.conn.now }
-    ensures added { HasCleanDisk (state S.Store tx.new.conn.now) → IsTrue tx.old.conn.now.in_transaction
-        → (p : Parts) (t : Tallied) → HoldsParts (state S.Store tx.old.conn.now).now p → t.steady ≡ steady → id ≡ length p.flagged + 1 → OnOk result (IsTrue tx.new.conn.now.in_transaction × HoldsParts (state S.Store tx.new.conn.now).now (with_flag t p)) }
     ensures sound { HasCleanDisk (state S.Store tx.new.conn.now) → IsTrue tx.old.conn.now.in_transaction → (p : Parts) → HoldsParts (state S.Store tx.old.conn.now).now p → OnOk result (IsDatabase (state S.Store tx.new.conn.now).now) }
 {
     let Ok(id) = i64::try_from(id) else {

@@ -18,7 +18,7 @@ ghost use Rattle.life_store.specs.Statements.{StaysInside};
 ghost use Rattle.life_store.specs.Tables.{version_2};
 
 use crate::creating::create_census_flags;
-use crate::executing::{query_inside, whole};
+use crate::executing::{query_about, query_inside};
 use crate::fault::Unavailable;
 use crate::flags;
 use crate::kept::Deposit;
@@ -48,51 +48,41 @@ fn is_steady(alloc: Global, content: &Record, number: u32, limit: u32) -> Result
 
 /// The greatest number of a census.
 fn newest_census<S: Alter>(tx: &mut Transaction<'_, S>) -> Result<Vec<Row>, Unavailable>
-    ensures same_reference { tx.new.conn.ghost_name ≡ tx.old.conn.ghost_name }
-    ensures stays { StaysInside S.Store tx.old.conn.now tx.new.conn.now result }
     ensures tells { HasCleanDisk (state S.Store tx.new.conn.now) → (p : Parts) → HoldsParts (state S.Store tx.old.conn.now).now p → IfOk result (λ rows. (rows.items ≡ newest_rows (length p.censuses)) × HoldsParts (state S.Store tx.new.conn.now).now p) }
+    ensures stays { StaysInside S.Store tx.old.conn tx.new.conn result }
 {
     query_inside(tx, "SELECT id FROM censuses ORDER BY id DESC LIMIT 1", &[])
 }
 
 /// The census of the number.
 fn show_census<S: Alter>(tx: &mut Transaction<'_, S>, id: u64) -> Result<Vec<Row>, Unavailable>
-    ensures same_reference { tx.new.conn.ghost_name ≡ tx.old.conn.ghost_name }
-    ensures stays { StaysInside S.Store tx.old.conn.now tx.new.conn.now result }
     ensures tells { HasCleanDisk (state S.Store tx.new.conn.now) → (p : Parts) → HoldsParts (state S.Store tx.old.conn.now).now p → IfOk result (λ rows. ShowsCensus (option_map (λ t. (id, t)) (numbered p.censuses id)) rows.items × HoldsParts (state S.Store tx.new.conn.now).now p) }
+    ensures stays { StaysInside S.Store tx.old.conn tx.new.conn result }
 {
-    let Ok(id) = i64::try_from(id) else {
-        return Err(Unavailable);
-    };
-    query_inside(
+    query_about(
         tx,
         "SELECT id, member, token, deposit, gens, lim, clusters, unresolved FROM censuses WHERE id = ?1 ORDER BY id",
-        &[whole(id)],
+        id,
     )
 }
 
 /// The deposit of the number.
 fn show_deposit<S: Alter>(tx: &mut Transaction<'_, S>, id: u64) -> Result<Vec<Row>, Unavailable>
-    ensures same_reference { tx.new.conn.ghost_name ≡ tx.old.conn.ghost_name }
-    ensures stays { StaysInside S.Store tx.old.conn.now tx.new.conn.now result }
     ensures tells { HasCleanDisk (state S.Store tx.new.conn.now) → (p : Parts) → AllByRecursion IsFiled p.deposits → HoldsParts (state S.Store tx.old.conn.now).now p
         → IfOk result (λ rows. ShowsDeposit (option_map (λ d. (id, d)) (numbered p.deposits id)) rows.items × HoldsParts (state S.Store tx.new.conn.now).now p) }
+    ensures stays { StaysInside S.Store tx.old.conn tx.new.conn result }
 {
-    let Ok(id) = i64::try_from(id) else {
-        return Err(Unavailable);
-    };
-    query_inside(
+    query_about(
         tx,
         "SELECT id, member, token, rule, population, rle FROM deposits WHERE id = ?1 ORDER BY id",
-        &[whole(id)],
+        id,
     )
 }
 
 /// How many censuses there are.
 fn count_censuses<S: Alter>(tx: &mut Transaction<'_, S>) -> Result<u64, Unavailable>
-    ensures same_reference { tx.new.conn.ghost_name ≡ tx.old.conn.ghost_name }
-    ensures stays { StaysInside S.Store tx.old.conn.now tx.new.conn.now result }
     ensures counted { HasCleanDisk (state S.Store tx.new.conn.now) → (p : Parts) → HoldsParts (state S.Store tx.old.conn.now).now p → IfOk result (λ n. (n ≡ length p.censuses) × HoldsParts (state S.Store tx.new.conn.now).now p) }
+    ensures stays { StaysInside S.Store tx.old.conn tx.new.conn result }
 {
     let rows = newest_census(tx)?;
     count_in(rows.as_slice())
@@ -104,9 +94,8 @@ fn numbers_at<S: Alter>(
     tx: &mut Transaction<'_, S>,
     id: u64,
 ) -> Result<(u64, u32, u32), Unavailable>
-    ensures same_reference { tx.new.conn.ghost_name ≡ tx.old.conn.ghost_name }
-    ensures stays { StaysInside S.Store tx.old.conn.now tx.new.conn.now result }
     ensures found { HasCleanDisk (state S.Store tx.new.conn.now) → (p : Parts) (t : Tallied) → HoldsParts (state S.Store tx.old.conn.now).now p → numbered p.censuses id ≡ Some t → IfOk result (λ n. (n.0 ≡ t.census.deposit) × (n.1 ≡ t.census.generation) × (n.2 ≡ t.census.limit) × HoldsParts (state S.Store tx.new.conn.now).now p) }
+    ensures stays { StaysInside S.Store tx.old.conn tx.new.conn result }
 {
     let rows = show_census(tx, id)?;
     match first_census(alloc, rows.as_slice())? {
@@ -125,9 +114,8 @@ fn deposit_at<S: Alter>(
     tx: &mut Transaction<'_, S>,
     id: u64,
 ) -> Result<Deposit, Unavailable>
-    ensures same_reference { tx.new.conn.ghost_name ≡ tx.old.conn.ghost_name }
-    ensures stays { StaysInside S.Store tx.old.conn.now tx.new.conn.now result }
     ensures found { HasCleanDisk (state S.Store tx.new.conn.now) → (p : Parts) → AllByRecursion IsFiled p.deposits → HoldsParts (state S.Store tx.old.conn.now).now p → IfOk result (λ d. (numbered p.deposits id ≡ Some d) × HoldsParts (state S.Store tx.new.conn.now).now p) }
+    ensures stays { StaysInside S.Store tx.old.conn tx.new.conn result }
     ensures small { IfOk result (λ d. IsInside 1024 d.content.cells) }
 {
     let rows = show_deposit(tx, id)?;
@@ -137,34 +125,19 @@ fn deposit_at<S: Alter>(
     }
 }
 
-/// The flag of the census of the number, computed from its deposit.
-fn flag_at<S: Alter>(
-    alloc: Global,
-    tx: &mut Transaction<'_, S>,
-    id: u64,
-) -> Result<bool, Unavailable>
-    ensures same_reference { tx.new.conn.ghost_name ≡ tx.old.conn.ghost_name }
-    ensures stays { StaysInside S.Store tx.old.conn.now tx.new.conn.now result }
-    ensures computed { HasCleanDisk (state S.Store tx.new.conn.now) → (p : Parts) (t : Tallied) → AllByRecursion IsFiled p.deposits → HoldsParts (state S.Store tx.old.conn.now).now p → numbered p.censuses id ≡ Some t
-        → IfOk result (λ b. IsFlagged p.deposits (record t { steady = b }) × HoldsParts (state S.Store tx.new.conn.now).now p) }
-{
-    let (deposit, generation, limit) = numbers_at(alloc, tx, id)?;
-    let deposit = deposit_at(alloc, tx, deposit)?;
-    is_steady(alloc, &deposit.content, generation, limit)
-}
-
-/// Computes the flag of the census of the number, and adds it.
+/// Computes the flag of the census of the number from its deposit, and adds it.
 fn migrate_one<S: Alter>(
     alloc: Global,
     tx: &mut Transaction<'_, S>,
     id: u64,
 ) -> Result<(), Unavailable>
-    ensures same_reference { tx.new.conn.ghost_name ≡ tx.old.conn.ghost_name }
-    ensures stays { StaysInside S.Store tx.old.conn.now tx.new.conn.now result }
     ensures migrated { HasCleanDisk (state S.Store tx.new.conn.now) → IsTrue tx.old.conn.now.in_transaction → (p : Parts) (t : Tallied) → AllByRecursion IsFiled p.deposits → HoldsParts (state S.Store tx.old.conn.now).now p → id ≡ length p.flagged + 1 → numbered p.censuses id ≡ Some t
         → OnOk result ((b : Bool) × IsFlagged p.deposits (record t { steady = b }) × HoldsParts (state S.Store tx.new.conn.now).now (with_flag (record t { steady = b }) p)) }
+    ensures stays { StaysInside S.Store tx.old.conn tx.new.conn result }
 {
-    let steady = flag_at(alloc, tx, id)?;
+    let (deposit, generation, limit) = numbers_at(alloc, tx, id)?;
+    let deposit = deposit_at(alloc, tx, deposit)?;
+    let steady = is_steady(alloc, &deposit.content, generation, limit)?;
     flags::insert(tx, id, steady)
 }
 
@@ -174,10 +147,9 @@ fn migrate_each<S: Alter>(
     tx: &mut Transaction<'_, S>,
     count: u64,
 ) -> Result<(), Unavailable>
-    ensures same_reference { tx.new.conn.ghost_name ≡ tx.old.conn.ghost_name }
-    ensures stays { StaysInside S.Store tx.old.conn.now tx.new.conn.now result }
     ensures migrated { HasCleanDisk (state S.Store tx.new.conn.now) → IsTrue tx.old.conn.now.in_transaction → (p : Parts) → AllByRecursion IsFiled p.deposits → HoldsParts (state S.Store tx.old.conn.now).now p → p.flagged ≡ [] → count ≡ length p.censuses
         → OnOk result (IsFlaggedUpTo p count (state S.Store tx.new.conn.now).now) }
+    ensures stays { StaysInside S.Store tx.old.conn tx.new.conn result }
 {
     for i in 0..count {
         migrate_one(alloc, tx, i + 1)?;
@@ -187,9 +159,8 @@ fn migrate_each<S: Alter>(
 
 /// Names layout 2 in the one row of `layout`.
 fn name_version<S: Alter>(tx: &mut Transaction<'_, S>) -> Result<(), Unavailable>
-    ensures same_reference { tx.new.conn.ghost_name ≡ tx.old.conn.ghost_name }
-    ensures stays { StaysInside S.Store tx.old.conn.now tx.new.conn.now result }
     ensures named { HasCleanDisk (state S.Store tx.new.conn.now) → IsTrue tx.old.conn.now.in_transaction → (p : Parts) → HoldsParts (state S.Store tx.old.conn.now).now p → p.layout ≡ version_1 → OnOk result (HoldsParts (state S.Store tx.new.conn.now).now (record p { layout = version_2 })) }
+    ensures stays { StaysInside S.Store tx.old.conn tx.new.conn result }
 {
     tx.execute("UPDATE layout SET version = 2", &[])?;
     Ok(())
@@ -197,10 +168,9 @@ fn name_version<S: Alter>(tx: &mut Transaction<'_, S>) -> Result<(), Unavailable
 
 /// Makes the table of flags, fills it, and names the layout.
 fn migrate_all<S: Alter>(alloc: Global, tx: &mut Transaction<'_, S>) -> Result<(), Unavailable>
-    ensures same_reference { tx.new.conn.ghost_name ≡ tx.old.conn.ghost_name }
-    ensures stays { StaysInside S.Store tx.old.conn.now tx.new.conn.now result }
     ensures migrated { HasCleanDisk (state S.Store tx.new.conn.now) → IsTrue tx.old.conn.now.in_transaction → (p : Parts) → AllByRecursion IsFiled p.deposits → HoldsFirstParts (state S.Store tx.old.conn.now).now p → p.layout ≡ version_1
         → OnOk result (IsMigrated p (state S.Store tx.new.conn.now).now) }
+    ensures stays { StaysInside S.Store tx.old.conn tx.new.conn result }
 {
     create_census_flags(tx)?;
     let count = count_censuses(tx)?;

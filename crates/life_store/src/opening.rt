@@ -5,7 +5,7 @@ ghost use Rattle.std.specs.Prelude.{◌≡◌, ◌≢◌, ◌↔◌, ◌≤◌, 
 ghost use Rattle.sqlite_value.specs.declared.value.Value.{Value};
 ghost use Rattle.sqlite_trees.specs.View.{doubt, IsClean};
 ghost use Rattle.sqlite_store.specs.FileStore.{view};
-ghost use Rattle.sqlite.specs.State.{HasCleanDisk, IsLive};
+ghost use Rattle.sqlite.specs.State.{HasCleanDisk};
 ghost use Rattle.sqlite.specs.Held.{state};
 ghost use Rattle.sqlite.specs.Closing.{IsCopied};
 ghost use Rattle.sqlite.specs.Files.{file_state, image_of, over_files};
@@ -18,7 +18,7 @@ ghost use Rattle.life_store.specs.Kept.{Kept};
 ghost use Rattle.life_store.specs.CreatingState.{HasTables};
 ghost use Rattle.life_store.specs.Layout.{no_schema};
 ghost use Rattle.life_store.specs.Opening.{is_capacity, nothing_kept, without_log, IsLayout, FilesHaveVersions, FilesHold, FilesHoldFirst, LeftHold, AreLeftOf, ListNothing};
-ghost use Rattle.life_store.specs.OpeningState.{HaveVersions, has_table, has_view, has_name, has_some, column_of, version_shown, version_with, rows_of_version, schema_of};
+ghost use Rattle.life_store.specs.OpeningState.{IsSettled, HaveVersions, has_table, has_view, has_name, has_some, column_of, version_shown, version_with, rows_of_version, schema_of};
 ghost use Rattle.life_store.specs.Tables.{tables_of, Holds, HoldsTheSame, IsHealthyIfClean};
 
 use crate::archive::Archive;
@@ -225,9 +225,7 @@ impl Archive<MemStore> {
 
 /// The connection of the archive; where a transaction is open, its store alone.
 fn settled<S: Alter + Drop>(archive: Archive<S>) -> Result<Connection<S>, S>
-    ensures tables { IfOk result (λ conn. tables_of (state S.Store conn) ≡ archive.tables) }
-    ensures live { IfOk result (λ conn. IsLive (state S.Store conn)) }
-    ensures settled { IfOk result (λ conn. IsTrue (state S.Store conn).is_open → (state S.Store conn).now ≡ (state S.Store conn).committed) }
+    ensures { IfOk result (λ conn. IsSettled (state S.Store conn) archive.tables) }
 {
     let conn = archive.into_connection();
     // What it says of the tables is wanted: a connection obeys them.

@@ -1,7 +1,7 @@
 //! Pattern files as they are read and written, whole and in pieces.
 ghost use Rattle.std.specs.Prelude.{◌<◌};
 
-use life_core::{Fault, Pattern, Rule};
+use life_core::{Fault, PLANE, Pattern, Rule, generation};
 use life_rle::{
     FromRead, FromWrite, Inlet, MemoryOutlet, PieceInlet, ReadFault, Record, RleFault, SliceInlet,
     Text, Texts, WriteFault, laws_of_canonical_bodies, laws_of_files, laws_of_lines_and_runs,
@@ -215,6 +215,47 @@ fn records_are_made(rt: HostRuntime) {
     laws_of_texts();
     laws_of_files();
     assert!(rt; cells_are_normal(rt.alloc()) == Ok(true));
+}
+
+/// The file of a row of so many live cells.
+fn row_file(alloc: Global, width: u64) -> Result<String, AllocError> {
+    format!(in alloc; "x = {width}, y = 1\n{width}o!\n")
+}
+
+/// The text of the next generation: three rows of two cells fewer, and none of a row of one or two.
+fn rows_text(alloc: Global, width: u64) -> Result<String, AllocError> {
+    match width.saturating_sub(2) {
+        0 => String::from_str(alloc, "x = 0, y = 0, rule = B3/S23\n!\n"),
+        1 => String::from_str(alloc, "x = 1, y = 3, rule = B3/S23\no$o$o!\n"),
+        w => format!(in alloc; "x = {w}, y = 3, rule = B3/S23\n{w}o${w}o${w}o!\n"),
+    }
+}
+
+/// Whether this is written of the next generation of the cells.
+fn next_is_written(alloc: Global, cells: &Pattern, text: &str) -> Result<bool, Fault> {
+    if !cells.within(PLANE - 1) {
+        return Ok(false);
+    }
+    let next = generation(alloc, &Rule::LIFE, cells, 1)?;
+    Ok(plain_is_written(alloc, &next, text))
+}
+
+/// Whether a row of so many cells is written as it should in the next generation.
+fn row_goes_on(alloc: Global, width: u64) -> bool {
+    let (Ok(file), Ok(text)) = (row_file(alloc, width), rows_text(alloc, width)) else {
+        return false;
+    };
+    match read(alloc, file.as_bytes()) {
+        Ok(record) => next_is_written(alloc, &record.cells, text.as_str()) == Ok(true),
+        Err(_) => false,
+    }
+}
+
+#[test]
+fn rows_of_each_width_are_written(rt: HostRuntime) {
+    for width in 1..301_u64 {
+        assert!(rt; row_goes_on(rt.alloc(), width), "{width}");
+    }
 }
 
 /// A list of one text.

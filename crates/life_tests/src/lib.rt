@@ -1,16 +1,11 @@
-//! Tests over the crates of patterns, and what they share: an allocator that refuses.
+//! Tests over the crates of patterns.
 #![tactic(auto)]
 
+#[cfg(test)]
+mod failures;
 #[cfg(test)]
 mod fields;
 #[cfg(test)]
 mod files;
 #[cfg(test)]
 mod kinds;
-pub mod refusing;
-#[cfg(test)]
-mod rows;
-#[cfg(test)]
-mod streams;
-#[cfg(test)]
-mod tests;

@@ -1,22 +1,20 @@
 -- The number of a word, and the answer to words from `clap`'s answer to them.
 use Rattle.std.proofs.Common.{◌≡◌, ◌≢◌, ℕ, ◌<◌, ◌^◌, Bool, true, false, List, [], ◌∷◌, Option, Some, None, option_map, option_and_then, Result, Ok, Err, refl, ap, ◌∙◌, sym, inl, inr, arith}
-use Rattle.std.specs.Option.{ok_or}
 use Rattle.std.specs.Result.{IsErrAnd}
 use Rattle.std.specs.Str.Parse.{IsNumeral, ParsesUnsigned, ExplainsUnsignedError, HasUnsignedDigitsIfOk, digits_value, without_leading_plus}
 use Rattle.std.specs.declared.num.ParseIntError.{ParseIntError}
 use Rattle.clap.proofs.OnLiterals.{clap_on_literals}
 use Rattle.clap.proofs.ValueTestLemmas.{accepts-Accepts, Accepts-accepts}
 use Rattle.clap.specs.ValueTests.{is_unsigned_in}
-use Rattle.clap.specs.Words.{App, Row, Text, Kinds, HasKind, HasMatchesOf, ReadsOne, kind_of, is_simple, is_simple_and_free, fault_of, subcommand_of, subcommand_rows_of}
+use Rattle.clap.specs.Words.{App, Text, Kinds, HasKind, HasMatchesOf, ReadsOne, kind_of, is_simple, is_simple_and_free, fault_of, found_of, matches_of, rows_of, subcommand_of, subcommand_rows_of}
 use Rattle.clap.specs.declared.error.Error.{Error}
 use Rattle.clap.specs.declared.error.kind.ErrorKind.TheVariants.{OutOfMemory}
 use Rattle.clap.specs.declared.builder.value_parser.ValueParser.TheVariants as vp
 use Rattle.clap.specs.declared.parser.matches.ArgMatches.{ArgMatches}
-use Rattle.life_words.specs.declared.words.Job.{Job}
 use Rattle.life_words.specs.declared.fault.WordFault.{WordFault}
 use Rattle.life_words.specs.declared.fault.WordFault.TheVariants.{BadWords, Memory}
 use Rattle.life_words.specs.Fault.{ComesFrom}
-use Rattle.life_words.specs.Words.{Asked, asked_by, last_number, life_app, number_text, job_of, unless_fault, words_job, Answers}
+use Rattle.life_words.specs.Words.{last_number, life_app, number_text, Matches, matches_by, matches_in, unless_fault, Answers}
 
 -- ---- the number of a word
 
@@ -53,68 +51,62 @@ one_number (Some t) (Some n) none value = some_number t n (value t refl).0.0 (va
 
 -- ---- the answer to words
 
-is_life_simple : is_simple life_app ≡ true
+pub is_life_simple : is_simple life_app ≡ true
 unfolding clap_on_literals
 is_life_simple = refl
 
-is_life_free : is_simple_and_free life_app ≡ true
+pub is_life_free : is_simple_and_free life_app ≡ true
 unfolding clap_on_literals
 is_life_free = refl
 
 -- where an error has one of the kinds and is not out of memory, there is a kind
-faulty : (kinds : Kinds) (e : Error) (job : Option Asked) → HasKind kinds e → kind_of e ≢ OutOfMemory → unless_fault kinds job ≡ None
-faulty [] e job (inl memory) other = absurd (other memory)
-faulty [] e job (inr among) other = absurd among
-faulty (kind ∷ kinds) e job has other = refl
+faulty : (kinds : Kinds) (e : Error) (found : Matches) → HasKind kinds e → kind_of e ≢ OutOfMemory → unless_fault kinds found ≡ None
+faulty [] e found (inl memory) other = absurd (other memory)
+faulty [] e found (inr among) other = absurd among
+faulty (kind ∷ kinds) e found has other = refl
 
--- without a kind the job stays
-faultless : (kinds : Kinds) (job : Option Asked) → kinds ≡ [] → unless_fault kinds job ≡ job
-faultless [] job none = refl
-faultless (kind ∷ kinds) job none = absurd (cc)
+-- without a kind all is found
+faultless : (kinds : Kinds) (found : Matches) → kinds ≡ [] → unless_fault kinds found ≡ Some found
+faultless [] found none = refl
+faultless (kind ∷ kinds) found none = absurd (cc)
 
--- the job of the words is that of the subcommand that was met
-words_job-met : (words : List Text) (met : Option (Text × List Row)) → fault_of life_app words ≡ [] → met ≡ subcommand_of life_app words
-    → words_job words ≡ job_of met
-unfolding words_job
-words_job-met words met none is = faultless _ _ none ∙ ap job_of (sym is)
+-- what is found, where `clap` gives matches
+pub found_by_matches : (made app : App) (words : List Text) (m : ArgMatches) → made ≡ app → is_simple app ≡ true → is_simple_and_free app ≡ true
+    → (is_simple_and_free made ≡ true → fault_of made words ≡ []) → HasMatchesOf made words m → matches_in app words ≡ Some (matches_by m)
+unfolding matches_in
+found_by_matches made app words m is simple free kinds matches =
+    let none : fault_of app words ≡ [] = rw is at (kinds (ap is_simple_and_free is ∙ free)) in
+    let rows : rows_of (found_of m) ≡ matches_of app words = rw is at (matches (ap is_simple is ∙ simple)).0 in
+    let met : subcommand_rows_of m ≡ subcommand_of app words = rw is at (matches (ap is_simple is ∙ simple)).1 in
+    faultless _ _ none ∙ (λ k. Some (sym rows k, sym met k))
 
--- the answer by a job
-answer_by : (words : List Text) (job : Option Job) (r : Result Job WordFault) → words_job words ≡ option_map asked_by job → r ≡ ok_or job (BadWords None) → Answers words r
-answer_by words None r named is = rw is named
-answer_by words (Some job) r named is = rw is named
+-- .. and where it gives an error
+pub found_by_error : (made app : App) (words : List Text) (e : Error) (r : Result ArgMatches WordFault) → made ≡ app → is_simple_and_free app ≡ true
+    → (is_simple_and_free made ≡ true → HasKind (fault_of made words) e) → IsErrAnd r (ComesFrom e) → Answers matches_by (matches_in app words) r
+unfolding matches_in
+found_by_error made app words e (Ok m) is free kinds from = absurd from
+found_by_error made app words e (Err Memory) is free kinds from = tt
+found_by_error made app words e (Err (BadWords None)) is free kinds from = absurd from
+found_by_error made app words e (Err (BadWords (Some kept))) is free kinds from = faulty _ e _ (rw is at (kinds (ap is_simple_and_free is ∙ free))) from.1
 
--- the job of the words, where `clap` gives matches
-job_by_matches : (app : App) (words : List Text) (m : ArgMatches) → app ≡ life_app → (is_simple_and_free app ≡ true → fault_of app words ≡ [])
-    → HasMatchesOf app words m → words_job words ≡ job_of (subcommand_rows_of m)
-job_by_matches app words m is kinds matches =
-    let none : fault_of life_app words ≡ [] = rw is at (kinds (ap is_simple_and_free is ∙ is_life_free)) in
-    let met : subcommand_rows_of m ≡ subcommand_of life_app words = rw is at (matches (ap is_simple is ∙ is_life_simple)).1 in
-    words_job-met words (subcommand_rows_of m) none met
+-- ---- from what is found to the answer of any program
 
--- the answer, where `clap` gives matches
-pub answer_to_matches : (app : App) (words : List Text) (m : ArgMatches) (job : Option Job) (r : Result Job WordFault) → app ≡ life_app
-    → (is_simple_and_free app ≡ true → fault_of app words ≡ []) → HasMatchesOf app words m
-    → option_map asked_by job ≡ job_of (subcommand_rows_of m) → r ≡ ok_or job (BadWords None) → Answers words r
-answer_to_matches app words m job r is kinds matches named answers = answer_by words job r (job_by_matches app words m is kinds matches ∙ sym named) answers
+module _ {J A : Type 0} (asked_by : J → A) where
+  -- any fault is an answer to words that ask for nothing
+  pub answer_by_fault : (asked : Option A) (r : Result J WordFault) (P : WordFault → Type 0) → asked ≡ None → IsErrAnd r P → Answers asked_by asked r
+  answer_by_fault asked (Ok job) P none failed = absurd failed
+  answer_by_fault asked (Err Memory) P none failed = tt
+  answer_by_fault asked (Err (BadWords error)) P none failed = none
 
--- any fault is an answer to words that name no job
-answer_by_fault : (words : List Text) (r : Result Job WordFault) (P : WordFault → Type 0) → words_job words ≡ None → IsErrAnd r P → Answers words r
-answer_by_fault words (Ok job) P none failed = absurd failed
-answer_by_fault words (Err Memory) P none failed = tt
-answer_by_fault words (Err (BadWords error)) P none failed = none
+  -- what the words ask for, where this is found in them
+  pub asked_of : (read : Matches → Option A) (found : Option Matches) (m : ArgMatches) (job : Option J) → found ≡ Some (matches_by m) → option_map asked_by job ≡ read (matches_by m)
+      → option_and_then read found ≡ option_map asked_by job
+  asked_of read found m job is named = ap (option_and_then read) is ∙ sym named
 
--- the answer, where the matches that `clap` gives name no job
-pub answer_to_no_job : (app : App) (words : List Text) (m : ArgMatches) (r : Result Job WordFault) (P : WordFault → Type 0) → app ≡ life_app
-    → (is_simple_and_free app ≡ true → fault_of app words ≡ []) → HasMatchesOf app words m
-    → None ≡ job_of (subcommand_rows_of m) → IsErrAnd r P → Answers words r
-answer_to_no_job app words m r P is kinds matches named failed = answer_by_fault words r P (job_by_matches app words m is kinds matches ∙ sym named) failed
-
--- the answer, where `clap` gives an error
-pub answer_to_error : (app : App) (words : List Text) (e : Error) (r : Result Job WordFault) → app ≡ life_app
-    → (is_simple_and_free app ≡ true → HasKind (fault_of app words) e) → IsErrAnd r (ComesFrom e) → Answers words r
-unfolding words_job
-answer_to_error app words e (Ok job) is kinds from = absurd from
-answer_to_error app words e (Err Memory) is kinds from = tt
-answer_to_error app words e (Err (BadWords None)) is kinds from = absurd from
-answer_to_error app words e (Err (BadWords (Some kept))) is kinds from =
-    faulty _ e _ (rw is at (kinds (ap is_simple_and_free is ∙ is_life_free))) from.1
+  -- a fault of what is found is that of the answer
+  pub answer_to_fault : (read : Matches → Option A) (found : Option Matches) (fault : WordFault) (r : Result J WordFault) → Answers matches_by found (Err fault) → IsErrAnd r (λ same. same ≡ fault)
+      → Answers asked_by (option_and_then read found) r
+  answer_to_fault read found fault (Ok job) none same = absurd same
+  answer_to_fault read found fault (Err Memory) none same = tt
+  answer_to_fault read found Memory (Err (BadWords error)) none same = absurd (cc)
+  answer_to_fault read found (BadWords first) (Err (BadWords error)) none same = ap (option_and_then read) none

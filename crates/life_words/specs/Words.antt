@@ -2,18 +2,65 @@
 -- What a command is, which words it takes and what it reads of them is said by the kit's `clap`; the names of the
 -- subcommands and of their words are the program's own.
 use Rattle.std.specs.Prelude.{◌≡◌, ℕ, ◌^◌, ◌-◌, true, if◌then◌else◌, List, [], ◌∷◌, fold, Option, None, Some}
-use Rattle.std.specs.Prelude.{option_map, option_and_then, codes, bytes_eq, Result, Ok, Err}
+use Rattle.std.specs.Prelude.{option_map, option_and_then, codes, bytes_eq, false, IfOk, Result, Ok, Err}
 use Rattle.std.specs.Str.Parse.{digits_value, without_leading_plus}
-use Rattle.clap.specs.Words.{App, Row, Rule, Text, Kinds, new_app, new_rule, with_rule, with_subcommand}
-use Rattle.clap.specs.Words.{fault_of, first_of, one_of, subcommand_of}
+use Rattle.clap.specs.Words.{App, Row, Rule, Text, Kinds, app_of, new_app, new_rule, with_rule, with_subcommand}
+use Rattle.clap.specs.Words.{fault_of, first_of, found_of, matches_of, one_of, rows_of, subcommand_of, subcommand_rows_of}
 use Rattle.clap.specs.Simple.{on_top}
 use Rattle.clap.specs.ValueTests.{is_unsigned_in}
+use Rattle.clap.specs.declared.builder.command.Command.{Command}
+use Rattle.clap.specs.declared.builder.command.Command.TheViews.{out-Command as fields_of}
 use Rattle.clap.specs.declared.builder.value_parser.ValueParser.TheVariants as vp
+use Rattle.clap.specs.declared.parser.matches.ArgMatches.{ArgMatches}
 use Rattle.life_words.specs.Explain.{is_refusal}
 use Rattle.life_words.specs.declared.words.Job.{Job}
 use Rattle.life_words.specs.declared.words.Job.TheVariants.{Generation, Kind, Object, Census, Deposit, Serve, Explain}
 use Rattle.life_words.specs.declared.fault.WordFault.{WordFault}
 use Rattle.life_words.specs.declared.fault.WordFault.TheVariants.{BadWords, Memory}
+
+-- ---- what the programs have in common
+
+-- if a command was made, it is this one for `clap`, and has no global argument
+abbrev pub MakesCommand : {E : Type 0} → App → Result Command E → Type 0
+MakesCommand app made = IfOk made (λ command. app_of command ≡ app) × IfOk made (λ command. (fields_of command).has_globals ≡ false)
+
+-- what `clap` finds in words: the rows of the command's own arguments, and the subcommand that was met with its rows
+abbrev pub Matches : Type 0
+Matches = List Row × Option (Text × List Row)
+
+-- the same, from the value that holds it
+abbrev pub matches_by : ArgMatches → Matches
+matches_by m = (rows_of (found_of m), subcommand_rows_of m)
+
+-- nothing, if the words have a fault of one of these kinds
+abbrev pub unless_fault : Kinds → Matches → Option Matches
+unless_fault [] found = Some found
+unless_fault (first ∷ others) found = None
+
+-- what is found in words, the program's name first, unless they have a fault
+unfoldable pub matches_in : App → List Text → Option Matches
+matches_in app words = unless_fault (fault_of app words) (matches_of app words, subcommand_of app words)
+
+-- what two words ask for, if both of them are there
+abbrev pub if_both : {A B C : Type 0} → (A → B → C) → Option A → Option B → Option C
+if_both asks (Some a) (Some b) = Some (asks a b)
+if_both asks a b = None
+
+-- what three words ask for, if all of them are there
+abbrev pub if_all : {A B C D : Type 0} → (A → B → C → D) → Option A → Option B → Option C → Option D
+if_all asks (Some a) (Some b) (Some c) = Some (asks a b c)
+if_all asks a b c = None
+
+-- what the subcommand that was met asks for, by its name and its rows
+abbrev pub by_subcommand : {A : Type 0} → (Text → List Row → Option A) → Option (Text × List Row) → Option A
+by_subcommand named None = None
+by_subcommand named (Some met) = named met.0 met.1
+
+-- the answer to arguments: what they ask for, or a usage error if they ask for nothing; out of memory may come with any arguments
+abbrev pub Answers : {J A : Type 0} → (J → A) → Option A → Result J WordFault → Type 0
+Answers asked_by asked (Ok job) = asked ≡ Some (asked_by job)
+Answers asked_by asked (Err (BadWords error)) = asked ≡ None
+Answers asked_by asked (Err Memory) = Unit {0}
 
 -- ---- the command
 
@@ -115,26 +162,6 @@ number_at id rows = option_and_then number_text (one_of id rows)
 abbrev pub text_at : Text → List Row → Option Text
 text_at id rows = first_of id rows
 
--- the object of these words, if all of them are there
-abbrev pub object_of : Option Text → Option Text → Option ℕ → Option Asked
-object_of (Some rule) (Some code) (Some limit) = Some (AsksObject rule code limit)
-object_of rule code limit = None
-
--- the census of these words, if both of them are there
-abbrev pub census_of : Option ℕ → Option ℕ → Option Asked
-census_of (Some n) (Some limit) = Some (AsksCensus n limit)
-census_of n limit = None
-
--- the deposit of these words, if all of them are there
-abbrev pub deposit_of : Option Text → Option Text → Option Text → Option Asked
-deposit_of (Some file) (Some member) (Some token) = Some (AsksDeposit file member token)
-deposit_of file member token = None
-
--- the serving of these words, if all of them are there
-abbrev pub serve_of : Option Text → Option ℕ → Option ℕ → Option Asked
-serve_of (Some file) (Some port) (Some connections) = Some (AsksServe file port connections)
-serve_of file port connections = None
-
 -- the explanation of this word, if it is there and a refusal has this name
 abbrev pub explain_of : Option Text → Option Asked
 explain_of (Some name) = if is_refusal name then Some (AsksExplain name) else None
@@ -145,31 +172,13 @@ abbrev pub job_named : Text → List Row → Option Asked
 job_named name rows =
     if bytes_eq name (codes "generation") then option_map AsksGeneration (number_at (codes "N") rows)
     else if bytes_eq name (codes "kind") then option_map AsksKind (number_at (codes "LIMIT") rows)
-    else if bytes_eq name (codes "object") then object_of (text_at (codes "RULE") rows) (text_at (codes "CODE") rows) (number_at (codes "LIMIT") rows)
-    else if bytes_eq name (codes "census") then census_of (number_at (codes "N") rows) (number_at (codes "LIMIT") rows)
-    else if bytes_eq name (codes "deposit") then deposit_of (text_at (codes "F") rows) (text_at (codes "MEMBER") rows) (text_at (codes "TOKEN") rows)
-    else if bytes_eq name (codes "serve") then serve_of (text_at (codes "F") rows) (number_at (codes "P") rows) (number_at (codes "N") rows)
+    else if bytes_eq name (codes "object") then if_all AsksObject (text_at (codes "RULE") rows) (text_at (codes "CODE") rows) (number_at (codes "LIMIT") rows)
+    else if bytes_eq name (codes "census") then if_both AsksCensus (number_at (codes "N") rows) (number_at (codes "LIMIT") rows)
+    else if bytes_eq name (codes "deposit") then if_all AsksDeposit (text_at (codes "F") rows) (text_at (codes "MEMBER") rows) (text_at (codes "TOKEN") rows)
+    else if bytes_eq name (codes "serve") then if_all AsksServe (text_at (codes "F") rows) (number_at (codes "P") rows) (number_at (codes "N") rows)
     else if bytes_eq name (codes "explain") then explain_of (text_at (codes "NAME") rows)
     else None
 
--- the job of the subcommand that was met, which comes with its matches
-abbrev pub job_of : Option (Text × List Row) → Option Asked
-job_of None = None
-job_of (Some met) = job_named met.0 met.1
-
--- no job, where the words have a fault of one of these kinds
-abbrev pub unless_fault : Kinds → Option Asked → Option Asked
-unless_fault [] job = job
-unless_fault (first ∷ others) job = None
-
 -- the job that the words name, the program's name first
 unfoldable pub words_job : List Text → Option Asked
-words_job words = unless_fault (fault_of life_app words) (job_of (subcommand_of life_app words))
-
--- ---- the answer
-
--- the answer to arguments: their job, or a usage error if they name none; out of memory may come with any arguments
-abbrev pub Answers : List Text → Result Job WordFault → Type 0
-Answers words (Ok job) = words_job words ≡ Some (asked_by job)
-Answers words (Err (BadWords error)) = words_job words ≡ None
-Answers words (Err Memory) = Unit {0}
+words_job words = option_and_then (λ found. by_subcommand job_named found.1) (matches_in life_app words)

@@ -1,14 +1,15 @@
 //! What the commands of all programs have in common: how they begin, and the words of the process that they are given.
-ghost use Rattle.std.specs.Prelude.{◌≡◌, codes, IfOk, false};
+ghost use Rattle.std.specs.Prelude.{◌≡◌, codes, map, IfOk, true, false};
 ghost use Rattle.clap.specs.Simple.{App};
-ghost use Rattle.clap.specs.Words.{Rule, new_app, app_of, rule_of, with_rule, with_subcommand};
-ghost use Rattle.life_words.specs.Words.{number_rule, text_rule, with_version};
+ghost use Rattle.clap.specs.Words.{Rule, new_app, app_of, rule_of, with_rule, with_subcommand, is_simple, is_simple_and_free};
+ghost use Rattle.life_words.specs.Words.{number_rule, text_rule, with_version, matches_in, matches_by, Answers};
 ghost use Rattle.clap.specs.declared.builder.command.Command.TheViews.{out-Command as fields_of};
 
 use crate::fault::WordFault;
 use clap::error::ErrorKind;
-use clap::{Arg, Command};
+use clap::{Arg, ArgMatches, Command};
 use std::alloc::{AllocError, Global};
+use std::convert::AsStr;
 use std::{env, io};
 
 /// A command of this name, without words, and what help says of it: `about` before its words, and `help` after them.
@@ -88,6 +89,17 @@ pub fn with_command<'a>(
     ensures { (made added : App) → IfOk above.entry (λ command. app_of command ≡ made) → IfOk below.entry (λ command. app_of command ≡ added) → IfOk result (λ command. app_of command ≡ with_subcommand made added.top) }
 {
     above?.subcommand(below?)
+}
+
+/// What `clap` finds in the words by a command, if the command was made. The first of them is the program's name, as in `env::args`.
+pub fn read_matches<'a, S: AsStr>(
+    command: Result<Command<'a>, AllocError>,
+    words: &'a [S],
+) -> Result<ArgMatches<'a>, WordFault>
+    ensures { (app : App) → IfOk command.entry (λ command. app_of command ≡ app) → is_simple app ≡ true → is_simple_and_free app ≡ true
+        → Answers matches_by (matches_in app (map S.text words.entry.now)) result }
+{
+    Ok(command?.try_get_matches_from(words)?)
 }
 
 /// The words of the process, the program's name first. If one of them is not UTF-8, they are a usage error, with the text that `clap`

@@ -7,8 +7,8 @@ mod fault;
 mod words;
 
 pub use commands::{
-    VERSION, generation_arg, limit_arg, named_command, number_arg, program_command, text_arg,
-    with_arg, with_command, words_of,
+    VERSION, generation_arg, limit_arg, named_command, number_arg, program_command, read_matches,
+    text_arg, with_arg, with_command, words_of,
 };
 pub use explain::{explanation, refusal_names};
 pub use fault::WordFault;

@@ -1,13 +1,13 @@
 //! The words of the command line, read by `clap`.
 ghost use Rattle.std.specs.Prelude.{◌≡◌, codes, map, option_map, IfOk, false};
-ghost use Rattle.clap.specs.Simple.{App};
-ghost use Rattle.clap.specs.Words.{Rule, app_of, rule_of, rows_of, found_of, subcommand_rows_of, with_rule, with_subcommand};
+ghost use Rattle.clap.specs.Words.{app_of, rule_of, rows_of, found_of, subcommand_rows_of};
 ghost use Rattle.clap.specs.declared.builder.command.Command.TheViews.{out-Command as fields_of};
-ghost use Rattle.life_words.specs.Words.{number_rule, number_rule_in, text_rule, file_rule, generation, kind, object, census, deposit, serve, explain, life_alone, life_app, asked_by};
-ghost use Rattle.life_words.specs.Words.{AsksGeneration, AsksKind, number_at, text_at, object_of, census_of, deposit_of, serve_of, explain_of, job_of, Answers};
+ghost use Rattle.life_words.specs.Words.{number_rule_in, text_rule, file_rule, MakesCommand, object, census, deposit, serve, explain, life_alone, life_app};
+ghost use Rattle.life_words.specs.Words.{number_at, text_at, asked_by, explain_of, job_named, by_subcommand, words_job, Answers};
 
 use crate::commands::{
-    generation_arg, limit_arg, named_command, program_command, text_arg, with_arg, with_command,
+    generation_arg, limit_arg, named_command, program_command, read_matches, text_arg, with_arg,
+    with_command,
 };
 use crate::explain::{explanation, refusal_names};
 use crate::fault::WordFault;
@@ -16,12 +16,16 @@ use clap::{Arg, ArgMatches, Command};
 use std::alloc::{AllocError, Global};
 use std::convert::AsStr;
 
-// What the help of each command says after its words: what is read, printed and refused, and an example.
+// What the help of each command says: what it is for, and after its words what is read, printed and refused, and an example.
+const GENERATION_ABOUT: &str = "Prints generation N of the pattern on standard input";
+
 const GENERATION_HELP: &str = "\
 Reads:   a pattern file (RLE) on standard input
 Prints:  generation N as canonical RLE, without its texts, its first column and its first row at 0
 Refuses: out-of-limit (N over 2048), bad-pattern NAME, unreadable, unavailable
 Example: life generation 1 < glider.rle";
+
+const KIND_ABOUT: &str = "Prints the kind and the code of the pattern on standard input";
 
 const KIND_HELP: &str = "\
 Reads:   a pattern file (RLE) on standard input
@@ -30,17 +34,23 @@ Prints:  'empty', 'unresolved', 'still CODE', 'oscillator PERIOD CODE' or 'ship 
 Refuses: out-of-limit (LIMIT 0 or over 2048), bad-pattern NAME, unreadable, unavailable
 Example: life kind 4 < glider.rle";
 
+const OBJECT_ABOUT: &str = "Prints the pattern of a code";
+
 const OBJECT_HELP: &str = "\
 Reads:   nothing
 Prints:  the pattern that CODE spells as canonical RLE
 Refuses: out-of-limit (LIMIT 0 or over 2048), bad-rule, bad-code NAME, unavailable
 Example: life object B3/S23 xs6_696 1";
 
+const CENSUS_ABOUT: &str = "Prints how many clusters of generation N of the pattern have each code";
+
 const CENSUS_HELP: &str = "\
 Reads:   a pattern file (RLE) on standard input
 Prints:  a line 'CODE,COUNT' for each code in byte order, after 'code,count', and 'unresolved,COUNT'
 Refuses: out-of-limit (N over 2048, LIMIT 0 or over 2048), bad-pattern NAME, unreadable, unavailable
 Example: life census 0 2 < traffic-light.rle";
+
+const DEPOSIT_ABOUT: &str = "Keeps the pattern on standard input in an archive";
 
 const DEPOSIT_HELP: &str = "\
 Reads:   a pattern file (RLE) on standard input, and the archive F,
@@ -49,12 +59,16 @@ Prints:  'deposit NUMBER'; the same words with the same pattern have the first n
 Refuses: bad-member, bad-token, bad-pattern NAME, token-reused, full, not-ours, unreadable, unavailable
 Example: life deposit --db club.db ann t1 < glider.rle";
 
+const SERVE_ABOUT: &str = "Serves the messages of an archive on 127.0.0.1";
+
 const SERVE_HELP: &str = "\
 Reads:   HTTP requests of N connections, one after the other, and the archive F,
          which is made where it is not there
 Prints:  'listening on 127.0.0.1:P', and a line for each connection that ended early on standard error
 Refuses: not-ours, no-port, unavailable
 Example: life serve --db club.db --port 8080 --connections 100";
+
+const EXPLAIN_ABOUT: &str = "Prints what a refusal means and what to do";
 
 const EXPLAIN_HELP: &str = "\
 Reads:   nothing
@@ -67,6 +81,8 @@ Names:   bad-code, bad-count, bad-header, bad-member, bad-message, bad-method, b
          unavailable, unknown, unreadable
 Refuses: unavailable
 Example: life explain no-end";
+
+const LIFE_ABOUT: &str = "An archive of Game of Life patterns";
 
 const LIFE_HELP: &str = "\
 A refusal is one line 'refused: NAME' on standard error, with status 1.
@@ -109,52 +125,19 @@ pub enum Job<'a> {
     Explain(&'a str),
 }
 
-fn generation_command<'a>(alloc: Global) -> Result<Command<'a>, AllocError>
-    ensures app { IfOk result (λ command. app_of command ≡ generation) }
-    ensures local { IfOk result (λ command. (fields_of command).has_globals ≡ false) }
-{
-    named_command(
-        alloc,
-        "generation",
-        "Prints generation N of the pattern on standard input",
-        GENERATION_HELP,
-    )
-    .arg(generation_arg(alloc))
-}
-
-fn kind_command<'a>(alloc: Global) -> Result<Command<'a>, AllocError>
-    ensures app { IfOk result (λ command. app_of command ≡ kind) }
-    ensures local { IfOk result (λ command. (fields_of command).has_globals ≡ false) }
-{
-    named_command(
-        alloc,
-        "kind",
-        "Prints the kind and the code of the pattern on standard input",
-        KIND_HELP,
-    )
-    .arg(limit_arg(alloc))
-}
-
 fn object_command<'a>(alloc: Global) -> Result<Command<'a>, AllocError>
-    ensures app { IfOk result (λ command. app_of command ≡ object) }
-    ensures local { IfOk result (λ command. (fields_of command).has_globals ≡ false) }
+    ensures { MakesCommand object result }
 {
-    let command = Ok(named_command(alloc, "object", "Prints the pattern of a code", OBJECT_HELP));
+    let command = Ok(named_command(alloc, "object", OBJECT_ABOUT, OBJECT_HELP));
     let command = with_arg(command, text_arg(alloc, "RULE", "The rule, as B3/S23"));
     let command = with_arg(command, text_arg(alloc, "CODE", "The code, as xs4_33"));
     with_arg(command, limit_arg(alloc))
 }
 
 fn census_command<'a>(alloc: Global) -> Result<Command<'a>, AllocError>
-    ensures app { IfOk result (λ command. app_of command ≡ census) }
-    ensures local { IfOk result (λ command. (fields_of command).has_globals ≡ false) }
+    ensures { MakesCommand census result }
 {
-    let command = Ok(named_command(
-        alloc,
-        "census",
-        "Prints how many clusters of generation N of the pattern have each code",
-        CENSUS_HELP,
-    ));
+    let command = Ok(named_command(alloc, "census", CENSUS_ABOUT, CENSUS_HELP));
     let command = with_arg(command, generation_arg(alloc));
     with_arg(command, limit_arg(alloc))
 }
@@ -168,15 +151,9 @@ fn file_arg<'a>(alloc: Global) -> Arg<'a>
 }
 
 fn deposit_command<'a>(alloc: Global) -> Result<Command<'a>, AllocError>
-    ensures app { IfOk result (λ command. app_of command ≡ deposit) }
-    ensures local { IfOk result (λ command. (fields_of command).has_globals ≡ false) }
+    ensures { MakesCommand deposit result }
 {
-    let command = Ok(named_command(
-        alloc,
-        "deposit",
-        "Keeps the pattern on standard input in an archive",
-        DEPOSIT_HELP,
-    ));
+    let command = Ok(named_command(alloc, "deposit", DEPOSIT_ABOUT, DEPOSIT_HELP));
     let command = with_arg(command, file_arg(alloc));
     let command = with_arg(command, text_arg(alloc, "MEMBER", "The member, as ann"));
     with_arg(
@@ -210,15 +187,9 @@ fn connections_arg<'a>(alloc: Global) -> Arg<'a>
 }
 
 fn serve_command<'a>(alloc: Global) -> Result<Command<'a>, AllocError>
-    ensures app { IfOk result (λ command. app_of command ≡ serve) }
-    ensures local { IfOk result (λ command. (fields_of command).has_globals ≡ false) }
+    ensures { MakesCommand serve result }
 {
-    let command = Ok(named_command(
-        alloc,
-        "serve",
-        "Serves the messages of an archive on 127.0.0.1",
-        SERVE_HELP,
-    ));
+    let command = Ok(named_command(alloc, "serve", SERVE_ABOUT, SERVE_HELP));
     let command = with_arg(command, file_arg(alloc));
     let command = with_arg(command, port_arg(alloc));
     with_arg(command, connections_arg(alloc))
@@ -238,12 +209,7 @@ fn explain_command<'a>(alloc: Global, name: Arg<'a>) -> Result<Command<'a>, Allo
     ensures app { rule_of name.entry ≡ text_rule (codes "NAME") → IfOk result (λ command. app_of command ≡ explain) }
     ensures local { IfOk result (λ command. (fields_of command).has_globals ≡ false) }
 {
-    let command = Ok(named_command(
-        alloc,
-        "explain",
-        "Prints what a refusal means and what to do",
-        EXPLAIN_HELP,
-    ));
+    let command = Ok(named_command(alloc, "explain", EXPLAIN_ABOUT, EXPLAIN_HELP));
     with_arg(command, name)
 }
 
@@ -251,21 +217,19 @@ fn explain_command<'a>(alloc: Global, name: Arg<'a>) -> Result<Command<'a>, Allo
 fn command_alone<'a>(alloc: Global) -> Command<'a>
     ensures { app_of result ≡ life_alone }
 {
-    program_command(
-        alloc,
-        "life",
-        "An archive of Game of Life patterns",
-        LIFE_HELP,
-    )
-    .subcommand_required(true)
+    program_command(alloc, "life", LIFE_ABOUT, LIFE_HELP).subcommand_required(true)
 }
 
 /// The command of `life`, with its subcommands in the order in which help lists them.
 pub fn life_command<'a>(alloc: Global) -> Result<Command<'a>, AllocError>
     ensures { IfOk result (λ command. app_of command ≡ life_app) }
 {
-    let command = with_command(Ok(command_alone(alloc)), generation_command(alloc));
-    let command = with_command(command, kind_command(alloc));
+    let generation = Ok(named_command(alloc, "generation", GENERATION_ABOUT, GENERATION_HELP));
+    let generation = with_arg(generation, generation_arg(alloc));
+    let kind = Ok(named_command(alloc, "kind", KIND_ABOUT, KIND_HELP));
+    let kind = with_arg(kind, limit_arg(alloc));
+    let command = with_command(Ok(command_alone(alloc)), generation);
+    let command = with_command(command, kind);
     let command = with_command(command, object_command(alloc));
     let command = with_command(command, census_command(alloc));
     let command = with_command(command, deposit_command(alloc));
@@ -287,55 +251,11 @@ pub fn text_in<'a>(found: &ArgMatches<'a>, id: &str) -> Option<&'a str>
     found.get_str(id)
 }
 
-fn generation_in<'a>(found: &ArgMatches<'a>) -> Option<Job<'a>>
-    ensures { option_map asked_by result ≡ option_map AsksGeneration (number_at (codes "N") (rows_of (found_of found.now))) }
+// The limit of the period.
+fn limit_in(found: &ArgMatches<'_>) -> Option<u64>
+    ensures { result ≡ number_at (codes "LIMIT") (rows_of (found_of found.now)) }
 {
-    Some(Job::Generation(number_in(found, "N")?))
-}
-
-fn kind_in<'a>(found: &ArgMatches<'a>) -> Option<Job<'a>>
-    ensures { option_map asked_by result ≡ option_map AsksKind (number_at (codes "LIMIT") (rows_of (found_of found.now))) }
-{
-    Some(Job::Kind(number_in(found, "LIMIT")?))
-}
-
-fn object_in<'a>(found: &ArgMatches<'a>) -> Option<Job<'a>>
-    ensures { option_map asked_by result ≡ object_of (text_at (codes "RULE") (rows_of (found_of found.now))) (text_at (codes "CODE") (rows_of (found_of found.now))) (number_at (codes "LIMIT") (rows_of (found_of found.now))) }
-{
-    Some(Job::Object {
-        rule: text_in(found, "RULE")?,
-        code: text_in(found, "CODE")?,
-        limit: number_in(found, "LIMIT")?,
-    })
-}
-
-fn census_in<'a>(found: &ArgMatches<'a>) -> Option<Job<'a>>
-    ensures { option_map asked_by result ≡ census_of (number_at (codes "N") (rows_of (found_of found.now))) (number_at (codes "LIMIT") (rows_of (found_of found.now))) }
-{
-    Some(Job::Census {
-        n: number_in(found, "N")?,
-        limit: number_in(found, "LIMIT")?,
-    })
-}
-
-fn deposit_in<'a>(found: &ArgMatches<'a>) -> Option<Job<'a>>
-    ensures { option_map asked_by result ≡ deposit_of (text_at (codes "F") (rows_of (found_of found.now))) (text_at (codes "MEMBER") (rows_of (found_of found.now))) (text_at (codes "TOKEN") (rows_of (found_of found.now))) }
-{
-    Some(Job::Deposit {
-        file: text_in(found, "F")?,
-        member: text_in(found, "MEMBER")?,
-        token: text_in(found, "TOKEN")?,
-    })
-}
-
-fn serve_in<'a>(found: &ArgMatches<'a>) -> Option<Job<'a>>
-    ensures { option_map asked_by result ≡ serve_of (text_at (codes "F") (rows_of (found_of found.now))) (number_at (codes "P") (rows_of (found_of found.now))) (number_at (codes "N") (rows_of (found_of found.now))) }
-{
-    Some(Job::Serve {
-        file: text_in(found, "F")?,
-        port: number_in(found, "P")?,
-        connections: number_in(found, "N")?,
-    })
+    number_in(found, "LIMIT")
 }
 
 // A name that no refusal has is none.
@@ -350,17 +270,33 @@ fn explain_in<'a>(found: &ArgMatches<'a>) -> Option<Job<'a>>
     }
 }
 
+// The job of the subcommand that was met.
 fn job_in<'a>(matches: &ArgMatches<'a>) -> Option<Job<'a>>
-    ensures { option_map asked_by result ≡ job_of (subcommand_rows_of matches.now) }
+    ensures { option_map asked_by result ≡ by_subcommand job_named (subcommand_rows_of matches.now) }
 {
     let (name, found) = matches.subcommand()?;
     match name {
-        "generation" => generation_in(found),
-        "kind" => kind_in(found),
-        "object" => object_in(found),
-        "census" => census_in(found),
-        "deposit" => deposit_in(found),
-        "serve" => serve_in(found),
+        "generation" => Some(Job::Generation(number_in(found, "N")?)),
+        "kind" => Some(Job::Kind(limit_in(found)?)),
+        "object" => Some(Job::Object {
+            rule: text_in(found, "RULE")?,
+            code: text_in(found, "CODE")?,
+            limit: limit_in(found)?,
+        }),
+        "census" => Some(Job::Census {
+            n: number_in(found, "N")?,
+            limit: limit_in(found)?,
+        }),
+        "deposit" => Some(Job::Deposit {
+            file: text_in(found, "F")?,
+            member: text_in(found, "MEMBER")?,
+            token: text_in(found, "TOKEN")?,
+        }),
+        "serve" => Some(Job::Serve {
+            file: text_in(found, "F")?,
+            port: number_in(found, "P")?,
+            connections: number_in(found, "N")?,
+        }),
         "explain" => explain_in(found),
         _ => None,
     }
@@ -370,8 +306,8 @@ fn job_in<'a>(matches: &ArgMatches<'a>) -> Option<Job<'a>>
 fn refuse_name<S: AsStr>(alloc: Global, words: &[S]) -> Result<(), WordFault> {
     let names = refusal_names(alloc)?;
     let name = name_arg(alloc).value_parser(ValueParser::Names(names.as_slice()));
-    let command = with_command(Ok(command_alone(alloc)), explain_command(alloc, name))?;
-    command.try_get_matches_from(words)?;
+    let command = with_command(Ok(command_alone(alloc)), explain_command(alloc, name));
+    read_matches(command, words)?;
     Ok(())
 }
 
@@ -379,9 +315,9 @@ fn refuse_name<S: AsStr>(alloc: Global, words: &[S]) -> Result<(), WordFault> {
 ///
 /// A request for help is a fault too, `BadWords` with the text of the help.
 pub fn read_words<'a, S: AsStr>(alloc: Global, words: &'a [S]) -> Result<Job<'a>, WordFault>
-    ensures { Answers (map S.text words.entry.now) result }
+    ensures { Answers asked_by (words_job (map S.text words.entry.now)) result }
 {
-    let matches = life_command(alloc)?.try_get_matches_from(words)?;
+    let matches = read_matches(life_command(alloc), words)?;
     let Some(job) = job_in(&matches) else {
         refuse_name(alloc, words)?;
         return Err(WordFault::BadWords(None));

@@ -1,14 +1,9 @@
 //! Files that are drawn over streams in memory: whole, byte by byte, and with a take or a put that fails.
-ghost use Rattle.std.specs.Prelude.{◌<◌};
-
 use life_jobs::Stop;
 use life_pictures::{Picture, laws_of_pictures, run_draw};
 use life_rle::{PieceInlet, PieceOutlet, RleFault};
+use shared_tests::jobs::{End, Run, other_run};
 use std::alloc::Global;
-use std::test::Fail;
-
-/// A picture of a file, what is answered, and what is put.
-type Run = (Picture, &'static str, Result<(), Stop>, &'static str);
 
 const GLIDER: &str = "#N Glider\nx = 3, y = 3\nbo$2bo$3o!\n";
 
@@ -42,99 +37,52 @@ const NAMED_SVG: &str = "\
 </svg>
 ";
 
-/// What is drawn, and what is refused.
-const RUNS: [Run; 12] = [
-    (Picture::Text, GLIDER, Ok(()), GLIDER_TEXT),
-    (Picture::Svg, GLIDER, Ok(()), GLIDER_SVG),
-    (Picture::Text, EMPTY, Ok(()), ""),
-    (Picture::Svg, EMPTY, Ok(()), EMPTY_SVG),
-    (Picture::Text, NAMED, Ok(()), "▀ ▀\n"),
-    (Picture::Svg, NAMED, Ok(()), NAMED_SVG),
+const UNFINISHED: &str = "x = 1, y = 1\n3o";
+
+const NO_END: End = End::Stopped(Stop::BadPattern(RleFault::NoEnd));
+
+const NO_HEADER: End = End::Stopped(Stop::BadPattern(RleFault::NoHeader));
+
+const TOO_WIDE: End = End::Stopped(Stop::BadPattern(RleFault::TooWide));
+
+/// What is drawn, what is refused, and streams that fail.
+const RUNS: [Run<Picture>; 17] = [
+    (Picture::Text, GLIDER, End::Done(GLIDER_TEXT)),
+    (Picture::Svg, GLIDER, End::Done(GLIDER_SVG)),
+    (Picture::Text, EMPTY, End::Done("")),
+    (Picture::Svg, EMPTY, End::Done(EMPTY_SVG)),
+    (Picture::Text, NAMED, End::Done("▀ ▀\n")),
+    (Picture::Svg, NAMED, End::Done(NAMED_SVG)),
     // A line without a cell, and one with cells of its lower row alone.
     (
         Picture::Text,
         "x = 2, y = 6\n2o5$bo!\n",
-        Ok(()),
-        "▀▀\n\n ▄\n",
+        End::Done("▀▀\n\n ▄\n"),
     ),
-    (Picture::Text, "x = 2, y = 2\n2o$o!\n", Ok(()), "█▀\n"),
-    (
-        Picture::Text,
-        "x = 1025, y = 1\n1025o!\n",
-        Err(Stop::BadPattern(RleFault::TooWide)),
-        "",
-    ),
-    (
-        Picture::Text,
-        "x = 1, y = 1\n3o",
-        Err(Stop::BadPattern(RleFault::NoEnd)),
-        "",
-    ),
-    (
-        Picture::Svg,
-        "x = 1, y = 1\n3o",
-        Err(Stop::BadPattern(RleFault::NoEnd)),
-        "",
-    ),
-    (
-        Picture::Svg,
-        "",
-        Err(Stop::BadPattern(RleFault::NoHeader)),
-        "",
-    ),
+    (Picture::Text, "x = 2, y = 2\n2o$o!\n", End::Done("█▀\n")),
+    (Picture::Text, "x = 1025, y = 1\n1025o!\n", TOO_WIDE),
+    (Picture::Text, UNFINISHED, NO_END),
+    (Picture::Svg, UNFINISHED, NO_END),
+    (Picture::Svg, "", NO_HEADER),
+    (Picture::Text, GLIDER, End::Unreadable(1)),
+    (Picture::Svg, GLIDER, End::Unreadable(20)),
+    (Picture::Text, GLIDER, End::Unwritable("")),
+    (Picture::Text, GLIDER, End::Unwritable(" ▀")),
+    (Picture::Svg, GLIDER, End::Unwritable("<svg xmln")),
 ];
 
-/// Whether this comes of a run over pieces of this size, if no call fails.
-fn comes(alloc: Global, run: Run, piece: usize) -> bool
-    requires { 0 < piece }
-{
-    let (picture, file, answer, put) = run;
-    let Ok(bytes) = file.as_bytes().to_vec(alloc) else {
-        return false;
-    };
-    let mut input = PieceInlet::new(bytes, piece, None);
-    let mut output = PieceOutlet::new(alloc, piece, None);
-    let done = run_draw(alloc, picture, &mut input, &mut output);
-    done == answer && output.bytes() == put.as_bytes()
-}
-
-/// Whether a take of this number that fails is answered unreadable, with nothing put.
-fn stops_unread(alloc: Global, picture: Picture, take: u64) -> bool {
-    let Ok(bytes) = GLIDER.as_bytes().to_vec(alloc) else {
-        return false;
-    };
-    let mut input = PieceInlet::new(bytes, 1, Some(take));
-    let mut output = PieceOutlet::new(alloc, 1, None);
-    let done = run_draw(alloc, picture, &mut input, &mut output);
-    done == Err(Stop::Unreadable) && output.bytes().is_empty()
-}
-
-/// Whether a put of this number that fails is answered unwritable, with what was put before it.
-fn stops_unwritten(alloc: Global, picture: Picture, put: u64, front: &str) -> bool {
-    let Ok(bytes) = GLIDER.as_bytes().to_vec(alloc) else {
-        return false;
-    };
-    let mut input = PieceInlet::new(bytes, 1, None);
-    let mut output = PieceOutlet::new(alloc, 1, Some(put));
-    let done = run_draw(alloc, picture, &mut input, &mut output);
-    done == Err(Stop::Unwritable) && output.bytes() == front.as_bytes()
+/// Draws the file that comes.
+fn drawn(
+    alloc: Global,
+    picture: Picture,
+    input: &mut PieceInlet,
+    output: &mut PieceOutlet,
+) -> Result<(), Stop> {
+    run_draw(alloc, picture, input, output)
 }
 
 #[test]
-fn pictures_of_files(rt: HostRuntime) -> Result<(), Fail> {
+fn pictures_of_files(rt: HostRuntime) {
     laws_of_pictures();
-    for (at, run) in RUNS.iter().enumerate() {
-        assert!(rt; comes(rt.alloc(), *run, usize::MAX), "run {at}, whole");
-        assert!(rt; comes(rt.alloc(), *run, 1), "run {at}, byte by byte");
-    }
-    Ok(())
-}
-
-#[test]
-fn streams_that_fail(rt: HostRuntime) {
-    assert!(rt; stops_unread(rt.alloc(), Picture::Text, 1));
-    assert!(rt; stops_unread(rt.alloc(), Picture::Svg, 20));
-    assert!(rt; stops_unwritten(rt.alloc(), Picture::Text, 1, ""));
-    assert!(rt; stops_unwritten(rt.alloc(), Picture::Text, 5, " ▀"));
-    assert!(rt; stops_unwritten(rt.alloc(), Picture::Svg, 10, "<svg xmln"));
+    assert_eq!(rt; other_run(rt.alloc(), &RUNS, drawn), None);
 }

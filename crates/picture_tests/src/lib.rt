@@ -1,9 +1,9 @@
-//! Tests of pictures, of the job that draws a file, and of its words.
+//! Tests of pictures, of the job that draws a file, and of its arguments.
 #![tactic(auto)]
 
 #[cfg(test)]
-mod drawing;
+mod allocations;
 #[cfg(test)]
-mod growths;
+mod drawing;
 #[cfg(test)]
 mod words;

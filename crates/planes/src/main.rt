@@ -8,7 +8,7 @@ ghost use Rattle.std.specs.Prelude.{IsTrue};
 ghost use Rattle.std.specs.List.{All};
 ghost use Rattle.life_core.specs.Cell.{IsCellWithin};
 
-use life_core::{Cell, CellList, Fault, PLANE, PackedRows, Pattern, Plane, Rule};
+use life_core::{Bounds, Cell, CellList, Fault, PLANE, PackedRows, Pattern, Plane, Rule};
 use std::alloc::Global;
 use std::{env, io};
 
@@ -28,15 +28,6 @@ const PRIME: u128 = 18_446_744_073_709_551_557;
 /// How far outside its first box a set can get, and a bit more.
 const MARGIN: i64 = 72;
 
-/// A box of the plane.
-#[derive(Clone, Copy)]
-struct Field {
-    left: i64,
-    top: i64,
-    width: u64,
-    height: u64,
-}
-
 /// The element at an index, which is taken round; 1 if there is none.
 fn round(list: &[u64], index: u64) -> u64 {
     let len = list.len() as u64;
@@ -48,10 +39,10 @@ fn round(list: &[u64], index: u64) -> u64 {
 }
 
 /// The box of a set.
-fn field_of(set: u64) -> Field {
+fn field_of(set: u64) -> Bounds {
     let across = set.wrapping_mul(37) % 200;
     let down = set.wrapping_mul(53) % 200;
-    Field {
+    Bounds {
         left: across as i64 - 100,
         top: down as i64 - 100,
         width: round(&WIDTHS, set),
@@ -60,7 +51,7 @@ fn field_of(set: u64) -> Field {
 }
 
 /// A set that fills its box to one, two or three quarters, with two corners live; none outside the plane.
-fn set_of(alloc: Global, set: u64, field: Field) -> Result<Pattern, Fault> {
+fn set_of(alloc: Global, set: u64, field: Bounds) -> Result<Pattern, Fault> {
     let most = 1 + set / 170 % 3;
     let mut cells = Vec::new(alloc);
     let mut state = set;
@@ -103,7 +94,7 @@ fn doubled(number: u128, n: u64) -> u128 {
 }
 
 /// The place of a cell in the field with its margins, by rows.
-fn place_of(cell: Cell, field: Field) -> u64 {
+fn place_of(cell: Cell, field: Bounds) -> u64 {
     let y = cell.row.abs_diff(field.top.wrapping_sub(MARGIN));
     let x = cell.column.abs_diff(field.left.wrapping_sub(MARGIN));
     y.wrapping_mul(field.width.wrapping_add(144))
@@ -111,7 +102,7 @@ fn place_of(cell: Cell, field: Field) -> u64 {
 }
 
 /// The sum of 2 to the power of each live cell's place, by the prime.
-fn digest(cells: &[Cell], field: Field) -> u128 {
+fn digest(cells: &[Cell], field: Bounds) -> u128 {
     let mut sum = 0_u128;
     let mut last = 0_u64;
     let mut weight = 1_u128;
@@ -179,7 +170,7 @@ fn outcome(
     alloc: Global,
     rules: &Turns,
     start: &Pattern,
-    field: Field,
+    field: Bounds,
 ) -> Result<(u32, usize, u128), Fault> {
     let (different, last) = compared(alloc, rules, start)?;
     let cells = last.cells().list(alloc)?;

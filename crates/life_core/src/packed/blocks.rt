@@ -6,7 +6,7 @@ ghost use Rattle.life_core.specs.PackedBlocksState.{flat_next, AreSums, IsOutsid
 
 use crate::packed::lane_rule::LaneRule;
 use crate::packed::lanes::{carry, lanes_at, moved_down, moved_up, odd};
-use crate::packed::row_kernel::step_words;
+use crate::packed::row_kernel::put_lanes;
 use std::simd::prelude::*;
 
 /// Two words of a row, and at each place how many of the two beside it are live, and of all three:
@@ -55,8 +55,7 @@ fn block_row<R: LaneRule<2>>(
     ensures rest { (j : ℕ) → (j < k) ⊎ (k + 2 ≤ j) → slice_index_or out.new j 0 ≡ slice_index_or out.old j 0 }
     ensures row { (r : RuleSets) (rows : List ℕ) (words : ℕ) → R.is_of rule.now r → words + 1 ≤ k → AreSums rows (k - words) above → AreSums rows k here → AreSums rows (k + words) below → IsRowStep 2 (flat_next r rows (64 * words)) k out.old out.new result }
 {
-    step_words(
-        rule,
+    let new = rule.next_lanes(
         here.here,
         above.all,
         above.all2,
@@ -64,9 +63,8 @@ fn block_row<R: LaneRule<2>>(
         here.sides2,
         below.all,
         below.all2,
-        out,
-        k,
-    )
+    );
+    put_lanes(out, k, new)
 }
 
 /// The places of a block that changed: anywhere in its two columns of words, in its first row and in

@@ -3,7 +3,7 @@ ghost use Rattle.std.specs.Prelude.{◌≡◌};
 ghost use Rattle.life_core.specs.Rule.{RuleSets, life};
 ghost use Rattle.life_core.specs.PackedLanesState.{AreNextLanes};
 
-use crate::packed::lanes::life_lanes;
+use crate::packed::lanes::{carry, odd};
 use std::simd::prelude::*;
 
 /// A form of a rule, of whatever number of words that evolve at once.
@@ -51,6 +51,10 @@ impl<const N: usize> LaneRule<N> for ConwayLife {
     ) -> Simd<u64, N>
         ensures { (r : RuleSets) → r ≡ life → AreNextLanes r N here.entry above.entry above2.entry sides.entry sides2.entry below.entry below2.entry result }
     {
-        life_lanes(here, above, above2, sides, sides2, below, below2)
+        let ones = odd(above, sides, below);
+        let more = carry(above, sides, below);
+        let some = (above2 ^ sides2) ^ (below2 ^ more);
+        let two = (above2 & sides2) | (below2 & more);
+        (some ^ (some & two)) & (ones | here)
     }
 }

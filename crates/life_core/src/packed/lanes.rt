@@ -1,8 +1,6 @@
 //! Several words of a row at a time.
 ghost use Rattle.std.specs.Prelude.{◌≡◌, ℕ, ◌+◌, ◌-◌, ◌*◌, ◌/◌, ◌%◌, ◌≤◌, ◌<◌, length, slice_index_or};
 ghost use Rattle.life_core.specs.PackedRow.{place};
-ghost use Rattle.life_core.specs.Rule.{life};
-ghost use Rattle.life_core.specs.PackedLanesState.{AreNextLanes};
 
 use std::simd::prelude::*;
 
@@ -52,25 +50,4 @@ pub(crate) fn moved_down<const N: usize>(words: &[u64], k: usize) -> Simd<u64, N
     ensures { (p : ℕ) → p < 64 * N → place result p ≡ place words.now (64 * k + p + 1) }
 {
     (lanes_at(words, k) >> 1) | (lanes_at(words, k + 1) << 63)
-}
-
-/// The places that are live next under Conway's Life, by the digits of the sums of the row above, of
-/// the two beside each place, and of the row below.
-#[inline(always)]
-pub(crate) fn life_lanes<const N: usize>(
-    here: Simd<u64, N>,
-    above: Simd<u64, N>,
-    above2: Simd<u64, N>,
-    sides: Simd<u64, N>,
-    sides2: Simd<u64, N>,
-    below: Simd<u64, N>,
-    below2: Simd<u64, N>,
-) -> Simd<u64, N>
-    ensures { AreNextLanes life N here.entry above.entry above2.entry sides.entry sides2.entry below.entry below2.entry result }
-{
-    let ones = odd(above, sides, below);
-    let more = carry(above, sides, below);
-    let some = (above2 ^ sides2) ^ (below2 ^ more);
-    let two = (above2 & sides2) | (below2 & more);
-    (some ^ (some & two)) & (ones | here)
 }

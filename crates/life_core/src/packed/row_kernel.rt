@@ -1,6 +1,5 @@
 //! Words of a row, one generation later, by sums that each of three rows has once: what `row_step` and the step of blocks are made of.
 ghost use Rattle.std.specs.Prelude.{◌≡◌, ◌⊎◌, ℕ, ◌+◌, ◌-◌, ◌*◌, ◌≤◌, ◌<◌, List, length, nat_eq, slice_index_or};
-ghost use Rattle.std.specs.Simd.Lanes.{put_chunk};
 ghost use Rattle.life_core.specs.PackedRow.{place, one_if};
 ghost use Rattle.life_core.specs.Rule.{RuleSets, lives_at};
 ghost use Rattle.life_core.specs.PackedLanesState.{sum_at};
@@ -10,37 +9,18 @@ use crate::packed::lane_rule::LaneRule;
 use crate::packed::lanes::{carry, lanes_at, odd};
 use std::simd::prelude::*;
 
-/// Writes the next generation of the `N` words from `k` on: by the cells, and at each cell the digits of how many are live of three above,
-/// of the two beside it, and of three below. The result has a bit for each cell that changed.
+/// Writes the `N` words from `k` on. The result has a bit for each cell that changed.
 #[inline(always)]
-pub(crate) fn step_words<const N: usize, R: LaneRule<N>>(
-    rule: &R,
-    here: Simd<u64, N>,
-    above: Simd<u64, N>,
-    above2: Simd<u64, N>,
-    sides: Simd<u64, N>,
-    sides2: Simd<u64, N>,
-    below: Simd<u64, N>,
-    below2: Simd<u64, N>,
+pub(crate) fn put_lanes<const N: usize>(
     out: &mut [u64],
     k: usize,
+    new: Simd<u64, N>,
 ) -> Simd<u64, N>
     requires { k + N ≤ length out.old }
     ensures long { length out.new ≡ length out.old }
     ensures rest { (j : ℕ) → (j < k) ⊎ (k + N ≤ j) → slice_index_or out.new j 0 ≡ slice_index_or out.old j 0 }
-    ensures next { (r : RuleSets) (p : ℕ) → R.is_of rule.now r → p < 64 * N → sum_at above.entry above2.entry sides.entry sides2.entry below.entry below2.entry p < 9 → place out.new (64 * k + p) ≡ one_if (lives_at r (nat_eq (place here.entry p) 1) (sum_at above.entry above2.entry sides.entry sides2.entry below.entry below2.entry p)) }
+    ensures put { (p : ℕ) → p < 64 * N → place out.new (64 * k + p) ≡ place new.entry p }
     ensures same { (p : ℕ) → p < 64 * N → place result p ≡ 0 → place out.new (64 * k + p) ≡ place out.old (64 * k + p) }
-{
-    let new = rule.next_lanes(here, above, above2, sides, sides2, below, below2);
-    put_lanes(out, k, new)
-}
-
-/// Writes `N` words. The result has a bit for each cell that changed.
-#[inline(always)]
-fn put_lanes<const N: usize>(out: &mut [u64], k: usize, new: Simd<u64, N>) -> Simd<u64, N>
-    requires { k + N ≤ length out.old }
-    ensures put { out.new ≡ put_chunk k out.old new.entry }
-    ensures changed { (p : ℕ) → p < 64 * N → place result p ≡ 0 → place new.entry p ≡ place out.old (64 * k + p) }
 {
     let old = lanes_at(out, k);
     new.copy_to_slice(&mut out[k..]);
@@ -89,8 +69,7 @@ pub(crate) fn wide_row<R: LaneRule<4>>(
     ensures next { (r : RuleSets) (p : ℕ) → R.is_of rule.now r → p < 256 → sum_at above.all above.all2 here.sides here.sides2 below.all below.all2 p < 9 → place out.new (64 * k + p) ≡ one_if (lives_at r (nat_eq (place here.here p) 1) (sum_at above.all above.all2 here.sides here.sides2 below.all below.all2 p)) }
     ensures row { (r : RuleSets) (rows : List ℕ) (words : ℕ) → R.is_of rule.now r → words + 1 ≤ k → AreWideSums rows (k - words) above → AreWideSums rows k here → AreWideSums rows (k + words) below → IsRowStep 4 (flat_next r rows (64 * words)) k out.old out.new result }
 {
-    step_words(
-        rule,
+    let new = rule.next_lanes(
         here.here,
         above.all,
         above.all2,
@@ -98,7 +77,6 @@ pub(crate) fn wide_row<R: LaneRule<4>>(
         here.sides2,
         below.all,
         below.all2,
-        out,
-        k,
-    )
+    );
+    put_lanes(out, k, new)
 }

@@ -10,7 +10,7 @@ ghost use Rattle.life_core.specs.Rule.{RuleSets};
 use crate::packed::lane_rule::LaneRule;
 use crate::packed::lanes::{carry, lanes_at, odd};
 use crate::packed::row::{from_left, from_right};
-use crate::packed::row_kernel::{WideSums, step_words, sums_of, wide_row};
+use crate::packed::row_kernel::{WideSums, put_lanes, sums_of, wide_row};
 use std::simd::prelude::*;
 
 /// Puts the whole groups of four words, of which the first begins the row.
@@ -89,18 +89,8 @@ fn step_word<R: LaneRule<1>>(
     let right = lane(from_right(here, j));
     let (up, up2) = word_sums(above, j);
     let (down, down2) = word_sums(below, j);
-    let _changed = step_words(
-        rule,
-        middle,
-        up,
-        up2,
-        left ^ right,
-        left & right,
-        down,
-        down2,
-        out,
-        j,
-    );
+    let new = rule.next_lanes(middle, up, up2, left ^ right, left & right, down, down2);
+    let _changed = put_lanes(out, j, new);
 }
 
 /// At each cell of the word at `j`, the digits of how many are live of it and its two neighbours in the row.

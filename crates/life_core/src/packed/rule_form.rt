@@ -145,36 +145,6 @@ fn formed<const N: usize>(
     toggled(toggled(zero, twos, two), fours, toggled(four, twos, six))
 }
 
-/// The places that are live next under the rule of the form, by the digits of the sums of the row
-/// above, of the two beside each place, and of the row below.
-#[inline(always)]
-fn rule_lanes<const N: usize>(
-    rule: &RuleForm,
-    here: Simd<u64, N>,
-    above: Simd<u64, N>,
-    above2: Simd<u64, N>,
-    sides: Simd<u64, N>,
-    sides2: Simd<u64, N>,
-    below: Simd<u64, N>,
-    below2: Simd<u64, N>,
-) -> Simd<u64, N>
-    ensures { (r : RuleSets) → IsForm r rule.now → AreNextLanes r N here.entry above.entry above2.entry sides.entry sides2.entry below.entry below2.entry result }
-{
-    let ones = odd(above, sides, below);
-    let more = carry(above, sides, below);
-    let some = odd(above2, sides2, below2);
-    let high = carry(above2, sides2, below2);
-    let twos = one_of(some, more);
-    let rest = both(some, more);
-    let fours = one_of(high, rest);
-    let eights = both(high, rest);
-    toggled(
-        formed(rule, here, ones, twos, fours),
-        eights,
-        part(rule, here, 8),
-    )
-}
-
 impl Evolves for RuleForm {
     ghost is_of = { λ m r. IsForm r m };
 }
@@ -193,6 +163,18 @@ impl<const N: usize> LaneRule<N> for RuleForm {
     ) -> Simd<u64, N>
         ensures { (r : RuleSets) → IsForm r self.now → AreNextLanes r N here.entry above.entry above2.entry sides.entry sides2.entry below.entry below2.entry result }
     {
-        rule_lanes(self, here, above, above2, sides, sides2, below, below2)
+        let ones = odd(above, sides, below);
+        let more = carry(above, sides, below);
+        let some = odd(above2, sides2, below2);
+        let high = carry(above2, sides2, below2);
+        let twos = one_of(some, more);
+        let rest = both(some, more);
+        let fours = one_of(high, rest);
+        let eights = both(high, rest);
+        toggled(
+            formed(self, here, ones, twos, fours),
+            eights,
+            part(self, here, 8),
+        )
     }
 }

@@ -58,7 +58,7 @@ loop-cluster-smaller g c = omega (arith, c.loop-cluster-test.true)
 
 pub loop-cluster-preserved : goal.loop-cluster-preserved
 loop-cluster-preserved g c =
-    let code : Cells → Option (List ℕ) = λ P. code_of c.args.rule.now P c.args.limit in
+    let code : Cells → Option (List ℕ) = λ P. code_of c.args.search.now.rule P c.args.search.now.limit in
     let before = c.loop-cluster.invariant in
     let i = c.loop-cluster.cluster-index in
     let low = c.loop-cluster-test.true in
@@ -88,7 +88,7 @@ loop-cluster-preserved g c =
 
 pub returns : goal.returns
 returns g c =
-    let code : Cells → Option (List ℕ) = λ P. code_of c.args.rule.now P c.args.limit in
+    let code : Cells → Option (List ℕ) = λ P. code_of c.args.search.now.rule P c.args.search.now.limit in
     let whole = take_all c.loop-cluster.cluster-index c.args.clusters.now c.loop-cluster-test.false in
     record {
       rows = c.of.ensures ∙ c.loop-cluster.invariant.rows ∙ ap (λ Ps. occurrences_of (filter_map code Ps)) whole;

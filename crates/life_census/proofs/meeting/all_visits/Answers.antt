@@ -13,23 +13,23 @@ use Rattle.life_census.proofs.meeting.all_visits.Goals as goal
 pub returns-in_default-clause-stay : goal.returns-in_default-clause-stay
 returns-in_default-clause-stay g c all =
     let P = c.index-clusters-number.result in
-    goes_at c.args.rule.now c.args.limit c.shape_index.new.shapes.items P c.in_ok-i.i c.in_ok-i.move_by c.in_ok-i.ensures.index c.index.result.now c.index.ensures c.in_ok-i.ensures.survey c.in_default.is
-    (subst (Stays c.args.rule.now c.args.limit) (sym c.index-clusters-number.is) (all c.loop-number.number P c.loop-number-test.true))
+    goes_at c.args.search.now.rule c.args.search.now.limit c.shape_index.new.shapes.items P c.in_ok-i.i c.in_ok-i.move_by c.in_ok-i.ensures.index c.index.result.now c.index.ensures c.in_ok-i.ensures.survey c.in_default.is
+    (subst (Stays c.args.search.now.rule c.args.search.now.limit) (sym c.index-clusters-number.is) (all c.loop-number.number P c.loop-number-test.true))
 
 pub visit_cells-requires : goal.visit_cells-requires
 visit_cells-requires g c =
-    let r = c.args.rule.now in
+    let r = c.args.search.now.rule in
     let P = c.index-clusters-number.result in
-    let is = moved_shape r c.args.limit c.shape_index.new.shapes.items P c.in_ok-i.i c.in_ok-i.move_by c.in_ok-i.ensures.index c.index.result.now c.index.ensures c.in_ok-i.ensures.survey in
-    let are = phases_at r c.args.limit c.shape_index.new.shapes.items P c.in_ok-i.i c.in_ok-i.move_by c.in_ok-i.ensures.index c.index.result.now c.index.ensures c.in_ok-i.ensures.survey c.in-Some.phases c.in-Some.is in
+    let is = moved_shape r c.args.search.now.limit c.shape_index.new.shapes.items P c.in_ok-i.i c.in_ok-i.move_by c.in_ok-i.ensures.index c.index.result.now c.index.ensures c.in_ok-i.ensures.survey in
+    let are = phases_at r c.args.search.now.limit c.shape_index.new.shapes.items P c.in_ok-i.i c.in_ok-i.move_by c.in_ok-i.ensures.index c.index.result.now c.index.ensures c.in_ok-i.ensures.survey c.in-Some.phases c.in-Some.is in
     let room = subst (IsWithin 400000000) (sym c.index-clusters-number.is) (c.requires.room c.loop-number.number P c.loop-number-test.true) in
     let few : are.0 ≤ PERIOD_LIMIT = omega (arith, are.1.few, c.requires.survey.few) in
     phases_inside r c.index.result.now.cluster P c.in_ok-i.move_by are.0 c.deref.result.now is room few (c.deref.ensures.value ∙ are.2)
 
 pub loop-number-preserved : goal.loop-number-preserved
 loop-number-preserved g c =
-    let r = c.args.rule.now in
-    let limit = c.args.limit in
+    let r = c.args.search.now.rule in
+    let limit = c.args.search.now.limit in
     let Ps = c.args.clusters.now in
     let n = c.loop-number.number in
     let P = c.index-clusters-number.result in
@@ -51,9 +51,9 @@ loop-number-preserved g c =
     }
 
 pub returns-clause-stay : goal.returns-clause-stay
-returns-clause-stay g c = All-same (Stays c.args.rule.now c.args.limit) _ _ (sym (take_all c.loop-number.number c.args.clusters.now c.loop-number-test.false)) c.loop-number.invariant.stay
+returns-clause-stay g c = All-same (Stays c.args.search.now.rule c.args.search.now.limit) _ _ (sym (take_all c.loop-number.number c.args.clusters.now c.loop-number-test.false)) c.loop-number.invariant.stay
 
 pub returns-clause-visits : goal.returns-clause-visits
 returns-clause-visits g c =
     let end : c.loop-number.number ≡ length c.args.clusters.now = omega (arith, c.loop-number-test.false, c.loop-number.auto.number-end) in
-    subst (λ n. AreVisits c.args.rule.now c.args.clusters.now n c.loop-number.visits.items) end c.loop-number.invariant.visits
+    subst (λ n. AreVisits c.args.search.now.rule c.args.clusters.now n c.loop-number.visits.items) end c.loop-number.invariant.visits

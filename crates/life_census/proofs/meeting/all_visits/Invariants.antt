@@ -7,8 +7,8 @@ use Rattle.life_census.proofs.meeting.all_visits.Given as goal
 
 abbrev pub invariant-loop-number : goal.invariant-loop-number
 invariant-loop-number g l = record {
-  survey : IsSurvey l.rule l.limit true l.shapes.items;
-  stay : All (Stays l.rule l.limit) (take l.number l.clusters);
-  visits : AreVisits l.rule l.clusters l.number l.visits.items;
+  survey : IsSurvey l.search.rule l.search.limit true l.shapes.items;
+  stay : All (Stays l.search.rule l.search.limit) (take l.number l.clusters);
+  visits : AreVisits l.search.rule l.clusters l.number l.visits.items;
   inside : All IsVisitInPlane l.visits.items;
 }

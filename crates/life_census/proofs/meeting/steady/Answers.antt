@@ -21,8 +21,8 @@ pub never_meet-requires-clause-room : goal.never_meet-requires-clause-room
 never_meet-requires-clause-room g c = All-same (IsWithin 400000000) _ _ c.deref.ensures.value (parts_within 400000000 c.args.pattern.now _ c.in_ok-clusters.ensures c.requires.room)
 
 pub returns-clause-steady : goal.returns-clause-steady
-returns-clause-steady g c = IfOk-weaker c.never_meet.result _ _ (λ b answer. answer c.args.pattern.now (sym (c.deref.ensures.value ∙ clusters_listed _ _ c.in_ok-clusters.ensures))) c.never_meet.ensures.answer
+returns-clause-steady g c = IfOk-weaker c.never_meet.result _ _ (λ b answer. answer c.args.pattern.now (sym (c.deref.ensures.value ∙ clusters_listed _ _ c.in_ok-clusters.ensures))) (rw c.new-search.ensures.rule at (rw c.new-search.ensures.limit at c.never_meet.ensures.answer))
 
 pub returns-clause-computed : goal.returns-clause-computed
 returns-clause-computed g c =
-    IfOk-weaker c.never_meet.result _ _ (λ b answer. steady_computed c.args.rule.now c.args.pattern.now c.args.limit b (answer c.args.pattern.now (sym (c.deref.ensures.value ∙ clusters_listed _ _ c.in_ok-clusters.ensures)))) c.never_meet.ensures.answer
+    IfOk-weaker c.never_meet.result _ _ (λ b answer. steady_computed c.args.rule.now c.args.pattern.now c.args.limit b (answer c.args.pattern.now (sym (c.deref.ensures.value ∙ clusters_listed _ _ c.in_ok-clusters.ensures)))) (rw c.new-search.ensures.rule at (rw c.new-search.ensures.limit at c.never_meet.ensures.answer))

@@ -7,7 +7,7 @@ use Rattle.life_census.proofs.names.named.Goals as goal
 
 pub loop-cluster-preserved : goal.loop-cluster-preserved
 loop-cluster-preserved g c =
-    let code : Cells → Option (List ℕ) = λ P. code_of c.args.rule.now P c.args.limit in
+    let code : Cells → Option (List ℕ) = λ P. code_of c.args.search.now.rule P c.args.search.now.limit in
     let Ps = c.args.clusters.now in
     let i = c.loop-cluster.cluster-index in
     let item = c.cluster-item.result in
@@ -23,5 +23,5 @@ loop-cluster-preserved g c =
 
 pub returns-clause-codes : goal.returns-clause-codes
 returns-clause-codes g c =
-    let code : Cells → Option (List ℕ) = λ P. code_of c.args.rule.now P c.args.limit in
+    let code : Cells → Option (List ℕ) = λ P. code_of c.args.search.now.rule P c.args.search.now.limit in
     c.loop-cluster.invariant.codes ∙ ap (map code) (take_all c.loop-cluster.cluster-index c.args.clusters.now c.loop-cluster-test.false)

@@ -5,6 +5,6 @@ use Rattle.life_census.proofs.names.named.Given as goal
 
 abbrev pub invariant-loop-cluster : goal.invariant-loop-cluster
 invariant-loop-cluster g l = record {
-  survey : IsSurvey l.rule l.limit false l.shapes.items;
-  codes : l.codes.items ≡ map (λ P. code_of l.rule P l.limit) (take l.cluster-index l.clusters);
+  survey : IsSurvey l.search.rule l.search.limit false l.shapes.items;
+  codes : l.codes.items ≡ map (λ P. code_of l.search.rule P l.search.limit) (take l.cluster-index l.clusters);
 }

@@ -1,7 +1,7 @@
 use Rattle.std.proofs.Common.{sym, ap, ◌∙◌, arith}
 use Rattle.std.specs.Prelude.{nat_eq}
 use lib.Pointwise.{pointwise}
-use Rattle.life_code.specs.declared.open.CodeFault.TheVariants.{BadText, NotCanonical, NotWithinLimit}
+use Rattle.life_code.specs.declared.fault.CodeFault.TheVariants.{BadText, NotCanonical, NotWithinLimit}
 use Rattle.life_code.proofs.ObjectLemmas.{texts_decide}
 use Rattle.life_code.proofs.OpenLemmas.{spelled_room}
 use Rattle.life_code.proofs.OpenLaws.{refused_is_no_code, refused_without_code, refused_with_other}

@@ -2,7 +2,6 @@ use Rattle.std.proofs.Common.{◌≡◌, ◌∙◌, Some, sym}
 use Rattle.life_store.specs.Kept.{numbered, census_by}
 use Rattle.life_store.proofs.LastingLemmas.{goes_last, goes_more}
 use Rattle.life_desk.proofs.Crashes.{token_new}
-use Rattle.life_desk.proofs.Looks.{kept_by}
 use Rattle.life_desk.proofs.OnceCensus.{censuses}
 use Rattle.life_desk.proofs.desk.keep_census.Goals as goal
 
@@ -18,5 +17,5 @@ returns-in-None-clause-transition g c =
     let looked = c.find_census.ensures in
     goes_last _ _ _
     (λ clean db. token_new c.args.archive.now c.find_census.new.archive looked.transition.was_healthy looked.same db censuses (λ A. numbered A.deposits census.deposit ≡ Some c.args.deposit.now) census (λ A. census_by census.member census.token A.censuses)
-    (λ A healthy m. sym c.in-None.is ∙ kept_by _ _ _ census.member census.token (λ m t. census_by m t A.censuses) c.as_bytes.ensures c.as_bytes-2.ensures (c.in_ok-id.ensures.value A healthy m)))
+    (λ A healthy m. sym c.in-None.is ∙ c.in_ok-id.ensures.value A healthy m))
     looked.transition c.count_new.ensures.transition

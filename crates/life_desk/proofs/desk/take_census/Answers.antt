@@ -3,12 +3,12 @@ use Rattle.life_desk.proofs.Crashes.{deposit_there}
 use Rattle.life_desk.proofs.desk.take_census.Goals as goal
 
 pub returns-in_err-deposit_of-clause-transition : goal.returns-in_err-deposit_of-clause-transition
-returns-in_err-deposit_of-clause-transition g c = goes_more _ _ c.deposit_of.ensures.transition
+returns-in_err-deposit_of-clause-transition g c = goes_more _ _ c.deposit_of.ensures.looks.transition
 
 pub returns-in-None-clause-transition : goal.returns-in-None-clause-transition
-returns-in-None-clause-transition g c = goes_more _ _ c.deposit_of.ensures.transition
+returns-in-None-clause-transition g c = goes_more _ _ c.deposit_of.ensures.looks.transition
 
 pub returns-in-Some-clause-transition : goal.returns-in-Some-clause-transition
 returns-in-Some-clause-transition g c =
-    let looked = c.deposit_of.ensures in
-    goes_last _ _ _ (λ clean db. deposit_there c.args.archive.now c.deposit_of.new.archive looked.transition.was_healthy looked.same db c.args.census.now c.in-Some.deposit _ c.in_ok-deposit_of.ensures.value c.in-Some.is) looked.transition c.keep_census.ensures.transition
+    let looked = c.deposit_of.ensures.looks in
+    goes_last _ _ _ (λ clean db. deposit_there c.args.archive.now c.deposit_of.new.archive looked.transition.was_healthy looked.same db c.args.census.now c.in-Some.deposit _ c.in_ok-deposit_of.ensures.looks.value c.in-Some.is) looked.transition c.keep_census.ensures.transition

@@ -1,9 +1,6 @@
-use Rattle.life_desk.proofs.Representing.{represents_same, holds_of, numbered_tallied}
+use Rattle.life_desk.proofs.Representing.{looks_as, numbered_tallied}
 use Rattle.life_desk.specs.Represents.{kept_of}
 use Rattle.life_desk.proofs.looking.census_of.Goals as goal
 
-pub returns-clause-same : goal.returns-clause-same
-returns-clause-same g c = λ A healthy m. represents_same _ _ A c.census_of.ensures.transition c.census_of.ensures.same healthy m
-
-pub returns-clause-value : goal.returns-clause-value
-returns-clause-value g c = λ A healthy m. rw (← numbered_tallied A.deposits A.censuses c.args.id) (c.census_of.ensures.value (kept_of A) healthy (holds_of _ A m))
+pub returns : goal.returns
+returns g c = looks_as _ _ _ c.census_of.ensures.transition c.census_of.ensures.healthy c.census_of.ensures.same (λ A up held. rw (← numbered_tallied A.deposits A.censuses c.args.id) (c.census_of.ensures.value (kept_of A) up held))

@@ -1,9 +1,6 @@
-use Rattle.life_desk.proofs.Representing.{represents_same, holds_of}
+use Rattle.life_desk.proofs.Representing.{looks_as}
 use Rattle.life_desk.specs.Represents.{kept_of}
 use Rattle.life_desk.proofs.looking.find_file.Goals as goal
 
-pub returns-clause-same : goal.returns-clause-same
-returns-clause-same g c = λ A healthy m. represents_same _ _ A c.find_file.ensures.transition c.find_file.ensures.same healthy m
-
-pub returns-clause-value : goal.returns-clause-value
-returns-clause-value g c = λ A healthy m. c.find_file.ensures.value (kept_of A) healthy (holds_of _ A m)
+pub returns : goal.returns
+returns g c = looks_as _ _ _ c.find_file.ensures.transition c.find_file.ensures.healthy c.find_file.ensures.same (λ A up held. rw (c.as_bytes.ensures, c.as_bytes-2.ensures) at (c.find_file.ensures.value (kept_of A) up held))

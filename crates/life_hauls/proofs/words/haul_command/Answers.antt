@@ -9,4 +9,4 @@ returns c =
     let fifth = c.with_arg-command-5.ensures.app _ _ fourth c.limit_arg.ensures.rule in
     let sixth = c.with_arg-command-6.ensures.app _ _ fifth c.rule_arg.ensures.rule in
     let seventh = c.with_arg-command-7.ensures.app _ _ sixth c.symmetry_arg.ensures.rule in
-    c.with_command.ensures _ _ seventh c.soup_command.ensures.app
+    c.with_command.ensures _ _ seventh c.soup_command.ensures.0

@@ -1,4 +1,4 @@
-use Rattle.std.proofs.Common.{◌≡◌, ◌++◌, List, arith, ◌∙◌, ap, sym, subst}
+use Rattle.std.proofs.Common.{◌≡◌, ◌+◌, ◌++◌, List, arith, ◌∙◌, ap, sym, subst}
 use Rattle.std.specs.FinSet as set
 use Rattle.std.proofs.lemmas.Result.{IfOk-weaker}
 use Rattle.std.proofs.lemmas.List.Elements.{All-append, All-same}
@@ -13,7 +13,7 @@ use Rattle.life_pictures.proofs.frames.trail.Goals as goal
 pub generation-requires : goal.generation-requires
 generation-requires g c = record {
   few = omega arith;
-  room = in_plane c.loop-i.now (roomy c.args.rule.now c.args.start.now c.loop-i.now c.loop-i._i c.loop-i.invariant.now (omega (arith, c.loop-i-test.true, c.requires.few)) c.requires.within);
+  room = in_plane c.loop-i.now (roomy c.args.rule.now c.args.start.now c.loop-i.now c.loop-i._i c.loop-i.invariant.now (omega (arith, c.loop-i-test.true, c.requires.0)) c.requires.1);
 }
 
 pub loop-i-preserved : goal.loop-i-preserved
@@ -24,14 +24,14 @@ loop-i-preserved g c =
       within =
           All-same (IsCellWithin 4096) _ _ listed
           (All-append (IsCellWithin 4096) _ _ c.loop-i.invariant.within (near_cells c.loop-i.now _ c.cells.ensures.cells
-          (roomy c.args.rule.now c.args.start.now c.loop-i.now c.loop-i._i c.loop-i.invariant.now (omega (arith, c.loop-i-test.true, c.requires.few)) c.requires.within)));
+          (roomy c.args.rule.now c.args.start.now c.loop-i.now c.loop-i._i c.loop-i.invariant.now (omega (arith, c.loop-i-test.true, c.requires.0)) c.requires.1)));
       now = next_one c.args.rule.now c.args.start.now c.loop-i.now c.in_ok-now-2.now c.loop-i._i c.loop-i.invariant.now c.in_ok-now-2.ensures.value;
     }
 
 pub returns-clause-trail : goal.returns-clause-trail
 unfolding trail
 returns-clause-trail g c =
-    let end : c.loop-i._i ≡ c.args.count = omega (arith, c.loop-i-test.false, c.loop-i.auto._i-end) in
+    let end : c.loop-i._i ≡ c.args.more + 1 = omega (arith, c.loop-i-test.false, c.loop-i.auto._i-end) in
     IfOk-weaker c.from_list.result _ _ (λ X is. is ∙ ap (λ cs. set.from_list {R = cell_cmp} cs) (c.loop-i.invariant.cells ∙ ap (trail_cells c.args.rule.now c.args.start.now) end)) c.from_list.ensures
 
 pub returns-clause-within : goal.returns-clause-within

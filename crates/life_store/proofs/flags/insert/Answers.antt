@@ -3,15 +3,14 @@ use Rattle.sqlite_value.specs.declared.value.Value.TheVariants.{Int}
 use Rattle.sqlite_value.specs.Value.{owned}
 use Rattle.sqlite.specs.State.{ExecutesInside}
 use Rattle.sqlite.specs.Held.{state}
-use Rattle.life_store.specs.CensusesState.{given_flag}
-use Rattle.life_store.specs.StatementsState.{add_flag_text}
+use Rattle.life_store.proofs.Statements.{add_flag_text}
 use Rattle.life_store.specs.Stored.{flag_number}
-use Rattle.life_store.proofs.CensusLemmas.{adds_flag, sound_after}
+use Rattle.life_store.proofs.CensusLemmas.{given_flag, adds_flag, sound_after}
 use Rattle.life_store.proofs.StatementLemmas.{withstands_none, withstands_by}
 use Rattle.life_store.proofs.flags.insert.Goals as goal
 
 pub returns-clause-added : goal.returns-clause-added
-returns-clause-added g c clean begun p t stands same is =
+returns-clause-added g c p t same is clean begun stands =
     let old = state g.S.Store c.args.tx.now.conn.now in
     let new = state g.S.Store c.execute.new.self.conn.now in
     let count = c.in_ok-execute.field-0 in

@@ -4,7 +4,7 @@ use Rattle.sqlite_value.specs.Value.{owned}
 use Rattle.sqlite.specs.Held.{state}
 use Rattle.life_store.specs.ReadingState.{ShowsFlag}
 use Rattle.life_store.specs.Kept.{numbered}
-use Rattle.life_store.specs.StatementsState.{flag_text}
+use Rattle.life_store.proofs.Statements.{flag_text}
 use Rattle.life_store.proofs.Texts.{flag_is, flag_asks}
 use Rattle.life_store.proofs.KeepLemmas.{tells_held_at}
 use Rattle.life_store.proofs.StatementLemmas.{looks_by}
@@ -19,5 +19,5 @@ returns g c =
     let id : owned c.whole.result ≡ Int c.args.id = search rules in
     record {
       looks = looks_by g.S.Store c.args.conn.now c.query.new.conn flag_text _ flag_is.plain flag_asks c.query.result it.clean it.shown it.refused it.withstands;
-      tells = λ n is. tells_held_at flag_text c.args.id n is old new (λ k rows. ShowsFlag (option_map (λ t. t.steady) (numbered k.censuses n)) rows) (λ k rows holds. shows_flag old new k rows holds n) c.query.result (λ clean. rw id at (it.shown clean));
+      tells = tells_held_at flag_text c.args.id old new (λ n k rows. ShowsFlag (option_map (λ t. t.steady) (numbered k.censuses n)) rows) (λ n k rows holds. shows_flag old new k rows holds n) c.query.result (λ clean. rw id at (it.shown clean));
     }

@@ -10,7 +10,7 @@ loop-i-init g c = (refl, omega arith, λ clean inside. begins_migrated (state g.
 
 pub loop-i-preserved : goal.loop-i-preserved
 loop-i-preserved g c = (
-  c.migrate_one.ensures.same_reference ∙ c.loop-i.invariant.0,
+  c.migrate_one.ensures.stays.same_reference ∙ c.loop-i.invariant.0,
   omega (arith, c.migrate_one.ensures.stays.clean, c.loop-i.invariant.1),
   λ clean inside.
       let before = c.loop-i.invariant.2 (omega (arith, c.migrate_one.ensures.stays.clean, clean)) inside in
@@ -26,6 +26,7 @@ returns-clause-migrated g c clean inside p filed stands none is =
 
 pub returns-in_err-migrate_one-clause-stays : goal.returns-in_err-migrate_one-clause-stays
 returns-in_err-migrate_one-clause-stays g c = record {
+  same_reference = c.migrate_one.ensures.stays.same_reference ∙ c.loop-i.invariant.0;
   inside = search rules;
   kept = λ clean inside.
       let before = c.loop-i.invariant.2 (omega (arith, c.migrate_one.ensures.stays.clean, clean)) inside in
@@ -34,4 +35,4 @@ returns-in_err-migrate_one-clause-stays g c = record {
 }
 
 pub returns-clause-stays : goal.returns-clause-stays
-returns-clause-stays g c = record { inside = λ clean inside. (c.loop-i.invariant.2 clean inside).inside; kept = λ clean inside. (c.loop-i.invariant.2 clean inside).kept; clean = c.loop-i.invariant.1 }
+returns-clause-stays g c = record { same_reference = c.loop-i.invariant.0; inside = λ clean inside. (c.loop-i.invariant.2 clean inside).inside; kept = λ clean inside. (c.loop-i.invariant.2 clean inside).kept; clean = c.loop-i.invariant.1 }

@@ -1,5 +1,5 @@
-use Rattle.std.proofs.Common.{refl}
+use Rattle.std.proofs.Common.{refl, rules}
 use Rattle.life_store.proofs.opening.settled.Goals as goal
 
-pub returns-clause-settled : goal.returns-clause-settled
-returns-clause-settled g c = c.if-not-is_autocommit.ensures.settled refl
+pub returns : goal.returns
+returns g c = record { tables = search rules; live = search rules; settled = c.if-not-is_autocommit.ensures.settled refl }

@@ -2,7 +2,7 @@ use Rattle.std.proofs.Common.{◌≡◌, []}
 use Rattle.std.specs.Prelude.{◌↔◌}
 use Rattle.sqlite.specs.Held.{state}
 use Rattle.life_store.specs.OpeningState.{column_of}
-use Rattle.life_store.specs.StatementsState.{version_text}
+use Rattle.life_store.proofs.Statements.{version_text}
 use Rattle.life_store.proofs.KeepLemmas.{seen_same, told, open_when_shown}
 use Rattle.life_store.proofs.OpenLemmas.{version_plain, finds_own}
 use Rattle.life_store.proofs.opening.versions.Goals as goal

@@ -17,4 +17,4 @@ returns-clause-codes g c =
     let same : c.deref.result.now ≡ clusters_of X = c.deref.ensures.value ∙ clusters_listed _ _ c.in_ok-clusters.ensures in
     let terms : record { rule = c.self.inside.rule; limit = c.self.inside.limit } ≡ c.args.self.now = c.self.view_is in
     subst (λ (v : Naming). IfOk c.named.result (λ v'. v'.items ≡ map (λ P. code_of v.rule P v.limit) (clusters_of X))) terms
-    (subst (λ (Qs : List Cells). IfOk c.named.result (λ v'. v'.items ≡ map (λ P. code_of c.self.inside.rule P c.self.inside.limit) Qs)) same c.named.ensures.codes)
+    (subst (λ (Qs : List Cells). IfOk c.named.result (λ v'. v'.items ≡ map (λ P. code_of c.self.inside.rule P c.self.inside.limit) Qs)) same (rw c.new-search.ensures.rule at (rw c.new-search.ensures.limit at c.named.ensures.codes)))

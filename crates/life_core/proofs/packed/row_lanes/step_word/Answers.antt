@@ -25,5 +25,5 @@ returns-clause-next g c r i is lt =
     let up = c.word_sums.result in
     let down = c.word_sums-2.result in
     let count : sum_at up.0 up.1 sides sides2 down.0 down.1 i ≡ round_count c.args.above.now here c.args.below.now q = omega (arith, c.word_sums.ensures i lt, beside, c.word_sums-2.ensures i lt) in
-    c.step_words-changed.ensures.next r i is lt (omega (arith, count, round_few c.args.above.now here c.args.below.now q))
+    c.put_lanes-changed.ensures.put i lt ∙ c.next_lanes-new.ensures r is i lt (omega (arith, count, round_few c.args.above.now here c.args.below.now q))
     ∙ (λ t. one_if (lives_at r (nat_eq (h t) 1) (count t)))

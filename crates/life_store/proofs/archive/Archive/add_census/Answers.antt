@@ -2,10 +2,9 @@ use Rattle.std.proofs.Common.{◌≡◌, ◌+◌, rules}
 use Rattle.sqlite.specs.Held.{state}
 use Rattle.life_store.specs.Kept.{Tallied}
 use Rattle.life_store.specs.Crash.{CrashLeaves}
-use Rattle.life_store.specs.CensusesState.{HoldNewCensus}
 use Rattle.life_store.specs.Tables.{tables_of, StaysHealthy}
 use Rattle.life_store.proofs.CrashLemmas.{crash_last}
-use Rattle.life_store.proofs.CensusLemmas.{asked_first}
+use Rattle.life_store.proofs.CensusLemmas.{HoldNewCensus, asked_first}
 use Rattle.life_store.proofs.LastingLemmas.{lasts_then}
 use Rattle.life_store.proofs.archive.Archive.add_census.Goals as goal
 

@@ -1,10 +1,9 @@
 use Rattle.std.proofs.Common.{◌≡◌, ◌+◌, rules, pos}
 use Rattle.sqlite.specs.Held.{state}
 use Rattle.life_store.specs.Crash.{CrashLeaves}
-use Rattle.life_store.specs.DepositsState.{HoldNewDeposit}
 use Rattle.life_store.specs.Tables.{tables_of, StaysHealthy}
 use Rattle.life_store.proofs.CrashLemmas.{crash_last}
-use Rattle.life_store.proofs.AddLemmas.{asked_first}
+use Rattle.life_store.proofs.AddLemmas.{HoldNewDeposit, asked_first}
 use Rattle.life_store.proofs.LastingLemmas.{lasts_then}
 use Rattle.life_store.proofs.archive.Archive.add_deposit.Goals as goal
 

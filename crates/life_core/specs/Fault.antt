@@ -1,0 +1,10 @@
+-- What a fault or a refusal is called.
+use Rattle.std.specs.Prelude.{ℕ, List}
+
+-- its number and its name
+pub record Label : Type 0 where
+  pub number : ℕ
+  pub name : List ℕ
+
+abbrev pub label : ℕ → List ℕ → Label
+label number name = record { number = number; name = name }

@@ -1,0 +1,59 @@
+//! Why a message is refused before the archive is asked, and why serving a stream stops.
+ghost use Rattle.std.specs.Prelude.{◌≡◌};
+
+/// Why a message is refused before the archive is asked.
+#[derive(Clone, Copy, Debug, PartialEq, Eq)]
+pub enum MessageRefusal {
+    /// No route has the path.
+    NoSuchRoute = 12,
+    /// The route wants another method.
+    BadMethod = 13,
+    /// The bytes are no good message.
+    BadMessage = 14,
+}
+
+impl MessageRefusal {
+    ghost use Rattle.life_pages.specs.Fault.{label_of};
+
+    /// The refusal's number. Those below it are the archive's.
+    pub fn number(self) -> u8
+        ensures { result ≡ (label_of self).number }
+    {
+        self as u8
+    }
+
+    /// What the refusal is called, in small letters.
+    pub fn name(self) -> &'static str
+        ensures { result.now ≡ (label_of self).name }
+    {
+        match self {
+            MessageRefusal::NoSuchRoute => "no-such-page",
+            MessageRefusal::BadMethod => "bad-method",
+            MessageRefusal::BadMessage => "bad-message",
+        }
+    }
+}
+
+/// Why serving a stream stopped before its end.
+#[derive(Clone, Copy, Debug, PartialEq, Eq)]
+pub enum IoFault {
+    /// A take failed.
+    Read = 1,
+    /// A put failed.
+    Write = 2,
+    /// A take past the limit would be needed.
+    TooManyReads = 3,
+    /// An allocation was refused before the first take.
+    Memory = 4,
+}
+
+impl IoFault {
+    ghost use Rattle.life_pages.specs.Fault.{io_fault_number};
+
+    /// The fault's number, from 1 on.
+    pub fn number(self) -> u8
+        ensures { result ≡ io_fault_number self }
+    {
+        self as u8
+    }
+}

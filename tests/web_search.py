@@ -150,14 +150,20 @@ def folded(text):
     return "".join(letter for letter in unicodedata.normalize("NFKD", text) if not unicodedata.category(letter).startswith("M")).lower()
 
 
+# The time of each search is the least of three, as others may be at work.
 SEARCH = """
 const { allDeposits, search, NOTHING } = await import('/web/index.js');
 const all = await allDeposits(() => {}, new AbortController().signal);
 const found = [];
 for (const asked of words[0]) {
-  const begun = performance.now();
-  const rows = search(all, { ...NOTHING, ...asked });
-  found.push([performance.now() - begun, rows.map((row) => row.id)]);
+  const times = [];
+  let rows;
+  while (times.length < 3) {
+    const begun = performance.now();
+    rows = search(all, { ...NOTHING, ...asked });
+    times.push(performance.now() - begun);
+  }
+  found.push([Math.min(...times), rows.map((row) => row.id)]);
 }
 return [all.length, found];
 """

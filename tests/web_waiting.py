@@ -82,9 +82,10 @@ def capitals(_gateway, browser, base, _folder):
         check(f"the address {address}", wanted in browser.text("h1") and browser.all(".refusal") == [])
 
 
-# Asks for the last number of an archive of so many, which takes its time, and counts the requests, those at once and the turns.
+# Asks for the last number of an archive of so many, which takes its time, and counts the requests, those at once and the turns. Each try has
+# the module anew, which remembers what it found.
 LAST = """
-const { lastDeposit } = await import(`/web/archive.js?${words[0]}`);
+const { lastDeposit } = await import(`/web/archive.js?${words[0]}-${words[1]}`);
 const whole = window.fetch;
 const seen = { requests: 0, now: 0, most: 0 };
 window.fetch = async (path, options) => {
@@ -114,7 +115,7 @@ def last_number(_gateway, browser, base, _folder):
     may be at work."""
     browser.open(f"{base}/find")
     for number in (0, 1, 99, 100, 101, 1099, 1100, 43_557, 999_999):
-        found, requests, most, took = min((browser.wait_for(LAST, number) for _ in range(3)), key=lambda one: one[-1])
+        found, requests, most, took = min((browser.wait_for(LAST, number, turn) for turn in range(3)), key=lambda one: one[-1])
         check(f"the last of {number} is {found} by {requests} requests in {took:.0f} ms", found == number and most <= 4 and requests <= 40 and took < 800)
     check("four are asked at once", most == 4)
 

@@ -98,10 +98,10 @@ fault() {
     1) echo 'too-long: the file has more than 1,048,576 bytes' ;;
     2) echo 'text-limit: a name, an author or a comment of more than 200 bytes, or more than 64 comments' ;;
     3) echo 'no-header: there is no line "x = 3, y = 3" before the body' ;;
-    4) echo 'bad-header: the header is not "x = 3, y = 3" with nothing or ", rule = B3/S23" behind it' ;;
+    4) echo 'bad-header: the header is not "x = 3, y = 3", alone or followed by ", rule = B3/S23"' ;;
     5) echo 'bad-rule: the rule is not of the form B3/S23, S23/B3 or 23/3' ;;
     6) echo 'birth-zero: the rule has 0 among its births' ;;
-    7) echo 'other-tag: the body has a byte that is none of b, o, $ and !' ;;
+    7) echo 'other-tag: the body has an item other than b, o, $ and !' ;;
     8) echo 'bad-count: a count of 0 or over 1,000,000, one before "!", or one at the end of the file' ;;
     9) echo 'too-wide: a live cell in a column or row over 1023' ;;
     10) echo 'no-end: the body ends without "!"' ;;
@@ -116,13 +116,13 @@ why() {
   [ "$status" != 401 ] || name=password
   case $name in
     bad-pattern) fault "$number" ;;
-    token-reused) echo 'token-reused: the token of this request stands for something else' ;;
+    token-reused) echo 'token-reused: the token of this request already stands for something else' ;;
     full) echo 'full: the archive takes no more' ;;
     out-of-limit) echo 'out-of-limit: a generation is 0 to 2048, a limit 1 to 2048' ;;
-    unavailable) echo 'unavailable: the archive could not do it now; give the same command again: nothing is kept twice' ;;
-    no-such-page) echo 'no-such-page: the URL is not that of an archive, as http://localhost:8080' ;;
+    unavailable) echo 'unavailable: the archive could not do it now; give the same command again, nothing is stored twice' ;;
+    no-such-page) echo 'no-such-page: the URL is not that of an archive, such as http://localhost:8080' ;;
     password) echo 'password: the club knows its members by passwords; write yours into ~/.netrc' ;;
-    '') echo "a reply of status $status that is no archive's" ;;
+    '') echo "a reply of status $status, but not from an archive" ;;
     *) echo "$name" ;;
   esac
 }

@@ -1,5 +1,5 @@
 -- Orbits: what their search keeps, and when two of them are never near.
-use Rattle.std.specs.Prelude.{◌≡◌, ◌≢◌, ℕ, zero, suc, ◌+◌, ◌/◌, ◌%◌, ◌<◌, ◌≤◌, ℤ, pos, ◌*ℤ◌, ◌≤ℤ◌, List, refl}
+use Rattle.std.specs.Prelude.{◌≡◌, ◌≢◌, ℕ, zero, suc, ◌+◌, ◌/◌, ◌%◌, ◌<◌, ◌≤◌, ℤ, pos, ◌+ℤ◌, ◌-ℤ◌, ◌*ℤ◌, ◌≤ℤ◌, List, refl}
 use Rattle.std.specs.List.{All}
 use Rattle.std.proofs.Common.{sym, ap, subst, ◌∙◌, inl, inr, ⊎_elim, arith}
 use Rattle.std.proofs.Math.IntN.{suc_ℤ-*ℤ, zero-*ℤ}
@@ -10,7 +10,7 @@ use Rattle.std.proofs.lemmas.Map.Views.{Contains-from_any}
 use Rattle.std.specs.FinSet as set
 use Rattle.life_core.specs.declared.cell.Cell.{Cell}
 use Rattle.life_core.specs.declared.orientation.Orientation.TheVariants.{O0}
-use Rattle.life_core.specs.Cell.{cell_at, moved_cell}
+use Rattle.life_core.specs.Cell.{cell_at, cell_cmp, moved_cell}
 use Rattle.life_core.specs.Generations.{generation_of}
 use Rattle.life_core.specs.Pattern.{Cells, image, in_order, IsWithin}
 use Rattle.life_core.specs.Rule.{RuleSets}
@@ -18,16 +18,17 @@ use Rattle.life_core.proofs.GenerationsLaws.{generation_within, within_more}
 use Rattle.life_core.proofs.PatternCorners.{Has}
 use Rattle.life_core.proofs.PatternMembers.{same_cell-true, contains-list}
 use Rattle.life_core.proofs.PatternOrder.{from_list_of}
-use Rattle.life_core.proofs.Placements.{minus, plus, moved, contains-placed}
+use Rattle.life_core.proofs.Placements.{minus, plus, plus_minus, moved, contains-placed, len-placed}
 use Rattle.life_code.specs.declared.apart.Orbit.{Orbit}
 use Rattle.life_code.specs.declared.frames.Frame.{Frame}
 use Rattle.life_code.specs.declared.period.TheConstants.{PERIOD_LIMIT}
 use Rattle.life_code.specs.Apart.{near, AreApart}
-use Rattle.life_code.specs.ApartState.{IsOrbit, ComesNoNearer, KeepsLeft, KeepsAbove, KeepApart}
-use Rattle.life_code.specs.FramesState.{IsInFrame, IsWider}
+use Rattle.life_code.specs.ApartState.{IsOrbit, ComesNoNearer, KeepsLeft, KeepsAbove, KeepsUpperLeft, KeepsUpperRight, KeepsAside, KeepApart}
+use Rattle.life_code.specs.FramesState.{IsInFrame, IsWider, HasMoved}
 use Rattle.life_code.proofs.ApartNear.{near_within, near_symmetric}
-use Rattle.life_code.proofs.FramesLemmas.{wider_has}
-use Rattle.life_code.proofs.PeriodLemmas.{many, phase_mod}
+use Rattle.life_code.proofs.FramesLemmas.{wider_has, moved_has}
+use Rattle.life_code.proofs.PeriodKinds.{some_len}
+use Rattle.life_code.proofs.PeriodLemmas.{many, phase_mod, generation-moved, return_of_placed}
 
 -- ---- the search
 
@@ -92,6 +93,33 @@ before_moves r X o orbit k c has =
     small : (k p : ℕ) → 1 ≤ p → k % p < p
     small k p h = omega arith
 
+-- n times a sum, and n times a difference
+times_sum : (n : ℕ) (a b : ℤ) → (pos n *ℤ (a +ℤ b)) ≡ (pos n *ℤ a) +ℤ (pos n *ℤ b)
+times_sum zero a b =
+    let e = zero-*ℤ (a +ℤ b) in
+    let f = zero-*ℤ a in
+    let g = zero-*ℤ b in
+    omega (arith, ints)
+times_sum (suc n) a b =
+    let before = times_sum n a b in
+    let e = suc_ℤ-*ℤ (pos n) (a +ℤ b) in
+    let f = suc_ℤ-*ℤ (pos n) a in
+    let g = suc_ℤ-*ℤ (pos n) b in
+    omega (arith, ints)
+
+times_difference : (n : ℕ) (a b : ℤ) → (pos n *ℤ (a -ℤ b)) ≡ (pos n *ℤ a) -ℤ (pos n *ℤ b)
+times_difference zero a b =
+    let e = zero-*ℤ (a -ℤ b) in
+    let f = zero-*ℤ a in
+    let g = zero-*ℤ b in
+    omega (arith, ints)
+times_difference (suc n) a b =
+    let before = times_difference n a b in
+    let e = suc_ℤ-*ℤ (pos n) (a -ℤ b) in
+    let f = suc_ℤ-*ℤ (pos n) a in
+    let g = suc_ℤ-*ℤ (pos n) b in
+    omega (arith, ints)
+
 module _ (r : RuleSets) (X Y : Cells) (o p : Orbit) (first : IsOrbit r X o) (second : IsOrbit r Y p) (k : ℕ) where
   left_apart : KeepsLeft o p → AreApart (generation_of r X k) (generation_of r Y k)
   left_apart (gap, nearer) c d h g = false_from_ne_true (near c d) (λ close.
@@ -117,12 +145,57 @@ module _ (r : RuleSets) (X Y : Cells) (o p : Orbit) (first : IsOrbit r X o) (sec
       let no : ⊥ = omega (arith, ints) in
       absurd no)
 
+  upper_left_apart : KeepsUpperLeft o p → AreApart (generation_of r X k) (generation_of r Y k)
+  upper_left_apart (gap, nearer) c d h g = false_from_ne_true (near c d) (λ close.
+      let at_c = before_moves r X o first k c h in
+      let at_d = before_moves r Y p second k d g in
+      let moves = no_nearer o.period p.period k (o.dy +ℤ o.dx) (p.dy +ℤ p.dx) nearer in
+      let e = times_sum (k / o.period) o.dy o.dx in
+      let f = times_sum (k / p.period) p.dy p.dx in
+      let within = near_within c d close in
+      let end = at_c.sum_to in
+      let begin = at_d.sum_from in
+      let rows = within.rows_down in
+      let columns = within.columns_down in
+      let no : ⊥ = omega (arith, ints) in
+      absurd no)
+
+  upper_right_apart : KeepsUpperRight o p → AreApart (generation_of r X k) (generation_of r Y k)
+  upper_right_apart (gap, nearer) c d h g = false_from_ne_true (near c d) (λ close.
+      let at_c = before_moves r X o first k c h in
+      let at_d = before_moves r Y p second k d g in
+      let moves = no_nearer o.period p.period k (o.dy -ℤ o.dx) (p.dy -ℤ p.dx) nearer in
+      let e = times_difference (k / o.period) o.dy o.dx in
+      let f = times_difference (k / p.period) p.dy p.dx in
+      let within = near_within c d close in
+      let end = at_c.difference_to in
+      let begin = at_d.difference_from in
+      let rows = within.rows_down in
+      let columns = within.columns_up in
+      let no : ⊥ = omega (arith, ints) in
+      absurd no)
+
+  aside_apart : KeepsAside o p → AreApart (generation_of r X k) (generation_of r Y k)
+  aside_apart (inl (inl left)) = left_apart left
+  aside_apart (inl (inr above)) = above_apart above
+  aside_apart (inr (inl upper_left)) = upper_left_apart upper_left
+  aside_apart (inr (inr upper_right)) = upper_right_apart upper_right
+
 apart_symmetric : (X Y : Cells) → AreApart X Y → AreApart Y X
 apart_symmetric X Y apart c d h g = near_symmetric c d ∙ apart d c g h
 
 -- orbits that keep apart
 pub orbits_apart : (r : RuleSets) (X Y : Cells) (o p : Orbit) → IsOrbit r X o → IsOrbit r Y p → KeepApart o p → (k : ℕ) → AreApart (generation_of r X k) (generation_of r Y k)
-orbits_apart r X Y o p first second (inl (inl left)) k = left_apart r X Y o p first second k left
-orbits_apart r X Y o p first second (inl (inr right)) k = apart_symmetric _ _ (left_apart r Y X p o second first k right)
-orbits_apart r X Y o p first second (inr (inl above)) k = above_apart r X Y o p first second k above
-orbits_apart r X Y o p first second (inr (inr below)) k = apart_symmetric _ _ (above_apart r Y X p o second first k below)
+orbits_apart r X Y o p first second (inl before) k = aside_apart r X Y o p first second k before
+orbits_apart r X Y o p first second (inr after) k = apart_symmetric _ _ (aside_apart r Y X p o second first k after)
+
+-- the orbit of a set that is moved
+pub orbit_moved : (r : RuleSets) (X Y : Cells) (o : Orbit) (v : Cell) (f : Frame) → IsOrbit r X o → HasMoved o.frame v f → moved v X ≡ Y → IsOrbit r Y (record { period = o.period; dx = o.dx; dy = o.dy; frame = f })
+orbit_moved r X Y o v f orbit moves is = subst (λ (Z : Cells). IsOrbit r Z (record { period = o.period; dx = o.dx; dy = o.dy; frame = f })) is (record {
+  some = λ none. some_len X orbit.some (sym (len-placed O0 v X) ∙ ap set.len none ∙ set.len-empty cell_cmp);
+  from = orbit.from;
+  back = return_of_placed r X o.period (cell_at (o.dx, o.dy)) O0 v orbit.back;
+  inside = λ i c below has.
+      let before : Has (generation_of r X i) (plus c (minus v)) = sym (contains-placed O0 v (generation_of r X i) c) ∙ subst (λ (Z : Cells). Has Z c) (generation-moved r v X i) has in
+      subst (IsInFrame f) (plus_minus c v) (moved_has o.frame f v (plus c (minus v)) moves (orbit.inside i (plus c (minus v)) below before));
+})

@@ -1,6 +1,6 @@
 -- Parts of a set that are taken from it one by one, each with its orbit.
-use Rattle.std.specs.Prelude.{◌≡◌, ◌⊎◌, ℕ, ◌+◌, ◌<◌, Bool, true, false, ◌||◌, List, [], ◌∷◌, ◌++◌, length, map, take, get_or, refl}
-use Rattle.std.specs.List.{AllByRecursion, Contains}
+use Rattle.std.specs.Prelude.{◌≡◌, ◌⊎◌, ℤ, ℕ, ◌+◌, ◌<◌, Bool, true, false, ◌||◌, List, [], ◌∷◌, ◌++◌, length, map, take, get_or, refl}
+use Rattle.std.specs.List.{All, AllByRecursion, Contains}
 use Rattle.std.proofs.Common.{sym, ap, subst, ◌∙◌, inl, inr, arith}
 use Rattle.std.proofs.lemmas.Bool.{or_left, or_right}
 use Rattle.std.proofs.lemmas.List.{take_more, length-map}
@@ -9,21 +9,24 @@ use Rattle.std.proofs.lemmas.List.Elements.{All-contains, All-push, recursion_fr
 use Rattle.std.proofs.lemmas.List.Folds.{list_any-append}
 use Rattle.std.specs.FinSet as set
 use Rattle.life_core.specs.declared.cell.Cell.{Cell}
-use Rattle.life_core.specs.Cell.{cell_cmp}
+use Rattle.life_core.specs.Cell.{cell_cmp, moved_cell}
 use Rattle.life_core.specs.Generations.{generation_of}
-use Rattle.life_core.specs.Pattern.{Cells, IsWithin}
+use Rattle.life_core.specs.Pattern.{Cells, image, IsWithin}
 use Rattle.life_core.specs.Rule.{RuleSets, IsRule}
+use Rattle.life_core.proofs.CellLemmas.{same_coordinates}
 use Rattle.life_core.proofs.PatternMembers.{same_cell, has_cell, cell_cmp_total, cells_by_members, contains-list}
 use Rattle.life_code.specs.declared.apart.Moving.{Moving}
+use Rattle.life_code.specs.declared.frames.Frame.{Frame}
 use Rattle.life_code.specs.Apart.{AreApart, AreAllApart, union_of}
-use Rattle.life_code.specs.ApartState.{IsMoving, AreMoving, KeepApart, KeepsApartFrom, PartWays, AreParted, parts_of}
+use Rattle.life_code.specs.FramesState.{HasMoved}
+use Rattle.life_code.specs.ApartState.{IsOrbit, IsMoving, AreMoving, KeepApart, KeepsApartFrom, PartWays, AreParted, parts_of}
 use Rattle.life_code.specs.Period.{Returns}
 use Rattle.life_code.specs.PeriodState.{NeverReturns}
 use Rattle.life_code.proofs.ApartBlocks.{or-false}
 use Rattle.life_code.proofs.ApartMoves.{parting_never_returns}
-use Rattle.life_code.proofs.ApartOrbits.{orbits_apart}
+use Rattle.life_code.proofs.ApartOrbits.{orbits_apart, orbit_moved}
 
-has_cell-append : (cs ds : List Cell) (c : Cell) → has_cell (cs ++ ds) c ≡ (has_cell cs c || has_cell ds c)
+pub has_cell-append : (cs ds : List Cell) (c : Cell) → has_cell (cs ++ ds) c ≡ (has_cell cs c || has_cell ds c)
 has_cell-append cs ds c = list_any-append (same_cell c) cs ds
 
 -- ---- cells that are parted
@@ -138,7 +141,7 @@ taken_all {A} X parts rest none taken = cells_by_members _ _ (λ c.
 
 -- ---- parts that part ways
 
-part_in : {A : Type 0} (parts : List (Moving A)) (m : Moving A) → Contains parts m → Contains (parts_of parts) m.part
+pub part_in : {A : Type 0} (parts : List (Moving A)) (m : Moving A) → Contains parts m → Contains (parts_of parts) m.part
 part_in {A} parts m (k, low, at) = (k, subst (λ n. k < n) (sym (length-map parts (λ (n : Moving A). n.part))) low, get_or-map (λ (n : Moving A). n.part) parts k m ∙ ap (λ (n : Moving A). n.part) at)
 
 pub never_by_parts : {A : Type 0} (r : RuleSets) (X : Cells) (parts : List (Moving A)) → IsRule r → AreMoving r parts → union_of (parts_of parts) ≡ X → PartWays parts → NeverReturns r X
@@ -148,3 +151,17 @@ never_by_parts {A} r X parts rule are whole ways n from dx dy back =
     parting_never_returns r (parts_of parts) rule.quiet are.apart ways.m.part ways.n.part ways.m.orbit.period ways.n.orbit.period ways.m.orbit.dx ways.m.orbit.dy ways.n.orbit.dx ways.n.orbit.dy
     (part_in parts ways.m ways.has_m) (part_in parts ways.n ways.has_n) m.some o.some m.from o.from m.back o.back ways.differ n from dx dy
     (subst (λ Y. Returns r Y n dx dy) (sym whole) back)
+
+-- ---- parts that are known
+
+-- the orbit of a known part that is moved; x, y, dx and dy are the moves as the code gives them on
+pub orbit_known : {A : Type 0} (r : RuleSets) (known : List (Moving A)) (m : Moving A) (Y : Cells) (i : ℕ) (column row x y dx dy : ℤ) (f : Frame) → All (IsMoving r) known → i < length known → m ≡ get_or known i m
+    → x ≡ column → y ≡ row → dx ≡ m.orbit.dx → dy ≡ m.orbit.dy → image (moved_cell column row) m.part ≡ Y → HasMoved m.orbit.frame (record { row = y; column = x }) f
+    → IsOrbit r Y (record { period = m.orbit.period; dx = dx; dy = dy; frame = f })
+orbit_known {A} r known m Y i column row x y dx dy f all low item columns rows right down is moves =
+    subst (λ (w : ℤ × ℤ). IsOrbit r Y (record { period = m.orbit.period; dx = w.0; dy = w.1; frame = f })) (λ k. (sym right k, sym down k))
+    (orbit_moved r m.part Y m.orbit (record { row = row; column = column }) f (subst (IsMoving r) (sym item) (all i m low)) (subst (λ (v : Cell). HasMoved m.orbit.frame v f) (same_coordinates _ _ rows columns) moves) is)
+
+-- one known part more
+pub known_more : {A : Type 0} (r : RuleSets) (known after : List (Moving A)) (m : Moving A) (X : Cells) → All (IsMoving r) known → m.part ≡ X → IsOrbit r X m.orbit → after ≡ known ++ m ∷ [] → All (IsMoving r) after
+known_more {A} r known after m X all is orbit made = subst (λ (ms : List (Moving A)). All (IsMoving r) ms) (sym made) (All-push (IsMoving r) known m all (subst (λ (Z : Cells). IsOrbit r Z m.orbit) (sym is) orbit))

@@ -12,6 +12,7 @@ pub mod ApartUnions
 pub mod ApartMoves
 pub mod ApartOrbits
 pub mod ApartParts
+pub mod SettledLemmas
 pub mod WechslerReading
 pub mod WechslerTexts
 pub mod WechslerColumns

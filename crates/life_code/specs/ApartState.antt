@@ -1,5 +1,5 @@
 -- What the search for parts that move apart says of them.
-use Rattle.std.specs.Prelude.{◌≡◌, ◌≢◌, ◌⊎◌, ℕ, ◌<◌, ◌≤◌, ℤ, pos, ◌+ℤ◌, ◌*ℤ◌, ◌<ℤ◌, ◌≤ℤ◌, true, List, map}
+use Rattle.std.specs.Prelude.{◌≡◌, ◌≢◌, ◌⊎◌, ℕ, ◌<◌, ◌≤◌, ℤ, pos, ◌+ℤ◌, ◌-ℤ◌, ◌*ℤ◌, ◌<ℤ◌, ◌≤ℤ◌, true, List, map}
 use Rattle.std.specs.List.{All, Contains}
 use Rattle.std.specs.FinSet as set
 use Rattle.life_core.specs.declared.cell.Cell.{Cell}
@@ -28,13 +28,25 @@ ComesNoNearer p dx q ex = ((dx ≤ℤ pos 0) × (pos 0 ≤ℤ ex)) ⊎ ((p ≡ q
 abbrev pub KeepsLeft : Orbit → Orbit → Type 0
 KeepsLeft o p = ((o.frame.columns.greatest +ℤ pos 2) <ℤ p.frame.columns.least) × ComesNoNearer o.period o.dx p.period p.dx
 
--- .. or more than 2 rows above it
+-- .. or more than 2 rows above it ..
 abbrev pub KeepsAbove : Orbit → Orbit → Type 0
 KeepsAbove o p = ((o.frame.rows.greatest +ℤ pos 2) <ℤ p.frame.rows.least) × ComesNoNearer o.period o.dy p.period p.dy
 
--- the one stays beside the other, or above it
+-- .. or beyond a diagonal: its sums of row and column stay more than 4 below ..
+abbrev pub KeepsUpperLeft : Orbit → Orbit → Type 0
+KeepsUpperLeft o p = ((o.frame.sums.greatest +ℤ pos 4) <ℤ p.frame.sums.least) × ComesNoNearer o.period (o.dy +ℤ o.dx) p.period (p.dy +ℤ p.dx)
+
+-- .. or its differences row - column do
+abbrev pub KeepsUpperRight : Orbit → Orbit → Type 0
+KeepsUpperRight o p = ((o.frame.differences.greatest +ℤ pos 4) <ℤ p.frame.differences.least) × ComesNoNearer o.period (o.dy -ℤ o.dx) p.period (p.dy -ℤ p.dx)
+
+-- the first stays on one side of the second
+abbrev pub KeepsAside : Orbit → Orbit → Type 0
+KeepsAside o p = (KeepsLeft o p ⊎ KeepsAbove o p) ⊎ (KeepsUpperLeft o p ⊎ KeepsUpperRight o p)
+
+-- one of the two stays on one side of the other
 abbrev pub KeepApart : Orbit → Orbit → Type 0
-KeepApart o p = (KeepsLeft o p ⊎ KeepsLeft p o) ⊎ (KeepsAbove o p ⊎ KeepsAbove p o)
+KeepApart o p = KeepsAside o p ⊎ KeepsAside p o
 
 -- in as many generations they don't move by as much
 abbrev pub MoveDifferently : Orbit → Orbit → Type 0

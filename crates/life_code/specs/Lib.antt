@@ -3,6 +3,7 @@ pub mod PeriodState
 pub mod Apart
 pub mod FramesState
 pub mod ApartState
+pub mod SettledState
 pub mod Wechsler
 pub mod DecodeState
 pub mod Codes

@@ -1,11 +1,11 @@
 //! Parts of a pattern that move apart, so that it never comes back.
-ghost use Rattle.std.specs.Prelude.{◌≡◌, ◌≤◌, ◌<◌, length, slice_index_or, IfOk, IfSome, IsTrue};
+ghost use Rattle.std.specs.Prelude.{◌≡◌, ◌≤◌, ◌<◌, ◌+ℤ◌, ◌-ℤ◌, length, slice_index_or, IfOk, IfSome, IsTrue};
 ghost use Rattle.std.specs.List.{All};
 ghost use Rattle.std.specs.FinSet as set;
 ghost use Rattle.life_core.specs.Pattern.{IsWithin};
 ghost use Rattle.life_core.specs.Rule.{IsRule};
 ghost use Rattle.life_code.specs.Apart.{union_of};
-ghost use Rattle.life_code.specs.ApartState.{IsOrbit, ComesNoNearer, KeepsLeft, KeepsAbove, KeepApart, MoveDifferently, IsMoving, AreMoving, KeepsApartFrom, PartWays, AreParted, parts_of};
+ghost use Rattle.life_code.specs.ApartState.{IsOrbit, ComesNoNearer, KeepsLeft, KeepsAbove, KeepsUpperLeft, KeepsUpperRight, KeepsAside, KeepApart, MoveDifferently, IsMoving, AreMoving, KeepsApartFrom, PartWays, AreParted, parts_of};
 ghost use Rattle.life_code.specs.PeriodState.{NeverReturns};
 
 use crate::frames::{Frame, frames_of};
@@ -20,10 +20,10 @@ const MOST_PARTS: usize = 64;
 
 /// How a part of a pattern comes back when it is alone, and the box of its cells until then.
 #[derive(Clone, Copy)]
-struct Orbit {
-    period: u32,
-    dx: i64,
-    dy: i64,
+pub struct Orbit {
+    pub period: u32,
+    pub dx: i64,
+    pub dy: i64,
     frame: Frame,
 }
 
@@ -32,7 +32,7 @@ impl Orbit {
     fn keeps_left(&self, other: &Orbit) -> bool
         ensures { IsTrue result → KeepsLeft self.now other.now }
     {
-        if !self.frame.columns.is_before(&other.frame.columns) {
+        if !self.frame.columns.is_before(&other.frame.columns, 2) {
             return false;
         }
         comes_no_nearer(self.period, self.dx, other.period, other.dx)
@@ -42,26 +42,92 @@ impl Orbit {
     fn keeps_above(&self, other: &Orbit) -> bool
         ensures { IsTrue result → KeepsAbove self.now other.now }
     {
-        if !self.frame.rows.is_before(&other.frame.rows) {
+        if !self.frame.rows.is_before(&other.frame.rows, 2) {
             return false;
         }
         comes_no_nearer(self.period, self.dy, other.period, other.dy)
+    }
+
+    /// How far it moves in each period, by the sum of row and column.
+    fn sum_drift(&self) -> Option<Drift>
+        ensures { IfSome result (λ d. (d.period ≡ self.now.period) × (d.by ≡ self.now.dy +ℤ self.now.dx)) }
+    {
+        match self.dy.checked_add(self.dx) {
+            Some(by) => Some(Drift {
+                period: self.period,
+                by,
+            }),
+            None => None,
+        }
+    }
+
+    /// How far it moves in each period, by the difference row - column.
+    fn difference_drift(&self) -> Option<Drift>
+        ensures { IfSome result (λ d. (d.period ≡ self.now.period) × (d.by ≡ self.now.dy -ℤ self.now.dx)) }
+    {
+        match self.dy.checked_sub(self.dx) {
+            Some(by) => Some(Drift {
+                period: self.period,
+                by,
+            }),
+            None => None,
+        }
+    }
+
+    /// Whether the sums of row and column of its cells stay more than 4 below those of another: whether it stays on the side of the upper left.
+    fn keeps_upper_left(&self, other: &Orbit) -> bool
+        ensures { IsTrue result → KeepsUpperLeft self.now other.now }
+    {
+        if !self.frame.sums.is_before(&other.frame.sums, 4) {
+            return false;
+        }
+        match (self.sum_drift(), other.sum_drift()) {
+            (Some(here), Some(there)) => here.comes_no_nearer(there),
+            _ => false,
+        }
+    }
+
+    /// Whether the differences row - column of its cells stay more than 4 below those of another: whether it stays on the side of the upper right.
+    fn keeps_upper_right(&self, other: &Orbit) -> bool
+        ensures { IsTrue result → KeepsUpperRight self.now other.now }
+    {
+        if !self
+            .frame
+            .differences
+            .is_before(&other.frame.differences, 4)
+        {
+            return false;
+        }
+        match (self.difference_drift(), other.difference_drift()) {
+            (Some(here), Some(there)) => here.comes_no_nearer(there),
+            _ => false,
+        }
+    }
+
+    /// Whether it is seen that it stays on one side of another: to the left, above, or beyond a diagonal.
+    fn keeps_aside(&self, other: &Orbit) -> bool
+        ensures { IsTrue result → KeepsAside self.now other.now }
+    {
+        if self.keeps_left(other) {
+            return true;
+        }
+        if self.keeps_above(other) {
+            return true;
+        }
+        if self.keeps_upper_left(other) {
+            return true;
+        }
+        self.keeps_upper_right(other)
     }
 
     /// Whether it is seen that the two are never near each other.
     fn keeps_apart(&self, other: &Orbit) -> bool
         ensures { IsTrue result → KeepApart self.now other.now }
     {
-        if self.keeps_left(other) {
+        if self.keeps_aside(other) {
             return true;
         }
-        if other.keeps_left(self) {
-            return true;
-        }
-        if self.keeps_above(other) {
-            return true;
-        }
-        other.keeps_above(self)
+        other.keeps_aside(self)
     }
 
     /// Whether it is seen that the two move otherwise.
@@ -88,6 +154,22 @@ impl Orbit {
     }
 }
 
+/// How far something moves in a direction in so many generations.
+#[derive(Clone, Copy)]
+struct Drift {
+    period: u32,
+    by: i64,
+}
+
+impl Drift {
+    /// Whether what drifts so comes no nearer to what lies after it and drifts like the other.
+    fn comes_no_nearer(self, other: Drift) -> bool
+        ensures { IsTrue result → ComesNoNearer self.period self.by other.period other.by }
+    {
+        comes_no_nearer(self.period, self.by, other.period, other.by)
+    }
+}
+
 /// Whether what moves by `here` in each period comes no nearer to what lies after it and moves by `there` in
 /// each period of its own.
 fn comes_no_nearer(period: u32, here: i64, other_period: u32, there: i64) -> bool
@@ -101,9 +183,9 @@ fn comes_no_nearer(period: u32, here: i64, other_period: u32, there: i64) -> boo
 
 /// A part of a pattern, and the orbit that it goes when it is alone.
 #[derive(Drop)]
-struct Moving<A: Allocator> {
-    part: Pattern<A>,
-    orbit: Orbit,
+pub struct Moving<A: Allocator> {
+    pub part: Pattern<A>,
+    pub orbit: Orbit,
 }
 
 /// The orbit of a part, if it comes back within the limit of generations.
@@ -122,11 +204,11 @@ fn orbit_of<A: Allocator + Copy, P: Plane<A>>(
         return Ok(None);
     };
     let mut frame = Frame::of(*first).with_runs(runs);
-    let start = P::from_pattern(alloc, part)?;
     let mut plane = P::from_pattern(alloc, part)?;
     for period in 1..limit + 1 {
         plane.step(rule)?;
-        if let Some((dx, dy)) = start.shift_to(&plane) {
+        let phase = plane.to_pattern(alloc)?;
+        if let Some((dx, dy)) = part.shift_to(&phase) {
             return Ok(Some(Orbit {
                 period,
                 dx,
@@ -134,9 +216,52 @@ fn orbit_of<A: Allocator + Copy, P: Plane<A>>(
                 frame,
             }));
         }
-        frame = frame.with_runs(plane.to_pattern(alloc)?.cells().runs());
+        frame = frame.with_runs(phase.cells().runs());
     }
     Ok(None)
+}
+
+/// The orbit of a part that is a known one, moved.
+fn known_orbit<A: Allocator>(rule: &Rule, known: &[Moving<A>], part: &Pattern<A>) -> Option<Orbit>
+    requires { All (IsMoving rule.now) known.now }
+    ensures { IfSome result (IsOrbit rule.now part.now) }
+{
+    let _rule = *rule;
+    for moving in known {
+        if let Some((column, row)) = moving.part.shift_to(part) {
+            let frame = moving.orbit.frame.moved(Cell { row, column })?;
+            return Some(Orbit {
+                frame,
+                ..moving.orbit
+            });
+        }
+    }
+    None
+}
+
+/// The orbit of a part, if it is known or is found; then it is known.
+fn learnt_orbit<A: Allocator + Copy, P: Plane<A>>(
+    alloc: A,
+    rule: &Rule,
+    part: &Pattern<A>,
+    limit: u32,
+    known: &mut Vec<Moving<A>, A>,
+) -> Result<Option<Orbit>, Fault>
+    requires few { limit ≤ PERIOD_LIMIT }
+    requires room { IsWithin 500_000_000 part.now }
+    requires known { All (IsMoving rule.now) known.old.items }
+    ensures known { All (IsMoving rule.now) known.new.items }
+    ensures orbit { IfOk result (λ o. IfSome o (IsOrbit rule.now part.now)) }
+{
+    if let Some(orbit) = known_orbit(rule, known, part) {
+        return Ok(Some(orbit));
+    }
+    let Some(orbit) = orbit_of::<A, P>(alloc, rule, part, limit)? else {
+        return Ok(None);
+    };
+    let part = part.copy(alloc)?;
+    known.push(Moving { part, orbit })?;
+    Ok(Some(orbit))
 }
 
 /// The cells that lie in a box, and the others.
@@ -177,16 +302,19 @@ fn moving_part<A: Allocator + Copy, P: Plane<A>>(
     rule: &Rule,
     cells: Vec<Cell, A>,
     limit: u32,
+    known: &mut Vec<Moving<A>, A>,
     parts: &[Moving<A>],
 ) -> Result<Option<Moving<A>>, Fault>
     requires few { limit ≤ PERIOD_LIMIT }
     requires room { IsWithin 500_000_000 (set.from_list cells.items) }
+    requires known { All (IsMoving rule.now) known.old.items }
+    ensures known { All (IsMoving rule.now) known.new.items }
     ensures cells { IfOk result (λ o. IfSome o (λ m. m.part ≡ set.from_list cells.items)) }
     ensures moving { IfOk result (λ o. IfSome o (IsMoving rule.now)) }
     ensures apart { IfOk result (λ o. IfSome o (λ m. KeepsApartFrom parts.now m.orbit)) }
 {
     let part = Pattern::from_list(cells)?;
-    let Some(orbit) = orbit_of::<A, P>(alloc, rule, &part, limit)? else {
+    let Some(orbit) = learnt_orbit::<A, P>(alloc, rule, &part, limit, known)? else {
         return Ok(None);
     };
     if !keeps_apart_from(parts, &orbit) {
@@ -212,14 +340,17 @@ fn part_ways<A: Allocator>(parts: &[Moving<A>]) -> bool
 
 /// The parts of a pattern, if it is seen that each comes back within the limit, and that no two of them are ever
 /// near at one time.
-fn moving_parts<A: Allocator + Copy, P: Plane<A>>(
+pub fn moving_parts<A: Allocator + Copy, P: Plane<A>>(
     alloc: A,
     rule: &Rule,
     pattern: &Pattern<A>,
     limit: u32,
+    known: &mut Vec<Moving<A>, A>,
 ) -> Result<Option<Vec<Moving<A>, A>>, Fault>
     requires few { limit ≤ PERIOD_LIMIT }
     requires room { IsWithin 500_000_000 pattern.now }
+    requires known { All (IsMoving rule.now) known.old.items }
+    ensures known { All (IsMoving rule.now) known.new.items }
     ensures moving { IfOk result (λ o. IfSome o (λ v. AreMoving rule.now v.items)) }
     ensures whole { IfOk result (λ o. IfSome o (λ v. union_of (parts_of v.items) ≡ pattern.now)) }
 {
@@ -231,7 +362,7 @@ fn moving_parts<A: Allocator + Copy, P: Plane<A>>(
     for frame in frames.as_slice() {
         let (inside, outside) = parted(alloc, &rest, frame)?;
         rest = outside;
-        let Some(part) = moving_part::<A, P>(alloc, rule, inside, limit, &parts)? else {
+        let Some(part) = moving_part::<A, P>(alloc, rule, inside, limit, known, &parts)? else {
             return Ok(None);
         };
         parts.push(part)?;
@@ -257,7 +388,7 @@ pub fn moves_apart<A: Allocator + Copy, P: Plane<A>>(
     if pattern.population() > MOST_CELLS {
         return Ok(false);
     }
-    match moving_parts::<A, P>(alloc, rule, pattern, limit)? {
+    match moving_parts::<A, P>(alloc, rule, pattern, limit, &mut Vec::new(alloc))? {
         Some(parts) => Ok(part_ways(&parts)),
         None => Ok(false),
     }

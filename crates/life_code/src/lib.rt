@@ -11,6 +11,7 @@ mod laws;
 mod object;
 mod open;
 mod period;
+mod settled;
 mod wechsler;
 
 pub use fault::CodeFault;
@@ -19,3 +20,4 @@ pub use laws::laws_of_codes;
 pub use object::{Coded, code, code_of_kind, same_object};
 pub use open::open_code;
 pub use period::{PERIOD_LIMIT, kind, kind_by};
+pub use settled::settled_generation;

@@ -12,8 +12,8 @@ use crate::soups::soup;
 use crate::symmetry::Symmetry;
 use crate::watch::Watch;
 use life_census::{CodeText, Names};
-use life_code::PERIOD_LIMIT;
-use life_core::{Fault, GENERATION_LIMIT, Rule, generation};
+use life_code::{PERIOD_LIMIT, settled_generation};
+use life_core::{Fault, GENERATION_LIMIT, Rule};
 use std::alloc::Allocator;
 
 /// After how many soups the shapes that were met are forgotten. A haul meets shapes without a code over and over, each of them once: if all
@@ -47,7 +47,7 @@ fn codes_of_soup<A: Allocator + Copy>(
     ensures codes { IfOk result (λ v. v.items ≡ map (λ P. code_of names.old.rule P names.old.limit) (clusters_of (generation_of rule.now (soup_of symmetry root.now number) n))) }
 {
     let soup = soup(alloc, symmetry, root, number)?;
-    let field = generation(alloc, rule, &soup, n)?;
+    let field = settled_generation(alloc, rule, &soup, n)?;
     names.codes(alloc, &field)
 }
 

@@ -9,3 +9,5 @@ mod fields;
 mod files;
 #[cfg(test)]
 mod kinds;
+#[cfg(test)]
+mod settled;

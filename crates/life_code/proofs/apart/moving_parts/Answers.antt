@@ -12,6 +12,7 @@ pub loop-frame-init : goal.loop-frame-init
 loop-frame-init g c = record {
   taken = taken_none c.args.pattern.now c.new-parts.result.items c.in_ok-rest.rest.items c.new-parts.ensures.items (from_list_of c.args.pattern.now _ (c.in_ok-rest.ensures ∙ c.cells-2.ensures.cells));
   moving = moving_none c.args.rule.now c.new-parts.result.items c.new-parts.ensures.items;
+  known = c.requires.known;
 }
 
 pub moving_part-requires-clause-room : goal.moving_part-requires-clause-room
@@ -31,6 +32,7 @@ loop-frame-preserved g c =
       taken = subst (λ parts. AreTaken c.args.pattern.now parts c.in_ok-inside.outside.items) (sym pushed)
           (taken_more c.args.pattern.now c.loop-frame.parts.items m c.loop-frame.rest.items c.in_ok-inside.inside.items c.in_ok-inside.outside.items c.loop-frame.invariant.taken parted cells);
       moving = subst (λ parts. AreMoving c.args.rule.now parts) (sym pushed) (moving_more c.args.rule.now m moving c.loop-frame.parts.items c.loop-frame.invariant.moving apart);
+      known = c.in_ok-part.ensures.known;
     }
 
 pub returns-clause-whole : goal.returns-clause-whole

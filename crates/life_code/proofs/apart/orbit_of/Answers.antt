@@ -1,4 +1,4 @@
-use Rattle.std.proofs.Common.{rules, ◌≡◌, ◌-◌, ◌+◌, arith, ap, subst, ◌∙◌, SFits, w64, to_z-of_z}
+use Rattle.std.proofs.Common.{rules, refl, ◌≡◌, ◌-◌, ◌+◌, arith, ap, subst, ◌∙◌, SFits, w64, to_z-of_z}
 use Rattle.std.specs.Prelude.{true}
 use Rattle.std.specs.FinSet as set
 use Rattle.life_core.specs.Generations.{generation_of}
@@ -25,7 +25,7 @@ returns-in-Some-shift_to g c =
     generation_more rule cells (g.P.Plane.cells c.loop-period.plane) (g.P.Plane.cells c.step.new.self) c.loop-period.period c.loop-period.auto.period c.loop-period.invariant.now c.in_ok-step.ensures.ok in
     let fits_x : SFits w64 c.in-Some-shift_to.dx = search rules in
     let fits_y : SFits w64 c.in-Some-shift_to.dy = search rules in
-    orbit_found rule cells _ _ c.loop-period.period c.in-Some-shift_to.dx c.in-Some-shift_to.dy _ _ c.loop-period.frame (to_z-of_z fits_x) (to_z-of_z fits_y) c.in_ok-start.ensures now c.in-Some-shift_to.ensures.0 c.in-Some-shift_to.ensures.1 c.loop-period.auto.period c.loop-period.invariant.inside
+    orbit_found rule cells _ _ c.loop-period.period c.in-Some-shift_to.dx c.in-Some-shift_to.dy _ _ c.loop-period.frame (to_z-of_z fits_x) (to_z-of_z fits_y) refl (c.in_ok-phase.ensures ∙ now) c.in-Some-shift_to.ensures.0 c.in-Some-shift_to.ensures.1 c.loop-period.auto.period c.loop-period.invariant.inside
 
 pub loop-period-preserved : goal.loop-period-preserved
 loop-period-preserved g c =
@@ -36,5 +36,5 @@ loop-period-preserved g c =
     record {
       now = now ∙ ap (generation_of rule cells) (let e : c.loop-period.period ≡ c.loop-period.period + 1 - 1 = omega arith in e);
       inside = has_more rule cells c.loop-period.frame _ c.loop-period.period c.loop-period.invariant.inside c.with_runs-frame-in-loop-period.ensures.wider
-          (has_all _ _ _ (c.runs.ensures.cells ∙ c.cells-in-loop-period-2.ensures.cells ∙ ap in_order (c.in_ok-to_pattern.ensures ∙ now)) c.with_runs-frame-in-loop-period.ensures.inside);
+          (has_all _ _ _ (c.runs.ensures.cells ∙ c.cells-in-loop-period.ensures.cells ∙ ap in_order (c.in_ok-phase.ensures ∙ now)) c.with_runs-frame-in-loop-period.ensures.inside);
     }

@@ -3,3 +3,4 @@ pub mod DepositCrashes
 pub mod MigrationLemmas
 pub mod SessionLemmas
 pub mod PathLemmas
+pub mod PathJobs

@@ -111,7 +111,7 @@ serves_connections g n old new x y law some =
 
 -- ---- each census is of a deposit
 
-abbrev Each : Archive → Type 0
+abbrev pub Each : Archive → Type 0
 Each A = EachHasDeposit A.deposits A.censuses
 
 asked_each : (A B : Archive) (x : Result Request MessageRefusal) (bytes : List ℕ) → AnswersAsked RequestStep A x bytes B → Each A → Each B
@@ -124,7 +124,7 @@ messages_each A B (bad ∷ ms) bytes (later, is, rest) each = messages_each A B 
 messages_each A B (good said body ∷ ms) bytes (reply, later, mid, answered, is, rest) each = messages_each mid B ms later rest (asked_each A mid (asked said body) reply answered each)
 
 -- what is left, said otherwise
-left_as : (A : Archive) (ms : List Message) (bytes : List ℕ) (P Q : Archive → Type 0) → Each A → ((X : Archive) → Each X → P X → Q X) → IsLeftOf A ms bytes P → IsLeftOf A ms bytes Q
+pub left_as : (A : Archive) (ms : List Message) (bytes : List ℕ) (P Q : Archive → Type 0) → Each A → ((X : Archive) → Each X → P X → Q X) → IsLeftOf A ms bytes P → IsLeftOf A ms bytes Q
 left_as A ms bytes P Q each says it =
     let there = messages_each A it.mid it.front it.given it.run each in
     record {
@@ -145,7 +145,7 @@ left_as A ms bytes P Q each says it =
 
 -- ---- over files
 
-files_hold : (image : Image) (db : Trees) (k : Kept) → TreesHold db k → HoldsDatabase image db → FilesHold image k
+pub files_hold : (image : Image) (db : Trees) (k : Kept) → TreesHold db k → HoldsDatabase image db → FilesHold image k
 files_hold image db k mean holds = record { trees = db; held = ∣ holds ∣₁; sound = mean.sound; holds = mean.holds }
 
 module _ {D : Type 0} {g : disk.Ghosts D} (a mid last : ArchiveView (FileStore D g)) (files : Files D) (ms : List Message) (bytes : List ℕ) (served : SomeMessages over_files a mid ms bytes) (counted : IsTransition over_files NoMore mid last)
@@ -216,7 +216,7 @@ sessions_compose g stays files mid capacity next count more w x y z left one two
     let seen = done.2 (image_of g mid) (stays mid.log, stays mid.db) in
     (done.0, done.1, two.leaves (under next done.0) refl (inl seen))
 
-left_then : (A : Archive) (ms : List Message) (bytes : List ℕ) (P Q : Archive → Type 0) → ((X : Archive) → P X → Q X) → IsLeftOf A ms bytes P → IsLeftOf A ms bytes Q
+pub left_then : (A : Archive) (ms : List Message) (bytes : List ℕ) (P Q : Archive → Type 0) → ((X : Archive) → P X → Q X) → IsLeftOf A ms bytes P → IsLeftOf A ms bytes Q
 left_then A ms bytes P Q says it = record {
   front = it.front;
   back = it.back;

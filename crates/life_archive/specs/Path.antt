@@ -1,26 +1,39 @@
 -- What the program does with an archive in the file of a path: it opens it, does its job and closes it.
-use Rattle.std.specs.Prelude.{◌≡◌, ◌⊎◌, ℕ, List, Option, None, Some, Result, Ok, Err, IsTrue, ⊤}
+use Rattle.std.specs.Prelude.{◌≡◌, ◌⊎◌, ◌∷◌, ◌++◌, [], ℕ, List, Option, None, Some, Result, Ok, Err, IsTrue, ⊤}
+use Rattle.std.proofs.Common.{inl, inr}
 use Rattle.sqlite_disk.specs.declared.Disk as disk
 use Rattle.sqlite_disk.specs.declared.Files.{Files}
 use Rattle.sqlite_wal.specs.Files.{outcomes}
 use Rattle.sqlite_wal.specs.Reads.{AreClean}
 use Rattle.sqlite_wal.specs.Recovery.{Image}
+use Rattle.sqlite_trees.specs.declared.store.Store.{Ghosts}
 use Rattle.sqlite_store.specs.declared.store.FileStore.{FileStore}
-use Rattle.sqlite.specs.Files.{image_of, over_files}
+use Rattle.sqlite_store.specs.FileStore.{recovers}
+use Rattle.sqlite_trees.specs.Tree.{Trees}
+use Rattle.sqlite.specs.Files.{HoldsDatabase, image_of, over_files}
+use Rattle.life_rle.specs.declared.stream.Inlet as inlet
+use Rattle.life_rle.specs.declared.stream.Outlet as outlet
 use Rattle.life_jobs.specs.declared.stop.Stop.TheVariants.{Unavailable}
+use Rattle.life_jobs.specs.Streams.{TakesFile, PutsOnce}
 use Rattle.life_store.specs.declared.fault.OpenFault.{OpenFault}
 use Rattle.life_store.specs.declared.fault.OpenFault.TheVariants as faults
 use Rattle.life_store.specs.Migration.{Migrated}
 use Rattle.life_store.specs.Kept.{Kept}
 use Rattle.life_store.specs.Opening.{FilesHold, FilesHoldFirst, ListNothing, nothing_kept, without_log}
+use Rattle.life_store.specs.Left.{IsHonest}
 use Rattle.life_store.specs.Tables.{ArchiveView, Holds, IsHealthyIfClean}
+use Rattle.life_desk.specs.declared.request.Request.{Request}
+use Rattle.life_desk.specs.declared.request.Request.TheVariants as ask
+use Rattle.life_desk.specs.declared.request.Reply.{Reply}
+use Rattle.life_desk.specs.Replies.{after}
 use Rattle.life_desk.specs.Archive.{Archive}
-use Rattle.life_pages.specs.Message.{Message}
+use Rattle.life_desk.specs.Run.{RequestStep, RequestRun, IsCrashSafe, IsDurable, PromiseNothing}
 use Rattle.life_archive.specs.declared.stop.ArchiveStop.{ArchiveStop}
 use Rattle.life_archive.specs.declared.stop.ArchiveStop.TheVariants.{Job, NotOurs}
 use Rattle.life_archive.specs.Stop.{line_of}
-use Rattle.life_archive.specs.Deposit.{Deposits, IsDepositSafe}
-use Rattle.life_archive.specs.Session.{Traffic, unknown, Runs, ServesConnections, FilesRepresent, Begins, CannotListen, messages_of, replies_of}
+use Rattle.life_archive.specs.Deposit.{Deposits, by_streams}
+use Rattle.life_pages.specs.Archive.{IsLeftOf}
+use Rattle.life_archive.specs.Session.{Traffic, unknown, Runs, ServesConnections, FilesRepresent, Begins, CannotListen, under, messages_of, replies_of}
 
 -- the stop for an opening that is refused
 abbrev pub opening_stop : OpenFault → ArchiveStop
@@ -45,27 +58,57 @@ abbrev pub line_after : Result (Unit {0}) ArchiveStop → Option (List ℕ)
 line_after (Ok done) = None
 line_after (Err stop) = Some (line_of stop)
 
+-- ---- what is left
+
+-- What is left of an archive that was closed: files that mean an archive of which P holds: as they read, after a crash, and the database file alone. If the
+-- close was refused, the files were let go and nothing is said of them.
+abbrev pub LeavesOne : {D : Type 0} → disk.Ghosts D → (Archive → Type 0) → Option (Files D) → Type 0
+LeavesOne g P (Some files) = AreClean g files.log files.db
+    → (B : Archive) × P B × ((image : Image) → outcomes g files.log files.db image → FilesRepresent image B) × FilesRepresent (without_log (image_of g files)) B
+LeavesOne g P None = ⊤
+
+-- the same of files that were opened at this image, under this capacity, by what becomes of the archive that they began with
+abbrev pub LeavesFrom : {D : Type 0} → disk.Ghosts D → Image → ℕ → (Archive → Archive → Type 0) → Option (Files D) → Type 0
+LeavesFrom g image capacity P left = (A : Archive) → A.capacity ≡ capacity → Begins image A → LeavesOne g (P A) left
+
 -- ---- a deposit
 
--- What a deposit does to an archive that is open, and what a crash leaves of it.
-pub record DepositsIn {D : Type 0} {g : disk.Ghosts D} (a : ArchiveView (FileStore D g)) (member token : List ℕ) (known before after : Option (List ℕ)) (answer : Result (Unit {0}) ArchiveStop) : Type 0 where
+-- what a crash leaves, by what was asked: the archive as it was; or so, or with the deposit, and with it if its number was put
+abbrev pub IsSafeIfAsked : {S : Type 0} {g : Ghosts S} {old new : ArchiveView S} {member token : List ℕ} {known before after : Option (List ℕ)} {answer : Result (Unit {0}) ArchiveStop}
+    → Deposits g old new member token known before after answer → Type 0
+IsSafeIfAsked {g = g} {new = new} (inl unasked) = IsDurable g new
+IsSafeIfAsked {g = g} {old = old} {new = new} {member = member} {token = token} (inr once) = IsCrashSafe g old new (ask.Deposit member token once.file ∷ []) (once.reply ∷ [])
+
+-- What becomes of an archive, by what was asked: it stays as it is; or it takes the one step of a run, with the reply that was put: the deposit is added,
+-- was there already, or is refused.
+abbrev pub BecomesByDeposit : {S : Type 0} {g : Ghosts S} {old new : ArchiveView S} {member token : List ℕ} {known before after : Option (List ℕ)} {answer : Result (Unit {0}) ArchiveStop}
+    → Deposits g old new member token known before after answer → Archive → Archive → Type 0
+BecomesByDeposit (inl unasked) A B = B ≡ A
+BecomesByDeposit {member = member} {token = token} (inr once) A B = RequestStep A (ask.Deposit member token once.file) once.reply B
+
+-- A deposit over the files of a path: they were opened as an archive, which was asked once to keep what came in, or not at all, and were closed. What was
+-- asked of the archive, what a crash during it leaves, and what it leaves at its end, are of one request.
+pub record IsPathDeposit {D : Type 0} (g : disk.Ghosts D) (image : Image) (capacity : ℕ) (member token : List ℕ) (known before after : Option (List ℕ)) (answer : Result (Unit {0}) ArchiveStop) (left : Option (Files D)) : Type 0 where
+  pub opened : ArchiveView (FileStore D g)
+  pub last : ArchiveView (FileStore D g)
+  pub opens : OpensAs image capacity opened
+  pub deposits : Deposits over_files opened last member token known before after answer
+  pub crash : IsSafeIfAsked deposits
+  pub leaves : LeavesFrom g image capacity (BecomesByDeposit deposits) left
+
+-- The same of an archive that is open, whatever it was opened from.
+pub record EndsPathDeposit {D : Type 0} (g : disk.Ghosts D) (a : ArchiveView (FileStore D g)) (member token : List ℕ) (known before after : Option (List ℕ)) (answer : Result (Unit {0}) ArchiveStop) (left : Option (Files D)) : Type 0 where
   pub last : ArchiveView (FileStore D g)
   pub deposits : Deposits over_files a last member token known before after answer
-  pub crash : IsDepositSafe over_files a last member token known before after answer
+  pub crash : IsSafeIfAsked deposits
+  pub leaves : (image : Image) (capacity : ℕ) → OpensAs image capacity a → LeavesFrom g image capacity (BecomesByDeposit deposits) left
 
--- The opening was refused; or the archive that the files were opened as was asked to keep what came in.
-abbrev pub DepositsAt : {D : Type 0} → disk.Ghosts D → Image → ℕ → List ℕ → List ℕ → Option (List ℕ) → Option (List ℕ) → Option (List ℕ) → Result (Unit {0}) ArchiveStop → Type 0
-DepositsAt {D} g image capacity member token known before after answer =
-    (IsUnopened answer × (after ≡ before)) ⊎ ((a : ArchiveView (FileStore D g)) × OpensAs image capacity a × DepositsIn a member token known before after answer)
+-- The opening was refused, and no files are given back; or the archive that the files were opened as was asked to keep what came in.
+abbrev pub DepositsAt : {D : Type 0} → disk.Ghosts D → Image → ℕ → List ℕ → List ℕ → Option (List ℕ) → Option (List ℕ) → Option (List ℕ) → Result (Unit {0}) ArchiveStop → Option (Files D) → Type 0
+DepositsAt g image capacity member token known before after answer left =
+    (IsUnopened answer × (after ≡ before) × (left ≡ None)) ⊎ IsPathDeposit g image capacity member token known before after answer left
 
 -- ---- a session
-
--- What is left of a session that began with A, over these messages and replies. Files that were closed mean the archive after all of them: as they read,
--- after a crash, and the database file alone. If the close was refused, the files were let go and nothing is said of them.
-abbrev pub LeavesClosed : {D : Type 0} → disk.Ghosts D → Archive → List Message → List ℕ → Option (Files D) → Type 0
-LeavesClosed g A ms bytes (Some files) = AreClean g files.log files.db
-    → (B : Archive) × Runs ms bytes A B × ((image : Image) → outcomes g files.log files.db image → FilesRepresent image B) × FilesRepresent (without_log (image_of g files)) B
-LeavesClosed g A ms bytes None = ⊤
 
 -- why nobody is served: the opening was refused, or nobody can be listened to
 abbrev pub IsUnserved : ArchiveStop → Type 0
@@ -78,21 +121,90 @@ pub record IsPathSession {D : Type 0} (g : disk.Ghosts D) (image : Image) (capac
   pub last : ArchiveView (FileStore D g)
   pub opens : OpensAs image capacity opened
   pub serves : ServesConnections over_files count opened last before after
-  pub leaves : (A : Archive) → A.capacity ≡ capacity → Begins image A → LeavesClosed g A (messages_of serves.exchanges) (replies_of serves.exchanges) left
+  pub leaves : LeavesFrom g image capacity (Runs (messages_of serves.exchanges) (replies_of serves.exchanges)) left
 
 -- The same of an archive that is open, whatever it was opened from.
 pub record EndsPathSession {D : Type 0} (g : disk.Ghosts D) (a : ArchiveView (FileStore D g)) (count : ℕ) (before after : Traffic) (left : Option (Files D)) : Type 0 where
   pub last : ArchiveView (FileStore D g)
   pub serves : ServesConnections over_files count a last before after
-  pub leaves : (image : Image) (capacity : ℕ) → OpensAs image capacity a → (A : Archive) → A.capacity ≡ capacity → Begins image A
-      → LeavesClosed g A (messages_of serves.exchanges) (replies_of serves.exchanges) left
+  pub leaves : (image : Image) (capacity : ℕ) → OpensAs image capacity a → LeavesFrom g image capacity (Runs (messages_of serves.exchanges) (replies_of serves.exchanges)) left
+
+-- ---- one job after the other
+
+-- a job over the files of a path, whichever it was
+pub data PathJob {D : Type 0} (g : disk.Ghosts D) (image : Image) (capacity : ℕ) (left : Option (Files D)) : Type 0 where
+  by_session : {count : ℕ} {before after : Traffic} → IsPathSession g image capacity count before after left → PathJob g image capacity left
+  by_deposit : {member token : List ℕ} {known before after : Option (List ℕ)} {answer : Result (Unit {0}) ArchiveStop} → IsPathDeposit g image capacity member token known before after answer left
+      → PathJob g image capacity left
+
+-- what becomes of an archive by it: a run over the messages of its connections, or the one deposit
+abbrev pub BecomesBy : {D : Type 0} {g : disk.Ghosts D} {image : Image} {capacity : ℕ} {left : Option (Files D)} → PathJob g image capacity left → Archive → Archive → Type 0
+BecomesBy (by_session it) A B = Runs (messages_of it.serves.exchanges) (replies_of it.serves.exchanges) A B
+BecomesBy (by_deposit it) A B = BecomesByDeposit it.deposits A B
+
+-- A job comes after one whose files were closed, in any order of serving and depositing, maybe on another disk: it opens the files that the first left, or what
+-- a crash left of them, or the database file alone. If the disk of the first was honest, an archive that the files meant at first becomes B by the first job, and
+-- what the second leaves it leaves of B, under its own capacity.
+abbrev pub PathJobsCompose : {D E : Type 0} → disk.Ghosts D → disk.Ghosts E → Type 0
+PathJobsCompose {D} {E} g h =
+    (image again : Image) (capacity next : ℕ) (mid : Files D) (left : Option (Files E)) (one : PathJob g image capacity (Some mid)) (two : PathJob h again next left)
+    → AreClean g mid.log mid.db → outcomes g mid.log mid.db again ⊎ (again ≡ without_log (image_of g mid)) → (A : Archive) → A.capacity ≡ capacity → Begins image A
+    → (B : Archive) × BecomesBy one A B × LeavesOne h (BecomesBy two (under next B)) left
+
+-- ---- and after a crash
+
+-- the archive of a job before it was closed
+abbrev pub last_of : {D : Type 0} {g : disk.Ghosts D} {image : Image} {capacity : ℕ} {left : Option (Files D)} → PathJob g image capacity left → ArchiveView (FileStore D g)
+last_of (by_session it) = it.last
+last_of (by_deposit it) = it.last
+
+-- The image holds a database that the store allows: so each image does that a crash leaves at this moment.
+abbrev pub MayBeFound : {D : Type 0} {g : disk.Ghosts D} → FileStore D g → Image → Type 0
+MayBeFound store image = ∥ ((db : Trees) × recovers store db × HoldsDatabase image db) ∥₁
+
+-- What is left means the archive after the first requests of a run from A, or after the one that follows as well; and no reply but those to the first says that
+-- something is kept.
+pub record IsLeftOfRun (A : Archive) (qs : List Request) (rs : List Reply) (Remains : Archive → Type 0) : Type 0 where
+  pub front : List Request
+  pub back : List Request
+  pub given : List Reply
+  pub rest : List Reply
+  pub requests : qs ≡ front ++ back
+  pub replies : rs ≡ given ++ rest
+  pub mid : Archive
+  pub run : RequestRun A front given mid
+  pub left : Remains mid ⊎ ((next : Request) × (more : List Request) × (back ≡ next ∷ more) × Remains (after mid next))
+  pub unpromised : PromiseNothing rest
+
+-- what is left of a deposit that a crash cut off, by what was asked
+abbrev pub IsLeftIfAsked : {S : Type 0} {g : Ghosts S} {old new : ArchiveView S} {member token : List ℕ} {known before after : Option (List ℕ)} {answer : Result (Unit {0}) ArchiveStop}
+    → Deposits g old new member token known before after answer → Archive → (Archive → Type 0) → Type 0
+IsLeftIfAsked (inl unasked) A Remains = Remains A
+IsLeftIfAsked {member = member} {token = token} (inr once) A Remains = IsLeftOfRun A (ask.Deposit member token once.file ∷ []) (once.reply ∷ []) Remains
+
+-- what is left of a job that a crash cut off
+abbrev pub IsLeftBy : {D : Type 0} {g : disk.Ghosts D} {image : Image} {capacity : ℕ} {left : Option (Files D)} → PathJob g image capacity left → Archive → (Archive → Type 0) → Type 0
+IsLeftBy (by_session it) A Remains = IsLeftOf A (messages_of it.serves.exchanges) (replies_of it.serves.exchanges) Remains
+IsLeftBy (by_deposit it) A Remains = IsLeftIfAsked it.deposits A Remains
+
+-- A crash cut a job off before its files were closed, and another job opens what it left. If the disk of the first was honest, the second begins with the archive
+-- after a beginning of what the first was asked, or after the one request that follows as well, and every deposit and census that was acknowledged is in it.
+abbrev pub PathJobsComposeOverCrashes : {D E : Type 0} → disk.Ghosts D → disk.Ghosts E → Type 0
+PathJobsComposeOverCrashes {D} {E} g h =
+    (image again : Image) (capacity next : ℕ) (mid : Option (Files D)) (left : Option (Files E)) (one : PathJob g image capacity mid) (two : PathJob h again next left)
+    → IsHonest over_files (last_of one) → MayBeFound (last_of one).store again → (A : Archive) → A.capacity ≡ capacity → Begins image A
+    → ∥ IsLeftBy one A (λ B. LeavesOne h (BecomesBy two (under next B)) left) ∥₁
 
 -- ---- what the program prints
 
--- a deposit, with the line that is printed if it stops
-abbrev pub AnswersDeposit : {D : Type 0} → disk.Ghosts D → Image → ℕ → List ℕ → List ℕ → Option (List ℕ) → Option (List ℕ) → Option (List ℕ) → Option (List ℕ) → Type 0
-AnswersDeposit g image capacity member token known before after line =
-    (answer : Result (Unit {0}) ArchiveStop) × DepositsAt g image capacity member token known before after answer × (line ≡ line_after answer)
+-- A deposit, with the line that is printed if it stops: what it does to the archive and what it leaves of it, and what it does with its streams.
+pub record AnswersDeposit {D I O : Type 0} (g : disk.Ghosts D) (i : inlet.Ghosts I) (o : outlet.Ghosts O) (image : Image) (capacity : ℕ) (member token : List ℕ) (input rest : I) (output sent : O) (line : Option (List ℕ)) : Type 0 where
+  pub answer : Result (Unit {0}) ArchiveStop
+  pub left : Option (Files D)
+  pub deposits : DepositsAt g image capacity member token (i.to_come input) (o.already output) (o.already sent) answer left
+  pub takes : TakesFile (i.to_come input) (i.to_come rest) (i.failures input) (i.failures rest) (i.ends input) (i.ends rest) (i.last_take rest) (by_streams answer)
+  pub once : PutsOnce output sent (o.failures output) (o.failures sent) (o.last_failed sent) (by_streams answer)
+  pub printed : line ≡ line_after answer
 
 -- A session with connections whose bytes are unknown, or the line of its stop. How many connections were not served to their end is counted.
 abbrev pub AnswersServing : {D : Type 0} → disk.Ghosts D → Image → ℕ → ℕ → Option (List ℕ) → Type 0

@@ -1,7 +1,9 @@
 //! The jobs over an archive in the file of a path, as the program does them: the archive is opened, asked and closed.
 ghost use Rattle.std.specs.Prelude.{◌≡◌, OnErr, IfOk, IfErr};
 ghost use Rattle.sqlite_wal.specs.Files.{image_at};
-ghost use Rattle.life_archive.specs.Path.{opening_stop, DepositsIn, DepositsAt, EndsPathSession, IsPathSession, IsUnserved};
+ghost use Rattle.life_jobs.specs.Streams.{TakesFile, PutsOnce};
+ghost use Rattle.life_archive.specs.Deposit.{by_streams};
+ghost use Rattle.life_archive.specs.Path.{opening_stop, EndsPathDeposit, DepositsAt, EndsPathSession, IsPathSession, IsUnserved, PathJobsCompose, PathJobsComposeOverCrashes};
 
 use crate::deposit::run_deposit;
 use crate::session::{Connections, serve_connections};
@@ -33,17 +35,23 @@ fn deposit_opened<D: Disk + Drop, I: Inlet, O: Outlet>(
     token: &str,
     input: &mut I,
     output: &mut O,
-) -> Result<(), ArchiveStop>
-    ensures { DepositsIn archive member.now token.now (I.to_come input.old) (O.already output.old) (O.already output.new) result }
+) -> (Result<(), ArchiveStop>, Option<Files<D>>)
+    ensures ends { EndsPathDeposit D.Disk archive member.now token.now (I.to_come input.old) (O.already output.old) (O.already output.new) result.0 result.1 }
+    ensures takes { TakesFile (I.to_come input.old) (I.to_come input.new) (I.failures input.old) (I.failures input.new) (I.ends input.old) (I.ends input.new) (I.last_take input.new) (by_streams result.0) }
+    ensures once { PutsOnce output.old output.new (O.failures output.old) (O.failures output.new) (O.last_failed output.new) (by_streams result.0) }
 {
+    laws_of_steady_fields();
     let mut archive = archive;
+    archive.law_of_crashes();
     let done = run_deposit(alloc, &mut archive, member, token, input, output);
-    let _closed = archive.close_files();
-    done
+    match archive.close_files() {
+        Ok(files) => (done, Some(files)),
+        Err(_) => (done, None),
+    }
 }
 
-/// Deposits the pattern file that comes in, in the archive of the path, which is made if the file is not there. `start` says what the files
-/// are taken to hold, as for `Archive::open_path`.
+/// Deposits the pattern file that comes in, in the archive of the path, which is made if the file is not there, and closes it, so that the
+/// database file has all. `start` says what the files are taken to hold, as for `Archive::open_path`. The files are given back if they were closed.
 pub fn deposit_path<T: Start, I: Inlet, O: Outlet>(
     rt: &HostRuntime,
     path: &str,
@@ -53,12 +61,16 @@ pub fn deposit_path<T: Start, I: Inlet, O: Outlet>(
     token: &str,
     input: &mut I,
     output: &mut O,
-) -> Result<(), ArchiveStop>
-    ensures { DepositsAt ⟦<FileFrom<T> as Disk>⟧ (image_at T.Start) capacity member.now token.now (I.to_come input.old) (O.already output.old) (O.already output.new) result }
+) -> (Result<(), ArchiveStop>, Option<Files<FileFrom<T>>>)
+    // Files that are given back mean the archive that they were opened as, after the one deposit, or as it was.
+    ensures deposits { DepositsAt ⟦<FileFrom<T> as Disk>⟧ (image_at T.Start) capacity member.now token.now (I.to_come input.old) (O.already output.old) (O.already output.new) result.0 result.1 }
+    ensures takes { TakesFile (I.to_come input.old) (I.to_come input.new) (I.failures input.old) (I.failures input.new) (I.ends input.old) (I.ends input.new) (I.last_take input.new) (by_streams result.0) }
+    // Nothing is put before a refusal, and nothing after a put that failed.
+    ensures once { PutsOnce output.old output.new (O.failures output.old) (O.failures output.new) (O.last_failed output.new) (by_streams result.0) }
 {
     match Archive::open_path(rt, path, capacity, start) {
         Ok(archive) => deposit_opened(rt.alloc(), archive, member, token, input, output),
-        Err(fault) => Err(opening_stop(fault)),
+        Err(fault) => (Err(opening_stop(fault)), None),
     }
 }
 
@@ -106,4 +118,13 @@ pub fn serve_path<T: Start, C: Connections>(
         },
         Err(fault) => Err(opening_stop(fault)),
     }
+}
+
+/// A job over the files of a path begins with what the one before it left, whether it serves or deposits: as it left the files when it closed
+/// them, as a crash left them after that, or as a crash left them before. A law: calling it does nothing.
+pub fn law_of_path_jobs<D: Disk, E: Disk>()
+    ensures composed { PathJobsCompose D.Disk E.Disk }
+    ensures crashed { PathJobsComposeOverCrashes D.Disk E.Disk }
+{
+    laws_of_steady_fields();
 }

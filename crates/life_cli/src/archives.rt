@@ -1,6 +1,7 @@
 //! The jobs over an archive in files of this machine.
+ghost use Rattle.std.specs.Prelude.{◌≡◌, None, Some, MatchResult};
 ghost use Rattle.sqlite_wal.specs.Files.{image_at};
-ghost use Rattle.life_archive.specs.Path.{AnswersDeposit, AnswersServing};
+ghost use Rattle.life_archive.specs.Path.{AnswersDeposit, AnswersServing, line_after};
 
 use crate::net::Port;
 use life_archive::{ArchiveStop, deposit_path, serve_path};
@@ -12,15 +13,25 @@ use sqlite_disk::Disk;
 /// How many deposits and how many censuses an archive takes.
 const CAPACITY: u64 = 1_000_000;
 
+/// The line of a stop in place of the stop.
+fn or_line(done: Result<(), ArchiveStop>) -> Result<(), &'static str>
+    ensures { MatchResult result (λ _. line_after done ≡ None) (λ line. line_after done ≡ Some line.now) }
+{
+    match done {
+        Ok(()) => Ok(()),
+        Err(stop) => Err(stop.line()),
+    }
+}
+
 /// Archives in files of this machine.
 pub struct InFiles;
 
 impl ArchiveJobs for InFiles {
     // What the files of this machine hold at first is unknown but for files without a byte.
-    ghost deposits = { λ member token known before after line.
-        AnswersDeposit ⟦<FileFrom<Unknown> as Disk>⟧ (image_at ⟦<Unknown as Start>⟧) 1000000 member token known before after line };
+    ghost deposits = { λ I O i o file member token input rest output sent line.
+        AnswersDeposit ⟦<FileFrom<Unknown> as Disk>⟧ i o (image_at ⟦<Unknown as Start>⟧) 1000000 member token input rest output sent line };
 
-    ghost serves = { λ port connections line. AnswersServing ⟦<FileFrom<Unknown> as Disk>⟧ (image_at ⟦<Unknown as Start>⟧) 1000000 connections line };
+    ghost serves = { λ file port connections line. AnswersServing ⟦<FileFrom<Unknown> as Disk>⟧ (image_at ⟦<Unknown as Start>⟧) 1000000 connections line };
 
     fn deposit<I: Inlet, O: Outlet>(
         rt: &HostRuntime,
@@ -30,10 +41,10 @@ impl ArchiveJobs for InFiles {
         input: &mut I,
         output: &mut O,
     ) -> Result<(), &'static str> {
-        match deposit_path(rt, file, CAPACITY, Unknown, member, token, input, output) {
-            Ok(()) => Ok(()),
-            Err(stop) => Err(stop.line()),
-        }
+        let (done, _files) = deposit_path(
+            rt, file, CAPACITY, Unknown, member, token, input, output,
+        );
+        or_line(done)
     }
 
     fn serve(

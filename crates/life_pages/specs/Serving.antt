@@ -2,7 +2,7 @@
 use Rattle.std.specs.Prelude.{◌≡◌, Bool, ℕ, ◌+◌, ◌*◌, ◌≤◌, List, [], ◌∷◌, ◌++◌, length, Option, None, Some, Result, Ok, Err, OnOk, IfSome}
 use Rattle.life_rle.specs.declared.stream.Inlet as inlet
 use Rattle.life_rle.specs.declared.stream.Outlet as outlet
-use Rattle.life_rle.specs.Stream.{raised, FailedBetween, FailsLast, Loses, LosesUpTo, Gains, GainsSome}
+use Rattle.life_rle.specs.Stream.{raised, EndsLast, FailedBetween, FailsLast, Loses, LosesUpTo, Gains, GainsSome}
 use Rattle.life_pages.specs.Head.{Head}
 use Rattle.life_pages.specs.Message.{Message, Messages, Front, Starts, MessageRun, HasNone, IsAwaited}
 use Rattle.life_pages.specs.declared.fault.IoFault.{IoFault}
@@ -141,6 +141,8 @@ pub record UsesStreams {I O : Type 0} (i : inlet.Ghosts I) (o : outlet.Ghosts O)
   -- At most 1,048,576 takes are made, and at most 4,096 times as many bytes are taken.
   pub takes : i.takes rest ≤ i.takes input + most_takes
   pub most : LosesUpTo (most_takes * most_taken) (i.to_come input) (i.to_come rest)
+  -- Nothing is taken after the end: it is found once at most, by the last take.
+  pub ended : EndsLast (i.ends input) (i.ends rest) (i.last_take rest)
   -- A failed take is answered at once, a failed put is answered, and nothing else is.
   pub on_failed_take : ReportsTakeFailures (i.failures input) (i.failures rest) result
   pub puts : ReportsPutFailures (o.failures output) (o.failures sent) (o.last_failed sent) result

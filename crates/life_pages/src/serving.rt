@@ -1,6 +1,6 @@
 //! Serving the messages of a stream.
 ghost use Rattle.std.specs.Prelude.{◌⊎◌, ◌≡◌, ℕ, ◌+◌, ◌-◌, ◌*◌, ◌<◌, ◌≤◌, List, [], ◌∷◌, ◌++◌, length, drop, true, false, vec_len, vec_capacity, Err, OnOk, OnErr, IfOk};
-ghost use Rattle.life_rle.specs.Stream.{counted, moved, raised, FailsLast, LosesUpTo, Gains, GainsSome};
+ghost use Rattle.life_rle.specs.Stream.{counted, ended, moved, raised, EndsLast, FailsLast, LosesUpTo, Gains, GainsSome};
 ghost use Rattle.life_pages.specs.Head.{Head};
 ghost use Rattle.life_pages.specs.HeadState.{said};
 ghost use Rattle.life_pages.specs.RouteState.{route_rows};
@@ -164,6 +164,7 @@ fn take_into<I: Inlet>(input: &mut I, space: &mut [u8], held: &mut Vec<u8>) -> R
     ensures gave { I.last_take input.new ≡ moved result }
     ensures room { vec_capacity held.old ≤ vec_capacity held.new }
     ensures count { I.failures input.new ≡ counted (I.failures input.old) result }
+    ensures end { I.ends input.new ≡ ended (I.ends input.old) result }
 {
     match input.take(space) {
         Ok(k) => {
@@ -185,6 +186,7 @@ fn take_more<I: Inlet>(input: &mut I, held: &mut Vec<u8>) -> Result<usize, Faile
     ensures gave { I.last_take input.new ≡ moved result }
     ensures room { vec_capacity held.old ≤ vec_capacity held.new }
     ensures count { I.failures input.new ≡ counted (I.failures input.old) result }
+    ensures end { I.ends input.new ≡ ended (I.ends input.old) result }
 {
     let mut space = [0u8; MOST_TAKEN];
     let room = room_left(held);
@@ -210,6 +212,7 @@ fn pass_blank<I: Inlet>(input: &mut I, takes: u64) -> Passed
     ensures most { LosesUpTo (takes * MOST_TAKEN) (I.to_come input.old) (I.to_come input.new) }
     ensures made { I.takes input.new ≤ I.takes input.old + takes }
     ensures on_failed_take { HearsPassed (I.failures input.old) (I.failures input.new) result }
+    ensures ends { EndsLast (I.ends input.old) (I.ends input.new) (I.last_take input.new) }
 {
     let mut space = [0u8; MOST_TAKEN];
     'passed: for _i in 0..takes {
@@ -245,6 +248,7 @@ fn serve_blank<I: Inlet, O: Outlet>(
     ensures most { LosesUpTo (takes * MOST_TAKEN) (I.to_come input.old) (I.to_come input.new) }
     ensures made { I.takes input.new ≤ I.takes input.old + takes }
     ensures on_failed_take { ReportsTakeFailures (I.failures input.old) (I.failures input.new) result }
+    ensures ends { EndsLast (I.ends input.old) (I.ends input.new) (I.last_take input.new) }
     ensures puts { ReportsPutFailures (O.failures output.old) (O.failures output.new) (O.last_failed output.new) result }
 {
     match pass_blank(input, takes) {
@@ -321,6 +325,7 @@ fn serve_stream<I: Inlet, O: Outlet, D: Desk>(
     ensures most { LosesUpTo (TAKES * MOST_TAKEN) (I.to_come input.old) (I.to_come input.new) }
     ensures takes { I.takes input.new ≤ I.takes input.old + TAKES }
     ensures on_failed_take { ReportsTakeFailures (I.failures input.old) (I.failures input.new) result }
+    ensures ends { EndsLast (I.ends input.old) (I.ends input.new) (I.last_take input.new) }
     ensures puts { ReportsPutFailures (O.failures output.old) (O.failures output.new) (O.last_failed output.new) result }
 {
     let mut taken = 0;

@@ -14,9 +14,9 @@ use std::process::ExitCode;
 struct NoArchive;
 
 impl ArchiveJobs for NoArchive {
-    ghost deposits = { λ member token told old new line. line ≡ Some (codes "refused: unavailable") };
+    ghost deposits = { λ I O i o file member token input rest output sent line. line ≡ Some (codes "refused: unavailable") };
 
-    ghost serves = { λ port connections line. line ≡ Some (codes "refused: unavailable") };
+    ghost serves = { λ file port connections line. line ≡ Some (codes "refused: unavailable") };
 
     fn deposit<I: Inlet, O: Outlet>(
         _rt: &HostRuntime,

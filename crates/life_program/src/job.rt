@@ -3,7 +3,9 @@ ghost use Rattle.std.specs.Prelude.{◌≡◌, ℕ, List, Option, None, Some, Er
 ghost use Rattle.life_jobs.specs.Stop.{line_of};
 ghost use Rattle.life_jobs.specs.declared.stop.Stop.{Stop as StopValue};
 ghost use Rattle.life_words.specs.Words.{asked_by};
-ghost use Rattle.life_program.specs.Job.{DoesFileJob, DoesJob, line_after};
+ghost use Rattle.life_rle.specs.declared.stream.Inlet as inlet;
+ghost use Rattle.life_rle.specs.declared.stream.Outlet as outlet;
+ghost use Rattle.life_program.specs.Job.{DoesFileJob, UsesStreams, TakesNothing, DoesJob, line_after};
 
 use crate::explain::run_explain;
 use life_jobs::{Stop, run_census, run_generation, run_kind, run_object};
@@ -14,10 +16,10 @@ use std::alloc::Global;
 /// The jobs over the archive of a file, which each program does in its own way. Each answers the line for standard error if it stops, without
 /// its line end; it is empty if nothing is printed.
 pub trait ArchiveJobs {
-    // What a deposit does: by its member and its token, the bytes that come in, those that were put before it and after it, and the line.
-    ghost deposits: { List ℕ → List ℕ → Option (List ℕ) → Option (List ℕ) → Option (List ℕ) → Option (List ℕ) → Type 0 };
-    // What serving does: by its port, its count of connections, and the line.
-    ghost serves: { ℕ → ℕ → Option (List ℕ) → Type 0 };
+    // What a deposit does: by its file, its member and its token, its streams before it and after it, and the line.
+    ghost deposits: { (I O : Type 0) → inlet.Ghosts I → outlet.Ghosts O → List ℕ → List ℕ → List ℕ → I → I → O → O → Option (List ℕ) → Type 0 };
+    // What serving does: by its file, its port, its count of connections, and the line.
+    ghost serves: { List ℕ → ℕ → ℕ → Option (List ℕ) → Type 0 };
 
     /// Deposits the pattern that comes in under the member and the token.
     fn deposit<I: Inlet, O: Outlet>(
@@ -29,12 +31,12 @@ pub trait ArchiveJobs {
         output: &mut O,
     ) -> Result<(), &'static str>
         ensures { MatchResult result
-            (λ _. deposits member.now token.now (I.to_come input.old) (O.already output.old) (O.already output.new) None)
-            (λ line. deposits member.now token.now (I.to_come input.old) (O.already output.old) (O.already output.new) (Some line.now)) };
+            (λ _. deposits I O I.Inlet O.Outlet file.now member.now token.now input.old input.new output.old output.new None)
+            (λ line. deposits I O I.Inlet O.Outlet file.now member.now token.now input.old input.new output.old output.new (Some line.now)) };
 
     /// Serves so many connections at the port.
     fn serve(rt: &HostRuntime, file: &str, port: u64, connections: u64) -> Result<(), &'static str>
-        ensures { MatchResult result (λ _. serves port connections None) (λ line. serves port connections (Some line.now)) };
+        ensures { MatchResult result (λ _. serves file.now port connections None) (λ line. serves file.now port connections (Some line.now)) };
 }
 
 /// The line of a stop in place of the stop.
@@ -54,7 +56,9 @@ fn do_file_job<I: Inlet, O: Outlet>(
     input: &mut I,
     output: &mut O,
 ) -> Result<(), Stop>
-    ensures { DoesFileJob (asked_by job.entry) (I.to_come input.old) (O.already output.old) (O.already output.new) result }
+    ensures does { DoesFileJob (asked_by job.entry) (I.to_come input.old) (O.already output.old) (O.already output.new) result }
+    ensures streams { UsesStreams I.Inlet O.Outlet input.old input.new output.old output.new result }
+    ensures none_taken { TakesNothing (asked_by job.entry) input.old input.new }
 {
     match job {
         Job::Generation(n) => run_generation(alloc, n, input, output),
@@ -74,8 +78,8 @@ pub fn do_job<J: ArchiveJobs, I: Inlet, O: Outlet>(
     output: &mut O,
 ) -> Result<(), &'static str>
     ensures { MatchResult result
-        (λ _. DoesJob J.deposits J.serves (asked_by job.entry) (I.to_come input.old) (O.already output.old) (O.already output.new) None)
-        (λ line. DoesJob J.deposits J.serves (asked_by job.entry) (I.to_come input.old) (O.already output.old) (O.already output.new) (Some line.now)) }
+        (λ _. DoesJob I.Inlet O.Outlet J.deposits J.serves (asked_by job.entry) input.old input.new output.old output.new None)
+        (λ line. DoesJob I.Inlet O.Outlet J.deposits J.serves (asked_by job.entry) input.old input.new output.old output.new (Some line.now)) }
 {
     match job {
         Job::Deposit {

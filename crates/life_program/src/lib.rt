@@ -11,5 +11,5 @@ mod tip;
 pub use explain::run_explain;
 pub use job::{ArchiveJobs, do_job};
 pub use printing::{print_fault, print_stop};
-pub use program::run_program;
+pub use program::{run_program, run_words};
 pub use tip::print_fault_of;

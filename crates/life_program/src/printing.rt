@@ -1,4 +1,5 @@
 //! What a program prints if it does no job, and the status that it then ends with.
+ghost use Rattle.life_program.specs.Job.{status_by, IsStatus};
 
 use clap::error::ErrorKind;
 use life_jobs::Stop;
@@ -10,7 +11,9 @@ use std::process::ExitCode;
 const BAD_WORDS: u8 = 2;
 
 /// Prints the line of a stop, if it has one, and gives the status 1.
-pub fn print_stop(rt: &impl Eprint, line: &str) -> io::Result<ExitCode> {
+pub fn print_stop(rt: &impl Eprint, line: &str) -> io::Result<ExitCode>
+    ensures { IsStatus result 1 }
+{
     if !line.is_empty() {
         rt.eprintln(line)?;
     }
@@ -19,7 +22,9 @@ pub fn print_stop(rt: &impl Eprint, line: &str) -> io::Result<ExitCode> {
 
 /// Prints why the arguments name no job: what `clap` says of them on standard error, with the status 2, or that memory was refused, as a stop.
 /// The version is printed on standard output, with the status 0.
-pub fn print_fault(rt: &HostRuntime, fault: WordFault) -> io::Result<ExitCode> {
+pub fn print_fault(rt: &HostRuntime, fault: WordFault) -> io::Result<ExitCode>
+    ensures { IsStatus result (status_by fault) }
+{
     match fault {
         WordFault::BadWords(Some(error)) if error.kind() == ErrorKind::DisplayVersion => {
             print!(rt; "{error}")?;

@@ -1,10 +1,14 @@
 //! From the arguments of the process to its status.
+ghost use Rattle.std.specs.Prelude.{map, MatchResult};
+ghost use Rattle.life_words.specs.Words.{words_job};
+ghost use Rattle.life_program.specs.Job.{IsStatus, WordsEnd};
 
 use crate::job::{ArchiveJobs, do_job};
 use crate::printing::{print_fault, print_stop};
 use crate::tip::print_fault_of;
-use life_rle::{FromRead, FromWrite};
+use life_rle::{FromRead, FromWrite, Inlet, Outlet};
 use life_words::{Job, life_command, read_words, words_of};
+use std::convert::AsStr;
 use std::io;
 use std::process::ExitCode;
 
@@ -16,33 +20,39 @@ fn reads_pattern(rt: &HostRuntime, words: &[String]) -> bool {
     )
 }
 
-/// Does a job over standard input and output.
-fn run<J: ArchiveJobs>(rt: &HostRuntime, job: Job<'_>) -> Result<(), &'static str> {
-    let mut input = FromRead::new(rt.reader());
-    let mut output = FromWrite::new(io::writer(rt));
-    do_job::<J, _, _>(rt, job, &mut input, &mut output)
+/// The status after a job, with the line on standard error if it stopped.
+fn print_done(rt: &HostRuntime, done: Result<(), &'static str>) -> io::Result<ExitCode>
+    ensures { MatchResult done.entry (λ _. IsStatus result 0) (λ line. IsStatus result 1) }
+{
+    match done {
+        Ok(()) => Ok(ExitCode::SUCCESS),
+        Err(line) => print_stop(rt, line),
+    }
 }
 
-/// Does the job that the arguments of the process name. The result is the status that the process ends with: 0; 1 if the job stopped, with
-/// a line on standard error; 2 if the arguments name no job, with the text of `clap`.
+/// Does the job that the words name over these streams; the first of them is the program's name. The result is the status that the process
+/// ends with: 0; 1 if the job stopped, with a line on standard error; 2 if the words name no job, with the text of `clap`.
+pub fn run_words<J: ArchiveJobs, I: Inlet, O: Outlet>(
+    rt: &HostRuntime,
+    words: &[String],
+    input: &mut I,
+    output: &mut O,
+) -> io::Result<ExitCode>
+    ensures { WordsEnd I.Inlet O.Outlet J.deposits J.serves (words_job (map ⟦<String as AsStr>⟧.text words.now)) input.old input.new output.old output.new result }
+{
+    match read_words(rt.alloc(), words) {
+        Ok(job) => print_done(rt, do_job::<J, I, O>(rt, job, input, output)),
+        Err(fault) => print_fault_of(rt, fault, words, |words| reads_pattern(rt, words)),
+    }
+}
+
+/// Does the job that the arguments of the process name, over standard input and output, as [`run_words`] says.
 pub fn run_program<J: ArchiveJobs>(rt: &HostRuntime) -> io::Result<ExitCode> {
     let words = match words_of(rt, || life_command(rt.alloc())) {
         Ok(words) => words,
         Err(fault) => return print_fault(rt, fault),
     };
-    let job = match read_words(rt.alloc(), words.as_slice()) {
-        Ok(job) => job,
-        Err(fault) => {
-            return print_fault_of(
-                rt,
-                fault,
-                words.as_slice(),
-                |words| reads_pattern(rt, words),
-            );
-        }
-    };
-    match run::<J>(rt, job) {
-        Ok(()) => Ok(ExitCode::SUCCESS),
-        Err(line) => print_stop(rt, line),
-    }
+    let mut input = FromRead::new(rt.reader());
+    let mut output = FromWrite::new(io::writer(rt));
+    run_words::<J, _, _>(rt, words.as_slice(), &mut input, &mut output)
 }

@@ -1,4 +1,5 @@
 //! The line that follows a usage error if a file is named where its pattern comes on standard input.
+ghost use Rattle.life_program.specs.Job.{status_by, IsStatus};
 
 use crate::printing::print_fault;
 use clap::error::ErrorKind;
@@ -88,6 +89,7 @@ pub fn print_fault_of<F>(
 where
     F: FnOnce(&[String]) -> bool,
     requires { F.IsAlwaysCallable reads_pattern }
+    ensures { IsStatus result (status_by fault) }
 {
     let line = line_for(rt.alloc(), &fault, words, reads_pattern);
     let status = print_fault(rt, fault)?;

@@ -5,7 +5,7 @@ pub returns-in-Ok : goal.returns-in-Ok
 returns-in-Ok g c =
     let last = c.serve_connections.new.archive in
     let served = c.serve_connections.ensures.served in
-    record { last = last; serves = served; leaves = λ image capacity opens A fits begins. closed_leaves c.args.archive last c.args.count _ _ c.laws_of_steady_fields.ensures.decided served c.in-Ok.files c.in-Ok.ensures.healthy c.in-Ok.ensures.left c.in-Ok.ensures.alone image capacity opens A fits begins }
+    record { last = last; serves = served; leaves = λ image capacity opens A fits begins. closed_leaves c.args.archive last c.laws_of_steady_fields.ensures.decided c.in-Ok.files c.in-Ok.ensures.healthy c.in-Ok.ensures.left c.in-Ok.ensures.alone c.args.count _ _ served image capacity opens A fits begins }
 
 pub returns : goal.returns
 returns g c = record { last = c.serve_connections.new.archive; serves = c.serve_connections.ensures.served; leaves = λ image capacity opens A fits begins. tt }

@@ -11,3 +11,4 @@ invariant-passed g l =
     × (g.I.Inlet.failures l.input ≡ g.I.Inlet.failures l.fn.input)
     × (length l.space ≡ most_taken)
     × (g.I.Inlet.takes l.input ≤ g.I.Inlet.takes l.fn.input + l._i)
+    × (g.I.Inlet.ends l.input ≡ g.I.Inlet.ends l.fn.input)

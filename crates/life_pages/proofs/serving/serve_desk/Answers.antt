@@ -21,6 +21,7 @@ returns-in-Ok-clause-streams g c =
       grows = some_grows _ _ _ _ _ _ (outcome_some _ _ _ _ _ _ _ _ _ it.outcome);
       takes = it.takes;
       most = it.most;
+      ended = it.ends;
       on_failed_take = it.on_failed_take;
       puts = it.puts;
       read = search rules;

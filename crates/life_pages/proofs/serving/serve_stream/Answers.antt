@@ -1,4 +1,6 @@
 use Rattle.std.proofs.Common.{◌∙◌, arith, refl, []}
+use Rattle.life_rle.specs.declared.stream.Failed.{Failed}
+use Rattle.life_rle.proofs.StreamLemmas.{ended_more}
 use Rattle.life_pages.specs.MessageState.{held_limit}
 use Rattle.life_pages.proofs.MessageStanding.{wants_more}
 use Rattle.life_pages.proofs.ServingReading.{loses_none, reading_start, reached_start, reading_went, reading_fed, reached_fed, reached_cut, fed_end, paused, reading_failed}
@@ -20,6 +22,7 @@ takes-init g c = record {
   below = c.requires.below;
   made = omega arith;
   reached = reached_start _ _ _ _ _ c.requires.empty;
+  unended = refl;
 }
 
 pub returns-in-Ok-true-clause-outcome : goal.returns-in-Ok-true-clause-outcome
@@ -90,4 +93,5 @@ takes-preserved g c =
       made = one_take _ _ _ _ c.takes.invariant.made c.take_more.ensures.made;
       reached = reached_fed _ _ _ _ _ _ _ _ _ _ _ r s.1.0 c.in-Ok.ensures.taken c.in-Ok.ensures.most c.in-Ok.ensures.gave;
       below = wants_more _ _ c.in-Ok.ensures.taken.0 _ c.serve_held.ensures.below c.in-Ok.ensures.taken.2;
+      unended = c.in-Ok.ensures.end ∙ ended_more Failed _ c.in-Ok.field-0 c.in-Ok.field-0-test.1 ∙ c.takes.invariant.unended;
     }

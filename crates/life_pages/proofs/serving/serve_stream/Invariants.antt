@@ -8,7 +8,7 @@ use Rattle.life_rle.specs.Stream.{LosesUpTo}
 use Rattle.life_pages.proofs.ServingReading.{Reading, Reached}
 use Rattle.life_pages.proofs.serving.serve_stream.Given as goal
 
-pub record Going (r m t f p h d i o b n l : Type 0) : Type 0 where
+pub record Going (r m t f p h d i o b n l e : Type 0) : Type 0 where
   pub reading : r
   pub many : m
   pub most : t
@@ -21,6 +21,7 @@ pub record Going (r m t f p h d i o b n l : Type 0) : Type 0 where
   pub below : b
   pub made : n
   pub reached : l
+  pub unended : e
 
 abbrev pub invariant-takes : goal.invariant-takes
 invariant-takes g l = Going
@@ -36,6 +37,7 @@ invariant-takes g l = Going
     (WantsUntil l.ready.wanted l.ready.held.items)
     (g.I.Inlet.takes l.input ≤ g.I.Inlet.takes l.fn.input + l.taken)
     (Reached (AnswersMessage g.D.Desk.answers) (g.I.Inlet.to_come l.fn.input) (g.I.Inlet.to_come l.input) (g.I.Inlet.last_take l.input) l.ready.held.items l.fn.desk l.desk (g.O.Outlet.already l.fn.output) (g.O.Outlet.already l.output))
+    (g.I.Inlet.ends l.input ≡ g.I.Inlet.ends l.fn.input)
 
 abbrev pub decreases-takes : goal.decreases-takes
 decreases-takes g l = most_takes - l.taken

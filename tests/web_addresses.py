@@ -17,8 +17,8 @@ PROGRAMS = [None, "*/*", "application/json", "text/plain, text/csv"]
 GUN = "Gosper glider gun"
 ADDRESSES = [("/", "", "Deposits"), ("/d", "", "Deposits"), ("/d/after/3", "", "Deposits"), ("/d/of/ann", "Deposits of ann · ", "Deposits of ann"), ("/d/of/ann/before/4", "", "Deposits of ann"),
              ("/d/4", "Deposit 4 · ", GUN), ("/d/4/at/30", "Deposit 4, generation 30 · ", f"{GUN}, generation 30"), ("/c", "", "Censuses"), ("/c/1", "Census 1 · ", "Census 1"),
-             ("/o/B3-S23/xq4_153", "xq4_153 · ", "xq4_153"), ("/new", "", "Deposit a file"), ("/find", "", "Find"), ("/find?text=gun", "", "Found"), ("/haul", "", "Haul"), ("/D/4", "Deposit 4 · ", GUN)]
-NOWHERE = ["/x", "/d/", "/d/x", "/d/4/", "/d/4/at", "/d/4/at/x", "/d/-1", "/d/1234567890123456", "/d/of/a_b", "/c/", "/c/x", "/c/1/csv", "/o", "/o/B3-S23", "/o/B3/S23/xs4_33", "/new/1", "/finds",
+             ("/o/B3-S23/xq4_153", "xq4_153 · ", "xq4_153"), ("/o", "", "Objects"), ("/o/B3-S23", "", "Objects of B3/S23"), ("/about", "", "About"), ("/new", "", "Deposit a file"), ("/find", "", "Find"), ("/find?text=gun", "", "Found"), ("/haul", "", "Haul"), ("/D/4", "Deposit 4 · ", GUN)]
+NOWHERE = ["/x", "/d/", "/d/x", "/d/4/", "/d/4/at", "/d/4/at/x", "/d/-1", "/d/1234567890123456", "/d/of/a_b", "/c/", "/c/x", "/c/1/csv", "/o/", "/o/B3/S23/xs4_33", "/about/", "/new/1", "/finds",
            "/deposit/4", "/index", "/index/", "/web", "/web/", "/%78", "/census/1", "/index.html", "/preview.png"]
 # Routes of the archive, some with a reply that refuses.
 ROUTES = ["/deposits/1", "/deposits/1/at/7", "/deposits/1/kind/4", "/deposits/after/1000000", "/censuses/1", "/censuses/1/csv", "/objects/B3S23/xq4_153/4", "/deposits", "/deposits/x", "/deposits/900", "/deposits/1/",
@@ -96,7 +96,7 @@ def nowhere(gateway, browser, base, _folder):
         browser.open(f"{base}/{path}")
         check(f"a reader at /{path}", browser.until(lambda: "no such page" in browser.text(".refusal")) and browser.run("return document.title") == f"Not found · {SITE_NAME}")
     browser.one("main a[href='/']").click()
-    check("from there it leads to the deposits", browser.at("/") and browser.until(lambda: browser.text("h1") == "Deposits"))
+    check("from there it leads to the deposits", browser.at("/") and browser.until(lambda: "archive of Game of Life patterns" in browser.text("h1")))
 
 
 def previews(gateway, browser, base, _folder):
@@ -142,7 +142,7 @@ def links(_gateway, browser, base, _folder):
     check("a link to a deposit", browser.at(first) and browser.until(lambda: browser.all("canvas.large")))
     browser.one("header nav a[href='/new']").click()
     check("a link of the head", browser.at("/new") and browser.until(lambda: browser.text("h1") == "Deposit a file")
-          and browser.run("return document.querySelector('[aria-current=page]').textContent") == "Deposit a file")
+          and browser.run("return document.querySelector('[aria-current=page]').textContent") == "New deposit")
     for address in (first, "/d/after/3"):
         browser.driver.back()
         check(f"back to {address}", browser.at(address) and browser.until(lambda: browser.all("canvas")))

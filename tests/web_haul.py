@@ -48,7 +48,7 @@ def at_haul(browser, base):
 # ---- what is shown
 
 ROWS = """
-return [...document.querySelectorAll('main tbody tr')].map((row) => ({ code: row.querySelector('th code').textContent, name: row.querySelector('th small')?.textContent ?? null,
+return [...document.querySelectorAll('main tbody tr')].map((row) => ({ code: row.querySelector('th code').textContent, name: row.querySelector('th .name')?.textContent ?? null,
   link: row.querySelector('th a').pathname, numbers: [...row.querySelectorAll('.number')].map((cell) => cell.textContent), bar: row.querySelector('.bar').getBoundingClientRect().width }));
 """
 # For each row the pixels of its drawing that are of the color of live cells; null if it has none.

@@ -61,7 +61,7 @@ def searched(gateway, browser, base, folder):
     browser.open(f"{base}/find")
     browser.type("#search-text", "lone block" + ENTER)
     check("a name by the form", browser.at("/find?text=lone+block") and browser.until(lambda: numbers(browser) == [ids[1]]))
-    check("it is said what the index is", "of which nothing is proved" in browser.text(".hint"))
+    check("it is said what the index is", "nothing about it is proved" in browser.text(".hint"))
     browser.picture("search")
     for query, wanted in [("text=block", [ids[2], ids[1]]), ("text=block+beside", [ids[2]]), ("text=eater", [ids[0]]), ("text=%C3%89ATER", [ids[0]]), ("text=smith", [ids[0]]),
                           ("author=jones", [ids[1]]), ("rule=23/36", [ids[3]]), ("rule=B36/S23", [ids[3]]), ("member=dan", [ids[3], ids[2]]), ("member=DAN&cells=8..8", [ids[2]]),
@@ -105,7 +105,7 @@ def counted(gateway, browser, base, folder):
     check(f"where an object occurs: {found}", [row[0] for row in found][:3] == [str(number) for number in sorted(made, reverse=True)] and [row[2] for row in found][:3] == ["1", "2", "1"])
     total = int(browser.text(".total").split()[0])
     check("it is the total of the archive", sum(int(row[2]) for row in found) == total and f"In {len(found)} censuses of " in browser.text("#occurrences"))
-    check("a deposit by its name", found[0][1] == f"Lone blockdeposit {one}, generation 3")
+    check("a deposit by its name", found[0][1].startswith(f"Lone blockdeposit {one}, generation 3"))
     browser.picture("object")
     browser.one("#occurrences tbody a").click()
     check("it leads to the census", browser.at(f"/c/{max(made)}"))
@@ -139,7 +139,7 @@ def narrow(gateway, browser, base, _):
     for address in ("find", "find?text=list&cells=1..", "c", "o/B3-S23/xs4_33", "d/of/eve"):
         browser.screen(320, 780)
         browser.open(f"{base}/{address}")
-        browser.until(lambda: "of which nothing is proved" in browser.text("main") or address == "find")
+        browser.until(lambda: "nothing about it is proved" in browser.text("main") or address == "find")
         wide = browser.run("return document.documentElement.scrollWidth")
         check(f"'{address}' on 320 pixels: {wide}", wide <= 320)
         check(f"names on '{address}': {(unnamed := browser.unnamed())}", unnamed == [])

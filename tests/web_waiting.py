@@ -18,7 +18,7 @@ def waiting(gateway, browser, _base, _folder):
     try:
         browser.open(f"http://127.0.0.1:{relay.port}/find")
         check("a page that is there does not wait", not browser.run(VISIBLE))
-        for address, heading in (("/", "Deposits"), ("/d/1", "deposit 1"), ("/c/1", "Census 1")):
+        for address, heading in (("/", "Game of Life patterns"), ("/d", "Deposits"), ("/d/1", "deposit 1"), ("/c/1", "Census 1")):
             relay.away = True
             browser.go(address)
             check(f"waiting for {address} is seen", browser.until(lambda: browser.run(VISIBLE)))
@@ -193,13 +193,13 @@ return [...pixels.filter((_, at) => at % 4 === 0)];
 
 
 def shaded(_gateway, browser, base, _folder):
-    """A small drawing of a large field is as dark as it has live cells, and a single cell is seen."""
+    """A small drawing of a large field is as dark as it has live cells, and a single cell is seen, in one pixel or across up to four."""
     browser.screen(1100, 900, "light")
     browser.open(f"{base}/find")
     half, few = browser.wait_for(SHADES, "half"), browser.wait_for(SHADES, "few")
     dark, white = min(half), max(half)
     check(f"half of the cells are live: {dark} to {white}", white == 255 and 110 < dark < 175)
-    check(f"single cells are seen: {min(few)}, {sum(shade < 255 for shade in few)}", 150 < min(few) < 230 and sum(shade < 255 for shade in few) == 16)
+    check(f"single cells are seen: {min(few)}, {sum(shade < 255 for shade in few)}", 150 < min(few) < 230 and 16 <= sum(shade < 255 for shade in few) <= 64)
 
 
 def phone(_gateway, browser, base, _folder):
@@ -217,15 +217,15 @@ def phone(_gateway, browser, base, _folder):
 # The files of the pages that a window has loaded, with their bytes; what an archive or an index answered is none.
 LOADED = """
 return [...performance.getEntriesByType('navigation'), ...performance.getEntriesByType('resource')].map((entry) => [new URL(entry.name).pathname, entry.decodedBodySize])
-  .filter(([path]) => path === '/' || path.startsWith('/web/') || path === '/favicon.ico');
+  .filter(([path]) => path === '/d' || path.startsWith('/web/') || path === '/favicon.ico');
 """
 # The most bytes that the list of deposits may load before it asks the archive.
-MOST_BYTES = 75_000
+MOST_BYTES = 95_000
 
 
 def light(_gateway, browser, base, _folder):
     """The list of deposits loads what it shows, and no more: a player, a form or the names of objects come with their own pages."""
-    browser.open(f"{base}/")
+    browser.open(f"{base}/d")
     browser.until(lambda: browser.all(".cards canvas"))
     loaded = dict(browser.run(LOADED))
     check(f"the list is {sum(loaded.values())} bytes: {sorted(loaded)}", 40_000 < sum(loaded.values()) <= MOST_BYTES and min(loaded.values()) > 0)

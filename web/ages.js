@@ -1,7 +1,7 @@
 // The age of each live cell: for how many generations, the one that is shown too, it has been live without a break. Ages end at a greatest one,
 // so those of a generation follow from few before it, as the page makes them.
 
-import { OLDEST } from './draw.js';
+import { OLDEST } from './shades.js';
 
 /** The ages of a generation's cells, row by row in its box; each cell is one old where nothing is known of the generation before. */
 function agesOf({ pattern: { width, height, rows }, corner }, before) {
@@ -52,10 +52,22 @@ export class Ages {
     }
   }
 
-  async #find(at) {
+  /**
+   * @param {number} at
+   * @param {boolean} mayBeginAnew whether it is tried once more if the page began its generations anew meanwhile
+   */
+  async #find(at, mayBeginAnew = true) {
     let { found, of } = this.#last ?? { found: null, of: -Infinity };
     if (of > at || at - of >= OLDEST) [found, of] = [null, Math.max(0, at - OLDEST + 1) - 1];
-    for (of += 1; of <= at; of += 1) found = agesOf(await this.made(of), found);
+    for (of += 1; of <= at; of += 1) {
+      const made = await this.made(of);
+      // Places of two beginnings can't be compared.
+      if (found && found.turn !== made.turn) {
+        this.#last = null;
+        return mayBeginAnew ? this.#find(at, false) : null;
+      }
+      found = { ...agesOf(made, found), turn: made.turn };
+    }
     this.#last = { found, of: at };
     return found;
   }

@@ -112,6 +112,25 @@ export async function depositsAfter(number, signal) {
   return parsed(await read(`/deposits/after/${number}`, signal), 'deposits').deposits;
 }
 
+/** How long a list may be kept by the gateway, in milliseconds, and how often a row that is not in it is asked for. */
+const LIST_KEPT = 1100;
+const ROW_TRIES = 3;
+
+/**
+ * The row of a deposit and that of the next one, if there is one. The gateway keeps a list for up to two seconds, and one that was asked for just
+ * before the deposit lacks it. So the list begins one deposit earlier, where a search for the last one does not ask, and is asked for again.
+ * @param {number} number
+ * @param {AbortSignal} signal
+ */
+export async function depositRows(number, signal) {
+  for (let tries = 1; ; tries += 1) {
+    const rows = await depositsAfter(Math.max(0, number - 2), signal);
+    const found = (id) => rows.find((row) => row.id === id) ?? null;
+    if (found(number) || tries === ROW_TRIES) return { row: found(number), next: found(number + 1) };
+    await pause(LIST_KEPT, signal);
+  }
+}
+
 export async function kind(number, limit, signal) {
   return parsed(await read(`/deposits/${number}/kind/${limit}`, signal), 'kind');
 }

@@ -5,6 +5,7 @@ import { census, deposit } from './archive.js';
 import { objectNames, patternOf } from './code.js';
 import { copyButton, counted, make, many } from './dom.js';
 import { thumbnail } from './draw.js';
+import { groupsOf } from './parts.js';
 import { ruleText } from './rule.js';
 
 const SIDE = 48;
@@ -16,12 +17,62 @@ function barOf(count, most, more = '') {
   return make('td', { class: 'bars' }, bar);
 }
 
-/** A row of a table: an object, its name if it is a known one, how often it is there, and a bar of that. */
-export function objectRow({ code, count }, most, rule, names) {
+/**
+ * What the objects of a table are called: names of well-known ones, what groups are made of, and how often an object is in groups. Groups are
+ * found later than the table is shown.
+ */
+export class Labels {
+  #names;
+  #groups = { texts: new Map(), grouped: new Map() };
+  #lines = new Map();
+
+  /**
+   * @param {string} rule
+   * @param {Map<string, string>} names
+   */
+  constructor(rule, names) {
+    this.rule = rule;
+    this.#names = rule === 'B3/S23' ? names : new Map();
+  }
+
+  /** The line below a code, which is filled once more when the groups are known. */
+  lineOf(code) {
+    const line = make('small');
+    this.#lines.set(code, line);
+    this.#fill(code);
+    return line;
+  }
+
+  #fill(code) {
+    const [name, parts, grouped] = [this.#names.get(code), this.#groups.texts.get(code), this.#groups.grouped.get(code)];
+    const groups = [parts && `${name ? ': ' : ''}${parts}`, grouped && `${name || parts ? ' · ' : ''}${counted(grouped)} more in groups`].filter(Boolean);
+    this.#lines.get(code)?.replaceChildren(...[name ? make('span', { class: 'name' }, name) : null, groups.length ? make('span', { class: 'groups' }, groups) : null].filter(Boolean));
+  }
+
+  /**
+   * Finds the groups among the rows of a table.
+   * @param {{code: string, count: number}[]} rows
+   * @param {AbortSignal} signal
+   */
+  async findGroups(rows, signal) {
+    this.#groups = await groupsOf(rows, this.rule, signal);
+    for (const code of this.#lines.keys()) this.#fill(code);
+  }
+}
+
+/** Said before a table of objects, since the numbers are not those that a reader knows from elsewhere. */
+export const countNote = () => make('p', { class: 'hint' }, 'A cluster is one object, also if its parts never change each other, so these counts are not apgsearch’s. ', make('a', { href: '/about#census' }, 'How objects are counted'));
+
+/**
+ * A row of a table: an object, what it is called, how often it is there, and a bar of that.
+ * @param {{code: string, count: number}} object
+ * @param {number} most
+ * @param {Labels} labels
+ */
+export function objectRow({ code, count }, most, labels) {
   const pattern = patternOf(code);
-  const name = rule === 'B3/S23' ? names.get(code) : null;
   return make('tr', {}, make('td', { class: 'drawn' }, pattern ? thumbnail(pattern, SIDE, SIDE) : null),
-    make('th', { scope: 'row' }, make('a', { href: objectAddress(rule, code) }, make('code', {}, code)), name ? make('small', {}, name) : null),
+    make('th', { scope: 'row' }, make('a', { href: objectAddress(labels.rule, code) }, make('code', {}, code)), labels.lineOf(code)),
     make('td', { class: 'number' }, counted(count)), barOf(count, most));
 }
 
@@ -46,6 +97,7 @@ export async function censusPage(page, given) {
   // The most frequent first; the archive has them by code.
   const rows = found.rows.toSorted((one, other) => other.count - one.count);
   const most = Math.max(1, found.unresolved, ...rows.map((row) => row.count));
+  const labels = new Labels(rule, names);
   const url = location.origin + censusAddress(number);
   const place = depositAddress(found.deposit, found.generation);
   page.keys['['] = () => { if (number > 1) go(censusAddress(number - 1)); };
@@ -55,11 +107,11 @@ export async function censusPage(page, given) {
       `${record.name ? `, ${record.name}` : ''}, under ${rule}, with periods up to ${counted(found.limit)}.`),
     make('dl', { class: 'facts' }, [['Clusters', counted(found.clusters)], ['Objects', many(rows.length, 'code')], ['Unresolved', counted(found.unresolved)]]
       .map(([term, told]) => make('div', {}, make('dt', {}, term), make('dd', {}, told)))),
-    make('p', { class: found.steady ? 'steady yes' : 'steady' }, steadyText(found)),
+    make('p', { class: found.steady ? 'steady yes' : 'steady' }, steadyText(found)), countNote(),
     make('table', { class: 'census' }, make('caption', { class: 'aside' }, `Objects of census ${number}, the most frequent first`),
       make('thead', {}, make('tr', {}, make('td', {}), make('th', { scope: 'col' }, 'Code'), make('th', { scope: 'col', class: 'number' }, 'Count'), make('td', {}))),
-      make('tbody', {}, rows.map((row) => objectRow(row, most, rule, names)), unresolvedRow(found.unresolved, most))),
-    make('p', { class: 'row' }, make('a', { class: 'button', href: `/censuses/${number}/csv`, download: `census-${number}.csv` }, 'Download CSV'), make('a', { class: 'address', href: url }, url), copyButton('Copy the address', () => url, page.say)),
-    make('p', { class: 'hint' }, 'A cluster is one object, also where its parts never meet, so these numbers are not those of apgsearch.'));
+      make('tbody', {}, rows.map((row) => objectRow(row, most, labels)), unresolvedRow(found.unresolved, most))),
+    make('p', { class: 'row' }, make('a', { class: 'button', href: `/censuses/${number}/csv`, download: `census-${number}.csv` }, 'Download CSV'), make('a', { class: 'address', href: url }, url), copyButton('Copy the address', () => url, page.say)));
+  labels.findGroups(rows, page.signal).catch(() => {});
   page.say(`Census ${number}: ${many(found.clusters, 'cluster')}, ${many(rows.length, 'code')}, ${found.unresolved} unresolved.`);
 }

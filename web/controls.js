@@ -5,7 +5,8 @@ import { LAST_GENERATION } from './archive.js';
 import { counted, icon, make } from './dom.js';
 import { keepSetting, setting } from './kept.js';
 
-const SPEEDS = [1, 2, 5, 10, 20, 40, 60];
+/** Generations a second. From 120 on each of 60 pictures a second goes several generations on, 32 at most. */
+const SPEEDS = [1, 2, 5, 10, 20, 40, 60, 120, 240, 480, 960, 1920];
 const STEPS = [1, 10, 100];
 const FIRST_GOAL = 100;
 
@@ -17,15 +18,16 @@ const labelled = (label, input) => pair(make('label', { for: input.id }, label),
 function speedPart(player) {
   player.speed = SPEEDS.find((rate) => String(rate) === setting('speed')) ?? player.speed;
   const speed = make('select', { id: 'speed', change: () => keepSetting('speed', player.speed = Number(speed.value)) },
-    SPEEDS.map((rate) => make('option', { value: rate, selected: rate === player.speed }, `${rate}/s`)));
+    SPEEDS.map((rate) => make('option', { value: rate, selected: rate === player.speed }, `${counted(rate)}/s`)));
+  speed.title = 'Generations a second; from 120/s on each picture shows several generations more';
   return labelled('Speed', speed);
 }
 
 /** Running to a generation. */
 function runPart(player) {
-  const goal = make('input', { id: 'run-to', type: 'number', min: 1, max: LAST_GENERATION, inputmode: 'numeric', 'aria-label': 'Run to generation' });
+  const goal = make('input', { id: 'run-to', type: 'number', min: 0, max: LAST_GENERATION, inputmode: 'numeric', 'aria-label': 'Run to generation' });
   goal.value = FIRST_GOAL;
-  return pair(button('Run to this generation', 'Run to', () => player.runTo(Math.trunc(Number(goal.value))), { id: 'run' }), goal);
+  return pair(button('Run to this generation, on or back', 'Run to', () => player.runTo(Math.trunc(Number(goal.value))), { id: 'run' }), goal);
 }
 
 function viewParts(view, ages) {
@@ -35,8 +37,18 @@ function viewParts(view, ages) {
   } });
   ages.isOn = aged.checked = setting('ages') === 'yes';
   const grid = make('input', { id: 'grid', type: 'checkbox', checked: true, change: () => view.showGrid(grid.checked) });
-  return [pair(button('Zoom out', '−', () => view.zoom(-1), { id: 'zoom-out' }), button('Zoom in', '+', () => view.zoom(1), { id: 'zoom-in' }), button('Show all', 'Fit', () => view.fit(), { id: 'fit' })),
-    pair(grid, make('label', { for: 'grid' }, 'Grid')), pair(aged, make('label', { for: 'ages', title: 'Young cells are orange, old ones blue' }, 'Color by age'))];
+  const zooms = pair(button('Zoom out', '−', () => view.zoomStep(-1), { id: 'zoom-out' }), button('Zoom in', '+', () => view.zoomStep(1), { id: 'zoom-in' }));
+  const fit = button('Fit: show all of the pattern', 'Fit', () => view.fit(), { id: 'fit' });
+  return { zooms, fit, marks: [pair(grid, make('label', { for: 'grid' }, 'Grid')), pair(aged, make('label', { for: 'ages', title: 'Young cells are orange, old ones blue' }, 'Color by age'))] };
+}
+
+/** On a phone the parts of the view that are wanted less are behind a button. */
+function foldedPart(parts) {
+  const inside = make('span', { class: 'folded', id: 'view-parts' }, parts);
+  const open = button('View: size of cells, grid, colors', 'View', () => {
+    open.setAttribute('aria-expanded', String(inside.classList.toggle('open')));
+  }, { id: 'view-more', 'aria-expanded': 'false', 'aria-controls': 'view-parts' });
+  return [make('span', { class: 'at-right' }, open), inside];
 }
 
 /** Where a periodic pattern is back: a mark, a button, and playing that begins anew there. `take` gets the period, null if there is none. */
@@ -49,7 +61,7 @@ function backPart(player) {
     part.hidden = period === null;
     if (period === null) return;
     ticks.replaceChildren(make('option', { value: period }));
-    part.replaceChildren(loop, make('label', { for: 'loop' }, 'Loop'), button(`Generation ${period}, at which it is back`, `back at ${counted(period)}`, () => player.go(period), { id: 'back-at' }));
+    part.replaceChildren(loop, make('label', { for: 'loop' }, 'Loop'), button(`Back at ${counted(period)}: the generation that is as generation 0`, `back at ${counted(period)}`, () => player.go(period), { id: 'back-at' }));
   };
   return { parts: [part, ticks], take };
 }
@@ -63,9 +75,12 @@ export function controls(player, view, ages) {
   const slider = make('input', { id: 'slider', type: 'range', min: 0, max: LAST_GENERATION, list: 'ticks', 'aria-label': 'Generation', change: () => player.go(Number(slider.value)), input: () => { number.value = slider.value; } });
   const step = make('select', { id: 'step-size' }, STEPS.map((size) => make('option', { value: size }, size)));
   const { parts, take } = backPart(player);
+  const { zooms, fit, marks } = viewParts(view, ages);
+  const row = (...inside) => make('div', { class: 'controls-row' }, ...inside);
   const bar = make('div', { class: 'controls', role: 'group', 'aria-label': 'Generations' },
-    button('Generation 0', icon('first'), () => player.go(0), { id: 'first' }), back, button('A step back', icon('less'), () => player.step(-Number(step.value)), { id: 'step-back' }), play,
-    button('A step on', icon('more'), () => player.step(Number(step.value)), { id: 'step' }), labelled('Step', step), labelled('Generation', number), speedPart(player), viewParts(view, ages), runPart(player), parts, slider);
+    row(make('span', { class: 'transport' }, button('Generation 0', icon('first'), () => player.go(0), { id: 'first' }), back, button('A step back', icon('less'), () => player.step(-Number(step.value)), { id: 'step-back' }), play,
+      button('A step on', icon('more'), () => player.step(Number(step.value)), { id: 'step' })), labelled('Generation', number), slider, make('span', { class: 'at-right' }, fit)),
+    row(speedPart(player), labelled('Step', step), runPart(player), parts, foldedPart([...marks, zooms])));
   const changed = () => {
     for (const [element, direction, label, name] of [[play, 1, 'Play', 'play'], [back, -1, 'Play back', 'back']]) {
       const playing = player.direction === direction;
@@ -76,11 +91,12 @@ export function controls(player, view, ages) {
   return { bar, toggle, periodic: take, changed, at: (at) => { number.value = at; slider.value = at; } };
 }
 
+/** The keys of a deposit; `next()` answers the row of the next deposit, if there is one. */
 export function keysOf(page, player, view, toggle, next) {
   Object.assign(page.keys, {
     ' ': () => (player.direction === 0 ? toggle(1) : player.pause()), b: () => toggle(-1), ArrowRight: () => player.step(1), ArrowLeft: () => player.step(-1),
-    Home: () => player.go(0), End: () => player.go(LAST_GENERATION), '+': () => view.zoom(1), '=': () => view.zoom(1), '-': () => view.zoom(-1), 0: () => view.fit(),
+    Home: () => player.go(0), End: () => player.go(LAST_GENERATION), '+': () => view.zoomStep(1), '=': () => view.zoomStep(1), '-': () => view.zoomStep(-1), 0: () => view.fit(),
     'shift ArrowLeft': () => view.pan(-0.1, 0), 'shift ArrowRight': () => view.pan(0.1, 0), 'shift ArrowUp': () => view.pan(0, -0.1), 'shift ArrowDown': () => view.pan(0, 0.1),
-    ']': () => { if (next) go(depositAddress(next.id)); },
+    ']': () => { if (next()) go(depositAddress(next().id)); },
   });
 }

@@ -2,72 +2,25 @@
 
 import { censusAddress, depositAddress, go, memberAddress, objectAddress } from './address.js';
 import { Ages } from './ages.js';
-import { LAST_GENERATION, deposit, depositsAfter, kind, sendCensus } from './archive.js';
+import { LAST_GENERATION, deposit, depositRows, kind, sendCensus } from './archive.js';
+import { noteOf } from './brought.js';
 import { objectNames } from './code.js';
+import { commentsPart } from './comments.js';
 import { controls, keysOf } from './controls.js';
 import { Plot } from './plot.js';
-import { againButton, copyButton, counted, field, isMember, make, many, memberInput, refusal, rememberMember } from './dom.js';
-import { noteOf } from './new.js';
+import { addLater, againButton, copyButton, counted, field, isMember, make, many, memberInput, refusal, rememberMember } from './dom.js';
 import { saveSection } from './picture.js';
 import { Player } from './player.js';
 import { Refused } from './refusals.js';
 import { ruleText } from './rule.js';
-import { addLater, censusesSection } from './search.js';
+import { censusesSection } from './search.js';
+import { Shown } from './shown.js';
 import { View } from './view.js';
 
+/** How long it is said that the page scrolls and the canvas does not zoom, in milliseconds. */
+const SAID = 2500;
 /** The limit that finds what ash has: a multiple of the common periods. */
 const USUAL_LIMIT = 60;
-
-/** What is to be done with the generation that is shown: its address, its text, a census. It is told of each that is shown. */
-class Shown {
-  constructor(number, name, page) {
-    this.number = number;
-    this.name = name;
-    this.page = page;
-    this.bytes = new Uint8Array();
-    this.address = make('a', { class: 'address' });
-    this.text = make('textarea', { id: 'text', readonly: true, rows: 8, spellcheck: 'false', wrap: 'off' });
-    this.load = make('a', { class: 'button' }, 'Download');
-    this.which = make('span');
-    this.details = make('details', { toggle: () => this.#fill() }, make('summary', {}, 'Text'), make('label', { for: 'text', class: 'aside' }, 'Text of the generation'), this.text);
-  }
-
-  get url() {
-    return location.origin + depositAddress(this.number, this.at);
-  }
-
-  /** Takes the generation that is shown; one that the page made has no bytes, and only its address is known. */
-  take(at, bytes, record) {
-    this.at = at;
-    if (bytes === null) return;
-    this.whole = { at, record };
-    this.bytes = bytes;
-    this.address.href = this.url;
-    this.address.replaceChildren(this.url);
-    this.which.replaceChildren(at === 0 ? 'The file' : `Generation ${counted(at)}`);
-    this.load.href = at === 0 ? `/deposits/${this.number}` : `/deposits/${this.number}/at/${at}`;
-    this.load.download = at === 0 ? `deposit-${this.number}.rle` : `deposit-${this.number}-at-${at}.rle`;
-    this.#fill();
-  }
-
-  /** The address and the title of the page are those of what is shown. A browser takes few changes a second, so none is made while it plays. */
-  cite() {
-    this.page.title(this.at === 0 ? this.name : `${this.name}, generation ${this.at}`);
-    history.replaceState(history.state, '', depositAddress(this.number, this.at));
-  }
-
-  #fill() {
-    if (this.details.open) this.text.value = new TextDecoder().decode(this.bytes);
-  }
-
-  parts() {
-    const copied = () => new TextDecoder().decode(this.bytes);
-    return [
-      make('section', {}, make('h2', {}, 'Cite'), make('p', { class: 'row' }, this.address, copyButton('Copy the address', () => this.url, this.page.say))),
-      make('section', {}, make('h2', {}, this.which), make('p', { class: 'row' }, copyButton('Copy as RLE', copied, this.page.say), this.load), this.details),
-    ];
-  }
-}
 
 const across = (columns, rows) => [columns === 0 ? null : `${many(Math.abs(columns), 'column')} to the ${columns < 0 ? 'left' : 'right'}`,
   rows === 0 ? null : `${many(Math.abs(rows), 'row')} ${rows < 0 ? 'up' : 'down'}`].filter(Boolean).join(' and ');
@@ -118,7 +71,7 @@ function censusPart(shown, page) {
   const limit = make('input', { id: 'census-limit', type: 'number', min: 1, max: LAST_GENERATION, required: true, inputmode: 'numeric' });
   limit.value = USUAL_LIMIT;
   const said = make('div');
-  const send = make('button', { class: 'main' }, 'Count the objects');
+  const send = make('button', { id: 'count' }, 'Count the objects');
   const ask = async (event) => {
     event.preventDefault();
     said.replaceChildren();
@@ -137,14 +90,22 @@ function censusPart(shown, page) {
     }
   };
   return make('section', {}, make('h2', {}, 'Census'),
-    make('p', {}, 'Counts the objects of the generation that is shown, each by its code, and keeps the count under a number.'),
+    make('p', {}, 'Count the objects of this generation. The archive keeps the count under a number. ', make('a', { href: '/about#census' }, 'What is a census?')),
     make('form', { submit: ask }, field('Member', name), field('Longest period', limit, '60 is right for ash. A large one may take long on a large field.'), send), said);
 }
 
-function heading(number, record, member) {
-  const texts = record.comments.map((comment) => make('p', { class: 'comment' }, comment));
-  const by = [record.author ? `By ${record.author}. ` : null, member ? ['Deposited by ', make('a', { href: memberAddress(member) }, member), '.'] : null].flat();
-  return [make('h1', { tabindex: -1 }, record.name ?? `Deposit ${number}`, record.name ? make('small', {}, ` deposit ${counted(number)}`) : null), make('p', { class: 'by' }, by), ...texts];
+/** The title, the author, and the member, who is filled in once the row of the deposit has come. */
+function heading(number, record, rows) {
+  const by = make('p', { class: 'by' }, record.author ? `By ${record.author}. ` : null);
+  rows.then(({ row }) => { if (row) by.append('Deposited by ', make('a', { href: memberAddress(row.member) }, row.member), '.'); }, () => {});
+  return make('div', { class: 'title' }, make('h1', { tabindex: -1 }, record.name ?? `Deposit ${number}`, record.name ? make('small', {}, ` deposit ${counted(number)}`) : null), by, noteOf(number));
+}
+
+/** The links to the deposits beside this one. */
+function neighbours(number, rows) {
+  const nav = make('nav', { class: 'pager', 'aria-label': 'Other deposits' }, number > 1 ? make('a', { href: depositAddress(number - 1) }, `← ${counted(number - 1)}`) : null);
+  rows.then(({ next }) => { if (next) nav.append(make('a', { href: depositAddress(next.id) }, `${counted(next.id)} →`)); }, () => {});
+  return nav;
 }
 
 /** The canvas of a deposit with what is said of the generation that it shows, and who made it. */
@@ -153,13 +114,15 @@ class Stage {
   facts = { population: make('span'), box: make('span') };
   said = make('div');
   doubt = make('div');
+  end = make('p', { class: 'over end', role: 'status' });
+  hint = make('p', { class: 'over', hidden: true }, 'Click the pattern to zoom with the wheel, or hold Ctrl.');
   source = make('span');
   equal = make('span');
 
   constructor(number, name, page) {
     this.page = page;
     this.text = new Shown(number, name, page);
-    this.view = new View(this.canvas, page.signal);
+    this.view = new View(this.canvas, page.signal, () => this.#sayScrolled());
     this.plot = new Plot((at) => this.player.go(at));
     this.player = new Player(number, page.signal, this);
     this.ages = new Ages((at) => this.player.made(at), (found) => this.view.showAges(found));
@@ -170,8 +133,10 @@ class Stage {
   shown(at, record, bytes, place) {
     const { pattern } = record;
     const put = this.view.show(pattern, place);
-    this.ages.show(at);
+    // At a greater speed most of the generations between are not there to count ages by.
+    if (this.player.direction === 0 || this.player.stride === 1) this.ages.show(at);
     this.bar.at(at);
+    this.end.replaceChildren();
     this.facts.population.replaceChildren(counted(pattern.population));
     this.facts.box.replaceChildren(`${counted(pattern.width)} by ${counted(pattern.height)}`);
     this.canvas.setAttribute('aria-label', `Generation ${at}: ${many(pattern.population, 'live cell')} in ${pattern.width} by ${pattern.height}`);
@@ -193,6 +158,23 @@ class Stage {
     else this.doubt.replaceChildren(make('p', { class: 'refusal', role: 'alert' }, `What the page made of generation ${counted(at)} is not what the archive answers. From here on each generation is the archive’s.`));
   }
 
+  /** Said at the last generation, also if it is to be played from there. */
+  async ended() {
+    await this.player.show(this.player.at);
+    if (this.player.at < LAST_GENERATION) return;
+    this.end.replaceChildren(`${counted(LAST_GENERATION)} is the last generation here. To see more: `, this.text.depositPart());
+  }
+
+  #saidScrolled = false;
+
+  /** Said once on a page: the wheel scrolls the page until the canvas has the focus. */
+  #sayScrolled() {
+    if (this.#saidScrolled) return;
+    this.#saidScrolled = true;
+    this.hint.hidden = false;
+    setTimeout(() => { this.hint.hidden = true; }, SAID);
+  }
+
   failed(error) {
     this.said.replaceChildren(...[refusal(error), againButton(error, () => this.player.go(this.player.wanted))].filter(Boolean));
   }
@@ -203,8 +185,14 @@ class Stage {
     this.page.say(this.canvas.getAttribute('aria-label'));
   }
 
-  parts() {
-    return [make('div', { class: 'stage' }, this.canvas, this.bar.bar, make('p', { class: 'source' }, this.source, ' ', this.equal), this.plot.canvas), this.doubt, this.said];
+  /** What is to be on one screen: the canvas and its controls. */
+  get picture() {
+    return make('div', { class: 'stage' }, make('div', { class: 'seen' }, this.canvas, this.hint, this.end), this.bar.bar);
+  }
+
+  /** What is below them. */
+  get parts() {
+    return [make('p', { class: 'source' }, this.source, ' ', this.equal), this.doubt, this.said, this.plot.canvas];
   }
 }
 
@@ -212,20 +200,22 @@ class Stage {
 export async function depositPage(page, given, at = '0') {
   const number = Number(given);
   page.keys['['] = () => { if (number > 1) go(depositAddress(number - 1)); };
+  const rows = depositRows(number, page.signal);
+  let next = null;
+  rows.then((found) => { next = found.next; }, () => {});
   const { record } = await deposit(number, page.signal);
-  const [row, next] = await depositsAfter(number - 1, page.signal);
   const stage = new Stage(number, record.name ?? `Deposit ${number}`, page);
   const { player, view, bar, text, facts } = stage;
-  keysOf(page, player, view, bar.toggle, next);
+  keysOf(page, player, view, bar.toggle, () => next);
   const list = [['Cells', [facts.population]], ['Box', [facts.box]], ['Rule', [ruleText(record.rule)]], ...kindParts(number, record, page, bar.periodic)];
   const censuses = make('div');
-  page.root.append(...heading(number, record, row?.member), noteOf(number), ...stage.parts(),
+  page.root.append(...[make('div', { class: 'screen' }, heading(number, record, rows), stage.picture), ...stage.parts, commentsPart(record.comments),
     make('dl', { class: 'facts' }, list.map(([term, told]) => make('div', {}, make('dt', {}, term), make('dd', {}, told)))),
     make('div', { class: 'columns' }, ...text.parts(), saveSection(number, record, () => text.whole, page), censusPart(text, page)),
-    censuses, make('nav', { class: 'pager', 'aria-label': 'Other deposits' }, number > 1 ? make('a', { href: depositAddress(number - 1) }, `← ${counted(number - 1)}`) : null,
-      next ? make('a', { href: depositAddress(next.id) }, `${counted(next.id)} →`) : null));
+    censuses, neighbours(number, rows)].filter(Boolean));
   await player.show(Math.min(Number(at), LAST_GENERATION));
   view.fit();
+  player.preload();
   addLater(page, censuses, censusesSection(page, number));
   if (Number(at) > LAST_GENERATION) stage.said.replaceChildren(refusal(new Refused('out-of-limit')));
 }

@@ -84,6 +84,11 @@ export function againButton(error, again) {
   return may ? make('p', {}, make('button', { type: 'button', class: 'again', click: again }, 'Try again')) : null;
 }
 
+/** Adds parts to a page once they have come. A page is whole without what the index says, so nothing is said where it does not come. */
+export function addLater(page, place, coming) {
+  coming.then((parts) => { if (!page.signal.aborted) place.append(...parts); }, () => {});
+}
+
 const MEMBER = /^[a-z0-9-]{1,32}$/;
 const TOKEN = /^[A-Za-z0-9-]{1,64}$/;
 export const isMember = (text) => MEMBER.test(text);

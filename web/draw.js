@@ -1,17 +1,17 @@
 // Drawing patterns. What is drawn is worked out in bytes of a picture, run by run, so that a large field costs no more than its runs.
 
-/** The sizes of a cell that a view can have, in pixels of the screen. */
-export const SIZES = [1 / 8, 1 / 6, 1 / 4, 1 / 3, 1 / 2, 1, 2, 3, 4, 6, 8, 12, 16, 24, 32, 48];
-/** The age of a cell from which on none is shown as older. */
-export const OLDEST = 32;
+import { shadesOfAges, wordOf } from './shades.js';
+import { paintShares } from './shares.js';
+
+/** The sizes of a cell from one pixel on. Smaller cells have any size, since a pixel then shows the share of its live cells. */
+export const SIZES = [1, 2, 3, 4, 6, 8, 12, 16, 24, 32, 48];
+/** The least size: a pattern of 1,024 columns that grew for 2,048 generations still fits on a phone. */
+export const LEAST_SIZE = 1 / 16;
+/** How many steps below one pixel halve a cell. */
+const STEPS_A_HALF = 2;
+const LEAST_STEP = STEPS_A_HALF * Math.log2(LEAST_SIZE);
 const GAP_FROM = 6;
 const GRID_FROM = 8;
-
-/** A color `#rrggbb` as a word of a picture's bytes. */
-function wordOf(color) {
-  const [red, green, blue] = [1, 3, 5].map((at) => parseInt(color.slice(at, at + 2), 16));
-  return (0xff000000 | (blue << 16) | (green << 8) | red) >>> 0;
-}
 
 /** The colors of the style, which are others in the dark theme. */
 export function colors() {
@@ -20,10 +20,40 @@ export function colors() {
   return { live: named('--live'), dead: named('--dead'), grid: named('--grid'), young: named('--young'), old: named('--old') };
 }
 
-/** The greatest size of at most `most` at which so many columns and rows fit into a picture; the least one where none does. */
+/**
+ * The size at a step of the zoom: steps from 0 on are the sizes of SIZES, those below 0 are smaller without a gap.
+ * @param {number} step
+ */
+export const sizeAt = (step) => (step < 0 ? 2 ** (step / STEPS_A_HALF) : SIZES[Math.min(Math.round(step), SIZES.length - 1)]);
+
+/**
+ * The step of a size, and the greatest step of all for one that is larger.
+ * @param {number} size
+ */
+export function stepOf(size) {
+  if (size < 1) return STEPS_A_HALF * Math.log2(size);
+  const found = SIZES.findIndex((one) => one >= size);
+  return found < 0 ? SIZES.length - 1 : found;
+}
+
+/**
+ * A step that the zoom can have.
+ * @param {number} step
+ */
+export const boundStep = (step) => Math.min(Math.max(step, LEAST_STEP), SIZES.length - 1);
+
+/**
+ * The greatest size of at most `most` at which so many columns and rows fit into a picture. Below one pixel it is exact.
+ * @param {number} columns
+ * @param {number} rows
+ * @param {number} width
+ * @param {number} height
+ * @param {number} most
+ */
 export function sizeFor(columns, rows, width, height, most) {
-  const fitting = SIZES.filter((size) => size <= most && columns * size <= width && rows * size <= height);
-  return fitting.at(-1) ?? SIZES[0];
+  const whole = Math.min(width / Math.max(1, columns), height / Math.max(1, rows), most);
+  if (whole < 1) return Math.max(whole, LEAST_SIZE);
+  return SIZES.filter((size) => size <= whole).at(-1);
 }
 
 /** Puts the runs of a row into the lines of a picture that show it. */
@@ -54,38 +84,11 @@ function paintGrid(words, width, height, view, word) {
   }
 }
 
-const FAINTEST = 0.3;
-
-/** A color between two, of which the second has a share. */
-function between(one, other, share) {
-  const part = (shift) => Math.round(((one >>> shift) & 255) * (1 - share) + ((other >>> shift) & 255) * share) << shift;
-  return (0xff000000 | part(16) | part(8) | part(0)) >>> 0;
-}
-
-/** The color of each age: from young to old, at first fast. */
-const shadesOfAges = ({ young, old }) => Array.from({ length: OLDEST + 1 }, (_, age) => between(young, old, Math.log2(Math.max(1, age)) / Math.log2(OLDEST)));
-
 /** Puts the cells of a row into the lines of a picture, each in the color of its age; `ages` are those of the row. */
 function paintAges(words, width, runs, top, bottom, view, ages, shades) {
   for (let at = 0; at < runs.length; at += 2) {
     for (let column = runs[at]; column < runs[at + 1]; column += 1) paintRow(words, width, [column, column + 1], top, bottom, view, shades[ages[column]]);
   }
-}
-
-/** Adds the cells of a run to the pixels of a line of which each shows several, each to its own. */
-function addRun(counts, line, begin, end, view) {
-  for (let column = begin; column < end; column += 1) counts[line + Math.floor((column - view.left) * view.size)] += 1;
-}
-
-/** Draws a pattern of cells smaller than a pixel by the share of live ones in each pixel; a pixel with any live cell is seen. */
-function paintShares(words, width, height, pattern, view, shades) {
-  const counts = new Float32Array(width * height);
-  for (const [row, runs] of pattern.rows.entries()) {
-    const line = Math.floor((row - view.top) * view.size) * width;
-    for (let at = 0; at < runs.length; at += 2) addRun(counts, line, runs[at], runs[at + 1], view);
-  }
-  const cells = 1 / view.size ** 2;
-  for (const [at, count] of counts.entries()) if (count > 0) words[at] = between(shades.dead, shades.live, Math.max(FAINTEST, Math.min(1, count / cells)));
 }
 
 /**
@@ -100,7 +103,7 @@ export function paint(canvas, pattern, view, shades = colors()) {
   words.fill(shades.dead);
   if (view.grid !== false && view.size >= GRID_FROM) paintGrid(words, width, height, view, shades.grid);
   const gap = view.size >= GAP_FROM ? 1 : 0;
-  if (view.shaded && view.size < 1) {
+  if (view.size < 1) {
     paintShares(words, width, height, pattern, view, shades);
     context.putImageData(picture, 0, 0);
     return;
@@ -136,7 +139,7 @@ export function thumbnail(pattern, width, height, label) {
     const size = sizeFor(pattern.width + 2, pattern.height + 2, canvas.width, canvas.height, 12 * scale);
     const left = pattern.width / 2 - canvas.width / size / 2;
     const top = pattern.height / 2 - canvas.height / size / 2;
-    paint(canvas, pattern, { left, top, size, place: { column: 0, row: 0 }, grid: false, shaded: true });
+    paint(canvas, pattern, { left, top, size, place: { column: 0, row: 0 }, grid: false });
   };
   draw();
   canvas.redraw = draw;

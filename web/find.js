@@ -3,12 +3,13 @@
 import { censusAddress, depositAddress, go, objectAddress } from './address.js';
 import { total } from './archive.js';
 import { limitOf, objectNames, patternOf } from './code.js';
-import { copyButton, field, make, many } from './dom.js';
+import { addLater, copyButton, field, make, many } from './dom.js';
 import { thumbnail } from './draw.js';
 import { indexHead } from './index.js';
 import { objectParts } from './object.js';
+import { partsOf, partsText } from './parts.js';
 import { rulePart, ruleOfAddress } from './rule.js';
-import { addLater, formOf, occurrences, results } from './search.js';
+import { formOf, occurrences, results } from './search.js';
 
 function numberForm(id, label, addressOf) {
   const input = make('input', { id, type: 'number', min: 1, required: true, inputmode: 'numeric' });
@@ -46,28 +47,53 @@ export async function findPage(page, query) {
   if (head) page.root.append(make('h2', {}, 'Lists'), make('p', { class: 'row' }, make('a', { href: '/c' }, 'All censuses'), make('a', { href: '/index/feed.xml' }, 'New deposits as a feed')));
 }
 
+/** What a group is made of, each part with a link to its page. */
+function groupPart(parts) {
+  const one = (part) => (part.code ? make('a', { href: objectAddress('B3/S23', part.code) }, partsText([part])) : partsText([part]));
+  return make('p', { class: 'group' }, 'A group of objects side by side, none of which changes another: ', ...parts.flatMap((part, at) => [at === 0 ? '' : ' + ', one(part)]),
+    '. The archive counts it as one object. ', make('a', { href: '/about#census' }, 'Why?'));
+}
+
+/**
+ * Has the archive confirm the parts of a group: it tells the total of a code that is an object's, and refuses any other.
+ * @param {import('./parts.js').Part[]} parts
+ * @param {AbortSignal} signal
+ */
+async function confirmedParts(parts, signal) {
+  const coded = parts.filter(({ code }) => code);
+  const counts = await Promise.all(coded.map(({ code }) => total('B3/S23', code, limitOf(code), signal)));
+  const texts = coded.map(({ name }, at) => `${name} ${many(counts[at], 'time')}`);
+  return texts.length === 0 ? [] : [make('p', { class: 'hint', id: 'parts' }, `By themselves the parts were counted by the archive: ${texts.join(', ')}.`)];
+}
+
 /** An object by its code: the archive tells the total of a code that it can open, and refuses any other. */
 export async function codePage(page, givenRule, givenCode) {
   const code = decodeURIComponent(givenCode).toLowerCase();
   const rule = ruleOfAddress(decodeURIComponent(givenRule));
   page.title(code);
-  page.root.append(make('h1', { tabindex: -1 }, make('code', {}, code)), codeForm(code, rule));
+  page.root.append(make('h1', { tabindex: -1 }, make('code', {}, code)));
   const limit = limitOf(code);
   const count = await total(rule, code, limit, page.signal);
   const plain = rulePart(rule).replace('S', '/S');
   const name = plain === 'B3/S23' ? (await objectNames()).get(code) : null;
-  if (name) page.root.querySelector('h1').append(make('small', {}, ` ${name}`));
+  const group = plain === 'B3/S23' ? await partsOf(code) : null;
+  const called = [name, group ? partsText(group) : null].filter(Boolean).join(': ');
+  if (called) page.root.querySelector('h1').append(make('small', {}, ` ${called}`));
   const url = location.origin + objectAddress(plain, code);
   const command = `life object ${plain} ${code} ${limit}`;
   const pattern = patternOf(code);
   const picture = make('div', { class: 'picture' }, thumbnail(pattern, 320, 200, `The object ${code}`));
   const parts = make('div');
-  page.root.append(picture,
+  const alone = make('div');
+  page.root.append(picture, ...(group ? [groupPart(group), alone] : []),
     make('p', { class: 'total' }, make('strong', {}, many(count, 'time')), ` in all censuses of deposits under ${plain}.`),
     make('section', {}, make('h2', {}, 'Cite'), make('p', { class: 'row' }, make('a', { class: 'address', href: url }, url), copyButton('Copy the address', () => url, page.say))),
     parts, make('section', {}, make('h2', {}, 'At the shell'), make('p', {}, 'The program prints the object that the code names:'),
       make('p', { class: 'row' }, make('code', { class: 'command' }, command), copyButton('Copy', () => command, page.say))));
   page.say(`${code}: ${many(count, 'time')} in all censuses.`);
-  addLater(page, parts, objectParts(pattern, code, code.startsWith('xs') ? 1 : limit, plain, picture, page));
-  addLater(page, page.root, occurrences(page, plain, code));
+  addLater(page, parts, objectParts(pattern, code, code.startsWith('xs') ? 1 : limit, plain, picture, page, group !== null));
+  if (group) addLater(page, alone, confirmedParts(group, page.signal));
+  const occurs = make('div');
+  page.root.append(occurs, make('section', {}, make('h2', {}, 'Another object'), codeForm('', plain)));
+  addLater(page, occurs, occurrences(page, plain, code));
 }

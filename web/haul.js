@@ -1,10 +1,10 @@
 // A haul: the table of `life-haul` is dropped or chosen, and its objects are shown, the most frequent first, with the soups that have them.
 
 import { go } from './address.js';
-import { objectRow, unresolvedRow } from './census.js';
+import { Labels, countNote, objectRow, unresolvedRow } from './census.js';
 import { objectNames } from './code.js';
 import { counted, field, make, many } from './dom.js';
-import { bring } from './new.js';
+import { bring } from './brought.js';
 import { sumOf } from './sum.js';
 
 /** How many objects are shown at first, and how many more by each press: a drawing each. */
@@ -60,21 +60,21 @@ function soupButton(haul, number) {
   return make('button', { type: 'button', click, 'aria-label': `Soup ${number}: see it, deposit it` }, counted(number));
 }
 
-function rowOf(object, most, haul, names) {
-  const row = objectRow(object, most, haul.rule, names);
+function rowOf(object, most, haul, labels) {
+  const row = objectRow(object, most, labels);
   row.append(make('td', { class: 'number' }, soupButton(haul, object.first)));
   return row;
 }
 
 /** The table of the objects, of which more are shown by a press. */
-function objectsOf(haul, names) {
+function objectsOf(haul, labels) {
   const objects = haul.objects.toSorted((one, other) => other.count - one.count);
   const most = Math.max(1, haul.unresolved, ...objects.slice(0, 1).map(({ count }) => count));
   const body = make('tbody');
   const more = make('button', { type: 'button' });
   let shown = 0;
   const showMore = () => {
-    body.append(...objects.slice(shown, shown + SHOWN).map((object) => rowOf(object, most, haul, names)));
+    body.append(...objects.slice(shown, shown + SHOWN).map((object) => rowOf(object, most, haul, labels)));
     shown = Math.min(shown + SHOWN, objects.length);
     more.hidden = shown === objects.length;
     more.textContent = `Show ${counted(Math.min(SHOWN, objects.length - shown))} more of ${counted(objects.length)}`;
@@ -89,11 +89,11 @@ function objectsOf(haul, names) {
     body, make('tfoot', {}, last)), make('p', {}, more)];
 }
 
-function shownHaul(haul, names) {
+function shownHaul(haul, labels) {
   const facts = [['Soups', counted(haul.soups)], ['Clusters', counted(haul.clusters)], ['Objects', many(haul.objects.length, 'code')], ['Unresolved', counted(haul.unresolved)]];
   return [make('p', { class: 'by' }, `Soups ${counted(haul.first)} to ${counted(haul.first + Math.max(haul.soups, 1) - 1)} of `, make('code', {}, haul.root),
     `${symmetryWords(haul.symmetry)}, at generation ${counted(haul.generation)} under ${haul.rule}, with periods up to ${counted(haul.limit)}.`),
-  make('dl', { class: 'facts' }, facts.map(([term, told]) => make('div', {}, make('dt', {}, term), make('dd', {}, told)))), ...objectsOf(haul, names),
+  make('dl', { class: 'facts' }, facts.map(([term, told]) => make('div', {}, make('dt', {}, term), make('dd', {}, told)))), countNote(), ...objectsOf(haul, labels),
   make('p', { class: 'hint' }, 'The page shows what the table says; the archive has not seen it. A soup that is deposited is counted by the archive itself.')];
 }
 
@@ -106,7 +106,9 @@ export function haulPage(page) {
     const names = await objectNames();
     const haul = file.size > LONGEST_TABLE ? null : readTable(await file.text());
     const refused = make('p', { class: 'refusal', role: 'alert' }, `${file.name ?? 'The text'} is not a whole table of life-haul.`);
-    place.replaceChildren(...(haul ? shownHaul(haul, names) : [refused]));
+    const labels = haul ? new Labels(haul.rule, names) : null;
+    place.replaceChildren(...(haul ? shownHaul(haul, labels) : [refused]));
+    labels?.findGroups(haul.objects, page.signal).catch(() => {});
     page.say(haul ? `${many(haul.soups, 'soup')}, ${many(haul.objects.length, 'code')}.` : 'That is no table of a haul.');
   };
   const input = make('input', { id: 'haul-file', type: 'file', accept: '.csv,text/csv', change: () => take([...input.files]) });

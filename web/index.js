@@ -34,8 +34,8 @@ export function indexHead() {
 
 /** What the index is, said wherever it is used. */
 export function indexNote(head) {
-  return make('p', { class: 'hint' }, `From the index for finding, made on ${head.made.slice(0, 10)} at ${head.made.slice(11, 16)} UTC: `
-    + 'a list, up to a quarter of an hour behind, of which nothing is proved. Each answer that it leads to is the archive’s own.');
+  return make('p', { class: 'hint' }, `From the search index of ${head.made.slice(0, 10)}, ${head.made.slice(11, 16)} UTC. It may be 15 minutes old, and nothing about it is proved. `
+    + 'What it links to is the archive’s own answer.');
 }
 
 /** The day of each row of a block. */
@@ -48,7 +48,11 @@ function daysOf(block, count) {
   return days;
 }
 
-const folded = (text) => text.normalize('NFKD').replace(/\p{M}/gu, '').toLowerCase();
+/** Letters that have no mark to take away. */
+const PLAIN = { ß: 'ss', ø: 'o', ł: 'l', đ: 'd', æ: 'ae', œ: 'oe', ð: 'd', þ: 'th', ı: 'i' };
+
+/** A text in lower case and without accents, as it is searched. */
+export const folded = (text) => text.normalize('NFKD').replace(/\p{M}/gu, '').toLowerCase().replace(/[ßøłđæœðþı]/g, (letter) => PLAIN[letter]);
 
 /** The deposits of a block, each with what is searched in it. */
 function depositsOf(block) {
@@ -69,7 +73,7 @@ function censusesOf(block) {
   }));
 }
 
-const READ = { deposits: depositsOf, censuses: censusesOf, objects: (block) => block };
+const READ = { deposits: depositsOf, censuses: censusesOf, objects: (block) => block, comments: ({ first, text }) => ({ first, text: text.map(folded) }) };
 const blocks = new Map();
 
 /** A block as it is read, asked once. One that did not come is asked again the next time. */
@@ -86,7 +90,8 @@ function blockOf(kind, name) {
 
 /** All blocks of a kind, the newest first, as they come: `came(block, how many have come, how many there are)`. */
 export async function eachBlock(kind, came, signal) {
-  const names = ((await indexHead()) ?? NONE).blocks[kind].toReversed();
+  // An index that was made before comments were in it has none.
+  const names = (((await indexHead()) ?? NONE).blocks[kind] ?? []).toReversed();
   // All are asked at once, and taken in their order.
   const asked = names.map((name) => blockOf(kind, name));
   for (const one of asked) one.catch(() => {});
@@ -118,6 +123,58 @@ export async function allDeposits(came, signal) {
   return found;
 }
 
+/**
+ * Gives deposits their comments, which are only wanted for a search.
+ * @param {object[]} rows all deposits
+ * @param {AbortSignal} signal
+ */
+export async function addComments(rows, signal) {
+  const texts = new Map();
+  await eachBlock('comments', ({ first, text }) => text.forEach((one, at) => { if (one) texts.set(first + at, one); }), signal);
+  for (const row of rows) row.search.comment = texts.get(row.id) ?? '';
+}
+
+/**
+ * All objects of all censuses of a rule: how often each is there, in which deposits, and in which census first. The most frequent one is first.
+ * @param {string} rule
+ * @param {AbortSignal} signal
+ */
+export async function objectsOfRule(rule, signal) {
+  const censuses = new Map();
+  await eachBlock('censuses', (block) => { for (const row of block) censuses.set(row.id, row); }, signal);
+  const found = new Map();
+  await eachBlock('objects', (block) => {
+    for (const [code, places] of Object.entries(block.rules[rule] ?? {})) {
+      const object = found.get(code) ?? { code, count: 0, censuses: 0, deposits: new Set(), first: null };
+      for (let at = 0; at < places.length; at += 2) addPlace(object, censuses.get(block.first + places[at]), places[at + 1]);
+      found.set(code, object);
+    }
+  }, signal);
+  return [...found.values()].sort((one, other) => other.count - one.count || (one.code < other.code ? -1 : 1));
+}
+
+/** Adds a census that has an object so many times. */
+function addPlace(object, census, count) {
+  object.count += count;
+  object.censuses += 1;
+  if (!census) return;
+  object.deposits.add(census.deposit);
+  if (!object.first || census.id < object.first.id) object.first = census;
+}
+
+/**
+ * The rules of which there are objects, each with how many different ones at least, the one with the most first.
+ * @param {AbortSignal} signal
+ * @returns {Promise<[string, number][]>}
+ */
+export async function rulesWithObjects(signal) {
+  const codes = new Map();
+  await eachBlock('objects', (block) => {
+    for (const [rule, objects] of Object.entries(block.rules)) codes.set(rule, new Set([...codes.get(rule) ?? [], ...Object.keys(objects)]));
+  }, signal);
+  return [...codes].map(([rule, own]) => [rule, own.size]).sort((one, other) => other[1] - one[1]);
+}
+
 /** Censuses with a property, the newest first. */
 export async function censusesWith(is, signal) {
   const found = [];
@@ -147,7 +204,8 @@ function fit(word, { search, id }) {
   if (at > 0) return 20;
   if (search.member === word || String(id) === word) return 40;
   if (search.author.includes(word)) return 10;
-  return search.member.includes(word) ? 5 : 0;
+  if (search.member.includes(word)) return 5;
+  return search.comment?.includes(word) ? 1 : 0;
 }
 
 const within = (value, [least, greatest]) => (least === '' || value >= least) && (greatest === '' || value <= greatest);

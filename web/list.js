@@ -116,11 +116,13 @@ const nothing = () => make('p', { class: 'empty' }, 'There is nothing here yet. 
 /** The deposits after a number, the greatest first; the newest where no number is given. */
 export async function deposits(page, given) {
   page.title('Deposits');
-  page.root.append(make('h1', { tabindex: -1 }, 'Deposits'));
+  // The first page has a heading of its own, and no forms.
+  const isFirst = page.root.querySelector('h1') !== null;
+  page.root.append(isFirst ? make('h2', {}, 'Newest deposits') : make('h1', { tabindex: -1 }, 'Deposits'));
   const last = await lastDeposit(page.signal);
   const after = given === undefined ? Math.max(0, last - SHOWN) : Number(given);
   const rows = (await depositsAfter(after, page.signal)).slice(0, SHOWN).reverse();
-  page.root.append(forms(page, given, null));
+  if (!isFirst) page.root.append(forms(page, given, null));
   walk(page);
   if (rows.length === 0) {
     page.root.append(last === 0 ? nothing() : make('p', { class: 'empty' }, `There is no deposit after ${counted(after)}; the newest is `, make('a', { href: depositAddress(last) }, counted(last)), '.'));

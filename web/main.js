@@ -1,8 +1,8 @@
 // Which page the address names, and the keys. An address names what is shown: `/d/7/at/30`, `/c/3`, `/o/B3-S23/xq4_153`. Those that
 // have a page are in the gateway's site too (deploy/templates/gateway/life-site.conf).
 
-import { go } from './address.js';
-import { againButton, make, refusal } from './dom.js';
+import { go, memberAddress } from './address.js';
+import { againButton, isMember, make, refusal } from './dom.js';
 import { keepPlace, keepSetting, place, setting } from './kept.js';
 import { deposits, depositsOf } from './list.js';
 import { Refused } from './refusals.js';
@@ -33,7 +33,8 @@ const later = (name, begin) => async (page, ...given) => {
 };
 
 const PAGES = [
-  [/^\/d?$/i, 'deposits', (page) => deposits(page)],
+  [/^\/$/i, 'deposits', later('home', 'homePage')],
+  [/^\/d$/i, 'deposits', (page) => deposits(page)],
   [/^\/d\/after\/([0-9]{1,15})$/i, 'deposits', deposits],
   [/^\/d\/of\/([a-z0-9-]{1,32})(?:\/before\/([0-9]{1,15}))?$/i, 'deposits', (page, member, before) => depositsOf(page, member.toLowerCase(), before)],
   [/^\/d\/([0-9]{1,15})(?:\/at\/([0-9]{1,15}))?$/i, 'deposits', later('deposit', 'depositPage')],
@@ -42,12 +43,16 @@ const PAGES = [
   [/^\/c$/i, 'find', later('search', 'censusesPage')],
   [/^\/c\/([0-9]{1,15})$/i, 'find', later('census', 'censusPage')],
   [/^\/haul$/i, 'find', later('haul', 'haulPage')],
-  [/^\/o\/([^/]+)\/([^/]+)$/i, 'find', later('find', 'codePage')],
+  [/^\/o(?:\/([^/]+))?$/i, 'objects', later('catalog', 'catalogPage')],
+  [/^\/o\/([^/]+)\/([^/]+)$/i, 'objects', later('find', 'codePage')],
+  [/^\/about$/i, 'about', later('about', 'aboutPage')],
 ];
 
 const main = document.getElementById('main');
 const status = document.getElementById('status');
 const keysDialog = document.getElementById('keys');
+const mine = document.getElementById('mine');
+const box = document.getElementById('box');
 let current = null;
 
 /** What a page gets: where it writes, what ends it, how it says something, and the keys that it takes. */
@@ -73,13 +78,17 @@ class Page {
   }
 }
 
+/** Refusals after which the same address may well be found. */
+const NO_REPLIES = ['no-reply', 'unavailable', 'too-many-requests'];
+
 function fail(page, error) {
   if (page.signal.aborted) return;
   const refused = error instanceof Refused ? error : new Refused('unknown');
   if (refused !== error) console.error(error);
   if (!page.root.querySelector('h1')) {
-    page.title('Not found');
-    page.root.append(make('h1', { tabindex: -1 }, 'Not found'));
+    const heading = NO_REPLIES.includes(refused.name) ? 'No reply' : 'Not found';
+    page.title(heading);
+    page.root.append(make('h1', { tabindex: -1 }, heading));
   }
   page.root.append(...[refusal(refused), againButton(refused, show)].filter(Boolean), make('p', {}, make('a', { href: '/' }, 'The newest deposits')));
 }
@@ -116,6 +125,18 @@ function markLinks(part) {
   }
 }
 
+/** A link to the deposits of the member who used this browser last. */
+function markMember() {
+  const member = setting('member');
+  mine.hidden = !isMember(member ?? '');
+  if (!mine.hidden) mine.href = memberAddress(member);
+}
+
+/** The box has the words that are searched for, and is empty on other pages. */
+function fillBox(path) {
+  box.value = path === '/find' ? new URLSearchParams(location.search).get('text') ?? '' : '';
+}
+
 async function show() {
   const { scroll = 0 } = place();
   clearTimeout(scrolled);
@@ -130,6 +151,8 @@ async function show() {
     page.signal.throwIfAborted();
     const [form, part, begin] = pageOf(path);
     markLinks(part);
+  markMember();
+  fillBox(path);
     if (!form) throw new Refused('no-such-page');
     await begin(page, ...form.exec(path).slice(1));
   } catch (error) {
@@ -139,6 +162,7 @@ async function show() {
   main.removeAttribute('aria-busy');
   page.root.querySelector('h1')?.focus({ preventScroll: true });
   scrollTo(0, scroll);
+  if (scroll === 0 && location.hash) document.getElementById(location.hash.slice(1))?.scrollIntoView();
 }
 
 // ---- keys
@@ -148,6 +172,7 @@ const GLOBAL = {
   n: () => go('/new'),
   f: () => go('/find'),
   '?': () => keysDialog.showModal(),
+  '/': () => (document.getElementById('search-text') ?? box).select(),
 };
 
 /** Whether a key is the business of what has the focus: of a field each, of a button or link those that press it. */
@@ -176,7 +201,7 @@ async function take(files) {
     return;
   }
   try {
-    (await load('new')).bring(files);
+    (await load('brought')).bring(files);
   } catch (error) {
     fail(current, error);
     return;
@@ -224,6 +249,18 @@ theme.addEventListener('change', () => {
 addEventListener('storage', keptTheme);
 keptTheme();
 
+// ---- the search box
+
+document.getElementById('search').addEventListener('submit', async (event) => {
+  event.preventDefault();
+  try {
+    const { addressOf } = await load('box');
+    go(addressOf(box.value));
+  } catch (error) {
+    fail(current, error);
+  }
+});
+
 document.getElementById('keys-button').addEventListener('click', () => keysDialog.showModal());
 document.getElementById('skip').addEventListener('click', () => main.focus());
 history.scrollRestoration = 'manual';
@@ -238,6 +275,6 @@ document.addEventListener('click', (event) => {
   if (!link || event.defaultPrevented || event.button !== 0 || event.ctrlKey || event.metaKey || event.shiftKey || event.altKey) return;
   if (link.origin !== location.origin || link.hasAttribute('download') || pageOf(link.pathname).length === 0) return;
   event.preventDefault();
-  go(link.pathname + link.search);
+  go(link.pathname + link.search + link.hash);
 });
 show();

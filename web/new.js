@@ -1,6 +1,7 @@
 // Depositing: a file is dropped, chosen or pasted, seen, and sent under a member and a token.
 
 import { depositAddress, go } from './address.js';
+import { broughtFiles, keepNote } from './brought.js';
 import { lastDeposit, sendDeposit } from './archive.js';
 import { field, isMember, isToken, make, many, memberInput, refusal, rememberMember } from './dom.js';
 import { thumbnail } from './draw.js';
@@ -16,23 +17,6 @@ const WIDTH = 320;
 const HEIGHT = 200;
 /** The number of the fault of a file that is too long. */
 const TOO_LONG = 1;
-
-/** Files that came by a drop or a paste on another page, which this page then takes. */
-let brought = null;
-
-export function bring(files) {
-  brought = files;
-}
-
-/** What is said of the deposit that was sent last, on its page. */
-let note = null;
-
-/** The note of a deposit, once; nothing where there is none. */
-export function noteOf(number) {
-  const text = note?.number === number ? note.text : null;
-  note = null;
-  return make('p', { class: 'note', role: 'status' }, text ?? '');
-}
 
 /** The line of a file that has its fault, as far as it can be shown. */
 function lineOf(bytes, number) {
@@ -162,7 +146,7 @@ async function send(content, name, said, page) {
   const number = await sendDeposit(name.value, content.token.value, content.bytes, waiting, page.signal);
   page.say(`Kept as deposit ${number}.`);
   keepDraft('pattern', null);
-  note = { number, text: number > last ? 'Deposited.' : 'You had deposited this already: it keeps its number.' };
+  keepNote(number, number > last ? 'Deposited.' : 'You had deposited this already: it keeps its number.');
   go(depositAddress(number));
 }
 
@@ -225,7 +209,7 @@ export function depositForm(page) {
   page.root.append(make('h1', { tabindex: -1 }, 'Deposit a file'), form);
   page.taken = takerOf(form, part, content, page);
   const typed = draft('pattern');
+  const brought = broughtFiles();
   content.take(brought || !typed ? new Uint8Array() : new TextEncoder().encode(typed), true);
   if (brought) page.taken(brought);
-  brought = null;
 }

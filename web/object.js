@@ -88,14 +88,14 @@ function playButton(picture, phases, code, signal) {
   return button;
 }
 
-/** Where else an object of a rule may be looked up, by the same code. */
-function lookUp(code, rule) {
+/** Where else an object of a rule may be looked up, by the same code. A group of objects is not listed there under the code that it has here. */
+function lookUp(code, rule, isGroup) {
   const place = rule.toLowerCase().replace('/', '');
-  return make('p', {}, 'Look it up: ', make('a', { href: `https://catagolue.hatsya.com/object/${code}/${place}`, rel: 'noreferrer' }, 'Catagolue'), ', which has well-known objects under the same code.');
+  return isGroup ? null : make('p', {}, 'Look it up: ', make('a', { href: `https://catagolue.hatsya.com/object/${code}/${place}`, rel: 'noreferrer' }, 'Catagolue'), ', which has well-known objects under the same code.');
 }
 
 /** The parts of an object's page: what plays it, its text to copy or load, its phases, and where else it may be. */
-export async function objectParts(pattern, code, period, ruleWord, picture, page) {
+export async function objectParts(pattern, code, period, ruleWord, picture, page, isGroup = false) {
   const rule = readRule(ruleWord);
   const text = () => fileOf(pattern, ruleText(rule));
   const load = make('button', { type: 'button', id: 'load-object', click: () => save(text(), `${code}.rle`, 'text/plain') }, 'Download');
@@ -104,5 +104,5 @@ export async function objectParts(pattern, code, period, ruleWord, picture, page
   const play = phases.length > 1 ? playButton(picture, phases, code, page.signal) : null;
   const said = period > MOST_PHASES ? `The first ${MOST_PHASES} of ${many(period, 'phase')}, by the page’s own steps` : `${many(period, 'phase')}, by the page’s own steps`;
   const drawn = phases.length > 1 ? [make('details', { id: 'phases' }, make('summary', {}, said), make('div', { class: 'phases' }, phases.map((phase, at) => thumbnail(phase, SIDE, SIDE, `Phase ${at}`))))] : [];
-  return [make('section', {}, make('h2', {}, 'As a pattern file'), make('p', { class: 'row' }, ...[play, copy, load].filter(Boolean)), ...drawn, lookUp(code, ruleText(rule)))];
+  return [make('section', {}, make('h2', {}, 'As a pattern file'), make('p', { class: 'row' }, ...[play, copy, load].filter(Boolean)), ...drawn, ...[lookUp(code, ruleText(rule), isGroup)].filter(Boolean))];
 }

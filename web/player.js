@@ -8,8 +8,13 @@ import { nextCorner } from './pattern.js';
 const TOGETHER = 3;
 const KEPT = 160;
 const COMPARED_EACH = 100;
-/** How far a leap may be of which the place is made out by steps. */
+/** How far a leap may be of which the place is made out by steps, and how many cells of boxes these steps may have. */
 const NEAR = 256;
+const FEW_CELLS = 20_000_000;
+/** How far back the page begins when it plays back, at least: farther if the pattern is small. */
+const BACK = 64;
+/** Pictures a second: a greater speed shows several generations on. */
+const MOST_PICTURES = 60;
 
 export class Player {
   #known = new Map();
@@ -34,7 +39,7 @@ export class Player {
   /**
    * Tells `told`: `shown(at, record, bytes, place)` is called for each generation that is shown, and answers where it was put; `place` is null where
    * it isn't known, and `bytes` where the page made it. `changed()` is called as playing begins and ends, `failed(error)` where a generation
-   * did not come, `compared(at, isSame)` after a comparison.
+   * did not come, `compared(at, isSame)` after a comparison, `ended()` at the last generation.
    */
   constructor(deposit, signal, told) {
     this.deposit = deposit;
@@ -106,31 +111,66 @@ export class Player {
     }
   }
 
-  /** What makes generations in the page; null where it can't, or where it was found to be wrong. */
-  async #making() {
+  /** Loads what makes generations, so that playing begins at once, also when the line is gone by then. */
+  preload() {
+    this.#worker();
+  }
+
+  #worker() {
     if (this.#isDoubted || this.#maker?.ended) return null;
     try {
-      this.#maker ??= new Maker((await this.#fetch(0)).record, LAST_GENERATION, this.signal);
-      return this.#maker;
+      this.#maker ??= new Maker(null, LAST_GENERATION, this.signal);
     } catch {
       this.#isDoubted = true;
       return null;
     }
+    return this.#maker;
   }
 
-  /** A generation as the page makes it, with its place. */
+  /**
+   * What makes generations in the page, so that a generation is few steps away; null where it can't, or where it was found to be wrong. It
+   * begins with that generation as the archive answers it, and not with the deposit.
+   * @param {number} at
+   */
+  async #making(at) {
+    const maker = this.#worker();
+    if (!maker || maker.reaches(at)) return maker;
+    const { record } = await this.#fetch(at);
+    if (!maker.reaches(at)) maker.begin(record, at);
+    return maker;
+  }
+
+  /** A generation as the page makes it, with its place, and the beginning that its place belongs to. */
   async made(at) {
-    const maker = await this.#making();
+    const maker = await this.#making(at);
     if (!maker) throw new Error('the page makes no generations');
-    return maker.get(at);
+    const { turn } = maker;
+    return { ...await maker.get(at), turn };
+  }
+
+  /** The generation from which those up to one are made when it plays back. */
+  #beginningBefore(at) {
+    const { width, height } = this.#shownMade?.pattern ?? this.#known.get(this.at).record.pattern;
+    return Math.max(0, at + 1 - Math.max(BACK, Math.floor(FEW_CELLS / (width * height + 1))));
+  }
+
+  /** Two generations with places of one beginning. Playing back, the page begins some generations before them. */
+  async #pair(from, at) {
+    const maker = this.#worker();
+    if (!maker) return null;
+    if (!maker.reaches(from) || !maker.reaches(at)) await this.#making(at < from ? this.#beginningBefore(at) : from);
+    const before = await maker.get(from, this.direction, this.stride);
+    return { before, after: await maker.get(at, this.direction, this.stride) };
   }
 
   /** Where a generation is, by the steps between it and the one that is shown; null where these are too many. */
   async #madePlace(at) {
     const shown = this.#places.get(this.at);
-    if (!shown || Math.abs(at - this.at) > NEAR) return null;
+    const { width, height } = this.#known.get(at).record.pattern;
+    const steps = Math.abs(at - this.at);
+    if (!shown || steps > NEAR || steps * width * height > FEW_CELLS) return null;
     try {
-      const maker = await this.#making();
+      const maker = await this.#making(Math.min(at, this.at));
       const [there, here] = maker ? [(await maker.get(this.at)).corner, (await maker.get(at)).corner] : [];
       return here ? { column: shown.column + here.column - there.column, row: shown.row + here.row - there.row } : null;
     } catch {
@@ -152,25 +192,25 @@ export class Player {
 
   /** Shows a generation that the page makes; answers whether it did. */
   async #showMade(at) {
-    const maker = await this.#making();
-    if (!maker) return this.show(at);
     const from = this.at;
     const turn = this.#timer;
     this.wanted = at;
     try {
-      const before = (await maker.get(from, this.direction)).corner;
-      const { pattern, corner } = await maker.get(at, this.direction);
+      const pair = await this.#pair(from, at);
+      if (!pair) return this.show(at);
       if (this.wanted !== at || this.#timer !== turn || this.signal.aborted) return false;
+      const { before: { corner: before }, after: { pattern, corner } } = pair;
       const place = this.#places.get(from);
       this.at = at;
       this.#shownMade = { at, pattern };
       const put = this.told.shown(at, { pattern }, null, place ? { column: place.column + corner.column - before.column, row: place.row + corner.row - before.row } : null);
       this.#places.clear();
       this.#places.set(at, put);
-      if (at % COMPARED_EACH === 0) this.#check(at, pattern);
+      // At a greater speed the one to be compared may be passed over: then the next one is.
+      if (Math.floor(at / COMPARED_EACH) !== Math.floor((at - this.stride) / COMPARED_EACH)) this.#check(at, pattern);
       return true;
     } catch {
-      return this.signal.aborted ? false : this.show(at);
+      return this.signal.aborted || this.#timer !== turn ? false : this.show(at);
     }
   }
 
@@ -189,11 +229,17 @@ export class Player {
     }
   }
 
-  /** Plays to a generation, and stops. */
+  /** Plays to a generation, on or back, and stops. */
   runTo(at) {
-    if (at <= this.at) return;
-    this.play(1);
-    this.until = Math.min(at, LAST_GENERATION);
+    const goal = Math.min(Math.max(Math.trunc(at) || 0, 0), LAST_GENERATION);
+    if (goal === this.at) return;
+    this.play(goal > this.at ? 1 : -1);
+    this.until = goal;
+  }
+
+  /** How many generations a picture goes on. */
+  get stride() {
+    return Math.max(1, Math.round(this.speed / MOST_PICTURES));
   }
 
   /** Goes to a generation, and stops. */
@@ -209,24 +255,35 @@ export class Player {
 
   play(direction) {
     this.#stop();
+    if (direction > 0 && this.at >= LAST_GENERATION && !(this.isLoop && this.period)) {
+      this.told.ended();
+      return;
+    }
     this.direction = direction;
-    this.until = LAST_GENERATION;
+    this.until = direction > 0 ? LAST_GENERATION : 0;
     this.told.changed();
     this.#next(performance.now());
   }
 
+  /** The generation that comes next while it plays; null at the end. */
+  #following() {
+    if (this.isLoop && this.period && this.direction > 0) return this.at % this.period + 1;
+    const left = (this.until - this.at) * this.direction;
+    return left <= 0 ? null : this.at + this.direction * Math.min(this.stride, left);
+  }
+
   async #next(due) {
     const turn = this.#timer = {};
-    let at = this.at + this.direction;
-    if (this.isLoop && this.period && this.direction > 0) at = (at - 1) % this.period + 1;
-    if (at < 0 || at > this.until) {
+    const at = this.#following();
+    if (at === null) {
       this.pause();
+      if (this.at >= LAST_GENERATION) this.told.ended();
       return;
     }
     const done = await this.#showMade(at);
     if (!done || this.#timer !== turn) return;
     // What came late is not made up for.
-    const next = Math.max(due + 1000 / this.speed, performance.now());
+    const next = Math.max(due + 1000 / Math.min(this.speed, MOST_PICTURES), performance.now());
     setTimeout(() => { if (this.#timer === turn) this.#next(next); }, next - performance.now());
   }
 

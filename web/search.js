@@ -2,7 +2,7 @@
 
 import { censusAddress, depositAddress, go } from './address.js';
 import { counted, field, make, many } from './dom.js';
-import { NOTHING, allDeposits, censusesOfObject, censusesWith, indexHead, indexNote, indexedCensus, indexedDeposit, search } from './index.js';
+import { NOTHING, addComments, allDeposits, censusesOfObject, censusesWith, indexHead, indexNote, indexedCensus, indexedDeposit, search } from './index.js';
 import { shownRows } from './list.js';
 import { readRule, ruleText } from './rule.js';
 
@@ -52,12 +52,16 @@ export function searchForm(asked = NOTHING) {
     return { name, value: () => found.value.trim(), part: field(label, found) };
   });
   const all = [...fields, ...RANGES.map((range) => rangeField(range, asked[range[0]]))];
-  const submit = (event) => {
+  const submit = async (event) => {
     event.preventDefault();
-    go(searchAddress({ text: text.value.trim(), ...Object.fromEntries(all.map(({ name, value }) => [name, value()])) }));
+    const [words, more] = [text.value.trim(), Object.fromEntries(all.map(({ name, value }) => [name, value()]))];
+    // A code, a number or a rule leads to its page, as in the box in the head of other pages; other words are searched, with the fields.
+    const { addressOf, isSearch } = await import('./box.js');
+    const address = addressOf(words);
+    go(words === '' || isSearch(address) ? searchAddress({ text: words, ...more }) : address);
   };
   const open = all.some(({ value }) => [value()].flat().some(Boolean));
-  return make('form', { class: 'search', role: 'search', submit }, make('div', { class: 'row' }, field('Name, author or member', text), make('button', { class: 'main' }, 'Search')),
+  return make('form', { class: 'search', role: 'search', submit }, make('div', { class: 'row' }, field('Name, code, rule or comment', text), make('button', { class: 'main' }, 'Search')),
     make('details', { open }, make('summary', {}, 'Rule, size, day'), make('div', { class: 'fields' }, all.map(({ part }) => part))));
 }
 
@@ -65,13 +69,17 @@ export function searchForm(asked = NOTHING) {
 export async function results(page, query) {
   const said = make('p', { class: 'count', role: 'status' }, 'The index is read…');
   page.root.append(said);
-  const head = await indexHead();
+  const [head, { namedLines }] = await Promise.all([indexHead(), import('./box.js')]);
   if (!head) {
-    said.replaceChildren('This archive has no index, so nothing can be searched.');
+    said.replaceChildren('This archive has no index, so its deposits can’t be searched.');
+    said.before(...await namedLines(askedBy(query).text, []));
     return;
   }
   const all = await allDeposits((number, of) => { if (number < of) said.replaceChildren(`The index is read: ${counted(number)} of ${counted(of)} blocks…`); }, page.signal);
-  const rows = search(all, askedBy(query));
+  const asked = askedBy(query);
+  if (asked.text) await addComments(all, page.signal);
+  const rows = search(all, asked);
+  said.before(...await namedLines(asked.text, [...new Set(all.map(({ member }) => member))]));
   said.replaceChildren(rows.length === 0 ? `None of ${many(all.length, 'deposit')} fits.` : `${many(rows.length, 'deposit')} of ${counted(all.length)}, the best first.`);
   page.root.append(...shownRows(page, rows), indexNote(head));
 }
@@ -87,7 +95,8 @@ async function censusLine(row, count) {
   const place = depositAddress(row.deposit, row.generation);
   const name = await nameOf(row.deposit);
   return make('tr', {}, make('th', { scope: 'row' }, make('a', { href: censusAddress(row.id) }, counted(row.id))),
-    make('td', {}, make('a', { href: place }, `${name ?? `Deposit ${row.deposit}`}`), make('small', {}, `deposit ${counted(row.deposit)}, generation ${counted(row.generation)}`)),
+    make('td', {}, make('a', { href: place }, `${name ?? `Deposit ${row.deposit}`}`), make('small', {}, `deposit ${counted(row.deposit)}, generation ${counted(row.generation)}`),
+      make('small', { class: 'narrow' }, `${row.steady ? 'steady' : 'not steady'}, ${row.day}`)),
     count === undefined ? null : make('td', { class: 'number' }, counted(count)), make('td', { class: 'number' }, counted(row.clusters)),
     make('td', {}, row.steady ? 'steady' : 'not steady', make('small', {}, row.day)));
 }
@@ -145,9 +154,4 @@ export async function censusesPage(page) {
   else page.root.append(make('p', { class: 'count' }, many(rows.length, 'census', 'censuses')), ...await censusTable(page, rows, 'Censuses, the newest first'));
   page.root.append(indexNote(head));
   page.say(`${many(rows.length, 'census', 'censuses')}.`);
-}
-
-/** Adds parts to a page once they have come. A page is whole without what the index says, so nothing is said where it does not come. */
-export function addLater(page, place, coming) {
-  coming.then((parts) => { if (!page.signal.aborted) place.append(...parts); }, () => {});
 }

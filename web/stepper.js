@@ -4,8 +4,10 @@
 /** Dead words and rows round what is live, so that a pattern grows some time before it gets more room. */
 const MARGIN_WORDS = 2;
 const MARGIN_ROWS = 48;
-/** Between generations that are kept, so that playing back need not begin anew. */
+/** Between generations that are kept, so that playing back need not begin anew: all of these, and near what was made last more of them. */
 const KEPT_EACH = 64;
+const KEPT_NEAR = 16;
+const NEAR = 128;
 
 /** A field of cells: rows of words, and where its first column and row are on the plane. */
 class Field {
@@ -178,25 +180,36 @@ function counted(list, left) {
 
 // ---- the worker
 
-const state = { kept: new Map(), counts: null };
+/** The fields that are kept by their generations, the first generation that is known, and the number of the pattern that was given last. */
+const state = { kept: new Map(), counts: null, first: 0, turn: 0 };
 
-/** Answers the generations from one to another, each as a message. */
-function answer({ pattern, rule, from, to }) {
-  if (pattern) {
-    state.counts = countsOf(rule);
-    state.kept = new Map([[0, fieldOf(pattern)]]);
-    return;
-  }
+/** Begins anew with a generation: nothing before it is known. */
+function begin({ pattern, rule, first, turn }) {
+  state.counts = countsOf(rule);
+  state.kept = new Map([[first, fieldOf(pattern)]]);
+  Object.assign(state, { first, turn });
+}
+
+/** Keeps a field, and forgets others that are far away and not at a multiple that stays. */
+function keep(at, field) {
+  if (at % KEPT_NEAR !== 0 || state.kept.has(at)) return;
+  state.kept.set(at, field);
+  for (const other of state.kept.keys()) if (other !== state.first && other % KEPT_EACH !== 0 && Math.abs(other - at) > NEAR) state.kept.delete(other);
+}
+
+/** Answers the generations from one to another, each `by`-th of them, each as a message. */
+function answer({ from, to, by, turn }) {
+  if (turn !== state.turn) return;
   let at = Math.max(...[...state.kept.keys()].filter((number) => number <= from));
   let field = state.kept.get(at);
   for (; at <= to; at += 1) {
-    if (at % KEPT_EACH === 0 && !state.kept.has(at)) state.kept.set(at, field);
-    if (at >= from) {
+    keep(at, field);
+    if (at >= from && (at - from) % by === 0) {
       const found = patternOf(field);
-      postMessage({ at, ...found }, [found.list.buffer, found.ends.buffer]);
+      postMessage({ at, turn, ...found }, [found.list.buffer, found.ends.buffer]);
     }
     if (at < to) field = following(field, state.counts);
   }
 }
 
-if (typeof WorkerGlobalScope !== 'undefined') addEventListener('message', (event) => answer(event.data));
+if (typeof WorkerGlobalScope !== 'undefined') addEventListener('message', ({ data }) => (data.pattern ? begin(data) : answer(data)));

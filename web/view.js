@@ -1,8 +1,13 @@
 // The large drawing of a deposit: where it is looked at, how large, and by which hands: wheel, fingers, buttons, keys.
 
-import { paint, SIZES, sizeFor } from './draw.js';
+import { boundStep, paint, sizeAt, sizeFor, stepOf } from './draw.js';
+import { Wheel } from './wheel.js';
 
 const LARGEST_AT_FIRST = 16;
+/** How much more than the pattern is seen when all of it is shown. */
+const ROOM = 1.05;
+/** By how much two fingers go apart for a step of the zoom. */
+const SPREAD_A_STEP = 1.35;
 
 export class View {
   #pattern = { width: 0, height: 0, population: 0, rows: [] };
@@ -14,11 +19,19 @@ export class View {
   #pointers = new Map();
   #grid = true;
   #ages = null;
+  /** The step of the zoom with its fraction, which small movements add up to. */
+  #step = 0;
   /** Whether the whole pattern is kept in sight; a hand that moves or zooms ends it. */
   following = true;
 
-  constructor(canvas, signal) {
+  /**
+   * @param {HTMLCanvasElement} canvas
+   * @param {AbortSignal} signal
+   * @param {() => void} scrolled hears of a wheel that scrolls the page over the canvas
+   */
+  constructor(canvas, signal, scrolled = () => {}) {
     this.canvas = canvas;
+    this.wheel = new Wheel(canvas, scrolled);
     canvas.redraw = () => this.#draw();
     const options = { signal };
     canvas.addEventListener('wheel', (event) => this.#wheel(event), { ...options, passive: false });
@@ -84,7 +97,7 @@ export class View {
     const [wide, high] = [this.canvas.width / this.#size, this.canvas.height / this.#size];
     const inside = column >= this.#left && row >= this.#top && column + width <= this.#left + wide && row + height <= this.#top + high;
     if (width === 0 || inside) return;
-    if (width + 2 > wide || height + 2 > high) this.#size = sizeFor(width + 2, height + 2, this.canvas.width, this.canvas.height, this.#size);
+    if (width + 2 > wide || height + 2 > high) this.#setSize(sizeFor(width + 2, height + 2, this.canvas.width, this.canvas.height, this.#size));
     this.#look({ column: column + width / 2, row: row + height / 2 });
   }
 
@@ -104,21 +117,37 @@ export class View {
   fit() {
     this.following = true;
     const { width, height } = this.#pattern;
-    const room = 1.25;
-    this.#size = sizeFor(width * room + 4, height * room + 4, this.canvas.width, this.canvas.height, LARGEST_AT_FIRST * this.#scale);
+    this.#setSize(sizeFor(width * ROOM + 1, height * ROOM + 1, this.canvas.width, this.canvas.height, LARGEST_AT_FIRST * this.#scale));
     this.#look({ column: this.#place.column + width / 2, row: this.#place.row + height / 2 });
     this.#draw();
   }
 
-  /** Makes cells larger or smaller by so many steps, about a point of the canvas or its middle. */
+  #setSize(size) {
+    this.#size = size;
+    this.#step = stepOf(size);
+  }
+
+  /**
+   * Makes cells larger or smaller by so many steps, about a point of the canvas or its middle. Fractions of a step add up.
+   * @param {number} steps
+   * @param {{x: number, y: number}} at
+   */
   zoom(steps, at = { x: this.canvas.width / 2, y: this.canvas.height / 2 }) {
     this.following = false;
-    const found = SIZES.findIndex((size) => size >= this.#size);
-    const size = SIZES[Math.min(Math.max(found + steps, 0), SIZES.length - 1)];
+    this.#step = boundStep(this.#step + steps);
+    const size = sizeAt(this.#step);
     this.#left += at.x / this.#size - at.x / size;
     this.#top += at.y / this.#size - at.y / size;
     this.#size = size;
     this.#draw();
+  }
+
+  /**
+   * Makes cells larger or smaller by a whole step, as a button or a key does.
+   * @param {1 | -1} direction
+   */
+  zoomStep(direction) {
+    this.zoom((direction > 0 ? Math.floor(this.#step) : Math.ceil(this.#step)) + direction - this.#step);
   }
 
   /** Moves what is seen by a part of its width and height. */
@@ -135,8 +164,8 @@ export class View {
   }
 
   #wheel(event) {
-    event.preventDefault();
-    this.zoom(event.deltaY < 0 ? 1 : -1, this.#point(event));
+    const steps = this.wheel.steps(event);
+    if (steps !== 0) this.zoom(steps, this.#point(event));
   }
 
   #down(event) {
@@ -162,12 +191,7 @@ export class View {
     const spread = Math.hypot(points[0].x - points[1].x, points[0].y - points[1].y);
     const middle = { x: (points[0].x + points[1].x) / 2, y: (points[0].y + points[1].y) / 2 };
     this.spread ||= spread;
-    if (spread > this.spread * 1.25) this.#pinched(1, spread, middle);
-    else if (spread < this.spread / 1.25) this.#pinched(-1, spread, middle);
-  }
-
-  #pinched(steps, spread, middle) {
+    this.zoom(Math.log(spread / this.spread) / Math.log(SPREAD_A_STEP), middle);
     this.spread = spread;
-    this.zoom(steps, middle);
   }
 }

@@ -1,0 +1,222 @@
+// Constellations: a cluster of a census may be several objects side by side, none of which changes another. Here such a cluster is parted, and its
+// parts are named. This is the page's own work: it steps the whole and each part through all phases, and compares.
+
+import { limitOf, objectNames, patternOf } from './code.js';
+import { cellsOf } from './pattern.js';
+import { LIFE } from './rule.js';
+
+/** What is not parted, since it would take long: more cells, a longer period, more pieces. */
+const MOST_CELLS = 200;
+const LONGEST_PERIOD = 60;
+const MOST_PIECES = 24;
+/** How long the page is held at once, in milliseconds. */
+const HELD = 20;
+
+/** A cell is one number. A pattern stays within a few hundred columns and rows of its first cell. */
+const WIDTH = 4096;
+const FIRST = 1000;
+const ROUND = [-WIDTH - 1, -WIDTH, -WIDTH + 1, -1, 1, WIDTH - 1, WIDTH, WIDTH + 1];
+
+/** @typedef {Set<number>} Cells */
+/** @typedef {{code: string | null, name: string | null, cells: number, count: number}} Part objects that are equal, and how many of them there are */
+
+/**
+ * @param {object} pattern
+ * @returns {Cells}
+ */
+const setOf = (pattern) => new Set([...cellsOf(pattern)].map(([column, row]) => (row + FIRST) * WIDTH + column + FIRST));
+
+/**
+ * The next generation of Conway's Life.
+ * @param {Cells} cells
+ */
+function following(cells) {
+  const counts = new Map();
+  for (const cell of cells) for (const step of ROUND) counts.set(cell + step, (counts.get(cell + step) ?? 0) + 1);
+  const next = new Set();
+  for (const [cell, count] of counts) if (cells.has(cell) ? LIFE.survivals[count] : LIFE.births[count]) next.add(cell);
+  return next;
+}
+
+/** @param {Cells} one @param {Cells} other */
+const isEqual = (one, other) => one.size === other.size && [...one].every((cell) => other.has(cell));
+
+/**
+ * The generations from 0 to a period.
+ * @param {Cells} cells
+ * @param {number} period
+ */
+function phasesOf(cells, period) {
+  const phases = [cells];
+  while (phases.length <= period) phases.push(following(phases.at(-1)));
+  return phases;
+}
+
+/**
+ * The pieces of which the cells touch, also at a corner.
+ * @param {Cells} cells
+ */
+function piecesOf(cells) {
+  const left = new Set(cells);
+  const pieces = [];
+  for (const cell of cells) {
+    if (!left.delete(cell)) continue;
+    const piece = [cell];
+    for (const one of piece) for (const step of ROUND) if (left.delete(one + step)) piece.push(one + step);
+    pieces.push(new Set(piece));
+  }
+  return pieces;
+}
+
+/**
+ * Whether two pieces change each other: together they are not what they are alone.
+ * @param {Cells[]} one the phases of one
+ * @param {Cells[]} other
+ */
+function changes(one, other) {
+  let both = new Set([...one[0], ...other[0]]);
+  for (let at = 1; at < one.length; at += 1) {
+    both = following(both);
+    if (both.size !== one[at].size + other[at].size || [...one[at], ...other[at]].some((cell) => !both.has(cell))) return true;
+  }
+  return false;
+}
+
+/** Two pieces that change each other; nothing if there are none. */
+function changing(phases) {
+  for (let one = 0; one < phases.length; one += 1) {
+    for (let other = one + 1; other < phases.length; other += 1) if (changes(phases[one], phases[other])) return [one, other];
+  }
+  return null;
+}
+
+/**
+ * The objects that a cluster is made of, each with its phases; nothing if it is one object.
+ * @param {Cells} cells
+ * @param {number} period
+ * @returns {Cells[] | null}
+ */
+function objectsOf(cells, period) {
+  let pieces = piecesOf(cells);
+  if (pieces.length === 1 || pieces.length > MOST_PIECES) return null;
+  for (;;) {
+    const phases = pieces.map((piece) => phasesOf(piece, period));
+    const pair = changing(phases);
+    if (!pair) return isWhole(cells, phases, period) ? pieces : null;
+    const [one, other] = pair;
+    pieces = [...pieces.filter((_, at) => at !== one && at !== other), new Set([...pieces[one], ...pieces[other]])];
+    if (pieces.length === 1) return null;
+  }
+}
+
+/** Whether the objects are the whole in each phase, and each comes back. */
+function isWhole(cells, phases, period) {
+  return phases.every((own) => isEqual(own[0], own[period]))
+    && phasesOf(cells, period).every((whole, at) => isEqual(whole, new Set(phases.flatMap((own) => [...own[at]]))));
+}
+
+/**
+ * A text of the cells, wherever they are.
+ * @param {[number, number][]} cells
+ */
+function textOf(cells) {
+  const [left, top] = [0, 1].map((side) => Math.min(...cells.map((cell) => cell[side])));
+  return cells.map(([column, row]) => (row - top) * WIDTH + column - left).sort((one, other) => one - other).join();
+}
+
+/** @param {Cells} cells @returns {[number, number][]} */
+const placesOf = (cells) => [...cells].map((cell) => [cell % WIDTH, Math.floor(cell / WIDTH)]);
+
+const TURNS = [([x, y]) => [x, y], ([x, y]) => [-x, y], ([x, y]) => [x, -y], ([x, y]) => [-x, -y], ([x, y]) => [y, x], ([x, y]) => [-y, x], ([x, y]) => [y, -x], ([x, y]) => [-y, -x]];
+
+/** Whether a code is of an object that stays, and small enough to be parted. */
+function isParted(code) {
+  const pattern = /^x[sp]/.test(code) && limitOf(code) <= LONGEST_PERIOD ? patternOf(code) : null;
+  return pattern !== null && pattern.population <= MOST_CELLS;
+}
+
+/** Lets the page do something else, if it was held for long; the time from which it is held anew. */
+async function rested(begun) {
+  if (performance.now() - begun < HELD) return begun;
+  await new Promise((resolve) => { setTimeout(resolve); });
+  return performance.now();
+}
+
+let known = null;
+
+/** The codes of named objects by the texts of all their phases, however they are turned. */
+function knownObjects() {
+  known ??= objectNames().then(async (names) => {
+    const found = new Map();
+    let begun = performance.now();
+    for (const code of names.keys()) {
+      const cells = isParted(code) ? setOf(patternOf(code)) : null;
+      const period = limitOf(code);
+      if (!cells || objectsOf(cells, period)) continue;
+      for (const phase of phasesOf(cells, period)) for (const turn of TURNS) found.set(textOf(placesOf(phase).map(turn)), code);
+      begun = await rested(begun);
+    }
+    return found;
+  });
+  return known;
+}
+
+/**
+ * The objects that a code of Conway's Life is made of, the most frequent first; nothing if it is one object, or is not parted.
+ * @param {string} code
+ * @returns {Promise<Part[] | null>}
+ */
+export async function partsOf(code) {
+  if (!isParted(code)) return null;
+  const objects = objectsOf(setOf(patternOf(code)), limitOf(code));
+  if (!objects) return null;
+  const [byText, names] = await Promise.all([knownObjects(), objectNames()]);
+  const parts = new Map();
+  for (const object of objects) {
+    const text = textOf(placesOf(object));
+    const own = byText.get(text) ?? null;
+    const part = parts.get(own ?? text) ?? { code: own, name: own ? names.get(own) : null, cells: object.size, count: 0 };
+    part.count += 1;
+    parts.set(own ?? text, part);
+  }
+  return [...parts.values()].sort((one, other) => other.count - one.count || other.cells - one.cells);
+}
+
+/** @param {string} name */
+function pluralOf(name) {
+  const [first, ...rest] = name.split(/ (?=with |on |and )/);
+  return [first.replace(/loaf$/, 'loave').replace(/([^s])$/, '$1s'), ...rest].join(' ');
+}
+
+/**
+ * `4 blinkers`, `blinker + block`; an object without a name is told by its cells.
+ * @param {Part[]} parts
+ */
+export function partsText(parts) {
+  const one = ({ name, cells, count }) => {
+    if (name) return count === 1 ? name : `${count} ${pluralOf(name)}`;
+    return `${count === 1 ? 'an object' : `${count} objects`} of ${cells} cells`;
+  };
+  return parts.map(one).join(' + ');
+}
+
+/**
+ * What the objects of a table are made of: a text for each code that is a group, and how often each object is in groups.
+ * @param {{code: string, count: number}[]} rows
+ * @param {string} rule
+ * @param {AbortSignal} signal
+ * @returns {Promise<{texts: Map<string, string>, grouped: Map<string, number>}>}
+ */
+export async function groupsOf(rows, rule, signal) {
+  const [texts, grouped] = [new Map(), new Map()];
+  if (rule !== 'B3/S23') return { texts, grouped };
+  let begun = performance.now();
+  for (const { code, count } of rows) {
+    const parts = await partsOf(code);
+    for (const part of parts ?? []) if (part.code) grouped.set(part.code, (grouped.get(part.code) ?? 0) + count * part.count);
+    if (parts) texts.set(code, partsText(parts));
+    begun = await rested(begun);
+    signal.throwIfAborted();
+  }
+  return { texts, grouped };
+}

@@ -25,3 +25,4 @@ pub mod UpdateLemmas
 pub mod MigrationLemmas
 pub mod BlankLemmas
 pub mod RepresentingLemmas
+pub mod TreesLemmas

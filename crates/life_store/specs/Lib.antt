@@ -5,6 +5,7 @@ pub mod Fault
 pub mod Stored
 pub mod Crash
 pub mod Tables
+pub mod TreesOf
 pub mod Left
 pub mod Statements
 pub mod DepositsState

@@ -1,7 +1,9 @@
 //! The archive, over any store.
 
-ghost use Rattle.std.specs.Prelude.{◌≡◌, ◌+◌, ◌++◌, ◌∷◌, [], ℕ, List, length, option_map, IsTrue, IfOk, IfSome, OnOk, OnErr};
+ghost use Rattle.std.specs.Prelude.{◌≡◌, ◌≤◌, ◌+◌, ◌++◌, false, ◌∷◌, [], ℕ, List, length, option_map, IsTrue, IfOk, IfSome, OnOk, OnErr};
 ghost use Rattle.sqlite_trees.specs.Tree.{Trees};
+ghost use Rattle.sqlite_trees.specs.View.{doubt, IsClean};
+ghost use Rattle.life_store.specs.TreesOf.{AreTreesOf};
 ghost use Rattle.sqlite.specs.Held.{state};
 ghost use Rattle.life_rle.specs.Record.{IsInside};
 ghost use Rattle.life_rle.specs.Writer.{text};
@@ -352,6 +354,20 @@ impl<S: Alter> Archive<S> {
         let text = rule.text(alloc)?;
         let rows = censuses::total(&mut self.conn, text.as_bytes(), code)?;
         total_in(rows.as_slice())
+    }
+}
+
+impl<S: Alter + Drop> Archive<S> {
+    /// The store of the archive, and whether no transaction was open: then its tables are trees of the store. What is not committed
+    /// is lost. For a look at every row, in the order of the trees, which no query tells.
+    pub fn into_trees(self) -> (bool, S)
+        ensures trees { IsTrue result.0 → IsClean (S.Store.view result.1) → (S.Store.view result.1).is_broken ≡ false → AreTreesOf self.tables (S.Store.view result.1).trees }
+        ensures honest { doubt (S.Store.view self.store).is_clean ≤ doubt (S.Store.view result.1).is_clean }
+        ensures outcomes { (db : Trees) → S.Store.recovers result.1 db → S.Store.recovers self.store db }
+    {
+        let conn = self.into_connection();
+        let is_settled = conn.is_autocommit();
+        (is_settled, conn.into_store())
     }
 }
 

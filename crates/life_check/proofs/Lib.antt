@@ -1,0 +1,3 @@
+pub mod WalkLemmas
+pub mod CountLemmas
+pub mod SoundLemmas

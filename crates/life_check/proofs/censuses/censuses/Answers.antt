@@ -1,0 +1,32 @@
+use Rattle.std.proofs.Common.{rules, ◌≡◌, ◌+◌, List, Some, true, subst, arith}
+use Rattle.std.specs.Prelude.{IfSome}
+use Rattle.sqlite_trees.specs.View.{IsClean, Advances}
+use Rattle.life_store.specs.declared.kept.Deposit.{Deposit}
+use Rattle.life_check.specs.CountState.{AreFiled, Follows}
+use Rattle.life_check.proofs.WalkLemmas.{calm_then}
+use Rattle.life_check.proofs.CountLemmas.{counted_more, filed_then}
+use Rattle.life_check.proofs.censuses.censuses.Goals as goal
+
+pub loop-count-init : goal.loop-count-init
+loop-count-init g c = (c.in_ok-begin_all.ensures.live.0, c.in_ok-begin_all.ensures.live.1, c.in_ok-begin_all.ensures.live.2, c.begin_all.ensures.calm, λ clean ds filed. c.in_ok-begin_all.ensures.begun clean ds)
+
+pub loop-count-preserved : goal.loop-count-preserved
+loop-count-preserved g c =
+    let v1 = g.S.Store.view c.loop-count.store in
+    let v2 = g.S.Store.view c.next.new.store in
+    let v3 = g.S.Store.view c.census_follows.new.store in (
+      c.in_ok-more.ensures.stay 0 (c.in_ok-next.ensures.stay 0 c.loop-count.invariant.0),
+      c.in_ok-more.ensures.stay 1 (c.in_ok-next.ensures.stay 1 c.loop-count.invariant.1),
+      c.in_ok-more.ensures.stay 2 (c.in_ok-next.ensures.stay 2 c.loop-count.invariant.2),
+      calm_then g.S.Store c.args.store.now c.loop-count.store c.census_follows.new.store c.loop-count.invariant.3 (calm_then g.S.Store c.loop-count.store c.next.new.store c.census_follows.new.store c.next.ensures.calm c.census_follows.ensures.calm),
+      λ clean ds filed.
+          let clean_2 : IsClean v2 = omega (arith, c.census_follows.ensures.calm.clean, clean) in
+          let clean_1 : IsClean v1 = omega (arith, c.next.ensures.calm.clean, clean_2) in
+          let found : c.in_ok-next.field-0 ≡ true = search rules in
+          let goes = subst (Advances v1 v2 0 c.next.new.row) found (c.in_ok-next.ensures.ok clean_2) in
+          let before = c.loop-count.invariant.4 clean_1 ds filed in
+          let told : IfSome (Some c.in-Some.more) (λ more. (ds : List Deposit) → AreFiled v2.trees ds → Follows ds (c.loop-count.count + 1) c.loop-count.read more c.next.new.row v2 v3) =
+          subst (λ o. IfSome o (λ more. (ds : List Deposit) → AreFiled v2.trees ds → Follows ds (c.loop-count.count + 1) c.loop-count.read more c.next.new.row v2 v3)) c.in-Some.is (c.in_ok-more.ensures.follow clean) in
+          let it = told ds (filed_then ds c.loop-count.count c.loop-count.read (g.S.Store.view c.args.store.now) v1 v2 c.next.new.row before goes filed) in
+          counted_more ds c.loop-count.count c.loop-count.read c.in-Some.more (g.S.Store.view c.args.store.now) v1 v2 v3 c.next.new.row before goes it,
+    )

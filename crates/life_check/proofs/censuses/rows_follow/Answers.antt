@@ -1,0 +1,23 @@
+use Rattle.std.proofs.Common.{rules, ◌≡◌, ◌∙◌, ◌+◌, true, ap, subst, arith}
+use Rattle.sqlite_trees.specs.View.{Advances}
+use Rattle.life_census.specs.Rows.{row_seen}
+use Rattle.life_check.specs.ReadState.{count_row}
+use Rattle.life_check.proofs.WalkLemmas.{calm_then}
+use Rattle.life_check.proofs.CountLemmas.{follow_more}
+use Rattle.life_check.proofs.censuses.rows_follow.Goals as goal
+
+pub loop-counted-preserved : goal.loop-counted-preserved
+loop-counted-preserved g c =
+    let index = c.loop-counted.counted-index in
+    let number : c.in-Some.next_at ≡ c.args.before + index + 1 = first_of (search rules, grind arith) in (
+      λ d live. c.in_ok-next.ensures.stay d (c.loop-counted.invariant.0 d live),
+      calm_then g.S.Store c.args.store.now c.loop-counted.store c.next.new.store c.loop-counted.invariant.1 c.next.ensures.calm,
+      omega (arith, number),
+      λ clean.
+          let found : c.in_ok-next.field-0 ≡ true = search rules in
+          let goes = subst (Advances (g.S.Store.view c.loop-counted.store) (g.S.Store.view c.next.new.store) 1 c.next.new.row) found (c.in_ok-next.ensures.ok clean) in
+          let before = c.loop-counted.invariant.3 (omega (arith, c.next.ensures.calm.clean, clean)) in
+          let is : c.next.new.row ≡ count_row c.in-Some.next_at (c.args.id, row_seen c.counted-item.result) = search rules in
+          follow_more row_seen c.args.id c.args.before (g.S.Store.view c.args.store.now) (g.S.Store.view c.loop-counted.store) (g.S.Store.view c.next.new.store) c.args.rows.now index c.counted-item.result c.next.new.row c.loop-counted-test.true c.counted-item.is before goes
+          (is ∙ ap (λ n. count_row n (c.args.id, row_seen c.counted-item.result)) number),
+    )

@@ -1,0 +1,76 @@
+-- How far the censuses of an archive are read, with the rows of their tallies and their flags, and what was found of them.
+use Rattle.std.specs.Prelude.{◌≡◌, ◌<◌, ◌+◌, ◌^◌, ◌==◌, ⊤, ℕ, false, List, [], ◌∷◌, ◌++◌, length, Some}
+use Rattle.std.specs.List.{AllByRecursion}
+use Rattle.sqlite_value.specs.Order.{Row}
+use Rattle.sqlite_trees.specs.Tree.{Trees}
+use Rattle.sqlite_trees.specs.View.{View}
+use Rattle.life_store.specs.declared.kept.Deposit.{Deposit}
+use Rattle.life_store.specs.Kept.{Tallied, numbered}
+use Rattle.life_store.specs.Stored.{IsFiled, rows_by, deposit_cells, census_cells, count_cells, flag_cells, tagged, counts_from}
+use Rattle.life_store.specs.Tables.{HasOrder}
+use Rattle.life_desk.specs.Represents.{tallied}
+use Rattle.life_check.specs.declared.walk.Found.{Found}
+use Rattle.life_check.specs.declared.walk.Found.TheVariants.{All, Wrong}
+use Rattle.life_check.specs.ReadState.{census_row, flag_row}
+
+-- The census's deposit is there, and its tally and its flag are those of its own generation.
+pub record IsCounted (ds : List Deposit) (t : Tallied) : Type 0 where
+  pub deposit : Deposit
+  pub there : numbered ds t.census.deposit ≡ Some deposit
+  pub is : t ≡ tallied ds t.census
+
+-- all rows of the three tables are those of n censuses of these deposits, counted
+pub record AreCounted (trees : Trees) (ds : List Deposit) (n : ℕ) : Type 0 where
+  pub censuses : List Tallied
+  pub many : length censuses ≡ n
+  pub good : AllByRecursion (IsCounted ds) censuses
+  pub ordered : AllByRecursion (λ t. HasOrder t.tally) censuses
+  pub rows : trees 3 ≡ rows_by census_cells 1 censuses
+  pub counts : trees 5 ≡ rows_by count_cells 1 (counts_from 1 censuses)
+  pub flags : trees 7 ≡ rows_by flag_cells 1 censuses
+
+-- the table of deposits has the rows of these, each with a file that is read as its record again
+abbrev pub AreFiled : Trees → List Deposit → Type 0
+AreFiled trees ds = (trees 1 ≡ rows_by deposit_cells 1 ds) × AllByRecursion IsFiled ds
+
+-- what was found of the three tables
+abbrev pub FindsCounted : Trees → Found → Type 0
+FindsCounted trees (All n) = ((ds : List Deposit) → AreFiled trees ds → AreCounted trees ds n) × (n < 2 ^ 63)
+FindsCounted trees (Wrong n) = ⊤
+
+-- The cursor has given these rows. The others stand where they stood.
+pub record Takes (cursor : ℕ) (rows : List Row) (old now : View) : Type 0 where
+  pub left : List Row
+  pub was : old.cursors cursor ≡ Some (rows ++ left)
+  pub at : now.cursors cursor ≡ Some left
+  pub others : (d : ℕ) → (d == cursor) ≡ false → now.cursors d ≡ old.cursors d
+  pub trees : now.trees ≡ old.trees
+
+-- The first n censuses are read, and so many rows of tallies with them.
+pub record HasCounted (ds : List Deposit) (n read : ℕ) (old now : View) : Type 0 where
+  pub trees : now.trees ≡ old.trees
+  pub done : List Tallied
+  pub many : length done ≡ n
+  pub good : AllByRecursion (IsCounted ds) done
+  pub ordered : AllByRecursion (λ t. HasOrder t.tally) done
+  pub reads : length (counts_from 1 done) ≡ read
+  pub left : List Row
+  pub at : now.cursors 0 ≡ Some left
+  pub rows : old.trees 3 ≡ rows_by census_cells 1 done ++ left
+  pub left_counts : List Row
+  pub at_counts : now.cursors 1 ≡ Some left_counts
+  pub counts : old.trees 5 ≡ rows_by count_cells 1 (counts_from 1 done) ++ left_counts
+  pub left_flags : List Row
+  pub at_flags : now.cursors 2 ≡ Some left_flags
+  pub flags : old.trees 7 ≡ rows_by flag_cells 1 done ++ left_flags
+
+-- The row is that of a census under this number, which is counted, and its rows and its flag are what the two other cursors gave.
+pub record Follows (ds : List Deposit) (id before more : ℕ) (row : Row) (old now : View) : Type 0 where
+  pub census : Tallied
+  pub good : IsCounted ds census
+  pub ordered : HasOrder census.tally
+  pub row_is : row ≡ census_row id census
+  pub more_is : more ≡ before + length census.tally.rows
+  pub middle : View
+  pub counts : Takes 1 (rows_by count_cells (before + 1) (tagged id census.tally.rows)) old middle
+  pub flag : Takes 2 (flag_row id census ∷ []) middle now

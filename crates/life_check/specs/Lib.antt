@@ -1,0 +1,4 @@
+pub mod ReadState
+pub mod WalkState
+pub mod CountState
+pub mod Sound

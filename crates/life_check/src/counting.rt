@@ -1,0 +1,51 @@
+//! A census counted anew from its deposit, as the desk counts it before it is kept.
+
+ghost use Rattle.std.specs.Prelude.{◌≡◌, ◌≤◌, Some, IfOk};
+ghost use Rattle.life_core.specs.Pattern.{IsWithin};
+ghost use Rattle.life_rle.specs.Record.{IsInside};
+ghost use Rattle.life_census.specs.Steady.{is_steady};
+ghost use Rattle.life_store.specs.Tables.{HasOrder};
+ghost use Rattle.life_desk.specs.Archive.{tally_for, tally_of_cells, steady_for};
+
+use life_census::{Tally, laws_of_tallies, tally_and_steady};
+use life_code::PERIOD_LIMIT;
+use life_core::{GENERATION_LIMIT, Pattern, Rule, generation};
+use life_store::{Census, Deposit, Unavailable};
+use std::alloc::Global;
+
+/// The tally of a pattern, and whether it is steady.
+fn count(
+    alloc: Global,
+    rule: &Rule,
+    cells: &Pattern,
+    limit: u32,
+) -> Result<(Tally, bool), Unavailable>
+    requires some { 1 ≤ limit }
+    requires few { limit ≤ PERIOD_LIMIT }
+    requires room { IsWithin 400_000_000 cells.now }
+    ensures is { IfOk result (λ p. p.0 ≡ tally_of_cells rule.now cells.now limit) }
+    ensures flag { IfOk result (λ p. p.1 ≡ is_steady rule.now cells.now limit) }
+    ensures ordered { IfOk result (λ p. HasOrder p.0) }
+{
+    laws_of_tallies();
+    Ok(tally_and_steady(alloc, rule, cells, limit)?)
+}
+
+/// The tally of the census's generation of its deposit, and whether that generation is steady.
+pub(crate) fn counted(
+    alloc: Global,
+    deposit: &Deposit,
+    census: &Census,
+) -> Result<(Tally, bool), Unavailable>
+    requires small { IsInside 1024 deposit.now.content.cells }
+    requires few { census.now.generation ≤ GENERATION_LIMIT }
+    requires some { 1 ≤ census.now.limit }
+    requires short { census.now.limit ≤ PERIOD_LIMIT }
+    ensures is { IfOk result (λ p. p.0 ≡ tally_for census.now (Some deposit.now)) }
+    ensures flag { IfOk result (λ p. p.1 ≡ steady_for census.now (Some deposit.now)) }
+    ensures ordered { IfOk result (λ p. HasOrder p.0) }
+{
+    let rule = deposit.content.rule;
+    let later = generation(alloc, &rule, &deposit.content.cells, census.generation)?;
+    count(alloc, &rule, &later, census.limit)
+}

@@ -1,0 +1,107 @@
+//! The whole look at an archive.
+
+ghost use Rattle.std.specs.Prelude.{◌≡◌, ◌≢◌, ◌↔◌, ◌∷◌, [], pos, false, IfOk, OnOk, IsTrue};
+ghost use Rattle.sqlite_value.specs.declared.value.Value.TheVariants.{Int};
+ghost use Rattle.sqlite_trees.specs.View.{IsClean};
+ghost use Rattle.life_store.specs.Layout.{archive_schema};
+ghost use Rattle.life_store.specs.Tables.{version_2};
+ghost use Rattle.life_check.specs.WalkState.{IsCalm, KeepsTrees};
+ghost use Rattle.life_check.specs.Sound.{FindsSound, RepresentsSome};
+
+use crate::censuses::censuses;
+use crate::deposits::deposits;
+use crate::walk::{Found, begin, next};
+use life_store::{Archive, Unavailable};
+use sqlite::Alter;
+use sqlite_value::row::Row;
+use sqlite_value::value::ValueRef;
+use std::alloc::Global;
+
+/// What is not as an archive has it.
+#[derive(Clone, Copy, Debug, PartialEq, Eq)]
+pub enum Wrong {
+    /// The tables, their columns or their indexes.
+    Tables,
+    /// The rows of `layout`.
+    Layout,
+    /// The row that should be the deposit of the number.
+    Deposit(u64),
+    /// The row that should be the census of the number, a row of its tally, or its flag.
+    Census(u64),
+}
+
+/// What a look at an archive found.
+#[derive(Clone, Copy, Debug, PartialEq, Eq)]
+pub enum Verdict {
+    /// The tables represent an archive of so many deposits and so many censuses.
+    Sound(u64, u64),
+    /// This is the first that is wrong.
+    NotSound(Wrong),
+}
+
+/// Whether the row is that of version 2.
+fn is_version(alloc: Global, row: &Row) -> Result<bool, Unavailable>
+    ensures { IfOk result (λ b. IsTrue b ↔ (row.now ≡ Int (pos 1) ∷ Int (pos 2) ∷ [])) }
+{
+    let mut written = Row::new(alloc);
+    written.push(ValueRef::Int(1))?;
+    written.push(ValueRef::Int(2))?;
+    Ok(row.is_same(&written))
+}
+
+/// Whether the layout is the second.
+fn is_layout<S: Alter>(store: &mut S, alloc: Global) -> Result<bool, Unavailable>
+    ensures version { IsClean (S.Store.view store.new) → IfOk result (λ b. IsTrue b → (S.Store.view store.old).trees 0 ≡ version_2) }
+    ensures other { IsClean (S.Store.view store.new) → IfOk result (λ b. b ≡ false → (S.Store.view store.old).trees 0 ≢ version_2) }
+    ensures keeps { IsClean (S.Store.view store.new) → OnOk result (KeepsTrees (S.Store.view store.old) (S.Store.view store.new)) }
+    ensures calm { IsCalm S.Store store.old store.new }
+{
+    begin(store, alloc, 0, 0)?;
+    let mut row = Row::new(alloc);
+    if !next(store, 0, &mut row)? {
+        return Ok(false);
+    }
+    if !is_version(alloc, &row)? {
+        return Ok(false);
+    }
+    if next(store, 0, &mut row)? {
+        return Ok(false);
+    }
+    Ok(true)
+}
+
+/// Reads all trees of an archive's tables, once: rows one after another, and one tally at a time.
+pub fn check_trees<S: Alter>(store: &mut S, alloc: Global) -> Result<Verdict, Unavailable>
+    ensures sound { IsClean (S.Store.view store.new) → IfOk result (FindsSound (S.Store.view store.old).trees) }
+    ensures unbroken { IsClean (S.Store.view store.new) → OnOk result ((S.Store.view store.old).is_broken ≡ false) }
+    ensures calm { IsCalm S.Store store.old store.new }
+{
+    if !is_layout(store, alloc)? {
+        return Ok(Verdict::NotSound(Wrong::Layout));
+    }
+    let deposits = match deposits(store, alloc)? {
+        Found::All(count) => count,
+        Found::Wrong(id) => return Ok(Verdict::NotSound(Wrong::Deposit(id))),
+    };
+    let censuses = match censuses(store, alloc)? {
+        Found::All(count) => count,
+        Found::Wrong(id) => return Ok(Verdict::NotSound(Wrong::Census(id))),
+    };
+    Ok(Verdict::Sound(deposits, censuses))
+}
+
+/// Looks at every row of an archive, and gives its store back. It changes nothing. What is sound is an archive's, whoever wrote it.
+pub fn check<S: Alter + Drop>(
+    archive: Archive<S>,
+    alloc: Global,
+) -> (Result<Verdict, Unavailable>, S)
+    ensures sound { IsClean (S.Store.view result.1) → archive.tables.schema ≡ archive_schema → IfOk result.0 (RepresentsSome archive) }
+    ensures calm { IsCalm S.Store archive.store result.1 }
+{
+    let (is_settled, mut store) = archive.into_trees();
+    if !is_settled {
+        return (Err(Unavailable), store);
+    }
+    let verdict = check_trees(&mut store, alloc);
+    (verdict, store)
+}

@@ -8,6 +8,9 @@ use std::alloc::Global;
 /// The R-pentomino. It settles after 1,103 generations, with six gliders that leave.
 const R_PENTOMINO: [(i64, i64); 5] = [(1, 0), (2, 0), (0, 1), (1, 1), (1, 2)];
 
+/// Its population from then on, as it is known: eight blocks, six gliders, four beehives, four blinkers, a boat, a loaf and a ship.
+const SETTLED_POPULATION: usize = 116;
+
 /// Two gliders that leave side by side, and a blinker between their ways.
 const GLIDERS: [(i64, i64); 13] = [
     (21, 0),
@@ -36,6 +39,15 @@ fn is_generation(alloc: Global, pattern: &Pattern, n: u32) -> Result<bool, Fault
     Ok(settled.same(&generation(alloc, &Rule::LIFE, pattern, n)?))
 }
 
+/// The population of generation `n` of the R-pentomino.
+fn population_at(alloc: Global, n: u32) -> Result<usize, Fault> {
+    let pentomino = Pattern::from_cells(alloc, &R_PENTOMINO)?;
+    if n > GENERATION_LIMIT || !pentomino.within(PLANE - n) {
+        return Ok(0);
+    }
+    Ok(settled_generation(alloc, &Rule::LIFE, &pentomino, n)?.population())
+}
+
 /// Whether both fields have the generations that they should have.
 fn are_generations(alloc: Global, n: u32) -> Result<bool, Fault> {
     if n > GENERATION_LIMIT {
@@ -50,5 +62,11 @@ fn are_generations(alloc: Global, n: u32) -> Result<bool, Fault> {
 fn fields_that_settle(rt: HostRuntime) {
     for n in [0, 64, 65, 67, 1_120, 1_121, 2_048] {
         assert!(rt; are_generations(rt.alloc(), n) == Ok(true), "{n}");
+    }
+    for n in [1_103, 1_360, 2_048] {
+        assert!(rt;
+            population_at(rt.alloc(), n) == Ok(SETTLED_POPULATION),
+            "{n}"
+        );
     }
 }

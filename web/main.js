@@ -151,8 +151,8 @@ async function show() {
     page.signal.throwIfAborted();
     const [form, part, begin] = pageOf(path);
     markLinks(part);
-  markMember();
-  fillBox(path);
+    markMember();
+    fillBox(path);
     if (!form) throw new Refused('no-such-page');
     await begin(page, ...form.exec(path).slice(1));
   } catch (error) {

@@ -7,11 +7,11 @@ import os
 import re
 import sys
 
-TEMPLATES = os.path.join(os.path.dirname(os.path.realpath(__file__)), "templates")
+TEMPLATES = os.path.join(os.path.dirname(os.path.dirname(os.path.realpath(__file__))), "templates")
 GATEWAY = os.path.join(TEMPLATES, "gateway")
 
 
-def with_derived(settings):
+def with_derived(settings: dict[str, str]) -> dict[str, str]:
     """The settings, and what follows from them: a second place that is a folder here, no HSTS without TLS, and the logs that Debian's file
     for nginx does not rotate."""
     place, logs = settings["SECOND_PLACE"], {settings["WEB_LOG"], settings["WEB_ERRORS"]}
@@ -19,9 +19,9 @@ def with_derived(settings):
                        "OWN_LOGS": " ".join(sorted(log for log in logs if not re.fullmatch(r"/var/log/nginx/[^/]+\.log", log)))}
 
 
-def filled(name, text, settings):
+def filled(name: str, text: str, settings: dict[str, str]) -> str:
     """A template with the settings in their places."""
-    def value(found):
+    def value(found: re.Match[str]) -> str:
         if found[1] not in settings:
             sys.exit(f"{name} wants {found[1]}, which is not set")
         return settings[found[1]]
@@ -35,7 +35,7 @@ def filled(name, text, settings):
     return "".join(kept)
 
 
-def filled_templates(folder, settings):
+def filled_templates(folder: str, settings: dict[str, str]) -> dict[str, str]:
     """The name of each template in a folder, and its text with the settings. A folder that is not there has none."""
     files = {}
     for name in sorted(os.listdir(folder)) if os.path.isdir(folder) else []:

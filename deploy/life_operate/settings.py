@@ -4,10 +4,11 @@ import re
 import shutil
 import subprocess
 import sys
+from collections.abc import Container, Iterable
 
 USUAL = "/etc/life/settings"
-# Every setting has a value here, which that of a club replaces.
-OWN = os.path.join(os.path.dirname(os.path.realpath(__file__)), "settings")
+# Every setting has a value here, beside the package, which that of a club replaces.
+OWN = os.path.join(os.path.dirname(os.path.dirname(os.path.realpath(__file__))), "settings")
 LINE = re.compile(r"([A-Z_]+)=([A-Za-z0-9_./:@%+*,\[\] -]*)")
 PORT = (r"[1-9][0-9]{0,4}", "a port from 1 to 65535")
 COUNT = (r"[1-9][0-9]{0,8}", "a number from 1 on")
@@ -47,13 +48,13 @@ class Wrong(Exception):
     """What is wrong with the settings, in words."""
 
 
-def lines_of(path):
+def lines_of(path: str) -> list[str]:
     with open(path, encoding="utf-8") as file:
         lines = [line.rstrip("\n") for line in file]
     return [line for line in lines if line and not line.startswith("#")]
 
 
-def taken(lines, known):
+def taken(lines: Iterable[str], known: Container[str]) -> dict[str, str]:
     """The settings of these lines. `known` has the names that there are."""
     settings = {}
     for line in lines:
@@ -66,26 +67,26 @@ def taken(lines, known):
     return settings
 
 
-def judged(name, value):
+def judged(name: str, value: str) -> None:
     form, words = FORMS[name]
     port = re.search(r"[0-9]+$", value) if name.endswith("PORT") or name.startswith(("LISTEN", "REDIRECT")) else None
     if not re.fullmatch(form, value) or (port and int(port[0]) > 65535):
         raise Wrong(f"{name}={value}: it has to be {words}")
 
 
-def seconds(value):
+def seconds(value: str) -> float:
     number, unit = re.fullmatch(r"([0-9]+)([a-z]+)", value).groups()
     return int(number) * SECONDS[unit]
 
 
-def is_calendar(value):
+def is_calendar(value: str) -> bool:
     """Whether systemd knows these times. Without its tool each text is one."""
     if not shutil.which("systemd-analyze"):
         return True
     return subprocess.run(["systemd-analyze", "calendar", value], capture_output=True, timeout=60, check=False).returncode == 0
 
 
-def judge(settings):
+def judge(settings: dict[str, str]) -> None:
     """Refuses what is no value of its setting, and values that don't go together."""
     for name, value in settings.items():
         judged(name, value)
@@ -101,8 +102,8 @@ def judge(settings):
             raise Wrong(f"{name}={settings[name]}: it has to be {CALENDAR[1]}")
 
 
-def settings_of(path, words=()):
-    """All settings: those beside this file, then those of a file, which may be None, then those of the words; each of them judged."""
+def settings_of(path: str | None, words: Iterable[str] = ()) -> dict[str, str]:
+    """All settings: those beside the package, then those of a file, which may be None, then those of the words; each of them judged."""
     settings = taken(lines_of(OWN), FORMS)
     if path:
         settings.update(taken(lines_of(path), settings))
@@ -111,7 +112,7 @@ def settings_of(path, words=()):
     return settings
 
 
-def end_if_wrong(name, path):
+def end_if_wrong(name: str, path: str) -> dict[str, str]:
     """The settings of a file, or the end of a script of this name with a line about what is wrong."""
     try:
         return settings_of(path)

@@ -1,0 +1,331 @@
+"""A list for finding, made of a copy of an archive: static files that a web server gives out.
+
+    life-index COPY FOLDER
+
+COPY is what life-copy made, or a folder of copies, of which the newest is taken. In FOLDER, which is made if it is missing, are then:
+
+    index.json            how many deposits and censuses there are, and the names of all blocks
+    deposits-N-SUM.json   deposits from N on, at most 1,000: name, author, member, rule, population, width, height, the day first seen
+    censuses-N-SUM.json   censuses from N on: deposit, generation, limit, clusters, unresolved, steady, the day first seen
+    objects-N-SUM.json    for each rule and each code the censuses among these that have it, and how often
+    comments-N-SUM.json   the comments of deposits from N on, at most 1,000 deposits
+    feed.xml              the newest deposits, as Atom
+
+SUM is the beginning of the SHA-256 digest of the file, so a file of one name never changes. A block of 1,000 is full: as long as the
+archive only grows, it is not made again. An archive has no dates: the day is the one on which this program first saw the row, of UTC,
+or that of SOURCE_DATE_EPOCH. What the index says is not proved; the archive answers for what it leads to.
+
+If the copy is damaged, or no archive, all files stay as they are. Whatever hinders the index is one line on standard error, and the
+status is 1.
+"""
+import datetime
+import fcntl
+import hashlib
+import itertools
+import json
+import os
+import pathlib
+import re
+import sqlite3
+import sys
+import time
+import uuid
+from collections.abc import Iterable
+from xml.sax.saxutils import escape
+
+VERSION = 1
+BLOCK = 1000
+HEAD = "index.json"
+FEED = "feed.xml"
+IN_FEED = 50
+BLOCK_NAME = re.compile(r"(deposits|censuses|objects|comments)-[0-9]+-([0-9a-f]{16})\.json")
+# Blocks that are no longer named stay this long, in seconds: a browser may still have the list that names them.
+STAYS = 3600
+# The texts and the header of a canonical pattern file. Its texts have at most 13,500 bytes (docs/FORMATS.md).
+BEGIN_OF_FILE = 14_000
+TEXTS = re.compile(rb"(?:#N (.+)\n)?(?:#O (.+)\n)?((?:#C.*\n)*)x = ([0-9]+), y = ([0-9]+), rule = (.+)\n")
+TABLES = ("deposits", "censuses")
+KINDS = ("deposits", "censuses", "objects", "comments")
+# Of the comments of a deposit so many characters are in the index: titles and authors are in the first lines.
+MOST_OF_COMMENTS = 1000
+
+
+class Refused(Exception):
+    """Why there is no new index."""
+
+
+# ---- the copy
+
+def newest(path: str) -> str:
+    """The copy itself, or the newest one of a folder."""
+    if not os.path.isdir(path):
+        return path
+    copies = [os.path.join(path, name) for name in os.listdir(path) if name.endswith(".db")]
+    if not copies:
+        raise Refused(f"{path} has no copy")
+    return max(copies, key=lambda copy: (os.stat(copy).st_mtime_ns, copy))
+
+
+class Archive:
+    """What a copy has. The file is only read, and a log beside it is not."""
+
+    def __init__(self, path: str) -> None:
+        self.path = path
+        with open(path, "rb"):
+            pass
+        self.database = sqlite3.connect(pathlib.Path(os.path.realpath(path)).as_uri() + "?mode=ro&immutable=1", uri=True)
+        found = self.rows("PRAGMA integrity_check")
+        if found != [("ok",)]:
+            raise Refused(f"{path} is damaged: {found[0][0].splitlines()[-1]}")
+        self.counts = {table: self.count(table) for table in TABLES}
+
+    def rows(self, statement: str, *values: object) -> list[tuple]:
+        try:
+            return self.database.execute(statement, values).fetchall()
+        except (sqlite3.Error, UnicodeDecodeError) as fault:
+            raise Refused(f"{self.path} can't be read as an archive: {fault}") from fault
+
+    def count(self, table: str) -> int:
+        count, last = self.rows(f"SELECT count(*), coalesce(max(id), 0) FROM {table}")[0]
+        if count != last:
+            raise Refused(f"{self.path}: the {table} have gaps")
+        return count
+
+    def mark(self, counts: dict[str, int]) -> str:
+        """A digest of the first and of the last row of each table, of so many rows: another archive, or less of this one, has another."""
+        numbers = [{1, counts[table]} for table in TABLES]
+        rows = [self.rows(f"SELECT id, member, rule, rle FROM deposits WHERE id IN ({', '.join('?' * len(numbers[0]))})", *numbers[0]),
+                self.rows(f"SELECT id, deposit, gens, lim, clusters FROM censuses WHERE id IN ({', '.join('?' * len(numbers[1]))})", *numbers[1])]
+        return hashlib.sha256(repr([sorted(found) for found in rows]).encode()).hexdigest()
+
+    # -- blocks: the content of each, from a number on
+
+    def deposits(self, first: int) -> dict:
+        rows = self.rows("SELECT id, member, rule, population, substr(rle, 1, ?) FROM deposits WHERE id >= ? ORDER BY id LIMIT ?", BEGIN_OF_FILE, first, BLOCK)
+        names, authors, _, widths, heights = zip(*(self.texts(number, rule, text) for number, _, rule, _, text in rows))
+        _, members, rules, populations, _ = zip(*rows)
+        return {"first": first, "name": names, "author": columned(authors), "member": columned(members), "rule": columned(rules), "cells": populations,
+                "width": widths, "height": heights}
+
+    def comments(self, first: int) -> dict:
+        """For each deposit its comments as one text."""
+        rows = self.rows("SELECT id, rule, substr(rle, 1, ?) FROM deposits WHERE id >= ? ORDER BY id LIMIT ?", BEGIN_OF_FILE, first, BLOCK)
+        return {"first": first, "text": [self.texts(*row)[2] for row in rows]}
+
+    def texts(self, number: int, rule: str, text: bytes) -> tuple[str, str, str, int, int]:
+        """The name, author, comments, width and height that the stored file begins with."""
+        found = TEXTS.match(text) if isinstance(text, bytes) else None
+        if not found or found[6] != rule.encode():
+            raise Refused(f"{self.path}: deposit {number} is not as an archive writes it")
+        name, author, comments = ((words or b"").decode(errors="replace") for words in found.group(1, 2, 3))
+        lines = (line[2:].strip() for line in comments.split("\n"))
+        return name, author, " ".join(filter(None, lines))[:MOST_OF_COMMENTS], int(found[4]), int(found[5])
+
+    def censuses(self, first: int) -> dict:
+        rows = self.rows("SELECT deposit, gens, lim, clusters, unresolved, steady FROM censuses LEFT JOIN census_flags ON census = id WHERE id >= ? ORDER BY id LIMIT ?", first, BLOCK)
+        names = ("deposit", "generation", "limit", "clusters", "unresolved", "steady")
+        if any(None in row for row in rows):
+            raise Refused(f"{self.path}: a census from {first} on has no flag")
+        return {"first": first, **dict(zip(names, zip(*rows)))}
+
+    def objects(self, first: int) -> dict:
+        """For each rule and code the places of its censuses in the block and its counts there, one after the other."""
+        rows = self.rows("SELECT rule, code, census, n FROM census_rows JOIN censuses ON censuses.id = census JOIN deposits ON deposits.id = deposit"
+                         " WHERE census >= ? AND census < ? ORDER BY rule, code, census", first, first + BLOCK)
+        found = {}
+        for rule, code, census, count in rows:
+            found.setdefault(rule, {}).setdefault(code, []).extend((census - first, count))
+        return {"first": first, "rules": found}
+
+
+def columned(values: Iterable[str]) -> dict:
+    """A column whose values repeat: the different ones, and for each row the place of its own."""
+    different = sorted(set(values))
+    places = {value: place for place, value in enumerate(different)}
+    return {"of": different, "at": [places[value] for value in values]}
+
+
+# ---- the folder
+
+def sync(path: str) -> None:
+    """Waits until a file, or the names in a folder, are on the disk."""
+    number = os.open(path, os.O_RDONLY)
+    try:
+        os.fsync(number)
+    finally:
+        os.close(number)
+
+
+class Folder:
+    """The index that is there."""
+
+    def __init__(self, path: str) -> None:
+        self.path = path
+        os.makedirs(path, exist_ok=True)
+        # Two runs at once would remove each other's blocks; the lock ends with the program.
+        self.lock = os.open(path, os.O_RDONLY)
+        fcntl.flock(self.lock, fcntl.LOCK_EX)
+        self.head = self.read_head()
+
+    def read_head(self) -> dict:
+        """The list of what is there; that of nothing if there is none, or one of another version."""
+        nothing = {"version": VERSION, "mark": "", "counts": dict.fromkeys(TABLES, 0), "blocks": {kind: [] for kind in KINDS}}
+        try:
+            with open(os.path.join(self.path, HEAD), "rb") as file:
+                head = json.load(file)
+            return head if head["version"] == VERSION and head.keys() >= nothing.keys() else nothing
+        except (OSError, ValueError, KeyError, TypeError):
+            return nothing
+
+    def content(self, name: str) -> bytes | None:
+        """The bytes of a block; none if it is missing, or not as it was written."""
+        found = BLOCK_NAME.fullmatch(name)
+        try:
+            with open(os.path.join(self.path, name), "rb") as file:
+                content = file.read()
+        except FileNotFoundError:
+            return None
+        return content if found and hashlib.sha256(content).hexdigest().startswith(found[2]) else None
+
+    def block(self, kind: str, place: int) -> dict | None:
+        """A block that the list names; none if it is not there as a whole."""
+        names = self.head["blocks"].get(kind, [])
+        content = self.content(names[place]) if place < len(names) else None
+        return json.loads(content) if content else None
+
+    def write(self, name: str, content: bytes) -> None:
+        path = os.path.join(self.path, name)
+        with open(path + ".new", "wb") as file:
+            file.write(content)
+        sync(path + ".new")
+        os.replace(path + ".new", path)
+
+    def put(self, kind: str, block: dict) -> str:
+        """Writes a block, if it is not there; its name."""
+        content = json_of(block)
+        name = f"{kind}-{block['first']}-{hashlib.sha256(content).hexdigest()[:16]}.json"
+        if self.content(name) is None:
+            self.write(name, content)
+        return name
+
+    def remove_others(self, head: dict) -> None:
+        """Removes blocks that are not named, once they are old."""
+        named = {name for names in head["blocks"].values() for name in names}
+        old = time.time() - STAYS
+        for name in os.listdir(self.path):
+            path = os.path.join(self.path, name)
+            if BLOCK_NAME.fullmatch(name) and name not in named and os.stat(path).st_mtime < old:
+                os.remove(path)
+
+
+def json_of(value: object) -> bytes:
+    return json.dumps(value, ensure_ascii=False, separators=(",", ":")).encode()
+
+
+# ---- days
+
+def today() -> str:
+    """The day of this run: that of SOURCE_DATE_EPOCH, if it is set, as for builds that can be repeated."""
+    moment = float(os.environ.get("SOURCE_DATE_EPOCH") or time.time())
+    return datetime.datetime.fromtimestamp(moment, datetime.timezone.utc).strftime("%Y-%m-%d")
+
+
+COMPARED = {"deposits": ("name", "cells", "width", "height"), "censuses": ("deposit", "generation", "limit", "clusters", "unresolved")}
+
+
+def common(kind: str, old: dict, new: dict) -> int:
+    """How many rows a block and an older one have in common, from the first on."""
+    rows = [zip(*(block[name] for name in COMPARED[kind])) for block in (old, new)]
+    return len(list(itertools.takewhile(lambda pair: pair[0] == pair[1], zip(*rows))))
+
+
+def days_of(kind: str, old: dict | None, new: dict) -> list[list]:
+    """When the rows of a block were first seen: `[number, day]` for the first row of each day. Rows that were there keep theirs."""
+    known = new["first"] + (common(kind, old, new) if old else 0)
+    end = new["first"] + len(new[COMPARED[kind][0]])
+    days = [run for run in old["seen"] if run[0] < known] if old else []
+    if known < end and (not days or days[-1][1] != today()):
+        days.append([known, today()])
+    return days
+
+
+# ---- the feed
+
+def feed_of(archive: Archive, folder: Folder, names: list[str]) -> bytes:
+    """The newest deposits as an Atom feed (RFC 4287), with addresses that are those of the web pages beside it."""
+    entries = []
+    for name in names[-2:]:
+        entries += entries_of(json.loads(folder.content(name)))
+    entries = entries[-IN_FEED:][::-1]
+    updated = entries[0]["day"] if entries else "1970-01-01"
+    origin = uuid.uuid5(uuid.NAMESPACE_OID, archive.mark({"deposits": min(1, archive.counts["deposits"]), "censuses": 0}))
+    lines = ['<?xml version="1.0" encoding="utf-8"?>', '<feed xmlns="http://www.w3.org/2005/Atom">', "<title>Life archive: new deposits</title>", f"<id>{origin.urn}</id>",
+             f"<updated>{updated}T00:00:00Z</updated>", '<link rel="self" href="/index/feed.xml"/>', '<link href="/"/>', "<author><name>Life archive</name></author>"]
+    for entry in entries:
+        title = escape("".join(letter if letter.isprintable() else "\ufffd" for letter in entry["name"] or f"Deposit {entry['number']}"))
+        said = f"{entry['cells']} cells, {entry['width']} by {entry['height']}, {entry['rule']}"
+        lines += ["<entry>", f"<title>{title}</title>", f"<id>{uuid.uuid5(origin, str(entry['number'])).urn}</id>", f"<updated>{entry['day']}T00:00:00Z</updated>",
+                  f'<link href="/d/{entry["number"]}"/>', f"<author><name>{escape(entry['member'])}</name></author>", f"<summary>{escape(said)}</summary>", "</entry>"]
+    return "\n".join([*lines, "</feed>", ""]).encode()
+
+
+def entries_of(block: dict) -> list[dict]:
+    """The deposits of a block, one by one."""
+    days = dict(block["seen"])
+    day, found = "", []
+    for place, name in enumerate(block["name"]):
+        number = block["first"] + place
+        day = days.get(number, day)
+        found.append({"number": number, "name": name, "day": day, **{key: block[key][place] for key in ("cells", "width", "height")},
+                      **{key: block[key]["of"][block[key]["at"][place]] for key in ("author", "member", "rule")}})
+    return found
+
+
+# ---- the index
+
+def names_of(kind: str, archive: Archive, folder: Folder, grown: bool) -> list[str]:
+    """The names of all blocks of a kind. Full ones stay, if the archive has only grown."""
+    table = "deposits" if kind in ("deposits", "comments") else "censuses"
+    count, before, names = archive.counts[table], folder.head["counts"][table], []
+    for place, first in enumerate(range(1, count + 1, BLOCK)):
+        # An index of an earlier release has no comments.
+        listed = folder.head["blocks"].get(kind, [])
+        if grown and first + BLOCK - 1 <= before and place < len(listed) and folder.content(listed[place]):
+            names.append(listed[place])
+            continue
+        block = getattr(archive, kind)(first)
+        if kind in COMPARED:
+            block["seen"] = days_of(kind, folder.block(kind, place), block)
+        names.append(folder.put(kind, block))
+    return names
+
+
+def made(copy: str, path: str) -> str:
+    """Makes the index; what it is of."""
+    archive, folder = Archive(newest(copy)), Folder(path)
+    before = folder.head["counts"]
+    grown = folder.head["mark"] != "" and archive.mark(before) == folder.head["mark"]
+    blocks = {kind: names_of(kind, archive, folder, grown) for kind in KINDS}
+    head = {"version": VERSION, "mark": archive.mark(archive.counts), "counts": archive.counts, "blocks": blocks,
+            "made": datetime.datetime.now(datetime.timezone.utc).strftime("%Y-%m-%dT%H:%M:%SZ")}
+    folder.write(FEED, feed_of(archive, folder, blocks["deposits"]))
+    folder.write(HEAD, json_of(head))
+    sync(path)
+    folder.remove_others(head)
+    return ", ".join(f"{table}: {archive.counts[table]}" for table in TABLES)
+
+
+def line_of(fault: Exception) -> str:
+    """One line for people about what hindered the index."""
+    if isinstance(fault, OSError) and fault.filename:
+        return f"{fault.filename}: {fault.strerror}"
+    return " ".join(str(fault).split())
+
+
+def main() -> None:
+    if len(sys.argv) != 3 or sys.argv[1].startswith("-"):
+        sys.exit("usage: life-index COPY FOLDER")
+    try:
+        print(f"{sys.argv[2]}: {made(*sys.argv[1:])}")
+    except (OSError, Refused) as fault:
+        sys.exit(f"life-index: {line_of(fault)}")

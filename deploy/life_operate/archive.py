@@ -5,6 +5,7 @@ file and the head of its log stay as they were, the program only appends to the 
 would have left. SQLite then copies the log into the file. It changes no byte that the program did not write: `.backup`, VACUUM INTO or
 another journal mode would leave wrong checksums in the pages.
 """
+import datetime
 import fcntl
 import http.client
 import os
@@ -16,6 +17,10 @@ import socket
 import sqlite3
 import subprocess
 import time
+from collections.abc import Iterable
+from typing import BinaryIO
+
+from life_operate.signals import die_with_parent
 
 TRIES = 40
 # A log's head, a frame's head and the smallest page of SQLite: a shorter log has no commit.
@@ -34,7 +39,11 @@ class Refused(Exception):
     """Why something is not done, in words."""
 
 
-def line_of(fault):
+class NoAnswer(Refused):
+    """The program was not there for a question."""
+
+
+def line_of(fault: BaseException) -> str:
     """One line for people about what hindered a script."""
     if isinstance(fault, OSError) and fault.filename:
         return f"{fault.filename2 or fault.filename}: {fault.strerror}"
@@ -43,7 +52,7 @@ def line_of(fault):
 
 # ---- the bytes of an archive
 
-def begin_of(path):
+def begin_of(path: str) -> tuple[bytes, int]:
     """The head of a log, which changes when a log is begun anew, and its length."""
     try:
         with open(path, "rb") as log:
@@ -52,17 +61,17 @@ def begin_of(path):
         return b"", 0
 
 
-def has_commit(path):
+def has_commit(path: str) -> bool:
     """Whether the log of a file may have a commit."""
     return begin_of(path + "-wal")[1] >= LEAST_COMMIT
 
 
-def state_of(path):
+def state_of(path: str) -> tuple[int, int, int]:
     state = os.stat(path)
     return state.st_ino, state.st_size, state.st_mtime_ns
 
 
-def copied(archive, new):
+def copied(archive: str, new: str) -> bool:
     """Whether the two files were copied as they were at one moment."""
     file, (head, length) = state_of(archive), begin_of(archive + "-wal")
     shutil.copyfile(archive, new)
@@ -74,7 +83,7 @@ def copied(archive, new):
     return file == state_of(archive) and head == copied_head == later_head and length <= copied_length <= later_length
 
 
-def copied_in_time(archive, new):
+def copied_in_time(archive: str, new: str) -> None:
     """Copies the two files, again while they change."""
     for turn in range(TRIES):
         if copied(archive, new):
@@ -83,7 +92,7 @@ def copied_in_time(archive, new):
     raise Refused(f"{archive} changed during each of {TRIES} tries")
 
 
-def sync(path):
+def sync(path: str) -> None:
     """Waits until a file, or the names in a folder, are on the disk."""
     number = os.open(path, os.O_RDONLY)
     try:
@@ -92,7 +101,7 @@ def sync(path):
         os.close(number)
 
 
-def locked(path):
+def locked(path: str) -> BinaryIO | None:
     """A file, open, with a lock by which no program can begin to write to it, or None if one has it open."""
     file = open(path, "rb")
     try:
@@ -108,24 +117,24 @@ def locked(path):
 class Database:
     """A database of one name for people. What SQLite can't do with it is an error with that name."""
 
-    def __init__(self, name, address):
+    def __init__(self, name: str, address: str) -> None:
         self.name = name
         try:
             self.opened = sqlite3.connect(address, uri=True)
         except sqlite3.Error as fault:
             raise self.refused(fault) from fault
 
-    def first_row(self, query, *values):
+    def first_row(self, query: str, *values: object) -> tuple | None:
         try:
             return self.opened.execute(query, values).fetchone()
         except sqlite3.Error as fault:
             raise self.refused(fault) from fault
 
-    def refused(self, why):
+    def refused(self, why: object) -> Refused:
         return Refused(f"{self.name} can't be read as an archive: {why}")
 
 
-def fold(new, archive):
+def fold(new: str, archive: str) -> None:
     """Copies the log into its file, and checks the file."""
     database = Database(archive, pathlib.Path(new).as_uri())
     if database.first_row("PRAGMA wal_checkpoint(TRUNCATE)")[0] != 0:
@@ -138,33 +147,33 @@ def fold(new, archive):
 class Contents(Database):
     """What is in an archive of one file. The file is only read, and a log beside it is not."""
 
-    def __init__(self, path, name):
+    def __init__(self, path: str, name: str) -> None:
         super().__init__(name, pathlib.Path(path).as_uri() + "?mode=ro&immutable=1")
         self.counts = {table: self.count(table) for table in TABLES}
 
-    def count(self, table):
+    def count(self, table: str) -> int:
         count, last = self.first_row(f"SELECT count(*), coalesce(max(id), 0) FROM {table}")
         if count != last:
             raise self.refused(f"the {table} have gaps")
         return count
 
-    def row(self, table, number):
+    def row(self, table: str, number: int) -> tuple | None:
         return self.first_row(f"SELECT {TABLES[table][1]} FROM {table} WHERE id = ?", number)
 
-    def text(self):
+    def text(self) -> str:
         return ", ".join(f"{count} {TABLES[table][0] if count == 1 else table}" for table, count in self.counts.items())
 
-    def text_with_first(self):
+    def text_with_first(self) -> str:
         first = self.row("deposits", 1)
         return self.text() + (f", the first deposit by {first[0]!a}" if first else "")
 
-    def newest(self):
+    def newest(self) -> tuple[str, bytes]:
         """The path of a route for the newest deposit, and what the program has to answer."""
         number = self.counts["deposits"]
         return (f"/deposits/{number}", self.row("deposits", number)[2]) if number else ("/deposits/after/0", b'{"deposits":[]}')
 
 
-def lacking(new, there):
+def lacking(new: Contents, there: Contents) -> list[str]:
     """What an archive that is there has and the new one lacks."""
     found = [f"fewer {table}" for table in TABLES if new.counts[table] < there.counts[table]]
     for table, (one, _) in TABLES.items():
@@ -174,7 +183,7 @@ def lacking(new, there):
     return found
 
 
-def lacks(new, there):
+def lacks(new: Contents, there: Contents) -> str:
     """That a new archive can't take the place of another one, in words, or nothing."""
     found = lacking(new, there)
     return f"{there.name} stays with {there.text_with_first()}; {new.name} has {new.text_with_first()}: {', '.join(found)}" if found else ""
@@ -185,19 +194,27 @@ def lacks(new, there):
 class Copies:
     """The copies in the folder of a club, the newest first."""
 
-    def __init__(self, archive, folder):
+    def __init__(self, archive: str, folder: str) -> None:
         self.folder, self.stem = folder, os.path.basename(archive).removesuffix(".db")
         form = re.compile(re.escape(self.stem) + r"-(\d{4}-\d\d-\d\dT\d{4})\.db")
         found = [form.fullmatch(name) for name in os.listdir(folder)]
         self.stamps = sorted((name[1] for name in found if name), reverse=True)
 
-    def path(self, stamp):
+    def path(self, stamp: str) -> str:
         return os.path.join(self.folder, f"{self.stem}-{stamp}.db")
 
-    def newest_good(self):
-        """The newest copy that can be read, and what is wrong with those that are newer."""
-        faults = []
-        for stamp in self.stamps:
+    def past(self) -> list[str]:
+        """The moments of copies, without those that are still to come: a clock was wrong then."""
+        now = datetime.datetime.now(datetime.timezone.utc).strftime(STAMP)
+        return [stamp for stamp in self.stamps if stamp <= now]
+
+    def future(self) -> list[str]:
+        return [stamp for stamp in self.stamps if stamp not in self.past()]
+
+    def newest_good(self, stamps: Iterable[str]) -> tuple[Contents | None, list[str]]:
+        """The newest copy of these moments that can be read, and what is wrong with those that are newer."""
+        faults: list[str] = []
+        for stamp in stamps:
             try:
                 return Contents(self.path(stamp), self.path(stamp)), faults
             except Refused as fault:
@@ -207,13 +224,13 @@ class Copies:
 
 # ---- the program
 
-def free_port():
+def free_port() -> int:
     with socket.socket() as probe:
         probe.bind(("127.0.0.1", 0))
         return probe.getsockname()[1]
 
 
-def answered(port, path, timeout=60):
+def answered(port: int, path: str, timeout: float = 60) -> tuple[int, bytes]:
     """The status and the body of a reply of the program."""
     asked = http.client.HTTPConnection("127.0.0.1", port, timeout=timeout)
     try:
@@ -221,7 +238,7 @@ def answered(port, path, timeout=60):
         reply = asked.getresponse()
         return reply.status, reply.read()
     except (OSError, http.client.HTTPException) as fault:
-        raise Refused(f"no answer at port {port}: {fault}") from fault
+        raise NoAnswer(f"no answer at port {port}: {fault}") from fault
     finally:
         asked.close()
 
@@ -229,44 +246,59 @@ def answered(port, path, timeout=60):
 class Opened:
     """The program with a file, for one connection at a port of 127.0.0.1. It ends by itself after that, or is killed."""
 
-    def __init__(self, program, path):
+    def __init__(self, program: str, path: str) -> None:
         self.path, self.port = path, free_port()
         words = [program, "serve", "--db", path, "--port", str(self.port), "--connections", "1"]
-        self.process = subprocess.Popen(words, stdin=subprocess.DEVNULL, stdout=subprocess.PIPE, stderr=subprocess.PIPE)
+        self.process = subprocess.Popen(words, stdin=subprocess.DEVNULL, stdout=subprocess.PIPE, stderr=subprocess.PIPE, preexec_fn=die_with_parent)
 
-    def __enter__(self):
+    def __enter__(self) -> "Opened":
         return self
 
-    def __exit__(self, *_):
+    def __exit__(self, *_: object) -> None:
         if self.process.poll() is None:
             self.process.kill()
         self.process.communicate()
 
-    def asked(self, name, route):
+    def asked(self, name: str, route: str) -> tuple[int, bytes]:
         """The reply for a route, or why the program doesn't serve the file, which people know by this name."""
         if not (select.select([self.process.stdout], [], [], OPENED_WITHIN)[0] and self.process.stdout.readline()):
             self.process.kill()
             raise Refused(f"{name} is not opened by the program: {self.process.stderr.read().decode().strip()}")
         return answered(self.port, route)
 
-    def ended(self):
+    def ended(self) -> bool:
         """Whether the program ended well after its connection."""
         return self.process.wait(60) == 0
 
 
-def try_by_program(program, path, contents):
+def asked_of_program(program: str, path: str, name: str, route: str, ends: bool = False) -> tuple[int, bytes]:
+    """What the program answers with a file open; `ends` wants it to end well after that. Anybody on the machine may use up its one
+    connection, so a question without an answer is asked once more."""
+    for last in (False, True):
+        with Opened(program, path) as opened:
+            try:
+                reply = opened.asked(name, route)
+            except NoAnswer:
+                if last:
+                    raise
+                continue
+            if ends and not opened.ended():
+                raise Refused(f"the program did not end well with {name}")
+            return reply
+    raise AssertionError
+
+
+def try_by_program(program: str, path: str, contents: Contents) -> None:
     """Opens a file, which is not kept, by the program, and reads its newest deposit."""
     route, wanted = contents.newest()
-    with Opened(program, path) as opened:
-        if opened.asked(contents.name, route) != (200, wanted):
-            raise contents.refused(f"the program answers {route} with something else")
+    if asked_of_program(program, path, contents.name, route) != (200, wanted):
+        raise contents.refused(f"the program answers {route} with something else")
 
 
-def made_by_program(program, path):
+def made_by_program(program: str, path: str) -> None:
     """Has the program make an archive; its log has nothing, and is removed."""
-    with Opened(program, path) as opened:
-        if opened.asked(path, "/deposits/after/0") != (200, b'{"deposits":[]}') or not opened.ended():
-            raise Refused(f"the program made no archive at {path}")
+    if asked_of_program(program, path, path, "/deposits/after/0", ends=True) != (200, b'{"deposits":[]}'):
+        raise Refused(f"the program made no archive at {path}")
     if has_commit(path):
         raise Refused(f"{path}-wal has what should be in {path}")
     os.remove(path + "-wal")

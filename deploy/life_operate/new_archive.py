@@ -1,50 +1,70 @@
-"""Makes the archive of a club, once. Run as root, or as the user of the archive.
+"""Makes the archive of a club, once. Run as root, or as the user of the archive; all that is done with files is done as that user.
 
-    life-new-archive [--settings FILE]
+    life-new-archive [--settings FILE] [--although-there-are-copies]
 
-A file that is there stays, and is refused. The service makes no archive: a file that is missing is a disk or a path that is wrong.
+A file that is there stays, and is refused. The service makes no archive: a file that is missing is a disk or a path that is wrong. Where
+copies are, or what a restore has moved away, there was an archive before: its numbers would be given again, so this has to be asked for. The
+copies are then moved away into a folder before-new-archive-.. beside them.
 """
 import argparse
 import os
-import pwd
-import shutil
-import sys
-import tempfile
 
-from life_operate import settings as life_settings
-from life_operate.archive import Refused, line_of, made_by_program, sync
+from life_operate import commands, exchange
+from life_operate.archive import Copies, Refused, made_by_program, sync
+from life_operate.exchange import say
+from life_operate.identity import Helper
+from life_operate.settings import USUAL
+from life_operate.signals import Signals
+
+NAME = "life-new-archive"
 
 
-def made(settings):
-    """Makes the file beside its place, and gives it its name, which nothing may have."""
-    archive, user = settings["ARCHIVE"], pwd.getpwnam(settings["LIFE_USER"])
+def before(archive: str, copies: str) -> list[str]:
+    """What shows that there was an archive: copies of it, and folders that hold one."""
+    folders = {os.path.dirname(archive), copies}
+    held = [os.path.join(folder, name) for folder in sorted(folders) if os.path.isdir(folder) for name in sorted(os.listdir(folder)) if name.startswith("before-")]
+    return [Copies(archive, copies).path(stamp) for stamp in Copies(archive, copies).stamps] + held if os.path.isdir(copies) else held
+
+
+def look(archive: str, copies: str, words: argparse.Namespace) -> None:
+    """Refuses a name that is taken, and an archive beside what is left of another one."""
     for path in (archive, archive + "-wal"):
         if os.path.lexists(path):
             raise Refused(f"{path} is there, and stays")
-    room = tempfile.mkdtemp(prefix=".life-new-", dir=os.path.dirname(archive))
-    try:
-        new = os.path.join(room, "new.db")
-        made_by_program(settings["PROGRAM"], new)
-        os.chmod(new, 0o600)
-        if os.geteuid() == 0:
-            os.chown(new, user.pw_uid, user.pw_gid)
-        sync(new)
-        # A link refuses a name that is taken, and there is only one name at the end.
-        os.link(new, archive)
-        os.remove(new)
-        sync(os.path.dirname(archive))
-    finally:
-        shutil.rmtree(room, ignore_errors=True)
-    return f"{archive} is a new archive, of {user.pw_name}; its first deposit is number 1"
+    there = before(archive, copies)
+    if there and not words.although_there_are_copies:
+        more = f" and {len(there) - 1} more" if len(there) > 1 else ""
+        raise Refused(f"{there[0]}{more} would be left of another archive, whose numbers would be given again: life-restore puts a copy back; "
+                      f"for a new archive all the same: {NAME} --although-there-are-copies")
 
 
-def main():
-    parser = argparse.ArgumentParser(description=__doc__, formatter_class=argparse.RawDescriptionHelpFormatter)
-    parser.add_argument("--settings", default=life_settings.USUAL, metavar="FILE")
-    settings = life_settings.end_if_wrong("life-new-archive", parser.parse_args().settings)
-    try:
-        print(made(settings))
-    except KeyError:
-        sys.exit(f"life-new-archive: there is no user {settings['LIFE_USER']}")
-    except (OSError, Refused) as fault:
-        sys.exit(f"life-new-archive: {line_of(fault)}")
+def made(words: argparse.Namespace, settings: dict[str, str], helper: Helper, signals: Signals) -> None:
+    archive, copies = os.path.realpath(settings["ARCHIVE"]), os.path.realpath(settings["BACKUP_FOLDER"])
+    folder = os.path.dirname(archive)
+    with exchange.alone(archive, copies):
+        exchange.end_interrupted(archive, helper)
+        exchange.remove_old_rooms(folder)
+        look(archive, copies, words)
+        helper.ask("look-cache")
+        with exchange.new_room(folder, exchange.ROOM, signals) as room:
+            made_by_program(settings["PROGRAM"], os.path.join(room, "new.db"))
+            sync(os.path.join(room, "new.db"))
+            sync(room)
+            newer = [os.path.basename(Copies(archive, copies).path(stamp)) for stamp in Copies(archive, copies).stamps] if os.path.isdir(copies) else []
+            plan = exchange.Plan(NAME, archive, copies, os.path.basename(room), exchange.new_aside("new-archive", [folder, copies]), newer, serves=False)
+            with signals.held_back():
+                steps = exchange.Exchange(plan, helper)
+                steps.run(signals, lambda: False)
+                steps.finish()
+                steps.tidy()
+    say(f"{archive} is a new archive, of {settings['LIFE_USER']}; its first deposit is number 1")
+    if plan.newer:
+        say(f"copies of another archive are in {os.path.join(copies, plan.aside)}: {', '.join(plan.newer)}")
+
+
+def main() -> None:
+    parser = argparse.ArgumentParser(prog=NAME, description=__doc__, formatter_class=argparse.RawDescriptionHelpFormatter)
+    parser.add_argument("--settings", default=USUAL, metavar="FILE")
+    parser.add_argument("--although-there-are-copies", action="store_true")
+    words = parser.parse_args()
+    commands.run(NAME, words.settings, [], lambda settings, helper, signals: made(words, settings, helper, signals))

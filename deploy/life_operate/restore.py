@@ -1,158 +1,360 @@
-"""Puts a copy in the place of a club's archive. Run as root.
+"""Puts a copy in the place of a club's archive. Run as root; all that is done with files is done as the user of the archive.
 
-    life-restore [--settings FILE] COPY
+    life-restore [--settings FILE] [--older | --other] [--with-log] COPY
+    life-restore [--settings FILE]
 
-It looks at the copy, and the program itself opens it. Then it stops the service, moves the archive and its log away together, puts the
-copy in its place, empties nginx's cache, starts the service, and asks for the newest deposit. It says what it did. If something fails
-before the copy is in its place, the archive is there again, and the service runs.
+COPY is a copy of life-copy, or the file of a pair in a folder before-... First it is looked at, and the program itself opens it. It is
+compared with the archive that is there and with all copies. What would be lost is said before anything stops, and is refused: --older takes
+a copy of this archive that has less, --other another archive. If the archive is gone or can't be read, and its log is there, the newest copy
+together with that log is tried; --with-log takes COPY with it.
+
+Then the service is stopped, the archive and its log are moved away together, nginx's cache is emptied, the copy gets the archive's name, and
+the service is started, and asked for the newest deposit. Copies that have more than the archive has now are moved away, too. An error or a
+signal before the copy has its name undoes all; what a kill or a power cut leaves is finished or undone by the next command, and by
+life-restore without a copy.
+
+The status is 0 if the copy is served, 1 if something hindered that, 2 for wrong words, 128 and the signal's number after a signal.
 """
 import argparse
-import datetime
+import contextlib
+import dataclasses
 import os
-import pwd
+import shlex
 import shutil
-import subprocess
+import stat
 import sys
-import tempfile
+from typing import BinaryIO
 
-from life_operate import settings as life_settings
-from life_operate.archive import Contents, Refused, answered, copied_in_time, fold, has_commit, line_of, locked, sync, try_by_program
+from life_operate import commands, exchange
+from life_operate.archive import (LEAST_COMMIT, TABLES, Contents, Copies, Refused, answered, begin_of, copied_in_time, fold, has_commit, lacking, lacks, line_of, state_of,
+                                  sync, try_by_program)
+from life_operate.exchange import UNIT, say
+from life_operate.identity import Helper
+from life_operate.settings import USUAL
+from life_operate.signals import Signals
 
-UNIT = "life.service"
-
-
-def say(line):
-    print(line, flush=True)
-
-
-def systemctl(*words):
-    if subprocess.run(["systemctl", *words], check=False).returncode:
-        raise Refused(f"systemctl {' '.join(words)} failed")
+NAME = "life-restore"
 
 
-def looked_at(copy, archive, program):
-    """What is in the copy, which the program has opened. Nothing is written beside it."""
-    if not os.path.isfile(copy):
-        raise Refused(f"{copy} is no file")
-    if os.path.exists(archive) and os.path.samefile(copy, archive):
-        raise Refused(f"{copy} is the archive itself")
-    if has_commit(copy):
-        raise Refused(f"{copy}-wal has what was written to the copy since: no copy of life-copy has that")
-    with tempfile.TemporaryDirectory(prefix="life-restore-") as room:
-        trial = os.path.join(room, "trial.db")
-        shutil.copyfile(copy, trial)
-        fold(trial, copy)
-        found = Contents(copy, copy)
-        try_by_program(program, trial, found)
+# ---- the copy
+
+class Source:
+    """A copy and its log, open. The archive's user reads them, or else the helper opens what root has named."""
+
+    def __init__(self, path: str, helper: Helper) -> None:
+        self.path = path
+        self.file = self.opened(path, helper)
+        if not self.file:
+            raise Refused(f"{path} is no file")
+        self.log = self.opened(path + "-wal", helper)
+
+    @staticmethod
+    def opened(path: str, helper: Helper) -> BinaryIO | None:
+        try:
+            number = os.open(path, os.O_RDONLY | os.O_NONBLOCK)
+        except FileNotFoundError:
+            return None
+        except PermissionError:
+            number = helper.file("open", path)
+        if number is None:
+            return None
+        if not stat.S_ISREG(os.fstat(number).st_mode):
+            os.close(number)
+            return None
+        return os.fdopen(number, "rb")
+
+    def is_file(self, path: str) -> bool:
+        with contextlib.suppress(OSError):
+            return os.path.samestat(os.fstat(self.file.fileno()), os.stat(path))
+        return False
+
+    def size(self) -> int:
+        return sum(os.fstat(file.fileno()).st_size for file in (self.file, self.log) if file)
+
+    def look(self, archive: str) -> None:
+        """Refuses what no restore takes. A log with a commit is one of a pair in a folder before-..: elsewhere somebody has written to a copy."""
+        if self.is_file(archive):
+            raise Refused(f"{self.path} is the archive itself")
+        written = self.log and os.fstat(self.log.fileno()).st_size >= LEAST_COMMIT
+        if written and not os.path.basename(os.path.dirname(os.path.realpath(self.path))).startswith("before-"):
+            raise Refused(f"{self.path}-wal has what was written to the copy since: no copy of life-copy has that; a pair is taken from a folder before-..")
+
+    def put(self, new: str) -> None:
+        """Copies the file and its log, and folds them into one file."""
+        for file, path in ((self.file, new), (self.log, new + "-wal")):
+            if file:
+                before = os.fstat(file.fileno())
+                file.seek(0)
+                with open(path, "xb") as out:
+                    shutil.copyfileobj(file, out, 1 << 20)
+                after = os.fstat(file.fileno())
+                if (before.st_size, before.st_mtime_ns) != (after.st_size, after.st_mtime_ns):
+                    raise Refused(f"{self.path} changed while it was copied")
+        fold(new, self.path)
+
+
+# ---- what is known
+
+class There:
+    """What is at the archive's place, as it was at one moment."""
+
+    def __init__(self, archive: str, room: str) -> None:
+        self.archive, self.state = archive, self.state_now(archive)
+        self.contents, self.words = None, "there was no archive"
+        if os.path.exists(archive):
+            try:
+                self.contents = whole(archive, os.path.join(room, "there.db"), archive)
+                self.words = self.contents.text()
+            except Refused as fault:
+                self.words = f"it can't be read: {fault}"
+
+    @staticmethod
+    def state_now(archive: str) -> object:
+        return state_of(archive) if os.path.exists(archive) else None, begin_of(archive + "-wal")
+
+    def has_changed(self) -> bool:
+        return self.state != self.state_now(self.archive)
+
+
+def whole(archive: str, new: str, name: str) -> Contents:
+    """An archive with its log, read by way of a copy, whose names are free again at once."""
+    clear(new)
+    try:
+        copied_in_time(archive, new)
+        fold(new, name)
+        return Contents(new, name)
+    finally:
+        clear(new)
+
+
+def clear(path: str) -> None:
+    for ending in ("", "-wal", "-shm"):
+        with contextlib.suppress(FileNotFoundError):
+            os.remove(path + ending)
+
+
+@dataclasses.dataclass
+class Known:
+    """What is known of an archive's deposits: at its place, in its log, in its copies."""
+    there: There
+    # The newest copy with the log that is there, and the path of that copy.
+    joined: Contents | None = None
+    newest: str = ""
+    copies: dict[str, Contents] = dataclasses.field(default_factory=dict)
+
+    def all(self) -> list[Contents]:
+        return [contents for contents in (self.there.contents, self.joined, *self.copies.values()) if contents]
+
+
+def join(copy: str, archive: str, new: str, name: str) -> Contents:
+    """A copy with the log that is at the archive's place, as one file. It has all that the copy has."""
+    clear(new)
+    shutil.copyfile(copy, new)
+    shutil.copyfile(archive + "-wal", new + "-wal")
+    fold(new, name)
+    found = Contents(new, name)
+    if why := lacks(found, Contents(copy, copy)):
+        raise Refused(why)
     return found
 
 
-def text_of(archive):
-    """What is in the archive that is there, and how many deposits, as far as it can be read."""
-    with tempfile.TemporaryDirectory(prefix="life-restore-") as room:
+def known_copies(archive: str, folder: str) -> dict[str, Contents]:
+    """The copies of a club that can be read, the newest first."""
+    found = {}
+    copies = Copies(archive, folder) if os.path.isdir(folder) else None
+    for stamp in copies.stamps if copies else []:
+        with contextlib.suppress(Refused):
+            found[os.path.basename(copies.path(stamp))] = Contents(copies.path(stamp), copies.path(stamp))
+    return found
+
+
+def known(archive: str, folder: str, room: str, program: str) -> Known:
+    found = Known(There(archive, room), copies=known_copies(archive, folder))
+    if not found.there.contents and has_commit(archive) and found.copies:
+        newest, joined = next(iter(found.copies.values())), os.path.join(room, "joined.db")
         try:
-            copied_in_time(archive, read := os.path.join(room, "there.db"))
-            fold(read, archive)
-            found = Contents(read, archive)
-            return found.text(), found.counts["deposits"]
+            found.joined, found.newest = join(newest.name, archive, joined, f"{newest.name} with the log that is there"), newest.name
+            tried(program, joined, found.joined)
+        except Refused:
+            found.joined = None
+        clear(joined)
+    return found
+
+
+def tried(program: str, path: str, found: Contents) -> None:
+    """Has the program open a copy of a file."""
+    trial = path + ".trial"
+    try:
+        shutil.copyfile(path, trial)
+        try_by_program(program, trial, found)
+    finally:
+        clear(trial)
+
+
+# ---- what would be lost
+
+def lost(new: Contents, there: Contents) -> str:
+    """The numbers that an archive has and a new one lacks."""
+    found = []
+    for table, (one, _) in TABLES.items():
+        first, last = new.counts[table] + 1, there.counts[table]
+        if first <= last:
+            found.append(f"{one} {last}" if first == last else f"{table} {first} to {last}")
+    return " and ".join(found)
+
+
+def decide(new: Contents, found: Known, words: argparse.Namespace) -> None:
+    """Refuses a copy that lacks what is known, unless that was asked for."""
+    faults = [(there, lack) for there in found.all() if (lack := lacking(new, there))]
+    others = [(there, lack) for there, lack in faults if any(part.startswith("another") for part in lack)]
+    if words.other or not faults or (words.older and not others):
+        return
+    again = shlex.join([NAME, "--other" if others else "--older", words.copy])
+    there, lack = (others or faults)[0]
+    more = f", as of {len(faults) - 1} more" if len(faults) > 1 else ""
+    if others:
+        raise Refused(f"{words.copy} with {new.text_with_first()} is another archive than {there.name} with {there.text_with_first()}: {', '.join(lack)}; if it is the right one: {again}")
+    if found.joined and lacking(new, found.joined):
+        joined = shlex.join([NAME, "--with-log", found.newest])
+        raise Refused(f"{words.copy} lacks {lost(new, found.joined)}, which {found.joined.name} has: {joined}; or, to give these numbers again: {again}")
+    raise Refused(f"{words.copy} lacks {lost(new, there)} of {there.name}{more}; to put it back, and give these numbers again: {again}")
+
+
+def newer(new: Contents, found: Known) -> list[str]:
+    """The names of copies that know more than the new archive: beside them no copy of it could be made."""
+    return [name for name, contents in found.copies.items() if lacking(new, contents)]
+
+
+# ---- the restore
+
+class Restore:
+    """A restore of a copy, from the first look to the last."""
+
+    def __init__(self, words: argparse.Namespace, settings: dict[str, str], helper: Helper, signals: Signals) -> None:
+        self.words, self.settings, self.helper, self.signals = words, settings, helper, signals
+        self.archive, self.copies = os.path.realpath(settings["ARCHIVE"]), os.path.realpath(settings["BACKUP_FOLDER"])
+        self.folder = os.path.dirname(self.archive)
+
+    def run(self) -> None:
+        with exchange.alone(self.archive, self.copies):
+            ended = exchange.end_interrupted(self.archive, self.helper)
+            exchange.remove_old_rooms(self.folder)
+            if self.words.copy is None:
+                if not ended:
+                    raise Refused(f"nothing was interrupted; to put a copy back: {NAME} COPY")
+                return
+            with exchange.new_room(self.folder, exchange.ROOM, self.signals) as room:
+                self.prepare(room)
+                with self.signals.held_back():
+                    self.exchange(room)
+
+    def prepare(self, room: str) -> None:
+        """All that takes long: the new file, looked at, compared, and on the disk."""
+        self.source = Source(self.words.copy, self.helper)
+        self.source.look(self.archive)
+        self.look_for_room()
+        self.helper.ask("look-cache")
+        self.new = os.path.join(room, "new.db")
+        self.source.put(self.new)
+        name = self.words.copy
+        if self.words.with_log:
+            self.with_log(room)
+        else:
+            self.found = Contents(self.new, name)
+        tried(self.settings["PROGRAM"], self.new, self.found)
+        say(f"the copy {name}: {self.found.text_with_first()}")
+        self.known = known(self.archive, self.copies, room, self.settings["PROGRAM"])
+        if self.words.with_log and self.known.there.contents:
+            raise Refused(f"{self.archive} is there with its log and can be read: {self.known.there.words}")
+        decide(self.found, self.known, self.words)
+        sync(self.new)
+        sync(room)
+
+    def with_log(self, room: str) -> None:
+        """The copy with the log that is there, in place of the copy."""
+        if not has_commit(self.archive):
+            raise Refused(f"{self.archive}-wal is not there, or has nothing")
+        self.log = begin_of(self.archive + "-wal")
+        joined = os.path.join(room, "joined.db")
+        plain = os.path.join(room, "plain.db")
+        clear(plain)
+        if os.path.exists(self.new):
+            os.rename(self.new, plain)
+        else:
+            self.source.put(plain)
+        self.found = join(plain, self.archive, joined, f"{self.words.copy} with the log that is there")
+        os.rename(joined, self.new)
+        self.found = Contents(self.new, self.found.name)
+        clear(plain)
+        clear(joined)
+
+    def look_for_room(self) -> None:
+        """The new file and one beside it, for the program or for what is there."""
+        there = sum(os.path.getsize(path) for path in (self.archive, self.archive + "-wal") if os.path.exists(path))
+        wanted, free = 2 * self.source.size() + there, shutil.disk_usage(self.folder).free
+        if free < wanted:
+            raise Refused(f"{self.folder} has room for {free:,} bytes, and a restore wants {wanted:,}")
+
+    def look_again(self) -> bool:
+        """What came between the look and the stop: a log that was taken is taken again, and what would be lost is refused again."""
+        room = os.path.dirname(self.new)
+        if self.words.with_log:
+            if self.log == begin_of(self.archive + "-wal"):
+                return False
+            clear(self.new)
+            self.with_log(room)
+            sync(self.new)
+            return True
+        if self.known.there.has_changed():
+            self.known.there = There(self.archive, room)
+            decide(self.found, self.known, self.words)
+        return False
+
+    def exchange(self, room: str) -> None:
+        words = shlex.join([NAME, self.words.copy])
+        self.aside = exchange.new_aside("restore", [self.folder, self.copies])
+        self.plan = plan = exchange.Plan(words, self.archive, self.copies, os.path.basename(room), self.aside, newer(self.found, self.known))
+        steps = exchange.Exchange(plan, self.helper)
+        steps.run(self.signals, self.look_again)
+        try:
+            steps.finish()
+            self.verify()
         except (OSError, Refused) as fault:
-            return f"it can't be read: {line_of(fault)}", 0
+            raise Refused(f"{self.words.copy} is in its place, but {line_of(fault)}: see systemctl status {UNIT}") from fault
+        finally:
+            self.report()
+            steps.tidy()
+
+    def verify(self) -> None:
+        route, wanted = self.found.newest()
+        if answered(int(self.settings["LIFE_PORT"]), route) != (200, wanted):
+            raise Refused(f"{UNIT} runs, and answers {route} with something else than the copy has")
+        say(f"{UNIT} runs with {self.archive}, and answers {route} as the copy has it")
+
+    def report(self) -> None:
+        """Where everything is, and the way back."""
+        there, aside = self.known.there, os.path.join(self.folder, self.aside)
+        if os.path.isdir(aside):
+            say(f"what was at {self.archive} is in {aside}: {there.words}")
+        if there.contents and (gone := lost(self.found, there.contents)):
+            say(f"{gone} of it are not in the archive now: these numbers will be given again")
+        if os.path.exists(os.path.join(aside, os.path.basename(self.archive))):
+            say(f"to go back: {shlex.join([NAME, os.path.join(aside, os.path.basename(self.archive))])}")
+        if self.plan.newer:
+            say(f"copies with more than the archive has now are in {os.path.join(self.copies, self.aside)}: {', '.join(self.plan.newer)}")
 
 
-class Pair:
-    """The archive's file and its log, which are moved away together and back."""
-
-    def __init__(self, archive):
-        self.archive = archive
-        moment = datetime.datetime.now(datetime.timezone.utc).strftime("%Y-%m-%dT%H%M%S")
-        self.aside = os.path.join(os.path.dirname(archive), f"before-restore-{moment}")
-        self.files = [path for path in (archive, archive + "-wal") if os.path.exists(path)]
-
-    def move_away(self):
-        os.mkdir(self.aside, 0o700)
-        for path in self.files:
-            os.rename(path, os.path.join(self.aside, os.path.basename(path)))
-        sync(os.path.dirname(self.archive))
-
-    def move_back(self):
-        for path in self.files:
-            if os.path.exists(away := os.path.join(self.aside, os.path.basename(path))):
-                os.rename(away, path)
-        os.rmdir(self.aside)
-
-
-def put(copy, archive, user):
-    """The copy under the archive's name, with the owner and the mode of an archive, on the disk before it has its name."""
-    new = archive + ".new"
-    try:
-        shutil.copyfile(copy, new)
-        os.chown(new, pwd.getpwnam(user).pw_uid, pwd.getpwnam(user).pw_gid)
-        os.chmod(new, 0o600)
-        sync(new)
-        os.rename(new, archive)
-        sync(os.path.dirname(archive))
-    finally:
-        if os.path.exists(new):
-            os.remove(new)
-
-
-def exchange(copy, archive, user):
-    """Moves what is there away and puts the copy in its place, or leaves all as it was."""
-    held = locked(archive) if os.path.exists(archive) else None
-    if os.path.exists(archive) and not held:
-        raise Refused(f"{archive} stays: a program other than {UNIT} has it open")
-    pair = Pair(archive)
-    pair.move_away()
-    try:
-        put(copy, archive, user)
-    except (OSError, KeyError) as fault:
-        pair.move_back()
-        raise Refused(f"{archive} is as it was: {line_of(fault)}") from fault
-    finally:
-        if held:
-            held.close()
-    return pair
-
-
-def empty_cache(folder):
-    """Removes what nginx keeps of the archive that was there; what is not there it asks for again."""
-    cache = os.path.join(folder, "cache")
-    names = os.listdir(cache) if os.path.isdir(cache) else []
-    for name in names:
-        shutil.rmtree(os.path.join(cache, name), ignore_errors=True)
-    return len(names)
-
-
-def restored(copy, settings):
-    archive = os.path.realpath(settings["ARCHIVE"])
-    found = looked_at(copy, archive, settings["PROGRAM"])
-    say(f"the copy {copy}: {found.text_with_first()}")
-    systemctl("stop", UNIT)
-    say(f"{UNIT} is stopped")
-    there, count = text_of(archive) if os.path.exists(archive) else ("there was no archive", 0)
-    try:
-        pair = exchange(copy, archive, settings["LIFE_USER"])
-    except (OSError, Refused) as fault:
-        started = subprocess.run(["systemctl", "start", UNIT], check=False).returncode == 0
-        raise Refused(f"{line_of(fault)}; {UNIT} {'runs again' if started else 'does not start'}") from fault
-    say(f"what was at {archive} is in {pair.aside}: {there}")
-    if count > found.counts["deposits"]:
-        say(f"its deposits {found.counts['deposits'] + 1} to {count} are in no other place: these numbers will be given again")
-    say(f"the cache of nginx is emptied: {empty_cache(settings['WEB_FOLDER'])} folders")
-    systemctl("start", UNIT)
-    route, wanted = found.newest()
-    if answered(int(settings["LIFE_PORT"]), route) != (200, wanted):
-        raise Refused(f"{UNIT} runs, and answers {route} with something else than the copy has")
-    say(f"{UNIT} runs with {archive}, and answers {route} as the copy has it")
-
-
-def main():
-    parser = argparse.ArgumentParser(description=__doc__, formatter_class=argparse.RawDescriptionHelpFormatter)
-    parser.add_argument("--settings", default=life_settings.USUAL, metavar="FILE")
-    parser.add_argument("copy", metavar="COPY")
+def main() -> None:
+    parser = argparse.ArgumentParser(prog=NAME, description=__doc__, formatter_class=argparse.RawDescriptionHelpFormatter)
+    parser.add_argument("--settings", default=USUAL, metavar="FILE")
+    which = parser.add_mutually_exclusive_group()
+    which.add_argument("--older", action="store_true")
+    which.add_argument("--other", action="store_true")
+    parser.add_argument("--with-log", action="store_true")
+    parser.add_argument("copy", nargs="?", metavar="COPY")
     words = parser.parse_args()
-    settings = life_settings.end_if_wrong("life-restore", words.settings)
-    try:
-        restored(os.path.realpath(words.copy), settings)
-    except (OSError, Refused) as fault:
-        sys.exit(f"life-restore: {line_of(fault)}")
+    if words.copy is None and (words.older or words.other or words.with_log):
+        parser.error("a copy is missing")
+    words.copy = words.copy and os.path.abspath(words.copy)
+    commands.run(NAME, words.settings, [words.copy, f"{words.copy}-wal"] if words.copy else [],
+                 lambda settings, helper, signals: Restore(words, settings, helper, signals).run())

@@ -1,0 +1,71 @@
+"""What the commands share that exchange an archive: their worker, and what the helper does for it."""
+import functools
+import os
+import subprocess
+import sys
+from collections.abc import Callable
+
+from life_operate import cache, identity
+from life_operate.archive import Refused, line_of
+from life_operate.exchange import UNIT
+from life_operate.identity import Action, Helper
+from life_operate.settings import end_if_wrong
+from life_operate.signals import Interrupted, Signals
+
+# What a command does, as the user of the archive.
+Worker = Callable[[dict[str, str], Helper, Signals], None]
+
+
+def systemctl(word: str) -> tuple[str, None]:
+    """Asks systemd. A session of its own keeps a Ctrl-C away: a stop that has begun ends."""
+    if word not in ("is-active", "stop", "start", "reset-failed"):
+        raise Refused(f"systemctl {word} is not for this")
+    output = subprocess.PIPE if word in ("is-active", "reset-failed") else None
+    done = subprocess.run(["systemctl", word, UNIT], stdin=subprocess.DEVNULL, stdout=output, stderr=output, text=True, start_new_session=True, check=False)
+    if word == "is-active":
+        return ("yes" if done.stdout.strip() in ("active", "activating", "reloading") else "no"), None
+    if done.returncode and word != "reset-failed":
+        raise Refused(f"systemctl {word} {UNIT} failed")
+    return "", None
+
+
+def actions(folder: str, paths: list[str]) -> dict[str, Action]:
+    """What a helper does: systemd, the cache below a folder, and files of these paths."""
+    def of_cache(function: Callable[[str], object]) -> tuple[str, None]:
+        return str(cache.as_owner(function, folder)), None
+
+    def file(path: str) -> tuple[str, int | None]:
+        if path not in paths:
+            raise Refused(f"{path} was not named")
+        return "", identity.open_plain(path)
+
+    functions = {"look-cache": cache.look, "empty-cache": cache.move_away, "remove-old-cache": cache.remove_old}
+    return {"systemctl": systemctl, "open": file} | {name: functools.partial(of_cache, function) for name, function in functions.items()}
+
+
+def worked(name: str, settings: dict[str, str], worker: Worker, helper: Helper) -> None:
+    """A worker in its process, with its end in words."""
+    signals = Signals()
+    try:
+        worker(settings, helper, signals)
+    except (OSError, Refused) as fault:
+        sys.exit(f"{name}: {line_of(fault)}")
+    except Interrupted as end:
+        try:
+            print(f"{name}: {end}; all is as it was", file=sys.stderr, flush=True)
+        except OSError:
+            pass
+        sys.exit(128 + end.number)
+
+
+def run(name: str, path: str, paths: list[str], worker: Worker) -> None:
+    """Runs a command by the settings of a file, as the user of the archive, and ends with its status."""
+    settings = end_if_wrong(name, path)
+    try:
+        user = identity.user_of(settings["LIFE_USER"])
+        status = identity.split(user, functools.partial(worked, name, settings, worker), actions(settings["WEB_FOLDER"], paths))
+    except Refused as fault:
+        sys.exit(f"{name}: {fault}")
+    if status < 0:
+        sys.exit(f"{name}: it was killed by signal {-status}; life-restore without a copy finishes or undoes what it began")
+    sys.exit(status)

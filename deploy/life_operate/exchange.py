@@ -1,0 +1,294 @@
+"""The one way in which the file of a club's archive gives its place to another one.
+
+The new file is whole, looked at and on the disk before anything stops. Then the steps are: stop the service, move what is there away, move
+copies away that know more, empty nginx's cache, give the new file the archive's name, start the service. The name is what decides. Before
+it, an error or a signal undoes every step; after it, what is left is done. At each moment there is the whole old file under that name,
+the whole new one, or none, which the service refuses.
+
+A journal beside the archive says what is going on, from before the first step to after the last one. What a kill or a power cut leaves is
+finished or undone, by what the journal says and which files are there, by the next command.
+"""
+import contextlib
+import dataclasses
+import datetime
+import fcntl
+import json
+import os
+import shutil
+import tempfile
+import time
+from collections.abc import Callable, Iterator
+
+from life_operate.archive import Refused, line_of, locked, sync
+from life_operate.identity import Gone, Helper
+from life_operate.signals import Signals
+
+UNIT = "life.service"
+JOURNAL = ".exchange"
+ROOM = ".life-exchange-"
+# Rooms of all commands; one that a killed command left is removed when it is so old, in seconds.
+ROOMS = (ROOM, ".life-copy-", ".life-new-")
+OLD_ROOM = 86400
+# How long an exchange waits for a copy that is being made, in seconds.
+COPY_WITHIN = 600
+
+
+def say(line: str) -> None:
+    """A line for whoever may still be there: a terminal that is gone hinders nothing."""
+    with contextlib.suppress(OSError):
+        print(line, flush=True)
+
+
+# ---- locks and rooms
+
+@contextlib.contextmanager
+def folder_lock(folder: str, kind: int, within: float, refusal: str) -> Iterator[None]:
+    """A lock on a folder, which ends with the process. Nothing is left of it in the folder."""
+    number = os.open(folder, os.O_RDONLY | os.O_DIRECTORY)
+    try:
+        end = time.monotonic() + within
+        while True:
+            try:
+                fcntl.flock(number, kind | fcntl.LOCK_NB)
+                break
+            except BlockingIOError as fault:
+                if time.monotonic() >= end:
+                    raise Refused(refusal) from fault
+                time.sleep(0.1)
+        yield
+    finally:
+        os.close(number)
+
+
+def alone(archive: str, copies: str) -> contextlib.ExitStack:
+    """Keeps other exchanges away, and waits for a copy that is being made."""
+    stack = contextlib.ExitStack()
+    folder = os.path.dirname(archive)
+    stack.enter_context(folder_lock(folder, fcntl.LOCK_EX, 0, f"another command is exchanging the archive in {folder}"))
+    if os.path.isdir(copies) and not os.path.samefile(folder, copies):
+        stack.enter_context(folder_lock(copies, fcntl.LOCK_EX, COPY_WITHIN, f"a copy is being made in {copies}"))
+    return stack
+
+
+def remove_old_rooms(folder: str, prefix: str | tuple[str, ...] = ROOMS) -> None:
+    """Removes what commands that were killed have left, once nobody can be at it any more."""
+    for entry in os.scandir(folder):
+        if entry.name.startswith(prefix) and entry.is_dir(follow_symlinks=False) and entry.stat(follow_symlinks=False).st_mtime < time.time() - OLD_ROOM:
+            shutil.rmtree(entry.path, ignore_errors=True)
+
+
+@contextlib.contextmanager
+def new_room(folder: str, prefix: str, signals: Signals) -> Iterator[str]:
+    """A folder for a command's own files beside a place, which is removed at the end, whatever ends it."""
+    with signals.held_back():
+        room = tempfile.mkdtemp(prefix=prefix, dir=folder)
+    try:
+        signals.check()
+        yield room
+    finally:
+        with signals.held_back():
+            shutil.rmtree(room, ignore_errors=True)
+
+
+# ---- what is to be done
+
+@dataclasses.dataclass
+class Plan:
+    """An exchange, as its journal has it. Names of files and folders are in the archive's folder, or in that of the copies."""
+    command: str
+    archive: str
+    copies: str
+    room: str
+    aside: str
+    # Copies that know more than the new file.
+    newer: list[str]
+    # Whether the service is stopped and started, and whether it ran before.
+    serves: bool = True
+    ran: bool = False
+    # What the new file is known by, whatever its name.
+    inode: int = 0
+
+    @property
+    def folder(self) -> str:
+        return os.path.dirname(self.archive)
+
+    @property
+    def new(self) -> str:
+        return os.path.join(self.folder, self.room, "new.db")
+
+    def moves(self) -> list[tuple[str, str]]:
+        """What is moved away to where, in this order: the file goes before its log, so that no file is without its log."""
+        away = [(path, os.path.join(self.folder, self.aside, os.path.basename(path))) for path in (self.archive, self.archive + "-wal")]
+        return away + [(os.path.join(self.copies, name), os.path.join(self.copies, self.aside, name)) for name in self.newer]
+
+    def is_put(self) -> bool:
+        """Whether the new file has the archive's name."""
+        return os.path.exists(self.archive) and os.stat(self.archive).st_ino == self.inode
+
+
+def new_aside(word: str, folders: list[str]) -> str:
+    """A name that is new in each of these folders: before-WORD- and a moment."""
+    while True:
+        moment = datetime.datetime.now(datetime.timezone.utc).strftime("%Y-%m-%dT%H%M%S")
+        name = f"before-{word}-{moment}"
+        if not any(os.path.lexists(os.path.join(folder, name)) for folder in folders):
+            return name
+        time.sleep(0.2)
+
+
+def write_journal(plan: Plan) -> None:
+    path, plan.inode = plan.archive + JOURNAL, os.stat(plan.new).st_ino
+    with contextlib.suppress(FileNotFoundError):
+        os.remove(path + ".new")
+    with open(path + ".new", "x", encoding="utf-8") as file:
+        json.dump(dataclasses.asdict(plan), file)
+    sync(path + ".new")
+    os.replace(path + ".new", path)
+    sync(plan.folder)
+
+
+def read_journal(archive: str) -> Plan | None:
+    path = archive + JOURNAL
+    try:
+        with open(path, encoding="utf-8") as file:
+            return Plan(**json.load(file))
+    except FileNotFoundError:
+        return None
+    except (ValueError, TypeError) as fault:
+        raise Refused(f"{path} can't be read: look what before-restore-.. has, put it back, and remove {path}") from fault
+
+
+# ---- the steps
+
+class Exchange:
+    """The steps of a plan, and the way back."""
+
+    def __init__(self, plan: Plan, helper: Helper) -> None:
+        self.plan, self.helper = plan, helper
+
+    def stop(self) -> None:
+        if self.plan.serves:
+            self.helper.ask("systemctl", "stop")
+            say(f"{UNIT} is stopped")
+
+    def start(self) -> None:
+        # After a row of failures systemd refuses each start, until they are forgotten.
+        self.helper.ask("systemctl", "reset-failed")
+        self.helper.ask("systemctl", "start")
+
+    def move_away(self) -> None:
+        for there, away in self.plan.moves():
+            if os.path.lexists(there):
+                if not os.path.isdir(os.path.dirname(away)):
+                    os.mkdir(os.path.dirname(away), 0o700)
+                os.rename(there, away)
+        self.sync()
+
+    def sync(self) -> None:
+        for folder in sorted({os.path.dirname(path) for move in self.plan.moves() for path in move}):
+            if os.path.isdir(folder):
+                sync(folder)
+
+    def put(self) -> None:
+        """Gives the new file the archive's name, which nothing has now, nor a log."""
+        for path in (self.plan.archive, self.plan.archive + "-wal"):
+            if os.path.lexists(path):
+                raise Refused(f"{path} has come back")
+        os.rename(self.plan.new, self.plan.archive)
+
+    def undo(self) -> None:
+        """All as it was. A log comes back before its file. A name that somebody has taken meanwhile stays theirs."""
+        for there, away in reversed(self.plan.moves()):
+            if os.path.lexists(away) and not os.path.lexists(there):
+                os.rename(away, there)
+        for aside in {os.path.dirname(away) for _, away in self.plan.moves()}:
+            with contextlib.suppress(OSError):
+                os.rmdir(aside)
+        self.sync()
+        self.start_and_forget(self.plan.serves and self.plan.ran)
+
+    def finish(self) -> None:
+        """What is left once the new file has its name."""
+        sync(self.plan.folder)
+        self.start_and_forget(self.plan.serves)
+
+    def start_and_forget(self, starts: bool) -> None:
+        """The last step, after which there is no journal. If the service fails by itself, its unit says so; a helper that is gone could not
+        start it, and that is left for the next command."""
+        try:
+            if starts:
+                self.start()
+        except Gone:
+            raise
+        except Refused:
+            self.forget()
+            raise
+        self.forget()
+
+    def forget(self) -> None:
+        os.remove(self.plan.archive + JOURNAL)
+        sync(self.plan.folder)
+
+    def run(self, signals: Signals, look_again: Callable[[], bool]) -> None:
+        """All steps up to the new file's name, or none; `finish` is what is left. Signals are held back: one that comes before the name
+        undoes all, a later one does nothing. Once the service is stopped, `look_again` refuses, or says whether the new file is another one now."""
+        signals.check()
+        self.plan.ran = self.plan.serves and self.helper.ask("systemctl", "is-active") == "yes"
+        write_journal(self.plan)
+        try:
+            self.until_put(signals, look_again)
+        except BaseException as fault:
+            self.back(fault)
+            raise
+
+    def until_put(self, signals: Signals, look_again: Callable[[], bool]) -> None:
+        self.stop()
+        signals.check()
+        held = locked(self.plan.archive) if os.path.exists(self.plan.archive) else None
+        if os.path.exists(self.plan.archive) and not held:
+            raise Refused(f"{self.plan.archive} stays: a program other than {UNIT} has it open")
+        try:
+            if look_again():
+                write_journal(self.plan)
+            signals.check()
+            self.move_away()
+            signals.check()
+            say(f"the cache of nginx is emptied: {self.helper.ask('empty-cache')} folders")
+            signals.check()
+            self.put()
+        finally:
+            if held:
+                held.close()
+
+    def back(self, fault: BaseException) -> None:
+        """Undoes what was done, and says so."""
+        try:
+            self.undo()
+        except (OSError, Refused) as second:
+            raise Refused(f"{line_of(fault)}; then the way back failed: {line_of(second)}; life-restore without a copy tries it again") from fault
+        ran = f"; {UNIT} runs again" if self.plan.serves and self.plan.ran else ""
+        say(f"{self.plan.archive} is as it was{ran}")
+        self.tidy()
+
+    def tidy(self) -> None:
+        """Removes what was in the cache, which can take long. What is left of it is removed the next time."""
+        with contextlib.suppress(OSError, Refused):
+            self.helper.ask("remove-old-cache")
+
+
+def end_interrupted(archive: str, helper: Helper) -> bool:
+    """Finishes or undoes what a command that was killed has begun. Whether there was any."""
+    plan = read_journal(archive)
+    if not plan:
+        return False
+    exchange, put = Exchange(plan, helper), plan.is_put()
+    say(f"'{plan.command}' was interrupted, and is {'finished' if put else 'undone'}")
+    try:
+        exchange.finish() if put else exchange.undo()
+    except Gone:
+        raise
+    except Refused as fault:
+        say(line_of(fault))
+    exchange.tidy()
+    shutil.rmtree(os.path.join(plan.folder, plan.room), ignore_errors=True)
+    return True

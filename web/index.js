@@ -7,6 +7,8 @@ import { Refused } from './refusals.js';
 const PLACE = '/index/';
 /** How long a list of blocks is taken as it is, in milliseconds. */
 const FRESH = 60_000;
+/** How many blocks are asked for at once: over HTTP/2 each counts as a connection, of which a gateway allows a client a hundred. */
+const TOGETHER = 8;
 export const BLOCK = 1000;
 const NONE = { counts: { deposits: 0, censuses: 0 }, blocks: { deposits: [], censuses: [], objects: [] } };
 
@@ -92,11 +94,14 @@ function blockOf(kind, name) {
 export async function eachBlock(kind, came, signal) {
   // An index that was made before comments were in it has none.
   const names = (((await indexHead()) ?? NONE).blocks[kind] ?? []).toReversed();
-  // All are asked at once, and taken in their order.
-  const asked = names.map((name) => blockOf(kind, name));
-  for (const one of asked) one.catch(() => {});
-  for (const [at, one] of asked.entries()) {
-    const block = await one;
+  // They are taken in their order. The next few are on their way meanwhile.
+  const asked = [];
+  for (const at of names.keys()) {
+    for (const name of names.slice(asked.length, at + TOGETHER)) {
+      asked.push(blockOf(kind, name));
+      asked.at(-1).catch(() => {});
+    }
+    const block = await asked[at];
     signal.throwIfAborted();
     came(block, at + 1, names.length);
   }

@@ -95,9 +95,11 @@ def main() -> None:
     words = parser.parse_args()
     settings = life_settings.end_if_wrong("life-configure", os.path.join(words.root, life_settings.USUAL.lstrip("/")))
     try:
+        if not words.files_only:
+            life_settings.judge_reader(settings)
         changed = put_all(words.root, settings, not words.files_only)
         print("changed: " + (", ".join(changed) or "nothing"))
         if not words.files_only and os.path.isdir("/run/systemd/system"):
             load(changed)
-    except (OSError, Wrong) as fault:
+    except (OSError, Wrong, life_settings.Wrong) as fault:
         sys.exit(f"life-configure: {fault}")

@@ -31,10 +31,14 @@ FORMS = {
     "TLS": (r"yes|no", "yes or no"), "TLS_CERTIFICATE": PATH, "TLS_KEY": PATH, "ACME_FOLDER": PATH_OR_NONE,
     "HSTS": (r"[1-9][0-9]{0,8}|no|", "a number of seconds, or no"),
     "MEMBERS_FILE": PATH_OR_NONE, "PAGES_FOLDER": PATH_OR_NONE,
-    "READS": RATE, "DEPOSITS": RATE, "CENSUSES": RATE,
-    "READS_AT_ONCE": COUNT, "DEPOSITS_AT_ONCE": COUNT, "CENSUSES_AT_ONCE": COUNT, "CONNECTIONS": COUNT,
+    "FRONT_PROXIES": (r"([0-9a-f:.]+(/[0-9]{1,3})?( [0-9a-f:.]+(/[0-9]{1,3})?)*)?", "addresses or networks, as 10.0.0.7 192.0.2.0/24, or nothing"),
+    "FRONT_HEADER": (r"[A-Za-z][A-Za-z0-9-]*", "the name of a header line, as X-Forwarded-For"),
+    "PAGES": RATE, "READS": RATE, "DEAR_READS": RATE, "DEPOSITS": RATE, "CENSUSES": RATE,
+    "PAGES_AT_ONCE": COUNT, "READS_AT_ONCE": COUNT, "DEAR_READS_AT_ONCE": COUNT, "DEPOSITS_AT_ONCE": COUNT, "CENSUSES_AT_ONCE": COUNT,
+    "CONNECTIONS": COUNT, "DEAR_CONNECTIONS": COUNT,
+    "READS_LOGGED": (r"100%|(?!0(\.0+)?%)[1-9]?[0-9](\.[0-9]{1,2})?%", "a part in a hundred above 0%, as 5%"), "CACHE_FREE": (r"[1-9][0-9]{0,8}[kKmMgG]", "an amount, as 1g"),
     "QUEUE_TIME": TIME, "ANSWER_TIME": TIME, "WEB_TIME": TIME, "WATCH_SECONDS": COUNT,
-    "WEB_FOLDER": PATH, "CACHE_SIZE": (r"[1-9][0-9]{0,8}[kKmMgG]", "an amount, as 4g"), "CACHE_NAME": (r"[A-Za-z0-9_.-]+", "a word"),
+    "WEB_FOLDER": (r"/[A-Za-z0-9_./@+-]*", "a path from / on, without spaces and colons"), "CACHE_SIZE": (r"[1-9][0-9]{0,8}[kKmMgG]", "an amount, as 4g"), "CACHE_NAME": (r"[A-Za-z0-9_.-]+", "a word"),
     "WEB_LOG": PATH, "WEB_ERRORS": PATH, "PROXY_CONNECTIONS": COUNT, "PROXY_USER": USER,
     "BACKUP_TIMES": CALENDAR, "INDEX_TIMES": CALENDAR, "INDEX_FOLDER": PATH_OR_NONE,
     "COPY_AGE": TIME, "KEEP_QUARTERS": COUNT, "KEEP_DAYS": COUNT, "KEEP_MONTHS": COUNT,
@@ -86,6 +90,30 @@ def is_calendar(value: str) -> bool:
     return subprocess.run(["systemd-analyze", "calendar", value], capture_output=True, timeout=60, check=False).returncode == 0
 
 
+def judge_times(settings: dict[str, str]) -> None:
+    """Refuses times by which a request that waits is given up before the one ahead of it, or one that is given up is asked again."""
+    queue, answer = seconds(settings["QUEUE_TIME"]), seconds(settings["ANSWER_TIME"])
+    if seconds(settings["WEB_TIME"]) <= queue + answer:
+        raise Wrong("WEB_TIME has to be longer than QUEUE_TIME and ANSWER_TIME together")
+    for name, value in (("QUEUE_TIME", queue), ("WATCH_SECONDS", int(settings["WATCH_SECONDS"]))):
+        if value <= answer:
+            raise Wrong(f"{name} has to be longer than ANSWER_TIME")
+
+
+def is_here_alone(settings: dict[str, str]) -> bool:
+    """Whether nginx listens to this machine alone."""
+    return all(re.match(r"127\.|localhost:|\[::1\]:|$", settings[name]) for name in ("LISTEN", "LISTEN_ALSO"))
+
+
+def judge_reader(settings: dict[str, str], user: str = "www-data") -> None:
+    """Refuses a file of members that nginx, which is this user, can't read. Only root can look, and only if there is such a user."""
+    path = settings["MEMBERS_FILE"]
+    if not path or os.geteuid() != 0 or subprocess.run(["id", user], capture_output=True, check=False).returncode:
+        return
+    if subprocess.run(["runuser", "-u", user, "--", "test", "-r", path], check=False).returncode:
+        raise Wrong(f"MEMBERS_FILE={path}: {user} can't read it: chown root:{user}, chmod 640")
+
+
 def judge(settings: dict[str, str]) -> None:
     """Refuses what is no value of its setting, and values that don't go together."""
     for name, value in settings.items():
@@ -95,8 +123,9 @@ def judge(settings: dict[str, str]) -> None:
         raise Wrong("two of LIFE_PORT, PROXY_PORT and METRICS_PORT are the same port")
     if os.path.dirname(settings["ARCHIVE"]) != settings["ARCHIVE_FOLDER"].rstrip("/"):
         raise Wrong("ARCHIVE is not in ARCHIVE_FOLDER")
-    if seconds(settings["WEB_TIME"]) <= seconds(settings["QUEUE_TIME"]) + seconds(settings["ANSWER_TIME"]):
-        raise Wrong("WEB_TIME has to be longer than QUEUE_TIME and ANSWER_TIME together")
+    judge_times(settings)
+    if settings["MEMBERS_FILE"] and settings["TLS"] == "no" and not is_here_alone(settings):
+        raise Wrong("MEMBERS_FILE wants TLS=yes, or LISTEN and LISTEN_ALSO on 127.0.0.1 and [::1] alone: passwords would travel in clear")
     for name in ("BACKUP_TIMES", "INDEX_TIMES"):
         if not is_calendar(settings[name]):
             raise Wrong(f"{name}={settings[name]}: it has to be {CALENDAR[1]}")

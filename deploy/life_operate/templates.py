@@ -12,10 +12,11 @@ GATEWAY = os.path.join(TEMPLATES, "gateway")
 
 
 def with_derived(settings: dict[str, str]) -> dict[str, str]:
-    """The settings, and what follows from them: a second place that is a folder here, no HSTS without TLS, and the logs that Debian's file
-    for nginx does not rotate."""
+    """The settings, and what follows from them: a second place that is a folder here, no HSTS without TLS, nginx's line for each proxy in
+    front of it, and the logs that Debian's file for nginx does not rotate."""
     place, logs = settings["SECOND_PLACE"], {settings["WEB_LOG"], settings["WEB_ERRORS"]}
     return settings | {"SECOND_FOLDER": place if place.startswith("/") else "", "HSTS": settings["HSTS"] if settings["TLS"] == "yes" else "",
+                       "FRONT_LINES": " ".join(f"set_real_ip_from {one};" for one in settings["FRONT_PROXIES"].split()),
                        "OWN_LOGS": " ".join(sorted(log for log in logs if not re.fullmatch(r"/var/log/nginx/[^/]+\.log", log)))}
 
 

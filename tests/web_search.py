@@ -150,10 +150,22 @@ def folded(text):
     return "".join(letter for letter in unicodedata.normalize("NFKD", text) if not unicodedata.category(letter).startswith("M")).lower()
 
 
-# The time of each search is the least of three, as others may be at work.
+# The time of each search is the least of three, as others may be at work. Beside them: how many blocks were on their way at once.
 SEARCH = """
 const { allDeposits, search, NOTHING } = await import('/web/index.js');
+const whole = window.fetch;
+let [going, most] = [0, 0];
+window.fetch = async (...asked) => {
+  going += 1;
+  most = Math.max(most, going);
+  try {
+    return await whole(...asked);
+  } finally {
+    going -= 1;
+  }
+};
 const all = await allDeposits(() => {}, new AbortController().signal);
+window.fetch = whole;
 const found = [];
 for (const asked of words[0]) {
   const times = [];
@@ -165,7 +177,7 @@ for (const asked of words[0]) {
   }
   found.push([Math.min(...times), rows.map((row) => row.id)]);
 }
-return [all.length, found];
+return [all.length, most, found];
 """
 
 
@@ -184,8 +196,8 @@ def large(gateway, browser, base, folder):
             ({"cells": ["10", "20"], "rule": "B36/S23"}, lambda entry, _: 10 <= entry.cells <= 20 and entry.rule == "B36/S23"),
             ({"text": "lane 77771"}, lambda entry, number: "lane" in folded(entry.name + entry.author) and (number == 77771 or "77771" in entry.name)),
             ({"member": "member-7", "side": ["", "30"]}, lambda entry, _: entry.member == "member-7" and max(entry.width, entry.height) <= 30), ({}, lambda *_: True)]
-    count, found = browser.wait_for(SEARCH, [query for query, _ in fits])
-    check("all blocks come", count == MANY)
+    count, most, found = browser.wait_for(SEARCH, [query for query, _ in fits])
+    check(f"all blocks come, {most} at once", count == MANY and 1 < most <= 8)
     for (query, is_fit), (took, rows) in zip(fits, found):
         wanted = {number for number, entry in enumerate(entries, 1) if is_fit(entry, number)}
         check(f"{query}: {len(rows)} of {len(wanted)} in {took:.0f} ms", set(rows) == wanted and len(rows) == len(wanted) and took < 1000 * QUICK)

@@ -95,11 +95,17 @@ def main() -> None:
     words = parser.parse_args()
     settings = life_settings.end_if_wrong("life-configure", os.path.join(words.root, life_settings.USUAL.lstrip("/")))
     try:
+        life_settings.judge_gateway(settings)
+        life_settings.judge_reader(settings)
+    except life_settings.Wrong as fault:
+        # An upgrade, which wants files only, goes on with the settings that there are.
         if not words.files_only:
-            life_settings.judge_reader(settings)
+            sys.exit(f"life-configure: {fault}")
+        print(f"life-configure: {fault}", file=sys.stderr)
+    try:
         changed = put_all(words.root, settings, not words.files_only)
         print("changed: " + (", ".join(changed) or "nothing"))
         if not words.files_only and os.path.isdir("/run/systemd/system"):
             load(changed)
-    except (OSError, Wrong, life_settings.Wrong) as fault:
+    except (OSError, Wrong) as fault:
         sys.exit(f"life-configure: {fault}")

@@ -90,8 +90,11 @@ def is_calendar(value: str) -> bool:
     return subprocess.run(["systemd-analyze", "calendar", value], capture_output=True, timeout=60, check=False).returncode == 0
 
 
-def judge_times(settings: dict[str, str]) -> None:
-    """Refuses times by which a request that waits is given up before the one ahead of it, or one that is given up is asked again."""
+def judge_gateway(settings: dict[str, str]) -> None:
+    """Refuses a gateway by which passwords travel in clear, a request that waits is given up before the one ahead of it, or the program is ended
+    while somebody still waits for its answer. A copy or a restore does not depend on it."""
+    if settings["MEMBERS_FILE"] and settings["TLS"] == "no" and not is_here_alone(settings):
+        raise Wrong("MEMBERS_FILE wants TLS=yes, or LISTEN and LISTEN_ALSO on 127.0.0.1 and [::1] alone: passwords would travel in clear")
     queue, answer = seconds(settings["QUEUE_TIME"]), seconds(settings["ANSWER_TIME"])
     if seconds(settings["WEB_TIME"]) <= queue + answer:
         raise Wrong("WEB_TIME has to be longer than QUEUE_TIME and ANSWER_TIME together")
@@ -123,9 +126,6 @@ def judge(settings: dict[str, str]) -> None:
         raise Wrong("two of LIFE_PORT, PROXY_PORT and METRICS_PORT are the same port")
     if os.path.dirname(settings["ARCHIVE"]) != settings["ARCHIVE_FOLDER"].rstrip("/"):
         raise Wrong("ARCHIVE is not in ARCHIVE_FOLDER")
-    judge_times(settings)
-    if settings["MEMBERS_FILE"] and settings["TLS"] == "no" and not is_here_alone(settings):
-        raise Wrong("MEMBERS_FILE wants TLS=yes, or LISTEN and LISTEN_ALSO on 127.0.0.1 and [::1] alone: passwords would travel in clear")
     for name in ("BACKUP_TIMES", "INDEX_TIMES"):
         if not is_calendar(settings[name]):
             raise Wrong(f"{name}={settings[name]}: it has to be {CALENDAR[1]}")

@@ -1,20 +1,42 @@
-"""Says how old the newest copy of a club is. Run by life-age.timer.
+"""Says what is not well with a club's archive. Run by life-age.timer, as the user of the archive.
 
-    life-age ARCHIVE FOLDER AGE TOLD
+    life-age [--state FOLDER] [--root FOLDER] ARCHIVE COPIES AGE
 
-The status is 1 if the folder of the copies has no copy that is younger than AGE (as 2h), which sends an alarm. The file TOLD then says that it
-was sent: up to the next good copy the status is 0 again. Without any copy the last change of the folder counts.
+The status is 1, with a line on standard error, as long as one of these holds: the folder COPIES has no copy that is younger than AGE (as
+2h); the archive's file is not the one that the service has open; the service, its gateway or nginx is enabled, and has not been active for
+ten minutes; the disk of the archive has little room. That a copy will come is not looked at: without any copy the last change of COPIES
+counts. In the folder --state is since when something is not active. --root is in place of /.
 """
+import argparse
 import datetime
+import errno
+import fcntl
 import os
+import shutil
+import struct
 import sys
 import time
+from collections.abc import Iterator
 
 from life_operate import settings as life_settings
-from life_operate.archive import STAMP, Copies, line_of
+from life_operate.archive import LOCK_LENGTH, LOCK_START, STAMP, Copies, line_of
 
 UTC = datetime.timezone.utc
+# A flock of Linux on 64 bits: type, whence, start, length, process.
+FLOCK = "hhqqi4x"
+# The units that have to run if they are enabled, and where systemd says that each is.
+SERVICES = ("life.service", "life-gateway.service", "nginx.service")
+WANTED_BY = "etc/systemd/system/multi-user.target.wants"
+GROUPS = "sys/fs/cgroup/system.slice"
+# A stop of this many seconds may be on purpose.
+AWAY_SECONDS = 600
+# A disk with less room than this, in bytes, or than a tenth of the archive, has little.
+LEAST_ROOM = 64 << 20
+# How often, and how long apart, a file is looked at that nobody has open: the service may have just begun.
+LOOKS, PAUSE = 5, 1.0
 
+
+# ---- copies
 
 def newest(copies: Copies) -> tuple[float, str]:
     """When the newest copy was made, and in words. A name of a later moment than now is of a clock that was wrong."""
@@ -25,25 +47,90 @@ def newest(copies: Copies) -> tuple[float, str]:
     return datetime.datetime.strptime(stamps[0], STAMP).replace(tzinfo=UTC).timestamp(), f"the newest copy is {copies.path(stamps[0])}"
 
 
-def judged(archive: str, folder: str, age: str) -> tuple[bool, str]:
-    """Whether all is well, and a line about it."""
+def age_of(archive: str, folder: str, age: str) -> tuple[str, str]:
+    """What is wrong with the age of the newest copy, or nothing; and what is well."""
     try:
-        moment, words = newest(Copies(os.path.realpath(archive), os.path.realpath(folder)))
+        moment, words = newest(Copies(archive, folder))
     except (OSError, ValueError) as fault:
-        return False, line_of(fault)
-    good = time.time() - moment <= life_settings.seconds(age)
-    return good, words if good else f"no good copy for {age}: {words}"
+        return line_of(fault), ""
+    if time.time() - moment <= life_settings.seconds(age):
+        return "", words
+    return f"no good copy for {age}: {words}", ""
+
+
+# ---- the service
+
+def is_open(path: str) -> bool:
+    """Whether a program has the file locked, as `life` has it while it serves it."""
+    with open(path, "rb") as file:
+        wanted = struct.pack(FLOCK, fcntl.F_WRLCK, os.SEEK_SET, LOCK_START, LOCK_LENGTH, 0)
+        found: int = struct.unpack(FLOCK, fcntl.fcntl(file, fcntl.F_GETLK, wanted))[0]
+        return found != fcntl.F_UNLCK
+
+
+def is_active(root: str, unit: str) -> bool:
+    """Whether a unit has processes, by its control group."""
+    return os.path.exists(os.path.join(root, GROUPS, unit))
+
+
+def served(root: str, archive: str) -> str:
+    """What is wrong with the file that the service has open, or nothing."""
+    for _ in range(LOOKS):
+        if not is_active(root, "life.service"):
+            return ""
+        try:
+            if is_open(archive):
+                return ""
+            fault = f"{archive} is not the file that life.service has open"
+        except OSError as missing:
+            if missing.errno not in (errno.ENOENT, errno.EACCES):
+                raise
+            fault = line_of(missing)
+        time.sleep(PAUSE)
+    return f"{fault}: what is deposited now is in no file that has a name. Don't stop the service: see 'A file that was exchanged' in OPERATING"
+
+
+def away(root: str, state: str) -> Iterator[str]:
+    """The services that are enabled and have not been active for a while. A file for each has the moment at which that was first seen."""
+    for unit in SERVICES:
+        seen = os.path.join(state, unit)
+        if is_active(root, unit) or not os.path.lexists(os.path.join(root, WANTED_BY, unit)):
+            if os.path.exists(seen):
+                os.remove(seen)
+            continue
+        if not os.path.exists(seen):
+            with open(seen, "w", encoding="ascii"):
+                pass
+        if time.time() - os.path.getmtime(seen) >= AWAY_SECONDS:
+            yield f"{unit} is enabled and does not run"
+
+
+def room(archive: str) -> str:
+    """What is wrong with the room on the archive's disk, or nothing."""
+    free = shutil.disk_usage(os.path.dirname(archive)).free
+    size = os.path.getsize(archive) if os.path.exists(archive) else 0
+    return f"{os.path.dirname(archive)} has room for {free >> 20} MiB only" if free < max(LEAST_ROOM, size // 10) else ""
+
+
+def faults_of(words: argparse.Namespace) -> tuple[list[str], str]:
+    """All that is not well, and what is said if nothing is."""
+    archive, folder = os.path.realpath(words.archive), os.path.realpath(words.copies)
+    fault, well = age_of(archive, folder, words.age)
+    faults = [fault, served(words.root, archive), *(away(words.root, words.state) if words.state else []), room(archive)]
+    return [fault for fault in faults if fault], well
 
 
 def main() -> None:
-    if len(sys.argv) != 5:
-        sys.exit("usage: life-age ARCHIVE FOLDER AGE TOLD")
-    *words, told = sys.argv[1:]
-    good, line = judged(*words)
-    if good or os.path.exists(told):
-        print(f"life-age: {line}")
-        if good and os.path.exists(told):
-            os.remove(told)
-        return
-    with open(told, "w", encoding="utf-8"):
-        sys.exit(f"life-age: {line}")
+    parser = argparse.ArgumentParser(description=__doc__, formatter_class=argparse.RawDescriptionHelpFormatter)
+    parser.add_argument("--state", metavar="FOLDER")
+    parser.add_argument("--root", default="/", metavar="FOLDER")
+    for name in ("archive", "copies", "age"):
+        parser.add_argument(name, metavar=name.upper())
+    words = parser.parse_args()
+    try:
+        faults, well = faults_of(words)
+    except OSError as fault:
+        sys.exit(f"life-age: {line_of(fault)}")
+    if faults:
+        sys.exit(f"life-age: {'; '.join(faults)}")
+    print(f"life-age: {well}")

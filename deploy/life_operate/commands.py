@@ -9,9 +9,11 @@ from life_operate import cache, identity
 from life_operate.archive import Refused, line_of
 from life_operate.exchange import UNIT
 from life_operate.identity import Action, Helper
-from life_operate.settings import end_if_wrong
+from life_operate.settings import end_if_unusable
 from life_operate.signals import Interrupted, Signals
 
+# The settings that these commands read: they work if others are wrong.
+NEEDED = ("PROGRAM", "ARCHIVE", "BACKUP_FOLDER", "LIFE_USER", "LIFE_PORT", "WEB_FOLDER")
 # What a command does, as the user of the archive.
 Worker = Callable[[dict[str, str], Helper, Signals], None]
 
@@ -60,7 +62,7 @@ def worked(name: str, settings: dict[str, str], worker: Worker, helper: Helper) 
 
 def run(name: str, path: str, paths: list[str], worker: Worker) -> None:
     """Runs a command by the settings of a file, as the user of the archive, and ends with its status."""
-    settings = end_if_wrong(name, path)
+    settings = end_if_unusable(name, path, NEEDED)
     try:
         user = identity.user_of(settings["LIFE_USER"])
         status = identity.split(user, functools.partial(worked, name, settings, worker), actions(settings["WEB_FOLDER"], paths))

@@ -2,10 +2,12 @@
 
     life-copy ARCHIVE COPY
     life-copy [--settings FILE]
+    life-copy [--settings FILE] --before VERSION
 
 The second form makes the copy of a club by its settings (/etc/life/settings), under a name of its own in BACKUP_FOLDER:
 club-2026-11-26T0715.db, in UTC. It looks for room on the disk first, and the program itself opens the copy and reads its newest deposit.
-Then copies that are too many are removed, and the newest one goes to SECOND_PLACE, as one file for each day.
+Then copies that are too many are removed, and the newest one goes to SECOND_PLACE, as one file for each day. The third form makes the copy
+before an upgrade from VERSION, before-VERSION.db there: no rule removes it, and without an archive that should be there it is refused.
 
 A copy is made in a folder beside its place, and gets its name only when it is whole and on the disk. It has to have all that the copy of
 that name, or the newest copy of a club, has: as many deposits and censuses, and the same ones. A copy that a program has open, or
@@ -19,6 +21,7 @@ import datetime
 import fcntl
 import os
 import pwd
+import re
 import shutil
 import subprocess
 import sys
@@ -183,6 +186,20 @@ def club_copy(settings: dict[str, str], signals: Signals) -> str:
     return "\n".join([f"{copy}: {found.text()}", *(f"{copies.path(stamp)} has a time to come, and is passed over" for stamp in copies.future())])
 
 
+def before_upgrade(settings: dict[str, str], version: str, signals: Signals) -> str:
+    """The copy that is made before another version has the archive. No rule removes it, and none of an earlier upgrade is replaced."""
+    archive, folder = os.path.realpath(settings["ARCHIVE"]), os.path.realpath(settings["BACKUP_FOLDER"])
+    if not os.path.lexists(archive):
+        if os.listdir(folder):
+            raise Refused(f"{archive} is not there, and {folder} has copies: is its disk mounted, is ARCHIVE right?")
+        return f"{archive} is not there, and there is no copy of it: there is nothing to copy"
+    copy = os.path.join(folder, f"before-{version}.db")
+    if os.path.lexists(copy):
+        copy = os.path.join(folder, f"before-{version}-{datetime.datetime.now(datetime.timezone.utc).strftime(STAMP + '%S')}.db")
+    look_for_room(archive, folder)
+    return one_copy(archive, copy, signals)
+
+
 def one_copy(archive: str, copy: str, signals: Signals) -> str:
     return f"{copy}: {made(archive, copy, lambda new, found: None, signals).text()}"
 
@@ -209,14 +226,17 @@ def done(words: argparse.Namespace, signals: Signals) -> str:
         return one_copy(*map(os.path.realpath, words.files), signals)
     settings = life_settings.end_if_wrong("life-copy", words.settings)
     give_up_rights(identity.user_of(settings["LIFE_USER"]))
-    return club_copy(settings, signals)
+    return before_upgrade(settings, words.before, signals) if words.before else club_copy(settings, signals)
 
 
 def main() -> None:
     parser = argparse.ArgumentParser(prog="life-copy", description=__doc__, formatter_class=argparse.RawDescriptionHelpFormatter)
     parser.add_argument("--settings", default=life_settings.USUAL, metavar="FILE")
+    parser.add_argument("--before", metavar="VERSION")
     parser.add_argument("files", nargs="*", metavar="ARCHIVE COPY")
     words = parser.parse_args()
+    if words.before and (words.files or not re.fullmatch(r"[A-Za-z0-9.+~:-]+", words.before)):
+        parser.error("--before goes with a version, and with no files")
     if len(words.files) not in (0, 2):
         parser.error("an archive and a copy, or neither")
     try:

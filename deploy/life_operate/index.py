@@ -1,8 +1,9 @@
 """A list for finding, made of a copy of an archive: static files that a web server gives out.
 
-    life-index COPY FOLDER
+    life-index [--archive FILE] COPY FOLDER
 
-COPY is what life-copy made, or a folder of copies, of which the newest is taken. In FOLDER, which is made if it is missing, are then:
+COPY is what life-copy made, or a folder of copies, of which the newest is taken; with --archive only those that life-copy made of FILE
+count. In FOLDER, which is made if it is missing, are then:
 
     index.json            how many deposits and censuses there are, and the names of all blocks
     deposits-N-SUM.json   deposits from N on, at most 1,000: name, author, member, rule, population, width, height, the day first seen
@@ -18,6 +19,7 @@ or that of SOURCE_DATE_EPOCH. What the index says is not proved; the archive ans
 If the copy is damaged, or no archive, all files stay as they are. Whatever hinders the index is one line on standard error, and the
 status is 1.
 """
+import argparse
 import datetime
 import fcntl
 import hashlib
@@ -32,6 +34,8 @@ import time
 import uuid
 from collections.abc import Iterable
 from xml.sax.saxutils import escape
+
+from life_operate.archive import Copies, Refused
 
 VERSION = 1
 BLOCK = 1000
@@ -50,20 +54,21 @@ KINDS = ("deposits", "censuses", "objects", "comments")
 MOST_OF_COMMENTS = 1000
 
 
-class Refused(Exception):
-    """Why there is no new index."""
-
-
 # ---- the copy
 
-def newest(path: str) -> str:
-    """The copy itself, or the newest one of a folder."""
+def newest(path: str, archive: str | None) -> str:
+    """The copy itself, or the newest one of a folder: of this archive's copies, if one is given, and else of all."""
     if not os.path.isdir(path):
         return path
-    copies = [os.path.join(path, name) for name in os.listdir(path) if name.endswith(".db")]
-    if not copies:
-        raise Refused(f"{path} has no copy")
-    return max(copies, key=lambda copy: (os.stat(copy).st_mtime_ns, copy))
+    if archive:
+        copies = Copies(archive, path)
+        found = [copies.path(stamp) for stamp in copies.stamps]
+    else:
+        named = [os.path.join(path, name) for name in os.listdir(path) if name.endswith(".db")]
+        found = sorted(named, key=lambda copy: (os.stat(copy).st_mtime_ns, copy), reverse=True)
+    if not found:
+        raise Refused(f"{path} has no copy" + (f" of {archive}" if archive else ""))
+    return found[0]
 
 
 class Archive:
@@ -300,9 +305,9 @@ def names_of(kind: str, archive: Archive, folder: Folder, grown: bool) -> list[s
     return names
 
 
-def made(copy: str, path: str) -> str:
+def made(copy: str, path: str, own: str | None) -> str:
     """Makes the index; what it is of."""
-    archive, folder = Archive(newest(copy)), Folder(path)
+    archive, folder = Archive(newest(copy, own)), Folder(path)
     before = folder.head["counts"]
     grown = folder.head["mark"] != "" and archive.mark(before) == folder.head["mark"]
     blocks = {kind: names_of(kind, archive, folder, grown) for kind in KINDS}
@@ -323,9 +328,12 @@ def line_of(fault: Exception) -> str:
 
 
 def main() -> None:
-    if len(sys.argv) != 3 or sys.argv[1].startswith("-"):
-        sys.exit("usage: life-index COPY FOLDER")
+    parser = argparse.ArgumentParser(description=__doc__, formatter_class=argparse.RawDescriptionHelpFormatter)
+    parser.add_argument("--archive", metavar="FILE")
+    parser.add_argument("copy", metavar="COPY")
+    parser.add_argument("folder", metavar="FOLDER")
+    words = parser.parse_args()
     try:
-        print(f"{sys.argv[2]}: {made(*sys.argv[1:])}")
+        print(f"{words.folder}: {made(words.copy, words.folder, words.archive)}")
     except (OSError, Refused) as fault:
         sys.exit(f"life-index: {line_of(fault)}")

@@ -1,8 +1,8 @@
 """Makes the archive of a club, once. Run as root, or as the user of the archive; all that is done with files is done as that user.
 
-    life-new-archive [--settings FILE] [--although-there-are-copies]
+    life-new-archive [--settings FILE] [--although-there-are-copies] [--if-missing]
 
-A file that is there stays, and is refused. The service makes no archive: a file that is missing is a disk or a path that is wrong. Where
+A file that is there stays, and is refused; with --if-missing nothing is said of it. The service makes no archive: a file that is missing is a disk or a path that is wrong. Where
 copies are, or what a restore has moved away, there was an archive before: its numbers would be given again, so this has to be asked for. The
 copies are then moved away into a folder before-new-archive-.. beside them.
 """
@@ -41,6 +41,8 @@ def look(archive: str, copies: str, words: argparse.Namespace) -> None:
 def made(words: argparse.Namespace, settings: dict[str, str], helper: Helper, signals: Signals) -> None:
     archive, copies = os.path.realpath(settings["ARCHIVE"]), os.path.realpath(settings["BACKUP_FOLDER"])
     folder = os.path.dirname(archive)
+    if words.if_missing and any(os.path.lexists(path) for path in (archive, archive + "-wal")):
+        return
     with exchange.alone(archive, copies):
         exchange.end_interrupted(archive, helper)
         exchange.remove_old_rooms(folder)
@@ -66,5 +68,6 @@ def main() -> None:
     parser = argparse.ArgumentParser(prog=NAME, description=__doc__, formatter_class=argparse.RawDescriptionHelpFormatter)
     parser.add_argument("--settings", default=USUAL, metavar="FILE")
     parser.add_argument("--although-there-are-copies", action="store_true")
+    parser.add_argument("--if-missing", action="store_true")
     words = parser.parse_args()
     commands.run(NAME, words.settings, [], lambda settings, helper, signals: made(words, settings, helper, signals))

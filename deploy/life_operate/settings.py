@@ -30,7 +30,7 @@ FORMS = {
     "HOST": (r"([A-Za-z0-9_.*-]+( [A-Za-z0-9_.*-]+)*)?", "names of hosts, or nothing"),
     "TLS": (r"yes|no", "yes or no"), "TLS_CERTIFICATE": PATH, "TLS_KEY": PATH, "ACME_FOLDER": PATH_OR_NONE,
     "HSTS": (r"[1-9][0-9]{0,8}|no|", "a number of seconds, or no"),
-    "MEMBERS_FILE": PATH_OR_NONE, "PAGES_FOLDER": PATH_OR_NONE,
+    "MEMBERS_FILE": PATH_OR_NONE, "PAGES_FOLDER": PATH_OR_NONE, "OWN_SITE": PATH_OR_NONE,
     "FRONT_PROXIES": (r"([0-9a-f:.]+(/[0-9]{1,3})?( [0-9a-f:.]+(/[0-9]{1,3})?)*)?", "addresses or networks, as 10.0.0.7 192.0.2.0/24, or nothing"),
     "FRONT_HEADER": (r"[A-Za-z][A-Za-z0-9-]*", "the name of a header line, as X-Forwarded-For"),
     "PAGES": RATE, "READS": RATE, "DEAR_READS": RATE, "DEPOSITS": RATE, "CENSUSES": RATE,
@@ -52,21 +52,22 @@ class Wrong(Exception):
     """What is wrong with the settings, in words."""
 
 
-def lines_of(path: str) -> list[str]:
-    with open(path, encoding="utf-8") as file:
-        lines = [line.rstrip("\n") for line in file]
-    return [line for line in lines if line and not line.startswith("#")]
+def lines_of(path: str) -> list[tuple[str, str]]:
+    """The lines of a file that are settings, each with where it stands. Another encoding in a comment does no harm."""
+    with open(path, "rb") as file:
+        lines = [line.rstrip(b"\r\n") for line in file]
+    return [(f"{path}, line {number}: ", line.decode(errors="replace")) for number, line in enumerate(lines, 1) if line.strip() and not line.startswith(b"#")]
 
 
-def taken(lines: Iterable[str], known: Container[str]) -> dict[str, str]:
-    """The settings of these lines. `known` has the names that there are."""
+def taken(lines: Iterable[tuple[str, str]], known: Container[str]) -> dict[str, str]:
+    """The settings of these lines, each with a text to put before what is wrong with it. `known` has the names that there are."""
     settings = {}
-    for line in lines:
+    for place, line in lines:
         found = LINE.fullmatch(line)
         if not found:
-            raise Wrong(f"no setting: {line}")
+            raise Wrong(f"{place}not a setting: {line}")
         if found[1] not in known:
-            raise Wrong(f"no such setting: {found[1]}")
+            raise Wrong(f"{place}no such setting: {found[1]}")
         settings[found[1]] = found[2].strip()
     return settings
 
@@ -136,9 +137,23 @@ def settings_of(path: str | None, words: Iterable[str] = ()) -> dict[str, str]:
     settings = taken(lines_of(OWN), FORMS)
     if path:
         settings.update(taken(lines_of(path), settings))
-    settings.update(taken(words, settings))
+    settings.update(taken((("", word) for word in words), settings))
     judge(settings)
     return settings
+
+
+def needed_of(path: str, names: Iterable[str]) -> tuple[dict[str, str], list[str]]:
+    """These settings alone, for what has to work in an emergency, and what is wrong with the lines that were passed over. Each
+    setting that is needed is judged; a file that can't be read has none."""
+    settings, faults = taken(lines_of(OWN), FORMS), []
+    for place, line in lines_of(path):
+        try:
+            settings.update(taken([(place, line)], settings))
+        except Wrong as fault:
+            faults.append(str(fault))
+    for name in names:
+        judged(name, settings[name])
+    return {name: settings[name] for name in names}, faults
 
 
 def end_if_wrong(name: str, path: str) -> dict[str, str]:
@@ -147,3 +162,14 @@ def end_if_wrong(name: str, path: str) -> dict[str, str]:
         return settings_of(path)
     except (OSError, Wrong) as fault:
         sys.exit(f"{name}: {fault}")
+
+
+def end_if_unusable(name: str, path: str, needed: Iterable[str]) -> dict[str, str]:
+    """The settings that a script needs, which works in an emergency: a line that is wrong elsewhere is said, and passed over."""
+    try:
+        settings, faults = needed_of(path, needed)
+    except (OSError, Wrong) as fault:
+        sys.exit(f"{name}: {fault}")
+    for fault in faults:
+        print(f"{name}: passed over: {fault}", file=sys.stderr)
+    return settings

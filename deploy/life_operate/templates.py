@@ -1,11 +1,13 @@
 """Templates, and the settings in their places.
 
 In a template @NAME@ is the setting. A line that begins with @NAME?@ is kept if the setting is neither empty nor `no`, one with @NAME!@
-if it is. A line may have several of these.
+if it is. A line may have several of these. @DIGEST@ is the digest of the whole text.
 """
+import hashlib
 import os
 import re
-import sys
+
+from life_operate.settings import Wrong
 
 TEMPLATES = os.path.join(os.path.dirname(os.path.dirname(os.path.realpath(__file__))), "templates")
 GATEWAY = os.path.join(TEMPLATES, "gateway")
@@ -24,7 +26,7 @@ def filled(name: str, text: str, settings: dict[str, str]) -> str:
     """A template with the settings in their places."""
     def value(found: re.Match[str]) -> str:
         if found[1] not in settings:
-            sys.exit(f"{name} wants {found[1]}, which is not set")
+            raise Wrong(f"{name} wants {found[1]}, which is not set")
         return settings[found[1]]
 
     kept = []
@@ -43,5 +45,6 @@ def filled_templates(folder: str, settings: dict[str, str]) -> dict[str, str]:
         path = os.path.join(folder, name)
         if os.path.isfile(path):
             with open(path, encoding="utf-8") as file:
-                files[name] = filled(name, file.read(), with_derived(settings))
+                text = filled(name, file.read(), with_derived(settings) | {"DIGEST": "@DIGEST@"})
+            files[name] = text.replace("@DIGEST@", hashlib.sha256(text.encode()).hexdigest())
     return files

@@ -1,0 +1,118 @@
+"""Tells somebody that a unit has failed, once, and once that it is well again.
+
+    life-alarm UNIT [ADDRESS]
+    life-alarm --ended UNIT [ADDRESS]
+
+The first form is for a unit that has failed: it writes into the journal at priority crit, always, and sends mail if there is a sendmail
+that takes it. A file in /run/life-alarm has the reasons: if the unit fails for the same one before it was well, there is no second mail,
+and the line has priority err. The second form is for a unit that did its work: if an alarm was sent about it, it says that it is over.
+Without ADDRESS it is that of the settings. SENDMAIL of the environment is another sendmail, and LIFE_ALARMS another folder.
+"""
+import argparse
+import os
+import platform
+import re
+import subprocess
+import sys
+
+from life_operate.settings import USUAL, end_if_unusable
+
+# How far back the last line of a unit is looked for.
+SAID_WITHIN = "-2min"
+SIGNALED = {"signal", "core-dump"}
+
+
+def output_of(*words: str) -> list[str]:
+    done = subprocess.run(words, stdin=subprocess.DEVNULL, capture_output=True, text=True, errors="replace", check=False)
+    return done.stdout.splitlines()
+
+
+def shown(unit: str) -> dict[str, str]:
+    """What systemd knows of how a unit ended."""
+    lines = output_of("systemctl", "show", "--property=Result,ExecMainStatus,ExecMainCode", unit)
+    return dict(line.split("=", 1) for line in lines if "=" in line)
+
+
+def reason_of(unit: str) -> str:
+    """Why a unit failed: what ended its program from outside, or else its own last line."""
+    known = shown(unit)
+    result, status = known.get("Result", ""), known.get("ExecMainStatus", "")
+    if result in SIGNALED:
+        return f"killed by signal {status}"
+    if result in ("timeout", "watchdog", "oom-kill"):
+        return result
+    # What the unit said a moment ago may not be in the journal yet.
+    output_of("journalctl", "--sync")
+    said = output_of("journalctl", "--no-pager", "--quiet", "--output=cat", "--boot", f"--since={SAID_WITHIN}", f"_SYSTEMD_UNIT={unit}")
+    return said[-1] if said else "the unit said nothing"
+
+
+def journal(priority: str, *lines: str) -> None:
+    subprocess.run(["systemd-cat", "--identifier=life-alarm", f"--priority={priority}"], input="\n".join(lines) + "\n", text=True, check=False)
+
+
+def journal_of(unit: str, line: str) -> None:
+    """A line that `systemctl status` of the unit shows last. It shows lines about another unit only if they are root's."""
+    fields = f"SYSLOG_IDENTIFIER=life-alarm\nPRIORITY=3\nOBJECT_SYSTEMD_UNIT={unit}\nMESSAGE={line}\n"
+    subprocess.run(["logger", "--journald"], input=fields, text=True, check=False)
+
+
+def mail(address: str, subject: str, *parts: str) -> None:
+    """Sends mail, if there is a sendmail. Whether it arrives nobody knows: so the journal has every alarm too."""
+    sendmail = os.environ.get("SENDMAIL", "/usr/sbin/sendmail")
+    if os.access(sendmail, os.X_OK):
+        text = f"To: {address}\nSubject: {subject}\n\n" + "\n\n".join(parts) + "\n"
+        if subprocess.run([sendmail, "-t", "-i"], input=text, text=True, check=False).returncode:
+            journal("err", f"{sendmail} did not take the mail to {address}: {subject}")
+
+
+def told_of(unit: str) -> str:
+    """The file that says that an alarm about a unit was sent."""
+    return os.path.join(os.environ.get("LIFE_ALARMS", "/run/life-alarm"), unit.replace("/", "-"))
+
+
+def is_new(unit: str, reason: str) -> bool:
+    """Whether no alarm was sent for this reason since the unit was well. Numbers in it play no part. From now on one was sent."""
+    told = told_of(unit)
+    os.makedirs(os.path.dirname(told), exist_ok=True)
+    with open(told, "a+", encoding="utf-8") as file:
+        file.seek(0)
+        line = re.sub(r"[0-9][0-9,.:T-]*", "0", reason) + "\n"
+        if line in file.readlines():
+            return False
+        file.write(line)
+    return True
+
+
+def begin(unit: str, address: str) -> None:
+    subject, reason = f"life on {platform.node()}: {unit} failed", f"reason: {reason_of(unit)}"
+    lines = output_of("journalctl", "--no-pager", "--quiet", "--output=cat", "--lines=20", f"--unit={unit}")
+    journal_of(unit, reason)
+    if not is_new(unit, reason):
+        journal("err", f"{subject} again", reason)
+        return
+    journal("crit", subject, reason, *lines)
+    mail(address, subject, reason, "\n".join(lines))
+
+
+def end(unit: str, address: str) -> None:
+    told = told_of(unit)
+    if not os.path.exists(told):
+        return
+    os.remove(told)
+    subject = f"life on {platform.node()}: {unit} is well again"
+    journal("crit", subject)
+    mail(address, subject, "Nothing has to be done.")
+
+
+def main() -> None:
+    parser = argparse.ArgumentParser(description=__doc__, formatter_class=argparse.RawDescriptionHelpFormatter)
+    parser.add_argument("--ended", action="store_true")
+    parser.add_argument("unit", metavar="UNIT")
+    parser.add_argument("address", metavar="ADDRESS", nargs="?")
+    words = parser.parse_args()
+    address = words.address or end_if_unusable("life-alarm", USUAL, ["ALARM_TO"])["ALARM_TO"]
+    try:
+        (end if words.ended else begin)(words.unit, address)
+    except OSError as fault:
+        sys.exit(f"life-alarm: {fault}")

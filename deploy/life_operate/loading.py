@@ -1,0 +1,113 @@
+"""Has systemd, HAProxy and nginx read what is newer than what runs, and looks whether nginx took it."""
+import http.client
+import os
+import re
+import ssl
+import subprocess
+import time
+
+from life_operate.settings import Wrong
+
+UNITS = ("life.service", "life-gateway.service", "life-backup.timer", "life-age.timer", "life-index.timer", "life-watch.timer")
+HAPROXY = "/etc/life/haproxy.cfg"
+# When HAProxy last read its configuration. It is gone after a start of the machine, at which HAProxy reads it anyway.
+HAPROXY_READ = "/run/life-gateway.read"
+ENABLED_SITE = "/etc/nginx/sites-enabled/life"
+DIGEST_ROUTE = "/.life-configured"
+# How long nginx may take until its new workers answer, in seconds.
+TAKEN_WITHIN = 10
+
+
+def systemctl(*words: str) -> None:
+    print("systemctl " + " ".join(words), flush=True)
+    if subprocess.run(["systemctl", *words], check=False).returncode:
+        raise Wrong(f"systemctl {' '.join(words)} failed")
+
+
+def shown(unit: str, name: str) -> str:
+    words = ["systemctl", "show", "--timestamp=unix", f"--property={name}", "--value", unit]
+    return subprocess.run(words, capture_output=True, text=True, check=False).stdout.strip()
+
+
+def load_units(changed: list[str]) -> None:
+    """Units that were changed now, or at some earlier time that systemd has not seen. A service that is stopped stays so."""
+    names = [name for name in UNITS if name in changed or shown(name, "NeedDaemonReload") == "yes"]
+    if names or any(name.endswith((".service", ".timer")) for name in changed):
+        systemctl("daemon-reload")
+    for name in names:
+        systemctl("try-restart", name)
+
+
+def load_haproxy() -> None:
+    """HAProxy's configuration, if it is newer than what HAProxy has read."""
+    if not os.path.exists(HAPROXY) or shown("life-gateway.service", "ActiveState") != "active":
+        return
+    begun = float(shown("life-gateway.service", "ActiveEnterTimestamp").lstrip("@") or 0)
+    read = os.path.getmtime(HAPROXY_READ) if os.path.exists(HAPROXY_READ) else 0.0
+    written = os.path.getmtime(HAPROXY)
+    # Times of systemd are whole seconds here, so a file of the same second may be newer.
+    if written >= max(begun, read):
+        systemctl("reload-or-restart", "life-gateway.service")
+        with open(HAPROXY_READ, "w", encoding="ascii"):
+            pass
+
+
+# ---- nginx
+
+def address_of(settings: dict[str, str]) -> tuple[str, int]:
+    """Where nginx of this machine is asked, by the setting LISTEN."""
+    host, _, port = settings["LISTEN"].rpartition(":")
+    wild = {"": "127.0.0.1", "*": "127.0.0.1", "0.0.0.0": "127.0.0.1", "[::]": "::1"}
+    return wild.get(host, host.strip("[]")), int(port)
+
+
+def name_of(settings: dict[str, str]) -> str:
+    """A name of the site. An address of no name has the site that takes all that no other site has."""
+    return settings["HOST"].split()[0].replace("*", "life").strip(".") if settings["HOST"] else "life.invalid"
+
+
+def digest_served(settings: dict[str, str]) -> str:
+    """What nginx says is the digest of the site that it has read, or nothing."""
+    host, port = address_of(settings)
+    if settings["TLS"] == "yes":
+        asked: http.client.HTTPConnection = http.client.HTTPSConnection(host, port, timeout=5, context=ssl._create_unverified_context())
+    else:
+        asked = http.client.HTTPConnection(host, port, timeout=5)
+    try:
+        asked.request("GET", DIGEST_ROUTE, headers={"host": name_of(settings), "connection": "close"})
+        return asked.getresponse().read(100).decode(errors="replace")
+    except (OSError, http.client.HTTPException):
+        return ""
+    finally:
+        asked.close()
+
+
+def digest_in(path: str) -> str:
+    """The digest that a site answers with, or nothing if it has none."""
+    if not os.path.exists(path):
+        return ""
+    with open(path, encoding="utf-8", errors="replace") as file:
+        found = re.search(rf"location = {re.escape(DIGEST_ROUTE)} .*?return 200 '([0-9a-f]{{64}})'", file.read(), re.S)
+    return found[1] if found else ""
+
+
+def load_nginx(changed: list[str], settings: dict[str, str], site: str) -> None:
+    """The site, if nginx has read another one. What nginx refuses only when it runs, such as a cache in another folder, it writes into its log."""
+    if not os.path.exists(ENABLED_SITE) or shown("nginx.service", "ActiveState") != "active":
+        return
+    wanted = digest_in(site)
+    if "life-site.conf" not in changed and wanted and digest_served(settings) == wanted:
+        return
+    systemctl("reload", "nginx.service")
+    until = time.monotonic() + TAKEN_WITHIN
+    while wanted and digest_served(settings) != wanted:
+        if time.monotonic() > until:
+            raise Wrong("nginx goes on with the old site; its error log says why. This loads the new one: systemctl restart nginx.service")
+        time.sleep(0.2)
+
+
+def load(changed: list[str], settings: dict[str, str], site: str) -> None:
+    """Loads what has changed, now or before. A service that is stopped stays so."""
+    load_units(changed)
+    load_haproxy()
+    load_nginx(changed, settings, site)

@@ -104,7 +104,8 @@ def asked_for(folder):
     check("both words", club.restore("--older", "--other", club.older)[0] == 2)
     check("a word without a copy", club.restore("--older")[0] == 2)
     status, out, err = club.restore("--other", other.newest())
-    check(f"another club's copy, asked for: {out}{err}", (status, err) == (0, "") and club.serves({1: text_of("eve"), 2: text_of("dan")}))
+    said = "is another archive than" in out and "the same numbers name other deposits" in out
+    check(f"another club's copy, asked for: {out}{err}", (status, err) == (0, "") and said and club.serves({1: text_of("eve"), 2: text_of("dan")}))
     check("the club's copies are moved away, and copies go on", len([name for name in club.files() if name.endswith(".db")]) == 0 and club.copy()[0] == 0)
     club.systemctl("stop")
 

@@ -1,6 +1,5 @@
 """What the commands share that exchange an archive: their worker, and what the helper does for it."""
 import functools
-import os
 import subprocess
 import sys
 from collections.abc import Callable

@@ -225,6 +225,8 @@ def done(words: argparse.Namespace, signals: Signals) -> str:
         # The log of an archive is beside the file itself, also if a link leads there.
         return one_copy(*map(os.path.realpath, words.files), signals)
     settings = life_settings.end_if_wrong("life-copy", words.settings)
+    # rsync wants a folder that its user may read.
+    os.chdir("/")
     give_up_rights(identity.user_of(settings["LIFE_USER"]))
     return before_upgrade(settings, words.before, signals) if words.before else club_copy(settings, signals)
 

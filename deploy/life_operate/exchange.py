@@ -199,7 +199,9 @@ class Exchange:
     def undo(self) -> None:
         """All as it was. A log comes back before its file. A name that somebody has taken meanwhile stays theirs."""
         for there, away in reversed(self.plan.moves()):
-            if os.path.lexists(away) and not os.path.lexists(there):
+            if os.path.lexists(away) and os.path.lexists(there):
+                say(f"{away} stays where it is: {there} is another file now")
+            elif os.path.lexists(away):
                 os.rename(away, there)
         for aside in {os.path.dirname(away) for _, away in self.plan.moves()}:
             with contextlib.suppress(OSError):
@@ -244,13 +246,14 @@ class Exchange:
     def until_put(self, signals: Signals, look_again: Callable[[], bool]) -> None:
         self.stop()
         signals.check()
+        if look_again():
+            write_journal(self.plan)
+        signals.check()
+        # The lock ends when the process closes the file, so from here on nothing else opens it.
         held = locked(self.plan.archive) if os.path.exists(self.plan.archive) else None
         if os.path.exists(self.plan.archive) and not held:
             raise Refused(f"{self.plan.archive} stays: a program other than {UNIT} has it open")
         try:
-            if look_again():
-                write_journal(self.plan)
-            signals.check()
             self.move_away()
             signals.check()
             say(f"the cache of nginx is emptied: {self.helper.ask('empty-cache')} folders")

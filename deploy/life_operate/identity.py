@@ -141,6 +141,8 @@ def work(user: pwd.struct_passwd, line: socket.socket, helper: int, worker: Call
     status = 1
     try:
         os.setsid()
+        # The folder in which root typed the command may be closed to the user.
+        os.chdir("/")
         become(user)
         die_with_parent()
         if os.getppid() != helper:

@@ -17,23 +17,19 @@ The status is 0 if the copy is served, 1 if something hindered that, 2 for wrong
 """
 import argparse
 import contextlib
-import dataclasses
 import os
 import shlex
 import shutil
 import stat
-import sys
 from typing import BinaryIO
 
 from life_operate import commands, exchange
-from life_operate.archive import (LEAST_COMMIT, TABLES, Contents, Copies, Refused, answered, begin_of, copied_in_time, fold, has_commit, lacking, lacks, line_of, state_of,
-                                  sync, try_by_program)
+from life_operate.archive import LEAST_COMMIT, Contents, Refused, answered, begin_of, fold, has_commit, line_of, sync
 from life_operate.exchange import UNIT, say
 from life_operate.identity import Helper
+from life_operate.known import RESTORE, There, clear, decide, join, known, lost, newer, others_of, tried
 from life_operate.settings import USUAL
 from life_operate.signals import Signals
-
-NAME = "life-restore"
 
 
 # ---- the copy
@@ -93,138 +89,6 @@ class Source:
         fold(new, self.path)
 
 
-# ---- what is known
-
-class There:
-    """What is at the archive's place, as it was at one moment."""
-
-    def __init__(self, archive: str, room: str) -> None:
-        self.archive, self.state = archive, self.state_now(archive)
-        self.contents, self.words = None, "there was no archive"
-        if os.path.exists(archive):
-            try:
-                self.contents = whole(archive, os.path.join(room, "there.db"), archive)
-                self.words = self.contents.text()
-            except Refused as fault:
-                self.words = f"it can't be read: {fault}"
-
-    @staticmethod
-    def state_now(archive: str) -> object:
-        return state_of(archive) if os.path.exists(archive) else None, begin_of(archive + "-wal")
-
-    def has_changed(self) -> bool:
-        return self.state != self.state_now(self.archive)
-
-
-def whole(archive: str, new: str, name: str) -> Contents:
-    """An archive with its log, read by way of a copy, whose names are free again at once."""
-    clear(new)
-    try:
-        copied_in_time(archive, new)
-        fold(new, name)
-        return Contents(new, name)
-    finally:
-        clear(new)
-
-
-def clear(path: str) -> None:
-    for ending in ("", "-wal", "-shm"):
-        with contextlib.suppress(FileNotFoundError):
-            os.remove(path + ending)
-
-
-@dataclasses.dataclass
-class Known:
-    """What is known of an archive's deposits: at its place, in its log, in its copies."""
-    there: There
-    # The newest copy with the log that is there, and the path of that copy.
-    joined: Contents | None = None
-    newest: str = ""
-    copies: dict[str, Contents] = dataclasses.field(default_factory=dict)
-
-    def all(self) -> list[Contents]:
-        return [contents for contents in (self.there.contents, self.joined, *self.copies.values()) if contents]
-
-
-def join(copy: str, archive: str, new: str, name: str) -> Contents:
-    """A copy with the log that is at the archive's place, as one file. It has all that the copy has."""
-    clear(new)
-    shutil.copyfile(copy, new)
-    shutil.copyfile(archive + "-wal", new + "-wal")
-    fold(new, name)
-    found = Contents(new, name)
-    if why := lacks(found, Contents(copy, copy)):
-        raise Refused(why)
-    return found
-
-
-def known_copies(archive: str, folder: str) -> dict[str, Contents]:
-    """The copies of a club that can be read, the newest first."""
-    found = {}
-    copies = Copies(archive, folder) if os.path.isdir(folder) else None
-    for stamp in copies.stamps if copies else []:
-        with contextlib.suppress(Refused):
-            found[os.path.basename(copies.path(stamp))] = Contents(copies.path(stamp), copies.path(stamp))
-    return found
-
-
-def known(archive: str, folder: str, room: str, program: str) -> Known:
-    found = Known(There(archive, room), copies=known_copies(archive, folder))
-    if not found.there.contents and has_commit(archive) and found.copies:
-        newest, joined = next(iter(found.copies.values())), os.path.join(room, "joined.db")
-        try:
-            found.joined, found.newest = join(newest.name, archive, joined, f"{newest.name} with the log that is there"), newest.name
-            tried(program, joined, found.joined)
-        except Refused:
-            found.joined = None
-        clear(joined)
-    return found
-
-
-def tried(program: str, path: str, found: Contents) -> None:
-    """Has the program open a copy of a file."""
-    trial = path + ".trial"
-    try:
-        shutil.copyfile(path, trial)
-        try_by_program(program, trial, found)
-    finally:
-        clear(trial)
-
-
-# ---- what would be lost
-
-def lost(new: Contents, there: Contents) -> str:
-    """The numbers that an archive has and a new one lacks."""
-    found = []
-    for table, (one, _) in TABLES.items():
-        first, last = new.counts[table] + 1, there.counts[table]
-        if first <= last:
-            found.append(f"{one} {last}" if first == last else f"{table} {first} to {last}")
-    return " and ".join(found)
-
-
-def decide(new: Contents, found: Known, words: argparse.Namespace) -> None:
-    """Refuses a copy that lacks what is known, unless that was asked for."""
-    faults = [(there, lack) for there in found.all() if (lack := lacking(new, there))]
-    others = [(there, lack) for there, lack in faults if any(part.startswith("another") for part in lack)]
-    if words.other or not faults or (words.older and not others):
-        return
-    again = shlex.join([NAME, "--other" if others else "--older", words.copy])
-    there, lack = (others or faults)[0]
-    more = f", as of {len(faults) - 1} more" if len(faults) > 1 else ""
-    if others:
-        raise Refused(f"{words.copy} with {new.text_with_first()} is another archive than {there.name} with {there.text_with_first()}: {', '.join(lack)}; if it is the right one: {again}")
-    if found.joined and lacking(new, found.joined):
-        joined = shlex.join([NAME, "--with-log", found.newest])
-        raise Refused(f"{words.copy} lacks {lost(new, found.joined)}, which {found.joined.name} has: {joined}; or, to give these numbers again: {again}")
-    raise Refused(f"{words.copy} lacks {lost(new, there)} of {there.name}{more}; to put it back, and give these numbers again: {again}")
-
-
-def newer(new: Contents, found: Known) -> list[str]:
-    """The names of copies that know more than the new archive: beside them no copy of it could be made."""
-    return [name for name, contents in found.copies.items() if lacking(new, contents)]
-
-
 # ---- the restore
 
 class Restore:
@@ -241,7 +105,7 @@ class Restore:
             exchange.remove_old_rooms(self.folder)
             if self.words.copy is None:
                 if not ended:
-                    raise Refused(f"nothing was interrupted; to put a copy back: {NAME} COPY")
+                    raise Refused(f"nothing was interrupted; to put a copy back: {RESTORE} COPY")
                 return
             with exchange.new_room(self.folder, exchange.ROOM, self.signals) as room:
                 self.prepare(room)
@@ -263,7 +127,7 @@ class Restore:
             self.found = Contents(self.new, name)
         tried(self.settings["PROGRAM"], self.new, self.found)
         say(f"the copy {name}: {self.found.text_with_first()}")
-        self.known = known(self.archive, self.copies, room, self.settings["PROGRAM"])
+        self.known = known(self.archive, self.copies, room, self.settings["PROGRAM"], self.found)
         if self.words.with_log and self.known.there.contents:
             raise Refused(f"{self.archive} is there with its log and can be read: {self.known.there.words}")
         decide(self.found, self.known, self.words)
@@ -311,7 +175,7 @@ class Restore:
         return False
 
     def exchange(self, room: str) -> None:
-        words = shlex.join([NAME, self.words.copy])
+        words = shlex.join([RESTORE, self.words.copy])
         self.aside = exchange.new_aside("restore", [self.folder, self.copies])
         self.plan = plan = exchange.Plan(words, self.archive, self.copies, os.path.basename(room), self.aside, newer(self.found, self.known))
         steps = exchange.Exchange(plan, self.helper)
@@ -336,16 +200,18 @@ class Restore:
         there, aside = self.known.there, os.path.join(self.folder, self.aside)
         if os.path.isdir(aside):
             say(f"what was at {self.archive} is in {aside}: {there.words}")
-        if there.contents and (gone := lost(self.found, there.contents)):
+        if there.contents and others_of(self.found, there.contents):
+            say(f"it is another archive than {self.archive} is now: the same numbers name other deposits")
+        elif there.contents and (gone := lost(self.found, there.contents)):
             say(f"{gone} of it are not in the archive now: these numbers will be given again")
         if os.path.exists(os.path.join(aside, os.path.basename(self.archive))):
-            say(f"to go back: {shlex.join([NAME, os.path.join(aside, os.path.basename(self.archive))])}")
+            say(f"to go back: {shlex.join([RESTORE, os.path.join(aside, os.path.basename(self.archive))])}")
         if self.plan.newer:
             say(f"copies with more than the archive has now are in {os.path.join(self.copies, self.aside)}: {', '.join(self.plan.newer)}")
 
 
 def main() -> None:
-    parser = argparse.ArgumentParser(prog=NAME, description=__doc__, formatter_class=argparse.RawDescriptionHelpFormatter)
+    parser = argparse.ArgumentParser(prog=RESTORE, description=__doc__, formatter_class=argparse.RawDescriptionHelpFormatter)
     parser.add_argument("--settings", default=USUAL, metavar="FILE")
     which = parser.add_mutually_exclusive_group()
     which.add_argument("--older", action="store_true")
@@ -356,5 +222,5 @@ def main() -> None:
     if words.copy is None and (words.older or words.other or words.with_log):
         parser.error("a copy is missing")
     words.copy = words.copy and os.path.abspath(words.copy)
-    commands.run(NAME, words.settings, [words.copy, f"{words.copy}-wal"] if words.copy else [],
+    commands.run(RESTORE, words.settings, [words.copy, f"{words.copy}-wal"] if words.copy else [],
                  lambda settings, helper, signals: Restore(words, settings, helper, signals).run())

@@ -84,4 +84,9 @@ def as_owner(function: Callable[[str], object], folder: str) -> object:
     """Does one of these things as the user whose folder it is."""
     if os.geteuid() != 0 or not os.path.isdir(folder):
         return function(folder)
-    return call_as(pwd.getpwuid(os.stat(folder).st_uid), function, folder)
+    number = os.stat(folder).st_uid
+    try:
+        owner = pwd.getpwuid(number)
+    except KeyError as fault:
+        raise Refused(f"{folder} is of user {number}, who has no name") from fault
+    return call_as(owner, function, folder)

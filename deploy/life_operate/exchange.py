@@ -46,7 +46,7 @@ def folder_lock(folder: str, kind: int, within: float, refusal: str) -> Iterator
     """A lock on a folder, which ends with the process. Nothing is left of it in the folder."""
     number = os.open(folder, os.O_RDONLY | os.O_DIRECTORY)
     try:
-        end = time.monotonic() + within
+        end, said = time.monotonic() + within, False
         while True:
             try:
                 fcntl.flock(number, kind | fcntl.LOCK_NB)
@@ -54,6 +54,9 @@ def folder_lock(folder: str, kind: int, within: float, refusal: str) -> Iterator
             except BlockingIOError as fault:
                 if time.monotonic() >= end:
                     raise Refused(refusal) from fault
+                if not said:
+                    say(f"{refusal}: this waits for its end")
+                said = True
                 time.sleep(0.1)
         yield
     finally:
@@ -279,11 +282,17 @@ class Exchange:
             self.helper.ask("remove-old-cache")
 
 
-def end_interrupted(archive: str, helper: Helper) -> bool:
-    """Finishes or undoes what a command that was killed has begun. Whether there was any."""
+def end_interrupted(archive: str, helper: Helper, signals: Signals) -> bool:
+    """Finishes or undoes what a command that was killed has begun. Whether there was any. A signal waits until that is done."""
     plan = read_journal(archive)
-    if not plan:
-        return False
+    if plan:
+        with signals.held_back():
+            end_plan(plan, helper)
+        signals.check()
+    return plan is not None
+
+
+def end_plan(plan: Plan, helper: Helper) -> None:
     exchange, put = Exchange(plan, helper), plan.is_put()
     say(f"'{plan.command}' was interrupted, and is {'finished' if put else 'undone'}")
     try:
@@ -294,4 +303,3 @@ def end_interrupted(archive: str, helper: Helper) -> bool:
         say(line_of(fault))
     exchange.tidy()
     shutil.rmtree(os.path.join(plan.folder, plan.room), ignore_errors=True)
-    return True

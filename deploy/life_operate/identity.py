@@ -44,19 +44,25 @@ def become(user: pwd.struct_passwd) -> None:
 
 
 def call_as(user: pwd.struct_passwd, function: Callable[..., object], *words: object) -> object:
-    """What a function returns in a process of its own that has become a user. It has to fit into JSON."""
+    """What a function returns in a process of its own that has become a user. It has to fit into JSON. A signal of the terminal does not end
+    it, since what it does is short."""
     reading, writing = os.pipe()
     child = os.fork()
     if child == 0:
-        reply: list[object]
         try:
-            become(user)
-            reply = [True, function(*words)]
-        except (OSError, Refused) as fault:
-            reply = [False, line_of(fault)]
-        with os.fdopen(writing, "w", encoding="utf-8") as pipe:
-            json.dump(reply, pipe)
-        os._exit(0)
+            for number in ENDING:
+                signal.signal(number, signal.SIG_IGN)
+            try:
+                become(user)
+                reply = [True, function(*words)]
+            except (OSError, Refused) as fault:
+                reply = [False, line_of(fault)]
+            with os.fdopen(writing, "w", encoding="utf-8") as pipe:
+                json.dump(reply, pipe)
+        except BaseException:  # pylint: disable=broad-except
+            traceback.print_exc()
+        finally:
+            os._exit(0)
     os.close(writing)
     with os.fdopen(reading, encoding="utf-8") as pipe:
         text = pipe.read()
@@ -129,7 +135,8 @@ def answer(line: socket.socket, request: bytes, actions: dict[str, Action]) -> N
     try:
         text, file = actions[name](*words)
         reply, files = [True, text], [file] if file is not None else []
-    except (OSError, Refused) as fault:
+    except Exception as fault:  # pylint: disable=broad-except
+        # Whatever it is, the worker has to know: it undoes what it did.
         reply = [False, line_of(fault)]
     socket.send_fds(line, [json.dumps(reply).encode()], files)
     for file in files:
@@ -164,36 +171,25 @@ def work(user: pwd.struct_passwd, line: socket.socket, helper: int, worker: Call
         os._exit(status)
 
 
-class PassedOn:
-    """The signals that end a command, passed on to its worker, also those that come before there is one."""
-
-    def __init__(self) -> None:
-        self.child, self.early = 0, 0
-        for number in ENDING:
-            signal.signal(number, self.come)
-
-    def come(self, number: int, _: FrameType | None) -> None:
-        self.early = number
-        if self.child:
-            with contextlib.suppress(ProcessLookupError):
-                os.kill(self.child, number)
-
-    def to(self, child: int) -> None:
-        self.child = child
-        if self.early:
-            self.come(self.early, None)
-
-
 def split(user: pwd.struct_passwd, worker: Callable[[Helper], None], actions: dict[str, Action]) -> int:
-    """Runs a worker as a user, and does for it what these actions do. The worker's status."""
+    """Runs a worker as a user, and does for it what these actions do. The worker's status. Signals that end a command go to the worker; one
+    that comes early waits until it is ready for it."""
     ours, theirs = socket.socketpair(socket.AF_UNIX, socket.SOCK_SEQPACKET)
-    signals, helper = PassedOn(), os.getpid()
+    helper = os.getpid()
+    signal.pthread_sigmask(signal.SIG_BLOCK, ENDING)
     child = os.fork()
     if child == 0:
         ours.close()
         work(user, theirs, helper, worker)
     theirs.close()
-    signals.to(child)
+
+    def pass_on(number: int, _: FrameType | None) -> None:
+        with contextlib.suppress(ProcessLookupError):
+            os.kill(child, number)
+
+    for number in ENDING:
+        signal.signal(number, pass_on)
+    signal.pthread_sigmask(signal.SIG_UNBLOCK, ENDING)
     with contextlib.suppress(OSError):
         while request := ours.recv(MOST_OF_MESSAGE):
             answer(ours, request, actions)

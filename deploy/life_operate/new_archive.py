@@ -44,7 +44,7 @@ def made(words: argparse.Namespace, settings: dict[str, str], helper: Helper, si
     if words.if_missing and any(os.path.lexists(path) for path in (archive, archive + "-wal")):
         return
     with exchange.alone(archive, copies):
-        exchange.end_interrupted(archive, helper)
+        exchange.end_interrupted(archive, helper, signals)
         exchange.remove_old_rooms(folder)
         look(archive, copies, words)
         helper.ask("look-cache")

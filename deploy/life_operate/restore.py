@@ -101,7 +101,7 @@ class Restore:
 
     def run(self) -> None:
         with exchange.alone(self.archive, self.copies):
-            ended = exchange.end_interrupted(self.archive, self.helper)
+            ended = exchange.end_interrupted(self.archive, self.helper, self.signals)
             exchange.remove_old_rooms(self.folder)
             if self.words.copy is None:
                 if not ended:

@@ -38,6 +38,8 @@ class Signals:
         self.held = False
         for number in ENDING:
             signal.signal(number, self.come)
+        # Whoever started this process may have kept them back until now.
+        signal.pthread_sigmask(signal.SIG_UNBLOCK, ENDING)
 
     def come(self, number: int, _: FrameType | None) -> None:
         if self.number is None:

@@ -44,7 +44,7 @@ def actions(folder: str, paths: list[str]) -> dict[str, Action]:
     return {"systemctl": systemctl, "open": file} | {name: functools.partial(of_cache, function) for name, function in functions.items()}
 
 
-def worked(name: str, settings: dict[str, str], worker: Worker, helper: Helper) -> None:
+def run_worker(name: str, settings: dict[str, str], worker: Worker, helper: Helper) -> None:
     """A worker in its process, with its end in words."""
     signals = Signals()
     try:
@@ -64,7 +64,7 @@ def run(name: str, path: str, paths: list[str], worker: Worker) -> None:
     settings = end_if_unusable(name, path, NEEDED)
     try:
         user = identity.user_of(settings["LIFE_USER"])
-        status = identity.split(user, functools.partial(worked, name, settings, worker), actions(settings["WEB_FOLDER"], paths))
+        status = identity.split(user, functools.partial(run_worker, name, settings, worker), actions(settings["WEB_FOLDER"], paths))
     except Refused as fault:
         sys.exit(f"{name}: {fault}")
     if status < 0:

@@ -1,12 +1,12 @@
-"""The one way in which the file of a club's archive gives its place to another one.
+"""The one procedure by which another file takes the place of a club's archive.
 
-The new file is whole, looked at and on the disk before anything stops. Then the steps are: stop the service, move what is there away, move
-copies away that know more, empty nginx's cache, give the new file the archive's name, start the service. The name is what decides. Before
-it, an error or a signal undoes every step; after it, what is left is done. At each moment there is the whole old file under that name,
-the whole new one, or none, which the service refuses.
+The new file is checked and on the disk before anything stops. Then the steps are: stop the service, move the archive and its log away, move
+away copies that have more, empty nginx's cache, rename the new file, start the service. The rename decides. Before it, an error or a signal
+undoes every step; after it, the rest is done. So at every moment the archive's name has the whole old file, the whole new one, or nothing,
+and the service refuses to start with nothing.
 
-A journal beside the archive says what is going on, from before the first step to after the last one. What a kill or a power cut leaves is
-finished or undone, by what the journal says and which files are there, by the next command.
+A journal beside the archive describes the exchange from its first step to its last. After a kill or a power cut, the next command compares
+it with the files that are there, and finishes or undoes the exchange.
 """
 import contextlib
 import dataclasses
@@ -34,7 +34,7 @@ COPY_WITHIN = 600
 
 
 def say(line: str) -> None:
-    """A line for whoever may still be there: a terminal that is gone hinders nothing."""
+    """Prints a line. A terminal that was closed is no reason to stop halfway."""
     with contextlib.suppress(OSError):
         print(line, flush=True)
 
@@ -43,7 +43,7 @@ def say(line: str) -> None:
 
 @contextlib.contextmanager
 def folder_lock(folder: str, kind: int, within: float, refusal: str) -> Iterator[None]:
-    """A lock on a folder, which ends with the process. Nothing is left of it in the folder."""
+    """A lock on a folder itself: it leaves no file, and ends with the process."""
     number = os.open(folder, os.O_RDONLY | os.O_DIRECTORY)
     try:
         end, said = time.monotonic() + within, False
@@ -64,7 +64,7 @@ def folder_lock(folder: str, kind: int, within: float, refusal: str) -> Iterator
 
 
 def alone(archive: str, copies: str) -> contextlib.ExitStack:
-    """Keeps other exchanges away, and waits for a copy that is being made."""
+    """Keeps other exchanges out, and waits for a copy that is being made."""
     stack = contextlib.ExitStack()
     folder = os.path.dirname(archive)
     stack.enter_context(folder_lock(folder, fcntl.LOCK_EX, 0, f"another command is exchanging the archive in {folder}"))
@@ -74,7 +74,7 @@ def alone(archive: str, copies: str) -> contextlib.ExitStack:
 
 
 def remove_old_rooms(folder: str, prefix: str | tuple[str, ...] = ROOMS) -> None:
-    """Removes what commands that were killed have left, once nobody can be at it any more."""
+    """Removes what killed commands have left, once no command can still be using it."""
     for entry in os.scandir(folder):
         if entry.name.startswith(prefix) and entry.is_dir(follow_symlinks=False) and entry.stat(follow_symlinks=False).st_mtime < time.time() - OLD_ROOM:
             shutil.rmtree(entry.path, ignore_errors=True)
@@ -82,7 +82,7 @@ def remove_old_rooms(folder: str, prefix: str | tuple[str, ...] = ROOMS) -> None
 
 @contextlib.contextmanager
 def new_room(folder: str, prefix: str, signals: Signals) -> Iterator[str]:
-    """A folder for a command's own files beside a place, which is removed at the end, whatever ends it."""
+    """A folder for a command's own files, removed at the end, whatever that end is."""
     with signals.held_back():
         room = tempfile.mkdtemp(prefix=prefix, dir=folder)
     try:
@@ -97,18 +97,18 @@ def new_room(folder: str, prefix: str, signals: Signals) -> Iterator[str]:
 
 @dataclasses.dataclass
 class Plan:
-    """An exchange, as its journal has it. Names of files and folders are in the archive's folder, or in that of the copies."""
+    """An exchange, as the journal has it. File names are relative to the archive's folder or to that of the copies."""
     command: str
     archive: str
     copies: str
     room: str
     aside: str
-    # Copies that know more than the new file.
+    # Copies that have more than the new file.
     newer: list[str]
     # Whether the service is stopped and started, and whether it ran before.
     serves: bool = True
     ran: bool = False
-    # What the new file is known by, whatever its name.
+    # Tells the new file from others, whatever its name is.
     inode: int = 0
 
     @property
@@ -120,7 +120,7 @@ class Plan:
         return os.path.join(self.folder, self.room, "new.db")
 
     def moves(self) -> list[tuple[str, str]]:
-        """What is moved away to where, in this order: the file goes before its log, so that no file is without its log."""
+        """What moves away, and where to. The archive goes before its log, so that it never stands there without its log."""
         away = [(path, os.path.join(self.folder, self.aside, os.path.basename(path))) for path in (self.archive, self.archive + "-wal")]
         return away + [(os.path.join(self.copies, name), os.path.join(self.copies, self.aside, name)) for name in self.newer]
 
@@ -130,7 +130,7 @@ class Plan:
 
 
 def new_aside(word: str, folders: list[str]) -> str:
-    """A name that is new in each of these folders: before-WORD- and a moment."""
+    """The name before-WORD-MOMENT, with a moment for which none of these folders has it yet."""
     while True:
         moment = datetime.datetime.now(datetime.timezone.utc).strftime("%Y-%m-%dT%H%M%S")
         name = f"before-{word}-{moment}"
@@ -164,7 +164,7 @@ def read_journal(archive: str) -> Plan | None:
 # ---- the steps
 
 class Exchange:
-    """The steps of a plan, and the way back."""
+    """The steps of a plan, and how they are undone."""
 
     def __init__(self, plan: Plan, helper: Helper) -> None:
         self.plan, self.helper = plan, helper
@@ -193,14 +193,14 @@ class Exchange:
                 sync(folder)
 
     def put(self) -> None:
-        """Gives the new file the archive's name, which nothing has now, nor a log."""
+        """Gives the new file the archive's name, which must be free, like that of its log."""
         for path in (self.plan.archive, self.plan.archive + "-wal"):
             if os.path.lexists(path):
                 raise Refused(f"{path} has come back")
         os.rename(self.plan.new, self.plan.archive)
 
     def undo(self) -> None:
-        """All as it was. A log comes back before its file. A name that somebody has taken meanwhile stays theirs."""
+        """Brings everything back, the log before its file. What somebody else has put there meanwhile stays."""
         for there, away in reversed(self.plan.moves()):
             if os.path.lexists(away) and os.path.lexists(there):
                 say(f"{away} stays where it is: {there} is another file now")
@@ -213,13 +213,13 @@ class Exchange:
         self.start_and_forget(self.plan.serves and self.plan.ran)
 
     def finish(self) -> None:
-        """What is left once the new file has its name."""
+        """What is left to do once the new file has its name."""
         sync(self.plan.folder)
         self.start_and_forget(self.plan.serves)
 
     def start_and_forget(self, starts: bool) -> None:
-        """The last step, after which there is no journal. If the service fails by itself, its unit says so; a helper that is gone could not
-        start it, and that is left for the next command."""
+        """The last step. A service that fails by itself is its unit's matter; if the helper is gone, nothing was started, and the journal stays
+        so that the next command does it."""
         try:
             if starts:
                 self.start()
@@ -235,15 +235,15 @@ class Exchange:
         sync(self.plan.folder)
 
     def run(self, signals: Signals, look_again: Callable[[], bool]) -> None:
-        """All steps up to the new file's name, or none; `finish` is what is left. Signals are held back: one that comes before the name
-        undoes all, a later one does nothing. Once the service is stopped, `look_again` refuses, or says whether the new file is another one now."""
+        """Does all steps up to the rename, or none; `finish` does the rest. The caller holds signals back: one that came before the rename
+        undoes everything, a later one does nothing. Once the service is stopped, `look_again` may refuse; it says whether it made the new file anew."""
         signals.check()
         self.plan.ran = self.plan.serves and self.helper.ask("systemctl", "is-active") == "yes"
         write_journal(self.plan)
         try:
             self.until_put(signals, look_again)
         except BaseException as fault:
-            self.back(fault)
+            self.undo_and_report(fault)
             raise
 
     def until_put(self, signals: Signals, look_again: Callable[[], bool]) -> None:
@@ -252,7 +252,7 @@ class Exchange:
         if look_again():
             write_journal(self.plan)
         signals.check()
-        # The lock ends when the process closes the file, so from here on nothing else opens it.
+        # Closing the file anywhere in this process would end the lock, so from here on nothing else opens it.
         held = locked(self.plan.archive) if os.path.exists(self.plan.archive) else None
         if os.path.exists(self.plan.archive) and not held:
             raise Refused(f"{self.plan.archive} stays: a program other than {UNIT} has it open")
@@ -266,7 +266,7 @@ class Exchange:
             if held:
                 held.close()
 
-    def back(self, fault: BaseException) -> None:
+    def undo_and_report(self, fault: BaseException) -> None:
         """Undoes what was done, and says so."""
         try:
             self.undo()
@@ -277,13 +277,13 @@ class Exchange:
         self.tidy()
 
     def tidy(self) -> None:
-        """Removes what was in the cache, which can take long. What is left of it is removed the next time."""
+        """Removes what was in the cache. That can take long; what is left is removed the next time."""
         with contextlib.suppress(OSError, Refused):
             self.helper.ask("remove-old-cache")
 
 
 def end_interrupted(archive: str, helper: Helper, signals: Signals) -> bool:
-    """Finishes or undoes what a command that was killed has begun. Whether there was any. A signal waits until that is done."""
+    """Finishes or undoes what a killed command began, and says whether there was anything. A signal waits for the end of it."""
     plan = read_journal(archive)
     if plan:
         with signals.held_back():

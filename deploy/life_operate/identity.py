@@ -1,7 +1,7 @@
-"""Who does what, if root types a command: nothing of root's looks into a folder that belongs to somebody else.
+"""How commands that root types avoid doing anything as root in other users' folders.
 
-A command splits into a worker, which is the archive's user and does all there is to do with files, and a helper, which keeps root's rights
-and does the few things that the worker asks for. A name that the archive's user has planted then leads nowhere that this user can't go.
+A command splits into a worker, which becomes the archive's user and does everything with files, and a helper, which keeps root's rights and
+does the few things that the worker asks for. A link that the archive's user has planted then leads nowhere that this user could not go.
 """
 import contextlib
 import json
@@ -20,7 +20,7 @@ from life_operate.signals import ENDING, die_with_parent
 
 # A request or a reply is one message of at most so many bytes.
 MOST_OF_MESSAGE = 65536
-# What the helper does for a worker: it gets the words of a request, and gives a text and possibly an open file.
+# What the helper does for a request: it gets the request's words, and answers with a text and possibly an open file.
 Action = Callable[..., tuple[str, int | None]]
 
 
@@ -32,7 +32,7 @@ def user_of(name: str) -> pwd.struct_passwd:
 
 
 def become(user: pwd.struct_passwd) -> None:
-    """Gives up all rights but those of a user, for good. Whoever is not root has to be that user already."""
+    """Becomes a user for good. Whoever is not root must be that user already."""
     if os.geteuid() == 0:
         os.setgroups(os.getgrouplist(user.pw_name, user.pw_gid))
         os.setgid(user.pw_gid)
@@ -44,8 +44,8 @@ def become(user: pwd.struct_passwd) -> None:
 
 
 def call_as(user: pwd.struct_passwd, function: Callable[..., object], *words: object) -> object:
-    """What a function returns in a process of its own that has become a user. It has to fit into JSON. A signal of the terminal does not end
-    it, since what it does is short."""
+    """Calls a function in a process of its own that has become a user, and returns its result, which must fit into JSON. What it does is short,
+    so it ignores signals."""
     reading, writing = os.pipe()
     child = os.fork()
     if child == 0:
@@ -74,7 +74,7 @@ def call_as(user: pwd.struct_passwd, function: Callable[..., object], *words: ob
 
 
 def open_plain(path: str) -> int | None:
-    """Opens a file for reading, if it is there, no part of its path is a link, and it has one name. Root may then hand it to somebody else."""
+    """Opens a file that may be handed to another user: no part of its path is a link, and it has one name. None if it is missing."""
     folder = os.open("/", os.O_PATH | os.O_DIRECTORY)
     *folders, name = os.path.normpath(path).strip("/").split("/")
     try:
@@ -101,7 +101,7 @@ class Gone(Refused):
 
 
 class Helper:
-    """The worker's end of the line to the process that kept its rights. A request is answered before the next one is sent."""
+    """The worker's end of the line to the helper. Each request is answered before the next one is sent."""
 
     def __init__(self, line: socket.socket) -> None:
         self.line = line
@@ -144,7 +144,7 @@ def answer(line: socket.socket, request: bytes, actions: dict[str, Action]) -> N
 
 
 def work(user: pwd.struct_passwd, line: socket.socket, helper: int, worker: Callable[[Helper], None]) -> None:
-    """The worker's process, up to its end. A session of its own keeps a Ctrl-C of the terminal for the helper, which passes it on."""
+    """The worker's process. In a session of its own, it gets a Ctrl-C once: from the helper, which passes it on."""
     status = 1
     try:
         os.setsid()
@@ -172,8 +172,8 @@ def work(user: pwd.struct_passwd, line: socket.socket, helper: int, worker: Call
 
 
 def split(user: pwd.struct_passwd, worker: Callable[[Helper], None], actions: dict[str, Action]) -> int:
-    """Runs a worker as a user, and does for it what these actions do. The worker's status. Signals that end a command go to the worker; one
-    that comes early waits until it is ready for it."""
+    """Runs a worker as a user, performs these actions for it, and returns its status. Signals are passed on to the worker; an early one waits
+    until the worker is ready for it."""
     ours, theirs = socket.socketpair(socket.AF_UNIX, socket.SOCK_SEQPACKET)
     helper = os.getpid()
     signal.pthread_sigmask(signal.SIG_BLOCK, ENDING)

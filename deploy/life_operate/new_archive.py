@@ -19,7 +19,7 @@ from life_operate.signals import Signals
 NAME = "life-new-archive"
 
 
-def before(archive: str, copies: str) -> list[str]:
+def traces(archive: str, copies: str) -> list[str]:
     """What shows that there was an archive: copies of it, and folders that hold one."""
     folders = {os.path.dirname(archive), copies}
     held = [os.path.join(folder, name) for folder in sorted(folders) if os.path.isdir(folder) for name in sorted(os.listdir(folder)) if name.startswith("before-")]
@@ -31,14 +31,14 @@ def look(archive: str, copies: str, words: argparse.Namespace) -> None:
     for path in (archive, archive + "-wal"):
         if os.path.lexists(path):
             raise Refused(f"{path} is there, and stays")
-    there = before(archive, copies)
+    there = traces(archive, copies)
     if there and not words.although_there_are_copies:
         more = f" and {len(there) - 1} more" if len(there) > 1 else ""
         raise Refused(f"{there[0]}{more} would be left of another archive, whose numbers would be given again: life-restore puts a copy back; "
                       f"for a new archive all the same: {NAME} --although-there-are-copies")
 
 
-def made(words: argparse.Namespace, settings: dict[str, str], helper: Helper, signals: Signals) -> None:
+def make_archive(words: argparse.Namespace, settings: dict[str, str], helper: Helper, signals: Signals) -> None:
     archive, copies = os.path.realpath(settings["ARCHIVE"]), os.path.realpath(settings["BACKUP_FOLDER"])
     folder = os.path.dirname(archive)
     if words.if_missing and any(os.path.lexists(path) for path in (archive, archive + "-wal")):
@@ -70,4 +70,4 @@ def main() -> None:
     parser.add_argument("--although-there-are-copies", action="store_true")
     parser.add_argument("--if-missing", action="store_true")
     words = parser.parse_args()
-    commands.run(NAME, words.settings, [], lambda settings, helper, signals: made(words, settings, helper, signals))
+    commands.run(NAME, words.settings, [], lambda settings, helper, signals: make_archive(words, settings, helper, signals))

@@ -1,19 +1,18 @@
-"""Puts a copy in the place of a club's archive. Run as root; all that is done with files is done as the user of the archive.
+"""Puts a copy in the place of a club's archive. Run as root; everything that is done with files is done as the archive's user.
 
     life-restore [--settings FILE] [--older | --other] [--with-log] COPY
     life-restore [--settings FILE]
 
-COPY is a copy of life-copy, or the file of a pair in a folder before-... First it is looked at, and the program itself opens it. It is
-compared with the archive that is there and with all copies. What would be lost is said before anything stops, and is refused: --older takes
-a copy of this archive that has less, --other another archive. If the archive is gone or can't be read, and its log is there, the newest copy
-together with that log is tried; --with-log takes COPY with it.
+COPY is a file that life-copy made, or the file of a pair (with its log) in a folder whose name begins with before-. While the service runs,
+COPY is checked, opened by the program, and compared with the archive and its copies. If something would be lost, the command says what and
+refuses. --older accepts a copy of this archive that has less, --other accepts another archive. If the archive is gone or damaged but its log
+is there, the newest copy may fit that log; --with-log takes COPY together with the log.
 
-Then the service is stopped, the archive and its log are moved away together, nginx's cache is emptied, the copy gets the archive's name, and
-the service is started, and asked for the newest deposit. Copies that have more than the archive has now are moved away, too. An error or a
-signal before the copy has its name undoes all; what a kill or a power cut leaves is finished or undone by the next command, and by
-life-restore without a copy.
+Then the service stops, the archive and its log move away together, nginx's cache is emptied, the copy gets the archive's name, and the
+service starts and is asked for the newest deposit. Copies that have more than the archive has now move away too. An error or a signal before
+the copy has its name undoes everything. After a kill or a power cut, the next command finishes or undoes it; without COPY it does only that.
 
-The status is 0 if the copy is served, 1 if something hindered that, 2 for wrong words, 128 and the signal's number after a signal.
+The status is 0 if the copy is served, 1 if something hindered that, 2 for a usage error, and 128 + N after signal N.
 """
 import argparse
 import contextlib
@@ -27,7 +26,7 @@ from life_operate import commands, exchange
 from life_operate.archive import LEAST_COMMIT, Contents, Refused, answered, begin_of, fold, has_commit, line_of, sync
 from life_operate.exchange import UNIT, say
 from life_operate.identity import Helper
-from life_operate.known import RESTORE, There, clear, decide, join, known, lost, newer, others_of, tried
+from life_operate.known import RESTORE, CurrentArchive, copies_with_more, decide, differences, gather, join, lost_numbers, remove_files, try_copy
 from life_operate.settings import USUAL
 from life_operate.signals import Signals
 
@@ -35,7 +34,7 @@ from life_operate.signals import Signals
 # ---- the copy
 
 class Source:
-    """A copy and its log, open. The archive's user reads them, or else the helper opens what root has named."""
+    """A copy and its log, open. If the archive's user may not read them, the helper opens them, as root named them."""
 
     def __init__(self, path: str, helper: Helper) -> None:
         self.path = path
@@ -68,7 +67,7 @@ class Source:
         return sum(os.fstat(file.fileno()).st_size for file in (self.file, self.log) if file)
 
     def look(self, archive: str) -> None:
-        """Refuses what no restore takes. A log with a commit is one of a pair in a folder before-..: elsewhere somebody has written to a copy."""
+        """Refuses what can't be restored. Only in a folder before-.. a log belongs to its file: elsewhere somebody has written to a copy."""
         if self.is_file(archive):
             raise Refused(f"{self.path} is the archive itself")
         written = self.log and os.fstat(self.log.fileno()).st_size >= LEAST_COMMIT
@@ -76,7 +75,7 @@ class Source:
             raise Refused(f"{self.path}-wal has what was written to the copy since: no copy of life-copy has that; a pair is taken from a folder before-..")
 
     def put(self, new: str) -> None:
-        """Copies the file and its log, and folds them into one file."""
+        """Copies the file and its log, and merges them into one file."""
         for file, path in ((self.file, new), (self.log, new + "-wal")):
             if file:
                 before = os.fstat(file.fileno())
@@ -92,7 +91,7 @@ class Source:
 # ---- the restore
 
 class Restore:
-    """A restore of a copy, from the first look to the last."""
+    """A restore, from reading the copy to asking the service for it."""
 
     def __init__(self, words: argparse.Namespace, settings: dict[str, str], helper: Helper, signals: Signals) -> None:
         self.words, self.settings, self.helper, self.signals = words, settings, helper, signals
@@ -113,7 +112,7 @@ class Restore:
                     self.exchange(room)
 
     def prepare(self, room: str) -> None:
-        """All that takes long: the new file, looked at, compared, and on the disk."""
+        """Everything that takes long, while the service runs: the new file, checked, compared, and on the disk."""
         self.source = Source(self.words.copy, self.helper)
         self.source.look(self.archive)
         self.look_for_room()
@@ -125,23 +124,23 @@ class Restore:
             self.with_log(room)
         else:
             self.found = Contents(self.new, name)
-        tried(self.settings["PROGRAM"], self.new, self.found)
+        try_copy(self.settings["PROGRAM"], self.new, self.found)
         say(f"the copy {name}: {self.found.text_with_first()}")
-        self.known = known(self.archive, self.copies, room, self.settings["PROGRAM"], self.found)
-        if self.words.with_log and self.known.there.contents:
-            raise Refused(f"{self.archive} is there with its log and can be read: {self.known.there.words}")
-        decide(self.found, self.known, self.words)
+        self.findings = gather(self.archive, self.copies, room, self.settings["PROGRAM"], self.found)
+        if self.words.with_log and self.findings.there.contents:
+            raise Refused(f"{self.archive} is there with its log and can be read: {self.findings.there.words}")
+        decide(self.found, self.findings, self.words)
         sync(self.new)
         sync(room)
 
     def with_log(self, room: str) -> None:
-        """The copy with the log that is there, in place of the copy."""
+        """Makes the new file from the copy and the archive's log."""
         if not has_commit(self.archive):
             raise Refused(f"{self.archive}-wal is not there, or has nothing")
         self.log = begin_of(self.archive + "-wal")
         joined = os.path.join(room, "joined.db")
         plain = os.path.join(room, "plain.db")
-        clear(plain)
+        remove_files(plain)
         if os.path.exists(self.new):
             os.rename(self.new, plain)
         else:
@@ -149,35 +148,35 @@ class Restore:
         self.found = join(plain, self.archive, joined, f"{self.words.copy} with the log that is there")
         os.rename(joined, self.new)
         self.found = Contents(self.new, self.found.name)
-        clear(plain)
-        clear(joined)
+        remove_files(plain)
+        remove_files(joined)
 
     def look_for_room(self) -> None:
-        """The new file and one beside it, for the program or for what is there."""
+        """Wants room for the new file and one more: what the program tries, or what is read of the archive."""
         there = sum(os.path.getsize(path) for path in (self.archive, self.archive + "-wal") if os.path.exists(path))
         wanted, free = 2 * self.source.size() + there, shutil.disk_usage(self.folder).free
         if free < wanted:
             raise Refused(f"{self.folder} has room for {free:,} bytes, and a restore wants {wanted:,}")
 
     def look_again(self) -> bool:
-        """What came between the look and the stop: a log that was taken is taken again, and what would be lost is refused again."""
+        """Looks at what came while the service still ran: takes a log that grew once more, or decides again about what would be lost."""
         room = os.path.dirname(self.new)
         if self.words.with_log:
             if self.log == begin_of(self.archive + "-wal"):
                 return False
-            clear(self.new)
+            remove_files(self.new)
             self.with_log(room)
             sync(self.new)
             return True
-        if self.known.there.has_changed():
-            self.known.there = There(self.archive, room)
-            decide(self.found, self.known, self.words)
+        if self.findings.there.has_changed():
+            self.findings.there = CurrentArchive(self.archive, room)
+            decide(self.found, self.findings, self.words)
         return False
 
     def exchange(self, room: str) -> None:
         words = shlex.join([RESTORE, self.words.copy])
         self.aside = exchange.new_aside("restore", [self.folder, self.copies])
-        self.plan = plan = exchange.Plan(words, self.archive, self.copies, os.path.basename(room), self.aside, newer(self.found, self.known))
+        self.plan = plan = exchange.Plan(words, self.archive, self.copies, os.path.basename(room), self.aside, copies_with_more(self.found, self.findings))
         steps = exchange.Exchange(plan, self.helper)
         steps.run(self.signals, self.look_again)
         try:
@@ -196,13 +195,13 @@ class Restore:
         say(f"{UNIT} runs with {self.archive}, and answers {route} as the copy has it")
 
     def report(self) -> None:
-        """Where everything is, and the way back."""
-        there, aside = self.known.there, os.path.join(self.folder, self.aside)
+        """Says where everything is, and the command that goes back."""
+        there, aside = self.findings.there, os.path.join(self.folder, self.aside)
         if os.path.isdir(aside):
             say(f"what was at {self.archive} is in {aside}: {there.words}")
-        if there.contents and others_of(self.found, there.contents):
+        if there.contents and differences(self.found, there.contents):
             say(f"it is another archive than {self.archive} is now: the same numbers name other deposits")
-        elif there.contents and (gone := lost(self.found, there.contents)):
+        elif there.contents and (gone := lost_numbers(self.found, there.contents)):
             say(f"{gone} of it are not in the archive now: these numbers will be given again")
         if os.path.exists(os.path.join(aside, os.path.basename(self.archive))):
             say(f"to go back: {shlex.join([RESTORE, os.path.join(aside, os.path.basename(self.archive))])}")

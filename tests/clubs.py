@@ -8,6 +8,7 @@ import re
 import shutil
 import sqlite3
 import subprocess
+import sys
 import tempfile
 
 import clients
@@ -210,3 +211,18 @@ def is_error(name, answer, *parts):
     if not good:
         print(f"restores: {name} answered {answer}")
     return good
+
+
+# Runs a script on a disk that has so many bytes free.
+SMALL_DISK = """
+import runpy, shutil, sys
+free = int(sys.argv[1])
+shutil.disk_usage = lambda path: shutil._ntuple_diskusage(1 << 30, (1 << 30) - free, free)
+sys.argv = sys.argv[2:]
+runpy.run_path(sys.argv[0], run_name="__main__")
+"""
+
+
+def small_disk(free):
+    """The words before a script that make it see so many bytes free."""
+    return [sys.executable, "-c", SMALL_DISK, str(free)]

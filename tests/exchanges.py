@@ -11,7 +11,7 @@ import stat
 import time
 
 from clients import Server, check, deposit, exchanged, run
-from clubs import MEMBERS, Club, add, content, file_of, is_error, rows_of, text_of, write
+from clubs import MEMBERS, Club, add, content, file_of, is_error, rows_of, small_disk, text_of, write
 
 THREE = {number: text_of(member) for number, member in enumerate(MEMBERS[:3], 1)}
 FIVE = {**THREE, 4: text_of("zoe"), 5: text_of("yan")}
@@ -95,7 +95,7 @@ def asked_for(folder):
     add(other.archive, ["eve", "dan"])
     other.copy()
     for name, copy, parts in (("an older copy", club.older, ["lacks deposits 4 to 5 of", club.archive, "--older"]),
-                              ("the oldest copy", club.oldest, ["lacks deposits 3 to 5 of", "as of 2 more", "--older"]),
+                              ("the oldest copy", club.oldest, ["lacks deposits 3 to 5 of", "and of 2 copies", "--older"]),
                               ("another club's copy", other.newest(), ["another archive than", "the first deposit by 'eve'", "another deposit 1", "--other"])):
         check(f"{name} is refused", is_error("life-restore", club.restore(copy), *parts))
     check("another club's copy as an older one", is_error("life-restore", club.restore("--older", other.newest()), "another archive", "--other"))
@@ -188,6 +188,8 @@ def not_restored(folder):
     write(os.path.join(club.room, "precious", "kept"), "kept")
     check("no restore through a link in place of the cache", is_error("life-restore", club.restore(copy), "cache is a link") and os.listdir(os.path.join(club.room, "precious")) == ["kept"])
     os.remove(os.path.join(club.web, "cache"))
+    answer = club.script("life-restore", copy, prefix=small_disk(2 * os.path.getsize(club.archive)))
+    check("no restore on a disk without room", is_error("life-restore", answer, "has room for"))
     check("nothing to finish", is_error("life-restore", club.restore(), "nothing was interrupted"))
     check(f"the service was not stopped: {club.called()}", club.called() == [] and content(club.archive) == before and club.left_over() == [] and club.asides() == [])
 
@@ -340,6 +342,26 @@ def judge(club, name, newest, status):
     # A kill leaves rooms, which go later.
     left = [left for left in club.left_over() if status != -signal.SIGKILL or not left.startswith((".life-exchange-", ".old-"))]
     check(f"{name}: nothing is left over: {left}", left == [])
+
+
+def kills(folder):
+    """A restore is killed at its stop, and at its start. The next command, whichever it is, undoes the one and finishes the other."""
+    for word, said, wanted, commands in (("stop", "undone", FIVE, [("life-restore",), ("life-new-archive",)]), ("start", "finished", THREE, [("life-restore",), ("life-new-archive",)])):
+        for command in commands:
+            club = club_of_five(folder, f"killed-at-{word}-{command[0]}")
+            club.copy()
+            cached(club)
+            script = content(path := os.path.join(club.room, "bin", "systemctl")).decode()
+            write(path, script.replace("case $1 in", f'[ "$1" != {word} ] || {{ kill -9 $PPID; exit 1; }}\ncase $1 in', 1), 0o755)
+            process = club.begun("life-restore", "--older", club.older)
+            status = process.wait(60)
+            write(path, script, 0o755)
+            check(f"killed at the {word}: {status}", status == -signal.SIGKILL and os.path.exists(club.journal))
+            status, out, err = club.script(*command)
+            check(f"{command[0]} after it: {status} {out} {err}", f"life-restore {club.older}' was interrupted, and is {said}" in out and club.serves(wanted) and not os.path.exists(club.journal))
+            check("a new archive beside it is refused", command[0] == "life-restore" or is_error(command[0], (status, out, err), "is there, and stays"))
+            check(f"the copies are {said}", len([name for name in club.files() if name.endswith(".db")]) == (3 if said == "undone" else 2) and (club.asides() == []) == (said == "undone"))
+            club.systemctl("stop")
 
 
 def terminal_gone(folder):
@@ -551,4 +573,4 @@ def named(folder):
     check(f"what is beside a missing archive is said: {err}", status == 1 and "beside it there is" in err and "before-restore-2020-01-01T000000" in err and "club.db-wal" in err)
 
 
-PARTS = (drill, asked_for, newer_copy, gone_while_served, lost, not_restored, undone, while_stopped, after_a_failure, two_at_once, signals, terminal_gone, new_archives, planted, rooms, taken_ports, named)
+PARTS = (drill, asked_for, newer_copy, gone_while_served, lost, not_restored, undone, while_stopped, after_a_failure, two_at_once, signals, kills, terminal_gone, new_archives, planted, rooms, taken_ports, named)

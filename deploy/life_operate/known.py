@@ -143,7 +143,8 @@ def decide(new: Contents, found: Findings, words: argparse.Namespace) -> None:
         return
     others = [there for there in faults if differences(new, there)]
     again = shlex.join([RESTORE, "--other" if others else "--older", words.copy])
-    there, more = (others or faults)[0], f", as of {len(faults) - 1} more" if len(faults) > 1 else ""
+    there, count = (others or faults)[0], len(faults) - 1
+    more = f" and of {count} {'copy' if count == 1 else 'copies'}" if count else ""
     if others:
         text = (f"{words.copy} with {new.text_with_first()} is another archive than {there.name} with {there.text_with_first()}: "
                 f"{', '.join(differences(new, there))}")

@@ -19,11 +19,17 @@ from life_operate.signals import Signals
 NAME = "life-new-archive"
 
 
+def copies_in(archive: str, folder: str) -> list[str]:
+    """The copies of a club, if it has a folder for them."""
+    found = Copies(archive, folder) if os.path.isdir(folder) else None
+    return [found.path(stamp) for stamp in found.stamps] if found else []
+
+
 def traces(archive: str, copies: str) -> list[str]:
-    """What shows that there was an archive: copies of it, and folders that hold one."""
-    folders = {os.path.dirname(archive), copies}
-    held = [os.path.join(folder, name) for folder in sorted(folders) if os.path.isdir(folder) for name in sorted(os.listdir(folder)) if name.startswith("before-")]
-    return [Copies(archive, copies).path(stamp) for stamp in Copies(archive, copies).stamps] + held if os.path.isdir(copies) else held
+    """What shows that there was an archive: copies of it, and what other commands have moved or copied before they changed it."""
+    folders = [folder for folder in sorted({os.path.dirname(archive), copies}) if os.path.isdir(folder)]
+    kept = [os.path.join(folder, name) for folder in folders for name in sorted(os.listdir(folder)) if name.startswith("before-")]
+    return copies_in(archive, copies) + kept
 
 
 def look(archive: str, copies: str, words: argparse.Namespace) -> None:
@@ -34,7 +40,7 @@ def look(archive: str, copies: str, words: argparse.Namespace) -> None:
     there = traces(archive, copies)
     if there and not words.although_there_are_copies:
         more = f" and {len(there) - 1} more" if len(there) > 1 else ""
-        raise Refused(f"{there[0]}{more} would be left of another archive, whose numbers would be given again: life-restore puts a copy back; "
+        raise Refused(f"{there[0]}{more}: there was an archive, and its numbers would be given again; life-restore puts a copy back; "
                       f"for a new archive all the same: {NAME} --although-there-are-copies")
 
 
@@ -52,8 +58,9 @@ def make_archive(words: argparse.Namespace, settings: dict[str, str], helper: He
             made_by_program(settings["PROGRAM"], os.path.join(room, "new.db"))
             sync(os.path.join(room, "new.db"))
             sync(room)
-            newer = [os.path.basename(Copies(archive, copies).path(stamp)) for stamp in Copies(archive, copies).stamps] if os.path.isdir(copies) else []
-            plan = exchange.Plan(NAME, archive, copies, os.path.basename(room), exchange.new_aside("new-archive", [folder, copies]), newer, serves=False)
+            aside = exchange.new_aside("new-archive", [folder, copies])
+            newer = [os.path.basename(path) for path in copies_in(archive, copies)]
+            plan = exchange.Plan(NAME, archive, copies, os.path.basename(room), aside, newer, serves=False)
             with signals.held_back():
                 steps = exchange.Exchange(plan, helper)
                 steps.run(signals, lambda: False)

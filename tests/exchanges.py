@@ -442,6 +442,11 @@ def planted(folder):
     os.remove(stolen)
     os.symlink(victims[0], stolen)
     club.script("life-copy", club.archive, stolen, settings=False)
+    os.mkdir(shared := os.path.join(club.room, "shared"))
+    os.chmod(shared, 0o1777)
+    os.symlink(victims[2], os.path.join(shared, "copy.db"))
+    answer = club.script("life-copy", club.archive, os.path.join(shared, "copy.db"), settings=False)
+    check("no copy by root where anybody may plant a link", is_error("life-copy", answer, "can be written to by others"))
     shutil.rmtree(os.path.join(club.web, "cache"))
     os.symlink(victims[1], os.path.join(club.web, "cache"))
     check("no restore through a link in place of the cache", is_error("life-restore", club.restore("--older", club.oldest), "cache is a link"))
@@ -451,17 +456,22 @@ def planted(folder):
     os.chmod(secret, 0o600)
     status, out, err = club.restore(secret)
     check(f"a copy that only root reads, by its plain name: {out}{err}", status == 0 and club.serves(THREE))
+    planted_for_a_new_one(club, victims[2])
+    after = [state_of(victim) for victim in victims[:2]]
+    check(f"what the links lead to is as it was: {before} {after}", before == after and not os.path.lexists(victims[2]))
+
+
+def planted_for_a_new_one(club, victim):
+    """A link in place of an archive that is to be made."""
     club.systemctl("stop")
     shutil.rmtree(club.folder)
     os.mkdir(club.folder)
     shutil.chown(club.folder, "nobody")
-    os.symlink(victims[2], club.archive)
+    os.symlink(victim, club.archive)
     club.script("life-new-archive", "--although-there-are-copies")
     os.remove(club.archive)
     answer = club.script("life-new-archive", "--although-there-are-copies")
-    check(f"a new archive by root: {answer}", answer[0] == 0 and os.stat(club.archive).st_uid == nobody)
-    after = [state_of(victim) for victim in victims[:2]]
-    check(f"what the links lead to is as it was: {before} {after}", before == after and not os.path.lexists(victims[2]))
+    check(f"a new archive by root: {answer}", answer[0] == 0 and os.stat(club.archive).st_uid == os.stat(club.folder).st_uid)
 
 
 def plant(club, victims):

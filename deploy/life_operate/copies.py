@@ -211,12 +211,15 @@ def give_up_rights(owner: pwd.struct_passwd) -> None:
 
 
 def owner_of_folder(path: str) -> pwd.struct_passwd:
-    """To whom the folder of a file belongs."""
-    number = os.stat(os.path.dirname(os.path.abspath(path))).st_uid
+    """To whom the folder of a file belongs. Root works in no folder of its own in which others may plant links."""
+    folder = os.path.dirname(os.path.abspath(path))
+    state = os.stat(folder)
+    if os.geteuid() == 0 and state.st_uid == 0 and state.st_mode & 0o022:
+        raise Refused(f"{folder} can be written to by others, so root makes no copy there")
     try:
-        return pwd.getpwuid(number)
+        return pwd.getpwuid(state.st_uid)
     except KeyError as fault:
-        raise Refused(f"the folder of {path} is of user {number}, who has no name") from fault
+        raise Refused(f"{folder} is of user {state.st_uid}, who has no name") from fault
 
 
 def done(words: argparse.Namespace, signals: Signals) -> str:

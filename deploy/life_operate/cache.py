@@ -69,6 +69,9 @@ def move_away(folder: str) -> int:
             with opened(place, found[0]) as old:
                 for name in names:
                     move(name, found[1], old)
+                # After a power cut, too, nothing old is shown.
+                for number in (old, *found):
+                    os.fsync(number)
         return len(names)
 
 

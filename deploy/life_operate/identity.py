@@ -160,8 +160,8 @@ def work(user: pwd.struct_passwd, line: socket.socket, helper: int, worker: Call
         status = end.code if isinstance(end.code, int) else 1
         if isinstance(end.code, str):
             print(end.code, file=sys.stderr)
-    except Refused as fault:
-        print(fault, file=sys.stderr)
+    except (OSError, Refused) as fault:
+        print(line_of(fault), file=sys.stderr)
     except BaseException:  # pylint: disable=broad-except
         traceback.print_exc()
     finally:

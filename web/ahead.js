@@ -5,7 +5,10 @@
   const DEPOSIT = ['ages', 'brought', 'code', 'comments', 'controls', 'deposit', 'maker', 'names', 'pattern', 'picture', 'player', 'plot', 'search', 'shown', 'view', 'wheel'];
   const ask = (attributes) => document.head.append(Object.assign(document.createElement('link'), attributes));
   const askModules = (names) => { for (const name of names) ask({ rel: 'modulepreload', href: `/web/${name}.js` }); };
-  const number = /^\/d\/([0-9]{1,15})(?:\/at\/[0-9]{1,15})?$/i.exec(location.pathname)?.[1];
+  // addresses: written by docs/make-tables from docs/addresses.csv
+  const ADDRESSES = [/^\/d\/([0-9]{1,15})$/i, /^\/d\/([0-9]{1,15})\/at\/([0-9]{1,15})$/i];
+  // end of addresses
+  const number = ADDRESSES.map((form) => form.exec(location.pathname)?.[1]).find(Boolean);
   if (number) {
     ask({ rel: 'preload', as: 'fetch', crossOrigin: 'anonymous', href: `/deposits/${Number(number)}` });
     askModules(DEPOSIT);

@@ -1,5 +1,4 @@
-// Which page the address names, and the keys. An address names what is shown: `/d/7/at/30`, `/c/3`, `/o/B3-S23/xq4_153`. Those that
-// have a page are in the gateway's site too (deploy/templates/gateway/life-site.conf).
+// Which page the address names, and the keys. An address names what is shown: `/d/7/at/30`, `/c/3`, `/o/B3-S23/xq4_153`.
 
 import { go, memberAddress } from './address.js';
 import { againButton, isMember, make, refusal } from './dom.js';
@@ -32,20 +31,47 @@ const later = (name, begin) => async (page, ...given) => {
   if (!page.signal.aborted) await module[begin](page, ...given);
 };
 
+// addresses: written by docs/make-tables from docs/addresses.csv
+const ADDRESSES = {
+  home: /^\/$/i,
+  deposits: /^\/d$/i,
+  after: /^\/d\/after\/([0-9]{1,15})$/i,
+  member: /^\/d\/of\/([a-z0-9-]{1,32})$/i,
+  before: /^\/d\/of\/([a-z0-9-]{1,32})\/before\/([0-9]{1,15})$/i,
+  deposit: /^\/d\/([0-9]{1,15})$/i,
+  generation: /^\/d\/([0-9]{1,15})\/at\/([0-9]{1,15})$/i,
+  new: /^\/new$/i,
+  find: /^\/find$/i,
+  censuses: /^\/c$/i,
+  census: /^\/c\/([0-9]{1,15})$/i,
+  haul: /^\/haul$/i,
+  objects: /^\/o$/i,
+  rule: /^\/o\/([^/]+)$/i,
+  code: /^\/o\/([^/]+)\/([^/]+)$/i,
+  about: /^\/about$/i,
+};
+// end of addresses
+
+const ofMember = (page, member, before) => depositsOf(page, member.toLowerCase(), before);
+
+/** Each page: its address, the link of the site's head that leads to its part, and what shows it. */
 const PAGES = [
-  [/^\/$/i, 'deposits', later('home', 'homePage')],
-  [/^\/d$/i, 'deposits', (page) => deposits(page)],
-  [/^\/d\/after\/([0-9]{1,15})$/i, 'deposits', deposits],
-  [/^\/d\/of\/([a-z0-9-]{1,32})(?:\/before\/([0-9]{1,15}))?$/i, 'deposits', (page, member, before) => depositsOf(page, member.toLowerCase(), before)],
-  [/^\/d\/([0-9]{1,15})(?:\/at\/([0-9]{1,15}))?$/i, 'deposits', later('deposit', 'depositPage')],
-  [/^\/new$/i, 'new', later('new', 'depositForm')],
-  [/^\/find$/i, 'find', (page) => later('find', 'findPage')(page, location.search.slice(1))],
-  [/^\/c$/i, 'find', later('search', 'censusesPage')],
-  [/^\/c\/([0-9]{1,15})$/i, 'find', later('census', 'censusPage')],
-  [/^\/haul$/i, 'find', later('haul', 'haulPage')],
-  [/^\/o(?:\/([^/]+))?$/i, 'objects', later('catalog', 'catalogPage')],
-  [/^\/o\/([^/]+)\/([^/]+)$/i, 'objects', later('find', 'codePage')],
-  [/^\/about$/i, 'about', later('about', 'aboutPage')],
+  [ADDRESSES.home, 'deposits', later('home', 'homePage')],
+  [ADDRESSES.deposits, 'deposits', (page) => deposits(page)],
+  [ADDRESSES.after, 'deposits', deposits],
+  [ADDRESSES.member, 'deposits', ofMember],
+  [ADDRESSES.before, 'deposits', ofMember],
+  [ADDRESSES.deposit, 'deposits', later('deposit', 'depositPage')],
+  [ADDRESSES.generation, 'deposits', later('deposit', 'depositPage')],
+  [ADDRESSES.new, 'new', later('new', 'depositForm')],
+  [ADDRESSES.find, 'find', (page) => later('find', 'findPage')(page, location.search.slice(1))],
+  [ADDRESSES.censuses, 'find', later('search', 'censusesPage')],
+  [ADDRESSES.census, 'find', later('census', 'censusPage')],
+  [ADDRESSES.haul, 'find', later('haul', 'haulPage')],
+  [ADDRESSES.objects, 'objects', later('catalog', 'catalogPage')],
+  [ADDRESSES.rule, 'objects', later('catalog', 'catalogPage')],
+  [ADDRESSES.code, 'objects', later('find', 'codePage')],
+  [ADDRESSES.about, 'about', later('about', 'aboutPage')],
 ];
 
 const main = document.getElementById('main');

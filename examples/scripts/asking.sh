@@ -23,12 +23,22 @@ end() {
   exit "${2:-1}"
 }
 
-# Ends if a text is no member: 1 to 32 of a-z, 0-9 and -.
+# limits: written by docs/make-tables from docs/limits.csv
+longest_file=1048576
+longest_member=32
+# end of limits
+
+# Ends if a text is no member: some of a-z, 0-9 and -, and not too many.
 judge_member() {
   case $1 in
-    '' | *[!a-z0-9-]*) end "a member is 1 to 32 of a-z, 0-9 and -" 2 ;;
+    '' | *[!a-z0-9-]*) end "a member is 1 to $longest_member of a-z, 0-9 and -" 2 ;;
   esac
-  [ "${#1}" -le 32 ] || end "a member is 1 to 32 of a-z, 0-9 and -" 2
+  [ "${#1}" -le "$longest_member" ] || end "a member is 1 to $longest_member of a-z, 0-9 and -" 2
+}
+
+# Whether a file has more bytes than the archive takes.
+is_too_long() {
+  [ "$(wc -c < "$1")" -gt "$longest_file" ]
 }
 
 # Sets 'url' to the archive's URL without a slash at its end, and 'archive' to the same without a password, for messages.
@@ -95,6 +105,7 @@ number_of() {
 # Prints the fault of a pattern file that has this number.
 fault() {
   case $1 in
+    # faults: written by docs/make-tables from docs/refusals.csv
     1) echo 'too-long: the file has more than 1,048,576 bytes' ;;
     2) echo 'text-limit: a name, an author or a comment of more than 200 bytes, or more than 64 comments' ;;
     3) echo 'no-header: there is no line "x = 3, y = 3" before the body' ;;
@@ -105,6 +116,7 @@ fault() {
     8) echo 'bad-count: a count of 0 or over 1,000,000, one before "!", or one at the end of the file' ;;
     9) echo 'too-wide: a live cell in a column or row over 1023' ;;
     10) echo 'no-end: the body ends without "!"' ;;
+    # end of faults
     *) echo "fault $1 of pattern files" ;;
   esac
 }
@@ -116,12 +128,14 @@ why() {
   [ "$status" != 401 ] || name=password
   case $name in
     bad-pattern) fault "$number" ;;
+    # refusals: written by docs/make-tables from docs/refusals.csv
     token-reused) echo 'token-reused: the token of this request already stands for something else' ;;
-    full) echo 'full: the archive takes no more' ;;
     out-of-limit) echo 'out-of-limit: a generation is 0 to 2048, a limit 1 to 2048' ;;
+    full) echo 'full: the archive takes no more' ;;
     unavailable) echo 'unavailable: the archive could not do it now; give the same command again, nothing is stored twice' ;;
     no-such-page) echo 'no-such-page: the URL is not that of an archive, such as http://localhost:8080' ;;
     password) echo 'password: the club knows its members by passwords; write yours into ~/.netrc' ;;
+    # end of refusals
     '') echo "a reply of status $status, but not from an archive" ;;
     *) echo "$name" ;;
   esac

@@ -1,0 +1,136 @@
+"""The places that docs/make-tables writes: of each file, the part and what it is written from."""
+from __future__ import annotations
+
+from functools import partial
+from typing import Callable, Dict, Iterator, List, NamedTuple, Optional, Tuple
+
+from . import limits, refusals, routes, version
+from .texts import Fault, Read, with_lines, with_marked
+
+# The text of a file, and that text with one part written again.
+Write = Callable[[str], str]
+
+
+class Place(NamedTuple):
+    path: str
+    source: str
+    write: Write
+
+
+class Facts(NamedTuple):
+    """All tables."""
+    limits: limits.Limits
+    refusals: List[refusals.Refusal]
+    routes: List[routes.Route]
+    addresses: List[routes.Address]
+    version: str
+
+
+def read_facts(read: Read) -> Facts:
+    known = limits.read_limits(read)
+    return Facts(known, refusals.read_refusals(read, known), routes.read_routes(read, known), routes.read_addresses(read),
+                 version.read_version(read))
+
+
+def marked(path: str, source: str, name: str, lines: List[str]) -> Place:
+    return Place(path, source, lambda text: with_marked(text, name, lines))
+
+
+def bounded(path: str, source: str, first: str, last: str, lines: List[str]) -> Place:
+    return Place(path, source, lambda text: with_lines(text, first, last, lines))
+
+
+def of_crates(facts: Facts) -> List[Place]:
+    """The sources of `life explain`. They have no comments of ours."""
+    folder, source = "crates/life_words", refusals.PATH
+    names = refusals.help_names(facts.refusals)
+    return [bounded(f"{folder}/src/explain.rt", source, "static EXPLANATIONS:", "];", refusals.rust_table(facts.refusals)),
+            bounded(f"{folder}/specs/Explain.antt", source, "refusal_names =", "∷ []", refusals.specified_names(facts.refusals)),
+            bounded(f"{folder}/src/words.rt", source, "Names:   ", names[-1].split(", ")[-1], names)]
+
+
+def of_pages(facts: Facts) -> List[Place]:
+    """The scripts of the web pages."""
+    named = facts.refusals
+    script, archive = partial(marked, "web/refusals.js", refusals.PATH), partial(refusals.script_keys, named)
+    return [script("refusals", archive("refusal")), script("gateway", archive("gateway")), script("faults", refusals.script_pairs(named)),
+            marked("web/main.js", routes.ADDRESSES, "addresses", routes.script_addresses(facts.addresses, facts.limits)),
+            marked("web/ahead.js", routes.ADDRESSES, "addresses", routes.script_deposit(facts.addresses, facts.limits)),
+            Place("web/limits.js", limits.PATH, lambda _: limits.module(facts.limits))]
+
+
+def of_scripts(facts: Facts) -> List[Place]:
+    """What the scripts of the members share."""
+    script = partial(marked, "examples/scripts/asking.sh")
+    return [script(limits.PATH, "limits", limits.shell_limits(facts.limits)),
+            script(refusals.PATH, "faults", refusals.shell_faults(facts.refusals)),
+            script(refusals.PATH, "refusals", refusals.shell_refusals(facts.refusals))]
+
+
+def of_gateway(facts: Facts) -> List[Place]:
+    """The site of nginx."""
+    site = partial(marked, "deploy/templates/gateway/life-site.conf")
+    return [site(routes.ADDRESSES, "titles", routes.site_titles(facts.addresses, facts.limits)),
+            site(routes.ADDRESSES, "addresses", routes.site_pages(facts.addresses, facts.limits)),
+            site(routes.ROUTES, "fixed routes", routes.site_routes(facts.routes, "fixed")),
+            site(routes.ROUTES, "moving routes", routes.site_routes(facts.routes, "moving"))]
+
+
+def of_documents(facts: Facts) -> List[Place]:
+    """The tables of the documents."""
+    named, source = facts.refusals, refusals.PATH
+    return [marked("docs/API.md", routes.ROUTES, "routes", routes.table(facts.routes)),
+            marked("docs/API.md", source, "refusals", refusals.table_of_refusals(named)),
+            marked("docs/API.md", limits.PATH, "limits", limits.table(facts.limits, "limits")),
+            marked("docs/API.md", limits.PATH, "waits", limits.table(facts.limits, "waits")),
+            marked("docs/FORMATS.md", source, "faults of files", refusals.table_of_faults(named, "file")),
+            marked("docs/FORMATS.md", source, "faults of codes", refusals.table_of_faults(named, "code")),
+            marked("docs/COMMANDS.md", source, "refusals", refusals.table_of_lines(named))]
+
+
+def of_version(facts: Facts) -> List[Place]:
+    return [Place(path, version.PATH, partial(version.with_version, before=before, after=after, version=facts.version))
+            for path, pairs in version.PLACES.items() for before, after in pairs]
+
+
+def places(facts: Facts) -> List[Place]:
+    return [*of_crates(facts), *of_pages(facts), *of_scripts(facts), *of_gateway(facts), *of_documents(facts), *of_version(facts)]
+
+
+def difference(text: str, wanted: str) -> Optional[str]:
+    """The number of the first line that differs, with both lines."""
+    if text == wanted:
+        return None
+    here, there = text.split("\n") + [""], wanted.split("\n") + [""]
+    at = next((at for at, (one, other) in enumerate(zip(here, there)) if one != other), min(len(here), len(there)) - 1)
+    return f"{at + 1}: has '{here[at].strip()[:80]}' in place of '{there[at].strip()[:80]}'"
+
+
+def compare(read: Read) -> Iterator[Optional[str]]:
+    """For each place, and for each limit of a crate, what is wrong with it."""
+    try:
+        facts = read_facts(read)
+    except Fault as fault:
+        yield str(fault)
+        return
+    for place in places(facts):
+        text = read(place.path)
+        try:
+            found = difference(text, place.write(text))
+            yield f"{place.path}:{found}, from {place.source}" if found else None
+        except Fault as fault:
+            yield f"{place.path}: {fault}"
+    yield from limits.compare(facts.limits, read)
+
+
+def written(read: Read) -> Tuple[Dict[str, str], List[str]]:
+    """The text of each file with all its places written, and what could not be written."""
+    texts: Dict[str, str] = {}
+    problems = []
+    for place in places(read_facts(read)):
+        text = texts.get(place.path, read(place.path))
+        try:
+            texts[place.path] = place.write(text)
+        except Fault as fault:
+            problems.append(f"{place.path}: {fault}")
+    return texts, problems

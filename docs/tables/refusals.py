@@ -1,0 +1,128 @@
+"""docs/refusals.csv: each refusal and fault, its number, status and sentence, and what documents and scripts say of it."""
+from __future__ import annotations
+
+import textwrap
+from typing import Dict, List, NamedTuple
+
+from .limits import Limits
+from .texts import Fault, Read, markdown, rows_of
+
+PATH = "docs/refusals.csv"
+# `when` is the cell of API or FORMATS, `script` is what the scripts of the members say, and `command` is the cell of COMMANDS. `step` is the
+# place among what is checked, where that order is not the one of the numbers.
+COLUMNS = ["kind", "number", "name", "status", "sentence", "when", "script", "step", "command"]
+# How a line of `life explain` begins.
+FRONTS = {"refusal": "refusal {number}", "file": "fault {number} of a pattern file", "code": "fault {number} of a code",
+          "program": "program", "gateway": "gateway"}
+# Refusals of the command line that are followed by the name of a fault.
+WITH_FAULT = {"bad-pattern", "bad-code"}
+HELP_COLUMNS = 104
+
+
+class Refusal(NamedTuple):
+    kind: str
+    number: str
+    name: str
+    status: str
+    sentence: str
+    when: str
+    script: str
+    step: str
+    command: str
+
+    def order(self) -> int:
+        return int(self.step or self.number or 0)
+
+
+def read_refusals(read: Read, limits: Limits) -> List[Refusal]:
+    """The rows of the table, with the numbers of limits in place of their names."""
+    rows = [Refusal(*(limits.put_into(row[column]) for column in COLUMNS)) for row in rows_of(read, PATH, COLUMNS)]
+    for row in rows:
+        if row.kind not in FRONTS or not all(text.isdigit() for text in (row.number, row.step) if text):
+            raise Fault(f"{PATH}: {row.kind} {row.name}: no such kind, or a number that is none")
+        # They stand between single quotes in scripts and on the pages.
+        if any(mark in row.sentence + row.script for mark in "'\\\n"):
+            raise Fault(f"{PATH}: {row.kind} {row.name}: the sentence, or that of the scripts, has ' or \\ in it")
+    return rows
+
+
+def of_kind(refusals: List[Refusal], kind: str) -> List[Refusal]:
+    return [row for row in refusals if row.kind == kind]
+
+
+# ---- life explain
+
+def explanations(refusals: List[Refusal]) -> Dict[str, List[str]]:
+    """The lines of each name, by the bytes of the names."""
+    found: Dict[str, List[str]] = {}
+    for row in refusals:
+        status = f", HTTP status {row.status.replace(' ', ', ')}" if row.status else ""
+        found.setdefault(row.name, []).append(f"{FRONTS[row.kind].format(number=row.number)}{status}: {row.sentence}")
+    return dict(sorted(found.items()))
+
+
+def rust_table(refusals: List[Refusal]) -> List[str]:
+    """The table of explain.rt, as `rt fmt` lays it out."""
+    found = explanations(refusals)
+    lines = [f"static EXPLANATIONS: [(&str, &str); {len(found)}] = ["]
+    for name, texts in found.items():
+        quoted = [text.replace('"', '\\"') + "\\n" for text in texts]
+        lines += ["    (", f'        "{name}",', '        "' + "\\\n         ".join(quoted) + '",', "    ),"]
+    return [*lines, "];"]
+
+
+def specified_names(refusals: List[Refusal]) -> List[str]:
+    """The definition of the names in Explain.antt."""
+    names = [f'    codes "{name}" ∷' for name in explanations(refusals)]
+    return ["refusal_names =", *names[:-1], names[-1] + " []"]
+
+
+def help_names(refusals: List[Refusal]) -> List[str]:
+    """The lines of the names in the help of `life explain`."""
+    return textwrap.wrap(", ".join(explanations(refusals)), HELP_COLUMNS, initial_indent="Names:   ", subsequent_indent=" " * 9,
+                         break_on_hyphens=False)
+
+
+# ---- the web pages and the scripts
+
+def script_keys(refusals: List[Refusal], kind: str) -> List[str]:
+    """The entries of an object of refusals.js."""
+    rows = of_kind(refusals, kind)
+    return [f"  {repr(row.name) if '-' in row.name else row.name}: '{row.sentence}'," for row in rows]
+
+
+def script_pairs(refusals: List[Refusal]) -> List[str]:
+    """The entries of the list of faults of refusals.js. A fault's number is its place in the list, so there is none at 0."""
+    return ["  null,", *(f"  ['{row.name}', '{row.sentence}']," for row in of_kind(refusals, "file"))]
+
+
+def shell_faults(refusals: List[Refusal]) -> List[str]:
+    """The branches of asking.sh for the faults of pattern files."""
+    return [f"    {row.number}) echo '{row.name}: {row.script}' ;;" for row in of_kind(refusals, "file")]
+
+
+def shell_refusals(refusals: List[Refusal]) -> List[str]:
+    """The branches of asking.sh for the refusals that the scripts explain."""
+    rows = of_kind(refusals, "refusal") + of_kind(refusals, "gateway")
+    return [f"    {row.name}) echo '{row.name}: {row.script}' ;;" for row in rows if row.script]
+
+
+# ---- documents
+
+def table_of_refusals(refusals: List[Refusal]) -> List[str]:
+    return markdown("Number | Name | Status | When",
+                    [f"{row.number} | `{row.name}` | {row.status} | {row.when}" for row in of_kind(refusals, "refusal")])
+
+
+def table_of_faults(refusals: List[Refusal], kind: str) -> List[str]:
+    """The table of the faults of files or of codes, in the order in which they are judged."""
+    rows = sorted(of_kind(refusals, kind), key=Refusal.order)
+    return markdown("Number | Name | When", [f"{row.number} | `{row.name}` | {row.when}" for row in rows])
+
+
+def table_of_lines(refusals: List[Refusal]) -> List[str]:
+    """The table of what the commands print. Refusals of one step with one cell share a row."""
+    shared: Dict[str, List[str]] = {}
+    for row in sorted((row for row in refusals if row.command), key=Refusal.order):
+        shared.setdefault(row.command, []).append(f"`refused: {row.name}{' NAME' if row.name in WITH_FAULT else ''}`")
+    return markdown("Line, in the order in which a command checks | When", [f"{', '.join(names)} | {cell}" for cell, names in shared.items()])

@@ -1,0 +1,67 @@
+"""Tables and the texts that repeat them: reading both, and replacing a part of a text."""
+from __future__ import annotations
+
+import csv
+import os
+import re
+from typing import Callable, Dict, List, Sequence
+
+TOP = os.path.normpath(os.path.join(os.path.dirname(os.path.abspath(__file__)), "..", ".."))
+
+# Gives the text of a file by its path from the top of the repository. The check of tests/documents gives changed texts.
+Read = Callable[[str], str]
+
+
+class Fault(Exception):
+    """What is wrong with a table, or missing in a text, and what to do about it."""
+
+
+def read_file(path: str) -> str:
+    """The text of a file. One that is not there yet has none."""
+    try:
+        with open(os.path.join(TOP, path), encoding="utf-8", newline="") as file:
+            return file.read()
+    except FileNotFoundError:
+        return ""
+
+
+def write_file(path: str, text: str) -> None:
+    with open(os.path.join(TOP, path), "w", encoding="utf-8", newline="") as file:
+        file.write(text)
+
+
+def rows_of(read: Read, path: str, columns: Sequence[str]) -> List[Dict[str, str]]:
+    """The rows of a table with exactly these columns."""
+    lines = read(path).splitlines()
+    if not lines or lines[0] != ",".join(columns):
+        raise Fault(f"{path}: its first line has to be {','.join(columns)}")
+    rows = list(csv.DictReader(lines, restval=""))
+    for row in rows:
+        if None in row:
+            raise Fault(f"{path}: too many cells: {', '.join(list(row.values())[:3])}")
+    return rows
+
+
+def markdown(header: str, rows: List[str]) -> List[str]:
+    """A table of a document. Cells are separated by ' | '."""
+    rule = " | ".join("---" for _ in header.split(" | "))
+    return ["", *(f"| {row} |" for row in [header, rule, *rows]), ""]
+
+
+def with_marked(text: str, name: str, lines: List[str]) -> str:
+    """The text with these lines between the two comments of that name."""
+    mark = r"(?m)^[ \t]*(?://|#|<!--) "
+    begin = re.search(mark + re.escape(name) + r": written by docs/make-tables from .*\n", text)
+    end = re.search(mark + f"end of {re.escape(name)}(?: -->)?$", text)
+    if not begin or not end or end.start() < begin.end():
+        raise Fault(f"no comments '{name}: written by docs/make-tables from ..' and 'end of {name}'")
+    return text[:begin.end()] + "".join(line + "\n" for line in lines) + text[end.start():]
+
+
+def with_lines(text: str, first: str, last: str, lines: List[str]) -> str:
+    """The text with these lines in place of those from the one that begins with `first` to the next that ends with `last`. For files that
+    may have no comments of ours."""
+    found = re.search(rf"(?ms)^{re.escape(first)}.*?{re.escape(last)}$", text)
+    if not found:
+        raise Fault(f"no lines from '{first}' to '{last}'")
+    return text[:found.start()] + "\n".join(lines) + text[found.end():]

@@ -1,6 +1,7 @@
 // What the archive is, how to use it, and the words that its pages use.
 
-import { make } from './dom.js';
+import { counted, make } from './dom.js';
+import { GENERATION_LIMIT, LONGEST_SIDE } from './limits.js';
 
 const link = (href, text) => make('a', { href }, text);
 const code = (text) => make('code', {}, text);
@@ -11,10 +12,10 @@ const sections = () => [
     ['Drop an RLE file on any page, paste its text, or choose it at ', link('/new', 'Deposit a file'), '. The page draws it and, before sending anything, reports any error with its line number. '
       + 'You need no account, only a name for yourself. Some clubs also ask for a password.'],
     ['A deposit gets a number and keeps it. Nothing can be changed or deleted later, so give a pattern its name first. Depositing the same file twice does no harm: it keeps its first number.'],
-    ['The archive takes rules such as B3/S23, up to 1,024 by 1,024 cells and 1 MiB. It does not take Generations, isotropic (Hensel) and LifeHistory rules, rules with B0, or bounded grids.'],
+    [`The archive takes rules such as B3/S23, up to ${counted(LONGEST_SIDE)} by ${counted(LONGEST_SIDE)} cells and 1 MiB. It does not take Generations, isotropic (Hensel) and LifeHistory rules, rules with B0, or bounded grids.`],
   ]],
   ['play', 'Play it', [
-    ['Space plays and pauses; the arrow keys step. ', make('kbd', {}, 'Run to'), ' plays to a generation, forward or back. The last generation is 2,048; from there you can deposit what you see and play on.'],
+    ['Space plays and pauses; the arrow keys step. ', make('kbd', {}, 'Run to'), ` plays to a generation, forward or back. The last generation is ${counted(GENERATION_LIMIT)}; from there you can deposit what you see and play on.`],
     ['While a pattern plays, your browser computes the generations. Every hundredth, and the one where you stop, is compared with the archive’s answer, and the page says whether they are the same.'],
     ['Click the pattern, and the wheel zooms; until then it scrolls the page. Two fingers on a trackpad or a screen zoom at any time. Drag to move.'],
   ]],

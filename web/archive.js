@@ -2,6 +2,7 @@
 // again with its token; a census is not, since it may be what the archive is held by.
 
 import { indexHead } from './index.js';
+import { LONGEST_LIST } from './limits.js';
 import { Refused, refusalOf } from './refusals.js';
 import { readFile } from './rle.js';
 import { rulePart } from './rule.js';
@@ -9,9 +10,6 @@ import { rulePart } from './rule.js';
 const TOGETHER = 4;
 const PAUSES = [500, 1000, 2000];
 const SEND_PAUSES = [1000, 2000, 4000];
-const PAGE = 100;
-
-export const LAST_GENERATION = 2048;
 
 const pause = (time, signal) => new Promise((resolve, reject) => {
   const stopped = () => reject(signal.reason);
@@ -107,7 +105,7 @@ export async function generation(number, at, signal) {
   return { bytes, record: recordOf(bytes) };
 }
 
-/** The deposits with a greater number, at most 100 of them, by number. */
+/** The deposits with a greater number, at most LONGEST_LIST of them, by number. */
 export async function depositsAfter(number, signal) {
   return parsed(await read(`/deposits/after/${number}`, signal), 'deposits').deposits;
 }
@@ -149,7 +147,7 @@ let seen = 0;
 
 /** Where lists are asked for, of which one may be the last: at first far apart, then between the bounds that are known. */
 function probes(low, high) {
-  if (high === Infinity) return [10, 100, 1000, 10_000].map((lists) => low + lists * PAGE);
+  if (high === Infinity) return [10, 100, 1000, 10_000].map((lists) => low + lists * LONGEST_LIST);
   return [1, 2, 3, 4].map((part) => Math.floor(low + (high - low) * part / 5));
 }
 
@@ -165,7 +163,7 @@ export async function lastDeposit(signal) {
     for (const [at, rows] of lists.entries()) {
       if (rows.length === 0) high = Math.min(high, begins[at]);
       else low = Math.max(low, rows.at(-1).id);
-      if (rows.length > 0 && rows.length < PAGE) high = low;
+      if (rows.length > 0 && rows.length < LONGEST_LIST) high = low;
     }
   }
   seen = low;

@@ -1,9 +1,9 @@
 // The buttons under the canvas of a deposit, and the keys that do the same.
 
 import { depositAddress, go } from './address.js';
-import { LAST_GENERATION } from './archive.js';
 import { counted, icon, make } from './dom.js';
 import { keepSetting, setting } from './kept.js';
+import { GENERATION_LIMIT } from './limits.js';
 
 /** Generations a second. From 120 on each of 60 pictures a second goes several generations on, 32 at most. */
 const SPEEDS = [1, 2, 5, 10, 20, 40, 60, 120, 240, 480, 960, 1920];
@@ -25,7 +25,7 @@ function speedPart(player) {
 
 /** Running to a generation. */
 function runPart(player) {
-  const goal = make('input', { id: 'run-to', type: 'number', min: 0, max: LAST_GENERATION, inputmode: 'numeric', 'aria-label': 'Run to generation' });
+  const goal = make('input', { id: 'run-to', type: 'number', min: 0, max: GENERATION_LIMIT, inputmode: 'numeric', 'aria-label': 'Run to generation' });
   goal.value = FIRST_GOAL;
   return pair(button('Run to this generation, on or back', 'Run to', () => player.runTo(Math.trunc(Number(goal.value))), { id: 'run' }), goal);
 }
@@ -71,8 +71,8 @@ export function controls(player, view, ages) {
   const play = button('Play', icon('play'), () => toggle(1), { class: 'main', id: 'play' });
   const back = button('Play back', icon('back'), () => toggle(-1), { id: 'back' });
   const toggle = (direction) => (player.direction === direction ? player.pause() : player.play(direction));
-  const number = make('input', { id: 'generation', type: 'number', min: 0, max: LAST_GENERATION, inputmode: 'numeric', change: () => player.go(Number(number.value)) });
-  const slider = make('input', { id: 'slider', type: 'range', min: 0, max: LAST_GENERATION, list: 'ticks', 'aria-label': 'Generation', change: () => player.go(Number(slider.value)), input: () => { number.value = slider.value; } });
+  const number = make('input', { id: 'generation', type: 'number', min: 0, max: GENERATION_LIMIT, inputmode: 'numeric', change: () => player.go(Number(number.value)) });
+  const slider = make('input', { id: 'slider', type: 'range', min: 0, max: GENERATION_LIMIT, list: 'ticks', 'aria-label': 'Generation', change: () => player.go(Number(slider.value)), input: () => { number.value = slider.value; } });
   const step = make('select', { id: 'step-size' }, STEPS.map((size) => make('option', { value: size }, size)));
   const { parts, take } = backPart(player);
   const { zooms, fit, marks } = viewParts(view, ages);
@@ -95,7 +95,7 @@ export function controls(player, view, ages) {
 export function keysOf(page, player, view, toggle, next) {
   Object.assign(page.keys, {
     ' ': () => (player.direction === 0 ? toggle(1) : player.pause()), b: () => toggle(-1), ArrowRight: () => player.step(1), ArrowLeft: () => player.step(-1),
-    Home: () => player.go(0), End: () => player.go(LAST_GENERATION), '+': () => view.zoomStep(1), '=': () => view.zoomStep(1), '-': () => view.zoomStep(-1), 0: () => view.fit(),
+    Home: () => player.go(0), End: () => player.go(GENERATION_LIMIT), '+': () => view.zoomStep(1), '=': () => view.zoomStep(1), '-': () => view.zoomStep(-1), 0: () => view.fit(),
     'shift ArrowLeft': () => view.pan(-0.1, 0), 'shift ArrowRight': () => view.pan(0.1, 0), 'shift ArrowUp': () => view.pan(0, -0.1), 'shift ArrowDown': () => view.pan(0, 0.1),
     ']': () => { if (next()) go(depositAddress(next().id)); },
   });

@@ -2,13 +2,14 @@
 
 import { censusAddress, depositAddress, go, memberAddress, objectAddress } from './address.js';
 import { Ages } from './ages.js';
-import { LAST_GENERATION, deposit, depositRows, kind, sendCensus } from './archive.js';
+import { deposit, depositRows, kind, sendCensus } from './archive.js';
 import { noteOf } from './brought.js';
 import { objectNames } from './code.js';
 import { commentsPart } from './comments.js';
 import { controls, keysOf } from './controls.js';
 import { Plot } from './plot.js';
 import { addLater, againButton, copyButton, counted, field, isMember, make, many, memberInput, refusal, rememberMember } from './dom.js';
+import { GENERATION_LIMIT, PERIOD_LIMIT } from './limits.js';
 import { saveSection } from './picture.js';
 import { Player } from './player.js';
 import { Refused } from './refusals.js';
@@ -39,7 +40,7 @@ function kindText(found, limit) {
 function kindParts(number, record, page, periodic) {
   const said = make('span', {}, '…');
   const code = make('span', {}, '…');
-  const limit = make('input', { id: 'limit', type: 'number', min: 1, max: LAST_GENERATION, required: true, inputmode: 'numeric' });
+  const limit = make('input', { id: 'limit', type: 'number', min: 1, max: PERIOD_LIMIT, required: true, inputmode: 'numeric' });
   limit.value = USUAL_LIMIT;
   const ask = async (event) => {
     event?.preventDefault();
@@ -68,7 +69,7 @@ function kindParts(number, record, page, periodic) {
 /** Asks for a census of the generation that is shown. Its token is made of what is asked for, as that of examples/scripts/census-all. */
 function censusPart(shown, page) {
   const name = memberInput('census-member');
-  const limit = make('input', { id: 'census-limit', type: 'number', min: 1, max: LAST_GENERATION, required: true, inputmode: 'numeric' });
+  const limit = make('input', { id: 'census-limit', type: 'number', min: 1, max: PERIOD_LIMIT, required: true, inputmode: 'numeric' });
   limit.value = USUAL_LIMIT;
   const said = make('div');
   const send = make('button', { id: 'count' }, 'Count the objects');
@@ -161,8 +162,8 @@ class Stage {
   /** Said at the last generation, also if it is to be played from there. */
   async ended() {
     await this.player.show(this.player.at);
-    if (this.player.at < LAST_GENERATION) return;
-    this.end.replaceChildren(`${counted(LAST_GENERATION)} is the last generation here. To see more: `, this.text.depositPart());
+    if (this.player.at < GENERATION_LIMIT) return;
+    this.end.replaceChildren(`${counted(GENERATION_LIMIT)} is the last generation here. To see more: `, this.text.depositPart());
   }
 
   #saidScrolled = false;
@@ -213,9 +214,9 @@ export async function depositPage(page, given, at = '0') {
     make('dl', { class: 'facts' }, list.map(([term, told]) => make('div', {}, make('dt', {}, term), make('dd', {}, told)))),
     make('div', { class: 'columns' }, ...text.parts(), saveSection(number, record, () => text.whole, page), censusPart(text, page)),
     censuses, neighbours(number, rows)].filter(Boolean));
-  await player.show(Math.min(Number(at), LAST_GENERATION));
+  await player.show(Math.min(Number(at), GENERATION_LIMIT));
   view.fit();
   player.preload();
   addLater(page, censuses, censusesSection(page, number));
-  if (Number(at) > LAST_GENERATION) stage.said.replaceChildren(refusal(new Refused('out-of-limit')));
+  if (Number(at) > GENERATION_LIMIT) stage.said.replaceChildren(refusal(new Refused('out-of-limit')));
 }

@@ -1,6 +1,7 @@
 // Making elements, and what several pages have.
 
 import { keepSetting, setting } from './kept.js';
+import { LONGEST_MEMBER, LONGEST_TOKEN } from './limits.js';
 import { nameOf, Refused, sentenceOf } from './refusals.js';
 
 /** An element with attributes (a function is a listener, `true` an attribute without a value) and with what is in it. */
@@ -71,7 +72,7 @@ export function copyButton(label, text, say) {
 
 /** A field for a member's name, with the one that was used last, which this browser alone keeps, if it keeps anything. */
 export function memberInput(id) {
-  const input = make('input', { id, name: 'member', required: true, maxlength: 32, autocomplete: 'username', autocapitalize: 'none', spellcheck: 'false' });
+  const input = make('input', { id, name: 'member', required: true, maxlength: LONGEST_MEMBER, autocomplete: 'username', autocapitalize: 'none', spellcheck: 'false' });
   input.value = setting('member') ?? '';
   return input;
 }
@@ -89,7 +90,7 @@ export function addLater(page, place, coming) {
   coming.then((parts) => { if (!page.signal.aborted) place.append(...parts); }, () => {});
 }
 
-const MEMBER = /^[a-z0-9-]{1,32}$/;
-const TOKEN = /^[A-Za-z0-9-]{1,64}$/;
+const MEMBER = new RegExp(`^[a-z0-9-]{1,${LONGEST_MEMBER}}$`);
+const TOKEN = new RegExp(`^[A-Za-z0-9-]{1,${LONGEST_TOKEN}}$`);
 export const isMember = (text) => MEMBER.test(text);
 export const isToken = (text) => TOKEN.test(text);

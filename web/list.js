@@ -6,12 +6,12 @@ import { counted, field, isMember, make, many, refusal } from './dom.js';
 import { thumbnail } from './draw.js';
 import { allDeposits, indexHead, indexNote } from './index.js';
 import { keepPlace, place } from './kept.js';
+import { LONGEST_LIST, LONGEST_MEMBER } from './limits.js';
 import { Refused } from './refusals.js';
 
 const SHOWN = 24;
 const WIDTH = 176;
 const HEIGHT = 120;
-const BLOCK = 100;
 /** How many lists are asked for at once, in looking for the deposits of a member. */
 const TOGETHER = 4;
 
@@ -56,7 +56,7 @@ export function cards(page, rows) {
 function forms(page, after, member) {
   const number = make('input', { id: 'after', type: 'number', min: 0, inputmode: 'numeric', required: true });
   number.value = after ?? '';
-  const name = make('input', { id: 'of', maxlength: 32, autocapitalize: 'none', spellcheck: 'false', required: true });
+  const name = make('input', { id: 'of', maxlength: LONGEST_MEMBER, autocapitalize: 'none', spellcheck: 'false', required: true });
   name.value = member ?? '';
   const byNumber = (event) => {
     event.preventDefault();
@@ -140,7 +140,7 @@ async function newer(after, signal) {
   for (;;) {
     const rows = await depositsAfter(found.at(-1)?.id ?? after, signal);
     found.push(...rows);
-    if (rows.length < BLOCK) return found;
+    if (rows.length < LONGEST_LIST) return found;
   }
 }
 
@@ -154,10 +154,10 @@ async function indexedOf(head, member, said, signal) {
 /** The same without an index: all lists are looked through. */
 async function listedOf(member, said, signal) {
   const found = [];
-  for (let before = await lastDeposit(signal) + 1; before > 1; before -= TOGETHER * BLOCK) {
+  for (let before = await lastDeposit(signal) + 1; before > 1; before -= TOGETHER * LONGEST_LIST) {
     said.replaceChildren(`Looking through the lists: ${many(found.length, 'deposit')} so far, ${counted(before - 1)} to look at…`);
-    const begins = Array.from({ length: TOGETHER }, (_, at) => before - 1 - (at + 1) * BLOCK).filter((begin) => begin > -BLOCK);
-    const lists = await Promise.all(begins.map((begin) => depositsAfter(Math.max(0, begin), signal).then((rows) => rows.filter((row) => row.id <= begin + BLOCK).reverse())));
+    const begins = Array.from({ length: TOGETHER }, (_, at) => before - 1 - (at + 1) * LONGEST_LIST).filter((begin) => begin > -LONGEST_LIST);
+    const lists = await Promise.all(begins.map((begin) => depositsAfter(Math.max(0, begin), signal).then((rows) => rows.filter((row) => row.id <= begin + LONGEST_LIST).reverse())));
     found.push(...lists.flat().filter((row) => row.member === member));
   }
   return found;

@@ -6,9 +6,10 @@ import { sendDeposit } from './archive.js';
 import { counted, field, isMember, make, many, memberInput, refusal, rememberMember } from './dom.js';
 import { thumbnail } from './draw.js';
 import { draft, keepDraft } from './kept.js';
+import { LONGEST_FILE, LONGEST_TEXT } from './limits.js';
 import { baseName, pathOf, withTexts } from './names.js';
 import { Refused, sentenceOf } from './refusals.js';
-import { Fault, LONGEST, readFile } from './rle.js';
+import { Fault, readFile } from './rle.js';
 import { ruleText } from './rule.js';
 import { sumOf } from './sum.js';
 
@@ -35,9 +36,9 @@ class Row {
 
   /** Reads the file, and draws it or says its fault. */
   async read() {
-    this.bytes = new Uint8Array(this.file.size > LONGEST ? 0 : await this.file.arrayBuffer());
+    this.bytes = new Uint8Array(this.file.size > LONGEST_FILE ? 0 : await this.file.arrayBuffer());
     try {
-      if (this.file.size > LONGEST) throw new Fault(1);
+      if (this.file.size > LONGEST_FILE) throw new Fault(1);
       this.record = readFile(this.bytes);
       const { pattern, name, rule } = this.record;
       this.facts.replaceChildren(`${name ? `${name}: ` : ''}${many(pattern.population, 'cell')}, ${pattern.width} by ${pattern.height}, ${ruleText(rule)}`);
@@ -117,7 +118,7 @@ export class Table {
   constructor(page) {
     this.page = page;
     this.member = memberInput('many-member');
-    this.author = make('input', { id: 'many-author', maxlength: 200, autocomplete: 'off' });
+    this.author = make('input', { id: 'many-author', maxlength: LONGEST_TEXT, autocomplete: 'off' });
     this.name = make('input', { id: 'many-name', type: 'checkbox' });
     this.send = make('button', { class: 'main', id: 'send-many' });
     this.bar = make('progress', { hidden: true, 'aria-label': 'Files that are done' });

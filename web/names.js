@@ -1,10 +1,11 @@
 // The files of a folder, and names and authors that are written into a file which has none (docs/FORMATS.md, Pattern files): `#N` and `#O`
 // before its first line.
 
-const LONGEST_TEXT = 200;
+import { LONGEST_TEXT } from './limits.js';
+
 const bytesOf = (text) => new TextEncoder().encode(text);
 
-/** A text as one line of at most 200 bytes, without what is cut in a character. */
+/** A text as one line of at most LONGEST_TEXT bytes, without what is cut in a character. */
 function oneLine(text) {
   const plain = text.replace(/[\r\n\t]+/g, ' ').trim();
   return new TextDecoder().decode(bytesOf(plain).subarray(0, LONGEST_TEXT)).replace(/\ufffd+$/, '').trim();

@@ -6,10 +6,11 @@ import { lastDeposit, sendDeposit } from './archive.js';
 import { field, isMember, isToken, make, many, memberInput, refusal, rememberMember } from './dom.js';
 import { thumbnail } from './draw.js';
 import { draft, keepDraft } from './kept.js';
+import { LONGEST_FILE, LONGEST_MEMBER, LONGEST_SIDE, LONGEST_TEXT, LONGEST_TOKEN } from './limits.js';
 import { Table, forgetTable, keptTable } from './many.js';
 import { baseName, patternsOf, withTexts } from './names.js';
 import { Refused } from './refusals.js';
-import { Fault, LONGEST, readFile } from './rle.js';
+import { Fault, readFile } from './rle.js';
 import { ruleText } from './rule.js';
 import { sumOf } from './sum.js';
 
@@ -39,7 +40,7 @@ class Content {
   }
 
   #textInput(id, placeholder) {
-    return make('input', { id, maxlength: 200, autocomplete: 'off', placeholder, input: () => this.#compose() });
+    return make('input', { id, maxlength: LONGEST_TEXT, autocomplete: 'off', placeholder, input: () => this.#compose() });
   }
 
   /** Takes bytes as they came. */
@@ -74,7 +75,7 @@ class Content {
   #compose() {
     const { name, author } = this.texts;
     this.bytes = this.record ? withTexts(this.own, this.record, name.value, author.value) : this.own;
-    this.token.value = this.bytes.length === 0 || this.bytes.length > LONGEST ? '' : sumOf(this.bytes);
+    this.token.value = this.bytes.length === 0 || this.bytes.length > LONGEST_FILE ? '' : sumOf(this.bytes);
   }
 
   /** Takes a file's fault alone: the file is not read. */
@@ -110,7 +111,7 @@ class Content {
 
 /** Takes a file. One that is too long is not read, since a large one would hold the page for long. */
 async function takeFile(content, file, page) {
-  const isTooLong = file.size > LONGEST;
+  const isTooLong = file.size > LONGEST_FILE;
   content.fileName = file.name ?? '';
   if (isTooLong) content.takeFault(new Fault(TOO_LONG));
   else content.take(new Uint8Array(await file.arrayBuffer()), true);
@@ -127,7 +128,7 @@ function dropPart(content, take) {
   });
   return make('div', { class: 'drop' }, make('p', {}, make('label', { for: 'file' }, 'Drop files or a folder on this page, or choose files: '), chooser),
     make('p', {}, make('label', { for: 'folder' }, 'A folder: '), folder),
-    field('Or paste a file’s text', content.text, 'RLE, as Golly and the LifeWiki have it: at most 1 MiB, in 1024 by 1024.'));
+    field('Or paste a file’s text', content.text, `RLE, as Golly and the LifeWiki have it: at most 1 MiB, in ${LONGEST_SIDE} by ${LONGEST_SIDE}.`));
 }
 
 /** Sends the content, and goes to the deposit that it is then. */
@@ -171,7 +172,7 @@ function singlePart(content, token, page) {
     }
   };
   const part = make('div', {}, field('Name', content.texts.name, 'A name and an author are written into a file that has none.'), make('p', {}, content.offer),
-    field('Author', content.texts.author), field('Member', name, 'Your name here: 1 to 32 of a to z, 0 to 9 and "-".'),
+    field('Author', content.texts.author), field('Member', name, `Your name here: 1 to ${LONGEST_MEMBER} of a to z, 0 to 9 and "-".`),
     make('details', {}, make('summary', {}, 'Token'), field('Token', token, 'Made of the file. Sent again under the same token, a file is kept once.')), button, said);
   return { part, submit };
 }
@@ -202,7 +203,7 @@ function takerOf(form, single, content, page) {
 export function depositForm(page) {
   page.title('Deposit a file');
   const text = make('textarea', { id: 'pattern', rows: 10, spellcheck: 'false', autocapitalize: 'none', autocomplete: 'off', placeholder: 'x = 3, y = 3, rule = B3/S23\nbo$2bo$3o!' });
-  const token = make('input', { id: 'token', maxlength: 64, autocapitalize: 'none', autocomplete: 'off', spellcheck: 'false' });
+  const token = make('input', { id: 'token', maxlength: LONGEST_TOKEN, autocapitalize: 'none', autocomplete: 'off', spellcheck: 'false' });
   const content = new Content(text, token, make('div', { class: 'preview', 'aria-live': 'polite' }));
   const { part, submit } = singlePart(content, token, page);
   const form = make('form', { class: 'deposit', submit }, make('div', {}, dropPart(content, (files) => page.taken(files)), part), content.preview);

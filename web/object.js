@@ -2,6 +2,7 @@
 
 import { copyButton, make, many } from './dom.js';
 import { thumbnail } from './draw.js';
+import { LONGEST_LINE } from './limits.js';
 import { Maker } from './maker.js';
 import { save } from './picture.js';
 import { readRule, ruleText } from './rule.js';
@@ -10,7 +11,6 @@ const SIDE = 120;
 const MOST_PHASES = 60;
 /** How long a phase is shown, in milliseconds. */
 const SHOWN = 250;
-const LONGEST_LINE = 70;
 
 /** The items of a body: runs, and the row ends between rows with live cells. */
 function itemsOf(pattern) {

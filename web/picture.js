@@ -1,15 +1,15 @@
 // Pictures to keep, made in the page: the SVG documents that `life-draw svg` and `life-draw animation` make (docs/FORMATS.md, Pictures),
 // and a PNG.
 
-import { LAST_GENERATION, generation } from './archive.js';
+import { generation } from './archive.js';
 import { make, refusal } from './dom.js';
 import { paint } from './draw.js';
+import { GENERATION_LIMIT, MOST_FRAMES } from './limits.js';
 import { Maker, isSame } from './maker.js';
 import { Refused } from './refusals.js';
 
 const LONGEST_SIDE = 2048;
 const LARGEST_CELL = 16;
-const MOST_FRAMES = 240;
 // How long a frame is shown, in milliseconds.
 const FRAME_TIME = 125;
 const SHADES = { live: 0xff000000, dead: 0xffffffff, grid: 0xffffffff };
@@ -60,10 +60,10 @@ export function animationOf(frames, title) {
 /** So many generations of a deposit from one on, as the archive answers each, with their places by the page's own steps. */
 async function framesOf(number, record, from, count, signal) {
   const end = new AbortController();
-  const maker = new Maker(record, LAST_GENERATION, AbortSignal.any([signal, end.signal]));
+  const maker = new Maker(record, GENERATION_LIMIT, AbortSignal.any([signal, end.signal]));
   try {
     const frames = [];
-    for (let at = from; at < from + count && at <= LAST_GENERATION; at += 1) {
+    for (let at = from; at < from + count && at <= GENERATION_LIMIT; at += 1) {
       const [{ record: { pattern } }, made] = await Promise.all([generation(number, at, signal), maker.get(at)]);
       if (!isSame(pattern, made.pattern)) throw new Refused('unknown');
       frames.push({ pattern, corner: made.corner });

@@ -1,7 +1,8 @@
 // Playing a deposit. What is shown at rest is the archive's own answer. While it plays the page makes the generations by itself (maker.js):
 // each hundredth, and the one at which it stops, is compared with the archive's.
 
-import { LAST_GENERATION, generation } from './archive.js';
+import { generation } from './archive.js';
+import { GENERATION_LIMIT } from './limits.js';
 import { Maker, isSame } from './maker.js';
 import { nextCorner } from './pattern.js';
 
@@ -32,7 +33,7 @@ export class Player {
   period = null;
   isLoop = false;
   /** The generation at which playing stops. */
-  until = LAST_GENERATION;
+  until = GENERATION_LIMIT;
   #maker = null;
   #isDoubted = false;
 
@@ -67,7 +68,7 @@ export class Player {
     const many = this.direction === 0 ? 4 : Math.max(8, Math.ceil(this.speed * 1.5));
     for (let step = 1; step <= many && this.#going.size < TOGETHER; step += 1) {
       const at = this.at + step * direction;
-      if (at < 0 || at > LAST_GENERATION) break;
+      if (at < 0 || at > GENERATION_LIMIT) break;
       if (!this.#known.has(at) && !this.#going.has(at)) this.#fetch(at).then(() => this.#ahead(), () => {});
     }
     for (const at of this.#known.keys()) if (this.#known.size > KEPT && Math.abs(at - this.at) > KEPT / 2) this.#known.delete(at);
@@ -119,7 +120,7 @@ export class Player {
   #worker() {
     if (this.#isDoubted || this.#maker?.ended) return null;
     try {
-      this.#maker ??= new Maker(null, LAST_GENERATION, this.signal);
+      this.#maker ??= new Maker(null, GENERATION_LIMIT, this.signal);
     } catch {
       this.#isDoubted = true;
       return null;
@@ -231,7 +232,7 @@ export class Player {
 
   /** Plays to a generation, on or back, and stops. */
   runTo(at) {
-    const goal = Math.min(Math.max(Math.trunc(at) || 0, 0), LAST_GENERATION);
+    const goal = Math.min(Math.max(Math.trunc(at) || 0, 0), GENERATION_LIMIT);
     if (goal === this.at) return;
     this.play(goal > this.at ? 1 : -1);
     this.until = goal;
@@ -245,7 +246,7 @@ export class Player {
   /** Goes to a generation, and stops. */
   go(at) {
     this.pause();
-    return this.show(Math.min(Math.max(Math.trunc(at) || 0, 0), LAST_GENERATION));
+    return this.show(Math.min(Math.max(Math.trunc(at) || 0, 0), GENERATION_LIMIT));
   }
 
   /** Goes some generations on or back, and stops. */
@@ -255,12 +256,12 @@ export class Player {
 
   play(direction) {
     this.#stop();
-    if (direction > 0 && this.at >= LAST_GENERATION && !(this.isLoop && this.period)) {
+    if (direction > 0 && this.at >= GENERATION_LIMIT && !(this.isLoop && this.period)) {
       this.told.ended();
       return;
     }
     this.direction = direction;
-    this.until = direction > 0 ? LAST_GENERATION : 0;
+    this.until = direction > 0 ? GENERATION_LIMIT : 0;
     this.told.changed();
     this.#next(performance.now());
   }
@@ -277,7 +278,7 @@ export class Player {
     const at = this.#following();
     if (at === null) {
       this.pause();
-      if (this.at >= LAST_GENERATION) this.told.ended();
+      if (this.at >= GENERATION_LIMIT) this.told.ended();
       return;
     }
     const done = await this.#showMade(at);

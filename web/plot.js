@@ -1,12 +1,12 @@
 // The population over time as a small plot: of the generations that were shown, and a press goes to one.
 
-import { LAST_GENERATION } from './archive.js';
 import { counted } from './dom.js';
+import { GENERATION_LIMIT } from './limits.js';
 
 const HEIGHT = 48;
 
 export class Plot {
-  #populations = new Float64Array(LAST_GENERATION + 1).fill(-1);
+  #populations = new Float64Array(GENERATION_LIMIT + 1).fill(-1);
   #most = 1;
   #at = 0;
   #asked = false;
@@ -19,7 +19,7 @@ export class Plot {
     this.canvas.redraw = () => this.#draw();
     this.canvas.addEventListener('click', (event) => {
       const box = this.canvas.getBoundingClientRect();
-      go(Math.round((event.clientX - box.left) / box.width * LAST_GENERATION));
+      go(Math.round((event.clientX - box.left) / box.width * GENERATION_LIMIT));
     });
   }
 
@@ -44,7 +44,7 @@ export class Plot {
     const context = this.canvas.getContext('2d');
     const width = this.canvas.width = Math.max(1, this.canvas.clientWidth);
     this.canvas.height = HEIGHT;
-    const x = (at) => at / LAST_GENERATION * (width - 1);
+    const x = (at) => at / GENERATION_LIMIT * (width - 1);
     context.fillStyle = style.getPropertyValue('--quiet');
     for (const [at, population] of this.#populations.entries()) {
       if (population >= 0) context.fillRect(x(at), HEIGHT - population / this.#most * (HEIGHT - 2), 1, Math.max(1, population / this.#most * (HEIGHT - 2)));

@@ -1,13 +1,8 @@
 // Pattern files (docs/FORMATS.md, Pattern files): the record of a file, or its first fault and the line that has it. The archive
 // judges what is deposited; this draws it before, and what the archive answers.
 
+import { GREATEST_COUNT, LONGEST_FILE, LONGEST_SIDE, LONGEST_TEXT, MOST_COMMENTS } from './limits.js';
 import { LIFE, readRule } from './rule.js';
-
-/** The greatest number of bytes of a file, which is that of the archive. */
-export const LONGEST = 1048576;
-const GREATEST_COUNT = 1000000;
-const MOST_COMMENTS = 64;
-const LONGEST_TEXT = 200;
 
 /** Why a file is refused: the fault's number, and the number of the line, or 0 where it is none in particular. */
 export class Fault extends Error {
@@ -151,9 +146,9 @@ function normal(rows) {
  * The record of a file: its texts, its rule and its pattern. What the archive itself made may be longer and wider than a file: `ours`.
  */
 export function readFile(bytes, { ours = false } = {}) {
-  if (!ours && bytes.length > LONGEST) throw new Fault(1);
+  if (!ours && bytes.length > LONGEST_FILE) throw new Fault(1);
   const notes = new Notes();
-  const body = new Body(ours ? Infinity : 1023);
+  const body = new Body(ours ? Infinity : LONGEST_SIDE - 1);
   let rule = null;
   let last = 0;
   for (const line of linesOf(bytes)) {

@@ -2,11 +2,11 @@
 
 import { depositAddress, go } from './address.js';
 import { copyButton, counted, make } from './dom.js';
+import { LONGEST_SIDE } from './limits.js';
 import { withTexts } from './names.js';
 import { bring } from './brought.js';
 
 /** The longest side of a pattern that the archive takes. */
-const LONGEST_SIDE = 1024;
 
 /** What is to be done with the generation that is shown: its address, its text, a census. It is told of each that is shown. */
 export class Shown {
@@ -61,7 +61,7 @@ export class Shown {
   /** Offers to deposit the generation, so that a longer life can be followed. */
   depositPart() {
     const { pattern } = this.whole.record;
-    if (Math.max(pattern.width, pattern.height) > LONGEST_SIDE) return make('span', {}, `It is ${counted(pattern.width)} by ${counted(pattern.height)}, and the archive takes patterns of up to 1,024 by 1,024.`);
+    if (Math.max(pattern.width, pattern.height) > LONGEST_SIDE) return make('span', {}, `It is ${counted(pattern.width)} by ${counted(pattern.height)}, and the archive takes patterns of up to ${counted(LONGEST_SIDE)} by ${counted(LONGEST_SIDE)}.`);
     const click = () => {
       bring([this.file()]);
       go('/new');

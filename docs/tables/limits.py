@@ -7,8 +7,8 @@ from typing import Dict, Iterator, List, NamedTuple, Optional
 from .texts import Fault, Read, markdown, rows_of
 
 PATH = "docs/limits.csv"
-# The text `before` stands in front of the value in the crate's `file`. Only limits with `web` are constants of the pages. A limit with a
-# `table` has a row in API, in which `cells` follow its meaning.
+# In the crate's `file` the text `before` stands in front of the value. A limit with `web` is a constant of the web
+# pages. One with a `table` has a row in API: its meaning, and the `cells` that follow.
 COLUMNS = ["name", "value", "web", "file", "before", "meaning", "table", "cells"]
 HEADERS = {"limits": "What | Limit", "waits": "What is waited for | Seconds | Then"}
 
@@ -28,7 +28,8 @@ class Limits(Dict[str, Limit]):
     """The limits by their names."""
 
     def put_into(self, text: str) -> str:
-        """The text with numbers in place of names: {LONGEST_SIDE} is 1024, {LONGEST_SIDE-1} is 1023, and {LONGEST_SIDE:,} is 1,024."""
+        """The text with numbers in place of names. {LONGEST_SIDE} is 1024, {LONGEST_SIDE-1} is 1023, {LONGEST_SIDE:,} is
+        1,024."""
         def number(found: re.Match[str]) -> str:
             value = self.named(found[1]).value + int(found[2] or 0)
             return f"{value:,}" if found[3] else written(value)
@@ -49,11 +50,14 @@ def written(value: int) -> str:
 def read_limits(read: Read) -> Limits:
     limits = Limits()
     for row in rows_of(read, PATH, COLUMNS):
-        if not re.fullmatch(r"[A-Z]+(_[A-Z]+)*", row["name"]) or row["name"] in limits or not re.fullmatch(r"[1-9][0-9]*", row["value"]):
-            raise Fault(f"{PATH}: {row['name']}: a name that is no name or is there twice, or a value that is no number")
+        name = row["name"]
+        if not re.fullmatch(r"[A-Z]+(_[A-Z]+)*", name) or name in limits:
+            raise Fault(f"{PATH}: {name}: names are in capitals, each once")
+        if not re.fullmatch(r"[1-9][0-9]*", row["value"]):
+            raise Fault(f"{PATH}: {name}: the value is a number, without commas")
         if row["web"] not in ("", "yes") or row["table"] not in ("", *HEADERS):
-            raise Fault(f"{PATH}: {row['name']}: web is 'yes' or empty, table is one of {', '.join(HEADERS)} or empty")
-        limits[row["name"]] = Limit(**{**row, "value": int(row["value"])})
+            raise Fault(f"{PATH}: {name}: web is yes or empty, table is {' or '.join(HEADERS)} or empty")
+        limits[name] = Limit(name, int(row["value"]), *(row[column] for column in COLUMNS[2:]))
     return limits
 
 
@@ -62,28 +66,30 @@ def compare(limits: Limits, read: Read) -> Iterator[Optional[str]]:
     for limit in limits.values():
         found = re.findall(re.escape(limit.before) + r" ([\d_]+)\b", read(limit.file))
         if len(found) != 1:
-            yield f"{limit.file}: {limit.name}: '{limit.before} NUMBER' is there {len(found)} times; {PATH} says where it is"
+            yield f"{limit.file}: {limit.name}: '{limit.before} NUMBER' is there {len(found)} times, and not once"
         elif int(found[0]) != limit.value:
-            yield f"{limit.file}: {limit.name} is {written(int(found[0]))}, and {written(limit.value)} in {PATH}: change one of them"
+            here, there = written(int(found[0])), written(limit.value)
+            yield f"{limit.file}: {limit.name} is {here}, and {there} in {PATH}: change one of them"
         else:
             yield None
 
 
 def table(limits: Limits, name: str) -> List[str]:
     """A table of API."""
-    rows = [f"{limit.meaning} | {limits.put_into(limit.cells)}" for limit in limits.values() if limit.table == name]
-    return markdown(HEADERS[name], rows)
+    rows = [limit for limit in limits.values() if limit.table == name]
+    return markdown(HEADERS[name], [f"{limit.meaning} | {limits.put_into(limit.cells)}" for limit in rows])
 
 
-def module(limits: Limits) -> str:
+def script_module(limits: Limits) -> str:
     """The constants of the web pages."""
     lines = [f"// The limits of the archive that the pages need. Written by docs/make-tables from {PATH}.", ""]
     for limit in limits.values():
         if limit.web:
-            lines += [f"/** {limit.meaning[0].upper()}{limit.meaning[1:]}. */", f"export const {limit.name} = {written(limit.value).replace(',', '_')};"]
+            value = written(limit.value).replace(",", "_")
+            lines += [f"/** {limit.meaning[0].upper()}{limit.meaning[1:]}. */", f"export const {limit.name} = {value};"]
     return "\n".join(lines) + "\n"
 
 
 def shell_limits(limits: Limits) -> List[str]:
-    """The numbers that the scripts of the members judge by."""
+    """The numbers that the members' scripts judge by."""
     return [f"{name.lower()}={limits.named(name).value}" for name in ("LONGEST_FILE", "LONGEST_MEMBER")]

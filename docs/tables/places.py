@@ -4,7 +4,7 @@ from __future__ import annotations
 from functools import partial
 from typing import Callable, Dict, Iterator, List, NamedTuple, Optional, Tuple
 
-from . import limits, refusals, routes, version
+from . import clauses, limits, refusals, routes, sources, version
 from .texts import Fault, Read, with_lines, with_marked
 
 # The text of a file, and that text with one part written again.
@@ -24,68 +24,92 @@ class Facts(NamedTuple):
     routes: List[routes.Route]
     addresses: List[routes.Address]
     version: str
+    rows: List[clauses.Row]
+    libraries: sources.Libraries
 
 
 def read_facts(read: Read) -> Facts:
     known = limits.read_limits(read)
-    return Facts(known, refusals.read_refusals(read, known), routes.read_routes(read, known), routes.read_addresses(read),
-                 version.read_version(read))
+    return Facts(known, refusals.read_refusals(read, known), routes.read_routes(read, known),
+                 routes.read_addresses(read), version.read_version(read), clauses.read_rows(read, known),
+                 sources.public_clauses(read))
 
 
 def marked(path: str, source: str, name: str, lines: List[str]) -> Place:
+    """The lines between two comments of a file."""
     return Place(path, source, lambda text: with_marked(text, name, lines))
 
 
 def bounded(path: str, source: str, first: str, last: str, lines: List[str]) -> Place:
+    """The lines of a crate's source from one to another: it has no comments for this."""
     return Place(path, source, lambda text: with_lines(text, first, last, lines))
 
 
 def of_crates(facts: Facts) -> List[Place]:
-    """The sources of `life explain`. They have no comments of ours."""
-    folder, source = "crates/life_words", refusals.PATH
-    names = refusals.help_names(facts.refusals)
-    return [bounded(f"{folder}/src/explain.rt", source, "static EXPLANATIONS:", "];", refusals.rust_table(facts.refusals)),
-            bounded(f"{folder}/specs/Explain.antt", source, "refusal_names =", "∷ []", refusals.specified_names(facts.refusals)),
-            bounded(f"{folder}/src/words.rt", source, "Names:   ", names[-1].split(", ")[-1], names)]
+    """The sources of `life explain`."""
+    folder, source, named = "crates/life_words", refusals.PATH, facts.refusals
+    names = refusals.help_names(named)
+    return [
+        bounded(f"{folder}/src/explain.rt", source, "static EXPLANATIONS:", "];", refusals.rust_table(named)),
+        bounded(f"{folder}/specs/Explain.antt", source, "refusal_names =", "∷ []", refusals.specified_names(named)),
+        bounded(f"{folder}/src/words.rt", source, "Names:   ", "\nRefuses: unavailable",
+                [*names, "Refuses: unavailable"]),
+    ]
 
 
 def of_pages(facts: Facts) -> List[Place]:
     """The scripts of the web pages."""
-    named = facts.refusals
-    script, archive = partial(marked, "web/refusals.js", refusals.PATH), partial(refusals.script_keys, named)
-    return [script("refusals", archive("refusal")), script("gateway", archive("gateway")), script("faults", refusals.script_pairs(named)),
-            marked("web/main.js", routes.ADDRESSES, "addresses", routes.script_addresses(facts.addresses, facts.limits)),
-            marked("web/ahead.js", routes.ADDRESSES, "addresses", routes.script_deposit(facts.addresses, facts.limits)),
-            Place("web/limits.js", limits.PATH, lambda _: limits.module(facts.limits))]
+    known, named, source = facts.limits, facts.refusals, refusals.PATH
+    script = partial(marked, "web/refusals.js", source)
+    return [
+        script("refusals", refusals.script_entries(named, "refusal")),
+        script("gateway", refusals.script_entries(named, "gateway")),
+        script("faults", refusals.script_faults(named)),
+        marked("web/main.js", routes.ADDRESSES, "addresses", routes.script_addresses(facts.addresses, known)),
+        marked("web/ahead.js", routes.ADDRESSES, "addresses", routes.script_ahead(facts.addresses, known)),
+        Place("web/limits.js", limits.PATH, lambda _: limits.script_module(known)),
+    ]
 
 
 def of_scripts(facts: Facts) -> List[Place]:
-    """What the scripts of the members share."""
+    """What the members' scripts share."""
     script = partial(marked, "examples/scripts/asking.sh")
-    return [script(limits.PATH, "limits", limits.shell_limits(facts.limits)),
-            script(refusals.PATH, "faults", refusals.shell_faults(facts.refusals)),
-            script(refusals.PATH, "refusals", refusals.shell_refusals(facts.refusals))]
+    return [
+        script(limits.PATH, "limits", limits.shell_limits(facts.limits)),
+        script(refusals.PATH, "faults", refusals.shell_faults(facts.refusals)),
+        script(refusals.PATH, "refusals", refusals.shell_refusals(facts.refusals)),
+    ]
 
 
 def of_gateway(facts: Facts) -> List[Place]:
     """The site of nginx."""
     site = partial(marked, "deploy/templates/gateway/life-site.conf")
-    return [site(routes.ADDRESSES, "titles", routes.site_titles(facts.addresses, facts.limits)),
-            site(routes.ADDRESSES, "addresses", routes.site_pages(facts.addresses, facts.limits)),
-            site(routes.ROUTES, "fixed routes", routes.site_routes(facts.routes, "fixed")),
-            site(routes.ROUTES, "moving routes", routes.site_routes(facts.routes, "moving"))]
+    return [
+        site(routes.ADDRESSES, "titles", routes.site_titles(facts.addresses, facts.limits)),
+        site(routes.ADDRESSES, "addresses", routes.site_pages(facts.addresses, facts.limits)),
+        site(routes.ROUTES, "fixed routes", routes.site_routes(facts.routes, "fixed")),
+        site(routes.ROUTES, "moving routes", routes.site_routes(facts.routes, "moving")),
+    ]
 
 
 def of_documents(facts: Facts) -> List[Place]:
     """The tables of the documents."""
-    named, source = facts.refusals, refusals.PATH
-    return [marked("docs/API.md", routes.ROUTES, "routes", routes.table(facts.routes)),
-            marked("docs/API.md", source, "refusals", refusals.table_of_refusals(named)),
-            marked("docs/API.md", limits.PATH, "limits", limits.table(facts.limits, "limits")),
-            marked("docs/API.md", limits.PATH, "waits", limits.table(facts.limits, "waits")),
-            marked("docs/FORMATS.md", source, "faults of files", refusals.table_of_faults(named, "file")),
-            marked("docs/FORMATS.md", source, "faults of codes", refusals.table_of_faults(named, "code")),
-            marked("docs/COMMANDS.md", source, "refusals", refusals.table_of_lines(named))]
+    known, named, source = facts.limits, facts.refusals, refusals.PATH
+    return [
+        marked("docs/API.md", routes.ROUTES, "routes", routes.table(facts.routes)),
+        marked("docs/API.md", source, "refusals", refusals.table_of_refusals(named)),
+        marked("docs/API.md", limits.PATH, "limits", limits.table(known, "limits")),
+        marked("docs/API.md", limits.PATH, "waits", limits.table(known, "waits")),
+        marked("docs/FORMATS.md", source, "faults of files", refusals.table_of_faults(named, "file")),
+        marked("docs/FORMATS.md", source, "faults of codes", refusals.table_of_faults(named, "code")),
+        marked("docs/COMMANDS.md", source, "refusals", refusals.table_of_lines(named)),
+    ]
+
+
+def of_proofs(facts: Facts) -> List[Place]:
+    """The tables of the libraries in PROOFS."""
+    tables = {crate: clauses.table(facts.rows, crate, facts.libraries) for crate in facts.libraries}
+    return [marked(clauses.PROOFS, clauses.PATH, f"clauses of {crate}", lines) for crate, lines in tables.items()]
 
 
 def of_version(facts: Facts) -> List[Place]:
@@ -94,7 +118,8 @@ def of_version(facts: Facts) -> List[Place]:
 
 
 def places(facts: Facts) -> List[Place]:
-    return [*of_crates(facts), *of_pages(facts), *of_scripts(facts), *of_gateway(facts), *of_documents(facts), *of_version(facts)]
+    parts = (of_crates, of_pages, of_scripts, of_gateway, of_documents, of_proofs, of_version)
+    return [place for part in parts for place in part(facts)]
 
 
 def difference(text: str, wanted: str) -> Optional[str]:
@@ -107,7 +132,7 @@ def difference(text: str, wanted: str) -> Optional[str]:
 
 
 def compare(read: Read) -> Iterator[Optional[str]]:
-    """For each place, and for each limit of a crate, what is wrong with it."""
+    """For each place, and for each limit and each clause of a crate, what is wrong with it."""
     try:
         facts = read_facts(read)
     except Fault as fault:
@@ -120,14 +145,21 @@ def compare(read: Read) -> Iterator[Optional[str]]:
             yield f"{place.path}:{found}, from {place.source}" if found else None
         except Fault as fault:
             yield f"{place.path}: {fault}"
+    yield from compare_with_sources(facts, read)
+
+
+def compare_with_sources(facts: Facts, read: Read) -> Iterator[Optional[str]]:
+    """What no run of docs/make-tables sets right: a crate and a table that say different things."""
     yield from limits.compare(facts.limits, read)
+    yield from clauses.compare(facts.rows, facts.libraries)
 
 
 def written(read: Read) -> Tuple[Dict[str, str], List[str]]:
     """The text of each file with all its places written, and what could not be written."""
+    facts = read_facts(read)
     texts: Dict[str, str] = {}
-    problems = []
-    for place in places(read_facts(read)):
+    problems = [problem for problem in compare_with_sources(facts, read) if problem]
+    for place in places(facts):
         text = texts.get(place.path, read(place.path))
         try:
             texts[place.path] = place.write(text)

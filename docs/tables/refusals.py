@@ -1,4 +1,4 @@
-"""docs/refusals.csv: each refusal and fault, its number, status and sentence, and what documents and scripts say of it."""
+"""docs/refusals.csv: each refusal and fault, its number, status and sentence, and what documents and scripts say."""
 from __future__ import annotations
 
 import textwrap
@@ -8,13 +8,13 @@ from .limits import Limits
 from .texts import Fault, Read, markdown, rows_of
 
 PATH = "docs/refusals.csv"
-# `when` is the cell of API or FORMATS, `script` is what the scripts of the members say, and `command` is the cell of COMMANDS. `step` is the
-# place among what is checked, where that order is not the one of the numbers.
+# `when` is the cell of API or FORMATS, `command` that of COMMANDS, and `script` what the members' scripts say. `step`
+# is the place in the order of checks, if that is not the order of the numbers.
 COLUMNS = ["kind", "number", "name", "status", "sentence", "when", "script", "step", "command"]
-# How a line of `life explain` begins.
+# The kinds in their order, and how a line of `life explain` begins.
 FRONTS = {"refusal": "refusal {number}", "file": "fault {number} of a pattern file", "code": "fault {number} of a code",
           "program": "program", "gateway": "gateway"}
-# Refusals of the command line that are followed by the name of a fault.
+# On the command line these are followed by the name of a fault.
 WITH_FAULT = {"bad-pattern", "bad-code"}
 HELP_COLUMNS = 104
 
@@ -36,13 +36,14 @@ class Refusal(NamedTuple):
 
 def read_refusals(read: Read, limits: Limits) -> List[Refusal]:
     """The rows of the table, with the numbers of limits in place of their names."""
-    rows = [Refusal(*(limits.put_into(row[column]) for column in COLUMNS)) for row in rows_of(read, PATH, COLUMNS)]
+    cells = [[limits.put_into(row[column]) for column in COLUMNS] for row in rows_of(read, PATH, COLUMNS)]
+    rows = [Refusal(*row) for row in cells]
     for row in rows:
         if row.kind not in FRONTS or not all(text.isdigit() for text in (row.number, row.step) if text):
-            raise Fault(f"{PATH}: {row.kind} {row.name}: no such kind, or a number that is none")
-        # They stand between single quotes in scripts and on the pages.
+            raise Fault(f"{PATH}: {row.kind} {row.name}: an unknown kind, or a number or step that is no number")
+        # These texts stand between single quotes in scripts and on the pages.
         if any(mark in row.sentence + row.script for mark in "'\\\n"):
-            raise Fault(f"{PATH}: {row.kind} {row.name}: the sentence, or that of the scripts, has ' or \\ in it")
+            raise Fault(f"{PATH}: {row.kind} {row.name}: sentence and script may not contain ' or \\")
     return rows
 
 
@@ -53,11 +54,12 @@ def of_kind(refusals: List[Refusal], kind: str) -> List[Refusal]:
 # ---- life explain
 
 def explanations(refusals: List[Refusal]) -> Dict[str, List[str]]:
-    """The lines of each name, by the bytes of the names."""
+    """The lines of each name, with the names in byte order."""
     found: Dict[str, List[str]] = {}
     for row in refusals:
         status = f", HTTP status {row.status.replace(' ', ', ')}" if row.status else ""
-        found.setdefault(row.name, []).append(f"{FRONTS[row.kind].format(number=row.number)}{status}: {row.sentence}")
+        line = f"{FRONTS[row.kind].format(number=row.number)}{status}: {row.sentence}"
+        found.setdefault(row.name, []).append(line)
     return dict(sorted(found.items()))
 
 
@@ -79,20 +81,21 @@ def specified_names(refusals: List[Refusal]) -> List[str]:
 
 def help_names(refusals: List[Refusal]) -> List[str]:
     """The lines of the names in the help of `life explain`."""
-    return textwrap.wrap(", ".join(explanations(refusals)), HELP_COLUMNS, initial_indent="Names:   ", subsequent_indent=" " * 9,
-                         break_on_hyphens=False)
+    names = ", ".join(explanations(refusals))
+    front = "Names:   "
+    return textwrap.wrap(front + names, HELP_COLUMNS, subsequent_indent=" " * len(front), break_on_hyphens=False)
 
 
-# ---- the web pages and the scripts
+# ---- the web pages and the members' scripts
 
-def script_keys(refusals: List[Refusal], kind: str) -> List[str]:
+def script_entries(refusals: List[Refusal], kind: str) -> List[str]:
     """The entries of an object of refusals.js."""
-    rows = of_kind(refusals, kind)
-    return [f"  {repr(row.name) if '-' in row.name else row.name}: '{row.sentence}'," for row in rows]
+    keys = {row.name: f"'{row.name}'" if "-" in row.name else row.name for row in refusals}
+    return [f"  {keys[row.name]}: '{row.sentence}'," for row in of_kind(refusals, kind)]
 
 
-def script_pairs(refusals: List[Refusal]) -> List[str]:
-    """The entries of the list of faults of refusals.js. A fault's number is its place in the list, so there is none at 0."""
+def script_faults(refusals: List[Refusal]) -> List[str]:
+    """The list of faults of refusals.js. A fault's number is its index, so there is none at 0."""
     return ["  null,", *(f"  ['{row.name}', '{row.sentence}']," for row in of_kind(refusals, "file"))]
 
 
@@ -110,8 +113,9 @@ def shell_refusals(refusals: List[Refusal]) -> List[str]:
 # ---- documents
 
 def table_of_refusals(refusals: List[Refusal]) -> List[str]:
+    rows = of_kind(refusals, "refusal")
     return markdown("Number | Name | Status | When",
-                    [f"{row.number} | `{row.name}` | {row.status} | {row.when}" for row in of_kind(refusals, "refusal")])
+                    [f"{row.number} | `{row.name}` | {row.status} | {row.when}" for row in rows])
 
 
 def table_of_faults(refusals: List[Refusal], kind: str) -> List[str]:
@@ -121,8 +125,10 @@ def table_of_faults(refusals: List[Refusal], kind: str) -> List[str]:
 
 
 def table_of_lines(refusals: List[Refusal]) -> List[str]:
-    """The table of what the commands print. Refusals of one step with one cell share a row."""
+    """The table of the lines that commands print. Refusals with the same cell share a row."""
     shared: Dict[str, List[str]] = {}
     for row in sorted((row for row in refusals if row.command), key=Refusal.order):
-        shared.setdefault(row.command, []).append(f"`refused: {row.name}{' NAME' if row.name in WITH_FAULT else ''}`")
-    return markdown("Line, in the order in which a command checks | When", [f"{', '.join(names)} | {cell}" for cell, names in shared.items()])
+        line = f"`refused: {row.name}{' NAME' if row.name in WITH_FAULT else ''}`"
+        shared.setdefault(row.command, []).append(line)
+    return markdown("Line, in the order in which a command checks | When",
+                    [f"{', '.join(lines)} | {cell}" for cell, lines in shared.items()])

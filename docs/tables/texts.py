@@ -59,8 +59,8 @@ def with_marked(text: str, name: str, lines: List[str]) -> str:
 
 
 def with_lines(text: str, first: str, last: str, lines: List[str]) -> str:
-    """The text with these lines in place of those from the one that begins with `first` to the next that ends with `last`. For files that
-    may have no comments of ours."""
+    """The text with these lines in place of those from the one that begins with `first` to the next that ends with
+    `last`. This is for files that may have no such comments."""
     found = re.search(rf"(?ms)^{re.escape(first)}.*?{re.escape(last)}$", text)
     if not found:
         raise Fault(f"no lines from '{first}' to '{last}'")

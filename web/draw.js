@@ -5,7 +5,7 @@ import { paintShares } from './shares.js';
 
 /** The sizes of a cell from one pixel on. Smaller cells have any size, since a pixel then shows the share of its live cells. */
 export const SIZES = [1, 2, 3, 4, 6, 8, 12, 16, 24, 32, 48];
-/** The least size: a pattern of 1,024 columns that grew for 2,048 generations still fits on a phone. */
+/** The least size: the widest pattern still fits on a phone after as many generations as the archive makes. */
 export const LEAST_SIZE = 1 / 16;
 /** How many steps below one pixel halve a cell. */
 const STEPS_A_HALF = 2;

@@ -4,12 +4,13 @@ from __future__ import annotations
 import re
 from typing import Dict, Iterator, List, NamedTuple, Optional
 
-from .texts import Fault, Read, markdown, rows_of
+from .texts import Fault, Read, markdown, rows_of, without_marked
 
 PATH = "docs/limits.csv"
 # In the crate's `file` the text `before` stands in front of the value. A limit with `web` is a constant of the web
-# pages. One with a `table` has a row in API: its meaning, and the `cells` that follow.
-COLUMNS = ["name", "value", "web", "file", "before", "meaning", "table", "cells"]
+# pages. One with a `table` has a row in API: its meaning, and the `cells` that follow. `prose` lists the pages that
+# name the value in a sentence, where no script writes it.
+COLUMNS = ["name", "value", "web", "file", "before", "meaning", "table", "cells", "prose"]
 HEADERS = {"limits": "What | Limit", "waits": "What is waited for | Seconds | Then"}
 
 
@@ -22,16 +23,19 @@ class Limit(NamedTuple):
     meaning: str
     table: str
     cells: str
+    prose: str
 
 
 class Limits(Dict[str, Limit]):
     """The limits by their names."""
 
     def put_into(self, text: str) -> str:
-        """The text with numbers in place of names. {LONGEST_SIDE} is 1024, {LONGEST_SIDE-1} is 1023, {LONGEST_SIDE:,} is
-        1,024."""
+        """The text with numbers in place of names. {LONGEST_SIDE} is 1024, {LONGEST_SIDE-1} is 1023, {LONGEST_SIDE:,}
+        is 1,024."""
         def number(found: re.Match[str]) -> str:
-            value = self.named(found[1]).value + int(found[2] or 0)
+            if found[1] not in self:
+                raise Fault(f"{PATH}: no limit is called {found[1]}, which this names: {text[:60]}")
+            value = self[found[1]].value + int(found[2] or 0)
             return f"{value:,}" if found[3] else written(value)
 
         return re.sub(r"\{([A-Z_]+)([+-]1)?(:,)?\}", number, text)
@@ -61,9 +65,23 @@ def read_limits(read: Read) -> Limits:
     return limits
 
 
+def forms(value: int) -> List[str]:
+    """A number as texts and sources write it."""
+    return sorted({str(value), f"{value:,}", f"{value:_}"})
+
+
+def has_number(page: str, value: int) -> bool:
+    """Whether a page has a number, or the one before or after it: some sentences name the first that is refused."""
+    known = "|".join(re.escape(form) for near in (value - 1, value, value + 1) for form in forms(near))
+    return re.search(rf"(?<![\w.,])(?:{known})(?![\w]|,\d)", page) is not None
+
+
 def compare(limits: Limits, read: Read) -> Iterator[Optional[str]]:
-    """For each limit, what is wrong if a crate has another value than the table."""
+    """For each limit, what is wrong if a crate has another value than the table, or if a page's prose has."""
     for limit in limits.values():
+        for path in limit.prose.split():
+            there = has_number(without_marked(read(path)), limit.value)
+            yield None if there else f"{path}: {limit.name} is {written(limit.value)} in {PATH}: change the sentence"
         found = re.findall(re.escape(limit.before) + r" ([\d_]+)\b", read(limit.file))
         if len(found) != 1:
             yield f"{limit.file}: {limit.name}: '{limit.before} NUMBER' is there {len(found)} times, and not once"

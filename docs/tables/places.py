@@ -1,6 +1,7 @@
 """The places that docs/make-tables writes: of each file, the part and what it is written from."""
 from __future__ import annotations
 
+import os
 from functools import partial
 from typing import Callable, Dict, Iterator, List, NamedTuple, Optional, Tuple
 
@@ -83,12 +84,10 @@ def of_scripts(facts: Facts) -> List[Place]:
 
 def of_gateway(facts: Facts) -> List[Place]:
     """The site of nginx."""
-    site = partial(marked, "deploy/templates/gateway/life-site.conf")
+    site = partial(marked, routes.SITE, routes.ADDRESSES)
     return [
-        site(routes.ADDRESSES, "titles", routes.site_titles(facts.addresses, facts.limits)),
-        site(routes.ADDRESSES, "addresses", routes.site_pages(facts.addresses, facts.limits)),
-        site(routes.ROUTES, "fixed routes", routes.site_routes(facts.routes, "fixed")),
-        site(routes.ROUTES, "moving routes", routes.site_routes(facts.routes, "moving")),
+        site("titles", routes.site_titles(facts.addresses, facts.limits)),
+        site("addresses", routes.site_pages(facts.addresses, facts.limits)),
     ]
 
 
@@ -123,16 +122,17 @@ def places(facts: Facts) -> List[Place]:
 
 
 def difference(text: str, wanted: str) -> Optional[str]:
-    """The number of the first line that differs, with both lines."""
+    """The number of the first line that differs, with what both have there, from a little before the difference on."""
     if text == wanted:
         return None
-    here, there = text.split("\n") + [""], wanted.split("\n") + [""]
-    at = next((at for at, (one, other) in enumerate(zip(here, there)) if one != other), min(len(here), len(there)) - 1)
-    return f"{at + 1}: has '{here[at].strip()[:80]}' in place of '{there[at].strip()[:80]}'"
+    at = len(os.path.commonprefix([text, wanted]))
+    begin = max(text.rfind("\n", 0, at) + 1, at - 30)
+    here, there = (one[begin:].split("\n")[0][:80] for one in (text, wanted))
+    return f"{text.count(chr(10), 0, at) + 1} has '{here}' in place of '{there}'"
 
 
 def compare(read: Read) -> Iterator[Optional[str]]:
-    """For each place, and for each limit and each clause of a crate, what is wrong with it."""
+    """For each place and each fact, what is wrong with it."""
     try:
         facts = read_facts(read)
     except Fault as fault:
@@ -142,15 +142,17 @@ def compare(read: Read) -> Iterator[Optional[str]]:
         text = read(place.path)
         try:
             found = difference(text, place.write(text))
-            yield f"{place.path}:{found}, from {place.source}" if found else None
+            yield f"{place.path}:{found}: if that is right, change {place.source}" if found else None
         except Fault as fault:
             yield f"{place.path}: {fault}"
     yield from compare_with_sources(facts, read)
 
 
 def compare_with_sources(facts: Facts, read: Read) -> Iterator[Optional[str]]:
-    """What no run of docs/make-tables sets right: a crate and a table that say different things."""
+    """For each fact that a crate and a table have, what is wrong if they differ. No run of docs/make-tables helps."""
+    yield from refusals.compare(facts.refusals, read)
     yield from limits.compare(facts.limits, read)
+    yield from routes.compare(facts.routes, read)
     yield from clauses.compare(facts.rows, facts.libraries)
 
 

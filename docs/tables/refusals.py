@@ -1,8 +1,9 @@
 """docs/refusals.csv: each refusal and fault, its number, status and sentence, and what documents and scripts say."""
 from __future__ import annotations
 
+import re
 import textwrap
-from typing import Dict, List, NamedTuple
+from typing import Dict, Iterator, List, NamedTuple, Optional, Set, Tuple
 
 from .limits import Limits
 from .texts import Fault, Read, markdown, rows_of
@@ -16,7 +17,14 @@ FRONTS = {"refusal": "refusal {number}", "file": "fault {number} of a pattern fi
           "program": "program", "gateway": "gateway"}
 # On the command line these are followed by the name of a fault.
 WITH_FAULT = {"bad-pattern", "bad-code"}
+# The widest that the lines of names in the help may be. Their first line has 101 columns.
 HELP_COLUMNS = 104
+# The definitions of the crates that give numbers and names, by kind, and those that give a status.
+LABELS = {"refusal": ["crates/life_desk/specs/Refusals.antt", "crates/life_pages/specs/Fault.antt"],
+          "file": ["crates/life_rle/specs/Fault.antt"], "code": ["crates/life_code/specs/Fault.antt"]}
+STATUSES = "crates/life_pages/specs/Reply.antt"
+# A fault that is answered `unavailable`, so no table has it.
+UNLISTED = "memory"
 
 
 class Refusal(NamedTuple):
@@ -45,6 +53,27 @@ def read_refusals(read: Read, limits: Limits) -> List[Refusal]:
         if any(mark in row.sentence + row.script for mark in "'\\\n"):
             raise Fault(f"{PATH}: {row.kind} {row.name}: sentence and script may not contain ' or \\")
     return rows
+
+
+def specified(read: Read, kind: str) -> Set[Tuple[str, str, str]]:
+    """The number, name and status of each refusal of a kind, as the crates define them."""
+    statuses = dict(re.findall(r"(?m)^(?:refusal|page)_status \(?(\w+).* = (\d+)$", read(STATUSES)))
+    labels = [found for path in LABELS[kind]
+              for found in re.findall(r'(?m)^label_of \(?(\w+).* = label (\d+) \(codes "([a-z-]+)"\)$', read(path))]
+    return {(number, name, statuses.get(variant, "") if kind == "refusal" else "")
+            for variant, number, name in labels if name != UNLISTED}
+
+
+def compare(refusals: List[Refusal], read: Read) -> Iterator[Optional[str]]:
+    """For each refusal that the crates define, what is wrong if the table has another number, name or status."""
+    for kind, paths in LABELS.items():
+        wanted = specified(read, kind)
+        listed = {(row.number, row.name, row.status) for row in of_kind(refusals, kind)}
+        for one in sorted(wanted | listed):
+            if one in wanted and one in listed:
+                yield None
+            else:
+                yield f"{PATH if one in wanted else ' or '.join(paths)}: no {kind} {' '.join(one)}".rstrip()
 
 
 def of_kind(refusals: List[Refusal], kind: str) -> List[Refusal]:

@@ -5,20 +5,21 @@ The program and the pages know them, and so does the gateway in front, as regula
 from __future__ import annotations
 
 import re
-from typing import Callable, Dict, List, NamedTuple
+from typing import Callable, Dict, Iterator, List, NamedTuple, Optional
 
 from .limits import Limits
 from .texts import Fault, Read, markdown, rows_of
 
 ROUTES, ADDRESSES = "docs/routes.csv", "docs/addresses.csv"
-# `cache` says how long the gateway keeps a reply: `fixed` ones never change, `moving` ones may grow.
+# The definition of the routes.
+SPECIFIED = "crates/life_pages/specs/Route.antt"
+# `cache` says how long the gateway keeps a reply: a `fixed` one never changes, a `moving` one may grow.
 ROUTE_COLUMNS = ["method", "path", "request", "reply", "cache"]
 # `title` is what a preview of a link says.
 ADDRESS_COLUMNS = ["name", "path", "title"]
-# What a parameter of a route may be, as far as the gateway looks.
-IN_ROUTES = {"id": "[0-9]+", "n": "[0-9]+", "limit": "[0-9]+", "rule": "[^/]+", "code": "[0-9a-z_]+"}
-# A fixed reply is kept under one path: that of the number without leading zeros.
-IN_FIXED = {**IN_ROUTES, "id": "[1-9][0-9]*"}
+# A path of each route, to ask which location of the gateway has it.
+EXAMPLES = {"id": "7", "n": "8", "limit": "9", "rule": "B3S23", "code": "xq4_153"}
+SITE = "deploy/templates/gateway/life-site.conf"
 NUMBER, PART = "[0-9]{1,15}", "[^/]+"
 # A title is put into HTML, so it has no character that HTML would read.
 IN_TITLES = {"code": "[a-z0-9_]+"}
@@ -57,6 +58,33 @@ def read_addresses(read: Read) -> List[Address]:
     return [Address(row["name"], row["path"], row["title"]) for row in rows_of(read, ADDRESSES, ADDRESS_COLUMNS)]
 
 
+def kept_as(site: str, path: str) -> str:
+    """How the gateway keeps the reply at a path: what the location sets that nginx takes, an equal one or the first."""
+    locations = re.findall(r"(?ms)^(?:@[A-Z_]+\?@)* {4}location (=|~) (\S+) \{$(.*?)^(?:@[A-Z_]+\?@)* {4}\}$", site)
+    # Python spells named groups in another way.
+    forms = [(re.sub(r"\(\?<(\w)", r"(?P<\1", form), body) for kind, form, body in locations if kind == "~"]
+    fitting = [body for kind, form, body in locations if kind == "=" and form == path]
+    fitting += [body for form, body in forms if re.search(form, path)]
+    page = re.search(r"set \$life_page (\w+);", fitting[0]) if fitting else None
+    return page[1] if page else ""
+
+
+def compare(routes: List[Route], read: Read) -> Iterator[Optional[str]]:
+    """For each route, what is wrong if only the program or only the table has it, or if the gateway keeps its replies
+    in another way."""
+    specified = set(re.findall(r'\(codes "(/[^"]*)"', read(SPECIFIED)))
+    listed = {route.path for route in routes}
+    for path in sorted(specified | listed):
+        if path in specified and path in listed:
+            yield None
+        else:
+            yield f"{ROUTES if path in specified else SPECIFIED}: no route {path}"
+    for route in routes:
+        found = kept_as(read(SITE), expression(route.path, EXAMPLES))
+        kept = f"{SITE}: replies of {route.path} are kept as '{found}', and as '{route.cache}' in {ROUTES}"
+        yield None if found == route.cache else kept
+
+
 def in_addresses(limits: Limits) -> Patterns:
     """What a parameter of an address may be."""
     member = f"[a-z0-9-]{{1,{limits.named('LONGEST_MEMBER').value}}}"
@@ -67,7 +95,7 @@ def expression(path: str, patterns: Patterns, form: Callable[[str, str], str] = 
     """A regular expression for a path. `form` makes that of a parameter from its name and its pattern."""
     def parameter(found: re.Match[str]) -> str:
         if found[1] not in patterns:
-            raise Fault(f"{path}: docs/tables/routes.py does not say what {{{found[1]}}} may be")
+            raise Fault(f"docs/tables/routes.py does not say what {{{found[1]}}} may be in {path}")
         return form(found[1], patterns[found[1]])
 
     return re.sub(r"\{(\w+)\}", parameter, path)
@@ -119,10 +147,3 @@ def site_titles(addresses: List[Address], limits: Limits) -> List[str]:
         title = re.sub(r"\{(\w+)\}", r"$life_in_\1", one.title)
         lines += [f'    "~*^{path}$" "{title} · ";'] if one.title else []
     return lines
-
-
-def site_routes(routes: List[Route], cache: str) -> List[str]:
-    """The location of the routes whose replies the gateway keeps."""
-    patterns = IN_FIXED if cache == "fixed" else IN_ROUTES
-    paths = [expression(route.path[1:], patterns) for route in routes if route.cache == cache]
-    return [f"    location ~ ^/({'|'.join(paths)})$ {{"]

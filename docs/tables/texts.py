@@ -48,11 +48,19 @@ def markdown(header: str, rows: List[str]) -> List[str]:
     return ["", *(f"| {row} |" for row in [header, rule, *rows]), ""]
 
 
+# How a comment begins that marks a part, as a regular expression.
+MARK = r"(?m)^[ \t]*(?://|#|<!--) "
+
+
+def without_marked(text: str) -> str:
+    """The text without the parts that docs/make-tables writes."""
+    return re.sub(MARK + r"(.*): written by docs/make-tables from (?s:.*?)(?://|#|<!--) end of \1\b", "", text)
+
+
 def with_marked(text: str, name: str, lines: List[str]) -> str:
     """The text with these lines between the two comments of that name."""
-    mark = r"(?m)^[ \t]*(?://|#|<!--) "
-    begin = re.search(mark + re.escape(name) + r": written by docs/make-tables from .*\n", text)
-    end = re.search(mark + f"end of {re.escape(name)}(?: -->)?$", text)
+    begin = re.search(MARK + re.escape(name) + r": written by docs/make-tables from .*\n", text)
+    end = re.search(MARK + f"end of {re.escape(name)}(?: -->)?$", text)
     if not begin or not end or end.start() < begin.end():
         raise Fault(f"no comments '{name}: written by docs/make-tables from ..' and 'end of {name}'")
     return text[:begin.end()] + "".join(line + "\n" for line in lines) + text[end.start():]

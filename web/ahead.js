@@ -6,9 +6,9 @@
   const ask = (attributes) => document.head.append(Object.assign(document.createElement('link'), attributes));
   const askModules = (names) => { for (const name of names) ask({ rel: 'modulepreload', href: `/web/${name}.js` }); };
   // addresses: written by docs/make-tables from docs/addresses.csv
-  const ADDRESSES = [/^\/d\/([0-9]{1,15})$/i, /^\/d\/([0-9]{1,15})\/at\/([0-9]{1,15})$/i];
+  const ADDRESS = /^\/d\/([0-9]{1,15})(?:\/at\/([0-9]{1,15}))?$/i;
   // end of addresses
-  const number = ADDRESSES.map((form) => form.exec(location.pathname)?.[1]).find(Boolean);
+  const number = ADDRESS.exec(location.pathname)?.[1];
   if (number) {
     ask({ rel: 'preload', as: 'fetch', crossOrigin: 'anonymous', href: `/deposits/${Number(number)}` });
     askModules(DEPOSIT);

@@ -36,40 +36,32 @@ const ADDRESSES = {
   home: /^\/$/i,
   deposits: /^\/d$/i,
   after: /^\/d\/after\/([0-9]{1,15})$/i,
-  member: /^\/d\/of\/([a-z0-9-]{1,32})$/i,
-  before: /^\/d\/of\/([a-z0-9-]{1,32})\/before\/([0-9]{1,15})$/i,
-  deposit: /^\/d\/([0-9]{1,15})$/i,
-  generation: /^\/d\/([0-9]{1,15})\/at\/([0-9]{1,15})$/i,
+  member: /^\/d\/of\/([a-z0-9-]{1,32})(?:\/before\/([0-9]{1,15}))?$/i,
+  deposit: /^\/d\/([0-9]{1,15})(?:\/at\/([0-9]{1,15}))?$/i,
   new: /^\/new$/i,
   find: /^\/find$/i,
   censuses: /^\/c$/i,
   census: /^\/c\/([0-9]{1,15})$/i,
   haul: /^\/haul$/i,
-  objects: /^\/o$/i,
-  rule: /^\/o\/([^/]+)$/i,
+  objects: /^\/o(?:\/([^/]+))?$/i,
   code: /^\/o\/([^/]+)\/([^/]+)$/i,
   about: /^\/about$/i,
 };
 // end of addresses
 
-const ofMember = (page, member, before) => depositsOf(page, member.toLowerCase(), before);
-
-/** Each page: its address, the link of the site's head that leads to its part, and what shows it. */
+/** Each page: its address, its link in the head, and what shows it. */
 const PAGES = [
   [ADDRESSES.home, 'deposits', later('home', 'homePage')],
   [ADDRESSES.deposits, 'deposits', (page) => deposits(page)],
   [ADDRESSES.after, 'deposits', deposits],
-  [ADDRESSES.member, 'deposits', ofMember],
-  [ADDRESSES.before, 'deposits', ofMember],
+  [ADDRESSES.member, 'deposits', (page, member, before) => depositsOf(page, member.toLowerCase(), before)],
   [ADDRESSES.deposit, 'deposits', later('deposit', 'depositPage')],
-  [ADDRESSES.generation, 'deposits', later('deposit', 'depositPage')],
   [ADDRESSES.new, 'new', later('new', 'depositForm')],
   [ADDRESSES.find, 'find', (page) => later('find', 'findPage')(page, location.search.slice(1))],
   [ADDRESSES.censuses, 'find', later('search', 'censusesPage')],
   [ADDRESSES.census, 'find', later('census', 'censusPage')],
   [ADDRESSES.haul, 'find', later('haul', 'haulPage')],
   [ADDRESSES.objects, 'objects', later('catalog', 'catalogPage')],
-  [ADDRESSES.rule, 'objects', later('catalog', 'catalogPage')],
   [ADDRESSES.code, 'objects', later('find', 'codePage')],
   [ADDRESSES.about, 'about', later('about', 'aboutPage')],
 ];

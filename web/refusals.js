@@ -1,7 +1,7 @@
-// Why something was refused, and what to do: the sentences of docs/refusals.csv for the replies of the archive, for files, and for the gateway.
+// Why something was refused, and what to do.
 
+// sentences: written by docs/make-tables from docs/refusals.csv
 export const REFUSALS = {
-  // refusals: written by docs/make-tables from docs/refusals.csv
   'no-such-deposit': 'There is no deposit with this number. Look at the newest deposits, or check the number against your source.',
   'no-such-census': 'There is no census with this number. Check the number against your source, or ask for a census of a deposit.',
   'bad-member': 'This is not a valid member name. Use 1 to 32 of the letters a to z, digits and "-".',
@@ -16,25 +16,18 @@ export const REFUSALS = {
   'no-such-page': 'There is no such page in this archive. Check the address against your source, or start from the newest deposits.',
   'bad-method': 'Wrong method: use GET to read and POST to store. If a web page says this, reload it; if that does not help, tell whoever runs the archive.',
   'bad-message': 'The request could not be read. A file may have at most 1,048,576 bytes: send a smaller one. If a web page says this about a smaller file, reload the page.',
-  // end of refusals
 };
 
 /** What the gateway says in place of the archive, and what comes from no reply at all. */
 export const GATEWAY = {
-  // gateway: written by docs/make-tables from docs/refusals.csv
   'no-reply': 'No reply came. What you sent may have been stored all the same: send it again with the same token, and it is stored only once.',
   password: 'This club checks passwords. Send it again with the name and the password that you were given.',
   'too-many-requests': 'Too many requests in a short time. Wait a few seconds and try again; nothing was lost.',
   unknown: 'The reply did not come from an archive. Check the address, or reload the web page; if that does not help, tell whoever runs the archive.',
-  // end of gateway
 };
-
-/** What a read says if no reply came: it sends nothing that the archive would keep. */
-const NO_REPLY_TO_READ = 'No reply came, and nothing has changed. Wait a little and try again; if that does not help, tell whoever runs the archive.';
 
 /** The faults of pattern files by number: their names, and what to do. */
 export const FAULTS = [
-  // faults: written by docs/make-tables from docs/refusals.csv
   null,
   ['too-long', 'The file has more than 1,048,576 bytes. Use a smaller one, or leave out comments.'],
   ['text-limit', 'A name, an author or a comment has more than 200 bytes, or there are more than 64 comments. Shorten it, or split it into two comments.'],
@@ -46,8 +39,11 @@ export const FAULTS = [
   ['bad-count', 'A count is 0 or over 1,000,000, or it stands before "!" or at the end of the file. Correct the count; if the file was cut off, copy it again.'],
   ['too-wide', 'A live cell is in a column or row beyond 1023. Move the cells, or use only a part of the pattern.'],
   ['no-end', 'The body ends without "!". Add it at the end; if the file was cut off, copy it again.'],
-  // end of faults
 ];
+// end of sentences
+
+/** What a read says if no reply came: it sends nothing that the archive would keep. */
+const NO_REPLY_TO_READ = 'No reply came, and nothing has changed. Wait a little and try again; if that does not help, tell whoever runs the archive.';
 
 /** The refusal of a reply: its name, its number, and the fault of the file where it is one. */
 export class Refused extends Error {

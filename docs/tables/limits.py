@@ -100,11 +100,9 @@ def table(limits: Limits, name: str) -> List[str]:
 
 def script_module(limits: Limits) -> str:
     """The constants of the web pages."""
-    lines = [f"// The limits of the archive that the pages need. Written by docs/make-tables from {PATH}.", ""]
-    for limit in limits.values():
-        if limit.web:
-            value = written(limit.value).replace(",", "_")
-            lines += [f"/** {limit.meaning[0].upper()}{limit.meaning[1:]}. */", f"export const {limit.name} = {value};"]
+    values = {limit.name: written(limit.value).replace(",", "_") for limit in limits.values() if limit.web}
+    lines = [f"// Limits of the archive, which {PATH} explains. Written by docs/make-tables.", "",
+             *(f"export const {name} = {value};" for name, value in values.items())]
     return "\n".join(lines) + "\n"
 
 

@@ -60,12 +60,9 @@ def of_crates(facts: Facts) -> List[Place]:
 
 def of_pages(facts: Facts) -> List[Place]:
     """The scripts of the web pages."""
-    known, named, source = facts.limits, facts.refusals, refusals.PATH
-    script = partial(marked, "web/refusals.js", source)
+    known = facts.limits
     return [
-        script("refusals", refusals.script_entries(named, "refusal")),
-        script("gateway", refusals.script_entries(named, "gateway")),
-        script("faults", refusals.script_faults(named)),
+        marked("web/refusals.js", refusals.PATH, "sentences", refusals.script_sentences(facts.refusals)),
         marked("web/main.js", routes.ADDRESSES, "addresses", routes.script_addresses(facts.addresses, known)),
         marked("web/ahead.js", routes.ADDRESSES, "addresses", routes.script_ahead(facts.addresses, known)),
         Place("web/limits.js", limits.PATH, lambda _: limits.script_module(known)),

@@ -117,26 +117,32 @@ def help_names(refusals: List[Refusal]) -> List[str]:
 
 # ---- the web pages and the members' scripts
 
-def script_entries(refusals: List[Refusal], kind: str) -> List[str]:
-    """The entries of an object of refusals.js."""
+def script_sentences(refusals: List[Refusal]) -> List[str]:
+    """The constants of refusals.js. A fault's number is its index in the list, so there is none at 0."""
     keys = {row.name: f"'{row.name}'" if "-" in row.name else row.name for row in refusals}
-    return [f"  {keys[row.name]}: '{row.sentence}'," for row in of_kind(refusals, kind)]
-
-
-def script_faults(refusals: List[Refusal]) -> List[str]:
-    """The list of faults of refusals.js. A fault's number is its index, so there is none at 0."""
-    return ["  null,", *(f"  ['{row.name}', '{row.sentence}']," for row in of_kind(refusals, "file"))]
+    archive, gateway = ([f"  {keys[row.name]}: '{row.sentence}'," for row in of_kind(refusals, kind)]
+                        for kind in ("refusal", "gateway"))
+    faults = [f"  ['{row.name}', '{row.sentence}']," for row in of_kind(refusals, "file")]
+    return ["export const REFUSALS = {", *archive, "};", "",
+            "/** What the gateway says in place of the archive, and what comes from no reply at all. */",
+            "export const GATEWAY = {", *gateway, "};", "",
+            "/** The faults of pattern files by number: their names, and what to do. */",
+            "export const FAULTS = [", "  null,", *faults, "];"]
 
 
 def shell_faults(refusals: List[Refusal]) -> List[str]:
-    """The branches of asking.sh for the faults of pattern files."""
-    return [f"    {row.number}) echo '{row.name}: {row.script}' ;;" for row in of_kind(refusals, "file")]
+    """The function of asking.sh for the faults of pattern files."""
+    branches = [f"    {row.number}) echo '{row.name}: {row.script}' ;;" for row in of_kind(refusals, "file")]
+    return ["# Prints the fault of a pattern file that has this number.", "fault() {", "  case $1 in", *branches,
+            '    *) echo "fault $1 of pattern files" ;;', "  esac", "}"]
 
 
 def shell_refusals(refusals: List[Refusal]) -> List[str]:
-    """The branches of asking.sh for the refusals that the scripts explain."""
+    """The function of asking.sh for the other refusals."""
     rows = of_kind(refusals, "refusal") + of_kind(refusals, "gateway")
-    return [f"    {row.name}) echo '{row.name}: {row.script}' ;;" for row in rows if row.script]
+    branches = [f"    {row.name}) echo '{row.name}: {row.script}' ;;" for row in rows if row.script]
+    return ["# Prints the refusal that has this name.", "refusal() {", "  case $1 in", *branches, '    *) echo "$1" ;;',
+            "  esac", "}"]
 
 
 # ---- documents

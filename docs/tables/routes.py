@@ -15,7 +15,8 @@ ROUTES, ADDRESSES = "docs/routes.csv", "docs/addresses.csv"
 SPECIFIED = "crates/life_pages/specs/Route.antt"
 # `cache` says how long the gateway keeps a reply: a `fixed` one never changes, a `moving` one may grow.
 ROUTE_COLUMNS = ["method", "path", "request", "reply", "cache"]
-# `title` is what a preview of a link says.
+# An address may lack what is in brackets. `title` is what a preview of a link says: with brackets for both forms of the
+# address, without them for the short one.
 ADDRESS_COLUMNS = ["name", "path", "title"]
 # A path of each route, to ask which location of the gateway has it.
 EXAMPLES = {"id": "7", "n": "8", "limit": "9", "rule": "B3S23", "code": "xq4_153"}
@@ -23,8 +24,8 @@ SITE = "deploy/templates/gateway/life-site.conf"
 NUMBER, PART = "[0-9]{1,15}", "[^/]+"
 # A title is put into HTML, so it has no character that HTML would read.
 IN_TITLES = {"code": "[a-z0-9_]+"}
-# The addresses of the pages whose files web/ahead.js asks for.
-AHEAD = ("deposit", "generation")
+# The page whose files web/ahead.js asks for.
+AHEAD = "deposit"
 
 # The regular expression of a parameter, by the parameter's name.
 Patterns = Dict[str, str]
@@ -98,7 +99,7 @@ def expression(path: str, patterns: Patterns, form: Callable[[str, str], str] = 
             raise Fault(f"docs/tables/routes.py does not say what {{{found[1]}}} may be in {path}")
         return form(found[1], patterns[found[1]])
 
-    return re.sub(r"\{(\w+)\}", parameter, path)
+    return re.sub(r"\{(\w+)\}", parameter, path.replace("[", "(?:").replace("]", ")?"))
 
 
 # ---- documents
@@ -123,9 +124,8 @@ def script_addresses(addresses: List[Address], limits: Limits) -> List[str]:
 
 
 def script_ahead(addresses: List[Address], limits: Limits) -> List[str]:
-    """The list of ahead.js."""
-    forms = [in_script(one, limits) for one in addresses if one.name in AHEAD]
-    return [f"  const ADDRESSES = [{', '.join(forms)}];"]
+    """The constant of ahead.js."""
+    return [f"  const ADDRESS = {in_script(one, limits)};" for one in addresses if one.name == AHEAD]
 
 
 # ---- the gateway
@@ -137,13 +137,16 @@ def site_pages(addresses: List[Address], limits: Limits) -> List[str]:
 
 
 def site_titles(addresses: List[Address], limits: Limits) -> List[str]:
-    """The titles of addresses. A parameter that the title names is a variable of nginx."""
-    lines = []
+    """The map of titles. A parameter that the title names is a variable of nginx."""
+    patterns = {**in_addresses(limits), **IN_TITLES}
+    lines = ["map $life_path $life_title {", '    default "";']
     for one in addresses:
-        def form(name: str, pattern: str, title: str = one.title) -> str:
-            return f"(?<life_in_{name}>{pattern})" if f"{{{name}}}" in title else pattern
+        short = re.sub(r"\[.*\]", "", one.path), re.sub(r"\[.*\]", "", one.title)
+        long = re.sub(r"[\[\]]", "", one.path), re.sub(r"[\[\]]", "", one.title)
+        for path, title in ([short, long] if "[" in one.title else [short] if one.title else []):
+            def form(name: str, pattern: str, title: str = title) -> str:
+                return f"(?<life_in_{name}>{pattern})" if f"{{{name}}}" in title else pattern
 
-        path = expression(one.path, {**in_addresses(limits), **IN_TITLES}, form)
-        title = re.sub(r"\{(\w+)\}", r"$life_in_\1", one.title)
-        lines += [f'    "~*^{path}$" "{title} · ";'] if one.title else []
-    return lines
+            variables = re.sub(r"\{(\w+)\}", r"$life_in_\1", title)
+            lines.append(f'    "~*^{expression(path, patterns, form)}$" "{variables} · ";')
+    return [*lines, "}"]

@@ -59,11 +59,11 @@ def without_marked(text: str) -> str:
 
 def with_marked(text: str, name: str, lines: List[str]) -> str:
     """The text with these lines between the two comments of that name."""
-    begin = re.search(MARK + re.escape(name) + r": written by docs/make-tables from .*\n", text)
-    end = re.search(MARK + f"end of {re.escape(name)}(?: -->)?$", text)
-    if not begin or not end or end.start() < begin.end():
-        raise Fault(f"no comments '{name}: written by docs/make-tables from ..' and 'end of {name}'")
-    return text[:begin.end()] + "".join(line + "\n" for line in lines) + text[end.start():]
+    begins = list(re.finditer(MARK + re.escape(name) + r": written by docs/make-tables from .*\n", text))
+    ends = list(re.finditer(MARK + f"end of {re.escape(name)}(?: -->)?$", text))
+    if len(begins) != 1 or len(ends) != 1 or ends[0].start() < begins[0].end():
+        raise Fault(f"wants the comments '{name}: written by docs/make-tables from ..' and 'end of {name}' once each")
+    return text[:begins[0].end()] + "".join(line + "\n" for line in lines) + text[ends[0].start():]
 
 
 def with_lines(text: str, first: str, last: str, lines: List[str]) -> str:

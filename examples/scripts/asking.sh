@@ -102,10 +102,10 @@ number_of() {
   printf '%s\n' "$body" | sed -n "s/^{\"$1\":\([0-9]*\)}\$/\1/p"
 }
 
+# faults: written by docs/make-tables from docs/refusals.csv
 # Prints the fault of a pattern file that has this number.
 fault() {
   case $1 in
-    # faults: written by docs/make-tables from docs/refusals.csv
     1) echo 'too-long: the file has more than 1,048,576 bytes' ;;
     2) echo 'text-limit: a name, an author or a comment of more than 200 bytes, or more than 64 comments' ;;
     3) echo 'no-header: there is no line "x = 3, y = 3" before the body' ;;
@@ -116,10 +116,25 @@ fault() {
     8) echo 'bad-count: a count of 0 or over 1,000,000, one before "!", or one at the end of the file' ;;
     9) echo 'too-wide: a live cell in a column or row over 1023' ;;
     10) echo 'no-end: the body ends without "!"' ;;
-    # end of faults
     *) echo "fault $1 of pattern files" ;;
   esac
 }
+# end of faults
+
+# refusals: written by docs/make-tables from docs/refusals.csv
+# Prints the refusal that has this name.
+refusal() {
+  case $1 in
+    token-reused) echo 'token-reused: the token of this request already stands for something else' ;;
+    out-of-limit) echo 'out-of-limit: a generation is 0 to 2048, a limit 1 to 2048' ;;
+    full) echo 'full: the archive takes no more' ;;
+    unavailable) echo 'unavailable: the archive could not do it now; give the same command again, nothing is stored twice' ;;
+    no-such-page) echo 'no-such-page: the URL is not that of an archive, such as http://localhost:8080' ;;
+    password) echo 'password: the club knows its members by passwords; write yours into ~/.netrc' ;;
+    *) echo "$1" ;;
+  esac
+}
+# end of refusals
 
 # Prints why the reply refuses: the fault of a pattern file, or the archive's own name.
 why() {
@@ -128,15 +143,7 @@ why() {
   [ "$status" != 401 ] || name=password
   case $name in
     bad-pattern) fault "$number" ;;
-    # refusals: written by docs/make-tables from docs/refusals.csv
-    token-reused) echo 'token-reused: the token of this request already stands for something else' ;;
-    out-of-limit) echo 'out-of-limit: a generation is 0 to 2048, a limit 1 to 2048' ;;
-    full) echo 'full: the archive takes no more' ;;
-    unavailable) echo 'unavailable: the archive could not do it now; give the same command again, nothing is stored twice' ;;
-    no-such-page) echo 'no-such-page: the URL is not that of an archive, such as http://localhost:8080' ;;
-    password) echo 'password: the club knows its members by passwords; write yours into ~/.netrc' ;;
-    # end of refusals
     '') echo "a reply of status $status, but not from an archive" ;;
-    *) echo "$name" ;;
+    *) refusal "$name" ;;
   esac
 }

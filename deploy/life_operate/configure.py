@@ -110,6 +110,18 @@ def put_all(root: str, settings: dict[str, str], replace: bool) -> list[str]:
     return changed + [name for name in files if name not in PLACES and put_unit(root, name, files[name], replace)]
 
 
+def judge(settings: dict[str, str], files_only: bool) -> None:
+    """Ends if passwords would travel in clear, or could not be read. An upgrade, which wants files only, says so and goes on. Times that don't
+    go together are said: those of release 1.0.0 don't."""
+    for judged, is_firm in ((life_settings.judge_passwords, True), (life_settings.judge_reader, True), (life_settings.judge_times, False)):
+        try:
+            judged(settings)
+        except Wrong as fault:
+            if is_firm and not files_only:
+                sys.exit(f"life-configure: {fault}")
+            print(f"life-configure: {fault}", file=sys.stderr)
+
+
 def main() -> None:
     parser = argparse.ArgumentParser(description=__doc__, formatter_class=argparse.RawDescriptionHelpFormatter)
     parser.add_argument("--files-only", action="store_true")
@@ -117,14 +129,7 @@ def main() -> None:
     parser.add_argument("--root", default="/", metavar="FOLDER")
     words = parser.parse_args()
     settings = life_settings.end_if_wrong("life-configure", os.path.join(words.root, life_settings.USUAL.lstrip("/")))
-    try:
-        life_settings.judge_gateway(settings)
-        life_settings.judge_reader(settings)
-    except Wrong as fault:
-        # An upgrade, which wants files only, goes on with the settings that there are.
-        if not words.files_only:
-            sys.exit(f"life-configure: {fault}")
-        print(f"life-configure: {fault}", file=sys.stderr)
+    judge(settings, words.files_only)
     try:
         changed = put_all(words.root, settings, words.replace)
         print("changed: " + (", ".join(changed) or "nothing"), flush=True)

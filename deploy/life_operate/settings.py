@@ -91,11 +91,15 @@ def is_calendar(value: str) -> bool:
     return subprocess.run(["systemd-analyze", "calendar", value], capture_output=True, timeout=60, check=False).returncode == 0
 
 
-def judge_gateway(settings: dict[str, str]) -> None:
-    """Refuses a gateway by which passwords travel in clear, a request that waits is given up before the one ahead of it, or the program is ended
-    while somebody still waits for its answer. A copy or a restore does not depend on it."""
+def judge_passwords(settings: dict[str, str]) -> None:
+    """Refuses a gateway by which passwords travel in clear. A copy or a restore does not depend on it."""
     if settings["MEMBERS_FILE"] and settings["TLS"] == "no" and not is_here_alone(settings):
         raise Wrong("MEMBERS_FILE wants TLS=yes, or LISTEN and LISTEN_ALSO on 127.0.0.1 and [::1] alone: passwords would travel in clear")
+
+
+def judge_times(settings: dict[str, str]) -> None:
+    """Refuses times by which a request that waits is given up before the one ahead of it, or the program is ended while somebody still waits
+    for its answer."""
     queue, answer = seconds(settings["QUEUE_TIME"]), seconds(settings["ANSWER_TIME"])
     if seconds(settings["WEB_TIME"]) <= queue + answer:
         raise Wrong("WEB_TIME has to be longer than QUEUE_TIME and ANSWER_TIME together")

@@ -7,7 +7,7 @@ use crate::net::Port;
 use life_archive::{ArchiveStop, deposit_path, serve_path};
 use life_program::ArchiveJobs;
 use life_rle::{Inlet, Outlet};
-use sqlite::{FileFrom, Start, Unknown};
+use sqlite::{FileFrom, Start};
 use sqlite_disk::Disk;
 
 /// How many deposits and how many censuses an archive takes.
@@ -23,17 +23,20 @@ fn or_line(done: Result<(), ArchiveStop>) -> Result<(), &'static str>
     }
 }
 
-/// Archives in files of this machine.
-pub struct InFiles;
+/// Archives in files of this machine. `start` says what they hold at first: what a job does is proved for any contents.
+#[derive(Drop)]
+pub struct InFiles<T> {
+    pub start: T,
+}
 
-impl ArchiveJobs for InFiles {
-    // What the files of this machine hold at first is unknown but for files without a byte.
+impl<T: Start> ArchiveJobs for InFiles<T> {
     ghost deposits = { λ I O i o file member token input rest output sent line.
-        AnswersDeposit ⟦<FileFrom<Unknown> as Disk>⟧ i o (image_at ⟦<Unknown as Start>⟧) 1000000 member token input rest output sent line };
+        AnswersDeposit ⟦<FileFrom<T> as Disk>⟧ i o (image_at T.Start) 1000000 member token input rest output sent line };
 
-    ghost serves = { λ file port connections line. AnswersServing ⟦<FileFrom<Unknown> as Disk>⟧ (image_at ⟦<Unknown as Start>⟧) 1000000 connections line };
+    ghost serves = { λ file port connections line. AnswersServing ⟦<FileFrom<T> as Disk>⟧ (image_at T.Start) 1000000 connections line };
 
     fn deposit<I: Inlet, O: Outlet>(
+        self,
         rt: &HostRuntime,
         file: &str,
         member: &str,
@@ -42,19 +45,20 @@ impl ArchiveJobs for InFiles {
         output: &mut O,
     ) -> Result<(), &'static str> {
         let (done, _files) = deposit_path(
-            rt, file, CAPACITY, Unknown, member, token, input, output,
+            rt, file, CAPACITY, self.start, member, token, input, output,
         );
         or_line(done)
     }
 
     fn serve(
+        self,
         rt: &HostRuntime,
         file: &str,
         port: u64,
         connections: u64,
     ) -> Result<(), &'static str> {
         let mut peers = Port::new(rt, port);
-        match serve_path(rt, file, CAPACITY, Unknown, &mut peers, connections) {
+        match serve_path(rt, file, CAPACITY, self.start, &mut peers, connections) {
             Ok(_files) => Ok(()),
             Err(stop) => Err(stop.line()),
         }

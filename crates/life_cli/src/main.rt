@@ -7,9 +7,11 @@ mod peer;
 
 use archives::InFiles;
 use life_program::run_program;
+use sqlite::Unknown;
 use std::io;
 use std::process::ExitCode;
 
 fn main(rt: HostRuntime) -> io::Result<ExitCode> {
-    run_program::<InFiles>(&rt)
+    // What the files of this machine hold at first is unknown, but for files without a byte.
+    run_program(&rt, InFiles { start: Unknown })
 }

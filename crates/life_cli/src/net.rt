@@ -1,6 +1,8 @@
 //! The connections that come to a port of this machine.
 
-ghost use Rattle.std.specs.Prelude.{◌≡◌, ℕ, is_ok, IfErr};
+ghost use Rattle.std.specs.Prelude.{◌≡◌, ◌++◌, ℕ, codes, is_ok, IfOk, IfErr};
+ghost use Rattle.std.specs.Fmt.{decimal};
+ghost use Rattle.std.specs.String.{string_bytes};
 ghost use Rattle.life_archive.specs.Session.{CannotListen, ServesOne, unknown, failures_after};
 
 use crate::peer::Peer;
@@ -10,15 +12,22 @@ use life_pages::IoFault;
 use life_rle::{FromRead, FromWrite};
 use life_store::Archive;
 use sqlite::Alter;
-use std::alloc::Global;
+use std::alloc::{AllocError, Global};
 use std::io;
 use std::net::{OpenListener, TcpListener};
+
+/// Where the program listens: a port of 127.0.0.1, which only programs of this machine reach.
+fn address_of(alloc: Global, port: u64) -> Result<String, AllocError>
+    ensures { IfOk result (λ address. string_bytes address ≡ codes "127.0.0.1:" ++ decimal port) }
+{
+    format!(in alloc; "127.0.0.1:{port}")
+}
 
 /// Listens at a port of this machine.
 fn listen(rt: &HostRuntime, port: u64) -> Result<TcpListener, ArchiveStop>
     ensures { IfErr result CannotListen }
 {
-    let Ok(address) = format!(in rt.alloc(); "127.0.0.1:{port}") else {
+    let Ok(address) = address_of(rt.alloc(), port) else {
         return Err(ArchiveStop::Job(Stop::Unavailable));
     };
     match TcpListener::bind(rt, address.as_str()) {

@@ -11,6 +11,7 @@ use std::io;
 use std::process::ExitCode;
 
 /// No archive at all.
+#[derive(Drop)]
 struct NoArchive;
 
 impl ArchiveJobs for NoArchive {
@@ -19,6 +20,7 @@ impl ArchiveJobs for NoArchive {
     ghost serves = { λ file port connections line. line ≡ Some (codes "refused: unavailable") };
 
     fn deposit<I: Inlet, O: Outlet>(
+        self,
         _rt: &HostRuntime,
         _file: &str,
         _member: &str,
@@ -30,6 +32,7 @@ impl ArchiveJobs for NoArchive {
     }
 
     fn serve(
+        self,
         _rt: &HostRuntime,
         _file: &str,
         _port: u64,
@@ -40,5 +43,5 @@ impl ArchiveJobs for NoArchive {
 }
 
 fn main(rt: HostRuntime) -> io::Result<ExitCode> {
-    run_program::<NoArchive>(&rt)
+    run_program(&rt, NoArchive)
 }

@@ -15,7 +15,7 @@ use std::alloc::Global;
 
 /// The jobs over the archive of a file, which each program does in its own way. Each answers the line for standard error if it stops, without
 /// its line end; it is empty if nothing is printed.
-pub trait ArchiveJobs {
+pub trait ArchiveJobs: Drop {
     // What a deposit does: by its file, its member and its token, its streams before it and after it, and the line.
     ghost deposits: { (I O : Type 0) → inlet.Ghosts I → outlet.Ghosts O → List ℕ → List ℕ → List ℕ → I → I → O → O → Option (List ℕ) → Type 0 };
     // What serving does: by its file, its port, its count of connections, and the line.
@@ -23,6 +23,7 @@ pub trait ArchiveJobs {
 
     /// Deposits the pattern that comes in under the member and the token.
     fn deposit<I: Inlet, O: Outlet>(
+        self,
         rt: &HostRuntime,
         file: &str,
         member: &str,
@@ -35,7 +36,13 @@ pub trait ArchiveJobs {
             (λ line. deposits I O I.Inlet O.Outlet file.now member.now token.now input.old input.new output.old output.new (Some line.now)) };
 
     /// Serves so many connections at the port.
-    fn serve(rt: &HostRuntime, file: &str, port: u64, connections: u64) -> Result<(), &'static str>
+    fn serve(
+        self,
+        rt: &HostRuntime,
+        file: &str,
+        port: u64,
+        connections: u64,
+    ) -> Result<(), &'static str>
         ensures { MatchResult result (λ _. serves file.now port connections None) (λ line. serves file.now port connections (Some line.now)) };
 }
 
@@ -70,9 +77,11 @@ fn do_file_job<I: Inlet, O: Outlet>(
     }
 }
 
-/// Does the job over these streams. It answers the line for standard error if the job stops, as [`ArchiveJobs`] do.
+/// Does the job over these streams, or by `archives` if it is about one. It answers the line for standard error if the job stops, as
+/// [`ArchiveJobs`] do.
 pub fn do_job<J: ArchiveJobs, I: Inlet, O: Outlet>(
     rt: &HostRuntime,
+    archives: J,
     job: Job<'_>,
     input: &mut I,
     output: &mut O,
@@ -86,12 +95,12 @@ pub fn do_job<J: ArchiveJobs, I: Inlet, O: Outlet>(
             file,
             member,
             token,
-        } => J::deposit(rt, file, member, token, input, output),
+        } => archives.deposit(rt, file, member, token, input, output),
         Job::Serve {
             file,
             port,
             connections,
-        } => J::serve(rt, file, port, connections),
+        } => archives.serve(rt, file, port, connections),
         _ => or_line(do_file_job(rt.alloc(), job, input, output)),
     }
 }

@@ -34,6 +34,7 @@ fn print_done(rt: &HostRuntime, done: Result<(), &'static str>) -> io::Result<Ex
 /// ends with: 0; 1 if the job stopped, with a line on standard error; 2 if the words name no job, with the text of `clap`.
 pub fn run_words<J: ArchiveJobs, I: Inlet, O: Outlet>(
     rt: &HostRuntime,
+    archives: J,
     words: &[String],
     input: &mut I,
     output: &mut O,
@@ -41,18 +42,18 @@ pub fn run_words<J: ArchiveJobs, I: Inlet, O: Outlet>(
     ensures { WordsEnd I.Inlet O.Outlet J.deposits J.serves (words_job (map ⟦<String as AsStr>⟧.text words.now)) input.old input.new output.old output.new result }
 {
     match read_words(rt.alloc(), words) {
-        Ok(job) => print_done(rt, do_job::<J, I, O>(rt, job, input, output)),
+        Ok(job) => print_done(rt, do_job::<J, I, O>(rt, archives, job, input, output)),
         Err(fault) => print_fault_of(rt, fault, words, |words| reads_pattern(rt, words)),
     }
 }
 
 /// Does the job that the arguments of the process name, over standard input and output, as [`run_words`] says.
-pub fn run_program<J: ArchiveJobs>(rt: &HostRuntime) -> io::Result<ExitCode> {
+pub fn run_program<J: ArchiveJobs>(rt: &HostRuntime, archives: J) -> io::Result<ExitCode> {
     let words = match words_of(rt, || life_command(rt.alloc())) {
         Ok(words) => words,
         Err(fault) => return print_fault(rt, fault),
     };
     let mut input = FromRead::new(rt.reader());
     let mut output = FromWrite::new(io::writer(rt));
-    run_words::<J, _, _>(rt, words.as_slice(), &mut input, &mut output)
+    run_words::<J, _, _>(rt, archives, words.as_slice(), &mut input, &mut output)
 }

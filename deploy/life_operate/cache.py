@@ -70,8 +70,7 @@ def move_away(folder: str) -> int:
                 for name in names:
                     move(name, found[1], old)
                 # After a power cut, too, nothing old is shown.
-                for number in (old, *found):
-                    os.fsync(number)
+                os.fsync(found[1])
         return len(names)
 
 

@@ -185,10 +185,11 @@ class Exchange:
                 if not os.path.isdir(os.path.dirname(away)):
                     os.mkdir(os.path.dirname(away), 0o700)
                 os.rename(there, away)
-        self.sync()
+        self.sync(self.plan.folder)
 
-    def sync(self) -> None:
-        for folder in sorted({os.path.dirname(path) for move in self.plan.moves() for path in move}):
+    def sync(self, *places: str) -> None:
+        """Waits until the names in these folders, and what moved away from them, are on the disk."""
+        for folder in [folder for place in places for folder in (place, os.path.join(place, self.plan.aside))]:
             if os.path.isdir(folder):
                 sync(folder)
 
@@ -209,13 +210,15 @@ class Exchange:
         for aside in {os.path.dirname(away) for _, away in self.plan.moves()}:
             with contextlib.suppress(OSError):
                 os.rmdir(aside)
-        self.sync()
+        self.sync(self.plan.folder, self.plan.copies)
         self.start_and_forget(self.plan.serves and self.plan.ran)
 
     def finish(self) -> None:
         """What is left to do once the new file has its name."""
         sync(self.plan.folder)
         self.start_and_forget(self.plan.serves)
+        # A disk may be slow, so what does not concern the service comes after its start.
+        self.sync(self.plan.copies)
 
     def start_and_forget(self, starts: bool) -> None:
         """The last step. A service that fails by itself is its unit's matter; if the helper is gone, nothing was started, and the journal stays

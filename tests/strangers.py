@@ -16,6 +16,7 @@ import subprocess
 import sys
 import threading
 import time
+from collections.abc import Callable
 
 sys.path.insert(0, os.path.dirname(os.path.abspath(__file__)))
 sys.dont_write_bytecode = True
@@ -39,7 +40,7 @@ MANY = 200
 class Site:
     """A gateway with TLS, if a certificate can be made, and what is sent to it: each client has an address of 127.0.0.0/8."""
 
-    def __init__(self, folder, name, *settings):
+    def __init__(self, folder: str, name: str, *settings: str) -> None:
         self.context, words = None, []
         if shutil.which("openssl"):
             paths = [os.path.join(folder, f"{name}.{kind}") for kind in ("cert", "key")]
@@ -50,7 +51,7 @@ class Site:
         self.gateway = Gateway(os.path.join(folder, f"{name}.db"), FIRST_PORT, *words, *settings, seconds=600)
         self.url = f"http{'s' if self.context else ''}://127.0.0.1:{self.gateway.port}"
 
-    def asked(self, client, method, path, body=None, headers=None):
+    def asked(self, client: int, method: str, path: str, body: bytes | None = None, headers: dict[str, str] | None = None) -> tuple[int, bytes]:
         """The status and the body of a reply, on a connection of its own."""
         words = {"timeout": 170, "source_address": (f"127.2.0.{client}", 0)}
         if self.context:
@@ -64,10 +65,10 @@ class Site:
         finally:
             connection.close()
 
-    def deposit(self, client, token, text):
+    def deposit(self, client: int, token: str, text: bytes) -> tuple[int, bytes]:
         return self.asked(client, "POST", "/deposits", text, {"x-member": f"member-{client}", "x-token": token})
 
-    def log_bytes(self):
+    def log_bytes(self) -> dict[str, int]:
         """How much all logs have, once nginx has written what it holds for a second."""
         time.sleep(1.5)
         return {name: os.path.getsize(os.path.join(self.gateway.folder, name)) for name in ("access.log", "error.log", "haproxy.out")}
@@ -75,7 +76,7 @@ class Site:
 
 # ---- floods
 
-def poured(port, context, data, seconds):
+def poured(port: int, context: ssl.SSLContext | None, data: bytes, seconds: float) -> int:
     """Sends the same requests over and over on one connection, for so many seconds at most, and reads the replies. How many came."""
     came, until, wanted = 0, time.monotonic() + seconds, data.count(b"HTTP/1.1\r\n")
     with socket.create_connection(("127.0.0.1", port), timeout=5, source_address=("127.2.0.200", 0)) as plain, (context.wrap_socket(plain) if context else plain) as peer:
@@ -94,7 +95,7 @@ def poured(port, context, data, seconds):
     return came
 
 
-def head(path, method="GET", *lines):
+def head(path: str, method: str = "GET", *lines: str) -> bytes:
     return "".join(line + "\r\n" for line in (f"{method} {path} HTTP/1.1", "host: x", *lines, "")).encode()
 
 
@@ -106,7 +107,7 @@ FLOODS = {"paths that are none": head(f"/{LONG}") * 20, "pages": head(f"/d/5?{LO
           "bytes that are no TLS and no head": b"\x16\x03\x01\xff\xff" + b"a" * 200}
 
 
-def floods(site):
+def floods(site: Site) -> None:
     """Of a client that asks far too much the logs have little, whatever it asks for, by HTTP/1.1 and by HTTP/2."""
     before, begun, asked = site.log_bytes(), time.monotonic(), 0
     for name, data in FLOODS.items():
@@ -129,13 +130,13 @@ def floods(site):
 
 # ---- requests that take long, beside honest clients
 
-def code(chance):
+def code(chance: random.Random) -> str:
     """A code of forty by forty cells, none of its columns empty, that grows for ever."""
     strips = ["".join(chance.choice(LETTERS[1:]) for _ in range(40)) for _ in range(8)]
     return f"xs566_{'z'.join(strips)}"
 
 
-def soup(side):
+def soup(side: int) -> bytes:
     chance = random.Random(23)
     rows = ["".join(chance.choice("bo") for _ in range(side)) for _ in range(side)]
     return (f"x = {side}, y = {side}, rule = {GROWING}\n" + "$\n".join(rows) + "!\n").encode()
@@ -144,7 +145,7 @@ def soup(side):
 class Dear:
     """Requests that take the program long: of each route one with the least limit that does. No two are the same."""
 
-    def __init__(self, site, number):
+    def __init__(self, site: Site, number: int) -> None:
         self.chance, self.turn, self.alone = random.Random(29), 0, threading.Lock()
         rule = GROWING.replace("/", "")
         self.routes = [("GET", lambda limit: f"/objects/{rule}/{code(self.chance)}/{limit}"), ("GET", lambda limit: f"/deposits/{number}/kind/{limit}"),
@@ -153,7 +154,7 @@ class Dear:
         for method, path in self.routes:
             self.least.append(self.found(site, method, path))
 
-    def found(self, site, method, path):
+    def found(self, site: Site, method: str, path: Callable[[int], str]) -> int:
         """The least limit at which one takes long: 64, 128 and so on. Asked of the program itself, at its own port."""
         limit, took = 32, 0.0
         while took < DEAR and limit < 2048:
@@ -167,7 +168,7 @@ class Dear:
         self.longest = max(self.longest, took)
         return min(limit, 2000)
 
-    def next(self):
+    def next(self) -> tuple[str, str]:
         with self.alone:
             self.turn += 1
             which = self.turn % len(self.routes)
@@ -175,9 +176,9 @@ class Dear:
             return method, path(self.least[which] + self.turn // len(self.routes) % 48)
 
 
-def strange(site, dear, over, statuses):
+def strange(site: Site, dear: Dear, over: threading.Event, statuses: list[int]) -> None:
     """One client that asks for what takes long, as often as it may, from sixteen connections."""
-    def asking(_):
+    def asking(_: int) -> None:
         while not over.is_set():
             status = site.asked(201, *dear.next())[0]
             statuses.append(status)
@@ -188,7 +189,7 @@ def strange(site, dear, over, statuses):
         list(pool.map(asking, range(16)))
 
 
-def honest(site, client, over, kept, waits):
+def honest(site: Site, client: int, over: threading.Event, kept: dict[tuple[int, int], tuple[int, bytes]], waits: list[tuple[int, float]]) -> None:
     """A member who deposits, reads the deposit, and looks at the list, one after the other."""
     turn = 0
     while not over.is_set():
@@ -206,14 +207,14 @@ def honest(site, client, over, kept, waits):
         time.sleep(0.5)
 
 
-def watching(site, over, ended):
+def watching(site: Site, over: threading.Event, ended: list[int]) -> None:
     """The watch beside them, by its usual time. It would start the program anew if that is at one request for too long."""
     while not over.is_set():
         ended.append(subprocess.run([os.path.join(DEPLOY, "life-watch"), str(site.gateway.life_port), "90"], timeout=120, check=False).returncode)
         time.sleep(1)
 
 
-def beside_strangers(site):
+def beside_strangers(site: Site) -> None:
     """Ten honest clients beside one that has the program do what takes it longest: they wait for one such request, and are answered."""
     status, answer = site.deposit(202, "soup", soup(600))
     check("a soup that grows", status == 201)
@@ -243,8 +244,8 @@ def beside_strangers(site):
     check(f"the logs have {grown} bytes more after {time.monotonic() - begun:.0f} s", grown < 1_000_000)
 
 
-def strangers(folder):
-    """All of it over one gateway, with its limits as they are but for READS_LOGGED, which is the usual one too."""
+def strangers(folder: str) -> None:
+    """All of it over one gateway, with the usual settings."""
     site = Site(folder, "strangers")
     try:
         check("the gateway for strangers begins", site.gateway.port is not None)
@@ -257,7 +258,7 @@ def strangers(folder):
 
 # ---- many addresses of one network
 
-def one_network(folder):
+def one_network(folder: str) -> None:
     """Two hundred addresses of one network of IPv6 are one client, and another network is another one. They are in a network namespace of their
     own, which is gone with its last process."""
     words = ["unshare", "--net", sys.executable, os.path.abspath(__file__), PROGRAM, folder]
@@ -277,7 +278,7 @@ def one_network(folder):
     check("behind another proxy it is the address that the proxy names", found.get("named") == [429, 201])
 
 
-def sent_from(address, to, port, token, **headers):
+def sent_from(address: str, to: str, port: int, token: str, **headers: str) -> int:
     connection = http.client.HTTPConnection(to, port, timeout=60, source_address=(address, 0))
     try:
         connection.request("POST", "/deposits", f"#N {token}\nx = 1, y = 1\no!\n", {"x-member": "ann", "x-token": token, **headers})
@@ -288,7 +289,7 @@ def sent_from(address, to, port, token, **headers):
         connection.close()
 
 
-def in_the_network(folder):
+def in_the_network(folder: str) -> None:
     """What runs in the network: its addresses, a gateway, and clients of it. Prints what they were answered."""
     lines = [f"address add {net}::{number:x}/64 dev lo nodad" for net in NETWORKS for number in range(1, MANY + 2)]
     subprocess.run(["ip", "link", "set", "lo", "up"], check=True, timeout=30)

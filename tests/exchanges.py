@@ -142,7 +142,7 @@ def gone_while_served(folder):
         status, out, err = club.restore("--with-log", newest)
         check(f"{name}: the copy with the log: {out}{err}", (status, err) == (0, "") and club.serves(club.ledger))
         check(f"{name}: it goes on", b'{"deposit":9}' in exchanged(club.port, [deposit("fay", "t1", file_of("fay"))]) and club.copy()[0] == 0)
-        check(f"{name}: not where the archive can be read", is_error("life-restore", club.restore("--with-log", newest), "can be read"))
+        check(f"{name}: not where the archive can be read", is_error("life-restore", club.restore("--with-log", club.newest()), "can be read"))
         club.systemctl("stop")
 
 

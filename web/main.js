@@ -236,11 +236,14 @@ async function dropped({ items, files: own }) {
 }
 
 const hasFile = (event) => [...event.dataTransfer.types].includes('Files');
-document.addEventListener('dragover', (event) => {
-  if (!hasFile(event)) return;
-  event.preventDefault();
-  document.body.classList.add('dragging');
-});
+// Both are taken: where the page changes under a drag, `dragenter` alone comes before the drop.
+for (const kind of ['dragenter', 'dragover']) {
+  document.addEventListener(kind, (event) => {
+    if (!hasFile(event)) return;
+    event.preventDefault();
+    document.body.classList.add('dragging');
+  });
+}
 document.addEventListener('dragleave', (event) => { if (!event.relatedTarget) document.body.classList.remove('dragging'); });
 document.addEventListener('drop', (event) => {
   if (!hasFile(event)) return;

@@ -1,7 +1,7 @@
 // Making elements, and what several pages have.
 
 import { keepSetting, setting } from './kept.js';
-import { LONGEST_MEMBER, LONGEST_TOKEN } from './limits.js';
+import { LONGEST_MEMBER } from './limits.js';
 import { nameOf, Refused, sentenceOf } from './refusals.js';
 
 /** An element with attributes (a function is a listener, `true` an attribute without a value) and with what is in it. */
@@ -91,6 +91,4 @@ export function addLater(page, place, coming) {
 }
 
 const MEMBER = new RegExp(`^[a-z0-9-]{1,${LONGEST_MEMBER}}$`);
-const TOKEN = new RegExp(`^[A-Za-z0-9-]{1,${LONGEST_TOKEN}}$`);
 export const isMember = (text) => MEMBER.test(text);
-export const isToken = (text) => TOKEN.test(text);

@@ -235,21 +235,20 @@ async function dropped({ items, files: own }) {
   return (await Promise.all(entries.filter(Boolean).map((entry) => filesOf(entry)))).flat();
 }
 
-const hasFile = (event) => [...event.dataTransfer.types].includes('Files');
-// Both are taken: where the page changes under a drag, `dragenter` alone comes before the drop.
-for (const kind of ['dragenter', 'dragover']) {
-  document.addEventListener(kind, (event) => {
-    if (!hasFile(event)) return;
-    event.preventDefault();
-    document.body.classList.add('dragging');
-  });
+/** Takes a drag of files, and says whether it is one. */
+function takesDrag(event) {
+  if (![...event.dataTransfer.types].includes('Files')) return false;
+  event.preventDefault();
+  document.body.classList.toggle('dragging', event.type !== 'drop');
+  return true;
 }
+
+// Where the page changes under a drag, `dragenter` alone comes before the drop.
+document.addEventListener('dragenter', takesDrag);
+document.addEventListener('dragover', takesDrag);
 document.addEventListener('dragleave', (event) => { if (!event.relatedTarget) document.body.classList.remove('dragging'); });
 document.addEventListener('drop', (event) => {
-  if (!hasFile(event)) return;
-  event.preventDefault();
-  document.body.classList.remove('dragging');
-  dropped(event.dataTransfer).then((files) => { if (files.length > 0) take(files); }, (error) => fail(current, error));
+  if (takesDrag(event)) dropped(event.dataTransfer).then((files) => { if (files.length > 0) take(files); }, (error) => fail(current, error));
 });
 document.addEventListener('paste', (event) => {
   if (event.target.matches?.('input, textarea')) return;

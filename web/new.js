@@ -3,7 +3,7 @@
 import { depositAddress, go } from './address.js';
 import { broughtFiles, keepNote } from './brought.js';
 import { lastDeposit, sendDeposit } from './archive.js';
-import { field, isMember, isToken, make, many, memberInput, refusal, rememberMember } from './dom.js';
+import { field, isMember, make, many, memberInput, refusal, rememberMember } from './dom.js';
 import { thumbnail } from './draw.js';
 import { draft, keepDraft } from './kept.js';
 import { LONGEST_FILE, LONGEST_MEMBER, LONGEST_SIDE, LONGEST_TEXT, LONGEST_TOKEN } from './limits.js';
@@ -18,6 +18,7 @@ const WIDTH = 320;
 const HEIGHT = 200;
 /** The number of the fault of a file that is too long. */
 const TOO_LONG = 1;
+const TOKEN = new RegExp(`^[A-Za-z0-9-]{1,${LONGEST_TOKEN}}$`);
 
 /** The line of a file that has its fault, as far as it can be shown. */
 function lineOf(bytes, number) {
@@ -135,7 +136,7 @@ function dropPart(content, take) {
 async function send(content, name, said, page) {
   if (!isMember(name.value)) throw new Refused('bad-member');
   if (content.isTooLong) throw new Refused('bad-pattern', 7, TOO_LONG);
-  if (!isToken(content.token.value)) throw new Refused('bad-token');
+  if (!TOKEN.test(content.token.value)) throw new Refused('bad-token');
   rememberMember(name.value);
   const waiting = (error) => {
     said.replaceChildren(make('p', {}, error.name === 'too-many-requests' ? 'The archive is busy; it is asked again…' : 'No reply yet; the same is sent again with its token…'));

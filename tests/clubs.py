@@ -180,7 +180,7 @@ def rows_of(path):
 
 
 def fill(database, members, censuses=0):
-    """A new archive with a deposit of each member, and so many censuses of the first."""
+    """A new archive with a deposit of each member, and some censuses of the first."""
     for ending in ("", "-wal"):
         if os.path.exists(database + ending):
             os.remove(database + ending)
@@ -213,7 +213,7 @@ def is_error(name, answer, *parts):
     return good
 
 
-# Runs a script on a disk that has so many bytes free.
+# Runs a script on a disk with this number of bytes free.
 SMALL_DISK = """
 import runpy, shutil, sys
 free = int(sys.argv[1])
@@ -224,5 +224,5 @@ runpy.run_path(sys.argv[0], run_name="__main__")
 
 
 def small_disk(free):
-    """The words before a script that make it see so many bytes free."""
+    """The words before a script that make it see this number of bytes free."""
     return [sys.executable, "-c", SMALL_DISK, str(free)]

@@ -530,7 +530,7 @@ def is_running(number):
         return False
 
 
-# A program to whose port somebody else connects first, so many times.
+# A program to whose port somebody else connects first, a number of times.
 TAKEN = """#!/usr/bin/python3
 import os, socket, sys
 count = "{room}/taken"

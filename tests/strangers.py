@@ -77,7 +77,7 @@ class Site:
 # ---- floods
 
 def poured(port: int, context: ssl.SSLContext | None, data: bytes, seconds: float) -> int:
-    """Sends the same requests over and over on one connection, for so many seconds at most, and reads the replies. How many came."""
+    """Sends the same requests over and over on one connection, for some seconds at most, and reads the replies. How many came."""
     came, until, wanted = 0, time.monotonic() + seconds, data.count(b"HTTP/1.1\r\n")
     with socket.create_connection(("127.0.0.1", port), timeout=5, source_address=("127.2.0.200", 0)) as plain, (context.wrap_socket(plain) if context else plain) as peer:
         try:
@@ -263,7 +263,7 @@ def one_network(folder: str) -> None:
     own, which is gone with its last process."""
     words = ["unshare", "--net", sys.executable, os.path.abspath(__file__), PROGRAM, folder]
     if not shutil.which("ip") or os.geteuid() != 0 or subprocess.run(["unshare", "--net", "ip", "link", "set", "lo", "up"], capture_output=True, check=False).returncode:
-        print("gateway: a network of its own can't be had here, so many addresses of one network are left out")
+        print("gateway: a network of its own can't be had here, so the addresses of one network are not tried")
         return
     done = subprocess.run(words, capture_output=True, text=True, timeout=120, check=False)
     try:

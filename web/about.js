@@ -43,7 +43,7 @@ const TERMS = [
   ['Cluster', 'Live cells that are connected by steps of at most two cells. A census counts clusters.'],
   ['Code', 'A text that names an object, such as xq4_153 for the glider. xs: still life and its number of cells; xp: oscillator and its period; xq: spaceship and its period.'],
   ['Deposit', 'A pattern that a member gave to the archive, with its number.'],
-  ['Generation', 'The state of a pattern after so many steps. Generation 0 is the file.'],
+  ['Generation', 'The state of a pattern after that number of steps. Generation 0 is the file.'],
   ['Group', 'A cluster of several objects side by side, none of which changes another; also called a constellation.'],
   ['Haul', 'The objects of many random soups, counted by the program life-haul on your own machine.'],
   ['Kind', 'Still life, oscillator, spaceship, empty, or none of these within the limit.'],

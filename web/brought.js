@@ -30,7 +30,7 @@ export function keepNote(number, text) {
 }
 
 /**
- * The note of a deposit, once; an empty one if there is none.
+ * The note of a deposit, once; an empty one if it has none.
  * @param {number} number
  */
 export function noteOf(number) {

@@ -43,7 +43,7 @@ export function stepOf(size) {
 export const boundStep = (step) => Math.min(Math.max(step, LEAST_STEP), SIZES.length - 1);
 
 /**
- * The greatest size of at most `most` at which so many columns and rows fit into a picture. Below one pixel it is exact.
+ * The greatest size, at most `most`, at which the columns and rows fit into a picture. Below one pixel it is exact.
  * @param {number} columns
  * @param {number} rows
  * @param {number} width

@@ -158,7 +158,7 @@ export async function objectsOfRule(rule, signal) {
   return [...found.values()].sort((one, other) => other.count - one.count || (one.code < other.code ? -1 : 1));
 }
 
-/** Adds a census that has an object so many times. */
+/** Adds a census and how often it has an object. */
 function addPlace(object, census, count) {
   object.count += count;
   object.censuses += 1;

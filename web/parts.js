@@ -189,7 +189,7 @@ function pluralOf(name) {
 }
 
 /**
- * `4 blinkers`, `blinker + block`; an object without a name is told by its cells.
+ * `4 blinkers`, `blinker + block`; an object without a name appears as its number of cells.
  * @param {Part[]} parts
  */
 export function partsText(parts) {

@@ -8,7 +8,7 @@ import { bring } from './brought.js';
 
 /** The longest side of a pattern that the archive takes. */
 
-/** What is to be done with the generation that is shown: its address, its text, a census. It is told of each that is shown. */
+/** What is to be done with the generation that is shown: its address, its text, a census. It hears of each generation that is shown. */
 export class Shown {
   constructor(number, name, page) {
     this.number = number;

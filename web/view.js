@@ -128,7 +128,7 @@ export class View {
   }
 
   /**
-   * Makes cells larger or smaller by so many steps, about a point of the canvas or its middle. Fractions of a step add up.
+   * Makes cells larger or smaller by some steps, about a point of the canvas or its middle. Fractions of a step add up.
    * @param {number} steps
    * @param {{x: number, y: number}} at
    */

@@ -89,7 +89,7 @@ def quarter_of(stamp: str) -> str:
 
 
 def kept(stamps: list[str], counts: list[int]) -> set[str]:
-    """Of these moments, the newest first, those whose copies stay: the last of so many quarters of an hour, days and months."""
+    """Of these moments, the newest first, those whose copies stay: the last of each of the latest quarters of an hour, days and months."""
     stay: set[str] = set()
     for period, count in zip((quarter_of, lambda stamp: stamp[:DAY], lambda stamp: stamp[:MONTH]), counts):
         newest: dict[str, str] = {}

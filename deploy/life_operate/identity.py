@@ -18,7 +18,7 @@ from types import FrameType
 from life_operate.archive import Refused, line_of
 from life_operate.signals import ENDING, die_with_parent
 
-# A request or a reply is one message of at most so many bytes.
+# The longest message in bytes; a request and a reply are one message each.
 MOST_OF_MESSAGE = 65536
 # What the helper does for a request: it gets the request's words, and answers with a text and possibly an open file.
 Action = Callable[..., tuple[str, int | None]]

@@ -35,7 +35,7 @@ import uuid
 from collections.abc import Iterable
 from xml.sax.saxutils import escape
 
-from life_operate.archive import Copies, Refused
+from life_operate.archive import Copies, Refused, sync
 
 VERSION = 1
 BLOCK = 1000
@@ -50,7 +50,7 @@ BEGIN_OF_FILE = 14_000
 TEXTS = re.compile(rb"(?:#N (.+)\n)?(?:#O (.+)\n)?((?:#C.*\n)*)x = ([0-9]+), y = ([0-9]+), rule = (.+)\n")
 TABLES = ("deposits", "censuses")
 KINDS = ("deposits", "censuses", "objects", "comments")
-# Of the comments of a deposit so many characters are in the index: titles and authors are in the first lines.
+# How many characters of a deposit's comments are in the index: titles and authors are in the first lines.
 MOST_OF_COMMENTS = 1000
 
 
@@ -97,7 +97,7 @@ class Archive:
         return count
 
     def mark(self, counts: dict[str, int]) -> str:
-        """A digest of the first and of the last row of each table, of so many rows: another archive, or less of this one, has another."""
+        """A digest of the first and of the last row of each table that has this many rows. Another archive, or less of this one, has another digest."""
         numbers = [{1, counts[table]} for table in TABLES]
         rows = [self.rows(f"SELECT id, member, rule, rle FROM deposits WHERE id IN ({', '.join('?' * len(numbers[0]))})", *numbers[0]),
                 self.rows(f"SELECT id, deposit, gens, lim, clusters FROM censuses WHERE id IN ({', '.join('?' * len(numbers[1]))})", *numbers[1])]
@@ -152,15 +152,6 @@ def columned(values: Iterable[str]) -> dict:
 
 # ---- the folder
 
-def sync(path: str) -> None:
-    """Waits until a file, or the names in a folder, are on the disk."""
-    number = os.open(path, os.O_RDONLY)
-    try:
-        os.fsync(number)
-    finally:
-        os.close(number)
-
-
 class Folder:
     """The index that is there."""
 
@@ -173,7 +164,7 @@ class Folder:
         self.head = self.read_head()
 
     def read_head(self) -> dict:
-        """The list of what is there; that of nothing if there is none, or one of another version."""
+        """The list of what is there. It is empty if the file is missing or has another version."""
         nothing = {"version": VERSION, "mark": "", "counts": dict.fromkeys(TABLES, 0), "blocks": {kind: [] for kind in KINDS}}
         try:
             with open(os.path.join(self.path, HEAD), "rb") as file:

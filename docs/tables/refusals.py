@@ -118,7 +118,7 @@ def help_names(refusals: List[Refusal]) -> List[str]:
 # ---- the web pages and the members' scripts
 
 def script_sentences(refusals: List[Refusal]) -> List[str]:
-    """The constants of refusals.js. A fault's number is its index in the list, so there is none at 0."""
+    """The constants of refusals.js. A fault's number is its index in the list, so place 0 is empty."""
     keys = {row.name: f"'{row.name}'" if "-" in row.name else row.name for row in refusals}
     archive, gateway = ([f"  {keys[row.name]}: '{row.sentence}'," for row in of_kind(refusals, kind)]
                         for kind in ("refusal", "gateway"))

@@ -125,7 +125,7 @@ fault() {
 # Prints the refusal that has this name.
 refusal() {
   case $1 in
-    token-reused) echo 'token-reused: the token of this request already stands for something else' ;;
+    token-reused) echo 'token-reused: the token of this request was already used for something else' ;;
     out-of-limit) echo 'out-of-limit: a generation is 0 to 2048, a limit 1 to 2048' ;;
     full) echo 'full: the archive takes no more' ;;
     unavailable) echo 'unavailable: the archive could not do it now; give the same command again, nothing is stored twice' ;;

@@ -1,4 +1,4 @@
--- A connection whose stream is known, and none.
+-- A connection whose stream is known, and the end of the connections.
 use Rattle.std.proofs.Common.{◌≡◌, ◌∙◌, ◌+◌, ◌<◌, inl, inr, ℕ, suc, true, false, List, [], ◌∷◌, ◌++◌, map, drop, length, Option, None, Some, option_copied, Bor, refl, sym, ap, subst, append-nil, add-one, drop-cons}
 use Rattle.std.proofs.lemmas.Bool.{false≢true}
 use Rattle.std.specs.Slice.{IsItemAt}

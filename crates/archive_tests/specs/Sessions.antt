@@ -3,7 +3,7 @@ use Rattle.std.specs.Prelude.{ℕ, List, map, drop, None, Some}
 use Rattle.std.specs.Borrow.{Bor}
 use Rattle.life_archive.specs.Session.{Traffic}
 
--- connections that will send these streams, one after the other, after so many that failed
+-- connections that will send these streams, one after the other; this many have failed before
 abbrev pub sends : List (List ℕ) → ℕ → Traffic
 sends streams failures = record { to_come = Some streams; put = None; failures = failures }
 

@@ -1,4 +1,4 @@
-//! Deposits of files that come in: whole, byte by byte, and with a take or a put that fails.
+//! Depositing files: whole, byte by byte, and with a take or a put that fails.
 use crate::requests::{BLOCK, Example, GLIDER, other_in_memory};
 use life_archive::{ArchiveStop, run_deposit};
 use life_desk::Refusal;
@@ -10,7 +10,7 @@ use sqlite::Alter;
 use std::alloc::Global;
 use std::test::Fail;
 
-/// A member and a token, a file, how it comes, what is answered and put, and how many deposits the archive has then.
+/// A member and a token, a file, how it comes, the expected answer and output, and how many deposits the archive has then.
 type Run = (
     (&'static str, &'static str),
     &'static str,
@@ -38,7 +38,7 @@ const TOKEN_REUSED: ArchiveStop = ArchiveStop::Desk(Refusal::TokenReused);
 
 const FULL: ArchiveStop = ArchiveStop::Desk(Refusal::Full);
 
-/// What a new archive of capacity 2 answers to these, one after the other.
+/// Deposits in a new archive of capacity 2, one after the other.
 const RUNS: [Run; 11] = [
     (
         ("ann", "t1"),
@@ -60,7 +60,7 @@ const RUNS: [Run; 11] = [
         1,
     ),
     (("ann", "t1"), BLOCK, Flow::Whole, Err(TOKEN_REUSED), "", 1),
-    // The archive has kept the block when its number can't be put.
+    // The archive has stored the block although its number can't be written.
     (
         ("ann", "t2"),
         BLOCK,

@@ -1,7 +1,7 @@
 //! An archive in files: opened, asked, closed and opened again.
 //!
-//! A call on a store of files is dear to prove: so each function here makes a few, gives the files back on every way, and
-//! drops no store. All files are of one kind, which stops after some calls, or never.
+//! Calls on a store of files take long to prove, so each function here makes only a few, returns the files on every path, and
+//! drops no store. All files have one type, which stops after some calls, or never.
 use crate::requests::{Asked, BLOCK, BLOCK_SHOWN, GLIDER, GLIDER_SHOWN, Row, Said, other};
 use life_store::{Archive, OpenFault};
 use sqlite::{Alter, Connection, FileStore, Files, Options};
@@ -12,11 +12,11 @@ use std::test::Fail;
 /// A file that stops after some calls.
 pub type Stopping = Fuse<Memory>;
 
-/// The first row that an archive over files answers otherwise, or why it is not opened. The close is asked for after the
-/// rows: if it is refused, it is the row that is answered otherwise.
+/// The first row that an archive over files answers differently, or why it can't be opened. Closing comes after the rows: if it
+/// fails, it counts as the row that differs.
 pub type Outcome = Result<Option<usize>, OpenFault>;
 
-/// Two files of these bytes, which stop after so many calls.
+/// Two files of these bytes, which stop after this many calls.
 pub fn stopping(log: Memory, log_calls: u64, db: Memory, db_calls: u64) -> Files<Stopping> {
     Files {
         log: Fuse::new(log, log_calls),
@@ -24,12 +24,12 @@ pub fn stopping(log: Memory, log_calls: u64, db: Memory, db_calls: u64) -> Files
     }
 }
 
-/// Two empty files, which stop after so many calls.
+/// Two empty files, which stop after this many calls.
 pub fn blank(alloc: Global, log_calls: u64, db_calls: u64) -> Files<Stopping> {
     stopping(Memory::new(alloc), log_calls, Memory::new(alloc), db_calls)
 }
 
-/// What came of an archive that was opened, which is asked and closed, and its files.
+/// The result of an opened archive that is asked and closed, and its files.
 fn closed<D: Disk + Drop>(
     alloc: Global,
     opened: Result<Archive<FileStore<D>>, (OpenFault, Files<D>)>,
@@ -60,7 +60,7 @@ fn over_any<D: Disk + Drop>(
     closed(alloc, Archive::open_files(alloc, files, capacity), rows)
 }
 
-/// Opens an archive over the files, asks it, and closes it. The files are given back in any case.
+/// Opens an archive over the files, asks it, and closes it. The files are always returned.
 pub fn over(
     alloc: Global,
     files: Files<Stopping>,
@@ -81,14 +81,14 @@ fn over_again<D: Disk + Drop>(alloc: Global, files: Files<D>, rows: &[Row]) -> (
     }
 }
 
-/// Something that is done over files that stop after so many calls.
+/// An action on files that stop after this many calls.
 pub trait Stoppable: Copy {
-    /// Whether it was done with no stop, and whether what is found afterwards is sound.
+    /// Whether it finished without a stop, and whether the result is sound.
     fn stop_at(self, alloc: Global, log_calls: u64, db_calls: u64) -> Option<(bool, bool)>;
 }
 
-/// Whether it is tried with a stop at each call on the log, or else on the database file, up to one with no stop, and none of them left
-/// what is not sound.
+/// Tries it with a stop at each call on the log, or on the database file, until there is no stop. Whether every stop left something
+/// sound.
 pub fn stands<T: Stoppable>(alloc: Global, run: T, is_log: bool) -> bool {
     for calls in 0..1000u64 {
         let (log_calls, db_calls) = if is_log {
@@ -105,14 +105,14 @@ pub fn stands<T: Stoppable>(alloc: Global, run: T, is_log: bool) -> bool {
     false
 }
 
-/// The glider and the block are kept as 1 and 2, and nothing else in an archive of capacity 2.
+/// The glider and the block are stored as 1 and 2, and nothing else, in an archive of capacity 2.
 const KEEPS_TWO: [Row; 3] = [
     (Asked::Deposit("ann", "t1", GLIDER), Said::Deposited(1)),
     (Asked::Deposit("ann", "t2", BLOCK), Said::Deposited(2)),
     (Asked::Deposit("ann", "t3", BLOCK), Said::Refused(10)),
 ];
 
-/// Both are there, also with capacity 1, and nothing else is kept.
+/// Both are there, even with capacity 1, and nothing else is stored.
 const HAS_TWO: [Row; 4] = [
     (Asked::Deposit("ann", "t1", GLIDER), Said::Deposited(1)),
     (Asked::Deposit("ann", "t4", GLIDER), Said::Refused(10)),
@@ -120,15 +120,15 @@ const HAS_TWO: [Row; 4] = [
     (Asked::Show(2), Said::File(BLOCK_SHOWN)),
 ];
 
-/// With capacity 3 one more is kept.
+/// With capacity 3 one more is stored.
 const KEEPS_A_THIRD: [Row; 3] = [
     (Asked::Show(2), Said::File(BLOCK_SHOWN)),
     (Asked::Deposit("ann", "t4", GLIDER), Said::Deposited(3)),
     (Asked::Deposit("ann", "t5", GLIDER), Said::Refused(10)),
 ];
 
-/// What came of openings of the same files, one after the other: an archive keeps two deposits, is opened with two capacities
-/// that are none, with capacity 1, and, closed and opened again, with capacity 3.
+/// The results of opening the same files several times: an archive stores two deposits, and is opened with two invalid
+/// capacities, with capacity 1, and, after closing, with capacity 3.
 fn outcomes(alloc: Global) -> [Outcome; 5] {
     let files = blank(alloc, u64::MAX, u64::MAX);
     let (first, files) = over(alloc, files, 2, KEEPS_TWO.as_slice());
@@ -146,7 +146,7 @@ fn files_are_opened_with_other_capacities(rt: HostRuntime) -> Result<(), Fail> {
     Ok(())
 }
 
-/// Whether all statements were run.
+/// Whether all statements succeeded.
 fn runs<S: Alter>(conn: &mut Connection<S>, statements: &[&str]) -> bool {
     for statement in statements {
         if conn.execute(statement, &[]).is_err() {
@@ -156,7 +156,7 @@ fn runs<S: Alter>(conn: &mut Connection<S>, statements: &[&str]) -> bool {
     true
 }
 
-/// Whether these statements were run in the database of the files and it was closed, and the files.
+/// Whether these statements succeeded in the database of the files and it could be closed, and the files.
 fn run_over<D: Disk + Drop>(
     alloc: Global,
     files: Files<D>,
@@ -177,7 +177,7 @@ fn run_over<D: Disk + Drop>(
     }
 }
 
-/// The files of a new database in which these statements were run.
+/// The files of a new database after these statements.
 pub fn made_by(alloc: Global, statements: &[&str]) -> Option<Files<Stopping>> {
     match run_over(alloc, blank(alloc, u64::MAX, u64::MAX), statements) {
         (true, files) => Some(files),

@@ -1,4 +1,4 @@
-//! A message over loopback, from one process: a peer connects, sends and ends, and then the server accepts it, answers and ends.
+//! A message over loopback, within one process: a peer connects, sends and ends; then the server accepts it, answers and ends.
 use crate::pages::{DEPOSITED, GLIDER};
 use life_archive::run_serve;
 use life_pages::IoFault;

@@ -14,9 +14,9 @@ use std::test::Fail;
 /// How a stream of messages ends.
 #[derive(Clone, Copy, PartialEq, Eq)]
 enum End {
-    /// It is found to end.
+    /// The end is found.
     Found,
-    /// It is found to end within a message.
+    /// The end is found inside a message.
     Within,
     /// Nothing is taken after the last message.
     Last,
@@ -37,7 +37,7 @@ fn stream(alloc: Global, worked: Worked) -> Result<String, AllocError> {
     Ok(text)
 }
 
-/// The replies to the messages that are whole after so many bytes.
+/// The replies to the messages that are whole after this many bytes.
 fn replies_after(alloc: Global, worked: Worked, bytes: usize) -> Result<String, AllocError> {
     let mut text = String::new(alloc);
     let mut end = 0_usize;
@@ -59,7 +59,7 @@ fn all_replies(alloc: Global, worked: Worked) -> Result<String, AllocError> {
     Ok(text)
 }
 
-/// Whether a take that fails ends the stream after the replies to what came whole, whichever take it is.
+/// Whether a failing take ends the stream after the replies to all whole messages, whichever take it is.
 fn takes_fail<S: Alter>(
     alloc: Global,
     archive: &mut Archive<S>,
@@ -87,7 +87,7 @@ fn takes_fail<S: Alter>(
     true
 }
 
-/// Whether a put that fails ends the stream after the bytes before it, whichever put it is.
+/// Whether a failing put ends the stream after the bytes before it, whichever put it is.
 fn puts_fail<S: Alter>(alloc: Global, archive: &mut Archive<S>, exchange: Exchange<'_>) -> bool {
     for end in 0..exchange.put.len() {
         let failing = Exchange {
@@ -138,7 +138,7 @@ impl Example for Step {
 const CUT_GLIDER: &str =
     "POST /deposits HTTP/1.1\r\nhost: a\r\nx-member: ann\r\nx-token: t1\r\ncontent-length: 24\r\n\r\nx = 3, y = 3\nbo$2bo$3o!";
 
-/// Two messages of which the second is the last.
+/// Two messages; the second closes the connection.
 const TWO_MESSAGES: [(&str, &str); 2] = [
     (
         "GET /deposits/1 HTTP/1.1\r\n\r\n",
@@ -150,8 +150,8 @@ const TWO_MESSAGES: [(&str, &str); 2] = [
     ),
 ];
 
-/// What an archive with the glider is sent: its deposit again; another under its token; a number that is not stored; the deposit without
-/// its last byte; two messages; nothing; and a line end alone.
+/// Messages to an archive with the glider: its deposit again; another deposit under its token; a number that does not exist; the deposit
+/// without its last byte; two messages; nothing; and only a line end.
 const BY_THE_GLIDER: [Step; 8] = [
     Step::Does(Act::Answers(GLIDER, DEPOSITED)),
     Step::Serves(&[(GLIDER, DEPOSITED)], End::Found),
@@ -175,7 +175,7 @@ const TOTAL: (&str, &str) = (
     "HTTP/1.1 200 OK\r\ncontent-type: application/json\r\ncontent-length: 11\r\n\r\n{\"total\":2}",
 );
 
-/// What an archive with a field and its census is sent: the census again, its table, and its object's total.
+/// Messages to an archive with a field and its census: the census again, its table, and its object's total.
 const BY_THE_FIELD: [Step; 5] = [
     Step::Does(Act::Answers(FIELD, DEPOSITED)),
     Step::Does(Act::Answers(CENSUS, COUNTED)),

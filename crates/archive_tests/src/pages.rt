@@ -1,7 +1,6 @@
 //! Messages to an archive: worked ones, whole, in pieces, and with a call that fails.
 //!
-//! What is sent and what is put are values with nothing to drop, and all streams are of one kind, which comes and goes in
-//! pieces.
+//! Messages and replies are values with nothing to drop, and all streams have one type, which moves bytes in pieces.
 use crate::requests::{Example, other_in_memory};
 use life_archive::run_serve;
 use life_pages::IoFault;
@@ -38,7 +37,7 @@ pub const BAD: &str =
 const NOT_FOUND: &str =
     "HTTP/1.1 404 Not Found\r\ncontent-type: application/json\r\ncontent-length: 37\r\n\r\n{\"error\":\"no-such-page\",\"refusal\":12}";
 
-/// A stream, and what comes of it.
+/// A stream and its result.
 #[derive(Clone, Copy)]
 pub struct Exchange<'a> {
     pub stream: &'a [u8],
@@ -57,7 +56,7 @@ pub fn whole<'a>(stream: &'a str, replies: &'a str) -> Exchange<'a> {
     }
 }
 
-/// Whether this comes of a stream.
+/// Whether a stream has this result.
 pub fn comes<S: Alter>(alloc: Global, archive: &mut Archive<S>, exchange: Exchange<'_>) -> bool {
     let Ok(mut input) = exchange.flow.inlet(alloc, exchange.stream) else {
         return false;
@@ -75,17 +74,17 @@ type Page = (&'static str, &'static str, &'static str, &'static str);
 pub enum Act {
     /// It answers this to a stream.
     Answers(&'static str, &'static str),
-    /// It answers this to a stream of bytes that are no text.
+    /// It answers this to a stream of bytes that are not text.
     AnswersBytes(&'static [u8], &'static str),
     /// It shows this page.
     Shows(Page),
-    /// It has so many deposits.
+    /// It has this many deposits.
     Has(u64),
-    /// It answers so to a message with so many header lines.
+    /// It gives this answer to a message with this many header lines.
     AnswersLines(usize, &'static str),
     /// It answers this to a text after more line ends than a head has bytes.
     AnswersBehindLineEnds(&'static str, &'static str),
-    /// It answers each beginning of the glider's deposit as a bad message.
+    /// It answers each prefix of the glider's deposit as a bad message.
     AnswersBeginnings,
 }
 
@@ -103,12 +102,12 @@ fn shows<S: Alter>(alloc: Global, archive: &mut Archive<S>, page: Page) -> bool 
     }
 }
 
-/// How many deposits are kept.
+/// How many deposits are stored.
 fn kept<S: Alter>(archive: &mut Archive<S>) -> Option<u64> {
     archive.count_deposits().ok()
 }
 
-/// A text, so often the same line, and another text.
+/// A text, a line repeated this often, and another text.
 pub fn repeated(
     alloc: Global,
     front: &str,
@@ -124,7 +123,7 @@ pub fn repeated(
     Ok(text)
 }
 
-/// Whether this comes of a text that was made, and comes whole.
+/// Whether a generated text that comes whole has this result.
 fn comes_of<S: Alter>(
     alloc: Global,
     archive: &mut Archive<S>,
@@ -137,7 +136,7 @@ fn comes_of<S: Alter>(
     }
 }
 
-/// Whether each beginning of the glider's deposit is answered as a bad message.
+/// Whether each prefix of the glider's deposit is answered as a bad message.
 fn has_bad_beginnings<S: Alter>(alloc: Global, archive: &mut Archive<S>) -> bool {
     for end in 1..GLIDER.len() {
         let exchange = Exchange {
@@ -181,7 +180,7 @@ impl Example for Act {
     }
 }
 
-/// A deposit, the same again, another under its token, and a number that is not kept.
+/// A deposit, the same again, another under its token, and a number that does not exist.
 const DEPOSITS: &[Act] = &[
     Act::Answers(GLIDER, DEPOSITED),
     Act::Answers(GLIDER, DEPOSITED),
@@ -211,7 +210,7 @@ const BAD_MESSAGES: &[Act] = &[
     Act::Has(0),
 ];
 
-/// Streams of nothing, of line ends, and of two messages, of which the second is the last.
+/// Streams of nothing, of line ends, and of two messages, the second of which closes the connection.
 const STREAMS: &[Act] = &[
     Act::Answers("", ""),
     Act::Answers("\r\n\r\n", ""),
@@ -229,7 +228,7 @@ pub const CENSUS: &str =
 pub const COUNTED: &str =
     "HTTP/1.1 201 Created\r\ncontent-type: application/json\r\ncontent-length: 12\r\n\r\n{\"census\":1}";
 
-/// A field, its census, the same census again, and what is shown of it.
+/// A field, its census, the same census again, and the routes that show it.
 const CENSUSES: &[Act] = &[
     Act::Answers(FIELD, DEPOSITED),
     Act::Answers(CENSUS, COUNTED),
@@ -296,7 +295,7 @@ const WITHOUT_A_CODE: &[Act] = &[
 
 const NO_PAGE: &str = "{\"error\":\"no-such-page\",\"refusal\":12}";
 
-/// A deposit, one without its end, pages of the deposit, and pages that are none.
+/// A deposit, one without its end, routes of the deposit, and paths without a route.
 const PAGES: &[Act] = &[
     Act::Answers(GLIDER, DEPOSITED),
     Act::Answers(
@@ -374,7 +373,7 @@ fn archives_answer_messages(rt: HostRuntime) -> Result<(), Fail> {
     Ok(())
 }
 
-/// Whether this comes of a stream to a new archive of capacity 2, and it has so many deposits then.
+/// Whether a stream to a new archive of capacity 2 has this result, and the archive has this many deposits then.
 fn comes_to_a_new_one(alloc: Global, exchange: Exchange<'_>, number: u64) -> bool {
     match Archive::open_in_memory(alloc, 2) {
         Ok(mut archive) => {
@@ -384,7 +383,7 @@ fn comes_to_a_new_one(alloc: Global, exchange: Exchange<'_>, number: u64) -> boo
     }
 }
 
-/// Whether the glider's deposit, whose take of this number fails, is kept if it was taken whole, and else not.
+/// Whether the glider's deposit, whose take with this number fails, is stored exactly if it was taken whole.
 fn stops_at_the_take(alloc: Global, number: usize) -> bool {
     let is_whole = number > GLIDER.len();
     let exchange = Exchange {
@@ -403,7 +402,7 @@ fn a_take_fails(rt: HostRuntime) -> Result<(), Fail> {
     Ok(())
 }
 
-/// Whether the glider's deposit is kept, and is found again, if a put fails after these bytes.
+/// Whether the glider's deposit is stored, and is found again, if a put fails after these bytes.
 fn stops_behind<S: Alter>(alloc: Global, archive: &mut Archive<S>, put: &[u8]) -> bool {
     let exchange = Exchange {
         flow: Flow::Unwritable,
@@ -433,8 +432,8 @@ fn a_put_fails(rt: HostRuntime) -> Result<(), Fail> {
     Ok(())
 }
 
-/// Whether no take follows a message that has come whole, the glider's deposit, before the reply to it is put; the same comes
-/// once more after it.
+/// Whether no take comes between a whole message, the glider's deposit, and the reply to it; the same message follows once
+/// more.
 fn takes_none_before_the_reply<S: Alter>(
     alloc: Global,
     archive: &mut Archive<S>,
@@ -475,7 +474,7 @@ fn no_take_before_the_reply(rt: HostRuntime) -> Result<(), Fail> {
 /// The most takes that are made of a stream.
 const TAKES: usize = 1_048_576;
 
-/// A deposit of so many bytes, head and body: one live cell, and line ends after the end of the pattern.
+/// A deposit of this many bytes, head and body: one live cell, and line ends after the end of the pattern.
 fn long_deposit(alloc: Global, bytes: usize) -> Result<String, AllocError> {
     let front =
         "POST /deposits HTTP/1.1\r\nx-member: ann\r\nx-token: t1\r\ncontent-length: 1048000\r\n\r\n";
@@ -492,7 +491,7 @@ fn long_deposit(alloc: Global, bytes: usize) -> Result<String, AllocError> {
     )
 }
 
-/// Whether serving a deposit of so many bytes, which come one by one, ends so, and the deposit is kept.
+/// Whether serving a deposit of this many bytes, one by one, ends like this, and the deposit is stored.
 fn ends_bytewise(alloc: Global, bytes: usize, done: Result<(), IoFault>) -> bool {
     match long_deposit(alloc, bytes) {
         Ok(text) => {

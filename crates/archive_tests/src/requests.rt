@@ -1,7 +1,7 @@
 //! Worked requests and their replies, one by one and as one list.
 //!
-//! What is asked and what is said are values with nothing to drop. A value that has something is alive in one function alone,
-//! which gives it no way out but its end.
+//! Rows of requests and replies are values with nothing to drop. A value that has something to drop lives in one function
+//! only, which has a single exit.
 use life_census::Tally;
 use life_code::Kind;
 use life_desk::{
@@ -15,7 +15,7 @@ use std::test::Fail;
 
 pub const GLIDER: &str = "x = 3, y = 3\nbo$2bo$3o!\n";
 
-/// The same glider, spelled otherwise.
+/// The same glider, spelled differently.
 const GLIDER_AGAIN: &str = "x = 3, y = 3\nbo$2bo$ooo!\n";
 
 pub const GLIDER_SHOWN: &str = "x = 3, y = 3, rule = B3/S23\nbo$2bo$3o!\n";
@@ -66,7 +66,7 @@ pub enum Said {
     BadPattern(u8),
 }
 
-/// What is asked, and what should be said to it.
+/// A request and its expected reply.
 pub type Row = (Asked, Said);
 
 /// Deposits in an archive of capacity 2.
@@ -182,7 +182,7 @@ fn request(alloc: Global, asked: Asked) -> Result<Request, Unavailable> {
     }
 }
 
-/// Whether a line of a list is this one of `ann`, under Life.
+/// Whether a line of a list is this one, of `ann` and under Life.
 fn is_line(line: &Listed, id: u64, population: u64) -> bool {
     line.id == id
         && line.member.as_bytes() == b"ann".as_slice()
@@ -228,7 +228,7 @@ fn is_bad_pattern(refusal: &Refusal, number: u8) -> bool {
     }
 }
 
-/// Whether a reply says so.
+/// Whether a reply matches the row.
 fn says(reply: &Reply, said: Said) -> bool {
     match said {
         Said::Deposited(number) => matches!(reply, Reply::Deposited(id) if *id == number),
@@ -258,7 +258,7 @@ fn says(reply: &Reply, said: Said) -> bool {
 
 /// A row of a table: what an archive does.
 pub trait Example: Copy {
-    /// Whether the archive does so.
+    /// Whether the archive does that.
     fn holds<S: Alter>(self, alloc: Global, archive: &mut Archive<S>) -> bool;
 }
 
@@ -271,7 +271,7 @@ impl Example for Row {
     }
 }
 
-/// The first row that an archive does otherwise, the rows one by one.
+/// The first row that an archive does differently, row by row.
 pub fn other<S: Alter, E: Example>(
     alloc: Global,
     archive: &mut Archive<S>,
@@ -285,7 +285,7 @@ pub fn other<S: Alter, E: Example>(
     None
 }
 
-/// The first row that a new archive of capacity 2 in memory does otherwise.
+/// The first row that a new archive of capacity 2 in memory does differently.
 pub fn other_in_memory<E: Example>(alloc: Global, rows: &[E]) -> Option<usize> {
     match Archive::open_in_memory(alloc, 2) {
         Ok(mut archive) => other(alloc, &mut archive, rows),
@@ -293,7 +293,7 @@ pub fn other_in_memory<E: Example>(alloc: Global, rows: &[E]) -> Option<usize> {
     }
 }
 
-/// Puts a request that was made after the others.
+/// Appends a request, if it could be made.
 fn put(
     requests: &mut Vec<Request>,
     request: Result<Request, Unavailable>,
@@ -316,7 +316,7 @@ fn requests(alloc: Global, rows: &[Row]) -> Result<Vec<Request>, Unavailable> {
     Ok(requests)
 }
 
-/// The first row that is answered otherwise by these replies.
+/// The first row that these replies answer differently.
 fn other_reply(replies: &[Reply], rows: &[Row]) -> Option<usize> {
     if replies.len() != rows.len() {
         return Some(rows.len());
@@ -344,7 +344,7 @@ fn replies<S: Alter>(
     }
 }
 
-/// The first row that an archive answers otherwise, the rows asked as one list.
+/// The first row that an archive answers differently, with all rows as one list.
 fn other_as_a_list<S: Alter>(
     alloc: Global,
     archive: &mut Archive<S>,
@@ -356,7 +356,7 @@ fn other_as_a_list<S: Alter>(
     }
 }
 
-/// What is asked of a new archive in memory as one list.
+/// Requests to a new archive in memory, as one list.
 #[derive(Clone, Copy)]
 enum List<'a> {
     Rows(&'a [Row]),
@@ -364,7 +364,7 @@ enum List<'a> {
     Many,
 }
 
-/// What an archive answers otherwise.
+/// The first row that an archive answers differently.
 fn otherwise<S: Alter>(alloc: Global, archive: &mut Archive<S>, list: List<'_>) -> Option<usize> {
     match list {
         List::Rows(rows) => other_as_a_list(alloc, archive, rows),
@@ -372,7 +372,7 @@ fn otherwise<S: Alter>(alloc: Global, archive: &mut Archive<S>, list: List<'_>) 
     }
 }
 
-/// What a new archive in memory answers otherwise.
+/// The first row that a new archive in memory answers differently.
 fn in_memory(alloc: Global, capacity: u64, list: List<'_>) -> Option<usize> {
     match Archive::open_in_memory(alloc, capacity) {
         Ok(mut archive) => otherwise(alloc, &mut archive, list),
@@ -386,7 +386,7 @@ fn the_laws_are_called() {
     law_of_the_archive();
 }
 
-/// The first row that is answered otherwise, one by one and as one list.
+/// The first row that is answered differently, one by one and as one list.
 fn others(alloc: Global, rows: &[Row]) -> (Option<usize>, Option<usize>) {
     let one_by_one = other_in_memory(alloc, rows);
     (one_by_one, in_memory(alloc, 2, List::Rows(rows)))
@@ -439,7 +439,7 @@ fn are_numbered(lines: &[Listed], first: u64) -> bool {
     true
 }
 
-/// Whether the reply in this place is a list of so many deposits, numbered from this number on.
+/// Whether the reply in this place is a list of this many deposits, numbered from this number on.
 fn has_list(replies: &[Reply], at: usize, many: usize, first: u64) -> bool {
     match replies.get(at) {
         Some(Reply::Deposits(list)) => {
@@ -458,7 +458,7 @@ fn has_number(replies: &[Reply], at: usize, number: u64) -> bool {
     }
 }
 
-/// The first of the replies that is not as it should be to `many`.
+/// The first wrong reply to `many`.
 fn other_in_many(replies: &[Reply]) -> Option<usize> {
     for at in 0..101usize {
         if !has_number(replies, at, at as u64 + 1) {

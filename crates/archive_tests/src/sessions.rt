@@ -1,5 +1,5 @@
-//! Sessions over files in memory: an archive is opened over them, serves connections, and is let go; and then again,
-//! over what a stop at any call of a file left.
+//! Sessions over files in memory: an archive is opened over them, serves connections, and is dropped; and then again, over
+//! what a stop at any call on a file left.
 ghost use Rattle.std.specs.Prelude.{◌≡◌, ◌∷◌, ℕ, List, IfSome};
 ghost use Rattle.life_rle.specs.Stream.{raised};
 ghost use Rattle.life_archive.specs.Session.{ServesOne};
@@ -14,14 +14,14 @@ use sqlite::{Alter, Files};
 use sqlite_disk::Disk;
 use std::alloc::Global;
 
-/// One more than so many failures, if there is a number for it.
+/// One more than this many failures, if there is a number for it.
 fn one_more(failures: u64) -> u64
     ensures { result ≡ raised failures }
 {
     failures.saturating_add(1)
 }
 
-/// Serves one connection, on which these bytes come. The result is how many connections were not served to their end, if it was so many
+/// Serves one connection on which these bytes come. Returns how many connections have failed, given how many had failed
 /// before.
 fn serve_sent<S: Alter>(
     alloc: Global,
@@ -59,7 +59,7 @@ struct Peers<'a> {
 }
 
 impl Connections for Peers<'_> {
-    // What each sends is known. What is put to each is compared by the test, since a record of it may find no memory.
+    // The bytes that each sends are known. The test compares the replies, since recording them may run out of memory.
     ghost traffic = { λ s. sends (streams_from s.next s.sent.now) s.failures };
 
     fn listen(&mut self) -> Result<(), ArchiveStop> {
@@ -76,7 +76,7 @@ impl Connections for Peers<'_> {
         let failures = serve_sent(alloc, archive, found.0, &mut output, self.failures);
         self.failures = failures;
         self.next = found.1;
-        // A reply that there is no room for is not compared.
+        // A reply that could not be recorded is not compared.
         let _stored = self.put.push(output);
     }
 }
@@ -88,7 +88,7 @@ struct Replies {
     listed: usize,
 }
 
-/// How often the text stands in the bytes.
+/// How often the text occurs in the bytes.
 fn count_of(bytes: &[u8], text: &[u8]) -> usize {
     let mut count = 0_usize;
     for at in 0..bytes.len() {
@@ -159,7 +159,7 @@ const LISTS: [&[u8]; 1] = [LIST];
 /// What the third is sent: the same deposits once more, and the list.
 const KEEPS_AGAIN: [&[u8]; 3] = [GLIDER, BLOCK, LIST];
 
-/// Three sessions, of which the first is over files that stop.
+/// Three sessions; the first is over files that stop.
 #[derive(Clone, Copy)]
 struct Sessions;
 

@@ -1,4 +1,4 @@
-//! A stop at each call of a file: as a deposit and a census are kept, and as an archive of layout 1 is migrated.
+//! A stop at each call on a file: while a deposit and a census are stored, and while an archive of schema version 1 is migrated.
 use crate::files::{
     Outcome, Stoppable, Stopping, blank, made_by, over, schema_of, stands, stopping,
 };
@@ -8,7 +8,7 @@ use sqlite::Files;
 use sqlite_disk::{Disk, Memory};
 use std::alloc::Global;
 
-/// An archive of layout 1: two blocks at distance 3 (`2o2b2o$2o2b2o!`) and two blinkers whose phases touch
+/// An archive of schema version 1: two blocks at distance 3 (`2o2b2o$2o2b2o!`) and two blinkers whose phases touch
 /// (`o2bo$o2bo$o2bo!`), each with a census of generation 0. Their files are in hexadecimal digits.
 const FIRST: [&str; 11] = [
     "CREATE TABLE layout (version INTEGER NOT NULL) STRICT",
@@ -33,7 +33,7 @@ fn copied(alloc: Global, file: &Stopping) -> Result<Memory, Unavailable> {
     Ok(copy)
 }
 
-/// What the files hold, in files that stop after so many calls.
+/// What the files hold, in files that stop after this many calls.
 pub fn again(
     alloc: Global,
     files: &Files<Stopping>,
@@ -46,7 +46,7 @@ pub fn again(
     }
 }
 
-/// The second deposit of the archive of layout 1.
+/// The second deposit of the archive of schema version 1.
 const BLINKERS_SHOWN: &str = "x = 4, y = 3, rule = B3/S23\no2bo$o2bo$o2bo!\n";
 
 const DEPOSIT: Row = (Asked::Deposit("ann", "t1", FIELD), Said::Deposited(1));
@@ -55,8 +55,8 @@ const CENSUS: Row = (Asked::Census("c1", 1, 0, 1), Said::Counted(1));
 
 const SHOWN: Row = (Asked::ShowCensus(1), Said::Census(1, true, "xs4_33"));
 
-/// What a new archive answers after a deposit and a census: if the census was not answered all but the first row, and if the deposit
-/// was not either all but the first two. In each case both are taken again, and are there once and whole.
+/// What a new archive answers after a deposit and a census. If the census was not answered, the first row is left out; if the deposit was
+/// not answered either, the first two. In each case both are sent again, and are there once and whole.
 const KEPT: [Row; 8] = [
     SHOWN,
     (Asked::Show(1), Said::File(FIELD_SHOWN)),
@@ -68,7 +68,7 @@ const KEPT: [Row; 8] = [
     (Asked::ShowCensus(2), Said::Refused(2)),
 ];
 
-/// What an archive of layout 1 answers once it is migrated: its deposits and censuses are there with their flags, and
+/// What an archive of schema version 1 answers once it is migrated: its deposits and censuses are there with their flags, and
 /// nothing else.
 const CARRIED: [Row; 6] = [
     (Asked::ListAfter(0), Said::Deposits(&[(1, 8), (2, 6)])),
@@ -82,11 +82,11 @@ const CARRIED: [Row; 6] = [
 /// A run that is stopped.
 #[derive(Clone, Copy)]
 struct Run {
-    /// Whether an archive of layout 1 is migrated as it is opened; or else it is a new one.
+    /// Whether an archive of schema version 1 is migrated as it is opened; or else it is a new one.
     carries_over: bool,
     /// What is asked.
     asked: &'static [Row],
-    /// What is answered afterwards: of its first rows one less for each row that was asked and not answered.
+    /// The answers afterwards, without one of the first rows for each row that was asked but not answered.
     behind: &'static [Row],
 }
 
@@ -97,14 +97,14 @@ const KEEPING: Run = Run {
     behind: &KEPT,
 };
 
-/// The opening of an archive of layout 1.
+/// The opening of an archive of schema version 1.
 const CARRYING: Run = Run {
     carries_over: true,
     asked: &[],
     behind: &CARRIED,
 };
 
-/// The files that a run begins with, which stop after so many calls.
+/// The files that a run begins with, which stop after this many calls.
 fn begun(
     alloc: Global,
     carries_over: bool,
@@ -129,7 +129,7 @@ fn unanswered(asked: usize, outcome: Outcome) -> usize {
     }
 }
 
-/// What is answered after a run of which this came.
+/// The answers after a run with this result.
 fn rows_behind(run: Run, outcome: Outcome) -> &'static [Row] {
     let from = unanswered(run.asked.len(), outcome).min(run.behind.len());
     &run.behind[from..]

@@ -59,7 +59,7 @@ fn patterns_go_on(rt: HostRuntime) {
     laws_of_constants();
 }
 
-/// Steps the plane under Life so many times, or fewer where its set comes to the edge.
+/// Steps the plane under Life this many times, or fewer if its set reaches the edge.
 fn steps<P: Plane<Global>>(alloc: Global, plane: &mut P, n: u16) -> Result<(), Fault> {
     for _ in 0..n {
         if !plane.to_pattern(alloc)?.within(PLANE - 1) {
@@ -99,12 +99,12 @@ fn trims_by<P: Plane<Global>>(alloc: Global, before: &Pattern, n: u16) -> Result
     has_generation(alloc, &plane, before, 2 * u32::from(n))
 }
 
-/// Whether planes of both kinds whose room is given up after `n` generations go on as ones that keep it.
+/// Whether planes of both types that give up unneeded room after `n` generations evolve like those that keep it.
 fn trims(alloc: Global, before: &Pattern, n: u16) -> Result<bool, Fault> {
     Ok(trims_by::<CellList>(alloc, before, n)? && trims_by::<PackedRows>(alloc, before, n)?)
 }
 
-/// Whether planes with a glider go on where their room is given up.
+/// Whether planes with a glider evolve correctly after giving up room.
 fn glider_trims(alloc: Global) -> Result<bool, Fault> {
     let glider = Pattern::from_cells(alloc, &GLIDER)?;
     for n in [1, 70, 300] {
@@ -115,7 +115,7 @@ fn glider_trims(alloc: Global) -> Result<bool, Fault> {
     Ok(true)
 }
 
-/// Whether planes without a cell go on where their room is given up.
+/// Whether planes without a cell evolve correctly after giving up room.
 fn empty_trims(alloc: Global) -> Result<bool, Fault> {
     let empty = Pattern::from_cells(alloc, &[])?;
     trims(alloc, &empty, 2)
@@ -201,7 +201,7 @@ fn a_row_steps_by_its_rule(rt: HostRuntime) {
     assert!(rt; !six_live("B3/S23"));
 }
 
-/// The move from the first pattern to the second, as planes of one kind of which one was trimmed.
+/// The translation from the first pattern to the second, as planes of one type, one of them trimmed.
 fn shift_by<P: Plane<Global>>(
     alloc: Global,
     from: &Pattern,

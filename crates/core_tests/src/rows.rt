@@ -55,7 +55,7 @@ fn filled(alloc: Global, field: Field) -> Result<Pattern, Fault> {
     pattern_of(cells)
 }
 
-/// Whether the first box's cells go on to the second's under Life, on planes of the kind `P`.
+/// Whether the first box's cells evolve to the second's under Life, on planes of the type `P`.
 fn goes_on<P: Plane<Global>>(alloc: Global, before: Field, after: Field) -> Result<bool, Fault> {
     let start = filled(alloc, before)?;
     if !start.within(PLANE - GENERATION_LIMIT) {
@@ -65,7 +65,7 @@ fn goes_on<P: Plane<Global>>(alloc: Global, before: Field, after: Field) -> Resu
     Ok(next.same(&filled(alloc, after)?))
 }
 
-/// Whether the first box's cells go on to the second's under Life, on both kinds of plane, as they
+/// Whether the first box's cells evolve to the second's under Life, on both types of plane, as they
 /// are and with columns and rows exchanged.
 fn goes_on_both_ways(alloc: Global, before: Field, after: Field) -> Result<bool, Fault> {
     Ok(
@@ -76,7 +76,7 @@ fn goes_on_both_ways(alloc: Global, before: Field, after: Field) -> Result<bool,
     )
 }
 
-/// Whether each row of up to 300 cells evolves to three rows of two cells fewer, of which the first
+/// Whether each row of up to 300 cells evolves to three rows with two cells fewer, the first of which
 /// lies above it and the last below it.
 fn rows_go_on(alloc: Global) -> Result<bool, Fault> {
     for width in 1..301_i64 {

@@ -1,5 +1,5 @@
-//! Hauls and soups that are put into memory. The tables of hauls, and soups of other symmetries than C1, are from a program of its own
-//! that has Python's SHA-256; the soup of C1 is from `sha256sum` and `basenc`.
+//! Hauls and soups that are written into memory. The expected tables of hauls, and soups of symmetries other than C1, come from a separate
+//! program that uses Python's SHA-256; the soup of C1 comes from `sha256sum` and `basenc`.
 use life_hauls::{
     HaulWords, Job, SoupWords, Symmetry, Unwatched, Watch, laws_of_hauls, laws_of_soups, run_haul,
     run_soup,
@@ -150,14 +150,14 @@ bo$2o4b2obobobo$3obob2ob3ob3o$2b4o2b4o2bo$o2b2o3b6o$2bo2b2o2bo3bo$6o2b
 2bobo2b6o$bo3bobob4o2bo$b2o3b2obo4bo!
 ";
 
-/// Symmetries, and what is put for the three soups in them.
+/// Symmetries, and the output for the three soups in them.
 const HAULS: [(Symmetry, &str); 3] = [
     (Symmetry::C1, TABLE),
     (Symmetry::EightRows, WIDE),
     (Symmetry::D2Plus2, MIRRORED),
 ];
 
-/// Symmetries, and what is put for the soup in them.
+/// Symmetries, and the output for the soup in them.
 const SOUPS: [(Symmetry, &str); 7] = [
     (Symmetry::C1, TEXT),
     (Symmetry::EightRows, EIGHT_ROWS),
@@ -177,7 +177,7 @@ const OUT_OF_LIMIT: [(u64, u64, u64, u64); 5] = [
     (0, 3, 500, 0),
 ];
 
-/// Roots and rules of which one is none, and why it is refused.
+/// Roots and rules, one of them invalid, and the refusal.
 const BAD_TEXTS: [(&str, &str, Stop); 3] = [
     ("a b", "B3/S23", Stop::OutOfLimit),
     ("", "B3/S23", Stop::OutOfLimit),
@@ -192,7 +192,7 @@ fn done<O: Outlet>(alloc: Global, job: Job<'_>, output: &mut O) -> Result<(), St
     }
 }
 
-/// Whether the job answers so, and puts this.
+/// Whether the job returns this and writes this.
 fn answers(alloc: Global, job: Job<'_>, answer: Result<(), Stop>, text: &str) -> bool {
     let mut output = MemoryOutlet::new(alloc);
     done(alloc, job, &mut output) == answer && output.bytes() == text.as_bytes()
@@ -258,7 +258,7 @@ fn a_failed_put_is_told(rt: HostRuntime) {
     }
 }
 
-/// What a watch was told: how often, and last.
+/// The calls of a watch: how often, and the last one.
 #[derive(Drop)]
 struct Told {
     times: u64,

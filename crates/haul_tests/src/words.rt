@@ -33,7 +33,7 @@ const NAMES: [(&str, Symmetry); 7] = [
     ("D2_+2", Symmetry::D2Plus2),
 ];
 
-/// Command lines, and the job that each names; none if it is a usage error.
+/// Command lines, and the job that each names; `None` for a usage error.
 const LINES: [(&str, Option<Job<'static>>); 18] = [
     ("life-haul", None),
     ("life-haul abc 1 1000 2048", None),

@@ -1,4 +1,4 @@
-//! Tests of the words of the command line, and of the jobs over a file or a code with streams in memory.
+//! Tests of the arguments of `life`, and of the jobs over a file or a code with streams in memory.
 #![tactic(auto)]
 
 #[cfg(test)]

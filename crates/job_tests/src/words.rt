@@ -4,8 +4,8 @@ use shared_tests::arguments::{is_named, other_line};
 use std::alloc::Global;
 use std::test::Fail;
 
-/// Command lines, and the job that each names; none if it is a usage error.
-const LINES: [(&str, Option<Job<'static>>); 20] = [
+/// Command lines, and the job that each names; `None` for a usage error.
+const LINES: [(&str, Option<Job<'static>>); 22] = [
     ("life", None),
     ("life generation", None),
     ("life generation x", None),
@@ -15,6 +15,7 @@ const LINES: [(&str, Option<Job<'static>>); 20] = [
     ("life history 1", None),
     ("life serve --db f --port 0 --connections 1", None),
     ("life deposit ann t1", None),
+    ("life check f", None),
     ("life explain", None),
     ("life explain no-ned", None),
     ("life explain no-end full", None),
@@ -49,6 +50,7 @@ const LINES: [(&str, Option<Job<'static>>); 20] = [
             connections: 3,
         }),
     ),
+    ("life check --db f", Some(Job::Check { file: "f" })),
     ("life explain no-end", Some(Job::Explain("no-end"))),
 ];
 
@@ -65,7 +67,7 @@ fn arguments_name_jobs(rt: HostRuntime) {
 #[test]
 fn each_name_is_explained(rt: HostRuntime) -> Result<(), Fail> {
     let names = refusal_names(rt.alloc())?;
-    assert_eq!(rt; names.len(), 33);
+    assert_eq!(rt; names.len(), 34);
     for name in &names {
         assert!(rt; explanation(name).is_some(), "{name}");
     }

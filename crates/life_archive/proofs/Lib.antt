@@ -1,6 +1,7 @@
 pub mod DepositLemmas
 pub mod DepositCrashes
-pub mod MigrationLemmas
 pub mod SessionLemmas
 pub mod PathLemmas
 pub mod PathJobs
+pub mod CheckLemmas
+pub mod PutLemmas

@@ -25,7 +25,7 @@ use Rattle.life_store.specs.Tables.{ArchiveView, Holds, TreesHold, IsTransition,
 use Rattle.life_desk.specs.declared.request.Request.{Request}
 use Rattle.life_desk.specs.Archive.{Archive}
 use Rattle.life_desk.specs.Validation.{validated}
-use Rattle.life_desk.specs.Represents.{EachHasDeposit, Represents, LeftRepresents, kept_of}
+use Rattle.life_desk.specs.Represents.{EachHasDeposit, Represents, LeftRepresents, kept_of, MigratedIsTheSame}
 use Rattle.life_desk.specs.Run.{RequestStep}
 use Rattle.life_desk.proofs.Representing.{holds_of, each_of, represents_same}
 use Rattle.life_desk.proofs.Runs.{IsSettled}
@@ -39,8 +39,6 @@ use Rattle.life_pages.specs.Reply.{bad_bytes}
 use Rattle.life_pages.specs.Archive.{StoreAnswers, IsAnswered, IsLeftOf}
 use Rattle.life_pages.proofs.ArchiveRuns.{SomeMessages, run_answered, by_taken, left_safely}
 use Rattle.life_pages.proofs.FirmReplies.{firm_run}
-use Rattle.life_census.specs.Laws.{SteadyIsDecided}
-use Rattle.life_archive.proofs.MigrationLemmas.{migrated_is}
 use Rattle.life_archive.specs.Session.{Exchange, messages_of, replies_of, Traffic, unknown, failures_after, Carries, CarriesAll, ServesOne, ServesSome, Runs, ServesConnections, FilesRepresent, Begins, Leaves, IsSession, EndsSession, under, either, SessionsCompose, LeavesAfter, GoesOn, SessionsComposeOverCrashes}
 
 -- ---- one connection
@@ -184,11 +182,11 @@ either_clean {D} g files left is clean = subst (λ (x : Files D). AreClean g x.l
 -- an archive that an opening found
 module _ {D : Type 0} {g : disk.Ghosts D} (a : ArchiveView (FileStore D g)) (image : Image) (found : (k : Kept) → IsTrue a.tables.is_healthy → FilesHold image k → Holds a.tables k)
     (fresh : IsTrue a.tables.is_healthy → ListNothing image → Holds a.tables nothing_kept) (carried : (k : Kept) → IsTrue a.tables.is_healthy → FilesHoldFirst image k → Migrated a.tables k)
-    (decided : SteadyIsDecided) (capacity : ℕ) (is : a.capacity ≡ capacity) where
+    (migrated : MigratedIsTheSame) (capacity : ℕ) (is : a.capacity ≡ capacity) where
   pub begun_with : (A : Archive) → A.capacity ≡ capacity → Begins image A → IsTrue a.tables.is_healthy → Represents a A
   unfolding Represents
   begun_with A fits (inl meant) healthy = record { capacity = is ∙ sym fits; each = meant.0; holds = found (kept_of A) healthy meant.1 }
-  begun_with A fits (inr (inr first)) healthy = record { capacity = is ∙ sym fits; each = first.0; holds = migrated_is decided a.tables A (carried (kept_of A) healthy first.1) }
+  begun_with A fits (inr (inr first)) healthy = migrated a.tables a.capacity A (is ∙ sym fits) first.0 (carried (kept_of A) healthy first.1)
   begun_with A fits (inr (inl none)) healthy =
       let empty : A ≡ record { deposits = []; censuses = []; capacity = capacity } = archive_is A none.1 none.2 fits in
       subst (λ (B : Archive). Represents a B) (sym empty) (record { capacity = is; each = tt; holds = fresh healthy none.0 })
@@ -199,15 +197,15 @@ module _ {D : Type 0} {g : disk.Ghosts D} (a : ArchiveView (FileStore D g)) (ima
 
 pub is_session : {D : Type 0} {g : disk.Ghosts D} (a : ArchiveView (FileStore D g)) (files : Files D) (capacity count : ℕ) (x y : Traffic) (left : Result (Files D) (Files D))
     → ((k : Kept) → IsTrue a.tables.is_healthy → FilesHold (image_of g files) k → Holds a.tables k) → (IsTrue a.tables.is_healthy → ListNothing (image_of g files) → Holds a.tables nothing_kept)
-    → ((k : Kept) → IsTrue a.tables.is_healthy → FilesHoldFirst (image_of g files) k → Migrated a.tables k) → SteadyIsDecided → a.capacity ≡ capacity
+    → ((k : Kept) → IsTrue a.tables.is_healthy → FilesHoldFirst (image_of g files) k → Migrated a.tables k) → MigratedIsTheSame → a.capacity ≡ capacity
     → IsHealthyIfClean over_files a → (IsTrue a.tables.is_healthy → AreClean g files.log files.db) → EndsSession g a count x y left → IsSession g files capacity count x y left
-is_session {g = g} a files capacity count x y left found fresh carried decided is up honest ended = record {
+is_session {g = g} a files capacity count x y left found fresh carried migrated is up honest ended = record {
   exchanges = ended.exchanges;
   counted = ended.counted;
   carried = ended.carried;
   own_refusals = ended.own_refusals;
   honest = λ clean. honest (up (ended.honest clean));
-  leaves = λ A fits begins. ended.leaves A up (begun_with a (image_of g files) found fresh carried decided capacity is A fits begins);
+  leaves = λ A fits begins. ended.leaves A up (begun_with a (image_of g files) found fresh carried migrated capacity is A fits begins);
 }
 
 pub sessions_compose : {D : Type 0} (g : disk.Ghosts D) → ((file : D) → g.may_leave file (g.seen file)) → SessionsCompose g

@@ -67,7 +67,7 @@ Deposits g old new member token known before after answer =
 -- ---- crashes
 
 -- If the archive was asked: the database was healthy and its disk has returned what was written, then a crash during the job leaves the archive as it was
--- or with the deposit of the file that was asked for; and where the reply of which the number was put says that it is kept, it is there.
+-- or with the deposit of the file that was asked for; and if the reply whose number was put says that it is stored, it is there.
 abbrev pub IsDepositSafe : {S : Type 0} → Ghosts S → ArchiveView S → ArchiveView S → List ℕ → List ℕ → Option (List ℕ) → Option (List ℕ) → Option (List ℕ) → Result (Unit {0}) ArchiveStop → Type 0
 IsDepositSafe g old new member token known before after answer =
     (IsUnasked answer × (new ≡ old))

@@ -2,3 +2,4 @@ pub mod Stop
 pub mod Deposit
 pub mod Session
 pub mod Path
+pub mod Checking

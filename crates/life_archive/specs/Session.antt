@@ -94,7 +94,7 @@ CarriesAll old new (e ∷ es) = (mid : Traffic) × Carries old mid e × CarriesA
 abbrev pub ServesOne : {S : Type 0} → Ghosts S → ArchiveView S → ArchiveView S → Traffic → Traffic → Type 0
 ServesOne g old new before after = (e : Exchange) × MessageRun (AnswersMessage (StoreAnswers g)) old e.messages (e.put ++ e.rest) new × Carries before after e
 
--- those of the next so many
+-- those of the next connections, this many
 pub record ServesSome {S : Type 0} (g : Ghosts S) (count : ℕ) (old new : ArchiveView S) (before after : Traffic) : Type 0 where
   pub exchanges : List Exchange
   pub counted : length exchanges ≡ count
@@ -105,8 +105,8 @@ pub record ServesSome {S : Type 0} (g : Ghosts S) (count : ℕ) (old new : Archi
 abbrev pub Runs : List Message → List ℕ → Archive → Archive → Type 0
 Runs ms bytes A B = MessageRun (AnswersMessage RequestStep) A ms bytes B
 
--- What serving so many connections does to a database: each archive that it represented went through a run over the messages of all of them; a request that is refused
--- for its own words is answered by that refusal, whatever the database does; and a crash during the call leaves the archive after a beginning of the messages, or
+-- What serving this many connections does to a database: each archive that it represented went through a run over the messages of all of them; a request that is refused
+-- for its own words is answered by that refusal, whatever the database does; and a crash during the call leaves the archive after a prefix of the messages, or
 -- after the one that follows as well, after which no reply says that something is kept.
 pub record ServesConnections {S : Type 0} (g : Ghosts S) (count : ℕ) (old new : ArchiveView S) (before after : Traffic) : Type 0 where
   pub exchanges : List Exchange
@@ -130,7 +130,7 @@ Begins image A =
     FilesRepresent image A ⊎ ((ListNothing image × (A.deposits ≡ []) × (A.censuses ≡ [])) ⊎ (EachHasDeposit A.deposits A.censuses × FilesHoldFirst image (kept_of A)))
 
 -- What a session that began with A leaves, over these messages and replies. After Ok the files represent the archive after all: as they read and after a crash. After
--- Err, as if the disk failed on the way or the session was cut off, each image that may be left means the archive after a beginning of the messages, or
+-- Err, as if the disk failed on the way or the session was cut off, each image that may be left means the archive after a prefix of the messages, or
 -- after the one that follows as well, and no other reply says that something is kept.
 abbrev pub Leaves : {D : Type 0} → disk.Ghosts D → Archive → List Message → List ℕ → Result (Files D) (Files D) → Type 0
 Leaves g A ms bytes (Ok files) = AreClean g files.log files.db → (B : Archive) × Runs ms bytes A B × ((image : Image) → outcomes g files.log files.db image → FilesRepresent image B)
@@ -145,10 +145,10 @@ either (Err x) = x
 abbrev pub AreUsable : {D : Type 0} → disk.Ghosts D → Files D → Type 0
 AreUsable g files = IsTrue (g.is_usable files.log) × IsTrue (g.is_usable files.db)
 
--- A session over files: what they represented was taken over the messages of so many connections, to each of which a beginning of its replies was put, and all of them
+-- A session over files: what they represented was taken over the messages of this many connections; to each connection a prefix of its replies was put, and all of them
 -- if it was served to its end. So the next session may begin with what it leaves, and if the disk was honest to the end of that, it was in this.
 --
--- What a crash during the session leaves is read off the side of Err (docs/DEFINITIONS.md, `life_store`): what the peers had then is a beginning of what was put by
+-- What a crash during the session leaves is read off the side of Err (docs/DEFINITIONS.md, "Crash"): what the peers had then is a prefix of what was put by
 -- the end of that run, since each put only adds.
 pub record IsSession {D : Type 0} (g : disk.Ghosts D) (files : Files D) (capacity count : ℕ) (before after : Traffic) (left : Result (Files D) (Files D)) : Type 0 where
   pub exchanges : List Exchange
@@ -192,7 +192,7 @@ GoesOn A ms bytes Next (Ok mid) = (B : Archive) × Runs ms bytes A B × Next B
 GoesOn A ms bytes Next (Err mid) = ∥ IsLeftOf A ms bytes Next ∥₁
 
 -- A crash came after a session, or ended it, and another session opens what the crash left, maybe on another disk. If the first was answered Ok, the second
--- begins with the archive after all its messages. Else it begins with the archive after a beginning of them, or after the one that follows as well, and every
+-- begins with the archive after all its messages. Else it begins with the archive after a prefix of them, or after the one that follows as well, and every
 -- deposit and census that was acknowledged is in it.
 abbrev pub SessionsComposeOverCrashes : {D E : Type 0} → disk.Ghosts D → disk.Ghosts E → Type 0
 SessionsComposeOverCrashes {D} {E} g h =

@@ -3,7 +3,7 @@ use Rattle.std.specs.Prelude.{ℕ, List, ◌++◌, codes}
 use Rattle.life_desk.specs.Refusals.{name_of}
 use Rattle.life_jobs.specs.Stop as jobs
 use Rattle.life_archive.specs.declared.stop.ArchiveStop.{ArchiveStop}
-use Rattle.life_archive.specs.declared.stop.ArchiveStop.TheVariants.{Job, Desk, NotOurs, NoPort}
+use Rattle.life_archive.specs.declared.stop.ArchiveStop.TheVariants.{Job, Desk, NotOurs, NoPort, NotSound}
 
 -- the line of a stop
 abbrev pub line_of : ArchiveStop → List ℕ
@@ -11,3 +11,4 @@ line_of (Job stop) = jobs.line_of stop
 line_of (Desk refusal) = codes "refused: " ++ name_of refusal
 line_of NotOurs = codes "refused: not-ours"
 line_of NoPort = codes "refused: no-port"
+line_of NotSound = codes "refused: not-sound"

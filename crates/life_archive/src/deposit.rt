@@ -1,4 +1,4 @@
-//! Depositing a pattern file that comes in.
+//! Depositing the pattern file on the input.
 ghost use Rattle.std.specs.Prelude.{◌≡◌, ◌≢◌, ◌∷◌, [], IfOk, OnOk, OnErr, Err};
 ghost use Rattle.std.specs.Fmt.{decimal};
 ghost use Rattle.life_rle.specs.Stream.{FailsLast, Gains, GainsSome};
@@ -21,7 +21,7 @@ use std::alloc::{AllocError, Global};
 /// One more byte than a file may have.
 const MOST_TAKEN: usize = 1_048_577;
 
-/// The bytes that come in, to their end or to one more than a file may have.
+/// The bytes of the input, to its end or to one more than a file may have.
 fn take_file<I: Inlet>(alloc: Global, input: &mut I) -> Result<Vec<u8>, ArchiveStop>
     ensures taken { IfOk result (λ file. IsFileTaken (I.to_come input.old) file.items) }
     ensures unasked { OnErr result (IsUnasked result) }
@@ -60,7 +60,7 @@ fn deposit_request(
     })
 }
 
-/// The stop for what the archive refuses.
+/// The stop for a refusal of the archive.
 fn desk_stop(refusal: Refusal) -> ArchiveStop
     ensures { result ≡ desk_stop refusal }
 {
@@ -71,7 +71,7 @@ fn desk_stop(refusal: Refusal) -> ArchiveStop
     }
 }
 
-/// Puts a number in decimal digits.
+/// Writes a number in decimal digits.
 fn put_decimal<O: Outlet>(output: &mut O, n: u64) -> Result<(), Failed>
     ensures all { OnOk result (Gains (O.already output.old) (O.already output.new) (decimal n)) }
     ensures some { OnErr result (GainsSome (O.already output.old) (O.already output.new) (decimal n)) }
@@ -81,7 +81,7 @@ fn put_decimal<O: Outlet>(output: &mut O, n: u64) -> Result<(), Failed>
     put_all(output, Buffer::new().format(n).as_bytes())
 }
 
-/// Puts the line of a deposit. It allocates nothing.
+/// Writes the line of a deposit. It allocates nothing.
 fn put_number<O: Outlet>(output: &mut O, id: u64) -> Result<(), Failed>
     ensures all { OnOk result (Gains (O.already output.old) (O.already output.new) (deposit_line id)) }
     ensures some { OnErr result (GainsSome (O.already output.old) (O.already output.new) (deposit_line id)) }
@@ -102,7 +102,7 @@ fn put_number<O: Outlet>(output: &mut O, id: u64) -> Result<(), Failed>
     }
 }
 
-/// Puts the number of a deposit, or answers why it was refused.
+/// Writes the number of a deposit, or returns why it was refused.
 fn put_reply<O: Outlet>(output: &mut O, reply: Reply) -> Result<(), ArchiveStop>
     ensures puts { PutsReply reply (O.already output.old) (O.already output.new) result }
     ensures once { PutsOnce output.old output.new (O.failures output.old) (O.failures output.new) (O.last_failed output.new) (by_streams result) }
@@ -137,7 +137,7 @@ pub fn run_deposit<S: Alter, I: Inlet, O: Outlet>(
 ) -> Result<(), ArchiveStop>
     // The archive is as it was, or was asked once, and its answer is known: if it was asked, it was for the file that came in.
     ensures deposits { Deposits S.Store archive.old archive.new member.now token.now (I.to_come input.old) (O.already output.old) (O.already output.new) result }
-    // A crash during the call leaves the archive as it was or with the deposit; with it, if its number was put.
+    // A crash during the call leaves the archive unchanged or with the deposit; with it, if its number was put.
     ensures crash { IsDepositSafe S.Store archive.old archive.new member.now token.now (I.to_come input.old) (O.already output.old) (O.already output.new) result }
     ensures takes { TakesFile (I.to_come input.old) (I.to_come input.new) (I.failures input.old) (I.failures input.new) (I.ends input.old) (I.ends input.new) (I.last_take input.new) (by_streams result) }
     ensures once { PutsOnce output.old output.new (O.failures output.old) (O.failures output.new) (O.last_failed output.new) (by_streams result) }

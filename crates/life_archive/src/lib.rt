@@ -1,13 +1,15 @@
-//! The jobs of `life` over an archive, over any streams, and why one stops.
+//! The jobs of `life` over an archive, on any streams, and why they stop.
 #![tactic(auto)]
 
+mod checking;
 mod deposit;
 mod path;
 mod session;
 mod stop;
 
+pub use checking::{law_of_checked_files, run_check};
 pub use deposit::run_deposit;
 pub use life_pages::serve as run_serve;
-pub use path::{deposit_path, law_of_path_jobs, serve_path};
+pub use path::{PathFiles, deposit_path, law_of_path_jobs, serve_path};
 pub use session::{Connections, law_of_sessions, serve_connections, serve_files};
 pub use stop::ArchiveStop;

@@ -1,14 +1,14 @@
-//! The jobs over an archive in the file of a path, as the program does them: the archive is opened, asked and closed.
-ghost use Rattle.std.specs.Prelude.{◌≡◌, OnErr, IfOk, IfErr};
+//! The jobs over an archive in the file of a path, as in the program: the archive is opened, asked and closed.
+ghost use Rattle.std.specs.Prelude.{◌≡◌, Some, Err, option_map, OnOk, OnErr, IfErr};
 ghost use Rattle.sqlite_wal.specs.Files.{image_at};
 ghost use Rattle.life_jobs.specs.Streams.{TakesFile, PutsOnce};
 ghost use Rattle.life_archive.specs.Deposit.{by_streams};
-ghost use Rattle.life_archive.specs.Path.{opening_stop, EndsPathDeposit, DepositsAt, EndsPathSession, IsPathSession, IsUnserved, PathJobsCompose, PathJobsComposeOverCrashes};
+ghost use Rattle.life_archive.specs.Path.{opening_stop, ClosesUnasked, EndsPathDeposit, DepositsAt, EndsPathSession, IsPathSession, IsUnserved, PathJobsCompose, PathJobsComposeOverCrashes, PathJobsComposeOverRefusals};
 
 use crate::deposit::run_deposit;
 use crate::session::{Connections, serve_connections};
 use crate::stop::ArchiveStop;
-use life_census::laws_of_steady_fields;
+use life_desk::law_of_migrated_archives;
 use life_jobs::Stop;
 use life_rle::{Inlet, Outlet};
 use life_store::{Archive, OpenFault};
@@ -16,13 +16,26 @@ use sqlite::{FileFrom, FileStore, Start};
 use sqlite_disk::{Disk, Files};
 use std::alloc::Global;
 
-/// The stop for an opening that is refused.
+/// The stop for an archive that can't be opened.
 fn opening_stop(fault: OpenFault) -> ArchiveStop
     ensures { result ≡ opening_stop fault }
 {
     match fault {
         OpenFault::NotOurs => ArchiveStop::NotOurs,
         _ => ArchiveStop::Job(Stop::Unavailable),
+    }
+}
+
+/// What comes of the files of a path: they were closed; or a close or an opening was refused, and they were let go; or they were never opened.
+pub type PathFiles<T> = Option<Result<Files<FileFrom<T>>, Files<FileFrom<T>>>>;
+
+/// The files of a refused opening.
+fn refused<D: Disk>(files: Option<Files<D>>) -> Option<Result<Files<D>, Files<D>>>
+    ensures { result ≡ option_map Err files }
+{
+    match files {
+        Some(files) => Some(Err(files)),
+        None => None,
     }
 }
 
@@ -35,23 +48,23 @@ fn deposit_opened<D: Disk + Drop, I: Inlet, O: Outlet>(
     token: &str,
     input: &mut I,
     output: &mut O,
-) -> (Result<(), ArchiveStop>, Option<Files<D>>)
+) -> (Result<(), ArchiveStop>, Result<Files<D>, Files<D>>)
     ensures ends { EndsPathDeposit D.Disk archive member.now token.now (I.to_come input.old) (O.already output.old) (O.already output.new) result.0 result.1 }
     ensures takes { TakesFile (I.to_come input.old) (I.to_come input.new) (I.failures input.old) (I.failures input.new) (I.ends input.old) (I.ends input.new) (I.last_take input.new) (by_streams result.0) }
     ensures once { PutsOnce output.old output.new (O.failures output.old) (O.failures output.new) (O.last_failed output.new) (by_streams result.0) }
 {
-    laws_of_steady_fields();
+    law_of_migrated_archives();
     let mut archive = archive;
     archive.law_of_crashes();
     let done = run_deposit(alloc, &mut archive, member, token, input, output);
     match archive.close_files() {
-        Ok(files) => (done, Some(files)),
-        Err(_) => (done, None),
+        Ok(files) => (done, Ok(files)),
+        Err((_, files)) => (done, Err(files)),
     }
 }
 
 /// Deposits the pattern file that comes in, in the archive of the path, which is made if the file is not there, and closes it, so that the
-/// database file has all. `start` says what the files are taken to hold, as for `Archive::open_path`. The files are given back if they were closed.
+/// database file has all. `start` says what the files are taken to hold, as for `Archive::open_path`. The files are given back.
 pub fn deposit_path<T: Start, I: Inlet, O: Outlet>(
     rt: &HostRuntime,
     path: &str,
@@ -61,40 +74,54 @@ pub fn deposit_path<T: Start, I: Inlet, O: Outlet>(
     token: &str,
     input: &mut I,
     output: &mut O,
-) -> (Result<(), ArchiveStop>, Option<Files<FileFrom<T>>>)
-    // Files that are given back mean the archive that they were opened as, after the one deposit, or as it was.
+) -> (Result<(), ArchiveStop>, PathFiles<T>)
+    // Files that were closed mean the archive that they were opened as, after the one deposit, or as it was. Why the opening was refused is said too.
     ensures deposits { DepositsAt ⟦<FileFrom<T> as Disk>⟧ (image_at T.Start) capacity member.now token.now (I.to_come input.old) (O.already output.old) (O.already output.new) result.0 result.1 }
     ensures takes { TakesFile (I.to_come input.old) (I.to_come input.new) (I.failures input.old) (I.failures input.new) (I.ends input.old) (I.ends input.new) (I.last_take input.new) (by_streams result.0) }
-    // Nothing is put before a refusal, and nothing after a put that failed.
+    // Nothing is put before a refusal or after a put that failed.
     ensures once { PutsOnce output.old output.new (O.failures output.old) (O.failures output.new) (O.last_failed output.new) (by_streams result.0) }
 {
     match Archive::open_path(rt, path, capacity, start) {
-        Ok(archive) => deposit_opened(rt.alloc(), archive, member, token, input, output),
-        Err(fault) => (Err(opening_stop(fault)), None),
+        Ok(archive) => {
+            let (done, closed) = deposit_opened(rt.alloc(), archive, member, token, input, output);
+            (done, Some(closed))
+        }
+        Err((fault, files)) => (Err(opening_stop(fault)), refused(files)),
     }
 }
 
-/// Serves by an archive that is open, and closes it. The files are given back if they were closed.
+/// Serves by an archive that is open, and closes it.
 fn serve_opened<D: Disk + Drop, C: Connections>(
     alloc: Global,
     archive: Archive<FileStore<D>>,
     connections: &mut C,
     count: u64,
-) -> Option<Files<D>>
+) -> Result<Files<D>, Files<D>>
     ensures { EndsPathSession D.Disk archive count (C.traffic connections.old) (C.traffic connections.new) result }
 {
-    laws_of_steady_fields();
+    law_of_migrated_archives();
     let mut archive = archive;
     serve_connections(alloc, &mut archive, connections, count);
     match archive.close_files() {
-        Ok(files) => Some(files),
-        Err(_) => None,
+        Ok(files) => Ok(files),
+        Err((_, files)) => Err(files),
+    }
+}
+
+/// Closes an archive that nobody asked.
+fn close_unasked<D: Disk + Drop>(archive: Archive<FileStore<D>>) -> Result<Files<D>, Files<D>>
+    ensures { ClosesUnasked D.Disk archive result }
+{
+    law_of_migrated_archives();
+    match archive.close_files() {
+        Ok(files) => Ok(files),
+        Err((_, files)) => Err(files),
     }
 }
 
 /// A session over the files of a path, as [`crate::serve_files`] over files that are given: opens the archive, which is made if the file is not
-/// there, serves so many connections, one after the other, and closes it, so that the database file has all. The files are given back if they
-/// were closed. If the close is refused, what was answered is in the two files together.
+/// there, serves this many connections, one after the other, and closes it, so that the database file has all. The files are given back. If
+/// the close is refused, what was answered is in the two files together.
 pub fn serve_path<T: Start, C: Connections>(
     rt: &HostRuntime,
     path: &str,
@@ -102,29 +129,33 @@ pub fn serve_path<T: Start, C: Connections>(
     start: T,
     connections: &mut C,
     count: u64,
-) -> Result<Option<Files<FileFrom<T>>>, ArchiveStop>
-    ensures session { IfOk result (IsPathSession ⟦<FileFrom<T> as Disk>⟧ (image_at T.Start) capacity count (C.traffic connections.old) (C.traffic connections.new)) }
-    // If the archive is not opened, or nobody can be listened to, nobody was served.
-    ensures unserved { OnErr result (C.traffic connections.new ≡ C.traffic connections.old) }
-    ensures refused { IfErr result IsUnserved }
+) -> (Result<(), ArchiveStop>, PathFiles<T>)
+    ensures session { OnOk result.0 ((closed : _) × (result.1 ≡ Some closed) × IsPathSession ⟦<FileFrom<T> as Disk>⟧ (image_at T.Start) capacity count (C.traffic connections.old) (C.traffic connections.new) closed) }
+    // If the archive can't be opened, or the program can't listen, no connection was served.
+    ensures unserved { OnErr result.0 (C.traffic connections.new ≡ C.traffic connections.old) }
+    ensures refused { IfErr result.0 (λ stop. IsUnserved ⟦<FileFrom<T> as Disk>⟧ (image_at T.Start) capacity stop result.1) }
 {
     match Archive::open_path(rt, path, capacity, start) {
         Ok(archive) => match connections.listen() {
-            Ok(()) => Ok(serve_opened(rt.alloc(), archive, connections, count)),
+            Ok(()) => {
+                let closed = serve_opened(rt.alloc(), archive, connections, count);
+                (Ok(()), Some(closed))
+            }
             Err(stop) => {
-                let _closed = archive.close_files();
-                Err(stop)
+                let closed = close_unasked(archive);
+                (Err(stop), Some(closed))
             }
         },
-        Err(fault) => Err(opening_stop(fault)),
+        Err((fault, left)) => (Err(opening_stop(fault)), refused(left)),
     }
 }
 
 /// A job over the files of a path begins with what the one before it left, whether it serves or deposits: as it left the files when it closed
-/// them, as a crash left them after that, or as a crash left them before. A law: calling it does nothing.
+/// them, as a crash left them after that, as a crash left them before, or as a refused close let them go. A law: calling it does nothing.
 pub fn law_of_path_jobs<D: Disk, E: Disk>()
     ensures composed { PathJobsCompose D.Disk E.Disk }
     ensures crashed { PathJobsComposeOverCrashes D.Disk E.Disk }
+    ensures refused { PathJobsComposeOverRefusals D.Disk E.Disk }
 {
-    laws_of_steady_fields();
+    law_of_migrated_archives();
 }

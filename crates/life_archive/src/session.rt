@@ -1,4 +1,4 @@
-//! Sessions: connections that come one after the other, and archives in files that are opened for them.
+//! Sessions: connections, one after the other, and archives in files that are opened for them.
 ghost use Rattle.std.specs.Prelude.{◌≡◌, ◌≢◌, ◌↔◌, false, IsTrue, IfOk, IfErr, OnErr};
 ghost use Rattle.sqlite_wal.specs.Reads.{AreClean};
 ghost use Rattle.sqlite.specs.Files.{image_of};
@@ -7,7 +7,7 @@ ghost use Rattle.life_store.specs.Opening.{is_capacity, FilesHold, ListNothing};
 ghost use Rattle.life_archive.specs.Session.{Traffic, CannotListen, ServesOne, ServesSome, ServesConnections, AreUsable, either, EndsSession, IsSession, SessionsCompose, SessionsComposeOverCrashes};
 
 use crate::stop::ArchiveStop;
-use life_census::laws_of_steady_fields;
+use life_desk::law_of_migrated_archives;
 use life_store::{Archive, OpenFault};
 use sqlite::{Alter, FileStore, Files};
 use sqlite_disk::Disk;
@@ -15,10 +15,10 @@ use std::alloc::Global;
 
 /// Where connections come from.
 pub trait Connections {
-    // What is known of those to come and of those that were served.
+    // What is known about the connections to come and those that were served.
     ghost traffic: { Self → Traffic };
 
-    /// Makes ready for the first connection, once the archive is open.
+    /// Prepares for the first connection, once the archive is open.
     fn listen(&mut self) -> Result<(), ArchiveStop>
         ensures traffic { traffic self.new ≡ traffic self.old }
         ensures refused { IfErr result CannotListen };
@@ -28,7 +28,7 @@ pub trait Connections {
         ensures { ServesOne S.Store archive.old archive.new (traffic self.old) (traffic self.new) };
 }
 
-/// Serves so many connections.
+/// Serves this many connections.
 fn serve_each<S: Alter, C: Connections>(
     alloc: Global,
     archive: &mut Archive<S>,
@@ -42,7 +42,7 @@ fn serve_each<S: Alter, C: Connections>(
     }
 }
 
-/// Serves so many connections by the archive, one after the other. One that fails counts.
+/// Serves this many connections from the archive, one after the other. Connections that fail count too.
 pub fn serve_connections<S: Alter, C: Connections>(
     alloc: Global,
     archive: &mut Archive<S>,
@@ -51,7 +51,7 @@ pub fn serve_connections<S: Alter, C: Connections>(
 )
     // In words of the store: each message of each connection was answered by it, one after the other.
     ensures steps { ServesSome S.Store count archive.old archive.new (C.traffic connections.old) (C.traffic connections.new) }
-    // In words of the archive: it went through a run over them, also if the disk failed on the way; and what a crash leaves.
+    // In words of the archive: it went through a run over them, even if the disk failed on the way; and what a crash leaves.
     ensures served { ServesConnections S.Store count archive.old archive.new (C.traffic connections.old) (C.traffic connections.new) }
 {
     archive.law_of_crashes();
@@ -91,7 +91,7 @@ fn serve_opened<D: Disk + Drop, C: Connections>(
     }
 }
 
-/// A session: opens the archive that the files hold, serves so many connections, one after the other, and lets it go, with no copying of the log.
+/// A session: opens the archive that the files hold, serves this many connections, one after the other, and drops it without copying the log into the file.
 /// What was meant before it is represented after it, as the messages that were served leave it: the next session begins with that.
 ///
 /// It answers the files in an Ok if the database was sound to the end and tells its count of deposits, and else in an Err. So it does if a crash cut it
@@ -117,7 +117,7 @@ pub fn serve_files<D: Disk + Drop, C: Connections>(
     ensures none { IfErr result (λ e. AreClean D.Disk e.1.log e.1.db → ListNothing (image_of D.Disk files) → e.0 ≢ OpenFault.NotOurs) }
     ensures clean { IfErr result (λ e. AreClean D.Disk e.1.log e.1.db → e.0 ≡ OpenFault.NotOurs → AreClean D.Disk files.log files.db) }
 {
-    laws_of_steady_fields();
+    law_of_migrated_archives();
     match Archive::open_files(alloc, files, capacity) {
         Ok(archive) => Ok(serve_opened(alloc, archive, connections, count)),
         Err((fault, left)) => Err((fault, left)),

@@ -1,4 +1,4 @@
-//! Why a job over an archive stops before its end, and the line that is printed for it.
+//! Why a job over an archive stops early, and the line that is printed for it.
 ghost use Rattle.std.specs.Prelude.{◌≡◌};
 ghost use Rattle.life_archive.specs.Stop.{line_of};
 ghost use Rattle.life_archive.specs.declared.stop.ArchiveStop.TheVariants.{Desk as desk_stop};
@@ -9,17 +9,19 @@ use life_jobs::Stop;
 /// Why a job over an archive stopped.
 #[derive(Clone, Copy, Debug, PartialEq, Eq)]
 pub enum ArchiveStop {
-    /// What may stop a job without an archive too.
+    /// A stop that a job without an archive may have too.
     Job(Stop),
     /// The archive refused the request.
     Desk(Refusal),
-    /// The file is a database of something else.
+    /// The file is another program's database, or a later version's.
     NotOurs,
-    /// The port can't be listened at.
+    /// The program can't listen at the port.
     NoPort,
+    /// The file was checked, and is not an archive as this program writes it.
+    NotSound,
 }
 
-/// The line for what an archive refuses.
+/// The line for a refusal of the archive.
 fn desk_line(refusal: Refusal) -> &'static str
     ensures { result.now ≡ line_of (desk_stop refusal) }
 {
@@ -48,6 +50,7 @@ impl ArchiveStop {
             ArchiveStop::Desk(refusal) => desk_line(*refusal),
             ArchiveStop::NotOurs => "refused: not-ours",
             ArchiveStop::NoPort => "refused: no-port",
+            ArchiveStop::NotSound => "refused: not-sound",
         }
     }
 }

@@ -1,4 +1,4 @@
--- Counting texts one after another gives how often each stands.
+-- Counting texts one after another gives how often each occurs.
 use Rattle.std.specs.Prelude.{◌≡◌, ℕ, ◌+◌, Bool, true, false, cond, T, ◌&&◌, ◌||◌, List, [], ◌∷◌, ◌++◌, map, Some, None, ◌⊎◌, refl}
 use Rattle.std.proofs.Common.{sym, ap, ◌∙◌, inl, inr, arith}
 use Rattle.std.specs.declared.cmp.Ordering.{Ordering}

@@ -1,4 +1,4 @@
--- The rows of a tally: which they are, and in which order they stand.
+-- The rows of a tally and their order.
 use Rattle.std.specs.Prelude.{◌≡◌, ℕ, ◌+◌, ◌≤◌, Bool, true, false, cond, T, List, [], ◌∷◌, map, Some, None, ◌⊎◌, refl}
 use Rattle.std.proofs.Common.{sym, ap, ◌∙◌, inl, inr, subst, arith}
 use Rattle.std.specs.declared.cmp.Ordering.{Ordering}

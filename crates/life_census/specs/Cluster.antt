@@ -1,4 +1,4 @@
--- Clusters of a set of cells: the classes of the chains of near cells. Cells at most 2 apart are taken together, for they can have a neighbour in common
+-- Clusters of a set of cells: the classes of cells that chains of near cells connect. Cells at most 2 apart count as near, since they can have a common neighbour
 -- (Life Lexicon, "cluster": each live cell is connected to every other by a path that does not pass through two consecutive dead cells).
 use Rattle.std.specs.Prelude.{◌≡◌, Bool, true, false, cond, not, List, [], ◌∷◌}
 use Rattle.std.specs.declared.cmp.Ordering.TheVariants.{Less}
@@ -11,7 +11,7 @@ use Rattle.life_code.specs.Apart.{near}
 
 -- ---- what a cluster is
 
--- these cells of X, each near to the one before it, lead from c to d
+-- these cells of X, each near the one before it, lead from c to d
 abbrev pub IsChain : Cells → Cell → List Cell → Cell → Type 0
 IsChain X c [] d = c ≡ d
 IsChain X c (e ∷ es) d = (set.contains X e ≡ true) × (near c e ≡ true) × IsChain X e es d
@@ -42,7 +42,7 @@ AreInOrder (P ∷ Ps) = AllByRecursion (IsBefore P) Ps × AreInOrder Ps
 abbrev pub IsCovered : Cell → List Cells → Type 0
 IsCovered c Ps = (P : Cells) × Contains Ps P × (set.contains P c ≡ true)
 
--- the list of the clusters of X, each once, by their least cells
+-- the list of the clusters of X, each once, ordered by their least cells
 pub record AreClustersOf (X : Cells) (Ps : List Cells) : Type 0 where
   pub each : AllByRecursion (IsCluster X) Ps
   pub all : (P : Cells) → IsCluster X P → Contains Ps P
@@ -55,16 +55,16 @@ pub record AreClustersOf (X : Cells) (Ps : List Cells) : Type 0 where
 abbrev pub touches : Cell → Cells → Bool
 touches c P = list_any (near c) (set.items P)
 
--- c and the cells of those sets that have one near it
+-- c and the cells of those sets that have a cell near it
 abbrev pub joined_with : Cell → List Cells → Cells
 joined_with c [] = set.insert set.empty c
 joined_with c (P ∷ Ps) = cond (touches c P) (set.union P (joined_with c Ps)) (joined_with c Ps)
 
--- the clusters of the set of a sorted list's cells: those that the first cell does not touch stay, and the others become one
+-- the clusters of the set of a sorted list's cells: those that the first cell is not near stay, and the others become one
 abbrev pub clusters_among : List Cell → List Cells
 clusters_among [] = []
 clusters_among (c ∷ cs) = joined_with c (clusters_among cs) ∷ filter (λ P. not (touches c P)) (clusters_among cs)
 
--- the clusters of X, by their least cells
+-- the clusters of X, ordered by their least cells
 unfoldable pub clusters_of : Cells → List Cells
 clusters_of X = clusters_among (in_order X)

@@ -1,16 +1,16 @@
--- Rows that are being counted.
+-- The state while rows are counted.
 use Rattle.std.specs.Prelude.{◌≡◌, ℕ, ◌+◌, ◌<◌, ◌≤◌, List, [], ◌∷◌, length, slice_index_or}
 use Rattle.std.specs.declared.cmp.Ordering.TheVariants.{Less, Equal, Greater}
 use Rattle.std.specs.Ordering.{match_ordering}
 use Rattle.life_census.specs.declared.rows.Row.{Row}
 use Rattle.life_census.specs.Counting.{row_cmp}
 
--- the rows with one more of a text
+-- the rows after counting a text once more
 abbrev pub one_more : List (List ℕ × ℕ) → List ℕ → List (List ℕ × ℕ)
 one_more [] t = (t, 1) ∷ []
 one_more (e ∷ es) t = match_ordering (row_cmp t e.0) ((t, 1) ∷ e ∷ es) ((e.0, e.1 + 1) ∷ es) (e ∷ one_more es t)
 
--- the rows before place i have lesser codes
+-- the rows before place i have smaller codes
 abbrev pub AreBelow : {A : Type 0} → List (Row A) → List ℕ → ℕ → Type 0
 AreBelow {A} rows t i = (k : ℕ) (d : Row A) → k < i → row_cmp t (slice_index_or rows k d).code ≡ Greater
 

@@ -1,4 +1,4 @@
--- A flood: the cells that chains join to a start go from a set to another, run by run.
+-- A flood fill: the cells that chains connect to a start move from one set to another, run by run.
 use Rattle.std.specs.Prelude.{◌≡◌, ◌⊎◌, ℕ, zero, suc, ◌+◌, ◌≤◌, ◌<◌, ℤ, pos, ◌+ℤ◌, ◌≤ℤ◌, ◌<ℤ◌, Bool, true, false, List, [], ◌∷◌, ◌++◌, length, slice_index_or, slice_set}
 use Rattle.std.specs.List.{All, Contains, count_by}
 use Rattle.std.specs.FinSet as set
@@ -15,7 +15,7 @@ use Rattle.life_core.specs.Runs.{cells_in}
 abbrev pub IsClear : Cells → Cells → Type 0
 IsClear P L = (c d : Cell) → set.contains P c ≡ true → near c d ≡ true → set.contains L d ≡ false
 
--- of L, the cells of P were taken, which chains join to the start, and the others are left
+-- the cells of P, which chains connect to the start, were taken out of L; the others are left
 pub record IsFlood (L : Cells) (start : Cell) (P left : Cells) : Type 0 where
   pub begins : set.contains P start ≡ true
   pub taken : (c : Cell) → set.contains P c ≡ true → set.contains L c ≡ true
@@ -31,7 +31,7 @@ abbrev pub is_some_number : ℕ → Bool
 is_some_number zero = false
 is_some_number (suc n) = true
 
--- what is left of a run whose cells were taken
+-- the empty run that remains of a run whose cells were taken out
 abbrev pub emptied : Run → Run
 emptied r = record { row = r.row; first = r.first; len = 0 }
 
@@ -61,7 +61,7 @@ pub record AreKept (rs ss : List Run) : Type 0 where
   pub length : length ss ≡ length rs
   pub each : (k : ℕ) (d : Run) → IsKept (slice_index_or rs k d) (slice_index_or ss k d)
 
--- runs near r have gone from the first list to the end of the second
+-- runs near r have moved from the first list to the end of the second
 pub record HasGrown (r : Run) (left cluster after grown : List Run) : Type 0 where
   pub more : (es : List Run) × (grown ≡ cluster ++ es)
   pub kept : AreKept left after
@@ -69,14 +69,14 @@ pub record HasGrown (r : Run) (left cluster after grown : List Run) : Type 0 whe
   pub filled : All (λ s. 1 ≤ s.len) cluster → All (λ s. 1 ≤ s.len) grown
   pub flood : (X : Cells) (start : Cell) → 1 ≤ r.len → Contains cluster r → IsFlood X start (cells_in cluster) (cells_in left) → IsFlood X start (cells_in grown) (cells_in after)
 
--- the run at place i of the first list has gone to the end of the second, unless it has no cell
+-- the run at place i of the first list has moved to the end of the second, unless it is empty
 abbrev pub IsTaken : Run → ℕ → List Run → List Run → List Run → List Run → Type 0
 IsTaken r i left cluster after grown = ((r.len ≡ 0) × (after ≡ left) × (grown ≡ cluster)) ⊎ ((1 ≤ r.len) × (after ≡ slice_set left i (emptied r)) × (grown ≡ cluster ++ r ∷ []))
 
--- a run begins before the column of the row, or in a row before it
+-- a run begins in an earlier row, or before the column of the row
 abbrev pub Begins : Run → ℤ → ℤ → Type 0
 Begins r row column = (r.row <ℤ row) ⊎ ((r.row ≡ row) × (r.first <ℤ column))
 
--- a run begins at the column of the row or after it, or in a row after it
+-- a run begins in a later row, or not before the column of the row
 abbrev pub IsBeyond : Run → ℤ → ℤ → Type 0
 IsBeyond r row column = (row <ℤ r.row) ⊎ ((r.row ≡ row) × (column ≤ℤ r.first))

@@ -1,4 +1,4 @@
--- What names clusters: a rule and a limit of the period.
+-- The state while clusters are named: a rule and a limit on the period.
 use Rattle.std.specs.Prelude.{ℕ, refl}
 use Rattle.std.specs.Coded.{Coded, code_by, coded×, coded_ℕ}
 use Rattle.life_core.specs.Rule.{RuleSets, coded_rule}

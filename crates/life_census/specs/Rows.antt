@@ -1,4 +1,4 @@
--- What a tally holds.
+-- The content of a tally.
 use Rattle.std.specs.Prelude.{ℕ, List, refl}
 use Rattle.std.specs.Coded.{Coded, code_by, coded×, coded_ℕ, coded_list}
 use Rattle.life_census.specs.declared.rows.Row.{Row}

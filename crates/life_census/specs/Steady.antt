@@ -1,4 +1,4 @@
--- Fields whose clusters never meet: all of them stay where they are, and no two of them ever come near each other.
+-- Steady fields: their clusters are still lifes and oscillators, and no two of them ever come near each other.
 use Rattle.std.specs.Prelude.{◌≢◌, ℕ, Bool, true, false, not, ◌&&◌, List, [], ◌∷◌, map, ◌⊎◌}
 use Rattle.std.specs.List.{list_any, list_all, range_with_len}
 use Rattle.std.specs.FinSet as set
@@ -13,18 +13,18 @@ use Rattle.life_census.specs.Cluster.{IsCluster, touches, clusters_of}
 
 -- ---- what a steady field is
 
--- P is a still life, or an oscillator within the limit of the period
+-- P is a still life, or an oscillator within the limit on the period
 unfoldable pub Stays : RuleSets → ℕ → Cells → Type 0
 Stays r limit P = HasKind r P limit Still ⊎ ((p : ℕ) × HasKind r P limit (Oscillator p))
 
--- each cluster of X stays, and no phase of a cluster is near a phase of another cluster; the phases of a cluster are its generations when it is alone
+-- each cluster of X stays in place, and no phase of a cluster is near a phase of another; the phases of a cluster are its generations when it is alone
 pub record IsSteady (r : RuleSets) (X : Cells) (limit : ℕ) : Type 0 where
   pub stay : (P : Cells) → IsCluster X P → Stays r limit P
   pub apart : (P Q : Cells) → IsCluster X P → IsCluster X Q → P ≢ Q → (i j : ℕ) → AreApart (generation_of r P i) (generation_of r Q j)
 
 -- ---- whether a field is steady, as a function
 
--- whether the kind is that of a pattern that stays
+-- whether the kind is that of a pattern that stays in place
 abbrev pub is_staying : Kind → Bool
 is_staying Empty = false
 is_staying Still = true
@@ -32,7 +32,7 @@ is_staying (Oscillator p) = true
 is_staying (Ship p dx dy) = false
 is_staying Unresolved = false
 
--- whether P is a still life, or an oscillator within the limit of the period
+-- whether P is a still life, or an oscillator within the limit on the period
 abbrev pub stays : RuleSets → ℕ → Cells → Bool
 stays r limit P = is_staying (kind_of r P limit)
 
@@ -40,7 +40,7 @@ stays r limit P = is_staying (kind_of r P limit)
 abbrev pub are_apart : Cells → Cells → Bool
 are_apart Y Z = not (list_any (λ c. touches c Z) (set.items Y))
 
--- the first n generations of P, from P on
+-- the first n generations of P, beginning with P
 abbrev pub first_generations : RuleSets → ℕ → Cells → List Cells
 first_generations r n P = map (generation_of r P) (range_with_len 0 n)
 
@@ -48,11 +48,11 @@ first_generations r n P = map (generation_of r P) (range_with_len 0 n)
 abbrev pub keep_apart : RuleSets → ℕ → Cells → Cells → Bool
 keep_apart r n P Q = list_all (λ Y. list_all (are_apart Y) (first_generations r n Q)) (first_generations r n P)
 
--- whether each set keeps apart from all later ones
+-- whether no set comes near a later one
 abbrev pub all_keep_apart : RuleSets → ℕ → List Cells → Bool
 all_keep_apart r n [] = true
 all_keep_apart r n (P ∷ Ps) = list_all (keep_apart r n P) Ps && all_keep_apart r n Ps
 
--- whether each cluster of X stays, and no two of them are near each other in their first generations, as many as the limit: all phases of what stays are among these
+-- whether each cluster of X stays in place, and no two are near each other in their first generations up to the limit, which include all phases of those that stay
 unfoldable pub is_steady : RuleSets → Cells → ℕ → Bool
 is_steady r X limit = list_all (stays r limit) (clusters_of X) && all_keep_apart r limit (clusters_of X)

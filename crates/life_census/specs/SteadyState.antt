@@ -1,4 +1,4 @@
--- The cells that clusters come to in their phases.
+-- Visits: the cells that are live in some phase of a cluster.
 use Rattle.std.specs.Prelude.{◌≡◌, ◌≢◌, ℕ, ◌<◌, ℤ, ◌+ℤ◌, true, false, List, slice_index_or}
 use Rattle.std.specs.declared.cmp.Ordering.{Ordering}
 use Rattle.std.specs.Ordering.{is_lt, nat_cmp, ordering_then}
@@ -13,7 +13,7 @@ use Rattle.life_core.specs.Generations.{generation_of}
 use Rattle.life_code.specs.Apart.{near}
 use Rattle.life_census.specs.declared.meeting.Visit.{Visit}
 
--- the order of visits: by their cells, and then by their clusters
+-- the order of visits: by cell, and then by cluster
 abbrev pub visit_cmp : Visit → Visit → Ordering
 visit_cmp v w = ordering_then (cell_cmp v.cell w.cell) (nat_cmp v.cluster w.cluster)
 
@@ -38,14 +38,14 @@ KeepApart v w = v.cluster ≢ w.cluster → near v.cell w.cell ≡ false
 abbrev pub ComesBefore : Cell → Cell → Type 0
 ComesBefore c d = is_lt (cell_cmp c d) ≡ true
 
--- visits of two clusters are to cells that are not near, if no cell of the second comes after the last
+-- visits of different clusters are to cells that are not near, if no cell of the second comes after the last
 abbrev pub KeepApartUpTo : Cell → Visit → Visit → Type 0
 KeepApartUpTo last v w = is_lt (cell_cmp last w.cell) ≡ false → KeepApart v w
 
--- visits of two clusters to cells that lie so many rows apart are to cells that are not near
+-- visits of different clusters to cells this many rows apart are to cells that are not near
 abbrev pub AreRowsApart : ℤ → List Visit → Type 0
 AreRowsApart rows visits = (v w : Visit) → Contains visits v → Contains visits w → w.cell.row ≡ v.cell.row +ℤ rows → KeepApart v w
 
--- all visits of two clusters are to cells that are not near
+-- all visits of different clusters are to cells that are not near
 abbrev pub AreAllApart : List Visit → Type 0
 AreAllApart visits = (v w : Visit) → Contains visits v → Contains visits w → KeepApart v w

@@ -1,4 +1,4 @@
--- What is known of the shapes of clusters.
+-- The known shapes of clusters.
 use Rattle.std.specs.Prelude.{◌≡◌, ℕ, zero, suc, ◌≤◌, ◌<◌, Bool, IsTrue, List, [], ◌++◌, length, slice_index_or, Option, MatchOption}
 use Rattle.std.specs.List.{All}
 use Rattle.life_core.specs.declared.cell.Cell.{Cell}
@@ -16,23 +16,23 @@ unfoldable pub phases_of : RuleSets → Cells → ℕ → List Cell
 phases_of r P zero = []
 phases_of r P (suc i) = phases_of r P i ++ in_order (generation_of r P i)
 
--- P stays, and p is a number of generations after which it is back
+-- P stays in place, and returns after p generations
 pub record StaysFor (r : RuleSets) (limit : ℕ) (P : Cells) (p : ℕ) : Type 0 where
   pub stays : Stays r limit P
   pub from_one : 1 ≤ p
   pub few : p ≤ limit
   pub back : generation_of r P p ≡ P
 
--- P stays, and the cells are those of its phases
+-- P stays in place, and the cells are those of its phases
 abbrev pub ArePhases : RuleSets → ℕ → Cells → List Cell → Type 0
 ArePhases r limit P cells = (p : ℕ) × StaysFor r limit P p × (cells ≡ phases_of r P p)
 
--- what is known of a shape is the code of its first cluster, and, if they are listed, the cells of the phases, none of one that does not stay
+-- an entry for a shape: the code of its first cluster and, if they are listed, the cells of its phases, or no cells if it does not stay in place
 pub record IsShape {A : Type 0} (r : RuleSets) (limit : ℕ) (listed : Bool) (s : Shape A) : Type 0 where
   pub code : s.code ≡ code_of r s.cluster limit
   pub phases : IsTrue listed → MatchOption s.phases (Stays r limit s.cluster → ⊥) (λ v. ArePhases r limit s.cluster v.items)
 
--- the shapes are those of a survey under a rule and a limit that may be asked for
+-- the shapes come from a survey under a rule and a valid limit
 pub record IsSurvey {A : Type 0} (r : RuleSets) (limit : ℕ) (listed : Bool) (shapes : List (Shape A)) : Type 0 where
   pub from_one : 1 ≤ limit
   pub few : limit ≤ PERIOD_LIMIT
@@ -42,6 +42,6 @@ pub record IsSurvey {A : Type 0} (r : RuleSets) (limit : ℕ) (listed : Bool) (s
 abbrev pub HasShapeAt : {A : Type 0} → List (Shape A) → Cells → ℕ → Cell → Type 0
 HasShapeAt {A} shapes X i v = (i < length shapes) × ((d : Shape A) → X ≡ image (moved_cell v.column v.row) (slice_index_or shapes i d).cluster)
 
--- the shape at place i has this code, or has none
+-- the shape at place i has this code, or no code
 abbrev pub HasCodeAt : {A : Type 0} → List (Shape A) → Option (List ℕ) → ℕ → Type 0
 HasCodeAt {A} shapes code i = (i < length shapes) × ((d : Shape A) → (slice_index_or shapes i d).code ≡ code)

@@ -9,7 +9,7 @@ use Rattle.life_census.specs.Rows.{TallyCounts}
 abbrev pub line : List ℕ → ℕ → List ℕ
 line text n = text ++ comma ∷ decimal n ++ line_feed ∷ []
 
--- a line of names, a line for each code with its count, and a line with how many clusters have no code
+-- a header, a line for each code with its count, and a line with how many clusters have no code
 abbrev pub lines : List (List ℕ × ℕ) → ℕ → List ℕ
 lines rows unresolved = codes "code,count" ++ line_feed ∷ flat_map (λ row. line row.0 row.1) rows ++ line (codes "unresolved") unresolved
 

@@ -10,9 +10,9 @@ use crate::flood::flooded;
 use life_core::{Fault, Pattern, Run, Runs};
 use std::alloc::Allocator;
 
-/// The clusters of the pattern, each in its place and once, by their least cells: row before column.
-/// Two cells are in one cluster where a chain of cells of the pattern leads from one to the other,
-/// each of them at most 2 columns and 2 rows from the one before it.
+/// The clusters of the pattern at their positions, each once, ordered by their least cells: by row and
+/// then by column. Two cells are in one cluster if a chain of cells of the pattern leads from one to the
+/// other, each at most 2 columns and 2 rows from the one before it.
 pub fn clusters<A: Allocator + Copy>(
     alloc: A,
     pattern: &Pattern<A>,
@@ -23,7 +23,7 @@ pub fn clusters<A: Allocator + Copy>(
     parted(alloc, &mut left)
 }
 
-/// The clusters of the cells of runs, which it takes out.
+/// The clusters of the cells of runs; empties the runs.
 fn parted<A: Allocator + Copy>(alloc: A, left: &mut [Run]) -> Result<Vec<Pattern<A>, A>, Fault>
     requires order { AreRunsInOrder left.old }
     requires inside { IsWithin PLANE (cells_in left.old) }
@@ -46,7 +46,7 @@ fn pattern_of<A: Allocator + Copy>(alloc: A, runs: Vec<Run, A>) -> Result<Patter
     ensures { IfOk result (λ X. X ≡ cells_in runs.items) }
 {
     let mut runs = runs;
-    // A list in order becomes a pattern as it is.
+    // A list in order becomes a pattern without a copy.
     runs.sort_unstable();
     let mut cells = Runs::new(alloc);
     for run in &runs {

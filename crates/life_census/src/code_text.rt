@@ -35,7 +35,7 @@ impl<A: Allocator> CodeText<A> {
         })
     }
 
-    /// The code's bytes: small letters, digits and `_`.
+    /// The code's bytes: lower-case letters, digits and `_`.
     pub fn as_bytes(&self) -> &[u8]
         ensures bytes { result.now ≡ self.now }
         ensures plain { list_all is_code_byte result.now ≡ true }
@@ -44,7 +44,7 @@ impl<A: Allocator> CodeText<A> {
     }
 }
 
-/// Whether the bytes may stand in the text of a code.
+/// Whether the bytes may occur in the text of a code.
 pub fn is_code_text(bytes: &[u8]) -> bool
     ensures { result ≡ list_all is_code_byte bytes.now }
 {

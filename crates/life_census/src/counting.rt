@@ -1,4 +1,4 @@
-//! How many clusters there are of each code.
+//! Counting clusters by their codes.
 ghost use Rattle.std.specs.Prelude.{◌≡◌, ℕ, List, Option, ◌+◌, ◌<◌, ◌≤◌, ◌^◌, ◌∷◌, [], false, map, IfOk, OnOk, MatchResult};
 ghost use Rattle.std.specs.List.{All};
 ghost use Rattle.life_core.specs.Pattern.{Cells, IsWithin};
@@ -19,8 +19,8 @@ use life_core::{Fault, Pattern, Rule};
 use std::alloc::{AllocError, Allocator};
 use std::cmp::Ordering;
 
-/// How many clusters of the pattern have each code under the rule and the limit of the period, and
-/// how many have none.
+/// How many clusters of the pattern have each code, under the rule and the limit on the period, and
+/// how many have no code.
 pub fn tally<A: Allocator + Copy>(
     alloc: A,
     rule: &Rule,
@@ -39,7 +39,7 @@ pub fn tally<A: Allocator + Copy>(
     tally_of(&search, &clusters, &mut Vec::new(alloc))
 }
 
-/// The tally of a field that is one cluster, of this kind.
+/// The tally of a field that is a single cluster of this kind.
 pub fn tally_of_one<A: Allocator + Copy>(
     search: &Search<A>,
     cluster: &Pattern<A>,
@@ -52,7 +52,7 @@ pub fn tally_of_one<A: Allocator + Copy>(
     Ok(counted_once(search.alloc, &code)?)
 }
 
-/// The tally of one cluster that has this code, or none.
+/// The tally of one cluster with this code, or without a code.
 fn counted_once<A: Allocator + Copy>(
     alloc: A,
     code: &Option<CodeText<A>>,
@@ -72,8 +72,8 @@ fn counted_once<A: Allocator + Copy>(
     })
 }
 
-/// How many of the clusters have each code, and how many have none. Shapes that are new are added to
-/// the table.
+/// How many of the clusters have each code, and how many have no code. New shapes are added to the
+/// table.
 pub fn tally_of<A: Allocator + Copy>(
     search: &Search<A>,
     clusters: &[Pattern<A>],

@@ -1,4 +1,4 @@
-//! A cluster, from one of its runs on.
+//! Finding a cluster from one of its runs.
 ghost use Rattle.std.specs.Prelude.{◌≡◌, ◌<◌, ◌≤◌, pos, ◌+ℤ◌, ◌-ℤ◌, true, false, IfOk, OnOk, length, slice_index_or};
 ghost use Rattle.std.specs.Bool.{MatchBool};
 ghost use Rattle.std.specs.List.{All};
@@ -12,8 +12,8 @@ ghost use Rattle.life_census.specs.FloodState.{IsFlood, IsClear, IsRound, IsTake
 use life_core::{Cell, Run, first_from};
 use std::alloc::{AllocError, Allocator};
 
-/// Takes out the runs that are joined to the start by cells that are left. What is left of a run that
-/// is taken is an empty one.
+/// Takes out the runs that the remaining cells connect to the start. A run that is taken out leaves an
+/// empty run behind.
 pub fn flooded<A: Allocator + Copy>(
     alloc: A,
     left: &mut [Run],
@@ -75,7 +75,7 @@ fn take_row<A: Allocator + Copy>(
     Ok(())
 }
 
-/// Takes out one run, if it is left.
+/// Takes out one run, if it is still there.
 fn take_run<A: Allocator + Copy>(
     left: &mut [Run],
     cluster: &mut Vec<Run, A>,
@@ -92,7 +92,7 @@ fn take_run<A: Allocator + Copy>(
     Ok(())
 }
 
-/// The first column that is at most 2 away from a column of the run, and the one following the last.
+/// The first column at most 2 away from a column of the run, and the one after the last such column.
 fn reach(run: Run) -> (i64, i64)
     ensures from { result.0 ≡ run.first -ℤ pos 2 }
     ensures to { result.1 ≡ (run.first +ℤ pos run.len) +ℤ pos 2 }
@@ -100,7 +100,7 @@ fn reach(run: Run) -> (i64, i64)
     (i64::from(run.first) - 2, run.end() + 2)
 }
 
-/// Whether the run begins before a column of a row, or in a row before it.
+/// Whether the run begins in an earlier row, or before this column of the row.
 fn begins_before(run: Run, row: i64, column: i64) -> bool
     ensures { MatchBool result (Begins run row column) (IsBeyond run row column) }
 {

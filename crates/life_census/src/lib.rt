@@ -1,4 +1,4 @@
-//! The clusters of a pattern, how many of them have each code, and whether they ever meet.
+//! The clusters of a pattern, their counts by code, and whether they ever meet.
 #![tactic(auto)]
 
 mod cluster;

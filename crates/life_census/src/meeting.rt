@@ -24,17 +24,17 @@ use life_code::{PERIOD_LIMIT, kind};
 use life_core::{Cell, Fault, Pattern, Rule};
 use std::alloc::{AllocError, Allocator};
 
-/// A cell that a cluster comes to in one of its phases, and the number of the cluster.
+/// A cell that is live in some phase of a cluster, and the number of the cluster.
 #[derive(Clone, Copy, PartialEq, Eq, PartialOrd, Ord)]
 struct Visit {
     cell: Cell,
     cluster: usize,
 }
 
-/// Whether the field is steady under the rule and the limit of the period: whether each cluster is a
-/// still life or an oscillator, and no cell of any phase of one is at most 2 columns and 2 rows from a
-/// cell of any phase of another. Then each cluster evolves for ever as if it were alone. The empty
-/// field is steady. The cells of all phases are held at once.
+/// Whether the field is steady under the rule and the limit on the period: each cluster is a still
+/// life or an oscillator, and no cell of any phase of one is within 2 columns and 2 rows of a cell of
+/// any phase of another. Each cluster then evolves for ever as if it were alone. The empty field is
+/// steady. The cells of all phases are in memory at once.
 pub fn steady<A: Allocator + Copy>(
     alloc: A,
     rule: &Rule,
@@ -53,8 +53,8 @@ pub fn steady<A: Allocator + Copy>(
     never_meet(&search, &clusters, &mut Vec::new(alloc))
 }
 
-/// The tally of a field, as [`tally`](crate::tally) gives it, and whether the field is steady, as
-/// [`steady`] answers. The field is parted once, and each shape of its clusters is surveyed once.
+/// The tally of a field, as from [`tally`](crate::tally), and whether the field is steady, as from
+/// [`steady`]. The clusters are found once, and each shape among them is surveyed once.
 pub fn tally_and_steady<A: Allocator + Copy>(
     alloc: A,
     rule: &Rule,
@@ -74,13 +74,13 @@ pub fn tally_and_steady<A: Allocator + Copy>(
         return Ok((tally, stays(kind)));
     }
     let mut shapes = Vec::new(alloc);
-    // It ends at the first cluster that does not stay, so no phases of later shapes are listed.
+    // It ends at the first cluster that moves or is unresolved, so no phases of later shapes are listed.
     let steady = never_meet(&search, &clusters, &mut shapes)?;
     let tally = tally_of(&search, &clusters, &mut shapes)?;
     Ok((tally, steady))
 }
 
-/// Whether these clusters stay, and never come near each other. Shapes that are new are added to the
+/// Whether these clusters stay in place and never come near each other. New shapes are added to the
 /// table, with their phases.
 fn never_meet<A: Allocator + Copy>(
     search: &Search<A>,
@@ -99,8 +99,8 @@ fn never_meet<A: Allocator + Copy>(
     Ok(are_apart(&visits))
 }
 
-/// The cells of all phases of the clusters, if all of them stay: up to the first that does not, each
-/// new shape is added to the table.
+/// The cells of all phases of the clusters, if all of them stay in place. Up to the first that does
+/// not, each new shape is added to the table.
 fn all_visits<A: Allocator + Copy>(
     search: &Search<A>,
     clusters: &[Pattern<A>],
@@ -124,7 +124,7 @@ fn all_visits<A: Allocator + Copy>(
     Ok(Some(visits))
 }
 
-/// Adds the cells of the phases of one cluster, each of them moved.
+/// Adds the cells of all phases of one cluster, each moved.
 fn visit_cells<A: Allocator>(
     cells: &[Cell],
     move_by: Cell,
@@ -143,7 +143,7 @@ fn visit_cells<A: Allocator>(
     Ok(())
 }
 
-/// Whether no two of the sorted cells that belong to two clusters are near each other.
+/// Whether no two of the sorted cells that belong to different clusters are near each other.
 fn are_apart(visits: &[Visit]) -> bool
     requires sorted { IsSorted visit_cmp visits.now }
     requires inside { All IsVisitInPlane visits.now }
@@ -158,8 +158,8 @@ fn are_apart(visits: &[Visit]) -> bool
     are_rows_apart(visits, 2)
 }
 
-/// Whether no cell is near one of another cluster that lies so many rows below it. From one cell to
-/// the next, the index of the first that can be near only moves on.
+/// Whether no cell is near a cell of another cluster that is this many rows below it. From one cell to
+/// the next, the index of the first that can be near only increases.
 fn are_rows_apart(visits: &[Visit], rows: i64) -> bool
     requires sorted { IsSorted visit_cmp visits.now }
     requires inside { All IsVisitInPlane visits.now }
@@ -177,7 +177,7 @@ fn are_rows_apart(visits: &[Visit], rows: i64) -> bool
     true
 }
 
-/// The first index, from the start on, of a visit whose cell does not come before a cell.
+/// The first index, from the start on, whose cell does not come before this cell.
 fn first_from(visits: &[Visit], start: usize, cell: Cell) -> usize
     requires { start ≤ length visits.now }
     ensures bound { result ≤ length visits.now }
@@ -190,7 +190,7 @@ fn first_from(visits: &[Visit], start: usize, cell: Cell) -> usize
     index
 }
 
-/// Whether a cell is near one of another cluster, among those up to the last that can be near.
+/// Whether a cell is near a cell of another cluster, among those that can be near.
 fn meets(visit: Visit, others: &[Visit], last: Cell) -> bool
     requires { IsSorted visit_cmp others.now }
     ensures { MatchBool result ((w : VisitValue) × Contains others.now w × (KeepApart visit w → ⊥)) (All (KeepApartUpTo last visit) others.now) }

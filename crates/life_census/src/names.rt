@@ -1,4 +1,4 @@
-//! The codes of the clusters of pattern after pattern.
+//! The codes of the clusters of many patterns.
 ghost use Rattle.std.specs.Prelude.{◌≡◌, ◌≤◌, false, ◌++◌, ◌∷◌, [], map, IfOk, OnOk};
 ghost use Rattle.std.specs.List.{All};
 ghost use Rattle.life_core.specs.Pattern.{IsWithin};
@@ -14,8 +14,8 @@ use life_core::{Fault, Pattern, Rule};
 use std::alloc::{AllocError, Allocator};
 use std::marker::Model;
 
-/// What names the clusters of pattern after pattern under a rule and a limit of the period. The codes of the shapes that were met are
-/// kept, so that each is found once.
+/// Names the clusters of one pattern after another, under a rule and a limit on the period. It remembers the codes of all shapes that it
+/// has met, so each is computed once.
 #[derive(Drop)]
 pub struct Names<A: Allocator> {
     rule: Rule,
@@ -38,7 +38,7 @@ impl<A: Allocator> Model for Names<A> {
 }
 
 impl<A: Allocator + Copy> Names<A> {
-    /// Under this rule and this limit, with no shape met.
+    /// Under this rule and this limit, with no shapes yet.
     pub fn new(alloc: A, rule: Rule, limit: u32) -> Names<A>
         requires from_one { 1 ≤ limit }
         requires few { limit ≤ PERIOD_LIMIT }
@@ -51,7 +51,7 @@ impl<A: Allocator + Copy> Names<A> {
         }
     }
 
-    /// The codes of the clusters of a pattern, in the order of the clusters, with none for each that has none.
+    /// The codes of the clusters of a pattern, in the order of the clusters; `None` for a cluster without a code.
     pub fn codes(
         &mut self,
         alloc: A,
@@ -86,7 +86,7 @@ fn named<A: Allocator + Copy>(
     Ok(codes)
 }
 
-/// Puts a code, or none, at the end of the list.
+/// Appends a code, or `None`, to the list.
 fn put_code<A: Allocator + Copy>(
     alloc: A,
     codes: &mut Vec<Option<CodeText<A>>, A>,
@@ -98,7 +98,7 @@ fn put_code<A: Allocator + Copy>(
     Ok(())
 }
 
-/// The same code again, or none again.
+/// A copy of the code, if there is one.
 fn copied<A: Allocator>(
     alloc: A,
     code: &Option<CodeText<A>>,

@@ -1,4 +1,4 @@
-//! What a tally holds: codes, each with its count.
+//! The rows of a tally: codes with their counts.
 ghost use Rattle.std.specs.Prelude.{◌≡◌, map};
 ghost use Rattle.life_census.specs.Rows.{row_seen};
 
@@ -13,7 +13,7 @@ pub struct Row<A: Allocator = Global> {
     pub count: u64,
 }
 
-/// Rows. Those of a tally stand in the order of their codes, byte by byte.
+/// Rows. Those of a tally are in the byte order of their codes.
 #[derive(Debug, Drop)]
 pub struct Rows<A: Allocator = Global> {
     rows: Vec<Row<A>, A>,
@@ -44,7 +44,7 @@ impl<A: Allocator> Rows<A> {
     }
 }
 
-/// How many clusters of a pattern have each code, how many have none, and how many there are.
+/// How many clusters of a pattern have each code, how many have no code, and how many there are in all.
 #[derive(Debug, Drop)]
 pub struct Tally<A: Allocator = Global> {
     pub rows: Rows<A>,

@@ -13,15 +13,15 @@ use itoa::Buffer;
 use life_core::Fault;
 use std::alloc::{AllocError, Allocator};
 
-/// The tally as CSV: a line of names, a line for each code with its count, and a line with the
-/// number of clusters that have no code.
+/// The tally as CSV: a header, a line for each code with its count, and a line with the number of
+/// clusters without a code.
 pub fn csv<A: Allocator + Copy>(alloc: A, tally: &Tally<A>) -> Result<Vec<u8, A>, Fault>
     ensures { IfOk result (λ v. v.items ≡ csv_text tally.now) }
 {
     Ok(text_of(alloc, tally.rows.as_slice(), tally.unresolved)?)
 }
 
-/// The text of rows and of how many have no code.
+/// The text of rows, and of the number of clusters without a code.
 fn text_of<A: Allocator + Copy>(
     alloc: A,
     rows: &[Row<A>],
@@ -36,14 +36,14 @@ fn text_of<A: Allocator + Copy>(
     finish(with_line(table, b"unresolved", unresolved)?)
 }
 
-/// A table of no lines.
+/// A table without lines.
 fn new_table<A: Allocator>(alloc: A) -> Writer<Vec<u8, A>>
     ensures { Holds result [] }
 {
     WriterBuilder::new().from_writer(Vec::new(alloc))
 }
 
-/// The table with one more line, of two fields.
+/// The table with one more line of two fields.
 fn with_fields<A: Allocator>(
     table: Writer<Vec<u8, A>>,
     first: &[u8],
@@ -59,7 +59,7 @@ fn with_fields<A: Allocator>(
     }
 }
 
-/// The table with one more line, of a code and a count.
+/// The table with one more line: a code and a count.
 fn with_line<A: Allocator>(
     table: Writer<Vec<u8, A>>,
     code: &[u8],

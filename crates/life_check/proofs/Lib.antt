@@ -1,3 +1,4 @@
 pub mod WalkLemmas
 pub mod CountLemmas
 pub mod SoundLemmas
+pub mod FileLemmas

@@ -7,7 +7,7 @@ use Rattle.sqlite_value.specs.declared.keys.Order.{Order}
 use Rattle.sqlite_trees.specs.declared.store.Store.{Ghosts}
 use Rattle.sqlite_trees.specs.declared.store.Direction.TheVariants.{Forward}
 use Rattle.sqlite_trees.specs.Tree.{sought, from_key}
-use Rattle.sqlite_trees.specs.View.{View, with_cursor, IsQuiet, Advances}
+use Rattle.sqlite_trees.specs.View.{View, with_cursor, Advances}
 use Rattle.life_store.specs.Stored.{rows_by}
 use Rattle.life_check.specs.ReadState.{IsReadUpTo, AreOf, AreNone}
 use Rattle.life_check.specs.WalkState.{IsCalm, KeepsTrees, HasWalked}
@@ -24,14 +24,8 @@ placed_at_start v w cursor table o key none is =
 
 -- ---- calm steps
 
-pub calm_none : {S : Type 0} (g : Ghosts S) (s : S) → IsCalm g s s
-calm_none g s = record { clean = omega arith; outcomes = λ db h. h }
-
-pub calm_by : {S : Type 0} (g : Ghosts S) (a b : S) → IsQuiet g.view g.faults g.recovers g.is_shielded a b → IsCalm g a b
-calm_by g a b it = record { clean = it.clean; outcomes = it.outcomes }
-
 pub calm_then : {S : Type 0} (g : Ghosts S) (a b c : S) → IsCalm g a b → IsCalm g b c → IsCalm g a c
-calm_then g a b c before after = record { clean = omega (arith, before.clean, after.clean); outcomes = λ db h. before.outcomes db (after.outcomes db h) }
+calm_then g a b c before after = record { clean = omega (arith, before.clean, after.clean); outcomes = λ db h. before.outcomes db (after.outcomes db h); numbered = after.numbered ∙ before.numbered }
 
 -- ---- the rows that are read
 

@@ -1,4 +1,4 @@
--- How far the censuses of an archive are read, with the rows of their tallies and their flags, and what was found of them.
+-- The state while the censuses of an archive are read, with the rows of their tallies and their flags, and the results.
 use Rattle.std.specs.Prelude.{◌≡◌, ◌<◌, ◌+◌, ◌^◌, ◌==◌, ⊤, ℕ, false, List, [], ◌∷◌, ◌++◌, length, Some}
 use Rattle.std.specs.List.{AllByRecursion}
 use Rattle.sqlite_value.specs.Order.{Row}
@@ -13,7 +13,7 @@ use Rattle.life_check.specs.declared.walk.Found.{Found}
 use Rattle.life_check.specs.declared.walk.Found.TheVariants.{All, Wrong}
 use Rattle.life_check.specs.ReadState.{census_row, flag_row}
 
--- The census's deposit is there, and its tally and its flag are those of its own generation.
+-- The census's deposit exists, and its tally and its flag are those of its generation.
 pub record IsCounted (ds : List Deposit) (t : Tallied) : Type 0 where
   pub deposit : Deposit
   pub there : numbered ds t.census.deposit ≡ Some deposit
@@ -29,16 +29,16 @@ pub record AreCounted (trees : Trees) (ds : List Deposit) (n : ℕ) : Type 0 whe
   pub counts : trees 5 ≡ rows_by count_cells 1 (counts_from 1 censuses)
   pub flags : trees 7 ≡ rows_by flag_cells 1 censuses
 
--- the table of deposits has the rows of these, each with a file that is read as its record again
+-- the table of deposits has the rows of these; reading each file gives its record again
 abbrev pub AreFiled : Trees → List Deposit → Type 0
 AreFiled trees ds = (trees 1 ≡ rows_by deposit_cells 1 ds) × AllByRecursion IsFiled ds
 
--- what was found of the three tables
+-- the result for the three tables
 abbrev pub FindsCounted : Trees → Found → Type 0
 FindsCounted trees (All n) = ((ds : List Deposit) → AreFiled trees ds → AreCounted trees ds n) × (n < 2 ^ 63)
 FindsCounted trees (Wrong n) = ⊤
 
--- The cursor has given these rows. The others stand where they stood.
+-- The cursor has given these rows. The other cursors have not moved.
 pub record Takes (cursor : ℕ) (rows : List Row) (old now : View) : Type 0 where
   pub left : List Row
   pub was : old.cursors cursor ≡ Some (rows ++ left)
@@ -46,7 +46,7 @@ pub record Takes (cursor : ℕ) (rows : List Row) (old now : View) : Type 0 wher
   pub others : (d : ℕ) → (d == cursor) ≡ false → now.cursors d ≡ old.cursors d
   pub trees : now.trees ≡ old.trees
 
--- The first n censuses are read, and so many rows of tallies with them.
+-- The first n censuses are read, with this many rows of tallies.
 pub record HasCounted (ds : List Deposit) (n read : ℕ) (old now : View) : Type 0 where
   pub trees : now.trees ≡ old.trees
   pub done : List Tallied
@@ -64,7 +64,7 @@ pub record HasCounted (ds : List Deposit) (n read : ℕ) (old now : View) : Type
   pub at_flags : now.cursors 2 ≡ Some left_flags
   pub flags : old.trees 7 ≡ rows_by flag_cells 1 done ++ left_flags
 
--- The row is that of a census under this number, which is counted, and its rows and its flag are what the two other cursors gave.
+-- The row is that of a census under this number, correctly counted, and the other two cursors gave its rows and its flag.
 pub record Follows (ds : List Deposit) (id before more : ℕ) (row : Row) (old now : View) : Type 0 where
   pub census : Tallied
   pub good : IsCounted ds census

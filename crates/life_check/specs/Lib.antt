@@ -2,3 +2,5 @@ pub mod ReadState
 pub mod WalkState
 pub mod CountState
 pub mod Sound
+pub mod Schemas
+pub mod Files

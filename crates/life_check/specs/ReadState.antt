@@ -1,4 +1,4 @@
--- How far the rows of a table are read, and what was found of them.
+-- The state while the rows of a table are read, and the results.
 use Rattle.std.specs.Prelude.{◌≡◌, ◌≤◌, ℕ, pos, Bool, false, List, [], ◌∷◌, ◌++◌, length}
 use Rattle.std.specs.List.{AllByRecursion}
 use Rattle.sqlite_value.specs.Order.{Row}
@@ -9,18 +9,18 @@ use Rattle.life_census.specs.Rows.{TallyCounts}
 use Rattle.life_store.specs.Kept.{Tallied}
 use Rattle.life_store.specs.Stored.{IsFiled, rows_by, deposit_cells, census_cells, count_cells, flag_cells, flag_number}
 
--- The first n rows are those of n elements, under the ids from 1 on, and of each of these P holds. The other rows are left.
+-- The first n rows are those of n elements, under the ids from 1 on, and P holds for each element. The other rows are left.
 pub record IsReadUpTo {X : Type 0} (f : X → Row) (P : X → Type 0) (n : ℕ) (rows left : List Row) : Type 0 where
   pub done : List X
   pub many : length done ≡ n
   pub good : AllByRecursion P done
   pub are : rows ≡ rows_by f 1 done ++ left
 
--- all rows are those of n elements, and of each of these P holds
+-- all rows are those of n elements, and P holds for each
 abbrev pub AreOf : {X : Type 0} → (X → Row) → (X → Type 0) → List Row → ℕ → Type 0
 AreOf {X} f P rows n = (xs : List X) × (rows ≡ rows_by f 1 xs) × AllByRecursion P xs × (length xs ≡ n)
 
--- no elements of which P holds have these rows
+-- no elements for which P holds have these rows
 abbrev pub AreNone : {X : Type 0} → (X → Row) → (X → Type 0) → List Row → Type 0
 AreNone {X} f P rows = (xs : List X) → rows ≡ rows_by f 1 xs → AllByRecursion P xs → ⊥
 
@@ -52,7 +52,7 @@ flag_row id t = Int (pos id) ∷ flag_cells t
 abbrev pub flag_row_of : ℕ → Bool → Row
 flag_row_of id steady = Int (pos id) ∷ Null ∷ Int (pos (flag_number steady)) ∷ []
 
--- a request can ask for it: no more generations, and no other limits, are counted
+-- a request can ask for it: its generation and its limit are in range
 pub record IsAskable (c : Census) : Type 0 where
   pub few : c.generation ≤ 2048
   pub some : 1 ≤ c.limit

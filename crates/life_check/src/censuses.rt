@@ -1,4 +1,4 @@
-//! The tables of censuses, of the rows of their tallies, and of their flags, side by side.
+//! Reading the tables of censuses, of the rows of their tallies, and of their flags side by side.
 
 ghost use Rattle.std.specs.Prelude.{◌≡◌, ◌<◌, ◌^◌, ◌+◌, List, [], ◌∷◌, length, map, IsSome, Some, IfOk, IfSome, OnOk, IsTrue};
 ghost use Rattle.sqlite_trees.specs.View.{IsClean, StayLive};
@@ -23,14 +23,14 @@ use sqlite::Alter;
 use sqlite_value::row::Row;
 use std::alloc::Global;
 
-/// The numbers of the tables' trees: those between them are of their indexes.
+/// The numbers of the tables' trees; the numbers between them belong to their indexes.
 const CENSUSES: u32 = 3;
 
 const CENSUS_ROWS: u32 = 5;
 
 const CENSUS_FLAGS: u32 = 7;
 
-/// The deposit of the number, or none.
+/// The deposit with the number, or `None`.
 fn deposit_at<S: Alter>(
     store: &mut S,
     alloc: Global,
@@ -52,7 +52,7 @@ fn deposit_at<S: Alter>(
     deposit_of_row(alloc, &row, id)
 }
 
-/// Whether the next rows of tallies, after so many, are these of the census of the number: how many there are then.
+/// Whether the next rows of tallies, after this many, are those of the census with the number; returns how many rows were read then.
 fn rows_follow<S: Alter>(
     store: &mut S,
     alloc: Global,
@@ -101,8 +101,8 @@ fn flag_follows<S: Alter>(
     is_of_flag(alloc, &row, id, steady)
 }
 
-/// Whether the row is that of a census under the number, counted as its deposit says, with its rows and its flag next: how many
-/// rows of tallies there are then.
+/// Whether the row is that of a census under the number, counted from its deposit, and its rows and its flag are next; returns how many
+/// rows of tallies were read then.
 fn census_follows<S: Alter>(
     store: &mut S,
     alloc: Global,
@@ -138,7 +138,7 @@ fn census_follows<S: Alter>(
     Ok(Some(more))
 }
 
-/// Whether no row of a tally and no flag is left.
+/// Whether no rows of tallies and no flags are left.
 fn none_left<S: Alter>(store: &mut S, alloc: Global) -> Result<bool, Unavailable>
     requires rows { IsSome ((S.Store.view store.old).cursors 1) }
     requires flags { IsSome ((S.Store.view store.old).cursors 2) }

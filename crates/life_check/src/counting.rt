@@ -1,4 +1,4 @@
-//! A census counted anew from its deposit, as the desk counts it before it is kept.
+//! Counting a census again from its deposit, as the desk does before it is stored.
 
 ghost use Rattle.std.specs.Prelude.{◌≡◌, ◌≤◌, Some, IfOk};
 ghost use Rattle.life_core.specs.Pattern.{IsWithin};
@@ -13,7 +13,7 @@ use life_core::{GENERATION_LIMIT, Pattern, Rule, generation};
 use life_store::{Census, Deposit, Unavailable};
 use std::alloc::Global;
 
-/// The tally of a pattern, and whether it is steady.
+/// The tally of a pattern, and whether the pattern is steady.
 fn count(
     alloc: Global,
     rule: &Rule,

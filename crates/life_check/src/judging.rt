@@ -1,8 +1,9 @@
-//! The whole look at an archive.
+//! The check of a whole archive.
 
 ghost use Rattle.std.specs.Prelude.{◌≡◌, ◌≢◌, ◌↔◌, ◌∷◌, [], pos, false, IfOk, OnOk, IsTrue};
 ghost use Rattle.sqlite_value.specs.declared.value.Value.TheVariants.{Int};
 ghost use Rattle.sqlite_trees.specs.View.{IsClean};
+ghost use Rattle.sqlite.specs.Held.{AreDatabases};
 ghost use Rattle.life_store.specs.Layout.{archive_schema};
 ghost use Rattle.life_store.specs.Tables.{version_2};
 ghost use Rattle.life_check.specs.WalkState.{IsCalm, KeepsTrees};
@@ -10,6 +11,7 @@ ghost use Rattle.life_check.specs.Sound.{FindsSound, RepresentsSome};
 
 use crate::censuses::censuses;
 use crate::deposits::deposits;
+use crate::schemas::is_same_schema;
 use crate::walk::{Found, begin, next};
 use life_store::{Archive, Unavailable};
 use sqlite::Alter;
@@ -17,25 +19,25 @@ use sqlite_value::row::Row;
 use sqlite_value::value::ValueRef;
 use std::alloc::Global;
 
-/// What is not as an archive has it.
+/// The place of an error in an archive.
 #[derive(Clone, Copy, Debug, PartialEq, Eq)]
 pub enum Wrong {
     /// The tables, their columns or their indexes.
     Tables,
     /// The rows of `layout`.
     Layout,
-    /// The row that should be the deposit of the number.
+    /// The row that should be the deposit with the number.
     Deposit(u64),
-    /// The row that should be the census of the number, a row of its tally, or its flag.
+    /// The row that should be the census with the number, a row of its tally, or its flag.
     Census(u64),
 }
 
-/// What a look at an archive found.
+/// The result of checking an archive.
 #[derive(Clone, Copy, Debug, PartialEq, Eq)]
 pub enum Verdict {
-    /// The tables represent an archive of so many deposits and so many censuses.
+    /// The tables represent an archive with this many deposits and this many censuses.
     Sound(u64, u64),
-    /// This is the first that is wrong.
+    /// The first error is here.
     NotSound(Wrong),
 }
 
@@ -70,7 +72,7 @@ fn is_layout<S: Alter>(store: &mut S, alloc: Global) -> Result<bool, Unavailable
     Ok(true)
 }
 
-/// Reads all trees of an archive's tables, once: rows one after another, and one tally at a time.
+/// Reads all trees of an archive's tables once: one row after another, and one tally at a time.
 pub fn check_trees<S: Alter>(store: &mut S, alloc: Global) -> Result<Verdict, Unavailable>
     ensures sound { IsClean (S.Store.view store.new) → IfOk result (FindsSound (S.Store.view store.old).trees) }
     ensures unbroken { IsClean (S.Store.view store.new) → OnOk result ((S.Store.view store.old).is_broken ≡ false) }
@@ -90,13 +92,25 @@ pub fn check_trees<S: Alter>(store: &mut S, alloc: Global) -> Result<Verdict, Un
     Ok(Verdict::Sound(deposits, censuses))
 }
 
-/// Looks at every row of an archive, and gives its store back. It changes nothing. What is sound is an archive's, whoever wrote it.
-pub fn check<S: Alter + Drop>(
+/// Whether the tables are those of a new archive, with the same columns, checks and indexes.
+fn has_schema<S: Alter>(archive: &Archive<S>, alloc: Global) -> Result<bool, Unavailable>
+    ensures { IfOk result (λ known. IsTrue known → archive.now.tables.schema ≡ archive_schema) }
+{
+    match Archive::open_in_memory(alloc, 1) {
+        Ok(made) => Ok(is_same_schema(archive.schema(), made.schema())),
+        Err(_) => Err(Unavailable),
+    }
+}
+
+/// Checks every row of an archive whose tables are known to be its own, and returns its store.
+fn check_rows<S: Alter + Drop>(
     archive: Archive<S>,
     alloc: Global,
 ) -> (Result<Verdict, Unavailable>, S)
     ensures sound { IsClean (S.Store.view result.1) → archive.tables.schema ≡ archive_schema → IfOk result.0 (RepresentsSome archive) }
     ensures calm { IsCalm S.Store archive.store result.1 }
+    ensures numbered { IsClean (S.Store.view result.1) → IsTrue (S.Store.view result.1).is_numbered }
+    ensures databases { IsClean (S.Store.view result.1) → AreDatabases (S.Store.recovers result.1) }
 {
     let (is_settled, mut store) = archive.into_trees();
     if !is_settled {
@@ -104,4 +118,31 @@ pub fn check<S: Alter + Drop>(
     }
     let verdict = check_trees(&mut store, alloc);
     (verdict, store)
+}
+
+/// The store of an archive that is not read.
+fn store_of<S: Alter + Drop>(archive: Archive<S>) -> S
+    ensures calm { IsCalm S.Store archive.store result }
+    ensures numbered { IsClean (S.Store.view result) → IsTrue (S.Store.view result).is_numbered }
+    ensures databases { IsClean (S.Store.view result) → AreDatabases (S.Store.recovers result) }
+{
+    archive.into_trees().1
+}
+
+/// Checks the tables and every row of an archive, and returns its store. It changes nothing. Sound tables are an archive, whoever wrote
+/// them.
+pub fn check<S: Alter + Drop>(
+    archive: Archive<S>,
+    alloc: Global,
+) -> (Result<Verdict, Unavailable>, S)
+    ensures sound { IsClean (S.Store.view result.1) → IfOk result.0 (RepresentsSome archive) }
+    ensures calm { IsCalm S.Store archive.store result.1 }
+    ensures numbered { IsClean (S.Store.view result.1) → IsTrue (S.Store.view result.1).is_numbered }
+    ensures databases { IsClean (S.Store.view result.1) → AreDatabases (S.Store.recovers result.1) }
+{
+    match has_schema(&archive, alloc) {
+        Ok(true) => check_rows(archive, alloc),
+        Ok(false) => (Ok(Verdict::NotSound(Wrong::Tables)), store_of(archive)),
+        Err(_) => (Err(Unavailable), store_of(archive)),
+    }
 }

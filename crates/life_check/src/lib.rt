@@ -1,14 +1,17 @@
-//! Whether the tables of an archive represent one: its rows are read as the store has them, and each is compared with the
-//! row that an archive writes.
+//! Checks that the tables of an archive represent one: its rows are read from the store, and each is compared with the row
+//! that an archive writes.
 #![tactic(auto)]
 
 mod censuses;
 mod counting;
 mod deposits;
+mod files;
 mod judging;
 mod rows;
+mod schemas;
 #[cfg(test)]
 mod tests;
 mod walk;
 
+pub use files::check_path;
 pub use judging::{Verdict, Wrong, check, check_trees};

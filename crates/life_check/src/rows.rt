@@ -1,4 +1,4 @@
-//! Rows as an archive writes them, and the values that are read of a row. A value that an archive does not write is none.
+//! Rows as an archive writes them, and reading the values of a row. A value that an archive never writes gives `None`.
 
 ghost use Rattle.std.specs.Prelude.{◌≡◌, ◌<◌, ◌^◌, ◌↔◌, ℕ, pos, List, Ok, None, Some, false, IfOk, IfSome, OnOk, IsTrue};
 ghost use Rattle.sqlite_value.specs.declared.value.Value.TheVariants.{Int, Text as Words, Blob};
@@ -28,7 +28,7 @@ fn text_at(alloc: Global, row: &Row, at: usize) -> Result<Option<Text>, Unavaila
     }
 }
 
-/// The record that a file is read as.
+/// The record of a file.
 fn record_at(alloc: Global, row: &Row, at: usize) -> Result<Option<Record>, Unavailable>
     ensures value { (c : Contents) → kept (text c) ≡ Ok c → column row.now at ≡ Blob (text c) → IfOk result (λ o. o ≡ Some c) }
     ensures inside { IfOk result (λ o. IfSome o (λ c. IsInside 1024 c.cells)) }
@@ -86,7 +86,7 @@ fn row_of_deposit(alloc: Global, id: i64, deposit: &Deposit) -> Result<Row, Unav
     Ok(row)
 }
 
-/// The deposit whose row this is, under the number; none if it is no deposit's.
+/// The deposit whose row this is, under the number; `None` if it is not a deposit's row.
 pub(crate) fn deposit_of_row(
     alloc: Global,
     row: &Row,
@@ -201,7 +201,7 @@ pub(crate) fn is_of_census(
     Ok(row.is_same(&written))
 }
 
-/// Whether the row is that of a count of the tally of the census of the number, where it comes at this place.
+/// Whether the row is that of a count in the tally of the census with the number, at this place.
 pub(crate) fn is_of_count(
     alloc: Global,
     row: &Row,
@@ -226,7 +226,7 @@ pub(crate) fn is_of_count(
     Ok(row.is_same(&written))
 }
 
-/// Whether the row is that of the flag of the census of the number.
+/// Whether the row is that of the flag of the census with the number.
 pub(crate) fn is_of_flag(
     alloc: Global,
     row: &Row,

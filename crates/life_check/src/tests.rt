@@ -1,10 +1,10 @@
-//! One archive that is sound, and for each table and column one that is damaged there, by SQL that every constraint of the tables lets through.
+//! A sound archive and, for each table and column, one that is damaged there, by SQL that all constraints of the tables allow.
 use crate::judging::{Verdict, Wrong, check_trees};
 use sqlite::{Connection, Error, MemStore};
 use std::alloc::Global;
 use std::test::Fail;
 
-/// The tables as an archive has them, two deposits, and two censuses of the second one and the first one.
+/// The tables as an archive has them: two deposits, and two censuses, of the second and of the first deposit.
 const SOUND: [&str; 14] = [
     "CREATE TABLE layout (version INTEGER NOT NULL) STRICT",
     "CREATE TABLE deposits (id INTEGER PRIMARY KEY, member TEXT NOT NULL, token TEXT NOT NULL, rule TEXT NOT NULL, population INTEGER NOT NULL CHECK (population >= 0), rle BLOB NOT NULL, UNIQUE (member, token)) STRICT",
@@ -22,7 +22,7 @@ const SOUND: [&str; 14] = [
     "INSERT INTO census_flags VALUES (2, 0)",
 ];
 
-/// What is done to the tables, and what is found then.
+/// Changes of the tables, and the expected results.
 const DAMAGED: [(&str, Wrong); 26] = [
     ("UPDATE layout SET version = 3", Wrong::Layout),
     ("INSERT INTO layout (version) VALUES (2)", Wrong::Layout),
@@ -109,7 +109,7 @@ const DAMAGED: [(&str, Wrong); 26] = [
     ),
 ];
 
-/// What changes no row's meaning to an archive: who handed it in.
+/// Changes that leave the archive sound: who deposited something.
 const OTHERS: [&str; 2] = [
     "UPDATE deposits SET member = 'bob', token = 't9' WHERE id = 1",
     "UPDATE censuses SET member = 'eve', token = 't9' WHERE id = 1",
@@ -126,7 +126,7 @@ fn store_with(alloc: Global, last: Option<&str>) -> Result<MemStore, Error> {
     Ok(conn.into_store())
 }
 
-/// What is found, or which statement was refused.
+/// The result, or the statement that was refused.
 fn found(alloc: Global, last: Option<&str>) -> Result<Verdict, Error> {
     let mut store = store_with(alloc, last)?;
     match check_trees(&mut store, alloc) {

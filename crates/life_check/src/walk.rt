@@ -1,4 +1,4 @@
-//! The rows of a table, one after another, as the store has them.
+//! Walking over the rows of a table in the store.
 
 ghost use Rattle.std.specs.Prelude.{◌≡◌, ℕ, pos, false, IsSome, IfOk, OnOk};
 ghost use Rattle.sqlite_trees.specs.View.{IsClean, StayLive, Advances, Finds as Gets, with_cursor};
@@ -10,11 +10,11 @@ use sqlite_trees::store::{Direction, Shape};
 use sqlite_value::row::Row;
 use std::alloc::Global;
 
-/// What was found of the rows of a table.
+/// The result for the rows of a table.
 pub(crate) enum Found {
-    /// They are so many, each as an archive writes it under its number.
+    /// There are this many, each as an archive writes it under its number.
     All(u64),
-    /// The row that should have this number is none of an archive's.
+    /// The row that should have this number is not one that an archive writes.
     Wrong(u64),
 }
 
@@ -37,7 +37,7 @@ pub(crate) fn begin<S: Alter>(
     }
 }
 
-/// Writes the next row over `row`, or answers false where there is none.
+/// Writes the next row into `row`, or returns false if there is none.
 pub(crate) fn next<S: Alter>(store: &mut S, cursor: u16, row: &mut Row) -> Result<bool, Unavailable>
     requires { IsSome ((S.Store.view store.old).cursors cursor) }
     ensures ok { IfOk result (λ found. IsClean (S.Store.view store.new) → Advances (S.Store.view store.old) (S.Store.view store.new) cursor row.new found) }
@@ -50,7 +50,7 @@ pub(crate) fn next<S: Alter>(store: &mut S, cursor: u16, row: &mut Row) -> Resul
     }
 }
 
-/// Writes the row with this rowid over `row`, or answers false where there is none. No cursor moves.
+/// Writes the row with this rowid into `row`, or returns false if there is none. No cursor moves.
 pub(crate) fn get<S: Alter>(
     store: &mut S,
     table: u32,

@@ -1,10 +1,11 @@
-//! The jobs over an archive in files of this machine.
+//! The jobs over an archive in files on this machine.
 ghost use Rattle.std.specs.Prelude.{◌≡◌, None, Some, MatchResult};
 ghost use Rattle.sqlite_wal.specs.Files.{image_at};
 ghost use Rattle.life_archive.specs.Path.{AnswersDeposit, AnswersServing, line_after};
+ghost use Rattle.life_archive.specs.Checking.{AnswersCheck};
 
 use crate::net::Port;
-use life_archive::{ArchiveStop, deposit_path, serve_path};
+use life_archive::{ArchiveStop, deposit_path, run_check, serve_path};
 use life_program::ArchiveJobs;
 use life_rle::{Inlet, Outlet};
 use sqlite::{FileFrom, Start};
@@ -13,7 +14,7 @@ use sqlite_disk::Disk;
 /// How many deposits and how many censuses an archive takes.
 const CAPACITY: u64 = 1_000_000;
 
-/// The line of a stop in place of the stop.
+/// Turns a stop into its line.
 fn or_line(done: Result<(), ArchiveStop>) -> Result<(), &'static str>
     ensures { MatchResult result (λ _. line_after done ≡ None) (λ line. line_after done ≡ Some line.now) }
 {
@@ -23,7 +24,7 @@ fn or_line(done: Result<(), ArchiveStop>) -> Result<(), &'static str>
     }
 }
 
-/// Archives in files of this machine. `start` says what they hold at first: what a job does is proved for any contents.
+/// Archives in files on this machine. `start` stands for their initial content: what a job does is proved for any content.
 #[derive(Drop)]
 pub struct InFiles<T> {
     pub start: T,
@@ -35,6 +36,8 @@ impl<T: Start> ArchiveJobs for InFiles<T> {
 
     ghost serves = { λ file port connections line. AnswersServing ⟦<FileFrom<T> as Disk>⟧ (image_at T.Start) 1000000 connections line };
 
+    ghost checks = { λ O o file output sent line. AnswersCheck ⟦<FileFrom<T> as Disk>⟧ o (image_at T.Start) 1000000 output sent line };
+
     fn deposit<I: Inlet, O: Outlet>(
         self,
         rt: &HostRuntime,
@@ -44,7 +47,7 @@ impl<T: Start> ArchiveJobs for InFiles<T> {
         input: &mut I,
         output: &mut O,
     ) -> Result<(), &'static str> {
-        let (done, _files) = deposit_path(
+        let (done, _left) = deposit_path(
             rt, file, CAPACITY, self.start, member, token, input, output,
         );
         or_line(done)
@@ -58,9 +61,17 @@ impl<T: Start> ArchiveJobs for InFiles<T> {
         connections: u64,
     ) -> Result<(), &'static str> {
         let mut peers = Port::new(rt, port);
-        match serve_path(rt, file, CAPACITY, self.start, &mut peers, connections) {
-            Ok(_files) => Ok(()),
-            Err(stop) => Err(stop.line()),
-        }
+        let (done, _left) = serve_path(rt, file, CAPACITY, self.start, &mut peers, connections);
+        or_line(done)
+    }
+
+    fn check<O: Outlet>(
+        self,
+        rt: &HostRuntime,
+        file: &str,
+        output: &mut O,
+    ) -> Result<(), &'static str> {
+        let (done, _left) = run_check(rt, file, CAPACITY, self.start, output);
+        or_line(done)
     }
 }

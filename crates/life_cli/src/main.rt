@@ -12,6 +12,6 @@ use std::io;
 use std::process::ExitCode;
 
 fn main(rt: HostRuntime) -> io::Result<ExitCode> {
-    // What the files of this machine hold at first is unknown, but for files without a byte.
+    // The initial content of files on this machine is unknown, unless they are empty.
     run_program(&rt, InFiles { start: Unknown })
 }

@@ -1,4 +1,4 @@
-//! The connections that come to a port of this machine.
+//! The connections to a port of this machine.
 
 ghost use Rattle.std.specs.Prelude.{◌≡◌, ◌++◌, ℕ, codes, is_ok, IfOk, IfErr};
 ghost use Rattle.std.specs.Fmt.{decimal};
@@ -16,7 +16,7 @@ use std::alloc::{AllocError, Global};
 use std::io;
 use std::net::{OpenListener, TcpListener};
 
-/// Where the program listens: a port of 127.0.0.1, which only programs of this machine reach.
+/// The address that the program listens at: 127.0.0.1, which only programs on this machine can reach.
 fn address_of(alloc: Global, port: u64) -> Result<String, AllocError>
     ensures { IfOk result (λ address. string_bytes address ≡ codes "127.0.0.1:" ++ decimal port) }
 {
@@ -41,7 +41,7 @@ fn say_port(rt: &HostRuntime, port: u64) -> io::Result<()> {
     println!(rt; "listening on 127.0.0.1:{port}")
 }
 
-/// The line for a connection that ended before its end.
+/// The line for a connection that failed.
 fn fault_line(fault: IoFault) -> &'static str {
     match fault {
         IoFault::Read => "connection: read",
@@ -51,7 +51,7 @@ fn fault_line(fault: IoFault) -> &'static str {
     }
 }
 
-/// Serves the next connection. Without a listener none comes, and that is a failed read.
+/// Serves the next connection. Without a listener there is none, which counts as a failed read.
 fn serve_next<S: Alter>(
     rt: &HostRuntime,
     alloc: Global,
@@ -73,23 +73,23 @@ fn serve_next<S: Alter>(
         &mut FromRead::new(&peer),
         &mut FromWrite::new(&peer),
     );
-    // If the peer is gone already there is nobody to tell.
+    // If the peer has gone, the error concerns nobody.
     let _ended = peer.end();
     served
 }
 
-/// The connections that come to a port, which is listened at once the archive is open.
+/// The connections to a port. The program listens there once the archive is open.
 #[derive(Drop)]
 pub struct Port<'a> {
     rt: &'a HostRuntime,
     port: u64,
     listener: Option<TcpListener>,
-    /// How many were not served to their end.
+    /// How many connections failed.
     failures: u64,
 }
 
 impl<'a> Port<'a> {
-    /// The port, before it is listened at.
+    /// The port, before the program listens there.
     pub fn new(rt: &'a HostRuntime, port: u64) -> Port<'a>
         ensures { ⟦<Port<'static> as Connections>⟧.traffic result ≡ unknown 0 }
     {
@@ -103,7 +103,7 @@ impl<'a> Port<'a> {
 }
 
 impl Connections for Port<'_> {
-    // What a socket carries is unknown: only how many connections were not served to their end is counted.
+    // The bytes of a socket are unknown; only the number of failed connections is tracked.
     ghost traffic = { λ s. unknown s.failures };
 
     /// Listens at the port, and prints the line that says so.
@@ -121,7 +121,7 @@ impl Connections for Port<'_> {
             Ok(()) => {}
             Err(fault) => {
                 self.failures = self.failures.saturating_add(1);
-                // If standard error fails there is nobody to tell.
+                // If standard error fails, the error can't be reported.
                 let _told = self.rt.eprintln(fault_line(fault));
             }
         }

@@ -9,37 +9,37 @@ use std::time::{Duration, Instant};
 /// How many seconds a connection may be silent before a message begins.
 const SILENCE: u64 = 1;
 
-/// How many seconds a message that has begun may take to come whole.
+/// How many seconds a message may take to arrive completely, once it has begun.
 const MESSAGE: u64 = 10;
 
-/// How many seconds a reply may take to be taken.
+/// How many seconds the peer may take to read a reply.
 const REPLY: u64 = 10;
 
-/// How many seconds at most are spent on reading and dropping what a peer still sends after the last reply.
+/// For at most how many seconds the rest that a peer sends after the last reply is read and dropped.
 const REST: u64 = 2;
 
-/// How many pieces of it are dropped at most.
+/// The most pieces of it that are dropped.
 const PIECES: u64 = 256;
 
-/// A connection with a peer, which ends where the peer takes too long.
+/// A connection with a peer, which ends if the peer takes too long.
 ///
-/// If no byte of a message has come for a second, since the connection began or since the last reply, it reads as ended. A
-/// message that has begun, and a reply, have ten seconds: then the read or the write fails. What is counted is the time in which
-/// the peer is waited for, not the time in which a reply is made.
+/// If no byte of a message has come for a second, since the connection began or since the last reply, it counts as ended. A
+/// message that has begun, and a reply, have ten seconds; then the read or the write fails. Only the time of waiting for the
+/// peer counts, not the time that it takes to make a reply.
 #[derive(Drop)]
 pub struct Peer<'a> {
     rt: &'a HostRuntime,
     stream: &'a TcpStream,
-    /// How much longer the message may take that has begun; none if none has.
+    /// How much longer the current message may take; `None` between messages.
     message: Cell<Option<Duration>>,
-    /// How much longer the reply may take that is put.
+    /// How much longer the current reply may take.
     reply: Cell<Duration>,
-    /// Whether the last read found nothing more to read: the peer's end, or its silence.
+    /// Whether the last read found the end: the peer ended the connection, or was silent.
     is_drained: Cell<bool>,
 }
 
 impl<'a> Peer<'a> {
-    /// The peer of a connection on which no byte came yet.
+    /// The peer of a new connection.
     pub fn new(rt: &'a HostRuntime, stream: &'a TcpStream) -> Peer<'a> {
         Peer {
             rt,
@@ -50,8 +50,8 @@ impl<'a> Peer<'a> {
         }
     }
 
-    /// Tells the peer that nothing more comes. If bytes of it may be unread, some of them are read and dropped: a socket that is closed over
-    /// unread bytes resets the connection, and the last reply may be lost. A peer that was silent or has ended is not waited for again.
+    /// Tells the peer that nothing more comes. If unread bytes may be left, some of them are read and dropped: closing a socket with unread
+    /// bytes resets the connection, and the last reply may be lost. It does not wait again for a peer that was silent or has ended.
     pub fn end(&self) -> io::Result<()> {
         self.stream.shutdown(Shutdown::Write)?;
         if self.is_drained.get() {
@@ -62,7 +62,7 @@ impl<'a> Peer<'a> {
         let mut piece = [0u8; 4096];
         for _ in 0..PIECES {
             let left = Duration::from_secs(REST).saturating_sub(begun.elapsed(self.rt)?);
-            // No time at all is refused as a timeout.
+            // A timeout of zero would be refused.
             self.stream.set_read_timeout(Some(left))?;
             if reader.read(&mut piece)? == 0 {
                 return Ok(());
@@ -107,7 +107,7 @@ impl Write for &Peer<'_> {
         let mut writer = self.stream;
         let k = writer.write(buf)?;
         if k == buf.len() {
-            // The reply has been put whole, so the next message is waited for.
+            // The whole reply is written, so the next message is due.
             self.message.set(None);
             self.reply.set(Duration::from_secs(REPLY));
         } else {

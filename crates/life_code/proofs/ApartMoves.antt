@@ -1,4 +1,4 @@
--- A set of which two parts go on each for itself, and move differently, never comes back: it grows wider or higher than it was.
+-- If two parts of a set evolve independently and move differently, the set never returns: it grows wider or higher than it was.
 use Rattle.std.specs.Prelude.{◌≡◌, ℕ, zero, suc, ◌+◌, ◌*◌, ◌≤◌, ℤ, pos, negsuc, neg_ℤ, ◌+ℤ◌, ◌*ℤ◌, ◌≤ℤ◌, true, List, [], ◌∷◌, refl}
 use Rattle.std.proofs.Common.{sym, ap, subst, ◌∙◌, inl, inr, arith}
 use Rattle.std.specs.List.{Contains}

@@ -1,5 +1,5 @@
 -- Steps of the search for the least candidate.
-use Rattle.std.proofs.Common.{◌≡◌, ◌⊎◌, inl, inr, ℕ, zero, suc, ◌+◌, ◌≤◌, ◌<◌, max, nat_le, nat_abs, ℤ, true, false, cond, ◌&&◌, Option, None, List, [], ◌∷◌, ◌++◌, take, get_or, refl, sym, ap, ◌∙◌, subst, arith, append_assoc, append-nil, add-zero, add-one}
+use Rattle.std.proofs.Common.{◌≡◌, ◌⊎◌, inl, inr, ℕ, zero, suc, ◌+◌, ◌-◌, ◌≤◌, ◌<◌, max, nat_le, nat_abs, ℤ, true, false, cond, ◌&&◌, Option, None, List, [], ◌∷◌, ◌++◌, take, get_or, refl, sym, ap, ◌∙◌, subst, arith, append_assoc, append-nil, add-zero, add-one}
 use Rattle.std.proofs.lemmas.Bool.{or_left, false≢true}
 use Rattle.std.proofs.lemmas.List.{take_more, take_all}
 use Rattle.std.specs.List.{fold, flat_map, range_with_len}
@@ -122,6 +122,13 @@ keep_none r X = refl
 -- the generation after generation i
 pub generation_next : (r : RuleSets) (X phase on : Cells) (i : ℕ) → phase ≡ generation_of r X i → on ≡ generation_of r phase 1 → on ≡ generation_of r X (i + 1)
 generation_next r X phase on i is e = e ∙ ap (next r) is ∙ ap (generation_of r X) (sym (add-one i))
+
+-- generation i, if the phase so far is the one before it, or none is needed
+pub phase_after : (r : RuleSets) (X phase on : Cells) (i : ℕ) → 0 < i → phase ≡ generation_of r X (i - 1) → on ≡ generation_of r phase 1 → on ≡ generation_of r X i
+phase_after r X phase on i some is e = generation_next r X phase on (i - 1) is e ∙ ap (generation_of r X) (let e : i - 1 + 1 ≡ i = omega arith in e)
+
+pub phase_at_first : (r : RuleSets) (X phase : Cells) (i : ℕ) → i ≤ 0 → phase ≡ generation_of r X (i - 1) → phase ≡ generation_of r X i
+phase_at_first r X phase i none is = is ∙ ap (generation_of r X) (let e : i - 1 ≡ i = omega arith in e)
 
 -- generation i of a set within 400 million lies i cells further out at most
 pub phase_within : (r : RuleSets) (X phase : Cells) (i m : ℕ) → phase ≡ generation_of r X i → IsWithin 400000000 X → 400000000 + i ≤ m → IsWithin m phase

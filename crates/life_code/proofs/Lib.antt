@@ -5,6 +5,7 @@ pub mod PeriodLemmas
 pub mod PeriodKinds
 pub mod PeriodSteps
 pub mod PeriodBirths
+pub mod PeriodPairs
 pub mod FramesLemmas
 pub mod ApartNear
 pub mod ApartBlocks
@@ -21,6 +22,8 @@ pub mod WechslerLengths
 pub mod CodesSteps
 pub mod WechslerSteps
 pub mod DecodeLemmas
+pub mod DecodeSteps
+pub mod MarksLemmas
 pub mod CodesShapes
 pub mod CodesLaws
 pub mod OpenLemmas

@@ -11,6 +11,7 @@ use Rattle.life_core.specs.Rule.{RuleSets}
 use Rattle.life_core.specs.Generations.{generation_of}
 use Rattle.life_code.specs.declared.kinds.Kind.{Kind}
 use Rattle.life_code.specs.Apart.{AreAllApart, union_of}
+use Rattle.life_code.specs.Growing.{HasPair, LiesInRows}
 use Rattle.life_code.specs.Period.{Returns, HasPeriod, HasKind, kind_of}
 use Rattle.life_code.specs.Wechsler.{value_of, width, height, column_value, strip, wechsler}
 use Rattle.life_code.specs.Codes.{fits, shape, candidates, text_cmp, least_text, code_of, IsPeriodic, Same}
@@ -32,7 +33,14 @@ PhasesDiffer = (r : RuleSets) (X : Cells) (p : ℕ) (dx dy : ℤ) → HasPeriod 
 abbrev pub BirthAtOneNeverReturns : Type 0
 BirthAtOneNeverReturns = (r : RuleSets) (X : Cells) (p : ℕ) (dx dy : ℤ) → set.contains r.birth 0 ≡ false → set.contains r.birth 1 ≡ true → X ≢ set.empty → 1 ≤ p → ¬ Returns r X p dx dy
 
--- Sets of which no two are ever near at one time go on each as if it were alone ..
+-- Under a rule with a birth at two neighbours, and none at fewer, a set with a lasting pair in its first row and one in its last row reaches
+-- one row further on both sides in each generation, so it never comes back.
+abbrev pub PairsNeverReturn : Type 0
+PairsNeverReturn =
+    (r : RuleSets) (X : Cells) (x z top bottom : ℤ) (p : ℕ) (dx dy : ℤ) → set.contains r.birth 0 ≡ false → set.contains r.birth 1 ≡ false → set.contains r.birth 2 ≡ true →
+    LiesInRows X top bottom → HasPair r X x top → HasPair r X z bottom → 1 ≤ p → ¬ Returns r X p dx dy
+
+-- If no two sets are ever near each other at the same time, each evolves as if it were alone ..
 abbrev pub ApartGoOnAlone : Type 0
 ApartGoOnAlone =
     (r : RuleSets) (Ps : List Cells) → set.contains r.birth 0 ≡ false → ((k : ℕ) → AreAllApart (map (λ P. generation_of r P k) Ps)) →

@@ -1,11 +1,14 @@
 pub mod Period
 pub mod PeriodState
+pub mod Growing
 pub mod Apart
 pub mod FramesState
 pub mod ApartState
 pub mod SettledState
 pub mod Wechsler
 pub mod DecodeState
+pub mod ReaderState
+pub mod MarksState
 pub mod Codes
 pub mod CodesState
 pub mod Fault

@@ -58,13 +58,13 @@ kind_of r X limit = if set.len X == 0 then Empty else kind_at r X (period_of r X
 
 -- ---- what a call asks and gives
 
--- A period of X can be searched for: the limit may be asked for, and X lies so far inside the plane that no generation up to the limit leaves it.
+-- A period of X can be searched for: the limit is valid, and X lies so far inside the plane that no generation up to the limit leaves it.
 pub record IsSearchable (limit : ℕ) (X : Cells) : Type 0 where
   pub from_one : 1 ≤ limit
   pub few : limit ≤ PERIOD_LIMIT
   pub room : IsWithin 400000000 X
 
--- k is the kind of X under a limit that may be asked for, and X lies as far inside the plane
+-- k is the kind of X under a valid limit, and X lies as far inside the plane
 pub record IsKindOf (r : RuleSets) (X : Cells) (limit : ℕ) (k : Kind) : Type 0 where
   pub few : limit ≤ PERIOD_LIMIT
   pub room : IsWithin 400000000 X

@@ -1,4 +1,4 @@
-//! Parts of a pattern that move apart, so that it never comes back.
+//! Parts of a pattern that move apart, so that it never returns.
 ghost use Rattle.std.specs.Prelude.{◌≡◌, ◌≤◌, ◌<◌, ◌+ℤ◌, ◌-ℤ◌, length, slice_index_or, IfOk, IfSome, IsTrue};
 ghost use Rattle.std.specs.List.{All};
 ghost use Rattle.std.specs.FinSet as set;
@@ -13,12 +13,12 @@ use crate::period::PERIOD_LIMIT;
 use life_core::{Cell, Fault, Pattern, Plane, Rule};
 use std::alloc::{AllocError, Allocator};
 
-/// Patterns of more cells, or of more parts, are not looked at: it would take longer than their generations do.
+/// Patterns with more cells or more parts are not examined: that would take longer than their generations do.
 const MOST_CELLS: usize = 4096;
 
 const MOST_PARTS: usize = 64;
 
-/// How a part of a pattern comes back when it is alone, and the box of its cells until then.
+/// How a part of a pattern returns when it is alone, and the box of its cells until then.
 #[derive(Clone, Copy)]
 pub struct Orbit {
     pub period: u32,
@@ -130,7 +130,7 @@ impl Orbit {
         other.keeps_aside(self)
     }
 
-    /// Whether it is seen that the two move otherwise.
+    /// Whether the two can be seen to move differently.
     fn moves_otherwise(&self, other: &Orbit) -> bool
         ensures { IsTrue result → MoveDifferently self.now other.now }
     {
@@ -154,7 +154,7 @@ impl Orbit {
     }
 }
 
-/// How far something moves in a direction in so many generations.
+/// How far something moves in a direction in this many generations.
 #[derive(Clone, Copy)]
 struct Drift {
     period: u32,
@@ -323,7 +323,7 @@ fn moving_part<A: Allocator + Copy, P: Plane<A>>(
     Ok(Some(Moving { part, orbit }))
 }
 
-/// Whether two of the parts move otherwise.
+/// Whether two of the parts move differently.
 fn part_ways<A: Allocator>(parts: &[Moving<A>]) -> bool
     ensures { IsTrue result → PartWays parts.now }
 {

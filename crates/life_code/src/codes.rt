@@ -19,7 +19,7 @@ use std::cmp::Ordering;
 /// The most columns and rows of a box whose text is a candidate.
 pub(crate) const LARGEST_BOX: u64 = 40;
 
-/// Which of two texts comes first: the shorter one, and of two as long the lesser by bytes.
+/// Which of two texts comes first: the shorter one or, if they have the same length, the smaller one by bytes.
 fn compare_texts(a: &[u8], b: &[u8]) -> Ordering
     ensures { result ≡ text_cmp a.now b.now }
 {
@@ -57,7 +57,7 @@ pub(crate) fn text_of<A: Allocator + Copy>(
     }
 }
 
-/// Keeps the lesser of what is kept and the text.
+/// Keeps the smaller of the least text so far and this text.
 fn keep_lesser<A: Allocator>(best: &mut Option<Vec<u8, A>>, text: Vec<u8, A>)
     ensures { bytes_of best.new ≡ Some (lesser text.items (bytes_of best.old)) }
 {
@@ -70,7 +70,7 @@ fn keep_lesser<A: Allocator>(best: &mut Option<Vec<u8, A>>, text: Vec<u8, A>)
     }
 }
 
-/// Keeps the lesser of what is kept and the text of a phase in an orientation.
+/// Keeps the smaller of the least text so far and the text of a phase in an orientation.
 fn keep_turned<A: Allocator + Copy>(
     alloc: A,
     phase: &Pattern<A>,
@@ -80,15 +80,14 @@ fn keep_turned<A: Allocator + Copy>(
     requires { IsWithin 500_000_000 phase.now }
     ensures { OnOk result (bytes_of best.new ≡ kept_least (bytes_of best.old) (text_of (shape orientation phase.now))) }
 {
-    let turned = phase.turned(alloc, orientation)?;
-    let shape = turned.normal(alloc)?;
+    let shape = phase.turned(alloc, orientation)?.into_normal();
     if let Some(text) = text_of(alloc, &shape)? {
         keep_lesser(best, text);
     }
     Ok(())
 }
 
-/// Keeps the least of what is kept and the texts of a phase in all orientations.
+/// Keeps the least of the least text so far and the texts of a phase in all orientations.
 fn keep_phase<A: Allocator + Copy>(
     alloc: A,
     phase: &Pattern<A>,
@@ -116,9 +115,11 @@ fn least_text<A: Allocator + Copy>(
 {
     let mut best = None;
     let mut phase = pattern.copy(alloc)?;
-    for _i in 0..period {
+    for i in 0..period {
+        if i > 0 {
+            phase = generation(alloc, rule, &phase, 1)?;
+        }
         keep_phase(alloc, &phase, &mut best)?;
-        phase = generation(alloc, rule, &phase, 1)?;
     }
     Ok(best)
 }

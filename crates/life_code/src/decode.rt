@@ -1,8 +1,7 @@
-//! Which cells a Wechsler text spells.
-ghost use Rattle.std.specs.Prelude.{◌≡◌, ◌<◌, ◌≤◌, ◌+◌, ◌^◌, ◌∷◌, List, ℕ, MatchOption, IfOk, length, false, map};
-ghost use Rattle.std.specs.Prelude.{◌%◌, ◌/◌};
+//! Decoding the cells of a Wechsler text.
+ghost use Rattle.std.specs.Prelude.{◌≡◌, ◌≢◌, ◌<◌, ◌≤◌, ◌+◌, ◌^◌, ◌%◌, ◌/◌, ◌∷◌, List, ℕ, IfOk, false, map};
 ghost use Rattle.std.specs.List.{filter, range_with_len};
-ghost use Rattle.life_code.specs.DecodeState.{spells_cell, cell_of_index, decoded};
+ghost use Rattle.life_code.specs.DecodeState.{spells_cell, is_live, AreBlank, cell_of_index, decoded};
 ghost use Rattle.life_code.specs.Wechsler.{value_of};
 
 use crate::codes::LARGEST_BOX;
@@ -26,78 +25,121 @@ fn value_of(c: u8) -> u8
     }
 }
 
-/// How far a text is read for one cell.
-#[derive(Clone, Copy)]
-struct Reading {
-    /// The column of the strip at which the text continues.
+/// The part of the box of 40 by 40 that has been read from a text.
+#[derive(Drop)]
+struct Reader {
+    /// The values of the columns of each strip of five rows, from the top.
+    columns: [u8; 320],
+    /// The strip and the column at which the text continues.
+    strip: u128,
     column: u128,
     /// Whether the byte before was `y`.
     after_y: bool,
-    /// The cell's row, counted from the top of the strip.
-    row: u8,
+    ghost blank: { AreBlank columns strip column },
 }
 
-impl Reading {
-    /// Goes over one byte of the text. Tells whether the cell in column `x` is live, where this byte
-    /// decides it.
-    #[tactic(auto, unfolding(crate::specs::DecodeState::spells_cell))]
-    fn read(&mut self, c: u8, x: u128) -> Option<bool>
-        requires { self.old.column < 2 ^ 127 }
-        ensures decides { MatchOption result ((text : List ℕ) → spells_cell self.old.column self.old.after_y (c ∷ text) x self.old.row ≡ spells_cell self.new.column self.new.after_y text x self.new.row) (λ b. (text : List ℕ) → spells_cell self.old.column self.old.after_y (c ∷ text) x self.old.row ≡ b) }
-        ensures near { self.new.column ≤ self.old.column + 300 }
+impl Reader {
+    ghost use Rattle.life_code.specs.ReaderState.{awaited};
+
+    fn new() -> Reader
+        ensures start { (text : List ℕ) (x y : ℕ) → x < 40 → y < 40 → awaited result text x y ≡ spells_cell 0 false text x y }
+        ensures column { result.column ≡ 0 }
+        ensures strip { result.strip ≡ 0 }
     {
-        if self.after_y {
-            self.column = self.column + 4 + u128::from(value_of(c));
-            self.after_y = false;
-            return None;
+        Reader {
+            columns: [0; 320],
+            strip: 0,
+            column: 0,
+            after_y: false,
         }
-        if c == b'z' {
-            if self.row < 5 {
-                return Some(false);
-            }
-            self.row -= 5;
-            self.column = 0;
-            return None;
-        }
-        if c == b'0' {
-            self.column += 1;
-            return None;
-        }
-        if c == b'w' {
-            self.column += 2;
-            return None;
-        }
-        if c == b'x' {
-            self.column += 3;
-            return None;
-        }
-        if c == b'y' {
-            self.after_y = true;
-            return None;
-        }
-        if self.column == x && self.row < 5 {
-            return Some((value_of(c) >> self.row) % 2 == 1);
+    }
+
+    /// Goes to the next strip.
+    fn end_strip(&mut self)
+        requires plain { self.old.after_y ≡ false }
+        requires strip { self.old.strip < 2 ^ 127 }
+        ensures cells { (text : List ℕ) (x y : ℕ) → x < 40 → y < 40 → awaited self.new text x y ≡ awaited self.old (122 ∷ text) x y }
+        ensures column { self.new.column ≡ 0 }
+        ensures strip { self.new.strip ≡ self.old.strip + 1 }
+    {
+        self.strip += 1;
+        self.column = 0;
+    }
+
+    /// Keeps the column of a character.
+    fn keep(&mut self, c: u8)
+        requires plain { self.old.after_y ≡ false }
+        requires column { self.old.column < 2 ^ 127 }
+        requires not_0 { c ≢ 48 }
+        requires not_w { c ≢ 119 }
+        requires not_x { c ≢ 120 }
+        requires not_y { c ≢ 121 }
+        requires not_z { c ≢ 122 }
+        ensures cells { (text : List ℕ) (x y : ℕ) → x < 40 → y < 40 → awaited self.new text x y ≡ awaited self.old (c ∷ text) x y }
+        ensures column { self.new.column ≡ self.old.column + 1 }
+        ensures strip { self.new.strip ≡ self.old.strip }
+    {
+        if self.strip < 8 && self.column < 40 {
+            self.columns[(40 * self.strip + self.column) as usize] = value_of(c);
         }
         self.column += 1;
-        None
+    }
+
+    /// Goes over columns of zero.
+    fn skip(&mut self, columns: u16)
+        requires column { self.old.column < 2 ^ 127 }
+        ensures cells { self.new.columns ≡ self.old.columns }
+        ensures after_y { self.new.after_y ≡ false }
+        ensures column { self.new.column ≡ self.old.column + columns }
+        ensures strip { self.new.strip ≡ self.old.strip }
+    {
+        self.column += u128::from(columns);
+        self.after_y = false;
+    }
+
+    /// Goes over one byte of the text.
+    #[tactic(auto, unfolding(crate::specs::DecodeState::spells_cell))]
+    fn read(&mut self, c: u8)
+        requires column { self.old.column < 2 ^ 127 }
+        requires strip { self.old.strip < 2 ^ 127 }
+        ensures cells { (text : List ℕ) (x y : ℕ) → x < 40 → y < 40 → awaited self.new text x y ≡ awaited self.old (c ∷ text) x y }
+        ensures column { self.new.column ≤ self.old.column + 300 }
+        ensures strip { self.new.strip ≤ self.old.strip + 1 }
+    {
+        if self.after_y {
+            self.skip(4 + u16::from(value_of(c)));
+            return;
+        }
+        match c {
+            b'z' => self.end_strip(),
+            b'0' => self.skip(1),
+            b'w' => self.skip(2),
+            b'x' => self.skip(3),
+            b'y' => self.after_y = true,
+            _ => self.keep(c),
+        }
+    }
+
+    /// Whether the cell of this index is live.
+    fn is_live(&self, index: u16) -> bool
+        requires { index < CELLS }
+        ensures { result ≡ is_live self.now.columns (index % COLUMNS) (index / COLUMNS) }
+    {
+        let y = index / COLUMNS;
+        let column = self.columns[usize::from(40 * (y / 5) + index % COLUMNS)];
+        (column >> (y % 5)) % 2 == 1
     }
 }
 
-/// Whether the text spells the cell in column `x` and row `y`.
-fn spells_cell(text: &[u8], x: u8, y: u8) -> bool
-    ensures { result ≡ spells_cell 0 false text.now x y }
+/// Reads the whole text.
+fn read_text(text: &[u8]) -> Reader
+    ensures { (x y : ℕ) → x < 40 → y < 40 → spells_cell 0 false text.now x y ≡ is_live result.columns x y }
 {
-    let mut reading = Reading {
-        column: 0,
-        after_y: false,
-        row: y,
-    };
+    let mut reader = Reader::new();
     for c in text {
-        if let Some(live) = reading.read(*c, u128::from(x)) {
-            return live;
-        }
+        reader.read(*c);
     }
-    false
+    reader
 }
 
 /// The cell of this index in the box, row by row.
@@ -110,32 +152,25 @@ fn cell_of_index(index: u16) -> Cell
     }
 }
 
-/// Whether the text spells the cell of this index in the box.
-fn spells_index(text: &[u8], index: u16) -> bool
-    requires { index < CELLS }
-    ensures { result ≡ spells_cell 0 false text.now (index % COLUMNS) (index / COLUMNS) }
-{
-    spells_cell(text, (index % COLUMNS) as u8, (index / COLUMNS) as u8)
-}
-
-/// The cells of the first places of the box that the text spells.
-fn spelled_cells<A: Allocator>(
+/// The live cells of the first places of the box.
+fn live_cells<A: Allocator>(
     alloc: A,
-    text: &[u8],
+    reader: &Reader,
     places: u16,
 ) -> Result<Vec<Cell, A>, AllocError>
     requires { places ≤ CELLS }
-    ensures { IfOk result (λ v. v.items ≡ map cell_of_index (filter (λ i. spells_cell 0 false text.now (i % 40) (i / 40)) (range_with_len 0 places))) }
+    ensures { IfOk result (λ v. v.items ≡ map cell_of_index (filter (λ i. is_live reader.now.columns (i % 40) (i / 40)) (range_with_len 0 places))) }
 {
     (0..places)
-        .filter(|index| spells_index(text, *index))
+        .filter(|index| reader.is_live(*index))
         .map(cell_of_index)
         .collect(alloc)
 }
 
-/// The cells of the box of 40 by 40 that the text spells.
+/// The cells of the box of 40 by 40 that the text spells. The text is read once.
 pub(crate) fn decoded<A: Allocator + Copy>(alloc: A, text: &[u8]) -> Result<Pattern<A>, Fault>
     ensures { IfOk result (λ X. X ≡ decoded text.now) }
 {
-    Pattern::from_list(spelled_cells(alloc, text, CELLS)?)
+    let reader = read_text(text);
+    Pattern::from_list(live_cells(alloc, &reader, CELLS)?)
 }

@@ -1,19 +1,19 @@
-//! Why a text is not opened as a code.
+//! Why a code can't be opened.
 ghost use Rattle.std.specs.Prelude.{◌≡◌};
 
 use life_core::Fault;
 use std::alloc::AllocError;
 
-/// Why a text is not opened as a code. `NotWithinLimit` is judged before `NotCanonical`.
+/// Why a code can't be opened. `NotWithinLimit` is checked before `NotCanonical`.
 #[derive(Clone, Copy, Debug, PartialEq, Eq)]
 pub enum CodeFault {
-    /// It is no prefix, number, `_` and Wechsler text.
+    /// It does not consist of a prefix, a number, `_` and a Wechsler text.
     BadText = 1,
     /// The pattern that it spells has another code, or none.
     NotCanonical = 2,
-    /// The pattern that it spells is not back within the limit.
+    /// The pattern that it spells does not return within the limit.
     NotWithinLimit = 3,
-    /// An allocation was refused.
+    /// Out of memory.
     Memory = 4,
 }
 
@@ -27,7 +27,7 @@ impl CodeFault {
         self as u8
     }
 
-    /// What the fault is called, in small letters.
+    /// The name of the fault, in lower case.
     pub fn name(self) -> &'static str
         ensures { result.now ≡ (label_of self).name }
     {

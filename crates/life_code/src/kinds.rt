@@ -2,18 +2,18 @@
 ghost use Rattle.std.specs.Prelude.{◌≡◌};
 ghost use Rattle.life_code.specs.Period.{kind_of_period};
 
-/// What becomes of a pattern within a limit of generations.
+/// How a pattern behaves within a limit of generations.
 #[derive(Clone, Copy, Debug, PartialEq, Eq)]
 pub enum Kind {
     /// It has no cell.
     Empty,
-    /// Each generation is the one before.
+    /// Each generation equals the one before.
     Still,
-    /// It is back in its place after this many generations, 2 or more, and not before.
+    /// It first returns in place after this many generations, 2 or more.
     Oscillator(u32),
-    /// It is back after this many generations, moved by these columns and rows, and not before.
+    /// It first returns after this many generations, moved by these columns and rows.
     Ship(u32, i64, i64),
-    /// It is not back within the limit; patterns that die are of this kind too.
+    /// It does not return within the limit; patterns that die are of this kind too.
     Unresolved,
 }
 

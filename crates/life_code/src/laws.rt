@@ -1,6 +1,6 @@
 //! What holds of all kinds and codes.
 ghost use Rattle.std.specs.Prelude.{◌≡◌};
-ghost use Rattle.life_code.specs.Laws.{ApartGoOnAlone, BirthAtOneNeverReturns, BoxesHaveOneSize, OneKind, PartingNeverReturns, PhasesComeAgain, PhasesDiffer, StripsAreTheirColumns, TextsTellApart, LeastIsLeast, SameIsEquivalence, CodeIsInvariant, CodeIsComplete, CodeSpells, SpellsOne, CodeStays};
+ghost use Rattle.life_code.specs.Laws.{ApartGoOnAlone, BirthAtOneNeverReturns, BoxesHaveOneSize, OneKind, PairsNeverReturn, PartingNeverReturns, PhasesComeAgain, PhasesDiffer, StripsAreTheirColumns, TextsTellApart, LeastIsLeast, SameIsEquivalence, CodeIsInvariant, CodeIsComplete, CodeSpells, SpellsOne, CodeStays};
 
 use crate::period::PERIOD_LIMIT;
 
@@ -11,6 +11,7 @@ pub fn laws_of_codes()
     ensures one_size { BoxesHaveOneSize }
     ensures one_kind { OneKind }
     ensures births { BirthAtOneNeverReturns }
+    ensures pairs { PairsNeverReturn }
     ensures alone { ApartGoOnAlone }
     ensures parting { PartingNeverReturns }
     ensures phases_come_again { PhasesComeAgain }

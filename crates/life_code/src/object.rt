@@ -12,7 +12,7 @@ use life_core::{Fault, Pattern, Rule};
 use std::alloc::{Allocator, Global};
 use std::marker::Model;
 
-/// A pattern with the code that it has under a rule and a limit of the period. Only `code` and
+/// A pattern with its code under a rule and a limit on the period. Only `code` and
 /// `code_of_kind` make one.
 #[derive(Debug, Drop)]
 pub struct Coded<A: Allocator = Global> {

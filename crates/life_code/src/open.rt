@@ -79,7 +79,7 @@ fn read_wechsler<A: Allocator + Copy>(alloc: A, text: &[u8]) -> Result<Option<Pa
     }
 }
 
-/// Where the first `_` stands.
+/// The index of the first `_`.
 fn first_mark(text: &[u8]) -> Option<usize>
     ensures { result ≡ position (λ b. b == 95) text.now }
 {

@@ -2,12 +2,12 @@
 ghost use Rattle.std.specs.Prelude.{◌≡◌, ◌↔◌, ◌≤◌, ◌+◌, ◌*◌, IfOk, IsTrue};
 ghost use Rattle.life_code.specs.Period.{IsSearchable, GivesKind};
 
-use crate::apart::moves_apart;
+use crate::growing::{grows_for_ever, is_past_return};
 use crate::kinds::{Kind, kind_of_period};
 use life_core::{CellList, Fault, PackedRows, Pattern, Plane, Rule, is_packed};
 use std::alloc::Allocator;
 
-/// The greatest limit of a period that may be asked for.
+/// The greatest valid limit on a period.
 pub const PERIOD_LIMIT: u32 = 2048;
 
 /// The greatest period of the parts into which a pattern may fall.
@@ -30,6 +30,9 @@ pub fn kind_by<A: Allocator + Copy, P: Plane<A>>(
     if rule.is_live_next(false, 1) {
         return Ok(Kind::Unresolved);
     }
+    if grows_for_ever(rule, pattern) {
+        return Ok(Kind::Unresolved);
+    }
     let start = P::from_pattern(alloc, pattern)?;
     let mut plane = P::from_pattern(alloc, pattern)?;
     // Generation `mark`. If it repeats and the pattern has not, the pattern never does.
@@ -50,7 +53,7 @@ pub fn kind_by<A: Allocator + Copy, P: Plane<A>>(
             if here.population() == 0 {
                 return Ok(Kind::Unresolved);
             }
-            if moves_apart::<A, P>(alloc, rule, &here, (period / 4).min(ORBIT_LIMIT))? {
+            if is_past_return::<A, P>(alloc, rule, &here, (period / 4).min(ORBIT_LIMIT))? {
                 return Ok(Kind::Unresolved);
             }
             kept = P::from_pattern(alloc, &here)?;

@@ -1,4 +1,4 @@
-//! Generations of fields that settle: once a field is seen to be made of parts that come back and never meet, a later generation is made at once.
+//! Generations of fields that settle: once a field is known to consist of parts that return and never meet, any later generation is computed directly.
 ghost use Rattle.std.specs.Prelude.{◌≡◌, ◌≤◌, ◌-◌, ◌/◌, pos, ◌*ℤ◌, map, IfOk, IfSome};
 ghost use Rattle.std.specs.List.{All};
 ghost use Rattle.life_core.specs.Generations.{generation_of, HasRoomFor, GivesGeneration};
@@ -14,10 +14,10 @@ use life_core::{
 };
 use std::alloc::Allocator;
 
-/// The greatest period of the parts that are looked for. Longer ones are rare in ash.
+/// The greatest period of the parts that are searched for. Longer ones are rare in ash.
 const SETTLED_LIMIT: u32 = 4;
 
-/// Fields of more cells are not looked at.
+/// Fields with more cells are not examined.
 const MOST_CELLS: usize = 1024;
 
 /// Whether to look at generation `i` whether the field has settled. Ash of a random field of 16 by 16 cells settles after 490 generations on
@@ -149,7 +149,7 @@ fn settled_generation_by<A: Allocator + Copy, P: Plane<A>>(
     plane.to_pattern(alloc)
 }
 
-/// Generation `n` of the pattern, as [`generation`](life_core::generation) gives it. Fields that soon settle take less time.
+/// Generation `n` of the pattern, the same as from [`generation`](life_core::generation). Fields that settle soon take less time.
 pub fn settled_generation<A: Allocator + Copy>(
     alloc: A,
     rule: &Rule,

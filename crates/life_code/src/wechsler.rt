@@ -1,9 +1,11 @@
 //! The extended Wechsler text of a pattern.
 ghost use Rattle.std.specs.Prelude.{◌≡◌, ◌<◌, ◌≤◌, ◌++◌, OnOk, IfOk, map, length};
 ghost use Rattle.std.specs.List.{All, range_with_len};
-ghost use Rattle.life_code.specs.Wechsler.{character, zero_run, spelled, bit_at, column_value, width, height, wechsler};
+ghost use Rattle.life_code.specs.MarksState.{bit_of, shown_value};
+ghost use Rattle.life_code.specs.Wechsler.{character, zero_run, spelled, width, height, wechsler};
 
-use life_core::{Cell, Pattern};
+use crate::marks::marked;
+use life_core::Pattern;
 use std::alloc::{AllocError, Allocator};
 
 /// The character of a value: `0` to `9`, then `a` to `z`.
@@ -18,7 +20,7 @@ fn character(value: u8) -> u8
     }
 }
 
-/// Writes a run of zero columns that stands before another column.
+/// Writes a run of zero columns that comes before another column.
 fn push_zero_run<A: Allocator>(text: &mut Vec<u8, A>, run: u8) -> Result<(), AllocError>
     requires { run < 40 }
     ensures { OnOk result (text.new.items ≡ text.old.items ++ zero_run run) }
@@ -55,42 +57,41 @@ fn push_strip<A: Allocator>(text: &mut Vec<u8, A>, columns: &[u8]) -> Result<(),
     Ok(())
 }
 
-/// 1 if the cell is live.
-fn bit_at<A: Allocator>(pattern: &Pattern<A>, column: u8, row: u8) -> u8
-    ensures { result ≡ bit_at pattern.now column row }
+/// 1 if the flag is set.
+fn bit_of(flags: &[bool; 1600], index: u16) -> u8
+    requires { index < 1600 }
+    ensures { result ≡ bit_of flags.now index }
 {
-    u8::from(pattern.contains(Cell {
-        row: i64::from(row),
-        column: i64::from(column),
-    }))
+    u8::from(flags[usize::from(index)])
 }
 
 /// The value of a column of a strip; the strip's top row is the bit of value 1.
-#[tactic(auto, unfolding(crate::specs::Wechsler::column_value))]
-fn column_value<A: Allocator>(pattern: &Pattern<A>, strip: u8, column: u8) -> u8
-    requires { strip < 8 }
-    ensures { result ≡ column_value pattern.now strip column }
+fn column_value(flags: &[bool; 1600], strip: u8, column: u8) -> u8
+    requires strip { strip < 8 }
+    requires column { column < 40 }
+    ensures { result ≡ shown_value flags.now strip column }
 {
-    let top = 5 * strip;
-    bit_at(pattern, column, top)
-        + 2 * bit_at(pattern, column, top + 1)
-        + 4 * bit_at(pattern, column, top + 2)
-        + 8 * bit_at(pattern, column, top + 3)
-        + 16 * bit_at(pattern, column, top + 4)
+    let top = 200 * u16::from(strip) + u16::from(column);
+    bit_of(flags, top)
+        + 2 * bit_of(flags, top + 40)
+        + 4 * bit_of(flags, top + 80)
+        + 8 * bit_of(flags, top + 120)
+        + 16 * bit_of(flags, top + 160)
 }
 
 /// The values of the first columns of a strip.
 fn column_values<A: Allocator>(
     alloc: A,
-    pattern: &Pattern<A>,
+    flags: &[bool; 1600],
     strip: u8,
     columns: u8,
 ) -> Result<Vec<u8, A>, AllocError>
-    requires { strip < 8 }
-    ensures { IfOk result (λ v. v.items ≡ map (column_value pattern.now strip) (range_with_len 0 columns)) }
+    requires strip { strip < 8 }
+    requires columns { columns ≤ 40 }
+    ensures { IfOk result (λ v. v.items ≡ map (shown_value flags.now strip) (range_with_len 0 columns)) }
 {
     (0..columns)
-        .map(|column| column_value(pattern, strip, column))
+        .map(|column| column_value(flags, strip, column))
         .collect(alloc)
 }
 
@@ -107,12 +108,13 @@ pub(crate) fn wechsler<A: Allocator + Copy>(
     requires low { rows ≤ 40 }
     ensures { IfOk result (λ v. v.items ≡ wechsler pattern.now) }
 {
+    let flags = marked(pattern);
     let mut text = Vec::new(alloc);
     for strip in 0..(rows + 4) / 5 {
         if strip > 0 {
             text.push(b'z')?;
         }
-        push_strip(&mut text, &column_values(alloc, pattern, strip, columns)?)?;
+        push_strip(&mut text, &column_values(alloc, &flags, strip, columns)?)?;
     }
     Ok(text)
 }

@@ -1,5 +1,5 @@
 -- One generation of rows of words one after the other, whose first and last columns are dead: each place has its neighbours where the list has
--- them, also across the ends of rows.
+-- them, even across the ends of rows.
 use Rattle.std.specs.Prelude.{◌≡◌, ℕ, ℤ, pos, negsuc, ◌+◌, ◌-◌, ◌*◌, ◌<◌, ◌≤◌, ◌+ℤ◌, zero, suc, Bool, true, false, cond, nat_eq, List, [], ◌∷◌, length, count_by, refl}
 use Rattle.std.proofs.Common.{sym, ap, ◌∙◌, inl, inr, arith}
 use Rattle.std.proofs.lemmas.Int.{ints}

@@ -1,4 +1,4 @@
--- The places of vectors of words, by an operator on each lane.
+-- The places of vectors of words after an operation on each lane.
 use Rattle.std.proofs.Common.{◌≡◌, ◌⊎◌, ℕ, zero, suc, ◌+◌, ◌-◌, ◌*◌, ◌/◌, ◌%◌, ◌^◌, ◌<◌, ◌≤◌, max, min, List, length, get_or, cond, ltb, bit_and, bit_or, bit_xor, lit<, refl, sym, ap, ◌∙◌, inl, inr, arith}
 use Rattle.std.specs.Int.{bit_at}
 use Rattle.std.specs.Simd.Lanes.{zip2, put_chunk}

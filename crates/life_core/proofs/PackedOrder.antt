@@ -1,4 +1,4 @@
--- The cells of rows of packed words stand in order.
+-- The cells of rows of packed words are in order.
 use Rattle.std.proofs.Common.{◌≡◌, ℕ, ℤ, pos, zero, suc, ◌+◌, ◌*◌, ◌/◌, ◌%◌, ◌<◌, ◌≤◌, ◌+ℤ◌, Bool, true, false, cond, ◌∷◌, map, sym, ap, ◌∙◌, inl, inr, arith}
 use Rattle.std.specs.declared.cmp.Ordering.TheVariants.{Less, Equal}
 use Rattle.std.specs.Ordering.{int_cmp, ordering_then}

@@ -1,4 +1,4 @@
--- Where runs in order stand.
+-- The positions of runs in order.
 use Rattle.std.specs.Prelude.{◌≡◌, ℕ, ◌<◌, ◌≤◌, ℤ, pos, ◌+ℤ◌, ◌≤ℤ◌, ◌<ℤ◌, int_lt, int_le, true, false, ◌&&◌, List, length, get_or}
 use Rattle.std.proofs.Common.{T, sym, ap, subst, ◌∙◌, inl, inr, arith}
 use Rattle.std.specs.Ordering.{int_eq}

@@ -1,4 +1,4 @@
--- Blocks that nothing reached have the next of the new rows in the rows before them.
+-- For blocks that no change reached, the rows before already have the next generation.
 use Rattle.std.specs.Prelude.{◌≡◌, ◌⊎◌, ℕ, zero, suc, ◌+◌, ◌-◌, ◌*◌, ◌/◌, ◌<◌, ◌≤◌, Bool, false, List, length, nat_eq, refl, slice_index_or}
 use Rattle.std.proofs.Common.{get_or, sym, ap, subst, ◌∙◌, inl, inr, arith}
 use Rattle.std.proofs.lemmas.Bool.{cases_lt}

@@ -1,4 +1,4 @@
--- What is woken by changes.
+-- The blocks that changes mark.
 use Rattle.std.proofs.Common.{◌≡◌, ◌⊎◌, ℕ, ◌<◌, inl, inr, arith}
 use Rattle.std.proofs.lemmas.Bool.{cases_eq}
 

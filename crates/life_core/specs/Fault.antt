@@ -1,4 +1,4 @@
--- What a fault or a refusal is called.
+-- The number and the name of a fault or a refusal.
 use Rattle.std.specs.Prelude.{ℕ, List}
 
 -- its number and its name

@@ -1,4 +1,4 @@
--- Rows of packed words in a frame, and the set of cells that they stand for.
+-- Rows of packed words in a frame, and the set of cells that they represent.
 use Rattle.std.specs.Prelude.{◌≡◌, ℕ, ◌+◌, ◌*◌, ◌/◌, ◌%◌, ◌<◌, ℤ, pos, negsuc, ◌+ℤ◌, ◌≤ℤ◌, neg_ℤ, Bool, true, false, ◌&&◌, nat_eq, nat_lt, List, map, length}
 use Rattle.std.specs.List.{filter, range_with_len}
 use Rattle.std.specs.FinSet as set
@@ -24,11 +24,11 @@ places_below words n = filter (λ p. nat_eq (place words p) 1) (range_with_len 0
 abbrev pub set_places : List ℕ → List ℕ
 set_places words = places_below words (64 * length words)
 
--- the set that the words stand for, in rows of width places
+-- the set that the words represent, in rows of width places
 abbrev pub cells_of : ℤ → ℤ → ℕ → List ℕ → Cells
 cells_of left top width words = set.from_list (map (cell_of left top width) (set_places words))
 
--- the set that the words stand for in a frame
+-- the set that the words represent in a frame
 abbrev pub framed : Frame → List ℕ → Cells
 framed f rows = cells_of f.left f.top (64 * f.words) rows
 

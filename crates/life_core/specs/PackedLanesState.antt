@@ -1,9 +1,9 @@
--- Numbers at the places of several words, by a word for each binary digit.
+-- Numbers at the places of several words, with a word for each binary digit.
 use Rattle.std.specs.Prelude.{◌≡◌, ℕ, ◌+◌, ◌*◌, ◌<◌, List, nat_eq}
 use Rattle.life_core.specs.PackedRow.{place, one_if}
 use Rattle.life_core.specs.Rule.{RuleSets, lives_at}
 
--- the number at a place, by its two digits
+-- the number at a place, from its two digits
 abbrev pub digits_at : List ℕ → List ℕ → ℕ → ℕ
 digits_at low high p = place low p + 2 * place high p
 
@@ -11,7 +11,7 @@ digits_at low high p = place low p + 2 * place high p
 abbrev pub sum_at : List ℕ → List ℕ → List ℕ → List ℕ → List ℕ → List ℕ → ℕ → ℕ
 sum_at above above2 sides sides2 below below2 p = digits_at above above2 p + (digits_at sides sides2 p + digits_at below below2 p)
 
--- of n words, those places are set that are live next by the counts of live neighbours
+-- in n words, exactly the places are set that are live next according to the counts of live neighbours
 abbrev pub AreNextLanes : RuleSets → ℕ → List ℕ → List ℕ → List ℕ → List ℕ → List ℕ → List ℕ → List ℕ → List ℕ → Type 0
 AreNextLanes r n here above above2 sides sides2 below below2 next =
     (p : ℕ) → p < 64 * n → sum_at above above2 sides sides2 below below2 p < 9 → place next p ≡ one_if (lives_at r (nat_eq (place here p) 1) (sum_at above above2 sides sides2 below below2 p))

@@ -19,15 +19,15 @@ pub record IsAway (f : Frame) (n : ℕ) (c : Cell) : Type 0 where
   pub from_top : (f.top +ℤ pos (n + 17)) ≤ℤ c.row
   pub to_bottom : (c.row +ℤ pos (n + 18)) ≤ℤ (f.top +ℤ pos f.height)
 
--- all cells of X do, so that the frame has room for n generations after X, and no cell stands at an edge after these
+-- all cells of X do, so that the frame has room for n generations after X, and no cell is at an edge after these
 pub record HasSlack (f : Frame) (n : ℕ) (X : Cells) : Type 0 where
   pub away : (c : Cell) → set.contains X c ≡ true → IsAway f n c
 
--- for how many generations there is room after a look at the margins, where there was room for n before
+-- for how many generations there is room, according to the margins, if there was room for n before
 abbrev pub renewed : ℕ → ℕ
 renewed n = if nat_eq n 0 then 31 else n
 
--- a frame that has so many words and rows more before those of f, and all of f
+-- a frame that contains f and has this many words and rows in front of it
 pub record IsWider (f : Frame) (w : Wider) : Type 0 where
   pub left : w.frame.left ≡ f.left -ℤ pos (64 * w.left)
   pub top : w.frame.top ≡ f.top -ℤ pos w.top

@@ -16,7 +16,7 @@ place ws p = bit_at (slice_index_or ws (p / 64) 0) (p % 64)
 abbrev pub place_before : List ℕ → ℕ → ℕ
 place_before ws p = cond (nat_lt 0 p) (place ws (p - 1)) 0
 
--- how many of the eight places round place p of the middle row are set
+-- how many of the eight places around place p of the middle row are set
 abbrev pub round_count : List ℕ → List ℕ → List ℕ → ℕ → ℕ
 round_count above here below p =
     place_before above p + (place above p + (place above (p + 1) + (place_before here p + (place here (p + 1) + (place_before below p + (place below p + place below (p + 1)))))))

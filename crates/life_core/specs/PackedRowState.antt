@@ -1,10 +1,10 @@
--- Stretches of a row's words that were written anew, and the sums by which four of them are.
+-- Ranges of a row's words that were written, and the sums that four of them need.
 use Rattle.std.specs.Prelude.{◌≡◌, ℕ, ◌+◌, ◌*◌, ◌<◌, ◌≤◌, List, length, slice_index_or}
 use Rattle.life_core.specs.PackedRow.{place, place_before}
 use Rattle.life_core.specs.PackedLanesState.{digits_at}
 use Rattle.life_core.specs.declared.packed.row_kernel.WideSums.{WideSums}
 
--- the places of the words from one up to another are those of N, and all other words stayed
+-- the places of the words in a range are those of N, and all other words are unchanged
 pub record AreStepped (N : ℕ → ℕ) (from to : ℕ) (old new : List ℕ) : Type 0 where
   pub long : length new ≡ length old
   pub inside : (p : ℕ) → 64 * from ≤ p → p < 64 * to → place new p ≡ N p

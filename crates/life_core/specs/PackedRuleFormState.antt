@@ -5,11 +5,11 @@ use Rattle.life_core.specs.PackedRow.{one_if}
 use Rattle.life_core.specs.Rule.{RuleSets, lives_at}
 use Rattle.life_core.specs.declared.packed.rule_form.RuleForm.{RuleForm}
 
--- x, toggled by y where s is set
+-- x, toggled by y if s is set
 abbrev pub toggled_bit : ℕ → ℕ → ℕ → ℕ
 toggled_bit x s y = (x + min s y) % 2
 
--- the parts P at a count with the digits o, t and f
+-- the parts P for a count with the digits o, t and f
 abbrev pub form_bit : (ℕ → ℕ) → ℕ → ℕ → ℕ → ℕ
 form_bit P o t f =
     toggled_bit

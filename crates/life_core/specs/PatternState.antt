@@ -1,4 +1,4 @@
--- Lists of cells as a pattern keeps them.
+-- Lists of cells as a pattern stores them.
 use Rattle.std.specs.Prelude.{◌≡◌, ◌≢◌, Option, None, Some, ℕ, ℤ, List, [], map}
 use Rattle.std.specs.List.{All}
 use Rattle.std.specs.List.Sorted.{IsStrictlySortedBy}
@@ -10,7 +10,7 @@ pub record IsCellList (k : ℕ) (cs : List Cell) : Type 0 where
   pub sorted : IsStrictlySortedBy cell_cmp cs
   pub inside : All (IsCellWithin k) cs
 
--- an answer to which move takes the cells of one list, in their order, to those of the other: none if there are none, or no move does
+-- the translation that takes the cells of one list, in their order, to those of the other: None if the list is empty or there is no such translation
 abbrev pub ShiftsListTo : List Cell → List Cell → Option (ℤ × ℤ) → Type 0
 ShiftsListTo cs ds None = (dx dy : ℤ) → map (moved_cell dx dy) cs ≡ ds → cs ≡ []
 ShiftsListTo cs ds (Some move) = (cs ≢ []) × (map (moved_cell move.0 move.1) cs ≡ ds)

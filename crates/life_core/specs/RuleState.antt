@@ -16,7 +16,7 @@ flagged_counts bs = set.from_list (flagged 0 bs)
 unfoldable pub flags_of : Counts → List Bool
 flags_of s = map (set.contains s) (0 ∷ 1 ∷ 2 ∷ 3 ∷ 4 ∷ 5 ∷ 6 ∷ 7 ∷ 8 ∷ [])
 
--- flags that a rule keeps: nine of each, and no birth if no neighbour is live
+-- valid flags of a rule: nine of each, and no birth without live neighbours
 pub record AreRuleFlags (birth survival : List Bool) : Type 0 where
   pub births : length birth ≡ 9
   pub survivals : length survival ≡ 9

@@ -1,4 +1,4 @@
--- A text as the function that reads it keeps it.
+-- The state of the function that reads a text.
 use Rattle.std.specs.Prelude.{ℕ, Option, None, Some, List, [], ◌∷◌}
 use Rattle.life_core.specs.RuleText.{normalized_text}
 

@@ -1,4 +1,4 @@
--- Runs: cells of one row that stand side by side (as in run-length encoding, LifeWiki, "Run Length Encoded"), and lists of cells by their longest runs.
+-- Runs: adjacent cells of a row (as in run-length encoding, LifeWiki, "Run Length Encoded"), and lists of cells as their longest runs.
 use Rattle.std.specs.Prelude.{◌≡◌, ◌⊎◌, ℕ, zero, suc, ◌≤◌, ℤ, pos, neg_ℤ, ◌+ℤ◌, ◌-ℤ◌, ◌≤ℤ◌, ◌<ℤ◌, int_lt, int_le, Bool, ◌&&◌, List, [], ◌∷◌, ◌++◌, ⊤}
 use Rattle.std.specs.List.{flat_map, list_any, AllPairs}
 use Rattle.std.specs.FinSet as set
@@ -8,7 +8,7 @@ use Rattle.life_core.specs.declared.runs.Run.{Run}
 use Rattle.life_core.specs.Cell.{cell_cmp, IsCellWithin}
 use Rattle.life_core.specs.Pattern.{Cells}
 
--- so many cells of a row, from a column on
+-- this many cells of a row, from a column on
 abbrev pub cells_from : ℤ → ℤ → ℕ → List Cell
 cells_from row column zero = []
 cells_from row column (suc n) = record { row = row; column = column } ∷ cells_from row (column +ℤ pos 1) n
@@ -41,7 +41,7 @@ cells_in rs = set.from_list (runs_cells rs)
 abbrev pub moved_run : ℤ → ℤ → Run → Run
 moved_run dx dy r = record { row = r.row +ℤ dy; first = r.first +ℤ dx; len = r.len }
 
--- r ends before s begins: in a row before it, or further to the left
+-- r ends before s begins: in an earlier row, or further to the left
 abbrev pub IsRunBefore : Run → Run → Type 0
 IsRunBefore r s = (r.row <ℤ s.row) ⊎ ((r.row ≡ s.row) × ((r.first +ℤ pos r.len) ≤ℤ s.first))
 
@@ -86,11 +86,11 @@ pub record IsRun (r : Run) : Type 0 where
   pub some : 1 ≤ r.len
   pub from : neg_ℤ (pos 1100000000) ≤ℤ r.first
 
--- Runs none of which begins where the one before it ends: a list of cells has one such list of runs.
+-- Runs none of which begins where the one before it ends: a list of cells has exactly one such list of runs.
 abbrev pub AreLongest : List Run → Type 0
 AreLongest [] = ⊤
 AreLongest (r ∷ rs) = IsRun r × NoneJoins r rs × AreLongest rs
 
--- a beginning of these cells was put at the end of a list
+-- a prefix of these cells was appended to a list
 abbrev pub GainsBeginning : List Cell → List Cell → List Cell → Type 0
 GainsBeginning cells old new = (done : List Cell) × (rest : List Cell) × (cells ≡ done ++ rest) × (new ≡ old ++ done)

@@ -1,4 +1,4 @@
--- What lists of runs and their calls need.
+-- The states of lists of runs and of the functions on them.
 use Rattle.std.specs.Prelude.{◌≡◌, ℕ, ◌<◌, ◌+◌, ◌^◌, ℤ, pos, neg_ℤ, ◌+ℤ◌, ◌≤ℤ◌, int_lt, int_le, Bool, ◌||◌, ◌&&◌, List, [], ◌∷◌, ◌++◌, length}
 use Rattle.std.specs.Coded.{Coded, coded_list}
 use Rattle.std.specs.Ordering.{int_eq}
@@ -34,11 +34,11 @@ pub record JoinsLast (rs : List Run) (s : Run) : Type 0 where
   pub all : rs ≡ front ++ last ∷ []
   pub joins : Joins last s
 
--- there is a last run, and it can be longer by so many cells
+-- there is a last run, and it can grow by this many cells
 pub record LastFits (rs : List Run) (n : ℕ) : Type 0 where
   pub some : 0 < length rs
   pub fits : (front : List Run) (last : Run) → rs ≡ front ++ last ∷ [] → last.len + n < 2 ^ 32
 
--- the last run is longer by so many cells
+-- the last run has grown by this many cells
 abbrev pub IsLonger : List Run → List Run → ℕ → Type 0
 IsLonger old new n = (front : List Run) (last : Run) → old ≡ front ++ last ∷ [] → new ≡ front ++ record { row = last.row; first = last.first; len = last.len + n } ∷ []

@@ -11,13 +11,13 @@ use crate::plane::Plane;
 use crate::rule::Rule;
 use std::alloc::Allocator;
 
-/// The most generations that one call makes.
+/// The most generations that one call computes.
 pub const GENERATION_LIMIT: u32 = 2048;
 
-/// The widest and the tallest box, in cells, that is kept in rows of packed words.
+/// The greatest width and height, in cells, of a box that is stored in rows of packed words.
 pub const PACKED_LIMIT: u64 = 16_384;
 
-/// Generation `n` of the pattern, made on a plane of the kind `P`.
+/// Generation `n` of the pattern, computed on a plane of the type `P`.
 pub fn generation_by<A: Allocator + Copy, P: Plane<A>>(
     alloc: A,
     rule: &Rule,
@@ -54,9 +54,9 @@ pub fn generation<A: Allocator + Copy>(
     }
 }
 
-/// Whether a pattern with this box is kept in rows of packed words for so many generations: whether
-/// the box's width and height, each grown by `2 * n`, are at most [`PACKED_LIMIT`]. So is one without
-/// a cell, which has no box.
+/// Whether a pattern with this box is stored in rows of packed words for this many generations: its
+/// width and height, each plus `2 * n`, have to be at most [`PACKED_LIMIT`]. An empty pattern, which
+/// has no box, is too.
 pub fn is_packed(bounds: Option<Bounds>, n: u32) -> bool
     requires { n ≤ GENERATION_LIMIT }
     ensures { MatchOption bounds (IsTrue result) (λ b. IsTrue result ↔ ((b.width + 2 * n ≤ PACKED_LIMIT) × (b.height + 2 * n ≤ PACKED_LIMIT))) }
@@ -68,8 +68,8 @@ pub fn is_packed(bounds: Option<Bounds>, n: u32) -> bool
     }
 }
 
-/// What the definition of a generation means: each cell of the plane lives by the rule alone, and no
-/// generation reaches more than a cell further than the one before. A law: calling it does nothing.
+/// What the definition of a generation means: the rule alone decides about each cell of the plane, and
+/// a generation reaches at most one cell further than the one before. A law: calling it does nothing.
 pub fn laws_of_generations()
     ensures by_cells { NextByCells }
     ensures grows { GrowsByOne }

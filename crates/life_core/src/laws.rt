@@ -9,7 +9,7 @@ use crate::generations::{GENERATION_LIMIT, PACKED_LIMIT};
 use crate::orientation::Orientation;
 use crate::rule::Rule;
 
-/// What the constants of the crate are. A law: calling it does nothing.
+/// The values of the crate's constants. A law: calling it does nothing.
 pub fn laws_of_constants()
     ensures orientations { ALL ≡ O0 ∷ O1 ∷ O2 ∷ O3 ∷ O4 ∷ O5 ∷ O6 ∷ O7 ∷ [] }
     ensures plane { PLANE ≡ 1_000_000_000 }
@@ -18,7 +18,7 @@ pub fn laws_of_constants()
 {}
 
 /// `Rule::LIFE` is Conway's Life, born at three neighbours and staying live at two or three. No clause can name a constant of a type with a
-/// model, so the law answers it.
+/// model, so the law returns it.
 pub fn law_of_life() -> Rule
     ensures { result ≡ life }
 {

@@ -69,7 +69,7 @@ impl<A: Allocator + Copy> Pattern<A> {
         })
     }
 
-    /// The set of the cells of a list that is kept by its runs, in any order and with repeats. A list in order is taken as it is.
+    /// The set of the cells of a list of runs, in any order and with repeats. A list that is in order is not copied.
     pub fn from_runs(cells: Runs<A>) -> Result<Pattern<A>, Fault>
         requires { All (IsCellWithin PLANE) cells }
         ensures { IfOk result (λ X. X ≡ set.from_list cells) }
@@ -99,7 +99,7 @@ impl<A: Allocator> Pattern<A> {
         Pattern { cells }
     }
 
-    /// What the set's memory comes from.
+    /// The allocator of the set's memory.
     pub(crate) fn allocator(&self) -> &A {
         self.cells.allocator()
     }
@@ -126,7 +126,7 @@ impl<A: Allocator> Pattern<A> {
         all_within(self.cells.runs(), k)
     }
 
-    /// The same set again.
+    /// A copy of the set.
     pub fn copy(&self, alloc: A) -> Result<Pattern<A>, Fault>
         ensures { IfOk result (λ X. X ≡ self.now) }
     {
@@ -159,7 +159,7 @@ impl<A: Allocator> Pattern<A> {
         Ok(self.copy(alloc)?.into_normal())
     }
 
-    /// The set moved so that its least column and its least row are 0, in the memory that it has.
+    /// The set moved so that its least column and its least row are 0; reuses its memory.
     pub fn into_normal(self) -> Pattern<A>
         requires { IsWithin 500_000_000 self }
         ensures { result ≡ normal self }
@@ -170,7 +170,7 @@ impl<A: Allocator> Pattern<A> {
         }
     }
 
-    /// The set moved `dx` columns to the right and `dy` rows down, in the memory that it has.
+    /// The set moved `dx` columns to the right and `dy` rows down; reuses its memory.
     fn into_moved(self, dx: i64, dy: i64) -> Pattern<A>
         requires { IsWithin PLANE (image (moved_cell dx dy) self) }
         ensures { result ≡ image (moved_cell dx dy) self }
@@ -192,8 +192,8 @@ impl<A: Allocator> Pattern<A> {
         self.cells.runs() == other.cells.runs()
     }
 
-    /// The one move, columns and rows, that takes this set to the other; none if this set is
-    /// empty, or if no move does.
+    /// The translation, columns and rows, that takes this set to the other; `None` if this set is
+    /// empty or there is no such translation.
     pub fn shift_to(&self, other: &Pattern<A>) -> Option<(i64, i64)>
         ensures { ShiftsTo self.now other.now result }
     {
@@ -208,8 +208,7 @@ impl<A: Allocator> Pattern<A> {
     }
 }
 
-/// What the definitions of the order of a set's cells and of its normal form mean. A law: calling it
-/// does nothing.
+/// What the order of a set's cells and its normal form mean. A law: calling it does nothing.
 pub fn laws_of_patterns()
     ensures ascends { InOrderAscends }
     ensures members { InOrderHasMembers }
@@ -248,7 +247,7 @@ fn turned_cells<A: Allocator>(
     cells.iter().map(|c| orientation.turned(*c)).collect(alloc)
 }
 
-/// The move that takes the cells of longest runs, in their order, to those of the others.
+/// The translation that takes the cells of longest runs, in their order, to those of the others.
 fn shift_between(runs: &[Run], others: &[Run]) -> Option<(i64, i64)>
     requires runs { AreLongest runs.now }
     requires others { AreLongest others.now }
@@ -315,7 +314,7 @@ fn bounds_of(runs: &[Run]) -> Option<Bounds>
     Some(corners.bounds())
 }
 
-/// The least and the greatest coordinates that were seen.
+/// The least and the greatest coordinates so far.
 #[derive(Clone, Copy)]
 struct Corners {
     left: i64,

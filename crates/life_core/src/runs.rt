@@ -1,4 +1,4 @@
-//! Lists of cells, kept by their runs: cells of one row that stand side by side.
+//! Lists of cells, stored as runs: adjacent cells of a row.
 ghost use Rattle.std.specs.Prelude.{◌≡◌, ◌↔◌, ◌≤◌, ◌<◌, ℕ, slice_index_or, ◌++◌, ◌∷◌, [], pos, neg_ℤ, ◌+ℤ◌, ◌≤ℤ◌, IsTrue, IfOk, OnOk, OnErr, length, map};
 ghost use Rattle.std.specs.List.{All};
 ghost use Rattle.std.specs.List.Sorted.{IsStrictlySortedBy};
@@ -12,7 +12,7 @@ use crate::cell::{Cell, PLANE};
 use std::alloc::{AllocError, Allocator, Global};
 use std::marker::Model;
 
-/// Cells of one row that stand side by side.
+/// Adjacent cells of a row.
 #[derive(Clone, Copy, Debug, PartialEq, Eq, PartialOrd, Ord)]
 pub struct Run {
     pub row: i32,
@@ -35,14 +35,14 @@ impl Run {
         }
     }
 
-    /// The run of so many cells that begins where this one does.
+    /// The run of this many cells with the same beginning.
     pub(crate) fn with_len(self, len: u32) -> Run
         ensures { result ≡ record { row = self.row; first = self.first; len = len } }
     {
         Run { len, ..self }
     }
 
-    /// The column following the last.
+    /// The column after the last one.
     pub fn end(&self) -> i64
         ensures { result ≡ self.now.first +ℤ pos self.now.len }
     {
@@ -59,7 +59,7 @@ impl Run {
         }
     }
 
-    /// The cell furthest to the left.
+    /// The leftmost cell.
     pub(crate) fn first_cell(&self) -> Cell
         ensures { result ≡ first_cell self.now }
     {
@@ -108,7 +108,7 @@ impl Run {
         self.first_cell().is_within(k) && self.last_cell().is_within(k)
     }
 
-    /// Whether it ends before the other begins: in a row before it, or further to the left.
+    /// Whether it ends before the other begins: in an earlier row, or further to the left.
     fn is_before(&self, other: Run) -> bool
         ensures { IsTrue result → IsRunBefore self.now other }
     {
@@ -123,7 +123,7 @@ impl Run {
     }
 }
 
-/// A list of cells, by its longest runs: a list of half a million cells of a soup takes three megabytes.
+/// A list of cells, stored as its longest runs. Half a million cells of a soup take three megabytes.
 #[derive(Debug, Drop)]
 pub struct Runs<A: Allocator = Global> {
     runs: Vec<Run, A>,
@@ -169,7 +169,7 @@ impl<A: Allocator> Runs<A> {
         Ok(runs)
     }
 
-    /// The same list again.
+    /// A copy of the list.
     pub fn copy(&self, alloc: A) -> Result<Runs<A>, AllocError>
         ensures { IfOk result (λ v. v ≡ self.now) }
     {
@@ -188,7 +188,7 @@ impl<A: Allocator> Runs<A> {
         Ok(cells)
     }
 
-    /// The cells moved by the columns and rows of `by`, in the memory that they have.
+    /// The cells moved by the columns and rows of `by`; reuses the memory.
     pub(crate) fn into_moved(self, by: Cell) -> Runs<A>
         requires here { All (IsCellWithin PLANE) self }
         requires there { All (λ c. IsCellWithin PLANE (moved_cell by.column by.row c)) self }
@@ -199,7 +199,7 @@ impl<A: Allocator> Runs<A> {
         Runs { runs, len }
     }
 
-    /// What the list's memory comes from.
+    /// The allocator of the list's memory.
     pub(crate) fn allocator(&self) -> &A {
         self.runs.allocator()
     }
@@ -219,7 +219,7 @@ impl<A: Allocator> Runs<A> {
         self.runs.as_slice()
     }
 
-    /// Puts a run at the end.
+    /// Appends a run.
     pub fn push_run(&mut self, run: Run) -> Result<(), AllocError>
         requires run { IsRun run }
         requires end { (run.first +ℤ pos run.len) ≤ℤ pos 1_100_000_001 }
@@ -234,7 +234,7 @@ impl<A: Allocator> Runs<A> {
         Ok(())
     }
 
-    /// Puts a cell at the end.
+    /// Appends a cell.
     pub fn push(&mut self, cell: Cell) -> Result<(), AllocError>
         requires { IsCellWithin 1_100_000_000 cell }
         ensures cell { OnOk result (self.new ≡ self.old ++ cell ∷ []) }
@@ -244,7 +244,7 @@ impl<A: Allocator> Runs<A> {
     }
 }
 
-/// Puts a run at the end of longest runs: the last becomes longer if the run begins where that ends.
+/// Appends a run to longest runs: if it begins where the last one ends, that one becomes longer.
 fn add_run<A: Allocator>(runs: &mut Vec<Run, A>, run: Run) -> Result<(), AllocError>
     requires run { IsRun run }
     requires end { (run.first +ℤ pos run.len) ≤ℤ pos 1_100_000_001 }
@@ -280,7 +280,7 @@ fn lengthen_last(runs: &mut [Run], more: u32)
     runs[last].len += more;
 }
 
-/// Puts the cells of the runs at the end of a list.
+/// Appends the cells of the runs to a list.
 pub fn list_runs<A: Allocator>(cells: &mut Vec<Cell, A>, runs: &[Run]) -> Result<(), AllocError>
     ensures cells { OnOk result (cells.new.items ≡ cells.old.items ++ runs_cells runs.now) }
     ensures begun { OnErr result (GainsBeginning (runs_cells runs.now) cells.old.items cells.new.items) }
@@ -291,7 +291,7 @@ pub fn list_runs<A: Allocator>(cells: &mut Vec<Cell, A>, runs: &[Run]) -> Result
     Ok(())
 }
 
-/// Puts the cells of the run at the end of a list.
+/// Appends the cells of the run to a list.
 pub fn list_run<A: Allocator>(cells: &mut Vec<Cell, A>, run: Run) -> Result<(), AllocError>
     ensures cells { OnOk result (cells.new.items ≡ cells.old.items ++ run_cells run) }
     ensures begun { OnErr result (GainsBeginning (run_cells run) cells.old.items cells.new.items) }
@@ -326,7 +326,7 @@ pub(crate) fn are_in_order(runs: &[Run]) -> bool
     true
 }
 
-/// The place of the first run that does not end before the column of the cell's row, or in a row before it.
+/// The index of the first run that ends neither in an earlier row than the cell's, nor in its row before its column.
 pub fn first_from(runs: &[Run], at: Cell) -> usize
     requires { AreRunsInOrder runs.now }
     ensures bound { result ≤ length runs.now }
@@ -336,7 +336,7 @@ pub fn first_from(runs: &[Run], at: Cell) -> usize
     runs.partition_point(|run| ends_before(*run, at))
 }
 
-/// Whether the run ends before the column of the cell's row, or in a row before it.
+/// Whether the run ends in an earlier row than the cell's, or in its row before its column.
 fn ends_before(run: Run, at: Cell) -> bool
     ensures { result ≡ ends_before run at.row at.column }
 {
@@ -344,7 +344,7 @@ fn ends_before(run: Run, at: Cell) -> bool
     own < at.row || own == at.row && run.end() <= at.column
 }
 
-/// Whether the cell is one of those of runs in order.
+/// Whether the cell is in runs that are in order.
 pub(crate) fn find_cell(runs: &[Run], cell: Cell) -> bool
     requires { AreRunsInOrder runs.now }
     ensures { result ≡ set.contains (cells_in runs.now) cell }

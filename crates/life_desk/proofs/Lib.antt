@@ -10,3 +10,4 @@ pub mod OneReply
 pub mod Looks
 pub mod Crashes
 pub mod Telling
+pub mod MigratedLemmas

@@ -1,4 +1,4 @@
--- What the looks at a kept deposit and at a kept tally tell of the reply.
+-- What reading a stored deposit or a stored tally says about the reply.
 use Rattle.std.proofs.Common.{◌≡◌, ℕ, List, Bool, true, false, if◌then◌else◌, Option, None, Some, option_map, Result, Ok, Err, IfOk, refl, ◌∙◌, ap, subst}
 use Rattle.std.specs.Result.{MatchResult}
 use Rattle.std.specs.Str.{bytes_eq}

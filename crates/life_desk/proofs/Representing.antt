@@ -1,4 +1,4 @@
--- What stays of a meaning as an archive grows, and what its tables tell.
+-- What stays true as an archive grows, and what its tables say.
 use Rattle.std.proofs.Common.{◌≡◌, nat_lt, ℕ, zero, suc, List, [], ◌∷◌, ◌++◌, ◌+◌, length, Some, option_map, Result, Ok, Err, IfOk, OnOk, OnErr, map, sum_by, IsTrue, IsSome, Bool, refl, sym, ◌∙◌, ap, subst}
 use Rattle.std.specs.List.{slice_get, AllByRecursion}
 use Rattle.std.proofs.lemmas.Option.{slice_get-map}

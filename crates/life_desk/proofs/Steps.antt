@@ -1,4 +1,4 @@
--- What each step of a run keeps, and the moment of a run at which a request was answered.
+-- What each step of a run preserves, and the point in a run at which a request was answered.
 use Rattle.std.proofs.Common.{◌≡◌, ◌≢◌, inl, inr, ℕ, zero, suc, List, [], ◌∷◌, Option, None, Some, IsSome, Result, Ok, Err, refl, sym, subst}
 use Rattle.std.specs.List.{slice_get}
 use Rattle.std.proofs.lemmas.List.{append-nil}

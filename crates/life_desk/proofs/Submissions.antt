@@ -1,4 +1,4 @@
--- Submissions to a list: what was answered by a number is found under it, then and in every longer list, and repeats.
+-- Submissions to a list: what was answered with a number is found under it, in this and every longer list, and repeating it has no effect.
 use Rattle.std.proofs.Common.{◌≡◌, ◌+◌, ℕ, zero, suc, List, [], ◌∷◌, ◌++◌, Bool, true, false, Option, None, Some, length, refl, sym, ◌∙◌, ap, subst, arith, if◌then◌else◌}
 use Rattle.std.specs.List.{slice_get, AllByRecursion}
 use Rattle.std.proofs.lemmas.List.{append-nil}

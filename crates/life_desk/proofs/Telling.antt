@@ -1,4 +1,4 @@
--- What the replies of a run say of sets of live cells.
+-- What the replies of a run say about sets of live cells.
 use Rattle.std.proofs.Common.{inl, inr, ◌≡◌, ◌≢◌, ◌↔◌, ℕ, List, Bool, true, false, Option, None, Some, IsSome, IsTrue, Result, Ok, Err, IfOk, refl, sym, ◌∙◌, ap, subst, if◌then◌else◌}
 use Rattle.life_core.specs.Rule.{RuleSets}
 use Rattle.life_core.specs.RuleText.{read_rule}

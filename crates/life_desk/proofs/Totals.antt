@@ -1,4 +1,4 @@
--- The reply to a request for a total: there is one, and no other.
+-- A request for a total has exactly one reply.
 use Rattle.std.proofs.Common.{◌≡◌, ◌≢◌, ◌≤◌, ◌⊎◌, inl, inr, ℕ, List, [], ◌∷◌, ◌++◌, Bool, true, false, ◌==◌, Option, None, Some, refl, sym, ◌∙◌, ap, subst, if◌then◌else◌, true≢false}
 use Rattle.std.specs.Str.{bytes_eq}
 use Rattle.std.proofs.lemmas.Bool.{eqb-true}

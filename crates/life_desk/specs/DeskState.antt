@@ -1,4 +1,4 @@
--- What the private calls that answer one kind of request leave.
+-- What the private functions for each kind of request leave behind.
 use Rattle.std.specs.Prelude.{◌≡◌, ◌⊎◌, true, Result, IfOk, OnOk, IsTrue, MatchResult}
 use Rattle.sqlite_trees.specs.declared.store.Store.{Ghosts}
 use Rattle.life_store.specs.Crash.{NoMore}
@@ -16,16 +16,16 @@ abbrev pub Acts : {S : Type 0} → ArchiveView S → ArchiveView S → Result Re
 Acts old new result gives leaves =
     (A : Archive) → IsTrue new.tables.is_healthy → Represents old A → MatchResult result (λ r. gives A r × Represents new (leaves A)) (λ _. Represents new A)
 
--- the same, where this holds of the archive
+-- the same, if this holds of the archive
 abbrev pub ActsIf : {S : Type 0} → ArchiveView S → ArchiveView S → Result Reply Unavailable → (Archive → Type 0) → (Archive → Reply → Type 0) → (Archive → Archive) → Type 0
 ActsIf old new result where_this gives leaves =
     (A : Archive) → IsTrue new.tables.is_healthy → Represents old A → where_this A → MatchResult result (λ r. gives A r × Represents new (leaves A)) (λ _. Represents new A)
 
--- the reply is what each archive gives, and each stays as it is
+-- the reply is the one that each archive gives, and each stays unchanged
 abbrev pub IsGivenByAll : (Archive → Reply → Type 0) → (Archive → Archive) → Reply → Type 0
 IsGivenByAll gives leaves r = (A : Archive) → gives A r × (leaves A ≡ A)
 
--- what is answered was answered by a database that is healthy unless its disk has lied, or whatever is kept
+-- the answer came from a database that is healthy unless its disk has lied, or does not depend on what is stored
 abbrev pub SpeaksIfHealthy : {S : Type 0} → Ghosts S → ArchiveView S → Result Reply Unavailable → (Archive → Reply → Type 0) → (Archive → Archive) → Type 0
 SpeaksIfHealthy g new result gives leaves = IfOk result (λ r. IsHealthyIfClean g new ⊎ IsGivenByAll gives leaves r)
 
@@ -35,7 +35,7 @@ SpeaksIfHealthy g new result gives leaves = IfOk result (λ r. IsHealthyIfClean 
 abbrev pub RepresentChangedIf : {S : Type 0} → ArchiveView S → (Archive → Type 0) → (Archive → Archive) → Left → Type 0
 RepresentChangedIf old where_this change found = IsTrue old.tables.is_healthy × ((A : Archive) → Represents old A → where_this A → LeftRepresents found (change A))
 
--- the same of every archive
+-- the same for every archive
 abbrev pub RepresentChanged : {S : Type 0} → ArchiveView S → (Archive → Archive) → Left → Type 0
 RepresentChanged old change found = RepresentChangedIf old (λ A. Unit {0}) change found
 

@@ -1,4 +1,4 @@
--- The archive in its own words: what the replies of a run say of sets of live cells.
+-- The headline of the archive: what the replies of a run say about sets of live cells.
 use Rattle.std.specs.Prelude.{◌≡◌, ◌↔◌, ◌+◌, ◌≤◌, ◌⊎◌, ℕ, List, Option, Some, Ok, IsTrue, length, sum_by, count_by, is_none}
 use Rattle.std.specs.List.{Contains, filter_map}
 use Rattle.sqlite_trees.specs.declared.store.Store.{Ghosts}
@@ -30,17 +30,17 @@ use Rattle.life_desk.specs.Archive.{Archive, clusters_with}
 use Rattle.life_desk.specs.Represents.{IsRepresentable, Represents}
 use Rattle.life_desk.specs.Run.{RequestRun, IsAnswered, IsLater}
 
--- The tally counts every cluster of X once, under its code or as unresolved. The clusters are `parts X`: that each live cell is in exactly one of
--- them, and that no other list of sets is so, are the laws `OnePartEach` and `OneListOfParts` of life_census. A row says how many have its code;
--- the rows and what is unresolved add up to how many there are.
+-- The tally counts every cluster of X once, under its code or as unresolved. The clusters are `clusters_of X`. By the laws `OneClusterEach` and
+-- `OneListOfClusters` of life_census, each live cell is in exactly one of them, and there is no other such list. A row says how many have its
+-- code; the rows and the unresolved clusters add up to the total.
 pub record CountsEachOnce (rule : RuleSets) (X : Cells) (limit : ℕ) (tally : TallyCounts) : Type 0 where
   pub rows : (code : List ℕ) (n : ℕ) → Contains tally.rows (code, n) ↔ ((n ≡ how_often code (filter_map (λ P. code_of rule P limit) (clusters_of X))) × (1 ≤ n))
   pub unresolved : tally.unresolved ≡ count_by (λ P. is_none (code_of rule P limit)) (clusters_of X)
   pub total : tally.total ≡ length (clusters_of X)
   pub adds_up : sum_by (λ (row : List ℕ × ℕ). row.1) tally.rows + tally.unresolved ≡ tally.total
 
--- The census of the number is shown: its deposit, generation and limit, its tally, and whether what was counted is steady, which is to say
--- that its clusters are still lifes and oscillators that never meet.
+-- The census of the number is shown: its deposit, generation and limit, its tally, and whether what was counted is steady, that is, whether
+-- its clusters are still lifes and oscillators that never meet.
 pub record ShowsCensus (B : Archive) (id : ℕ) (shown : Shown) : Type 0 where
   pub census : Census
   pub deposit : Deposit
@@ -50,14 +50,14 @@ pub record ShowsCensus (B : Archive) (id : ℕ) (shown : Shown) : Type 0 where
   pub tally : CountsEachOnce deposit.content.rule (generation_of deposit.content.rule deposit.content.cells census.generation) census.limit shown.tally
   pub steady : IsTrue shown.steady ↔ IsSteady deposit.content.rule (generation_of deposit.content.rule deposit.content.cells census.generation) census.limit
 
--- What the replies of a run from A to B say. Deposits and censuses are named by their numbers in B.
+-- What the replies of a run from A to B say. The numbers of deposits and censuses are those in B.
 pub record Headline (A : Archive) (qs : List Request) (rs : List Reply) (B : Archive) : Type 0 where
   -- nothing that A has is lost or changed
   pub later : IsLater A B
-  -- the number of a deposit names what was handed in
+  -- the number of a deposit names what was deposited
   pub deposited : (member token file : List ℕ) (n : ℕ) → IsAnswered qs rs (ask.Deposit member token file) (says.Deposited n)
       → (content : Contents) × (files.file file ≡ Ok content) × (numbered B.deposits n ≡ Some (record { member = member; token = token; content = content }))
-  -- the file that is shown is the text of what was handed in
+  -- the file that is shown is the text of what was deposited
   pub shows : (id : ℕ) (bytes : List ℕ) → IsAnswered qs rs (ask.Show id) (says.File bytes)
       → (d : Deposit) × (numbered B.deposits id ≡ Some d) × (bytes ≡ writer.text d.content)
   -- generation n is the rule applied n times
@@ -66,39 +66,39 @@ pub record Headline (A : Archive) (qs : List Request) (rs : List Reply) (B : Arc
   -- the kind and the code are those of the deposit's pattern
   pub kinds : (id limit : ℕ) (k : Kind) (code : Option (List ℕ)) → IsAnswered qs rs (ask.KindOf id limit) (says.Kinded k code)
       → (d : Deposit) × (numbered B.deposits id ≡ Some d) × (k ≡ kind_of d.content.rule d.content.cells limit) × (code ≡ code_of d.content.rule d.content.cells limit)
-  -- two coded patterns of one rule share a code exactly when a move, turn or reflection takes one to a phase of the other
+  -- two coded patterns of one rule share a code exactly if a translation, rotation or reflection takes one to a phase of the other
   pub codes : (i j limit other : ℕ) (k l : Kind) (s t : List ℕ) (d e : Deposit)
       → IsAnswered qs rs (ask.KindOf i limit) (says.Kinded k (Some s)) → IsAnswered qs rs (ask.KindOf j other) (says.Kinded l (Some t))
       → numbered B.deposits i ≡ Some d → numbered B.deposits j ≡ Some e → d.content.rule ≡ e.content.rule
       → (s ≡ t) ↔ Same d.content.rule d.content.cells e.content.cells
   -- a census counts every cluster once, under its code or as unresolved
   pub censuses : (id : ℕ) (shown : Shown) → IsAnswered qs rs (ask.ShowCensus id) (says.Shown shown) → ShowsCensus B id shown
-  -- a total is how many clusters have the code in all censuses that there were at that moment, of deposits of the rule
+  -- a total is how many clusters have the code in all censuses at that moment, of deposits with the rule
   pub totals : (text code : List ℕ) (limit n : ℕ) → IsAnswered qs rs (ask.Total text code limit) (says.Total n)
       → (rule : RuleSets) × (M : Archive) × (read_rule text ≡ Ok rule) × IsLater A M × IsLater M B × (n ≡ clusters_with M rule code)
 
--- It holds of every run from an archive that tables can represent.
+-- The headline holds for every run from an archive that tables can represent.
 abbrev pub HeadlineHolds : Type 0
 HeadlineHolds = (A B : Archive) (qs : List Request) (rs : List Reply) → IsRepresentable A → RequestRun A qs rs B → Headline A qs rs B
 
--- A was taken by a run to an archive that the tables represent, and these replies say so of it.
+-- A run took A to an archive that the tables represent, and the headline holds for these replies.
 abbrev pub IsTakenByRun : {S : Type 0} → Archive → ArchiveView S → List Request → List Reply → Type 0
 IsTakenByRun A new qs rs = (B : Archive) × RequestRun A qs rs B × Represents new B × Headline A qs rs B
 
--- If the database is healthy at the end: so each archive that the tables represented was taken.
+-- If the database is healthy at the end, this holds for each archive that the tables represented.
 abbrev pub IsTheArchive : {S : Type 0} → ArchiveView S → ArchiveView S → List Request → List Reply → Type 0
 IsTheArchive old new qs rs = (A : Archive) → IsTrue new.tables.is_healthy → Represents old A → IsTakenByRun A new qs rs
 
--- A was taken by a run, and these replies say so of it.
+-- A run began at A, and the headline holds for these replies.
 abbrev pub AreOfARun : Archive → List Request → List Reply → Type 0
 AreOfARun A qs rs = (B : Archive) × RequestRun A qs rs B × Headline A qs rs B
 
--- If the database is healthy at the start: so it is at the end, and A was taken; or the disk failed in the call. Then the replies are those of a run all the
--- same, unless the disk has returned other than what was written; of which archive it is left with the clause on crashes speaks.
+-- If the database is healthy at the start, it is healthy at the end, and a run began at A; or the disk failed during the call. In that case too the replies
+-- are those of a run, unless the disk did not return what was written; the clause on crashes says which archive is left.
 abbrev pub IsTheArchiveOrFaults : {S : Type 0} → Ghosts S → ArchiveView S → ArchiveView S → List Request → List Reply → Type 0
 IsTheArchiveOrFaults g old new qs rs = (A : Archive) → IsTrue old.tables.is_healthy → Represents old A
     → (IsTrue new.tables.is_healthy × IsTakenByRun A new qs rs) ⊎ (HasFailed old.tables new.tables × (IsHonest g new → AreOfARun A qs rs))
 
--- If the database is in memory: A was taken, with no premise.
+-- If the database is in memory, this holds without a premise.
 abbrev pub IsTheArchiveInMemory : {S : Type 0} → ArchiveView S → ArchiveView S → List Request → List Reply → Type 0
 IsTheArchiveInMemory old new qs rs = (A : Archive) → Represents old A → IsTakenByRun A new qs rs

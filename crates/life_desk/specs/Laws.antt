@@ -1,5 +1,5 @@
 -- What makes the definitions of the archive believable: one reply to each request, numbers that stay, repeats that act once, flags
--- that tell what is steady.
+-- that say what is steady.
 use Rattle.std.specs.Prelude.{◌≡◌, ◌≢◌, ◌↔◌, true, ℕ, List, Ok, Some, IsTrue, bytes_eq}
 use Rattle.std.specs.List.{AllByRecursion}
 use Rattle.life_core.specs.Generations.{generation_of}
@@ -20,7 +20,7 @@ use Rattle.life_desk.specs.Represents.{IsReadAgain, EachIsReadAgain}
 use Rattle.life_desk.specs.Replies.{IsReply, after}
 use Rattle.life_desk.specs.Run.{RequestRun, IsLater}
 
--- What a file is read as is read from its text again ..
+-- Reading the canonical text of a record that was read gives the record again ..
 abbrev pub FilesAreReadAgain : Type 0
 FilesAreReadAgain = (bytes : List ℕ) (r : Contents) → files.file bytes ≡ Ok r → IsReadAgain r
 
@@ -32,7 +32,7 @@ EqualTexts = (a b : Contents) → IsReadAgain a → IsReadAgain b → (bytes_eq 
 abbrev pub OneReply : Type 0
 OneReply = (A : Archive) (q : Request) → (r : Reply) × IsReply A q r × ((other : Reply) → IsReply A q other → other ≡ r)
 
--- In a run no deposit and no census is lost or changed: what has a number keeps it.
+-- In a run, deposits and censuses are never lost or changed: what has a number keeps it.
 abbrev pub NothingIsLost : Type 0
 NothingIsLost = (A B : Archive) (qs : List Request) (rs : List Reply) → RequestRun A qs rs B → IsLater A B
 
@@ -47,8 +47,8 @@ CensusesStay = (A B : Archive) (member token : List ℕ) (deposit generation lim
     → IsLater (after A (ask.Census member token deposit generation limit)) B
     → numbered B.censuses n ≡ Some (record { member = member; token = token; deposit = deposit; generation = generation; limit = limit })
 
--- A deposit that was answered by a number, and is sent again, then or later, with a file of the same content, is answered by that
--- number and changes nothing.
+-- If a deposit was answered with a number, and is sent again, then or later, with a file of the same content, the answer is that
+-- number, and nothing changes.
 abbrev pub DepositsActOnce : Type 0
 DepositsActOnce = (A B : Archive) (member token file again : List ℕ) (n : ℕ) → IsReply A (ask.Deposit member token file) (says.Deposited n)
     → IsLater (after A (ask.Deposit member token file)) B → files.file again ≡ files.file file
@@ -69,6 +69,6 @@ FlagTellsSteady = (A : Archive) (id : ℕ) (shown : Shown) (d : Deposit) → IsR
 abbrev pub AllAnswered : List Reply → Type 0
 AllAnswered rs = AllByRecursion (λ r. r ≢ says.Refused no.Unavailable) rs
 
--- Two runs of the same requests from the same archive, in which nothing was answered unavailable, are one.
+-- Two runs of the same requests from the same archive, in which nothing was answered unavailable, are equal.
 abbrev pub SameReplies : Type 0
 SameReplies = (A B C : Archive) (qs : List Request) (rs ss : List Reply) → RequestRun A qs rs B → RequestRun A qs ss C → AllAnswered rs → AllAnswered ss → (rs ≡ ss) × (B ≡ C)

@@ -1,4 +1,4 @@
--- What the private calls that ask the archive keep and tell.
+-- What the private functions that ask the archive preserve and return.
 use Rattle.std.specs.Prelude.{Result, IfOk, OnOk, IsTrue}
 use Rattle.sqlite_trees.specs.declared.store.Store.{Ghosts}
 use Rattle.life_store.specs.Crash.{NoMore}

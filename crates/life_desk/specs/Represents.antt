@@ -1,5 +1,5 @@
 -- When the tables of a store represent an archive: their rows represent its deposits and its censuses, each census with the tally of its
--- own generation of its own deposit, and with whether that generation is steady. The archive itself keeps no tallies and no flags.
+-- generation of its deposit, and with whether that generation is steady. The archive of the model itself has neither tallies nor flags.
 use Rattle.std.specs.Prelude.{◌≡◌, ℕ, List, [], Ok, map, IsSome}
 use Rattle.std.specs.List.{AllByRecursion}
 use Rattle.life_rle.specs.File.{kept}
@@ -8,12 +8,13 @@ use Rattle.life_rle.specs.Writer.{text}
 use Rattle.life_store.specs.declared.kept.Deposit.{Deposit}
 use Rattle.life_store.specs.declared.kept.Census.{Census}
 use Rattle.life_store.specs.Kept.{Kept, Tallied, numbered}
+use Rattle.life_store.specs.Migration.{Migrated}
 use Rattle.life_store.specs.Opening.{nothing_kept}
 use Rattle.life_store.specs.Left.{Left, LeftHolds}
 use Rattle.life_store.specs.Tables.{Tables, ArchiveView, Holds}
 use Rattle.life_desk.specs.Archive.{Archive, tally_at, steady_at}
 
--- a census with its tally and its flag, computed anew
+-- a census with its tally and its flag, both computed
 abbrev pub tallied : List Deposit → Census → Tallied
 tallied ds c = record { census = c; tally = tally_at ds c; steady = steady_at ds c }
 
@@ -24,11 +25,11 @@ kept_of A = record { deposits = A.deposits; censuses = map (tallied A.deposits) 
 abbrev pub EachHasDeposit : List Deposit → List Census → Type 0
 EachHasDeposit ds cs = AllByRecursion (λ c. IsSome (numbered ds c.deposit)) cs
 
--- the text of a record is read as the record again
+-- reading the text of a record gives the record again
 abbrev pub IsReadAgain : Contents → Type 0
 IsReadAgain r = kept (text r) ≡ Ok r
 
--- the record of each deposit is read from its text again
+-- reading the text of each deposit's record gives the record again
 abbrev pub EachIsReadAgain : List Deposit → Type 0
 EachIsReadAgain ds = AllByRecursion (λ d. IsReadAgain d.content) ds
 
@@ -37,7 +38,7 @@ pub record IsRepresentable (A : Archive) : Type 0 where
   pub again : EachIsReadAgain A.deposits
   pub each : EachHasDeposit A.deposits A.censuses
 
--- tables that represent its deposits and its censuses, each with a tally and a flag computed anew, and its capacity
+-- tables that represent its deposits and its censuses, each with its computed tally and flag, and its capacity
 pub record IsRepresented (t : Tables) (most : ℕ) (A : Archive) : Type 0 where
   pub capacity : most ≡ A.capacity
   pub each : EachHasDeposit A.deposits A.censuses
@@ -47,10 +48,14 @@ pub record IsRepresented (t : Tables) (most : ℕ) (A : Archive) : Type 0 where
 unfoldable pub Represents : {S : Type 0} → ArchiveView S → Archive → Type 0
 Represents t A = IsRepresented t.tables t.capacity A
 
--- The trees represent the archive, as an opening finds it: its capacity is chosen there.
+-- The trees represent the archive as opening finds it; opening sets the capacity.
 abbrev pub LeftRepresents : Left → Archive → Type 0
 LeftRepresents found A = LeftHolds found (kept_of A)
 
--- An archive that is new has no deposit and no census.
+-- A new archive has neither deposits nor censuses.
 abbrev pub NewIsEmpty : Type 0
 NewIsEmpty = (t : Tables) (capacity : ℕ) → Holds t nothing_kept → IsRepresented t capacity (record { deposits = []; censuses = []; capacity = capacity })
+
+-- An archive of schema version 1 that was migrated as it was opened is the archive that it was: each flag is what the archive computes.
+abbrev pub MigratedIsTheSame : Type 0
+MigratedIsTheSame = (t : Tables) (capacity : ℕ) (A : Archive) → capacity ≡ A.capacity → EachHasDeposit A.deposits A.censuses → Migrated t (kept_of A) → IsRepresented t capacity A

@@ -16,12 +16,12 @@ use Rattle.life_desk.specs.Validation.{validated}
 use Rattle.life_desk.specs.Replies.{IsReply, after, acknowledges}
 use Rattle.life_desk.specs.Represents.{Represents, LeftRepresents}
 
--- one request: its reply and its change; or else, where its own words are good, it is unavailable and nothing changes
+-- one request: its reply and its change; or, if its own fields are valid, it is unavailable and nothing changes
 pub data RequestStep (A : Archive) (q : Request) : Reply → Archive → Type 0 where
   answers : (r : Reply) → IsReply A q r → RequestStep A q r (after A q)
   gives_up : IsOk (validated q) → RequestStep A q (says.Refused no.Unavailable) A
 
--- Each archive may give this reply, and stays as it is: the reply says nothing of what is kept.
+-- Every archive may give this reply, and stays unchanged: the reply says nothing about what is stored.
 abbrev pub IsIdle : Request → Reply → Type 0
 IsIdle q r = (A : Archive) → RequestStep A q r A
 
@@ -38,7 +38,7 @@ IsAnswered (q ∷ qs) (r ∷ rs) asked given = ((q ≡ asked) × (r ≡ given)) 
 IsAnswered [] rs asked given = ⊥
 IsAnswered (q ∷ qs) [] asked given = ⊥
 
--- B has the deposits and the censuses of A at the places where they were, maybe more after them, and its capacity
+-- B has the deposits and the censuses of A at the same places, maybe more after them, and the capacity of A
 pub record IsLater (A B : Archive) : Type 0 where
   pub new_deposits : List Deposit
   pub deposits : B.deposits ≡ A.deposits ++ new_deposits
@@ -46,12 +46,12 @@ pub record IsLater (A B : Archive) : Type 0 where
   pub censuses : B.censuses ≡ A.censuses ++ new_censuses
   pub capacity : B.capacity ≡ A.capacity
 
--- no reply says that something is kept
+-- no reply says that something is stored
 abbrev pub PromiseNothing : List Reply → Type 0
 PromiseNothing rs = AllByRecursion (λ r. acknowledges r ≡ false) rs
 
--- The trees represent the archive after the first requests of a run from A, or after the one that follows as well; and no reply but those to the
--- first says that something is kept.
+-- The trees represent the archive after the first requests of a run from A, or after one request more; and only the replies to the
+-- first requests say that something is stored.
 pub record IsCrashOf (A : Archive) (qs : List Request) (rs : List Reply) (found : Left) : Type 0 where
   pub front : List Request
   pub back : List Request
@@ -64,15 +64,15 @@ pub record IsCrashOf (A : Archive) (qs : List Request) (rs : List Reply) (found 
   pub left : LeftRepresents found mid ⊎ ((next : Request) × (more : List Request) × (back ≡ next ∷ more) × LeftRepresents found (after mid next))
   pub unpromised : PromiseNothing rest
 
--- What a crash may leave of requests: what it might have left before them, if no reply says that something is kept; or the database was
--- healthy, and of whatever archive its tables represented the trees are what a crash leaves of a run.
+-- What a crash may leave of requests: what it might have left before them, if no reply says that something is stored; or the database was
+-- healthy, and the trees are what a crash leaves of a run from any archive that its tables represented.
 abbrev pub MayBeLeftOf : {S : Type 0} → Ghosts S → ArchiveView S → List Request → List Reply → Left → Type 0
 MayBeLeftOf g old qs rs found = (MayBeLeft g old found × PromiseNothing rs) ⊎ (IsTrue old.tables.is_healthy × ((A : Archive) → Represents old A → IsCrashOf A qs rs found))
 
--- The requests were answered by the store. If the database is healthy at the end, so it was at the start, and each archive that the tables
--- meant was taken by a run to one that they represent. If it was healthy at the start, and its disk has returned what was written, the replies
--- are those of a run also if the disk failed on the way; and if it was not, each reply says nothing of what is kept.
--- Of what a crash leaves the last clause speaks.
+-- The requests were answered by the store. If the database is healthy at the end, it was healthy at the start, and from each archive that the
+-- tables represented, a run leads to one that they represent now. If it was healthy at the start and its disk has returned what was written, the
+-- replies are those of a run even if the disk failed on the way; if it was not healthy, no reply says anything about what is stored.
+-- The last clause says what a crash leaves.
 pub record Answered {S : Type 0} (g : Ghosts S) (old new : ArchiveView S) (qs : List Request) (rs : List Reply) : Type 0 where
   pub transition : IsTransition g (λ db. ⊤) old new
   pub run : IsTrue new.tables.is_healthy → (A : Archive) → Represents old A → (B : Archive) × RequestRun A qs rs B × Represents new B
@@ -84,7 +84,7 @@ pub record Answered {S : Type 0} (g : Ghosts S) (old new : ArchiveView S) (qs : 
 
 module _ {S : Type 0} (g : Ghosts S) where
   -- If the database was healthy and its disk has returned what was written, a crash during the call leaves the archive after
-  -- a beginning of the requests, or after the one that follows as well; and whatever was said to be kept is there.
+  -- a prefix of the requests, or after one request more; and whatever was acknowledged is there.
   abbrev pub IsCrashSafe : ArchiveView S → ArchiveView S → List Request → List Reply → Type 0
   IsCrashSafe old new qs rs = (A : Archive) → IsTrue old.tables.is_healthy → Represents old A → IsHonest g new → (found : Left) → MayBeLeft g new found → IsCrashOf A qs rs found
 

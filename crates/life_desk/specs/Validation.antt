@@ -1,5 +1,5 @@
--- What is validated of a request's own words, before the archive is asked, in the order member, token, limits, rule. What is validated good is
--- the same request with its rule read; what is not is refused, by the first fault.
+-- Validation of a request's own fields, before the archive is asked, in the order member, token, limits, rule. The result is the same request
+-- with its rule parsed, or the refusal for the first invalid field.
 use Rattle.std.specs.Prelude.{◌≡◌, ◌⊎◌, ◌==◌, ◌&&◌, ◌||◌, ℕ, Bool, List, length, Result, Ok, Err, IsOk, nat_le, if◌then◌else◌}
 use Rattle.std.specs.List.{list_all}
 use Rattle.life_core.specs.Ascii.{hyphen, digit_0, digit_9, letter_a, letter_z}
@@ -61,11 +61,11 @@ validated (ask.ShowCensus id) = Ok (good.ShowCensus id)
 validated (ask.CensusCsv id) = Ok (good.CensusCsv id)
 validated (ask.Total rule code limit) = if is_limit limit then validated_rule code limit (read_rule rule) else Err OutOfLimit
 
--- a check of a request's words answers what they are validated
+-- a check of a request's fields returns the result of validation
 abbrev pub IsChecked : {J : Type 0} → Result (Unit {0}) Refusal → Result J Refusal → Type 0
 IsChecked (Ok u) words = IsOk words
 IsChecked (Err refusal) words = words ≡ Err refusal
 
--- what a request may be refused for before the archive is asked: its own words; or, where they are good, that it is unavailable
+-- the refusals before the archive is asked: for a request's own fields or, if these are valid, unavailable
 abbrev pub MayRefuse : {J : Type 0} → Result J Refusal → Refusal → Type 0
 MayRefuse words refusal = (words ≡ Err refusal) ⊎ (IsOk words × (refusal ≡ Unavailable))

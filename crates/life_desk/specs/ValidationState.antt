@@ -1,11 +1,11 @@
--- What the private calls that answer what is validated good are handed.
+-- The arguments of the private functions that answer valid requests.
 use Rattle.std.specs.Prelude.{◌≤◌}
 use Rattle.life_core.specs.declared.generations.TheConstants.{GENERATION_LIMIT}
 use Rattle.life_code.specs.declared.period.TheConstants.{PERIOD_LIMIT}
 use Rattle.life_desk.specs.declared.request.ValidRequest.{ValidRequest}
 use Rattle.life_desk.specs.declared.request.ValidRequest.TheVariants as good
 
--- what is validated good is within the limits
+-- a valid request is within the limits
 abbrev pub IsGood : ValidRequest → Type 0
 IsGood (good.At id n) = n ≤ GENERATION_LIMIT
 IsGood (good.KindOf id limit) = (1 ≤ limit) × (limit ≤ PERIOD_LIMIT)

@@ -1,4 +1,4 @@
-//! The desk: a request is validated by its own words, the archive is asked, and a reply is made.
+//! The desk: validates a request's fields, asks the archive, and makes the reply.
 ghost use Rattle.std.specs.Prelude.{◌≡◌, ◌≤◌, ◌∷◌, ◌⊎◌, [], bytes_eq, if◌then◌else◌, None, IfErr, IfOk, IsTrue, OnErr, OnOk, length, option_map, Some, true};
 ghost use Rattle.life_rle.specs.Record.{IsInside};
 ghost use Rattle.life_store.specs.Kept.{numbered, deposit_by, census_by, listed_after};
@@ -38,7 +38,7 @@ use life_store::{Archive, Census, Deposit, Unavailable};
 use sqlite::{Alter, MemStore};
 use std::alloc::Global;
 
-/// The reply to something whose token is used: the number of what is stored under it, if that is the same.
+/// The reply if the token is used already: the number of what is stored under it, if that is the same.
 fn repeated(is_same: bool, number: Reply) -> Reply
     ensures { result ≡ (if is_same then number else says.Refused refusals.TokenReused) }
 {
@@ -49,7 +49,7 @@ fn repeated(is_same: bool, number: Reply) -> Reply
     }
 }
 
-/// The reply to a deposit whose token is used, by the file that is stored under it.
+/// The reply to a deposit whose token is used already, given the file that is stored under it.
 fn kept_again(alloc: Global, id: u64, file: &[u8], deposit: &Deposit) -> Result<Reply, Unavailable>
     ensures { IfOk result (λ r. r ≡ (if bytes_eq file.now (text deposit.now.content) then says.Deposited id else says.Refused refusals.TokenReused)) }
 {
@@ -225,7 +225,7 @@ fn name_kind<S: Alter>(
     }
 }
 
-/// The tally of a pattern, and whether it is steady.
+/// The tally of a pattern, and whether the pattern is steady.
 fn count(
     alloc: Global,
     rule: &Rule,
@@ -243,7 +243,7 @@ fn count(
     Ok(tally_and_steady(alloc, rule, cells, limit)?)
 }
 
-/// The census of a deposit, counted, and whether the generation that it counts is steady.
+/// Counts the census of a deposit, and finds out whether the generation that it counts is steady.
 fn counted(alloc: Global, deposit: &Deposit, census: &Census) -> Result<(Tally, bool), Unavailable>
     requires small { IsInside 1024 deposit.now.content.cells }
     requires few { census.now.generation ≤ GENERATION_LIMIT }
@@ -425,7 +425,7 @@ fn total<S: Alter>(
     Ok(Reply::Total(counts_of(archive, alloc, rule, text)?))
 }
 
-/// Answers a request whose words are good.
+/// Answers a request whose fields are valid.
 fn act<S: Alter>(
     archive: &mut Archive<S>,
     alloc: Global,
@@ -460,19 +460,19 @@ fn act<S: Alter>(
     }
 }
 
-/// Answers one request. The reply is the request's one reply, and the archive the one after it; or, if memory or the
-/// store refused, the reply is [`Refusal::Unavailable`], and nothing has changed if the database is healthy after the call.
-/// What a request is refused for by its own fields alone ([`Refusal::BadMember`], `BadToken`, `OutOfLimit` and `BadRule`)
-/// is answered without an allocation and without the store, so unavailable never comes in its place.
+/// Answers one request. The reply and the new archive are the ones that the model gives. If memory or the store
+/// failed, the reply is [`Refusal::Unavailable`], and nothing has changed if the database is healthy after the call.
+/// A refusal that depends only on the request's own fields ([`Refusal::BadMember`], `BadToken`, `OutOfLimit` and
+/// `BadRule`) needs neither an allocation nor the store, so `Unavailable` never replaces it.
 pub fn answer<S: Alter>(archive: &mut Archive<S>, alloc: Global, request: Request) -> Reply
     ensures answered { Answered S.Store archive.old archive.new (request ∷ []) (result ∷ []) }
-    // A database that is not healthy gives no reply that says something of what is kept, unless its disk has lied.
+    // If the database is not healthy, no reply says anything about what is stored, unless its disk has lied.
     ensures healthy { IsHealthyIfClean S.Store archive.new ⊎ IsIdle request result }
-    // If the reply shows what is kept, nothing has changed, and it might have been withheld.
+    // If the reply shows what is stored, nothing has changed, and it might have been unavailable instead.
     ensures may_be_unavailable { is_shown result ≡ true → Answered S.Store archive.old archive.new (request ∷ []) (says.Refused refusals.Unavailable ∷ []) }
-    // A crash during the call leaves the archive before the request or the one after it.
+    // A crash during the call leaves the archive as it was before the request or after it.
     ensures crash { IsCrashSafe S.Store archive.old archive.new (request ∷ []) (result ∷ []) }
-    // What a request's own words are refused for comes whatever the store does.
+    // A refusal for the request's own fields comes whatever the store does.
     ensures own_refusals { IfErr (validated request) (λ refusal. (result ≡ says.Refused refusal) × (archive.new ≡ archive.old)) }
 {
     archive.law_of_crashes();
@@ -508,8 +508,8 @@ fn answer_each<S: Alter>(
     Ok(replies)
 }
 
-/// Answers requests one after the other, by a reply each. [`Fault::Memory`] says that the room for the replies was refused,
-/// and comes before any request was answered.
+/// Answers requests one after the other, with a reply each. [`Fault::Memory`] means that there was no memory for the
+/// replies; it comes before any request is answered.
 pub fn answer_all<S: Alter>(
     archive: &mut Archive<S>,
     alloc: Global,
@@ -517,12 +517,12 @@ pub fn answer_all<S: Alter>(
 ) -> Result<Vec<Reply>, Fault>
     // The replies and the archive are those of a run ..
     ensures ok { IfOk result (λ replies. Answered S.Store archive.old archive.new requests.items replies.items) }
-    // .. which says of sets of live cells what it should.
+    // .. for which the headline about sets of live cells holds.
     ensures headline { IfOk result (λ replies. IsTheArchive archive.old archive.new requests.items replies.items) }
-    // A database that is healthy before the call is healthy after it, unless its disk failed in the call; the replies are those of a run in either case.
+    // A database that is healthy before the call is healthy after it, unless its disk failed during the call; in either case the replies are those of a run.
     ensures lasting { IfOk result (λ replies. IsTheArchiveOrFaults S.Store archive.old archive.new requests.items replies.items) }
-    // A crash during the call leaves the archive after a beginning of the requests, or after the one that follows as well, and no other reply
-    // says that something is stored.
+    // A crash during the call leaves the archive after a prefix of the requests, or after one request more, and only the replies to the prefix
+    // say that something is stored.
     ensures crash { IfOk result (λ replies. IsCrashSafe S.Store archive.old archive.new requests.items replies.items) }
     ensures err { OnErr result (archive.new ≡ archive.old) }
 {
@@ -531,7 +531,7 @@ pub fn answer_all<S: Alter>(
     answer_each(archive, alloc, requests)
 }
 
-/// As [`answer_all`], of an archive in memory: no disk can fail there, so the replies and the archive are those of a run in any case.
+/// Like [`answer_all`], for an archive in memory: no disk can fail there, so the replies and the archive are always those of a run.
 pub fn answer_all_in_memory(
     archive: &mut Archive<MemStore>,
     alloc: Global,

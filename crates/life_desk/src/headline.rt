@@ -1,6 +1,6 @@
-//! The archive in its own words.
+//! The headline of the archive.
 ghost use Rattle.life_desk.specs.Headline.{HeadlineHolds};
-ghost use Rattle.life_desk.specs.Represents.{NewIsEmpty};
+ghost use Rattle.life_desk.specs.Represents.{NewIsEmpty, MigratedIsTheSame};
 ghost use Rattle.life_desk.specs.Run.{IsDurable};
 
 use life_census::{laws_of_steady_fields, laws_of_tallies};
@@ -8,10 +8,10 @@ use life_code::laws_of_codes;
 use life_store::Archive;
 use sqlite::Alter;
 
-/// What the replies of every run say of sets of live cells. No deposit and no census is lost or changed. What is shown is what was handed
-/// in; generation n is the rule applied n times; kinds and codes are those of the deposit's pattern. Two coded patterns of one rule share a
-/// code exactly when a move, turn or reflection takes one to a phase of the other. A census counts every cluster once, under its code or
-/// as unresolved, and a total adds these counts up. A law: calling it does nothing.
+/// What the replies of every run say about sets of live cells. Deposits and censuses are never lost or changed. What is shown is what was
+/// deposited; generation n is the rule applied n times; kinds and codes are those of the deposit's pattern. Two coded patterns of one rule
+/// share a code exactly if a translation, rotation or reflection takes one to a phase of the other. A census counts every cluster once, under
+/// its code or as unresolved, and a total adds up these counts. A law: calling it does nothing.
 pub fn law_of_the_archive()
     ensures { HeadlineHolds }
 {
@@ -20,12 +20,19 @@ pub fn law_of_the_archive()
     laws_of_codes();
 }
 
-/// The tables of a new archive mean the archive without a deposit and without a census. A law: calling it does nothing.
+/// The tables of a new archive represent the archive without deposits and censuses. A law: calling it does nothing.
 pub fn law_of_new_archives()
     ensures { NewIsEmpty }
 {}
 
-/// What was answered lasts: between two calls a crash leaves the archive that the tables represent, and nothing else. A law: calling it
+/// The tables of an archive of schema version 1, once they are migrated, represent the archive that they represented. A law: calling it does nothing.
+pub fn law_of_migrated_archives()
+    ensures { MigratedIsTheSame }
+{
+    laws_of_steady_fields();
+}
+
+/// What was acknowledged lasts: between two calls, a crash leaves the archive that the tables represent, and nothing else. A law: calling it
 /// does nothing.
 pub fn law_of_durability<S: Alter>(archive: &Archive<S>)
     ensures { IsDurable S.Store archive.now }

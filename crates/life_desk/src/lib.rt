@@ -12,7 +12,9 @@ mod validation;
 
 pub use bytes::Bytes;
 pub use desk::{answer, answer_all, answer_all_in_memory};
-pub use headline::{law_of_durability, law_of_new_archives, law_of_the_archive};
+pub use headline::{
+    law_of_durability, law_of_migrated_archives, law_of_new_archives, law_of_the_archive,
+};
 pub use laws::laws_of_runs;
 pub use refusal::Refusal;
 pub use request::{Reply, Request, Shown};

@@ -1,4 +1,4 @@
-//! What an archive tells, as the desk asks it.
+//! The desk's queries to the archive.
 ghost use Rattle.std.specs.Prelude.{◌≡◌, ◌+◌, ◌++◌, ◌∷◌, [], ℕ, List, Some, nat_lt, length, option_map, IfOk, IfSome, OnOk, OnErr};
 ghost use Rattle.life_rle.specs.Record.{IsInside};
 ghost use Rattle.life_rle.specs.Writer.{text};
@@ -73,7 +73,7 @@ pub(crate) fn find_census<S: Alter>(
     archive.find_census(alloc, census.member.as_bytes(), census.token.as_bytes())
 }
 
-/// How many clusters with the code there are in the censuses of deposits of the rule.
+/// How many clusters have the code, in all censuses of deposits with the rule.
 pub(crate) fn counts_of<S: Alter>(
     archive: &mut Archive<S>,
     alloc: Global,
@@ -107,7 +107,7 @@ fn rows_and_flag_of<S: Alter>(
     archive.rows_and_flag_of(alloc, id)
 }
 
-/// A census that is stored, with its tally, and whether the generation that it counted is steady.
+/// A stored census with its tally, and whether the generation that it counted is steady.
 #[derive(Drop)]
 pub(crate) struct CountedCensus {
     pub(crate) census: Census,
@@ -186,7 +186,7 @@ pub(crate) fn add_deposit<S: Alter>(
     archive.add_deposit(alloc, deposit)
 }
 
-/// Adds a census of a deposit that is there, with its tally and its flag.
+/// Adds a census of an existing deposit, with its tally and its flag.
 pub(crate) fn add_census<S: Alter>(
     archive: &mut Archive<S>,
     census: &Census,

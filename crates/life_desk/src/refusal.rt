@@ -3,8 +3,8 @@
 use life_rle::RleFault;
 use std::alloc::AllocError;
 
-/// Why a request is refused. If several reasons apply, the first of this order is given: member, token, limits,
-/// pattern, or rule and then code, the row that is referred to, the token that is kept, full.
+/// Why a request is refused. If several reasons apply, the first in this order is given: member, token, limits,
+/// pattern (or rule and then code), the row that is referred to, the stored token, full.
 #[derive(Clone, Copy, Debug, PartialEq, Eq)]
 pub enum Refusal {
     /// No deposit has the number.
@@ -15,19 +15,19 @@ pub enum Refusal {
     BadMember,
     /// The token is not 1 to 64 bytes of `A-Z`, `a-z`, `0-9` and `-`.
     BadToken,
-    /// The member and token are kept with another content.
+    /// Other content is stored under the member and the token.
     TokenReused,
-    /// The generation is over 2048, or the limit of the period is 0 or over 2048.
+    /// The generation is over 2048, or the limit on the period is 0 or over 2048.
     OutOfLimit,
-    /// The file is no pattern file, for this reason.
+    /// The file is not a valid pattern file, for this reason.
     BadPattern(RleFault),
-    /// The text is no rule.
+    /// The text is not a rule.
     BadRule,
-    /// The text is no pattern's code under the rule and the limit.
+    /// The text is not a code under the rule and the limit.
     BadCode,
-    /// The member and token are not kept, and there are as many rows as the archive takes.
+    /// Nothing is stored under the member and the token, and the archive has as many rows as it takes.
     Full,
-    /// Memory or the store refused.
+    /// Memory or the store failed.
     Unavailable,
 }
 

@@ -8,37 +8,37 @@ use life_core::Rule;
 use life_rle::Text;
 use life_store::{Census, Listing};
 
-/// What is asked of the archive. Numbers are any of their type and texts any bytes: what they may be is
-/// validated by [`answer`](crate::answer). Deposits and censuses are named by their numbers, which count from 1.
+/// A request to the archive. Numbers and bytes are not validated yet: [`answer`](crate::answer) does that.
+/// Deposits and censuses have numbers, which count from 1.
 #[derive(Drop)]
 pub enum Request {
-    /// Keep a pattern file. The token makes the request safe to repeat: the same member and token with an equal
-    /// record is the same deposit.
+    /// Store a pattern file. The token makes the request safe to repeat: the same member and token with an equal
+    /// record are the same deposit.
     Deposit {
         member: Text,
         token: Text,
         file: Bytes,
     },
-    /// The file of a deposit.
+    /// Read the file of a deposit.
     Show {
         id: u64,
     },
-    /// A list of the deposits with a number above this one.
+    /// List the deposits with a greater number.
     ListAfter {
         id: u64,
     },
-    /// The file of a generation of a deposit, 0 to 2048.
+    /// Read a generation of a deposit, 0 to 2048, as a file.
     At {
         id: u64,
         generation: u64,
     },
-    /// What becomes of a deposit, under the limit of the period, 1 to 2048.
+    /// Find the kind of a deposit under a limit on the period, 1 to 2048.
     KindOf {
         id: u64,
         limit: u64,
     },
-    /// Keep a census of a generation of a deposit, 0 to 2048, under the limit of the period, 1 to 2048. Tokens of
-    /// censuses are apart from those of deposits.
+    /// Take a census of a generation of a deposit, 0 to 2048, under a limit on the period, 1 to 2048, and store it.
+    /// Tokens of censuses are independent of those of deposits.
     Census {
         member: Text,
         token: Text,
@@ -54,8 +54,8 @@ pub enum Request {
     CensusCsv {
         id: u64,
     },
-    /// How many clusters have a code, over all censuses of deposits of a rule: the rule in any of its spellings, the
-    /// code, and the limit of the period, 1 to 2048, within which the code must be one.
+    /// Count the clusters with a code in all censuses of deposits with a rule. It takes the rule in any spelling, the
+    /// code, and the limit on the period, 1 to 2048, under which the code has to be valid.
     Total {
         rule: Bytes,
         code: Bytes,
@@ -72,16 +72,16 @@ pub struct Shown {
     pub deposit: u64,
     /// Which generation of the deposit was counted.
     pub generation: u32,
-    /// The limit of the period under which the clusters have their codes.
+    /// The limit on the period under which the clusters were coded.
     pub limit: u32,
-    /// How many clusters have each code, how many have none, and how many there are.
+    /// How many clusters have each code, how many have no code, and how many there are in all.
     pub tally: Tally,
-    /// Whether the generation that was counted is steady: whether each of its clusters is a still life, or an oscillator of
-    /// a period within the limit, and no phase of one comes near a phase of another.
+    /// Whether the generation that was counted is steady: each cluster is a still life or an oscillator with a period
+    /// within the limit, and no phase of one comes near a phase of another.
     pub steady: bool,
 }
 
-/// What is answered.
+/// A reply to a request.
 #[derive(Drop)]
 pub enum Reply {
     /// The number of the deposit.
@@ -98,13 +98,13 @@ pub enum Reply {
     Shown(Shown),
     /// A tally as CSV.
     Csv(Bytes),
-    /// A sum over all censuses.
+    /// A total over all censuses.
     Total(u64),
-    /// Why there is none of these.
+    /// The request was refused, for this reason.
     Refused(Refusal),
 }
 
-/// A request whose words are good: its numbers are within the limits, and its rule is read.
+/// A request with valid fields: its numbers are within the limits, and its rule is parsed.
 #[derive(Drop)]
 pub(crate) enum ValidRequest {
     Deposit {

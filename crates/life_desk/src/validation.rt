@@ -1,4 +1,4 @@
-//! What is validated of a request's own words.
+//! Validation of a request's own fields.
 ghost use Rattle.std.specs.Prelude.{◌≡◌, ℕ, if◌then◌else◌, List, Ok, Err, IfOk};
 ghost use Rattle.std.specs.List.{list_all};
 ghost use Rattle.life_desk.specs.declared.refusal.Refusal.TheVariants.{BadMember, BadToken, OutOfLimit};
@@ -14,7 +14,7 @@ use life_core::{GENERATION_LIMIT, Rule};
 use life_rle::Text;
 use life_store::Census;
 
-/// A small letter, a digit or `-`.
+/// A lower-case letter, a digit or `-`.
 fn is_member_byte(b: u8) -> bool
     ensures { result ≡ is_member_byte b }
 {
@@ -28,14 +28,14 @@ fn is_token_byte(b: u8) -> bool
     (65 <= b && b <= 90) || is_member_byte(b)
 }
 
-/// Whether all may stand in a member.
+/// Whether all bytes may occur in a member's name.
 fn are_member_bytes(bytes: &[u8]) -> bool
     ensures { result ≡ list_all is_member_byte bytes.now }
 {
     bytes.iter().all(|b| is_member_byte(*b))
 }
 
-/// Whether all may stand in a token.
+/// Whether all bytes may occur in a token.
 fn are_token_bytes(bytes: &[u8]) -> bool
     ensures { result ≡ list_all is_token_byte bytes.now }
 {
@@ -49,7 +49,7 @@ fn is_between(low: usize, high: usize, n: usize) -> bool
     low <= n && n <= high
 }
 
-/// Whether the bytes are a member.
+/// Whether the bytes are a valid member name.
 #[tactic(auto, unfolding(crate::specs::Validation::is_member))]
 fn is_member(bytes: &[u8]) -> bool
     ensures { result ≡ is_member bytes.now }
@@ -57,7 +57,7 @@ fn is_member(bytes: &[u8]) -> bool
     is_between(1, 32, bytes.len()) && are_member_bytes(bytes)
 }
 
-/// Whether the bytes are a token.
+/// Whether the bytes are a valid token.
 #[tactic(auto, unfolding(crate::specs::Validation::is_token))]
 fn is_token(bytes: &[u8]) -> bool
     ensures { result ≡ is_token bytes.now }
@@ -65,7 +65,7 @@ fn is_token(bytes: &[u8]) -> bool
     is_between(1, 64, bytes.len()) && are_token_bytes(bytes)
 }
 
-/// A generation within its limit.
+/// A generation, if it is in its range.
 fn generation_in(n: u64) -> Result<u32, Refusal>
     ensures { result ≡ (if is_generation n then Ok n else Err OutOfLimit) }
 {
@@ -76,7 +76,7 @@ fn generation_in(n: u64) -> Result<u32, Refusal>
     }
 }
 
-/// A period limit within its limits.
+/// A limit on the period, if it is in its range.
 fn limit_in(n: u64) -> Result<u32, Refusal>
     ensures { result ≡ (if is_limit n then Ok n else Err OutOfLimit) }
 {
@@ -100,15 +100,15 @@ fn validate_names(member: &[u8], token: &[u8]) -> Result<(), Refusal>
     Ok(())
 }
 
-/// Whether the words of a deposit are good, whatever its file is: what [`answer`](crate::answer) would refuse it for by its
-/// words alone, before anything is copied.
+/// Whether the fields of a deposit are valid, whatever its file is. These are the refusals of [`answer`](crate::answer) that depend
+/// on the fields alone, found before anything is copied.
 pub fn check_deposit(member: &[u8], token: &[u8]) -> Result<(), Refusal>
     ensures { (file : List ℕ) → IsChecked result (validated (ask.Deposit member.now token.now file)) }
 {
     validate_names(member, token)
 }
 
-/// The same of a census, whatever deposit it is of.
+/// The same for a census, whatever its deposit is.
 pub fn check_census(member: &[u8], token: &[u8], n: u64, limit: u64) -> Result<(), Refusal>
     ensures { (deposit : ℕ) → IsChecked result (validated (ask.Census member.now token.now deposit n limit)) }
 {
@@ -118,7 +118,7 @@ pub fn check_census(member: &[u8], token: &[u8], n: u64, limit: u64) -> Result<(
     Ok(())
 }
 
-/// The same of a total, whatever its code is.
+/// The same for a total, whatever its code is.
 pub fn check_total(rule: &[u8], limit: u64) -> Result<(), Refusal>
     ensures { (code : List ℕ) → IsChecked result (validated (ask.Total rule.now code limit)) }
 {
@@ -129,7 +129,7 @@ pub fn check_total(rule: &[u8], limit: u64) -> Result<(), Refusal>
     }
 }
 
-/// The words of a deposit, validated.
+/// The fields of a deposit, validated.
 fn validate_deposit(member: Text, token: Text, file: Bytes) -> Result<ValidRequest, Refusal>
     ensures value { result ≡ validated (ask.Deposit member token file) }
     ensures within { IfOk result IsGood }
@@ -142,7 +142,7 @@ fn validate_deposit(member: Text, token: Text, file: Bytes) -> Result<ValidReque
     })
 }
 
-/// The words of a census, validated.
+/// The fields of a census, validated.
 fn validate_census(
     member: Text,
     token: Text,
@@ -165,7 +165,7 @@ fn validate_census(
     }))
 }
 
-/// The words of a request for a total, validated.
+/// The fields of a request for a total, validated.
 fn validate_total(rule: Bytes, code: Bytes, limit: u64) -> Result<ValidRequest, Refusal>
     ensures value { result ≡ validated (ask.Total rule code limit) }
     ensures within { IfOk result IsGood }
@@ -177,7 +177,7 @@ fn validate_total(rule: Bytes, code: Bytes, limit: u64) -> Result<ValidRequest, 
     }
 }
 
-/// The request with its words validated, in the order member, token, limits, rule. It allocates nothing.
+/// Validates the fields of a request, in the order member, token, limits, rule. It allocates nothing.
 pub(crate) fn validate(request: Request) -> Result<ValidRequest, Refusal>
     ensures value { result ≡ validated request }
     ensures within { IfOk result IsGood }

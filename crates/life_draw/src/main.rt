@@ -15,7 +15,7 @@ fn main(rt: HostRuntime) -> io::Result<ExitCode> {
     };
     let picture = match read_words(rt.alloc(), words.as_slice()) {
         Ok(picture) => picture,
-        // Each picture is one of a pattern that comes in.
+        // Each picture is one of the pattern on standard input.
         Err(fault) => {
             return print_fault_of(&rt, fault, words.as_slice(), |words| {
                 read_words(rt.alloc(), words).is_ok()

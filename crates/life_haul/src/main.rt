@@ -1,4 +1,4 @@
-//! The program `life-haul`: random soups by the thousand, of which the objects are counted, and each soup.
+//! The program `life-haul`: counts the objects in random soups, and prints single soups.
 #![tactic(auto)]
 
 mod progress;
@@ -11,7 +11,7 @@ use progress::Progress;
 use std::io;
 use std::process::ExitCode;
 
-/// Puts the haul of these words on standard output, and shows how far it is.
+/// Writes the haul with these arguments to standard output, and shows the progress.
 fn put_haul(rt: &HostRuntime, haul: HaulWords<'_>) -> io::Result<ExitCode> {
     let mut output = FromWrite::new(io::writer(rt));
     let mut progress = Progress::begin(rt);
@@ -24,7 +24,7 @@ fn put_haul(rt: &HostRuntime, haul: HaulWords<'_>) -> io::Result<ExitCode> {
     }
 }
 
-/// Puts the soup of these words on standard output.
+/// Writes the soup with these arguments to standard output.
 fn put_soup(rt: &HostRuntime, soup: SoupWords<'_>) -> io::Result<ExitCode> {
     let mut output = FromWrite::new(io::writer(rt));
     match run_soup(rt.alloc(), soup, &mut output) {

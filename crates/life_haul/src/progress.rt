@@ -1,22 +1,22 @@
-//! The line that says on a terminal how far a haul is.
+//! The progress line of a haul on a terminal.
 
 use life_hauls::Watch;
 use std::io::IsTerminal;
 use std::time::Instant;
 
-/// How far a haul is, in a line on standard error that is written anew at most once a second. If standard error is no terminal, nothing is
-/// written; nor is it if there is no clock, or if a write fails.
+/// The progress of a haul, as a line on standard error that is updated at most once a second. Nothing is written if standard error is not a
+/// terminal, if there is no clock, or if a write fails.
 #[derive(Drop)]
 pub struct Progress<'a> {
     rt: &'a HostRuntime,
-    /// When the haul began, if the line is to be written.
+    /// When the haul began, if the line is shown.
     began: Option<Instant>,
-    /// How many whole seconds had passed as the line was written; 0 if there is no line.
+    /// How many whole seconds had passed when the line was last written; 0 if there is no line.
     shown: u64,
 }
 
 impl<'a> Progress<'a> {
-    /// The progress of a haul that begins now.
+    /// The progress of a haul that starts now.
     pub fn begin(rt: &'a HostRuntime) -> Progress<'a> {
         let began = if rt.stderr().is_terminal() {
             Instant::now(rt).ok()
@@ -30,7 +30,7 @@ impl<'a> Progress<'a> {
         }
     }
 
-    /// Removes the line, if it is there.
+    /// Removes the line, if there is one.
     pub fn clear(&mut self) {
         if self.shown != 0 {
             self.shown = 0;
@@ -38,7 +38,7 @@ impl<'a> Progress<'a> {
         }
     }
 
-    /// Writes the line in the place of the last one. What is left takes as long for each soup as what is done.
+    /// Replaces the line. The estimate assumes that the remaining soups take as long each as those done.
     fn write(&mut self, done: u64, count: u64, seconds: u64) {
         let spent = count.saturating_sub(done).saturating_mul(seconds);
         if let (Some(speed), Some(left)) = (done.checked_div(seconds), spent.checked_div(done)) {

@@ -1,4 +1,4 @@
--- Hauls: how often each code stands in the fields of many soups, and the first soup that has it (Catagolue, "haul" and "census").
+-- Hauls: how often each code occurs in the fields of many soups, and the first soup that has it (Catagolue, "haul" and "census").
 use Rattle.std.specs.Prelude.{ℕ, zero, suc, ◌+◌, min, Bool, true, false, List, [], ◌∷◌, ◌++◌, map, length, sum_by, count_by, filter, Option, None, Some, option_map, is_none, refl}
 use Rattle.std.specs.Coded.{Coded, code_by, coded×, coded_ℕ, coded_list, coded_option}
 use Rattle.std.specs.List.{filter_map, flat_map, range_with_len}
@@ -13,13 +13,13 @@ use Rattle.life_hauls.specs.declared.rows.HaulRow.{HaulRow}
 use Rattle.life_hauls.specs.declared.symmetry.Symmetry.{Symmetry}
 use Rattle.life_hauls.specs.Soups.{soup_of}
 
--- ---- what a haul holds
+-- ---- the content of a haul
 
--- a row as its code and what was seen of it
+-- a row as its code and its sighting
 abbrev pub row_seen : {A : Type 0} → HaulRow A → List ℕ × Sighting
 row_seen r = (r.code, r.seen)
 
--- codes with what was seen of them, what was seen of clusters that have no code, how many soups there were, and how many clusters
+-- codes with their sightings, the sighting of clusters without a code, the number of soups, and the number of clusters
 pub record HaulCounts : Type 0 where
   pub rows : List (List ℕ × Sighting)
   pub unresolved : Option Sighting
@@ -39,9 +39,9 @@ coded_counts =
     (λ p. record { rows = p.0; unresolved = p.1.0; soups = p.1.1.0; total = p.1.1.1 })
     (λ _. refl)
 
--- ---- what is seen in soups
+-- ---- sightings in soups
 
--- the lesser of a number and another, if there is one
+-- the smaller of a number and another, if there is another
 abbrev pub lesser_number : ℕ → Option ℕ → ℕ
 lesser_number n None = n
 lesser_number n (Some m) = min n m
@@ -56,11 +56,11 @@ abbrev pub is_positive : ℕ → Bool
 is_positive zero = false
 is_positive (suc n) = true
 
--- where soup i has f i of something: how many the soups of these numbers have, and the least of the numbers whose soup has one; none if no soup has
+-- if soup i has f i of something: how many the soups with these numbers have, and the least number whose soup has one; None if no soup has any
 unfoldable pub seen : (ℕ → ℕ) → List ℕ → Option Sighting
 seen f ns = option_map (λ i. record { count = sum_by f ns; first = i }) (least_number (filter (λ i. is_positive (f i)) ns))
 
--- each text of a list of which f says something, with what it says, in byte order and each once
+-- each text of a list for which f has a value, with that value, in byte order and each once
 unfoldable pub rows_by : (List ℕ → Option Sighting) → List (List ℕ) → List (List ℕ × Sighting)
 rows_by f ts = table.entries (table.from_entries {R = row_cmp} (filter_map (λ t. option_map (λ s. (t, s)) (f t)) ts))
 
@@ -68,12 +68,12 @@ rows_by f ts = table.entries (table.from_entries {R = row_cmp} (filter_map (λ t
 abbrev pub both : Sighting → Sighting → Sighting
 both a b = record { count = a.count + b.count; first = min a.first b.first }
 
--- a sighting with another before it, if there is one
+-- a sighting joined with an earlier one, if there is one
 abbrev pub more : Option Sighting → Sighting → Sighting
 more None s = s
 more (Some a) s = both a s
 
--- what was seen in two hauls
+-- the sightings of two hauls, joined
 abbrev pub joined : Option Sighting → Option Sighting → Option Sighting
 joined a None = a
 joined a (Some s) = Some (more a s)
@@ -82,7 +82,7 @@ joined a (Some s) = Some (more a s)
 abbrev pub texts_in : List (Option (List ℕ)) → List (List ℕ)
 texts_in os = filter_map (λ o. o) os
 
--- what is counted over the soups of these numbers, where `codes i` is the list of the codes of the clusters of soup i, with none for each that has none
+-- the counts over the soups with these numbers; `codes i` is the list of the codes of the clusters of soup i, with None for a cluster without a code
 unfoldable pub counts_over : (ℕ → List (Option (List ℕ))) → List ℕ → HaulCounts
 counts_over codes ns = record {
   rows = rows_by (λ t. seen (λ i. how_often t (texts_in (codes i))) ns) (flat_map (λ i. texts_in (codes i)) ns);
@@ -91,7 +91,7 @@ counts_over codes ns = record {
   total = sum_by (λ i. length (codes i)) ns;
 }
 
--- two hauls as one, as they are added up from what several machines counted
+-- the sum of two hauls, for hauls that several machines have counted
 unfoldable pub together : HaulCounts → HaulCounts → HaulCounts
 together a b = record {
   rows = rows_by (λ t. joined (table.find row_cmp t a.rows) (table.find row_cmp t b.rows)) (map (λ e. e.0) (a.rows ++ b.rows));
@@ -104,6 +104,6 @@ together a b = record {
 abbrev pub soup_codes : Symmetry → List ℕ → RuleSets → ℕ → ℕ → ℕ → List (Option (List ℕ))
 soup_codes s root rule n limit i = map (λ P. code_of rule P limit) (clusters_of (generation_of rule (soup_of s root i) n))
 
--- the haul over so many soups, from a first number on
+-- the haul over this many soups, from a first number on
 abbrev pub haul_of : Symmetry → List ℕ → RuleSets → ℕ → ℕ → ℕ → ℕ → HaulCounts
 haul_of s root rule n limit first count = counts_over (soup_codes s root rule n limit) (range_with_len first count)

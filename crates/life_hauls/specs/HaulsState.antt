@@ -1,4 +1,4 @@
--- What is counted soup by soup, and two hauls as one.
+-- Counting soup by soup, and the sum of two hauls.
 use Rattle.std.specs.Prelude.{◌≡◌, ◌≢◌, ℕ, ◌+◌, ◌<◌, ◌≤◌, List, fold, length, slice_index_or, Option, None, Some}
 use Rattle.std.specs.declared.cmp.Ordering.TheVariants.{Less, Equal, Greater}
 use Rattle.std.specs.FinMap as table
@@ -28,11 +28,11 @@ with_codes i h os = fold (with_code i) h os
 abbrev pub with_soup : ℕ → HaulCounts → List (Option (List ℕ)) → HaulCounts
 with_soup i h os = record (with_codes i h os) { soups = h.soups + 1 }
 
--- the rows before place i have lesser codes
+-- the rows before place i have smaller codes
 abbrev pub AreBelow : {A : Type 0} → List (HaulRow A) → List ℕ → ℕ → Type 0
 AreBelow {A} rows t i = (k : ℕ) (d : HaulRow A) → k < i → row_cmp t (slice_index_or rows k d).code ≡ Greater
 
--- the rows from place i on have no lesser codes
+-- the rows from place i on have no smaller codes
 abbrev pub AreNotBelow : {A : Type 0} → List (HaulRow A) → List ℕ → ℕ → Type 0
 AreNotBelow {A} rows t i = (k : ℕ) (d : HaulRow A) → i ≤ k → k < length rows → row_cmp t (slice_index_or rows k d).code ≢ Greater
 

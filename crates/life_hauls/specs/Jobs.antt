@@ -1,4 +1,4 @@
--- What `life-haul` puts.
+-- What `life-haul` writes.
 use Rattle.std.specs.Prelude.{◌≡◌, ◌≤◌, ◌<◌, ℕ, ◌+◌, List, length, nat_le, Bool, true, ◌&&◌, Option, Result, Ok, Err}
 use Rattle.std.specs.List.{list_all}
 use Rattle.life_core.specs.Rule.{RuleSets}
@@ -24,7 +24,7 @@ is_graphic b = nat_le 33 b && nat_le b 126
 abbrev pub IsRoot : List ℕ → Type 0
 IsRoot root = (1 ≤ length root) × (length root ≤ 64) × (list_all is_graphic root ≡ true)
 
--- words of a haul that may be asked for, its rule aside
+-- valid arguments of a haul, apart from its rule
 pub record MayBeAsked (words : HaulWords) : Type 0 where
   pub root : IsRoot words.root.now
   pub first : words.first ≤ FIRST_LIMIT
@@ -32,20 +32,20 @@ pub record MayBeAsked (words : HaulWords) : Type 0 where
   pub few : words.count ≤ COUNT_LIMIT
   pub numbers : AreCensusNumbers words.n words.limit
 
--- the table of the haul of these words under a rule
+-- the table of the haul with these arguments under a rule
 abbrev pub haul_text : HaulWords → RuleSets → List ℕ
 haul_text words rule = csv_text words.symmetry words.root.now rule words.n words.limit words.first (haul_of words.symmetry words.root.now rule words.n words.limit words.first words.count)
 
--- words of a soup that may be asked for, its rule aside: a haul may count this soup
+-- valid arguments of a soup, apart from its rule: a haul may count this soup
 pub record MaySoupBeAsked (words : SoupWords) : Type 0 where
   pub root : IsRoot words.root.now
   pub number : words.number < FIRST_LIMIT + COUNT_LIMIT
 
--- the pattern file of the soup of these words under a rule
+-- the pattern file of the soup with these arguments under a rule
 abbrev pub soup_text : SoupWords → RuleSets → List ℕ
 soup_text words rule = text (plain rule (soup_of words.symmetry words.root.now words.number))
 
--- what is put by a job whose words may be asked for, by the text of a rule: what is to be put under this rule, or a beginning of it before a put that failed
+-- what a job with valid arguments puts, given the text of a rule: the wanted text under this rule, or a prefix of it before a put that failed
 abbrev pub PutsUnderRule : Type 0 → List ℕ → (RuleSets → List ℕ) → Option (List ℕ) → Option (List ℕ) → Result (Unit {0}) Stop → Type 0
 PutsUnderRule MayBe rule wanted old new (Ok done) = MayBe × ((sets : RuleSets) × (read_rule rule ≡ Ok sets) × Gains old new (wanted sets))
 PutsUnderRule MayBe rule wanted old new (Err OutOfLimit) = ¬ MayBe
@@ -54,10 +54,10 @@ PutsUnderRule MayBe rule wanted old new (Err Unavailable) = Unit {0}
 PutsUnderRule MayBe rule wanted old new (Err Unwritable) = MayBe × ((sets : RuleSets) × (read_rule rule ≡ Ok sets) × GainsSome old new (wanted sets))
 PutsUnderRule MayBe rule wanted old new (Err stop) = ⊥
 
--- what is put for the words of a haul: its table
+-- what is put for the arguments of a haul: its table
 abbrev pub PutsHaul : HaulWords → Option (List ℕ) → Option (List ℕ) → Result (Unit {0}) Stop → Type 0
 PutsHaul words = PutsUnderRule (MayBeAsked words) words.rule.now (haul_text words)
 
--- what is put for the words of a soup: its pattern file
+-- what is put for the arguments of a soup: its pattern file
 abbrev pub PutsSoup : SoupWords → Option (List ℕ) → Option (List ℕ) → Result (Unit {0}) Stop → Type 0
 PutsSoup words = PutsUnderRule (MaySoupBeAsked words) words.rule.now (soup_text words)

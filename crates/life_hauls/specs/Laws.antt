@@ -17,34 +17,34 @@ use Rattle.life_hauls.specs.Soups.{soup_of}
 
 -- ---- many machines
 
--- The haul over two ranges, one after the other, is what the hauls over each are together ..
+-- The haul over two adjacent ranges is the sum of the hauls over each ..
 abbrev pub HaulsAddUp : Type 0
 HaulsAddUp = (s : Symmetry) (root : List ℕ) (rule : RuleSets) (n limit first a b : ℕ) → haul_of s root rule n limit first (a + b) ≡ together (haul_of s root rule n limit first a) (haul_of s root rule n limit (first + a) b)
 
--- .. which has of each code what both have of it: the counts add up, and the first soup is the lesser ..
+-- .. which joins the sightings of each code: the counts add up, and the first soup is the smaller ..
 abbrev pub TogetherByCodes : Type 0
 TogetherByCodes = (a b : HaulCounts) (code : List ℕ) → table.find row_cmp code (together a b).rows ≡ joined (table.find row_cmp code a.rows) (table.find row_cmp code b.rows)
 
--- .. in whatever order they are taken ..
+-- .. in either order ..
 abbrev pub TogetherInAnyOrder : Type 0
 TogetherInAnyOrder = (a b : HaulCounts) → together a b ≡ together b a
 
--- .. and whichever two of them are taken together first.
+-- .. and whichever two of three are added first.
 abbrev pub TogetherInAnyGrouping : Type 0
 TogetherInAnyGrouping = (a b c : HaulCounts) → together (together a b) c ≡ together a (together b c)
 
 -- ---- sightings
 
--- how many were seen
+-- the number of clusters seen
 abbrev pub count_of : Option Sighting → ℕ
 count_of None = 0
 count_of (Some s) = s.count
 
--- The count is the sum over the soups, and the first soup has one, as does none with a lesser number ..
+-- The count is the sum over the soups; the first soup has one, and no soup with a smaller number does ..
 abbrev pub SeenIsLeast : Type 0
 SeenIsLeast = (f : ℕ → ℕ) (ns : List ℕ) (s : Sighting) → seen f ns ≡ Some s → (s.count ≡ sum_by f ns) × Contains ns s.first × (1 ≤ f s.first) × ((i : ℕ) → Contains ns i → 1 ≤ f i → s.first ≤ i)
 
--- .. and nothing is seen exactly if the sum is 0.
+-- .. and there is no sighting exactly if the sum is 0.
 abbrev pub NothingIsSeen : Type 0
 NothingIsSeen = (f : ℕ → ℕ) (ns : List ℕ) → (seen f ns ≡ None) ↔ (sum_by f ns ≡ 0)
 
@@ -58,7 +58,7 @@ soup_tally s root rule n limit i = tally_of (λ P. code_of rule P limit) (cluste
 abbrev pub count_in : List ℕ → TallyCounts → ℕ
 count_in code t = unwrap_or (table.find row_cmp code t.rows) 0
 
--- The row of a code is what was seen of it in the tallies of the soups: none, if none of them has it ..
+-- The row of a code is its sighting in the tallies of the soups; there is no row if no tally has the code ..
 abbrev pub RowsAreOfTallies : Type 0
 RowsAreOfTallies = (s : Symmetry) (root : List ℕ) (rule : RuleSets) (n limit first count : ℕ) (code : List ℕ)
     → table.find row_cmp code (haul_of s root rule n limit first count).rows ≡ seen (λ i. count_in code (soup_tally s root rule n limit i)) (range_with_len first count)
@@ -67,7 +67,7 @@ RowsAreOfTallies = (s : Symmetry) (root : List ℕ) (rule : RuleSets) (n limit f
 abbrev pub RowsAscend : Type 0
 RowsAscend = (s : Symmetry) (root : List ℕ) (rule : RuleSets) (n limit first count : ℕ) → IsStrictlySortedBy row_cmp (map (λ (row : List ℕ × Sighting). row.0) (haul_of s root rule n limit first count).rows)
 
--- .. what was seen without a code is what the tallies have ..
+-- .. the sighting without a code is that of the tallies ..
 abbrev pub UnresolvedAreOfTallies : Type 0
 UnresolvedAreOfTallies = (s : Symmetry) (root : List ℕ) (rule : RuleSets) (n limit first count : ℕ)
     → (haul_of s root rule n limit first count).unresolved ≡ seen (λ i. (soup_tally s root rule n limit i).unresolved) (range_with_len first count)
@@ -79,7 +79,7 @@ ClustersCountOnce = (s : Symmetry) (root : List ℕ) (rule : RuleSets) (n limit 
     ≡ sum_by (λ i. (soup_tally s root rule n limit i).total) (range_with_len first count))
     × ((haul_of s root rule n limit first count).total ≡ sum_by (λ i. (soup_tally s root rule n limit i).total) (range_with_len first count))
 
--- What a table says of its sums holds: the clusters are the counts of all rows, those without a code with them, and the soups are those of the range.
+-- The sums of a table are right: the clusters are the sum of all rows, including those without a code, and the soups are those of the range.
 abbrev pub SumsAreCounts : Type 0
 SumsAreCounts = (s : Symmetry) (root : List ℕ) (rule : RuleSets) (n limit first count : ℕ)
     → ((haul_of s root rule n limit first count).total ≡ sum_by (λ (row : List ℕ × Sighting). row.1.count) (haul_of s root rule n limit first count).rows + count_of (haul_of s root rule n limit first count).unresolved)

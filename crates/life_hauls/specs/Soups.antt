@@ -1,4 +1,4 @@
--- Soups: random fields as the field's search programs make them (apgsearch, Catagolue: the SHA-256 digest of a seed, bit by bit), by their symmetry.
+-- Soups: random fields as soup search programs make them (apgsearch, Catagolue: the SHA-256 digest of a seed, bit by bit), with their symmetries.
 use Rattle.std.specs.Prelude.{◌≡◌, ◌⊎◌, ◌<◌, ℕ, ◌+◌, ◌-◌, ◌*◌, ◌/◌, ◌%◌, ◌^◌, pos, negsuc, neg_ℤ, ◌-ℤ◌, Bool, true, ◌==◌, if◌then◌else◌, List, ◌++◌, map, filter, slice_index, Option, None, Some, codes, bytes_eq}
 use Rattle.std.specs.Fmt.{decimal}
 use Rattle.std.specs.List.{range_with_len}
@@ -13,7 +13,7 @@ use Rattle.life_hauls.specs.declared.symmetry.Mirror.TheVariants.{OnRow, Between
 
 -- ---- symmetries
 
--- what a symmetry is: its name in the field, how many cells a row has, and the mirror whose image is added, if there is one
+-- a symmetry: its usual name, how many cells a row has, and the mirror whose image is added, if there is one
 pub record SymmetryRow : Type 0 where
   pub name : List ℕ
   pub width : ℕ
@@ -56,7 +56,7 @@ mirrored BetweenRows c = record { row = negsuc 0 -ℤ c.row; column = c.column }
 
 -- ---- soups
 
--- whether the bit at place p of some bytes is 1, of each byte the highest bit first
+-- whether the bit at place p of some bytes is 1; the highest bit of each byte comes first
 abbrev pub bit_at : List ℕ → ℕ → Bool
 bit_at bytes p = (slice_index bytes (p / 8) / 2 ^ (7 - p % 8)) % 2 == 1
 
@@ -83,19 +83,19 @@ soup_of s root i = set.from_list (soup_cells s (sha256 (root ++ decimal i)))
 
 -- ---- what makes this definition believable
 
--- A symmetry is the one of its name ..
+-- A symmetry is the one with its name ..
 abbrev pub NamesAreRead : Type 0
 NamesAreRead = (s : Symmetry) → symmetry_named (symmetry_name s) ≡ Some s
 
--- .. and of no other name.
+-- .. and with no other name.
 abbrev pub NamesAreOne : Type 0
 NamesAreOne = (name : List ℕ) (s : Symmetry) → symmetry_named name ≡ Some s → name ≡ symmetry_name s
 
--- how many bytes have the bits of a row
+-- how many bytes hold the bits of a row
 abbrev pub row_bytes : Symmetry → ℕ
 row_bytes s = width s / 8
 
--- Where b bytes are a row, bit k of byte j, the highest bit first, is the cell at column k + 8 * (j % b) of row j / b ..
+-- If b bytes are a row, bit k of byte j, the highest bit first, is the cell at column k + 8 * (j % b) of row j / b ..
 abbrev pub BitsAreCells : Type 0
 BitsAreCells = (s : Symmetry) (root : List ℕ) (i j k : ℕ) → j < 32 → k < 8
     → set.contains (soup_of s root i) (record { row = pos (j / row_bytes s); column = pos (k + 8 * (j % row_bytes s)) }) ≡ ((slice_index (sha256 (root ++ decimal i)) j / 2 ^ (7 - k)) % 2 == 1)
@@ -109,7 +109,7 @@ abbrev pub IsCellOrImage : Option Mirror → Cell → Cell → Type 0
 IsCellOrImage None d c = c ≡ d
 IsCellOrImage (Some m) d c = (c ≡ d) ⊎ (c ≡ mirrored m d)
 
--- .. and all cells lie in the field of 256 cells or are mirror images of such.
+-- .. and all cells lie in the field of 256 cells or are mirror images of such cells.
 abbrev pub SoupsAreFields : Type 0
 SoupsAreFields = (s : Symmetry) (root : List ℕ) (i : ℕ) (c : Cell) → set.contains (soup_of s root i) c ≡ true
     → (x : ℕ) × (y : ℕ) × (x < width s) × (y < 256 / width s) × IsCellOrImage (mirror s) (record { row = pos y; column = pos x }) c

@@ -1,4 +1,4 @@
--- The table of a haul: what it is of, what was counted as comma-separated values (RFC 4180, with a header line; lines end in a line feed alone), and the sums.
+-- The table of a haul: its arguments, the counts as comma-separated values (RFC 4180, with a header line; lines end in a line feed alone), and the sums.
 use Rattle.std.specs.Prelude.{ℕ, List, [], ◌∷◌, ◌++◌, codes, Option, None, Some}
 use Rattle.std.specs.Fmt.{decimal}
 use Rattle.std.specs.List.{flat_map}
@@ -20,7 +20,7 @@ unfoldable pub symmetry_line : Symmetry → List ℕ
 symmetry_line C1 = []
 symmetry_line s = named (codes "# symmetry ") (symmetry_name s)
 
--- what a haul is of, a line each: the root, the text of the rule, the generation, the limit of the period, and the symmetry
+-- the arguments of a haul, a line each: the root, the text of the rule, the generation, the limit on the period, and the symmetry
 abbrev pub heading : Symmetry → List ℕ → List ℕ → ℕ → ℕ → List ℕ
 heading s root rule n limit = named (codes "# root ") root ++ named (codes "# rule ") rule ++ named (codes "# generation ") (decimal n) ++ named (codes "# limit ") (decimal limit) ++ symmetry_line s
 
@@ -28,20 +28,20 @@ heading s root rule n limit = named (codes "# root ") root ++ named (codes "# ru
 abbrev pub sighting_text : Sighting → List ℕ
 sighting_text s = decimal s.count ++ comma ∷ decimal s.first
 
--- the same, if nothing may have been seen
+-- the same, if there may be no sighting
 abbrev pub unresolved_text : Option Sighting → List ℕ
 unresolved_text None = codes "0,"
 unresolved_text (Some s) = sighting_text s
 
--- a line: a text, a comma, what was seen of it, and a line feed
+-- a line: a text, a comma, its sighting, and a line feed
 abbrev pub line : List ℕ × Sighting → List ℕ
 line row = row.0 ++ comma ∷ sighting_text row.1 ++ line_feed ∷ []
 
--- a line of names, a line for each code with what was seen of it, and a line with what was seen of clusters without a code
+-- a header, a line for each code with its sighting, and a line with the sighting of clusters without a code
 abbrev pub counts_text : HaulCounts → List ℕ
 counts_text h = codes "code,count,first\n" ++ flat_map line h.rows ++ codes "unresolved," ++ unresolved_text h.unresolved ++ codes "\n"
 
--- how many clusters there were; and how many soups, with the number of the first
+-- the number of clusters; and the number of soups, with that of the first
 abbrev pub sums_text : ℕ → HaulCounts → List ℕ
 sums_text first h = codes "clusters," ++ decimal h.total ++ codes ",\nsoups," ++ decimal h.soups ++ comma ∷ decimal first ++ codes "\n"
 

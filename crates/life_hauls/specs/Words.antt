@@ -1,6 +1,6 @@
--- The words of the command line of `life-haul`, and the job that they name.
--- What a command is, which words it takes and what it reads of them is said by the kit's `clap`; the names of the
--- words are the program's own.
+-- The arguments of `life-haul`, and the job that they name.
+-- The kit's `clap` defines what a command is, which arguments it takes and what it reads in them; the names of the
+-- arguments are the program's own.
 use Rattle.std.specs.Prelude.{ℕ, Bool, true, ◌||◌, is_some, if◌then◌else◌, List, Option, None, Some, option_and_then, codes, bytes_eq}
 use Rattle.clap.specs.Words.{App, Row, Rule, Text, new_app, new_rule, with_rule, with_subcommand}
 use Rattle.clap.specs.Simple.{on_top}
@@ -23,7 +23,7 @@ symmetry_rule = record (new_rule (codes "NAME")) { long = Some (codes "symmetry"
 abbrev pub soup_app : App
 soup_app = with_rule (with_rule (with_rule (with_rule (new_app (codes "soup")) (text_rule (codes "ROOT"))) (number_rule (codes "NUMBER"))) rule_rule) symmetry_rule
 
--- the program's name; with a subcommand it wants no words of its own, and it has no subcommand `help`
+-- the program's name; with a subcommand it requires no arguments of its own, and it has no subcommand `help`
 abbrev pub haul_alone : App
 haul_alone = on_top (λ top. record top { disable_help_subcommand = true }) (on_top (λ top. record top { subcommand_negates_reqs = true }) (with_version (new_app (codes "life-haul"))))
 
@@ -38,7 +38,7 @@ haul_app =
 
 -- ---- the job
 
--- a job with the texts of its words
+-- a job with the texts of its arguments
 pub data Asked : Type 0 where
   AsksHaul : (root : Text) (first count : ℕ) (rule : Text) (symmetry : Symmetry) (n limit : ℕ) → Asked
   AsksSoup : (root : Text) (number : ℕ) (rule : Text) (symmetry : Symmetry) → Asked
@@ -48,27 +48,27 @@ abbrev pub asked_by : Job → Asked
 asked_by (Haul words) = AsksHaul words.root.now words.first words.count words.rule.now words.symmetry words.n words.limit
 asked_by (Soup words) = AsksSoup words.root.now words.number words.rule.now words.symmetry
 
--- the text of a rule, or that of Conway's Life if there is none
+-- the text of a rule, or that of Conway's Life if no rule is given
 abbrev pub rule_or_life : Option Text → Text
 rule_or_life None = codes "B3/S23"
 rule_or_life (Some rule) = rule
 
--- the symmetry of a name, or C1 if there is none
+-- the symmetry of a name, or C1 if no name is given
 abbrev pub symmetry_or_c1 : Option Text → Option Symmetry
 symmetry_or_c1 None = Some C1
 symmetry_or_c1 (Some name) = symmetry_named name
 
--- the haul of these words, if all of them are there
+-- the haul with these arguments, if all of them are given
 abbrev pub haul_of_words : Option Text → Option ℕ → Option ℕ → Text → Option Symmetry → Option ℕ → Option ℕ → Option Asked
 haul_of_words (Some root) (Some first) (Some count) rule (Some symmetry) (Some n) (Some limit) = Some (AsksHaul root first count rule symmetry n limit)
 haul_of_words root first count rule symmetry n limit = None
 
--- the haul of the words that were found
+-- the haul of the arguments that were found
 abbrev pub haul_in : List Row → Option Asked
 haul_in rows =
     haul_of_words (text_at (codes "ROOT") rows) (number_at (codes "FIRST") rows) (number_at (codes "COUNT") rows) (rule_or_life (text_at (codes "RULE") rows)) (symmetry_or_c1 (text_at (codes "NAME") rows)) (number_at (codes "N") rows) (number_at (codes "LIMIT") rows)
 
--- the soup of the words that were found after the name of the subcommand
+-- the soup of the arguments that were found after the name of the subcommand
 abbrev pub soup_in : List Row → Option Asked
 soup_in rows =
     if_all (λ root number symmetry. AsksSoup root number (rule_or_life (text_at (codes "RULE") rows)) symmetry) (text_at (codes "ROOT") rows) (number_at (codes "NUMBER") rows) (symmetry_or_c1 (text_at (codes "NAME") rows))
@@ -81,11 +81,11 @@ job_named name rows = if bytes_eq name (codes "soup") then soup_in rows else Non
 abbrev pub is_any_before : List Row → Bool
 is_any_before rows = is_some (text_at (codes "ROOT") rows) || (is_some (text_at (codes "RULE") rows) || is_some (text_at (codes "NAME") rows))
 
--- the job of the words that were found, and of those of the subcommand that was met: this one is named before all other words
+-- the job of the arguments that were found, and of the given subcommand, whose name has to come first
 abbrev pub job_of : List Row → Option (Text × List Row) → Option Asked
 job_of rows None = haul_in rows
 job_of rows (Some met) = if is_any_before rows then None else job_named met.0 met.1
 
--- the job that the words name, the program's name first
+-- the job that the arguments name, the program's name first
 unfoldable pub words_job : List Text → Option Asked
 words_job words = option_and_then (λ found. job_of found.0 found.1) (matches_in haul_app words)

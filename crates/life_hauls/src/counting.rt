@@ -1,4 +1,4 @@
-//! Counting the codes of soup after soup.
+//! Counting the codes of one soup after another.
 ghost use Rattle.std.specs.Prelude.{◌≡◌, ◌≤◌, T, length, map, OnOk, IfOk, MatchResult};
 ghost use Rattle.std.specs.FinMap as table;
 ghost use Rattle.std.specs.Ordering.{is_gt};
@@ -12,7 +12,7 @@ use life_core::Fault;
 use std::alloc::{AllocError, Allocator};
 use std::cmp::Ordering;
 
-/// What was seen of something, with one more in a soup.
+/// A sighting with one more cluster, in this soup.
 fn more(seen: Option<Sighting>, number: u64) -> Result<Sighting, AllocError>
     ensures { IfOk result (λ s. s ≡ more seen (once number)) }
 {
@@ -81,14 +81,14 @@ fn first_not_below<A: Allocator>(rows: &[HaulRow<A>], code: &[u8]) -> usize
     rows.partition_point(|row| is_below(row, code))
 }
 
-/// Whether the row has a lesser code.
+/// Whether the row has a smaller code.
 fn is_below<A: Allocator>(row: &HaulRow<A>, code: &[u8]) -> bool
     ensures { result ≡ is_gt (row_cmp code.now row.now.code) }
 {
     code.cmp(row.code.as_bytes()).is_gt()
 }
 
-/// Counts one more cluster of a soup, by its code, or without one.
+/// Counts one more cluster of a soup, with its code or without one.
 fn count_cluster<A: Allocator + Copy>(
     alloc: A,
     haul: &mut Haul<A>,

@@ -16,11 +16,11 @@ use life_code::{PERIOD_LIMIT, settled_generation};
 use life_core::{Fault, GENERATION_LIMIT, Rule};
 use std::alloc::Allocator;
 
-/// After how many soups the shapes that were met are forgotten. A haul meets shapes without a code over and over, each of them once: if all
-/// were stored, its memory would grow with the number of soups. Naming the usual shapes anew takes some hundredths of the time of so many soups.
+/// After this many soups, the remembered shapes are dropped. A haul meets ever new shapes without a code, so storing all of them would take
+/// memory proportional to the number of soups. Naming the usual shapes again takes a few hundredths of the time for this many soups.
 const SOUPS_REMEMBERED: u64 = 4_096;
 
-/// Forgets the shapes that were met, if it is time after so many soups.
+/// Drops the remembered shapes, if it is time after this many soups.
 fn forget<A: Allocator + Copy>(alloc: A, rule: &Rule, limit: u32, names: &mut Names<A>, soups: u64)
     requires from_one { 1 ≤ limit }
     requires few { limit ≤ PERIOD_LIMIT }
@@ -52,7 +52,7 @@ fn codes_of_soup<A: Allocator + Copy>(
 }
 
 /// The haul over `count` soups of a symmetry and a root text, from the number `first` on: how many clusters of their generation `n` have each code under
-/// the rule and the limit of the period, and the number of the first soup that has one. After each soup the watch hears how many there are.
+/// the rule and the limit on the period, and the number of the first soup with one. After each soup, the watch is called with the progress.
 pub fn haul<A: Allocator + Copy, W: Watch>(
     alloc: A,
     symmetry: Symmetry,

@@ -23,26 +23,26 @@ pub const COUNT_LIMIT: u64 = 1_000_000;
 /// The greatest number of a haul's first soup: 2 to the power 53.
 pub const FIRST_LIMIT: u64 = 9_007_199_254_740_992;
 
-/// What the arguments of a haul name, before any of it is checked.
+/// The arguments of a haul, unchecked.
 #[derive(Clone, Copy, Debug, PartialEq, Eq)]
 pub struct HaulWords<'a> {
     /// The root text, from 1 to 64 bytes of graphic ASCII.
     pub root: &'a str,
     /// The number of the first soup.
     pub first: u64,
-    /// How many soups there are.
+    /// The number of soups.
     pub count: u64,
     /// The text of the rule.
     pub rule: &'a str,
     /// The symmetry of the soups.
     pub symmetry: Symmetry,
-    /// The generation of which the clusters are counted.
+    /// The generation whose clusters are counted.
     pub n: u64,
-    /// The limit of the period.
+    /// The limit on the period.
     pub limit: u64,
 }
 
-/// What the arguments of a soup name, before any of it is checked.
+/// The arguments of a soup, unchecked.
 #[derive(Clone, Copy, Debug, PartialEq, Eq)]
 pub struct SoupWords<'a> {
     /// The root text, from 1 to 64 bytes of graphic ASCII.
@@ -65,7 +65,7 @@ fn between(least: u32, number: u64, most: u32) -> Option<u32>
     }
 }
 
-/// Whether the bytes are a root text.
+/// Whether the bytes are a valid root text.
 fn is_root(root: &[u8]) -> bool
     ensures { IsTrue result ↔ IsRoot root.now }
 {
@@ -92,7 +92,7 @@ fn is_graphic(byte: u8) -> bool
     byte.is_ascii_graphic()
 }
 
-/// The numbers and the root of a haul that may be asked for.
+/// The numbers and the root of a haul, if they are valid.
 fn numbers(words: HaulWords<'_>) -> Option<(u32, u32)>
     ensures { MatchOption result (¬ MayBeAsked words.entry) (λ found. MayBeAsked words.entry × (found.0 ≡ words.entry.n) × (found.1 ≡ words.entry.limit)) }
 {
@@ -137,7 +137,7 @@ fn table<W: Watch>(
     csv(alloc, symmetry, root, rule, n, limit, first, &haul)
 }
 
-/// Puts the table of the haul of the words. The numbers and the root are judged before the rule. The watch hears how far the haul is.
+/// Writes the table of the haul that the arguments name. It checks the numbers and the root before the rule. The watch gets the progress.
 pub fn run_haul<O: Outlet, W: Watch>(
     alloc: Global,
     words: HaulWords<'_>,
@@ -146,7 +146,7 @@ pub fn run_haul<O: Outlet, W: Watch>(
 ) -> Result<(), Stop>
     ensures limit { (result ≡ Err Stop.OutOfLimit) ↔ ¬ MayBeAsked words.entry }
     ensures rule { (result ≡ Err Stop.BadRule) ↔ MayBeAsked words.entry × RefusesRule words.entry.rule.now }
-    // What is put is the text of the haul that the words name.
+    // The output is the table of the haul that the arguments name.
     ensures puts { PutsHaul words.entry (O.already output.old) (O.already output.new) result }
     ensures once { PutsOnce output.old output.new (O.failures output.old) (O.failures output.new) (O.last_failed output.new) result }
 {
@@ -162,7 +162,7 @@ pub fn run_haul<O: Outlet, W: Watch>(
     }
 }
 
-/// Whether a soup may be asked for.
+/// Whether the number and the root of a soup are valid.
 fn is_soup(words: SoupWords<'_>) -> bool
     ensures { IsTrue result ↔ MaySoupBeAsked words.entry }
 {
@@ -180,11 +180,11 @@ fn soup_file(alloc: Global, words: SoupWords<'_>, rule: Rule) -> Result<Vec<u8>,
     write(alloc, &into_plain(alloc, rule, cells))
 }
 
-/// Puts the soup of the words as canonical RLE, in normal form. The number and the root are judged before the rule.
+/// Writes the soup that the arguments name as canonical RLE, in normal form. It checks the number and the root before the rule.
 pub fn run_soup<O: Outlet>(alloc: Global, words: SoupWords<'_>, output: &mut O) -> Result<(), Stop>
     ensures limit { (result ≡ Err Stop.OutOfLimit) ↔ ¬ MaySoupBeAsked words.entry }
     ensures rule { (result ≡ Err Stop.BadRule) ↔ MaySoupBeAsked words.entry × RefusesRule words.entry.rule.now }
-    // What is put is the pattern file of the soup that the words name.
+    // The output is the pattern file of the soup that the arguments name.
     ensures puts { PutsSoup words.entry (O.already output.old) (O.already output.new) result }
     ensures once { PutsOnce output.old output.new (O.failures output.old) (O.failures output.new) (O.last_failed output.new) result }
 {

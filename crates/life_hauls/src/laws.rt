@@ -5,8 +5,8 @@ ghost use Rattle.life_hauls.specs.Laws.{HaulsAddUp, TogetherByCodes, TogetherInA
 
 use crate::jobs::{COUNT_LIMIT, FIRST_LIMIT};
 
-/// What the definition of a soup means, for each symmetry: it is read by its own name and by no other; bit by bit, which cell is live; a soup
-/// with a mirror is its own mirror image; and all cells lie in the field, or are mirror images of its cells. A law: calling it does nothing.
+/// What the definition of a soup means. Each symmetry is read from its own name and from no other. Each bit says which cell is live. A soup
+/// with a mirror is its own mirror image. All cells lie in the field, or are mirror images of its cells. A law: calling it does nothing.
 pub fn laws_of_soups()
     ensures names { NamesAreRead }
     ensures one { NamesAreOne }
@@ -15,10 +15,10 @@ pub fn laws_of_soups()
     ensures fields { SoupsAreFields }
 {}
 
-/// What the definition of a haul means. Hauls over ranges that follow one another are together the haul over all. Taking hauls together is
-/// commutative and associative, so that many machines may share a range, and their tables be added in any order. A row says of its code what the tallies of the soups say: how many clusters have
-/// it, and the least number of a soup that has one; and each cluster of each soup is counted once, so that the counts of a table add up to
-/// its clusters. A law: calling it does nothing.
+/// What the definition of a haul means. Hauls over adjacent ranges add up to the haul over the whole range. Adding hauls is commutative and
+/// associative, so several machines may share a range, and their tables may be added in any order. A row agrees with the tallies of the soups: how
+/// many clusters have its code, and the least number of a soup with one. Each cluster of each soup is counted once, so the counts of a table add
+/// up to its clusters. A law: calling it does nothing.
 pub fn laws_of_hauls()
     ensures add_up { HaulsAddUp }
     ensures by_codes { TogetherByCodes }
@@ -33,7 +33,7 @@ pub fn laws_of_hauls()
     ensures sums { SumsAreCounts }
 {}
 
-/// What the limits of a haul are. A law: calling it does nothing.
+/// The limits of a haul. A law: calling it does nothing.
 pub fn laws_of_limits()
     ensures count { COUNT_LIMIT ≡ 1_000_000 }
     ensures first { FIRST_LIMIT ≡ 2 ^ 53 }

@@ -1,4 +1,4 @@
-//! Hauls: random fields by the thousand, each from a text and a number, of which the clusters are counted code by code.
+//! Hauls: counting the clusters of many random fields by their codes. Each field comes from a text and a number.
 #![tactic(auto)]
 
 mod counting;

@@ -1,4 +1,4 @@
-//! What a haul holds: codes, each with what was seen of it.
+//! The rows of a haul: codes with their sightings.
 ghost use Rattle.std.specs.Prelude.{◌≡◌, [], None, map};
 ghost use Rattle.life_hauls.specs.Hauls.{row_seen};
 
@@ -6,22 +6,22 @@ use life_census::CodeText;
 use std::alloc::{Allocator, Global};
 use std::marker::Model;
 
-/// How many clusters there were, and the least number of a soup that has one.
+/// A sighting: how many clusters there were, and the least number of a soup with one.
 #[derive(Clone, Copy, Debug, PartialEq, Eq)]
 pub struct Sighting {
     pub count: u64,
     pub first: u64,
 }
 
-/// A code, and what was seen of it.
+/// A code and its sighting.
 #[derive(Debug, Drop)]
 pub struct HaulRow<A: Allocator = Global> {
     pub code: CodeText<A>,
     pub seen: Sighting,
 }
 
-/// What was counted over many soups: a row for each code in byte order, what was seen of clusters without a code, how many soups there
-/// were, and how many clusters.
+/// The counts over many soups: a row for each code in byte order, the sighting of clusters without a code, the number of soups, and the
+/// number of clusters.
 #[derive(Debug, Drop)]
 pub struct Haul<A: Allocator = Global> {
     pub rows: Vec<HaulRow<A>, A>,
@@ -42,7 +42,7 @@ impl<A: Allocator> Model for Haul<A> {
 }
 
 impl<A: Allocator> Haul<A> {
-    /// The haul over no soup.
+    /// The haul over no soups.
     pub(crate) fn none(alloc: A) -> Haul<A>
         ensures { result ≡ record { rows = []; unresolved = None; soups = 0; total = 0 } }
     {

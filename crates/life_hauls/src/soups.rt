@@ -1,4 +1,4 @@
-//! Soups: fields of 256 cells, each the bits of a digest.
+//! Soups: fields whose 256 cells are the bits of a digest.
 ghost use Rattle.std.specs.Prelude.{◌≡◌, ◌<◌, ◌++◌, IfOk, Some};
 ghost use Rattle.std.specs.Fmt.{decimal};
 ghost use Rattle.std.specs.List.{All};
@@ -13,8 +13,8 @@ use life_core::{Cell, Fault, Pattern};
 use sha2::{Digest, Sha256};
 use std::alloc::{AllocError, Allocator};
 
-/// The soup of this number under a root text: the field of 256 cells, row by row, of which a cell is live where the bit of the SHA-256
-/// digest of the root and the number's decimal digits is 1. The symmetry says how long a row is, and whether the mirror image is added.
+/// The soup with this number under a root text: a field of 256 cells, row by row. A cell is live if its bit is 1 in the SHA-256 digest of
+/// the root and the number's decimal digits. The symmetry says how long a row is, and whether the mirror image is added.
 pub fn soup<A: Allocator + Copy>(
     alloc: A,
     symmetry: Symmetry,
@@ -72,7 +72,7 @@ fn digest_of(root: &[u8], number: u64) -> [u8; 32]
     hasher.finalize()
 }
 
-/// The cells whose bits are 1, in rows of so many cells.
+/// The cells whose bits are 1, in rows of this many cells.
 fn live_cells<A: Allocator>(
     alloc: A,
     width: usize,
@@ -91,7 +91,7 @@ fn live_cells<A: Allocator>(
     Ok(cells)
 }
 
-/// Whether the bit of this index is 1, of each byte the highest first.
+/// Whether the bit with this index is 1; the highest bit of each byte comes first.
 fn bit_at(digest: &[u8; 32], index: usize) -> bool
     requires { index < 256 }
     ensures { result ≡ bit_at digest.now index }
@@ -99,7 +99,7 @@ fn bit_at(digest: &[u8; 32], index: usize) -> bool
     (digest[index / 8] >> (7 - index % 8)) % 2 == 1
 }
 
-/// The cell of this index in the field, row by row in rows of so many cells.
+/// The cell with this index in the field, row by row, in rows of this many cells.
 fn field_cell(width: usize, index: usize) -> Cell
     requires some { 0 < width }
     requires index { index < 256 }

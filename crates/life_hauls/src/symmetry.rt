@@ -5,7 +5,7 @@ ghost use Rattle.life_hauls.specs.Soups.{symmetry_name, symmetry_named, width, m
 
 use life_core::Cell;
 
-/// A symmetry of soups. Each is described with the name that the field's search programs have for it.
+/// A symmetry of soups. The comments give the names that soup search programs use.
 #[derive(Clone, Copy, Debug, PartialEq, Eq)]
 pub enum Symmetry {
     /// `C1`: 16 rows of 16 cells.
@@ -18,9 +18,9 @@ pub enum Symmetry {
     TwoRows,
     /// `1x256`: a row of 256 cells.
     OneRow,
-    /// `D2_+1`: the soup of `C1` with its mirror image, where row y goes to row -y.
+    /// `D2_+1`: the soup of `C1` with its mirror image, which has row y at row -y.
     D2Plus1,
-    /// `D2_+2`: the soup of `C1` with its mirror image, where row y goes to row -y - 1.
+    /// `D2_+2`: the soup of `C1` with its mirror image, which has row y at row -y - 1.
     D2Plus2,
 }
 
@@ -51,7 +51,7 @@ impl Symmetry {
         }
     }
 
-    /// The field's name of the symmetry.
+    /// The usual name of the symmetry.
     pub fn name(self) -> &'static str
         ensures { result.now ≡ symmetry_name self }
     {

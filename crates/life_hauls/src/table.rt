@@ -12,7 +12,7 @@ use life_core::{Fault, Rule};
 use std::alloc::{AllocError, Allocator};
 
 /// The table of a haul over soups of a symmetry and a root text from the number `first` on, whose generation `n` was counted under the rule
-/// and the limit of the period.
+/// and the limit on the period.
 pub fn csv<A: Allocator + Copy>(
     alloc: A,
     symmetry: Symmetry,
@@ -33,7 +33,7 @@ pub fn csv<A: Allocator + Copy>(
     Ok(out)
 }
 
-/// Writes the lines that say what the haul is of.
+/// Writes the heading, with the arguments of the haul.
 fn put_heading<A: Allocator>(
     out: &mut Vec<u8, A>,
     symmetry: Symmetry,
@@ -51,7 +51,7 @@ fn put_heading<A: Allocator>(
     put_symmetry(out, symmetry)
 }
 
-/// Writes the line of a symmetry. `C1` has none: tables had no such line before there were other symmetries, and stay as they were.
+/// Writes the line of a symmetry. `C1` has none: tables are older than the other symmetries, and did not change.
 #[tactic(auto, unfolding(crate::specs::Table::symmetry_line))]
 fn put_symmetry<A: Allocator>(out: &mut Vec<u8, A>, symmetry: Symmetry) -> Result<(), AllocError>
     ensures { OnOk result (out.new.items ≡ out.old.items ++ symmetry_line symmetry) }
@@ -86,7 +86,7 @@ fn put_number<A: Allocator>(
     Ok(())
 }
 
-/// Writes the line of names, the lines of the codes, and the line of the clusters without a code.
+/// Writes the header line, the lines of the codes, and the line of the clusters without a code.
 fn put_counts<A: Allocator>(out: &mut Vec<u8, A>, haul: &Haul<A>) -> Result<(), AllocError>
     ensures { OnOk result (out.new.items ≡ out.old.items ++ counts_text haul.now) }
 {
@@ -98,7 +98,7 @@ fn put_counts<A: Allocator>(out: &mut Vec<u8, A>, haul: &Haul<A>) -> Result<(), 
     Ok(())
 }
 
-/// Writes the lines of how many clusters and how many soups there were.
+/// Writes the lines with the numbers of clusters and of soups.
 fn put_sums<A: Allocator>(
     out: &mut Vec<u8, A>,
     first: u64,
@@ -144,7 +144,7 @@ fn put_sighting<A: Allocator>(out: &mut Vec<u8, A>, seen: Sighting) -> Result<()
     Ok(())
 }
 
-/// Writes what was seen of clusters without a code.
+/// Writes the sighting of clusters without a code.
 fn put_unresolved<A: Allocator>(
     out: &mut Vec<u8, A>,
     seen: Option<Sighting>,

@@ -1,12 +1,12 @@
-//! Who hears how far a haul is.
+//! Reporting the progress of a haul.
 
-/// What a haul tells how far it is. Nothing that the haul answers or puts depends on it.
+/// Receives the progress of a haul. Nothing that the haul returns or writes depends on it.
 pub trait Watch {
-    /// So many soups are counted, of so many.
+    /// Called when `done` of `count` soups are counted.
     fn counted(&mut self, done: u64, count: u64);
 }
 
-/// Nobody, who hears nothing.
+/// Ignores the progress.
 #[derive(Clone, Copy, Debug)]
 pub struct Unwatched;
 

@@ -1,4 +1,4 @@
-//! The words of the command line, read by `clap`.
+//! The arguments of `life-haul`, read by `clap`.
 ghost use Rattle.std.specs.Prelude.{◌≡◌, codes, map, option_map, IfOk, false};
 ghost use Rattle.clap.specs.Words.{app_of, rule_of, rows_of, found_of, subcommand_rows_of};
 ghost use Rattle.life_words.specs.Words.{text_rule, text_at, MakesCommand, Answers};
@@ -16,36 +16,36 @@ use life_words::{
 use std::alloc::{AllocError, Global};
 use std::convert::AsStr;
 
-// The forms of the command, as its help and its errors have them.
+// The forms of the command, for its help and its errors.
 const HAUL_USAGE: &str = "\
 life-haul [OPTIONS] <ROOT> <FIRST> <COUNT> <N> <LIMIT>
        life-haul soup [OPTIONS] <ROOT> <NUMBER>";
 
-// What help says after the words: what is printed and refused, and an example.
+// What help prints after the arguments: what the program prints and refuses, and an example.
 const HAUL_HELP: &str = "\
 Reads:   nothing
-Prints:  '# root ROOT', '# rule RULE', '# generation N', '# limit LIMIT', then 'code,count,first' and
-         a line 'CODE,COUNT,FIRST' for each code in byte order, and 'unresolved,COUNT,FIRST': how many
-         clusters of generation N of all soups have the code, and the number of the first soup that
-         has one; at the end 'clusters,COUNT,' and 'soups,COUNT,FIRST'. A symmetry other than C1 is
-         named after the limit: '# symmetry NAME'
+Prints:  '# root ROOT', '# rule RULE', '# generation N', '# limit LIMIT', then 'code,count,first', a
+         line 'CODE,COUNT,FIRST' for each code in byte order, and 'unresolved,COUNT,FIRST'. COUNT is
+         how many clusters in generation N of all soups have the code, FIRST the number of the first
+         soup with one. The last lines are 'clusters,COUNT,' and 'soups,COUNT,FIRST'. After the
+         limit, '# symmetry NAME' names a symmetry other than C1
 Soups:   soup I has 16 by 16 cells, row by row: the bits of the SHA-256 digest of ROOT and I.
-         With --symmetry 8x32, 4x64, 2x128 or 1x256 it has so many rows by so many cells. With D2_+1
-         it has its mirror image too, with row y at -y, and with D2_+2 at -y - 1
-Roots:   the root 'soup' is written after '--': life-haul -- soup 1 1000 2048 60
+         With --symmetry 8x32, 4x64, 2x128 or 1x256 it has that many rows by that many columns.
+         D2_+1 and D2_+2 add its mirror image, with row y at -y and at -y - 1
+Roots:   to use the root 'soup', write '--' first: life-haul -- soup 1 1000 2048 60
 Refuses: out-of-limit, bad-rule, unavailable
 Example: life-haul abc 1 1000 2048 60
 
 A refusal is one line 'refused: NAME' on standard error, with status 1.
-Bad words, and a request for help, end with status 2.";
+Usage errors and requests for help end with status 2.";
 
 const SOUP_HELP: &str = "\
 Reads:   nothing
-Prints:  the soup as canonical RLE, without its first empty columns and rows
+Prints:  the soup as canonical RLE; its first live column and row are moved to 0
 Refuses: out-of-limit, bad-rule, unavailable
 Example: life-haul soup abc 17";
 
-/// What the program is to do.
+/// What to do.
 #[derive(Clone, Copy, Debug, PartialEq, Eq)]
 pub enum Job<'a> {
     /// Print the table of a haul.
@@ -61,7 +61,7 @@ fn rule_arg<'a>(alloc: Global) -> Arg<'a>
 {
     Arg::new(alloc, "RULE")
         .long("rule")
-        .help("The rule, which is B3/S23 where none is given")
+        .help("The rule, B3/S23 by default")
 }
 
 // The option `--symmetry`.
@@ -82,7 +82,7 @@ fn root_arg<'a>(alloc: Global) -> Arg<'a>
     text_arg(
         alloc,
         "ROOT",
-        "The root of the soups, 1 to 64 characters of graphic ASCII",
+        "The root of the soups: 1 to 64 printable ASCII characters without spaces",
     )
 }
 
@@ -103,14 +103,14 @@ fn soup_command<'a>(alloc: Global) -> Result<Command<'a>, AllocError>
     with_arg(command, symmetry_arg(alloc))
 }
 
-// The command of hauls without its words.
+// The command without its arguments.
 fn command_alone<'a>(alloc: Global) -> Command<'a>
     ensures { app_of result ≡ haul_alone }
 {
     program_command(
         alloc,
         "life-haul",
-        "Counts the objects of random soups",
+        "Counts the objects in random soups",
         HAUL_HELP,
     )
     .override_usage(HAUL_USAGE)
@@ -118,7 +118,7 @@ fn command_alone<'a>(alloc: Global) -> Command<'a>
     .disable_help_subcommand(true)
 }
 
-/// The command of `life-haul`, with its words in the order in which they stand, and with its subcommand.
+/// The command of `life-haul`, with its arguments in their order, and its subcommand.
 pub fn haul_command<'a>(alloc: Global) -> Result<Command<'a>, AllocError>
     ensures { IfOk result (λ command. app_of command ≡ haul_app) }
 {
@@ -133,11 +133,7 @@ pub fn haul_command<'a>(alloc: Global) -> Result<Command<'a>, AllocError>
     );
     let command = with_arg(
         command,
-        number_arg(
-            alloc,
-            "COUNT",
-            "How many soups there are, from 1 to 1000000",
-        ),
+        number_arg(alloc, "COUNT", "How many soups to count, from 1 to 1000000"),
     );
     let command = with_arg(command, generation_arg(alloc));
     let command = with_arg(command, limit_arg(alloc));
@@ -156,7 +152,7 @@ fn rule_in<'a>(found: &ArgMatches<'a>) -> &'a str
     }
 }
 
-// The symmetry of the name that was found, or C1 if none is given.
+// The symmetry with the given name, or C1 if none is given.
 fn symmetry_in(found: &ArgMatches<'_>) -> Option<Symmetry>
     ensures { result ≡ symmetry_or_c1 (text_at (codes "NAME") (rows_of (found_of found.now))) }
 {
@@ -166,7 +162,7 @@ fn symmetry_in(found: &ArgMatches<'_>) -> Option<Symmetry>
     }
 }
 
-// The haul of the words that were found.
+// The haul of the arguments that were found.
 fn haul_in<'a>(found: &ArgMatches<'a>) -> Option<Job<'a>>
     ensures { option_map asked_by result ≡ haul_of_rows (rows_of (found_of found.now)) }
 {
@@ -181,7 +177,7 @@ fn haul_in<'a>(found: &ArgMatches<'a>) -> Option<Job<'a>>
     }))
 }
 
-// The soup of the words that were found.
+// The soup of the arguments that were found.
 fn soup_in<'a>(found: &ArgMatches<'a>) -> Option<Job<'a>>
     ensures { option_map asked_by result ≡ soup_of_rows (rows_of (found_of found.now)) }
 {
@@ -203,7 +199,7 @@ fn job_named<'a>(name: &str, found: &ArgMatches<'a>) -> Option<Job<'a>>
     }
 }
 
-// The job of the words that were found. Before the name of a subcommand there are none.
+// The job of the arguments that were found. There may be none in front of a subcommand.
 fn job_in<'a>(matches: &ArgMatches<'a>) -> Option<Job<'a>>
     ensures { option_map asked_by result ≡ job_of (rows_of (found_of matches.now)) (subcommand_rows_of matches.now) }
 {
@@ -225,7 +221,7 @@ fn is_any_before(matches: &ArgMatches<'_>) -> bool
         || text_in(matches, "NAME").is_some()
 }
 
-// The error of words that name no job: there are some before the name of a subcommand, or the name of the symmetry is none.
+// The error for arguments that name no job: some are in front of a subcommand, or there is no such symmetry.
 fn no_job(alloc: Global, matches: &ArgMatches<'_>) -> Result<Error, AllocError> {
     let mut command = haul_command(alloc)?;
     if matches.subcommand().is_some() && is_any_before(matches) {
@@ -240,9 +236,9 @@ fn no_job(alloc: Global, matches: &ArgMatches<'_>) -> Result<Error, AllocError> 
     )
 }
 
-/// The job that the words name. The first of them is the program's name, as in `env::args`.
+/// The job that the arguments name. The first one is the program's name, as in `env::args`.
 ///
-/// A request for help is a fault too, `BadWords` with the text of the help.
+/// A request for help is also a fault: `BadWords` with the text of the help.
 pub fn read_words<'a, S: AsStr>(alloc: Global, words: &'a [S]) -> Result<Job<'a>, WordFault>
     ensures { Answers asked_by (words_job (map S.text words.entry.now)) result }
 {

@@ -1,4 +1,4 @@
--- What a job of the program puts for the bytes that come in, or for its words.
+-- What a job writes for its input, or for its arguments.
 use Rattle.std.specs.Prelude.{◌≡◌, ◌≢◌, ◌≤◌, ℕ, List, [], ◌∷◌, ◌++◌, codes, Option, None, Some, Result, Ok, Err}
 use Rattle.std.specs.Fmt.{decimal, signed_decimal}
 use Rattle.life_core.specs.Ascii.{line_feed}
@@ -34,7 +34,7 @@ use Rattle.life_jobs.specs.declared.stop.Stop.TheVariants.{OutOfLimit, BadPatter
 abbrev pub later : ℕ → Contents → Contents
 later n r = plain r.rule (generation_of r.rule r.cells n)
 
--- what is printed for a file, by what is printed for its record, or the file's first fault
+-- what is printed for a file, given what is printed for its record; or the file's first fault
 unfoldable pub file_text : (Contents → List ℕ) → List ℕ → Result (List ℕ) RleFault
 file_text shown bytes = file bytes >>= λ r. Ok (shown r)
 
@@ -42,7 +42,7 @@ file_text shown bytes = file bytes >>= λ r. Ok (shown r)
 abbrev pub generation_text : ℕ → List ℕ → Result (List ℕ) RleFault
 generation_text n = file_text (λ r. text (later n r))
 
--- a limit of the period that may be asked for
+-- a valid limit on the period
 abbrev pub IsPeriodLimit : ℕ → Type 0
 IsPeriodLimit limit = (1 ≤ limit) × (limit ≤ PERIOD_LIMIT)
 
@@ -51,7 +51,7 @@ abbrev pub code_or_dash : Option (List ℕ) → List ℕ
 code_or_dash None = codes "-"
 code_or_dash (Some code) = code
 
--- the words of a kind: its name, the period, the columns and rows of its move, and the code, as far as it has them
+-- the printed form of a kind: its name and, if it has them, the period, the columns and rows of its movement, and the code
 abbrev pub kind_words : Kind → Option (List ℕ) → List ℕ
 kind_words Empty code = codes "empty"
 kind_words Still code = codes "still " ++ code_or_dash code
@@ -67,7 +67,7 @@ kind_line r X limit = kind_words (kind_of r X limit) (code_of r X limit) ++ line
 abbrev pub kind_text : ℕ → List ℕ → Result (List ℕ) RleFault
 kind_text limit = file_text (λ r. kind_line r.rule r.cells limit)
 
--- numbers of a census that may be asked for: of a generation, and of a limit of the period
+-- valid numbers of a census: a generation, and a limit on the period
 abbrev pub AreCensusNumbers : ℕ → ℕ → Type 0
 AreCensusNumbers n limit = (n ≤ GENERATION_LIMIT) × IsPeriodLimit limit
 
@@ -81,7 +81,7 @@ census_text n limit = file_text (census_table n limit)
 
 -- ---- what is printed for a code
 
--- the rule text is a rule's, under which the code is that of a set, and the text is that set's file
+-- the rule text is a rule under which the code is that of a set, and the text is that set's file
 pub record PrintsObject (rule code : List ℕ) (limit : ℕ) (all : List ℕ) : Type 0 where
   pub rule_sets : RuleSets
   pub cells : Cells
@@ -94,7 +94,7 @@ pub record PrintsObject (rule code : List ℕ) (limit : ℕ) (all : List ℕ) : 
 abbrev pub RefusesRule : List ℕ → Type 0
 RefusesRule rule = (fault : RuleFault) × (read_rule rule ≡ Err fault)
 
--- the rule text is a rule's, under which the code is refused with this fault, and is no set's
+-- the rule text is a rule under which the code is refused with this fault and is not the code of any set
 pub record RefusesCode (rule code : List ℕ) (limit : ℕ) (fault : CodeFault) : Type 0 where
   pub rule_sets : RuleSets
   pub rule_is : read_rule rule ≡ Ok rule_sets
@@ -102,7 +102,7 @@ pub record RefusesCode (rule code : List ℕ) (limit : ℕ) (fault : CodeFault) 
   pub refuses : Refuses rule_sets code limit fault
   pub no_code : (X : Cells) → code_of rule_sets X limit ≢ Some code
 
--- what `object` answers to a rule text, a code and a limit; they are judged in the order limit, rule, code
+-- what `object` answers to a rule text, a code and a limit; they are checked in the order limit, rule, code
 abbrev pub PutsObject : List ℕ → List ℕ → ℕ → Option (List ℕ) → Option (List ℕ) → Result (Unit {0}) Stop → Type 0
 PutsObject rule code limit old new (Ok done) = (all : List ℕ) × PrintsObject rule code limit all × Gains old new all
 PutsObject rule code limit old new (Err OutOfLimit) = ¬ IsPeriodLimit limit
@@ -123,7 +123,7 @@ PutsBytes wanted bytes old new (Err Unavailable) = Unit {0}
 PutsBytes wanted bytes old new (Err Unwritable) = (all : List ℕ) × (wanted bytes ≡ Ok all) × GainsSome old new all
 PutsBytes wanted bytes old new (Err stop) = ⊥
 
--- the same, if the bytes that come in are known
+-- the same, if the input bytes are known
 abbrev pub PutsKnown : (List ℕ → Result (List ℕ) RleFault) → Option (List ℕ) → Option (List ℕ) → Option (List ℕ) → Result (Unit {0}) Stop → Type 0
 PutsKnown wanted None old new answer = Unit {0}
 PutsKnown wanted (Some bytes) old new answer = PutsBytes wanted bytes old new answer

@@ -22,13 +22,13 @@ printed (Census n limit) = census_table n limit
 abbrev pub print_text : Print → List ℕ → Result (List ℕ) RleFault
 print_text print = file_text (printed print)
 
--- its numbers may be asked for
+-- its numbers are valid
 abbrev pub IsPrint : Print → Type 0
 IsPrint (Generation n) = n ≤ GENERATION_LIMIT
 IsPrint (Kind limit) = IsPeriodLimit limit
 IsPrint (Census n limit) = AreCensusNumbers n limit
 
--- the stop for a code that is not opened; out of memory says nothing about the code
+-- the stop for a code that can't be opened; out of memory says nothing about the code
 abbrev pub code_stop : CodeFault → Stop
 code_stop code_faults.Memory = Unavailable
 code_stop fault = BadCode fault

@@ -1,4 +1,4 @@
--- The lines that a job over a file or a code prints on standard error, each without its line end. They are the program's own.
+-- The lines that a job over a file or a code prints on standard error, each without its line end. This program defines them.
 use Rattle.std.specs.Prelude.{ℕ, List, [], ◌++◌, codes}
 use Rattle.life_rle.specs.declared.fault.RleFault.TheVariants as rle_faults
 use Rattle.life_rle.specs.Fault as rle
@@ -7,7 +7,7 @@ use Rattle.life_code.specs.Fault as code
 use Rattle.life_jobs.specs.declared.stop.Stop.{Stop}
 use Rattle.life_jobs.specs.declared.stop.Stop.TheVariants.{OutOfLimit, BadPattern, BadRule, BadCode, Unreadable, Unavailable, Unwritable}
 
--- the line of a stop: none is printed where standard output failed
+-- the line of a stop; it is empty if standard output failed
 abbrev pub line_of : Stop → List ℕ
 line_of OutOfLimit = codes "refused: out-of-limit"
 line_of (BadPattern rle_faults.Memory) = codes "refused: unavailable"

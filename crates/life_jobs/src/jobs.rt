@@ -20,7 +20,7 @@ use life_core::{Fault, GENERATION_LIMIT, Pattern, Rule, generation};
 use life_rle::{Inlet, Outlet, Record, WriteFault, into_plain, write_to};
 use std::alloc::{AllocError, Global};
 
-/// Generation `n` of a record, without its texts and in normal form. Generation 0 is in the memory that the record has.
+/// Generation `n` of a record, without its texts and in normal form. Generation 0 reuses the record's memory.
 fn later(alloc: Global, record: Record, n: u32) -> Result<Record, Fault>
     requires few { n ≤ GENERATION_LIMIT }
     requires inside { IsInside 1024 «record».cells }
@@ -34,7 +34,7 @@ fn later(alloc: Global, record: Record, n: u32) -> Result<Record, Fault>
     Ok(into_plain(alloc, rule, cells))
 }
 
-/// The words of a kind with a code.
+/// The printed form of a kind with a code.
 fn kind_words(alloc: Global, kind: Kind, code: &[u8]) -> Result<Vec<u8>, AllocError>
     ensures { IfOk result (λ v. v.items ≡ kind_words kind (Some code.now)) }
 {
@@ -50,7 +50,7 @@ fn kind_words(alloc: Global, kind: Kind, code: &[u8]) -> Result<Vec<u8>, AllocEr
     Ok(words)
 }
 
-/// What stands for a code that is missing.
+/// What is printed in place of a missing code.
 fn dash(alloc: Global) -> Result<Vec<u8>, Fault>
     ensures { IfOk result (λ v. v.items ≡ codes "-") }
 {
@@ -118,13 +118,13 @@ fn census_table(alloc: Global, record: &Record, n: u32, limit: u32) -> Result<Ve
 enum Print {
     /// Its generation of this number.
     Generation(u32),
-    /// Its kind under this limit of the period.
+    /// Its kind under this limit on the period.
     Kind(u32),
-    /// The census of its generation `n` under this limit of the period.
+    /// The census of its generation `n` under this limit on the period.
     Census { n: u32, limit: u32 },
 }
 
-/// Puts a record as canonical RLE.
+/// Writes a record as canonical RLE.
 fn put_record<O: Outlet>(alloc: Global, record: &Record, output: &mut O) -> Result<(), Stop>
     ensures puts { PutsText (O.already output.old) (O.already output.new) (text «record».now) result }
     ensures once { PutsOnce output.old output.new (O.failures output.old) (O.failures output.new) (O.last_failed output.new) result }
@@ -136,7 +136,7 @@ fn put_record<O: Outlet>(alloc: Global, record: &Record, output: &mut O) -> Resu
     }
 }
 
-/// Puts a text that was made, if memory sufficed.
+/// Writes a text, if there was memory for it.
 fn put_made<O: Outlet>(output: &mut O, made: Result<Vec<u8>, Fault>) -> Result<(), Stop>
     ensures puts { (text : List ℕ) → IfOk made (λ v. v.items ≡ text) → PutsText (O.already output.old) (O.already output.new) text result }
     ensures once { PutsOnce output.old output.new (O.failures output.old) (O.failures output.new) (O.last_failed output.new) result }
@@ -147,7 +147,7 @@ fn put_made<O: Outlet>(output: &mut O, made: Result<Vec<u8>, Fault>) -> Result<(
     }
 }
 
-/// Puts what is printed for a record.
+/// Writes what is printed for a record.
 fn put_for<O: Outlet>(
     alloc: Global,
     print: Print,
@@ -169,8 +169,8 @@ fn put_for<O: Outlet>(
     }
 }
 
-/// Reads a pattern file and puts what is to be printed for it. The input is taken to its end, or to
-/// byte 1,048,577.
+/// Reads a pattern file and writes what is printed for it. It reads the input to its end, or to byte
+/// 1,048,577.
 fn print_file<I: Inlet, O: Outlet>(
     alloc: Global,
     print: Print,
@@ -189,7 +189,7 @@ fn print_file<I: Inlet, O: Outlet>(
     }
 }
 
-/// A number of a generation that may be asked for.
+/// A valid number of a generation.
 fn generation_number(n: u64) -> Option<u32>
     ensures { SomeIff result (n ≤ GENERATION_LIMIT) n }
 {
@@ -199,9 +199,9 @@ fn generation_number(n: u64) -> Option<u32>
     }
 }
 
-/// Reads a pattern file and puts generation `n` of it as canonical RLE, without texts and in normal
-/// form. The number is judged first, before a byte is taken; the input is taken to its end, or to
-/// byte 1,048,577.
+/// Reads a pattern file and writes its generation `n` as canonical RLE, without texts and in normal
+/// form. It checks the number before it reads anything; it reads the input to its end, or to byte
+/// 1,048,577.
 pub fn run_generation<I: Inlet, O: Outlet>(
     alloc: Global,
     n: u64,
@@ -210,7 +210,7 @@ pub fn run_generation<I: Inlet, O: Outlet>(
 ) -> Result<(), Stop>
     ensures limit { (result ≡ Err Stop.OutOfLimit) ↔ (GENERATION_LIMIT < n) }
     ensures untouched { GENERATION_LIMIT < n → (input.new ≡ input.old) × (output.new ≡ output.old) }
-    // If the bytes that come in are known, what is put is the text of their generation, and a bad pattern is theirs.
+    // If the input bytes are known, the output is the text of their generation, and a bad pattern is theirs.
     ensures known { n ≤ GENERATION_LIMIT → PutsKnown (generation_text n) (I.to_come input.old) (O.already output.old) (O.already output.new) result }
     ensures takes { TakesFile (I.to_come input.old) (I.to_come input.new) (I.failures input.old) (I.failures input.new) (I.ends input.old) (I.ends input.new) (I.last_take input.new) result }
     ensures once { PutsOnce output.old output.new (O.failures output.old) (O.failures output.new) (O.last_failed output.new) result }
@@ -221,7 +221,7 @@ pub fn run_generation<I: Inlet, O: Outlet>(
     }
 }
 
-/// A limit of the period that may be asked for.
+/// A valid limit on the period.
 fn period_limit(limit: u64) -> Option<u32>
     ensures { SomeIff result (IsPeriodLimit limit) limit }
 {
@@ -231,8 +231,8 @@ fn period_limit(limit: u64) -> Option<u32>
     }
 }
 
-/// Reads a pattern file and puts the kind of its pattern, whose period is at most the limit, with its
-/// code, as one line. The limit is judged first, before a byte is taken; the input is taken as by
+/// Reads a pattern file and writes one line with the kind of its pattern, searching for periods up to
+/// the limit, and its code. It checks the limit before it reads anything; it reads the input like
 /// `run_generation`.
 pub fn run_kind<I: Inlet, O: Outlet>(
     alloc: Global,
@@ -242,7 +242,7 @@ pub fn run_kind<I: Inlet, O: Outlet>(
 ) -> Result<(), Stop>
     ensures limit { (result ≡ Err Stop.OutOfLimit) ↔ ¬ IsPeriodLimit limit }
     ensures untouched { ¬ IsPeriodLimit limit → (input.new ≡ input.old) × (output.new ≡ output.old) }
-    // If the bytes that come in are known, what is put is the line of their kind, and a bad pattern is theirs.
+    // If the input bytes are known, the output is the line of their kind, and a bad pattern is theirs.
     ensures known { IsPeriodLimit limit → PutsKnown (kind_text limit) (I.to_come input.old) (O.already output.old) (O.already output.new) result }
     ensures takes { TakesFile (I.to_come input.old) (I.to_come input.new) (I.failures input.old) (I.failures input.new) (I.ends input.old) (I.ends input.new) (I.last_take input.new) result }
     ensures once { PutsOnce output.old output.new (O.failures output.old) (O.failures output.new) (O.last_failed output.new) result }
@@ -253,16 +253,16 @@ pub fn run_kind<I: Inlet, O: Outlet>(
     }
 }
 
-/// The numbers of a census that may be asked for.
+/// Valid numbers of a census.
 fn census_numbers(n: u64, limit: u64) -> Option<(u32, u32)>
     ensures { MatchOption result (¬ AreCensusNumbers n limit) (λ found. AreCensusNumbers n limit × (found.0 ≡ n) × (found.1 ≡ limit)) }
 {
     Some((generation_number(n)?, period_limit(limit)?))
 }
 
-/// Reads a pattern file and puts the tally of the clusters of its generation `n` as CSV: how many of
-/// them have each code under the limit of the period, and how many have none. The numbers are judged
-/// first, before a byte is taken; the input is taken as by `run_generation`.
+/// Reads a pattern file and writes the tally of the clusters of its generation `n` as CSV: how many of
+/// them have each code under the limit on the period, and how many have no code. It checks the numbers
+/// before it reads anything; it reads the input like `run_generation`.
 pub fn run_census<I: Inlet, O: Outlet>(
     alloc: Global,
     n: u64,
@@ -272,7 +272,7 @@ pub fn run_census<I: Inlet, O: Outlet>(
 ) -> Result<(), Stop>
     ensures limit { (result ≡ Err Stop.OutOfLimit) ↔ ¬ AreCensusNumbers n limit }
     ensures untouched { ¬ AreCensusNumbers n limit → (input.new ≡ input.old) × (output.new ≡ output.old) }
-    // If the bytes that come in are known, what is put is the CSV of their tally, and a bad pattern is theirs.
+    // If the input bytes are known, the output is the CSV of their tally, and a bad pattern is theirs.
     ensures known { AreCensusNumbers n limit → PutsKnown (census_text n limit) (I.to_come input.old) (O.already output.old) (O.already output.new) result }
     ensures takes { TakesFile (I.to_come input.old) (I.to_come input.new) (I.failures input.old) (I.failures input.new) (I.ends input.old) (I.ends input.new) (I.last_take input.new) result }
     ensures once { PutsOnce output.old output.new (O.failures output.old) (O.failures output.new) (O.last_failed output.new) result }
@@ -294,7 +294,7 @@ fn object(alloc: Global, rule: &Rule, code: &[u8], limit: u32) -> Result<Record,
     Ok(into_plain(alloc, *rule, pattern))
 }
 
-/// The stop for a code that is not opened.
+/// The stop for a code that can't be opened.
 fn code_stop(fault: CodeFault) -> Stop
     ensures { result ≡ code_stop fault }
 {
@@ -304,8 +304,8 @@ fn code_stop(fault: CodeFault) -> Stop
     }
 }
 
-/// Puts the pattern of a code under a rule and a limit of the period as canonical RLE, without texts
-/// and in normal form. The limit is judged before the rule, and the rule before the code.
+/// Writes the pattern of a code under a rule and a limit on the period as canonical RLE, without texts
+/// and in normal form. It checks the limit before the rule, and the rule before the code.
 pub fn run_object<O: Outlet>(
     alloc: Global,
     rule: &str,

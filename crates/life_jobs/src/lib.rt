@@ -1,4 +1,4 @@
-//! The jobs of `life` over a pattern file or a code, over any streams, and why one stops.
+//! The jobs of `life` over a pattern file or a code, on any streams, and why they stop.
 #![tactic(auto)]
 
 mod jobs;

@@ -1,4 +1,4 @@
-//! Why a job over a file or a code stops before its end, and the line that is printed for it.
+//! Why a job over a file or a code stops early, and the line that is printed for it.
 ghost use Rattle.std.specs.Prelude.{◌≡◌};
 ghost use Rattle.life_jobs.specs.Stop.{line_of};
 
@@ -8,17 +8,17 @@ use life_rle::RleFault;
 /// Why a job stopped.
 #[derive(Clone, Copy, Debug, PartialEq, Eq)]
 pub enum Stop {
-    /// A number of the command line is out of its range.
+    /// A number in the arguments is out of its range.
     OutOfLimit,
-    /// Standard input is no pattern file.
+    /// Standard input is not a valid pattern file.
     BadPattern(RleFault),
-    /// A rule of the command line is no rule.
+    /// A rule in the arguments is not a rule.
     BadRule,
-    /// A code of the command line is no pattern's code under the rule and the limit.
+    /// A code in the arguments is not a code under the rule and the limit.
     BadCode(CodeFault),
     /// Standard input failed.
     Unreadable,
-    /// Memory was refused.
+    /// Out of memory.
     Unavailable,
     /// Standard output failed.
     Unwritable,

@@ -1,4 +1,4 @@
--- What stands at the front of held bytes, by what the head reader says of their first 8,192.
+-- What is at the front of the held bytes, from what the head reader says about their first 8,192.
 use Rattle.std.proofs.Common.{◌≡◌, ℕ, ◌+◌, ◌-◌, ◌<◌, ◌≤◌, ◌==◌, ◌||◌, ◌&&◌, nat_le, nat_lt, map, codes, Bool, true, false, List, [], ◌∷◌, ◌++◌, length, take, drop, Option, None, Some, option_map, if◌then◌else◌, min, refl, sym, ◌∙◌, ap, subst, inl, inr, append_assoc, append-nil, length-append, length-drop, length-take-le, arith}
 use Rattle.std.proofs.lemmas.List.{take-append-drop, take_at, drop_at, take-append-le, drop-drop}
 use Rattle.std.proofs.lemmas.Bool.{leb-true}

@@ -1,4 +1,4 @@
--- A stream as far as it was taken.
+-- The part of a stream that was taken.
 use Rattle.std.proofs.Common.{◌≡◌, ◌≤◌, length, arith, true≢false, ℕ, false, List, [], ◌∷◌, ◌++◌, Option, None, Some, Ok, IfSome, refl, sym, ◌∙◌, ap, append_assoc, append-nil}
 use Rattle.life_pages.specs.Head.{Head}
 use Rattle.life_rle.specs.Stream.{Gains, GainsSome, Loses, IsEnded}

@@ -183,7 +183,7 @@ module _ {D : Type 0} (answers : D → Head → List ℕ → List ℕ → D → 
       then_cut (λ ms. (more : List ℕ) → Starts (b ++ more) ms) (λ ms. (more : List ℕ) → Starts (a ++ more) ms) f.done f.bytes old mid new x y z f.run f.put
       (λ ms last h more. front_starts (a ++ more) f.done (ms ++ last ∷ []) (b ++ more) (front_append a f.done b more f.front) (h more)) c
 
-  -- what a cut put is a beginning of the replies
+  -- what a cut put is a prefix of the replies
   pub cut_broke : {last : ℕ} (stream left : Option (List ℕ)) (old new : D) (x y : Option (List ℕ)) → LastReplyCutShort answers (AreFirstUpTo stream left last) old new x y → RepliesCutShort answers stream old new x y
   cut_broke stream left old new x y c = record {
     done = c.done ++ c.last ∷ [];

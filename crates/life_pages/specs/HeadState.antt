@@ -12,7 +12,7 @@ pub record BeginsWith (bytes : List ℕ) (said : Head) (rest : List ℕ) : Type 
   pub reads : ReadsRequest bytes head rest
   pub says : head_of head ≡ Some said
 
--- the bytes are no beginning of a good head, whatever follows
+-- the bytes are no prefix of a good head, whatever follows
 abbrev pub NeverBegins : List ℕ → Type 0
 NeverBegins bytes = (more : List ℕ) (said : Head) (rest : List ℕ) → ¬ (BeginsWith (bytes ++ more) said rest)
 
@@ -33,7 +33,7 @@ Validates len says More = ⊥
 Validates len says Bad = says ≡ None
 Validates len says (Whole g) = (g.len ≡ len) × (says ≡ Some (said g))
 
--- a reading of bytes: more are wanted, they are no beginning of a good head, or a good head stands at the front
+-- a reading of bytes: more are needed, they are not a prefix of a good head, or a good head is at the front
 abbrev pub ReadsHead : List ℕ → HeadRead → Type 0
 ReadsHead bytes More = HasNoRequest bytes × MayBecomeRequest bytes
 ReadsHead bytes Bad = NeverBegins bytes

@@ -1,10 +1,14 @@
 -- What makes the definitions of a stream's messages and of their replies believable.
-use Rattle.std.specs.Prelude.{◌≡◌, ◌⊎◌, ◌++◌, ◌<◌, ◌^◌, false, ℕ, List, length}
+use Rattle.std.specs.Prelude.{◌≡◌, ◌⊎◌, ◌++◌, ◌<◌, ◌≤◌, ◌^◌, ◌==◌, false, ℕ, List, [], ◌∷◌, length, map, Some}
+use Rattle.std.specs.List.{AllByRecursion, Contains, join_with_byte}
+use Rattle.life_core.specs.Ascii.{comma, slash}
 use Rattle.life_desk.specs.declared.request.Reply.{Reply}
 use Rattle.life_desk.specs.Replies.{acknowledges}
 use Rattle.life_pages.specs.declared.fault.MessageRefusal.{MessageRefusal}
 use Rattle.life_pages.specs.Reply.{bytes_of, message_refusal_bytes, reply_body}
+use Rattle.life_pages.specs.Head.{parts_between_commas}
 use Rattle.life_pages.specs.Message.{Message, Messages}
+use Rattle.life_pages.specs.Route.{Piece, byte, parameter, pieces_of, captured, Reading, templates}
 
 -- A stream has one list of messages at most ..
 abbrev pub OneListOfMessages : Type 0
@@ -26,6 +30,44 @@ PagesAcknowledgeNothing = (r : Reply) (refusal : MessageRefusal) → bytes_of r 
 abbrev pub AreReplyBytes : List ℕ → Type 0
 AreReplyBytes bytes = ((r : Reply) × (length (reply_body r) < 2 ^ 64) × (bytes ≡ bytes_of r)) ⊎ ((refusal : MessageRefusal) × (bytes ≡ message_refusal_bytes refusal))
 
--- No reply is a beginning of another: a stream of replies can be read in one way, reply after reply, so a peer knows which is which.
+-- No reply is a prefix of another: a stream of replies can be read in one way, reply after reply, so a peer knows which is which.
 abbrev pub RepliesAreReadInOneWay : Type 0
 RepliesAreReadInOneWay = (a b x y : List ℕ) → AreReplyBytes a → AreReplyBytes b → a ++ x ≡ b ++ y → (a ≡ b) × (x ≡ y)
+
+-- ---- heads and paths
+
+-- a text without a comma
+abbrev pub HasNoComma : List ℕ → Type 0
+HasNoComma part = AllByRecursion (λ b. (b == comma) ≡ false) part
+
+-- The parts of a header's value, joined by commas, are the value, and none has a comma.
+abbrev pub PartsAreTheValue : Type 0
+PartsAreTheValue = (value : List ℕ) → (join_with_byte comma (parts_between_commas value) ≡ value) × AllByRecursion HasNoComma (parts_between_commas value)
+
+-- the path that a template's pieces spell, with these texts for its parameters
+abbrev pub filled : List Piece → List (List ℕ) → List ℕ
+filled [] texts = []
+filled (byte x ∷ pieces) texts = x ∷ filled pieces texts
+filled (parameter ∷ pieces) [] = []
+filled (parameter ∷ pieces) (text ∷ texts) = text ++ filled pieces texts
+
+-- what a parameter may take: a byte at least, and no slash
+pub record IsParameter (text : List ℕ) : Type 0 where
+  pub some : 1 ≤ length text
+  pub plain : AllByRecursion (λ b. (b == slash) ≡ false) text
+
+-- What a template captures of a path, put back into it, is the path.
+abbrev pub CapturesAreThePath : Type 0
+CapturesAreThePath = (pieces : List Piece) (path : List ℕ) (texts : List (List ℕ)) → captured pieces path ≡ Some texts → (filled pieces texts ≡ path) × AllByRecursion IsParameter texts
+
+-- the templates alone
+abbrev pub template_texts : List (List ℕ)
+template_texts = map (λ (t : List ℕ × Reading). t.0) templates
+
+-- the path fits the template
+abbrev pub Fits : List ℕ → List ℕ → Type 0
+Fits template path = (texts : List (List ℕ)) × (captured (pieces_of template) path ≡ Some texts)
+
+-- A path fits one template at most, so their order plays no part.
+abbrev pub OneTemplate : Type 0
+OneTemplate = (path one two : List ℕ) → Contains template_texts one → Contains template_texts two → Fits one path → Fits two path → one ≡ two

@@ -23,7 +23,7 @@ head_limit = 8192
 abbrev pub are_line_breaks : List ℕ → Bool
 are_line_breaks bytes = list_all (λ b. b == carriage_return || b == line_feed) bytes
 
--- a good message stands at the front, and the rest follows it
+-- a good message is at the front, and the rest follows it
 pub record HasMessageInFront (bytes : List ℕ) (said : Head) (body rest : List ℕ) : Type 0 where
   pub head : RequestHead
   pub is_head : IsRequestHead head
@@ -32,11 +32,11 @@ pub record HasMessageInFront (bytes : List ℕ) (said : Head) (body rest : List 
   pub bytes_are : bytes ≡ print_request head ++ (body ++ rest)
   pub whole : length body ≡ said.body
 
--- no good message stands at the front
+-- no good message is at the front
 abbrev pub HasNone : List ℕ → Type 0
 HasNone bytes = (said : Head) (body rest : List ℕ) → ¬ (HasMessageInFront bytes said body rest)
 
--- a good head stands whole at the front, and its body has not come whole
+-- a whole good head is at the front, and its body has not come completely
 pub record HasHeadAlone (bytes : List ℕ) : Type 0 where
   pub head : RequestHead
   pub is_head : IsRequestHead head
@@ -47,11 +47,11 @@ pub record HasHeadAlone (bytes : List ℕ) : Type 0 where
   pub bytes_are : bytes ≡ print_request head ++ rest
   pub part : length rest < said.body
 
--- no whole head stands at the front, but one may come, and there is room for it
+-- no whole head is at the front, but one may come, and there is room for it
 abbrev pub BeginsHead : List ℕ → Type 0
 BeginsHead bytes = HasNoRequest bytes × MayBecomeRequest bytes × (length bytes < head_limit)
 
--- nothing is wrong with the bytes as far as they have come: they are CR and LF alone, the beginning of a head, or a good head without its body
+-- the bytes so far have no fault: they are only CR and LF, a prefix of a head, or a good head without its body
 abbrev pub IsAwaited : List ℕ → Type 0
 IsAwaited bytes = (are_line_breaks bytes ≡ true) ⊎ (BeginsHead bytes ⊎ HasHeadAlone bytes)
 
@@ -63,14 +63,14 @@ Messages bytes (good said body ∷ ms) =
     (rest : List ℕ) × HasMessageInFront bytes said body rest
     × (said.closes ≡ true → ms ≡ []) × (said.closes ≡ false → Messages rest ms)
 
--- these messages stand at the front, none of them closes, and the rest follows
+-- these messages are at the front, none of them closes the connection, and the rest follows
 abbrev pub Front : List ℕ → List Message → List ℕ → Type 0
 Front bytes [] rest = bytes ≡ rest
 Front bytes (bad ∷ ms) rest = ⊥
 Front bytes (good said body ∷ ms) rest =
     (mid : List ℕ) × HasMessageInFront bytes said body mid × (said.closes ≡ false) × Front mid ms rest
 
--- these messages stand at the front, of which the last may close or be bad
+-- these messages are at the front; the last of them may close the connection or be bad
 abbrev pub Starts : List ℕ → List Message → Type 0
 Starts bytes [] = Unit {0}
 Starts bytes (bad ∷ ms) = (are_line_breaks bytes ≡ false) × HasNone bytes × (ms ≡ [])

@@ -13,7 +13,7 @@ NeverHas bytes = (more : List ℕ) → HasNone (bytes ++ more)
 abbrev pub held_limit : ℕ
 held_limit = 1056768
 
--- no good message stands at the front, nothing is wrong so far, and there is room for more bytes, or all are CR and LF
+-- no good message is at the front, there is no fault so far, and there is room for more bytes, or all are CR and LF
 abbrev pub IsWanting : List ℕ → Type 0
 IsWanting held = HasNone held × ((are_line_breaks held ≡ true) ⊎ (length held < held_limit)) × IsAwaited held
 

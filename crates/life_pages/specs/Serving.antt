@@ -20,7 +20,7 @@ most_taken = 4096
 abbrev pub AreAllOf : Option (List ℕ) → List Message → Type 0
 AreAllOf stream ms = IfSome stream (λ bytes. Messages bytes ms)
 
--- the first of them, of which the last may close or be bad
+-- the first of them; the last one may close the connection or be bad
 abbrev pub AreFirstOf : Option (List ℕ) → List Message → Type 0
 AreFirstOf stream ms = IfSome stream (λ bytes. Starts bytes ms)
 
@@ -47,7 +47,7 @@ module _ {D : Type 0} (answers : D → Head → List ℕ → List ℕ → D → 
     pub run : MessageRun answers old done bytes new
     pub put : puts bytes
 
-  -- the first messages of a stream were answered, and a beginning of their replies was put
+  -- the first messages of a stream were answered, and a prefix of their replies was put
   abbrev pub RepliesCutShort : Option (List ℕ) → D → D → Option (List ℕ) → Option (List ℕ) → Type 0
   RepliesCutShort stream old new before after = ServedMessages (AreFirstOf stream) (GainsSome before after) old new
 
@@ -55,13 +55,13 @@ module _ {D : Type 0} (answers : D → Head → List ℕ → List ℕ → D → 
   abbrev pub Served : Option (List ℕ) → D → D → Option (List ℕ) → Option (List ℕ) → Type 0
   Served stream old new before after = ServedMessages (AreAllOf stream) (Gains before after) old new
 
--- the messages stand at the front of a stream of known bytes, before what is held and what is left
+-- the messages are at the front of a stream of known bytes, before what is held and what is left
 abbrev pub Fronts : Option (List ℕ) → List Message → List ℕ → Option (List ℕ) → Type 0
 Fronts None done held left = Unit {0}
 Fronts (Some stream) done held None = ⊥
 Fronts (Some stream) done held (Some left) = Front stream done (held ++ left)
 
--- But for the last take, of so many bytes and at most 4,096, what was taken held no message whole that is not one of the first of these; and that
+-- Without the last take, of this many bytes and at most 4,096, the bytes taken held no whole message that is not one of the first of these; and that
 -- is not all of them.
 pub record WholeBefore (stream left : Option (List ℕ)) (last : ℕ) (ms : List Message) : Type 0 where
   pub front : List Message
@@ -76,7 +76,7 @@ pub record WholeBefore (stream left : Option (List ℕ)) (last : ℕ) (ms : List
   pub taken : Loses before left piece
   pub short : (length piece ≤ 4096) × (length piece ≤ last)
 
--- the first messages of a stream, all but the last of which were answered before the last take, as far as they had come whole
+-- the first messages of a stream, all but the last of which were answered before the last take, if they had come completely
 abbrev pub AreFirstUpTo : Option (List ℕ) → Option (List ℕ) → ℕ → List Message → Type 0
 AreFirstUpTo stream left last ms = AreFirstOf stream ms × WholeBefore stream left last ms
 
@@ -92,11 +92,11 @@ module _ {D : Type 0} (answers : D → Head → List ℕ → List ℕ → D → 
     pub run : MessageRun answers old done bytes new
     pub put : Gains before after bytes
 
--- known bytes grew at their end: what was there before is a beginning of what is there now
+-- known bytes grew at their end: what was there before is a prefix of what is there now
 abbrev pub Grows : Option (List ℕ) → Option (List ℕ) → Type 0
 Grows old new = (more : List ℕ) × Gains old new more
 
--- known bytes lost at least so many
+-- known bytes lost at least this many
 abbrev pub LosesAtLeast : ℕ → Option (List ℕ) → Option (List ℕ) → Type 0
 LosesAtLeast least old new = (bytes : List ℕ) × (least ≤ length bytes) × Loses old new bytes
 
@@ -136,7 +136,7 @@ pub record IsServed {D I O : Type 0} (answers : D → Head → List ℕ → List
 pub record UsesStreams {I O : Type 0} (i : inlet.Ghosts I) (o : outlet.Ghosts O) (input rest : I) (output sent : O) (result : Result (Unit {0}) IoFault) : Type 0 where
   -- Too many takes: at least 1,048,576 known bytes were taken.
   pub many : result ≡ Err TooManyReads → LosesAtLeast most_takes (i.to_come input) (i.to_come rest)
-  -- What is put only grows: what was put before the call is a beginning of what is put after it.
+  -- What is put only grows: what was put before the call is a prefix of what is put after it.
   pub grows : Grows (o.already output) (o.already sent)
   -- At most 1,048,576 takes are made, and at most 4,096 times as many bytes are taken.
   pub takes : i.takes rest ≤ i.takes input + most_takes

@@ -68,11 +68,11 @@ module _ {D : Type 0} (answers : D → Head → List ℕ → List ℕ → D → 
   IsOutcome (Err faults.Write) stream left last old new before after = LastReplyCutShort answers (AreFirstUpTo stream left last) old new before after
   IsOutcome (Err faults.Memory) stream left last old new before after = ⊥
 
--- at least so many bytes were taken, all of them CR and LF
+-- at least this many bytes were taken, all of them CR and LF
 abbrev pub PassesBlank : ℕ → Option (List ℕ) → Option (List ℕ) → Type 0
 PassesBlank least old new = (bytes : List ℕ) × (least ≤ length bytes) × (are_line_breaks bytes ≡ true) × Loses old new bytes
 
--- bytes were taken, all of them CR and LF, and then those of one take of so many
+-- bytes were taken, all of them CR and LF, and then those of one take of this many
 abbrev pub PassesThen : ℕ → Option (List ℕ) → Option (List ℕ) → Type 0
 PassesThen last old new =
     (blank : List ℕ) × (mid : Option (List ℕ)) × (piece : List ℕ) × (are_line_breaks blank ≡ true) × Loses old mid blank × Loses mid new piece × (length piece ≤ 4096) × (length piece ≤ last)
@@ -82,7 +82,7 @@ abbrev pub IsBlankRest : Option (List ℕ) → Bool → Type 0
 IsBlankRest None blank = Unit {0}
 IsBlankRest (Some left) blank = are_line_breaks left ≡ blank
 
--- what became of bytes that were taken as long as they were CR and LF, in at most so many takes
+-- the result of taking bytes as long as they were CR and LF, in at most this many takes
 abbrev pub IsPassed : Passed → ℕ → ℕ → Option (List ℕ) → Option (List ℕ) → Type 0
 IsPassed passed.Ended takes last old new = IsBlankRest old true
 IsPassed passed.Other takes last old new = IsBlankRest old false × PassesThen last old new
@@ -96,7 +96,7 @@ HearsPassed old new passed.Other = new ≡ old
 HearsPassed old new passed.Failed = new ≡ raised old
 HearsPassed old new passed.TooMany = new ≡ old
 
--- what became of a stream after as many of them as a head may have, in at most so many takes
+-- the result for a stream after as many of them as a head may have, in at most this many takes
 abbrev pub IsBlankEnd : Result (Unit {0}) IoFault → ℕ → ℕ → Option (List ℕ) → Option (List ℕ) → Option (List ℕ) → Option (List ℕ) → Type 0
 IsBlankEnd (Ok u) takes last old new before after =
     (IsBlankRest old true × (after ≡ before)) ⊎ (IsBlankRest old false × Gains before after bad_bytes)

@@ -45,7 +45,7 @@ fn answer_request<D: Desk>(alloc: Global, desk: &mut D, request: Request, draft:
     write_reply(alloc, &mut draft.reply, &mut draft.body, &reply);
 }
 
-/// Writes why the archive is not asked.
+/// Writes the refusal of a message for which the archive is not asked.
 fn refuse<D: Desk>(desk: &D, unasked: Unasked, draft: &mut ReplyBuffers)
     requires room { HasRoom draft.old }
     ensures answered { (read : Result Request MessageRefusal) → IsAsked (Err unasked) read → AnswersAsked D.answers desk.now read draft.new.reply.items desk.now }

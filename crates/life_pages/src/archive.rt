@@ -1,4 +1,4 @@
-//! Serving the messages of a stream by an archive.
+//! Serving the messages of a stream from an archive.
 ghost use Rattle.std.specs.Prelude.{◌≡◌, Err, OnOk};
 ghost use Rattle.life_rle.specs.Stream.{Gains, GainsSome};
 ghost use Rattle.life_desk.specs.Run.{RequestStep};
@@ -29,8 +29,8 @@ impl<S: Alter> Desk for Archive<S> {
     fn law_of_refusals(&self) {}
 }
 
-/// Answers the messages of a stream, one after the other, each as soon as it has come whole, until the stream ends, a
-/// message asks for its end, or a message is bad. At most 1,048,576 takes are made. Bytes after a closing or a bad message
+/// Answers the messages of a stream, one after the other, each once it is complete, until the stream ends, a message
+/// asks to close it, or a message is bad. At most 1,048,576 takes are made. Bytes after a closing or a bad message
 /// may have been taken.
 ///
 /// After an error the archive is the one after the messages that were answered: all that were taken whole, unless a put
@@ -45,7 +45,7 @@ pub fn serve<S: Alter, I: Inlet, O: Outlet>(
     ensures served { IsServed (AnswersMessage RequestStep) (λ P. ByArchive S.Store P archive.old archive.new) I.Inlet O.Outlet input.old input.new output.old output.new result }
     // Of one list of messages and one of their replies' bytes: the store answered the first messages of the stream, each archive that it represented went through a
     // run over them, a request that is refused for its own words is answered by that refusal, whatever the database does, and a crash during the call leaves
-    // the archive after a beginning of them or one more; and a beginning of the bytes was put.
+    // the archive after a prefix of them or one more; and a prefix of the bytes was put.
     ensures steps { IsAnswered S.Store (AreFirstOf (I.to_come input.old)) (GainsSome (O.already output.old) (O.already output.new)) archive.old archive.new }
     // On Ok they are all messages, and all bytes were put.
     ensures whole { OnOk result (IsAnswered S.Store (AreAllOf (I.to_come input.old)) (Gains (O.already output.old) (O.already output.new)) archive.old archive.new) }
@@ -55,7 +55,7 @@ pub fn serve<S: Alter, I: Inlet, O: Outlet>(
     // Whatever the database does: a request that is refused for its own words (member, token, limits, rule) is answered by that refusal, and
     // unavailable never comes in its place; and each other message of the first of them by the bytes of its refusal or of a reply.
     ensures own_refusals { RepliesCutShort (AnswersMessage AnswersFirmly) (I.to_come input.old) tt tt (O.already output.old) (O.already output.new) }
-    // A crash during the call leaves the archive after a beginning of the messages that were sent, or after the one that follows as well,
+    // A crash during the call leaves the archive after a prefix of the messages that were sent, or after the one that follows as well,
     // and no other reply says that something is stored.
     ensures crash { IsServedSafely S.Store (I.to_come input.old) archive.old archive.new (O.already output.old) (O.already output.new) }
     ensures streams { UsesStreams I.Inlet O.Outlet input.old input.new output.old output.new result }
@@ -66,7 +66,7 @@ pub fn serve<S: Alter, I: Inlet, O: Outlet>(
     serve_desk(alloc, archive, input, output)
 }
 
-/// As [`serve`], of an archive in memory: no disk can fail there, so it went through the run in any case.
+/// Like [`serve`], for an archive in memory: no disk can fail there, so the replies are always those of a run.
 pub fn serve_in_memory<I: Inlet, O: Outlet>(
     alloc: Global,
     archive: &mut Archive<MemStore>,

@@ -1,4 +1,4 @@
-//! What a good message asks for.
+//! The request of a good message.
 ghost use Rattle.std.specs.Prelude.{◌≡◌};
 ghost use Rattle.life_pages.specs.HeadState.{said};
 ghost use Rattle.life_pages.specs.RouteState.{route_rows};
@@ -14,7 +14,7 @@ use life_rle::Text;
 use matchit::Router;
 use std::alloc::Global;
 
-/// The method that a route wants.
+/// The method of a route.
 fn method_of(route: &Route<'_>) -> &'static str
     ensures { result.now ≡ method_of route.now }
 {
@@ -105,12 +105,12 @@ fn request_of(
     }
 }
 
-/// Why the archive is not asked.
+/// Why the archive is not asked about a message.
 #[derive(Clone, Copy)]
 pub(crate) enum Unasked {
-    /// The message makes no request.
+    /// The message is not a request.
     Message(MessageRefusal),
-    /// The request is refused: for its own fields, or since there is no memory to copy them.
+    /// The request is refused: for its own fields, or because there is no memory to copy them.
     Request(Refusal),
 }
 

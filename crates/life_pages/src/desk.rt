@@ -1,4 +1,4 @@
-//! What answers requests.
+//! The trait of what answers requests.
 ghost use Rattle.std.specs.Prelude.{◌≡◌, true};
 ghost use Rattle.life_desk.specs.declared.request.Request.{Request};
 ghost use Rattle.life_desk.specs.declared.request.Reply.{Reply};
@@ -11,7 +11,7 @@ ghost use Rattle.life_desk.specs.Replies.{is_shown};
 use life_desk::{Reply, Request};
 use std::alloc::Global;
 
-/// What answers requests. In the product it is an archive; serving knows no more of it than this.
+/// Answers requests. In the program it is an archive; serving depends only on this trait.
 pub(crate) trait Desk {
     // The replies that may be given to a request, and the state after each.
     ghost answers: { Self → Request → Reply → Self → Type 0 };
@@ -22,7 +22,7 @@ pub(crate) trait Desk {
         // What is shown may be withheld: nothing has changed, and that it is unavailable is a reply too.
         ensures may_be_unavailable { is_shown result ≡ true → answers self.old request (says.Refused refusals.Unavailable) self.new };
 
-    /// A request may be refused unasked: for its own words, or, where they are good, as unavailable. A law: calling it does
+    /// A request may be refused unasked: for its own fields or, if these are valid, as unavailable. A law: calling it does
     /// nothing.
     fn law_of_refusals(&self)
         ensures { (request : Request) (refusal : Refusal) → MayRefuse (validated request) refusal → answers self.now request (says.Refused refusal) self.now };

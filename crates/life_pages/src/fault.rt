@@ -6,9 +6,9 @@ ghost use Rattle.std.specs.Prelude.{◌≡◌};
 pub enum MessageRefusal {
     /// No route has the path.
     NoSuchRoute = 12,
-    /// The route wants another method.
+    /// The route has another method.
     BadMethod = 13,
-    /// The bytes are no good message.
+    /// The bytes are not a good message.
     BadMessage = 14,
 }
 
@@ -22,7 +22,7 @@ impl MessageRefusal {
         self as u8
     }
 
-    /// What the refusal is called, in small letters.
+    /// The name of the refusal, in lower case.
     pub fn name(self) -> &'static str
         ensures { result.now ≡ (label_of self).name }
     {
@@ -43,7 +43,7 @@ pub enum IoFault {
     Write = 2,
     /// A take past the limit would be needed.
     TooManyReads = 3,
-    /// An allocation was refused before the first take.
+    /// Out of memory before the first take.
     Memory = 4,
 }
 

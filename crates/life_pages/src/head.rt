@@ -91,7 +91,7 @@ pub(crate) fn trimmed(bytes: &[u8]) -> &[u8]
     without_back(without_front(bytes))
 }
 
-/// How many bytes stand before the first of this value.
+/// How many bytes come before the first with this value.
 pub(crate) fn len_before(bytes: &[u8], byte: u8) -> usize
     ensures value { result ≡ prefix_len (λ b. not (b == byte)) bytes.now }
     ensures within { result ≤ length bytes.now }
@@ -170,7 +170,7 @@ pub(crate) struct GoodHead<'b> {
     pub closes: bool,
 }
 
-/// What bytes begin with.
+/// The result of reading the front of some bytes.
 #[derive(Drop)]
 pub(crate) enum HeadRead<'b> {
     More,
@@ -209,7 +209,7 @@ fn says_to_close(lines: &[Header<'_>]) -> bool
     false
 }
 
-/// What the parts of a head say.
+/// Reads the parts of a head.
 fn validate<'b>(
     len: usize,
     method: &'b str,
@@ -236,14 +236,14 @@ fn validate<'b>(
     })
 }
 
-/// Whether so many lines are more than a head may have.
+/// Whether this many lines are more than a head may have.
 fn are_too_many(lines: usize) -> bool
     ensures { result ≡ nat_lt line_limit lines }
 {
     lines > LINE_LIMIT
 }
 
-/// What the bytes begin with, as far as they have come.
+/// What the bytes so far begin with.
 pub(crate) fn read_head(bytes: &[u8]) -> HeadRead<'_>
     ensures { ReadsHead bytes.now result }
 {

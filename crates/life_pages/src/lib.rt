@@ -17,4 +17,4 @@ mod serving;
 
 pub use archive::{serve, serve_in_memory};
 pub use fault::{IoFault, MessageRefusal};
-pub use laws::laws_of_messages;
+pub use laws::{laws_of_heads, laws_of_messages};

@@ -13,13 +13,13 @@ use itoa::Buffer;
 use life_desk::{Refusal, Reply};
 use std::alloc::{AllocError, Global};
 
-/// Room for each reply that is not as long as what it shows.
+/// Room for every reply whose length does not depend on what it shows.
 pub(crate) const REPLY_ROOM: usize = 512;
 
 /// Room for its body.
 pub(crate) const BODY_ROOM: usize = 128;
 
-/// Room for what stands before a body.
+/// Room for what comes before a body.
 const FRONT_ROOM: usize = 160;
 
 static NO_SUCH_PAGE: &[u8] =
@@ -46,7 +46,7 @@ pub(crate) fn page_reply(refusal: MessageRefusal) -> &'static [u8]
     }
 }
 
-/// The reply if memory or the store refused.
+/// The reply if memory or the store failed.
 pub(crate) fn unavailable() -> &'static [u8]
     ensures bytes { result.now ≡ unavailable_bytes }
     ensures short { length result.now ≤ 160 }
@@ -64,7 +64,7 @@ pub(crate) fn add(out: &mut Vec<u8>, bytes: &[u8])
     out.extend_from_slice(bytes).unwrap();
 }
 
-/// The words after a status.
+/// The reason phrase of a status.
 #[tactic(auto, unfolding(crate::specs::Reply::phrase))]
 fn words_of(status: StatusCode) -> &'static str
     ensures { result.now ≡ phrase status }
@@ -178,7 +178,7 @@ pub(crate) fn write_refusal(out: &mut Vec<u8>, body: &mut Vec<u8>, refusal: &Ref
     add_reply(out, status_of(refusal), "application/json", body);
 }
 
-/// Writes a reply with a body that is at hand, of any length.
+/// Writes a reply with an existing body of any length.
 fn write_body(out: &mut Vec<u8>, kind: &str, body: &[u8]) -> Result<(), AllocError>
     requires { length kind.now ≤ 40 }
     ensures ok { OnOk result (out.new.items ≡ reply_bytes 200 kind.now body.now) }
@@ -198,7 +198,7 @@ fn write_body(out: &mut Vec<u8>, kind: &str, body: &[u8]) -> Result<(), AllocErr
     }
 }
 
-/// Writes that memory was wanting.
+/// Writes the reply for out of memory.
 fn write_unavailable(out: &mut Vec<u8>)
     requires { REPLY_ROOM ≤ vec_capacity out.old }
     ensures bytes { out.new.items ≡ unavailable_bytes }
@@ -218,7 +218,7 @@ pub(crate) fn write_page(out: &mut Vec<u8>, refusal: MessageRefusal)
     add(out, page_reply(refusal));
 }
 
-/// Writes a reply with a JSON body that was made for it.
+/// Writes a reply with a JSON body.
 fn write_json(out: &mut Vec<u8>, body: Vec<u8>) -> Result<(), AllocError>
     ensures ok { OnOk result (out.new.items ≡ reply_bytes 200 json body.items) }
     ensures room { vec_capacity out.old ≤ vec_capacity out.new }
@@ -226,7 +226,7 @@ fn write_json(out: &mut Vec<u8>, body: Vec<u8>) -> Result<(), AllocError>
     write_body(out, "application/json", &body)
 }
 
-/// Writes a reply that is as long as what it shows.
+/// Writes a reply whose length depends on what it shows.
 fn write_long(alloc: Global, out: &mut Vec<u8>, reply: &Reply) -> Result<(), AllocError>
     requires { is_shown reply.now ≡ true }
     ensures ok { OnOk result (out.new.items ≡ bytes_of reply.now) }
@@ -242,8 +242,8 @@ fn write_long(alloc: Global, out: &mut Vec<u8>, reply: &Reply) -> Result<(), All
     }
 }
 
-/// Writes a reply. One that is short allocates nothing; in place of a long one, that memory was
-/// wanting may be written.
+/// Writes a reply. A short one allocates nothing; a long one may be replaced by the reply for out of
+/// memory.
 pub(crate) fn write_reply(alloc: Global, out: &mut Vec<u8>, body: &mut Vec<u8>, reply: &Reply)
     requires room { REPLY_ROOM ≤ vec_capacity out.old }
     requires body_room { BODY_ROOM ≤ vec_capacity body.old }

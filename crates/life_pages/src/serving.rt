@@ -30,10 +30,10 @@ const TAKES: u64 = 1_048_576;
 /// The most bytes of one take.
 const MOST_TAKEN: usize = 4096;
 
-/// What became of the first message that is held.
+/// The result for the first message that is held.
 #[derive(Clone, Copy)]
 pub(crate) enum Step {
-    /// It has not come whole.
+    /// It is not complete.
     Wants,
     /// It was answered, and the stream continues.
     Goes,
@@ -41,7 +41,7 @@ pub(crate) enum Step {
     Ends,
 }
 
-/// Drops the bytes in front of a place.
+/// Drops the bytes before a place.
 fn forget(held: &mut Vec<u8>, n: usize)
     requires { n ≤ vec_len held.old }
     ensures items { held.new.items ≡ drop n held.old.items }
@@ -62,7 +62,7 @@ fn put_bad<O: Outlet>(output: &mut O) -> Result<(), Failed>
     put_all(output, page_reply(MessageRefusal::BadMessage))
 }
 
-/// Answers the first message, if it has come whole. If fewer bytes are held than are wanted, it has not.
+/// Answers the first message, if it is complete. It is not if fewer bytes are held than needed.
 #[tactic(auto, using(crate::proofs::MessageStanding::wants_none))]
 fn serve_one<O: Outlet, D: Desk>(
     alloc: Global,
@@ -114,7 +114,7 @@ fn serve_one<O: Outlet, D: Desk>(
     Ok(Step::Goes)
 }
 
-/// Answers all messages that are held whole. Whether the stream has ended.
+/// Answers all complete messages that are held. Returns whether the stream has ended.
 fn serve_held<O: Outlet, D: Desk>(
     alloc: Global,
     routes: &Router<Template>,
@@ -154,7 +154,7 @@ fn room_left(held: &Vec<u8>) -> usize
     (HELD_LIMIT - held.len()).min(MOST_TAKEN)
 }
 
-/// Takes bytes into some room, and adds them to those that are held.
+/// Takes bytes into a buffer, and adds them to those that are held.
 fn take_into<I: Inlet>(input: &mut I, space: &mut [u8], held: &mut Vec<u8>) -> Result<usize, Failed>
     requires some { 0 < length space.old }
     requires fits { vec_len held.old + length space.old ≤ vec_capacity held.old }
@@ -193,7 +193,7 @@ fn take_more<I: Inlet>(input: &mut I, held: &mut Vec<u8>) -> Result<usize, Faile
     take_into(input, &mut space[..room], held)
 }
 
-/// What became of bytes that were taken as long as they were CR and LF.
+/// The result of taking bytes as long as they are CR and LF.
 #[derive(Clone, Copy)]
 pub(crate) enum Passed {
     /// All were, to the end.
@@ -262,7 +262,7 @@ fn serve_blank<I: Inlet, O: Outlet>(
     }
 }
 
-/// The end of the input: what is held is CR and LF alone, or a message that is cut short.
+/// The end of the input: the held bytes are only CR and LF, or a message that is cut off.
 fn finish<O: Outlet, D: Desk>(desk: &D, output: &mut O, held: &[u8]) -> Result<(), IoFault>
     requires { HasNone held.now }
     ensures end { AtEnd (AnswersMessage D.answers) result held.now desk.now (O.already output.old) (O.already output.new) }
@@ -277,12 +277,12 @@ fn finish<O: Outlet, D: Desk>(desk: &D, output: &mut O, held: &[u8]) -> Result<(
     }
 }
 
-/// What serving needs room for.
+/// The memory that serving needs.
 #[derive(Drop)]
 struct Ready {
     routes: Router<Template>,
     held: Vec<u8>,
-    /// No message is whole before so many bytes are held.
+    /// No message is whole before this many bytes are held.
     wanted: usize,
     draft: ReplyBuffers,
 }
@@ -308,7 +308,7 @@ fn prepared(alloc: Global) -> Result<Ready, AllocError>
     }
 }
 
-/// Answers the messages of a stream, with room made ready.
+/// Answers the messages of a stream, with the memory reserved.
 fn serve_stream<I: Inlet, O: Outlet, D: Desk>(
     alloc: Global,
     ready: &mut Ready,
@@ -358,7 +358,7 @@ fn serve_stream<I: Inlet, O: Outlet, D: Desk>(
     }
 }
 
-/// Answers the messages of a stream by any desk.
+/// Answers the messages of a stream with any desk.
 pub(crate) fn serve_desk<I: Inlet, O: Outlet, D: Desk>(
     alloc: Global,
     desk: &mut D,

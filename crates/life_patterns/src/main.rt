@@ -1,5 +1,5 @@
-//! The program `life` without its archive: the jobs over a pattern file or a code. It takes the same words and prints the same
-//! texts; what asks for an archive is unavailable here.
+//! The program `life` without its archive: the jobs over a pattern file or a code. It takes the same arguments and prints the
+//! same texts; commands that need an archive answer `unavailable`.
 #![tactic(auto)]
 
 ghost use Rattle.std.specs.Prelude.{◌≡◌, Some, codes};
@@ -19,6 +19,8 @@ impl ArchiveJobs for NoArchive {
 
     ghost serves = { λ file port connections line. line ≡ Some (codes "refused: unavailable") };
 
+    ghost checks = { λ O o file output sent line. line ≡ Some (codes "refused: unavailable") };
+
     fn deposit<I: Inlet, O: Outlet>(
         self,
         _rt: &HostRuntime,
@@ -37,6 +39,15 @@ impl ArchiveJobs for NoArchive {
         _file: &str,
         _port: u64,
         _connections: u64,
+    ) -> Result<(), &'static str> {
+        Err(Stop::Unavailable.line())
+    }
+
+    fn check<O: Outlet>(
+        self,
+        _rt: &HostRuntime,
+        _file: &str,
+        _output: &mut O,
     ) -> Result<(), &'static str> {
         Err(Stop::Unavailable.line())
     }

@@ -5,8 +5,7 @@ use Rattle.std.proofs.lemmas.Int.{ints}
 use Rattle.std.proofs.lemmas.List.Elements.{All-head, All-tail}
 use Rattle.life_core.specs.declared.cell.Cell.{Cell}
 use Rattle.life_core.specs.declared.cell.TheConstants.{PLANE}
-use Rattle.life_rle.specs.Writer.{coordinates, width_of, height_of}
-use Rattle.life_rle.specs.WriterState.{IsQuarterCell}
+use Rattle.life_rle.specs.Writer.{coordinates, width_of, height_of, IsQuarterCell}
 
 columns : (n : ℕ) (cs : List Cell) → n ≤ PLANE + 1 → All IsQuarterCell cs → fold (λ m (p : ℕ × ℕ). max m (p.0 + 1)) n (map coordinates cs) ≤ PLANE + 1
 columns n [] low all = low

@@ -25,8 +25,7 @@ use Rattle.life_core.proofs.PatternCorners.{Has, cases_cells, least-IsLeast}
 use Rattle.life_core.proofs.PatternMembers.{same_cell, has_cell, same_cell-self, same_cell_laws, contains-items, contains-list, cells_by_members}
 use Rattle.life_core.proofs.PatternOrder.{has_cell-in_order}
 use Rattle.life_core.proofs.Placements.{minus, plus, contains-placed}
-use Rattle.life_rle.specs.Writer.{coordinates}
-use Rattle.life_rle.specs.WriterState.{IsQuarterCell}
+use Rattle.life_rle.specs.Writer.{coordinates, IsQuarterCell}
 use Rattle.life_pictures.specs.Runs.{runs_of, run_path, path}
 use Rattle.life_pictures.specs.Frames.{trail_cells, trail, in_box, frame, next_frames}
 use Rattle.life_pictures.specs.FramesState.{IsCornerOf}

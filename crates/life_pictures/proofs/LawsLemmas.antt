@@ -1,4 +1,4 @@
--- Lines leave out the dead cells at their ends, and the runs of cells are the cells, and are the longest.
+-- Lines leave out the dead cells at their ends; runs have exactly the cells, and are the longest.
 use Rattle.std.proofs.Common.{◌≡◌, ℕ, suc, ◌+◌, ◌-◌, Bool, true, false, ◌&&◌, ◌||◌, cond, List, [], ◌∷◌, ◌++◌, replicate, refl, ap, ◌∙◌, sym, subst, arith, add-one}
 use Rattle.std.specs.List.{flat_map}
 use Rattle.std.proofs.lemmas.Bool.{eqb-true}

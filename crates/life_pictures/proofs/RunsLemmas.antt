@@ -9,8 +9,8 @@ use Rattle.std.proofs.lemmas.Bool.{eq-eqb}
 use Rattle.life_core.specs.declared.runs.Run.{Run as CellRun}
 use Rattle.life_core.specs.Runs.{cells_from, runs_cells, first_cell, NoneJoins, AreLongest}
 use Rattle.life_rle.specs.Body.{run}
-use Rattle.life_rle.specs.Writer.{coordinates}
-use Rattle.life_rle.specs.WriterState.{IsQuarterCell, IsQuarterRun, column_of, row_of}
+use Rattle.life_rle.specs.Writer.{coordinates, IsQuarterCell, IsQuarterRun}
+use Rattle.life_rle.specs.WriterState.{column_of, row_of}
 use Rattle.life_rle.proofs.RunPairs.{run_pairs, runs_pairs}
 use Rattle.life_pictures.specs.declared.runs.Run.{Run}
 use Rattle.life_pictures.specs.Runs.{is_right_of, run_from, before_runs, runs_of, run_path}

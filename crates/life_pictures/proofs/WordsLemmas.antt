@@ -1,4 +1,4 @@
--- `clap`'s answer to words is known for the command of `life-draw`.
+-- `clap`'s answer to arguments is known for the command of `life-draw`.
 use Rattle.std.proofs.Common.{◌≡◌, true, refl}
 use Rattle.clap.proofs.OnLiterals.{clap_on_literals}
 use Rattle.clap.specs.Words.{is_simple, is_simple_and_free}

@@ -12,12 +12,12 @@ opening width height =
     with_number (codes "<svg xmlns=\"http://www.w3.org/2000/svg\" viewBox=\"-1 -1 ") (width + 2) ++ with_number (codes " ") (height + 2)
     ++ codes "\" shape-rendering=\"crispEdges\">\n"
 
--- what is dead: the whole view box
+-- the background: the whole view box
 abbrev pub background : ℕ → ℕ → List ℕ
 background width height =
     with_number (codes "<rect x=\"-1\" y=\"-1\" width=\"") (width + 2) ++ with_number (codes "\" height=\"") (height + 2) ++ codes "\" fill=\"white\"/>\n"
 
--- what stands before the paths
+-- what comes before the paths
 unfoldable pub front : ℕ → ℕ → Option (List ℕ) → List ℕ
 front width height name = opening width height ++ title name ++ background width height
 

@@ -1,4 +1,4 @@
--- A pattern in motion as an SVG document: one path, whose data become those of the next generation, frame after frame (W3C, "Scalable Vector
+-- Animations as SVG documents: one path, whose data change to those of the next generation, frame after frame (W3C, "Scalable Vector
 -- Graphics 2", "Path data"; "SVG Animations Level 2", "The 'animate' element").
 use Rattle.std.specs.Prelude.{ℕ, ◌+◌, ◌*◌, neg_ℤ, List, ◌++◌, codes, Option}
 use Rattle.std.specs.List.{flat_map, range_with_len}
@@ -14,40 +14,40 @@ use Rattle.life_pictures.specs.Numbers.{with_number}
 use Rattle.life_pictures.specs.Runs.{path}
 use Rattle.life_pictures.specs.Document.{front}
 
--- the cells of X and of its generations, so many in all
+-- the cells of X and of its next generations, this many in all
 abbrev pub trail_cells : RuleSets → Cells → ℕ → List Cell
 trail_cells rule X count = flat_map (λ k. in_order (generation_of rule X k)) (range_with_len 0 count)
 
--- all that is live in one of them
+-- all cells that are live in one of them
 unfoldable pub trail : RuleSets → Cells → ℕ → Cells
 trail rule X count = set.from_list (trail_cells rule X count)
 
--- a set in a box of which this cell is the upper left one
+-- a set in a box whose upper left cell is this one
 abbrev pub in_box : Cell → Cells → Cells
 in_box at X = image (moved_cell (neg_ℤ at.column) (neg_ℤ at.row)) X
 
--- the data of a path over such a set; the first move draws nothing, so that no data are empty
+-- the data of a path for such a set; the first move draws nothing, so that the data are never empty
 unfoldable pub frame : Cell → Cells → List ℕ
 frame at X = codes "M0 0" ++ path (in_box at X)
 
--- the frames of so many generations after X, a semicolon before each
+-- the frames of this many generations after X, with a semicolon before each
 abbrev pub next_frames : RuleSets → Cells → Cell → ℕ → List ℕ
 next_frames rule X at count = flat_map (λ k. codes ";" ++ frame at (generation_of rule X (k + 1))) (range_with_len 0 count)
 
--- a path that shows the frames of X and of so many generations after it, each for 125 milliseconds, over and over
+-- a path that shows the frames of X and of this many generations after it, each for 125 milliseconds, in a loop
 unfoldable pub animated_path : RuleSets → Cells → Cell → ℕ → List ℕ
 animated_path rule X at more =
     codes "<path d=\"" ++ frame at X
     ++ with_number (codes "\"><animate attributeName=\"d\" calcMode=\"discrete\" dur=\"") (125 * (more + 1))
     ++ codes "ms\" repeatCount=\"indefinite\" values=\"" ++ frame at X ++ next_frames rule X at more ++ codes "\"/></path>\n"
 
--- the document of X and of so many generations after it, in the box of all of them
+-- the document of X and this many generations after it, in the box of all of them
 unfoldable pub moving : Option (List ℕ) → RuleSets → Cells → ℕ → List ℕ
 moving name rule X more =
     let all = trail rule X (more + 1) in
     let box = pairs_of (normal all) in
     front (width_of box) (height_of box) name ++ animated_path rule X (corner all) more ++ codes "</svg>\n"
 
--- the document of generation n of a record and of so many more
+-- the document of generation n of a record and this many more
 abbrev pub animation : Contents → ℕ → ℕ → List ℕ
 animation r n more = moving r.name r.rule (generation_of r.rule r.cells n) more

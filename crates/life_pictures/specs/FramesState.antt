@@ -1,4 +1,4 @@
--- What the private calls that draw frames are handed.
+-- The arguments of the private functions that draw frames.
 use Rattle.std.specs.Prelude.{◌≡◌, ◌≤ℤ◌, ◌<◌, ℕ, true}
 use Rattle.std.specs.FinSet as set
 use Rattle.life_core.specs.declared.cell.Cell.{Cell}
@@ -9,6 +9,6 @@ use Rattle.life_pictures.specs.declared.frames.TheConstants.{MOST_FRAMES}
 abbrev pub IsCornerOf : Cell → Cells → Type 0
 IsCornerOf at X = (c : Cell) → set.contains X c ≡ true → (at.column ≤ℤ c.column) × (at.row ≤ℤ c.row)
 
--- a pattern near the origin, and as many generations after it as an animation may show
+-- a pattern near the origin, and no more generations after it than an animation may show
 abbrev pub AreFrames : Cells → ℕ → Type 0
 AreFrames start more = (more < MOST_FRAMES) × IsWithin 3072 start

@@ -1,4 +1,4 @@
--- What `life-draw` puts for the bytes that come in.
+-- What `life-draw` writes for its input.
 use Rattle.std.specs.Prelude.{ℕ, ◌≤◌, ◌<◌, ◌-◌, List, Result}
 use Rattle.life_rle.specs.declared.fault.RleFault.{RleFault}
 use Rattle.life_rle.specs.Record.{Contents}
@@ -11,7 +11,7 @@ use Rattle.life_pictures.specs.declared.frames.TheConstants.{MOST_FRAMES}
 use Rattle.life_pictures.specs.Document.{svg}
 use Rattle.life_pictures.specs.Frames.{animation}
 
--- the numbers of a picture are good: the generations of an animation may be asked for, and are not too many
+-- the numbers of a picture are valid: the generations of an animation are in range, and not too many
 abbrev pub IsGood : Picture → Type 0
 IsGood (Animation first last) = (first ≤ last) × (last ≤ GENERATION_LIMIT) × (last - first < MOST_FRAMES)
 IsGood picture = Unit {0}

@@ -14,17 +14,17 @@ use Rattle.life_pictures.specs.Title.{xml_text}
 
 -- ---- lines
 
--- What a line leaves out are dead cells at its end ..
+-- A line leaves out only dead cells at its end ..
 abbrev pub DeadAreLeftOut : Type 0
 DeadAreLeftOut = (all : List (Bool × Bool)) → (n : ℕ) × (trimmed all ++ replicate n (false, false) ≡ all)
 
--- .. and all of them: where it shows cells, one of the last two is live.
+-- .. and all of them: if it shows cells, one of the last two is live.
 abbrev pub LinesEndLive : Type 0
 LinesEndLive = (all front : List (Bool × Bool)) (last : Bool × Bool) → trimmed all ≡ front ++ last ∷ [] → (last.0 || last.1) ≡ true
 
 -- ---- paths
 
--- The cells of the runs of a path, one after the other, are the cells.
+-- The runs of a path have exactly the cells, in their order.
 abbrev pub RunsAreTheCells : Type 0
 RunsAreTheCells = (cells : List (ℕ × ℕ)) → flat_map cells_of_run (runs_of cells) ≡ cells
 
@@ -34,19 +34,19 @@ AreMaximalRuns [] = Unit {0}
 AreMaximalRuns (run ∷ []) = 0 < run.length
 AreMaximalRuns (run ∷ next ∷ runs) = (0 < run.length) × (is_right_of (run.column + (run.length - 1), run.row) next ≡ false) × AreMaximalRuns (next ∷ runs)
 
--- No two neighbours of the runs could be one run.
+-- No two neighbouring runs could be one.
 abbrev pub RunsAreLongest : Type 0
 RunsAreLongest = (cells : List (ℕ × ℕ)) → AreMaximalRuns (runs_of cells)
 
 -- ---- animations
 
--- Each cell of a frame is one of the set whose box is the view box.
+-- Each cell of a frame is in the set whose box is the view box.
 abbrev pub FramesAreInTheBox : Type 0
 FramesAreInTheBox = (rule : RuleSets) (X : Cells) (more k : ℕ) (c : Cell) → k ≤ more → set.contains (in_box (corner (trail rule X (more + 1))) (generation_of rule X k)) c ≡ true
     → set.contains (normal (trail rule X (more + 1))) c ≡ true
 
 -- ---- titles
 
--- No name has a `<` in its XML text, so none ends the title that it stands in.
+-- The XML text of a name has no `<`, so no name ends its title.
 abbrev pub NamesStayText : Type 0
 NamesStayText = (name : List ℕ) → All (λ byte. byte ≢ 60) (xml_text name)

@@ -1,4 +1,4 @@
--- A picture as lines of half blocks: a character stands for two cells, one above the other (Unicode, "Block Elements").
+-- A picture as lines of half blocks: a character shows two cells, one above the other (Unicode, "Block Elements").
 use Rattle.std.specs.Prelude.{ℕ, pos, ◌+◌, ◌*◌, Bool, true, false, ◌||◌, if◌then◌else◌, List, [], ◌∷◌, ◌++◌, map}
 use Rattle.std.specs.List.{flat_map, range_with_len}
 use Rattle.std.specs.Char.{encode_utf8}
@@ -23,7 +23,7 @@ half_block (true, false) = 0x2580
 half_block (false, true) = 0x2584
 half_block (false, false) = space
 
--- two cells before others; if both are dead and none follow, they are left out
+-- two cells in front of others; if both are dead and no others follow, they are left out
 abbrev pub before_cells : Bool × Bool → List (Bool × Bool) → List (Bool × Bool)
 before_cells two [] = if two.0 || two.1 then two ∷ [] else []
 before_cells two (next ∷ others) = two ∷ next ∷ others
@@ -33,11 +33,11 @@ unfoldable pub trimmed : List (Bool × Bool) → List (Bool × Bool)
 trimmed [] = []
 trimmed (two ∷ others) = before_cells two (trimmed others)
 
--- what line i shows of so many columns
+-- what line i shows in this many columns
 abbrev pub cells_of_line : Cells → ℕ → ℕ → List (Bool × Bool)
 cells_of_line X width i = trimmed (map (two_cells X i) (range_with_len 0 width))
 
--- line i of so many columns, with its end
+-- line i with this many columns, with its end
 unfoldable pub line : Cells → ℕ → ℕ → List ℕ
 line X width i = flat_map (λ two. encode_utf8 (half_block two)) (cells_of_line X width i) ++ line_feed ∷ []
 

@@ -19,17 +19,17 @@ run_from cell length = record { column = cell.0; row = cell.1; length = length }
 abbrev pub cells_of_run : Run → List (ℕ × ℕ)
 cells_of_run r = run r.column r.row r.length
 
--- one more cell (column, row) before runs
+-- one more cell (column, row) in front of runs
 abbrev pub before_runs : ℕ × ℕ → List Run → List Run
 before_runs cell [] = run_from cell 1 ∷ []
 before_runs cell (run ∷ runs) = if is_right_of cell run then run_from cell (run.length + 1) ∷ runs else run_from cell 1 ∷ run ∷ runs
 
--- the longest runs of cells that stand in the order of rows and columns
+-- the longest runs of cells that are in the order of rows and columns
 unfoldable pub runs_of : List (ℕ × ℕ) → List Run
 runs_of [] = []
 runs_of (cell ∷ cells) = before_runs cell (runs_of cells)
 
--- the rectangle round a run: from its upper left corner to the right, down, and back
+-- the rectangle around a run: from its upper left corner to the right, down, and back
 unfoldable pub run_path : Run → List ℕ
 run_path run = with_number (codes "M") run.column ++ with_number (codes " ") run.row ++ with_number (codes "h") run.length ++ with_number (codes "v1h-") run.length ++ codes "z"
 

@@ -7,11 +7,11 @@ use Rattle.std.specs.Str.{chars}
 use Rattle.std.specs.Str.Lossy.{utf8_lossy}
 use Rattle.life_core.specs.Ascii.{tab, line_feed, carriage_return, space}
 
--- a character that an XML document may have
+-- a character that XML allows
 abbrev pub is_xml_char : ℕ → Bool
 is_xml_char c = c == tab || c == line_feed || c == carriage_return || is_in_range space 0xD7FF c || is_in_range 0xE000 0xFFFD c || is_in_range 0x10000 0x10FFFF c
 
--- a character as XML text: `&`, `<`, `>` and the carriage return as references, and U+FFFD for one that no document may have
+-- a character as XML text: `&`, `<`, `>` and the carriage return as references, and U+FFFD for one that XML forbids
 abbrev pub escaped : ℕ → List ℕ
 escaped c =
     if c == 38 then codes "&amp;"
@@ -21,7 +21,7 @@ escaped c =
     else (if is_xml_char c then encode_utf8 c
     else encode_utf8 0xFFFD))))
 
--- bytes as XML text: what of them is not UTF-8 reads as U+FFFD
+-- bytes as XML text: invalid UTF-8 becomes U+FFFD
 unfoldable pub xml_text : List ℕ → List ℕ
 xml_text bytes = flat_map escaped (chars (utf8_lossy bytes))
 

@@ -1,5 +1,5 @@
--- The words of the command line of `life-draw`, and the picture that they name.
--- What a command is, which words it takes and what it reads of them is said by the kit's `clap`; the names of the
+-- The arguments of `life-draw`, and the picture that they name.
+-- The kit's `clap` defines what a command is, which arguments it takes and what it reads in them; the names of the
 -- subcommands are the program's own.
 use Rattle.std.specs.Prelude.{true, if◌then◌else◌, List, Option, None, Some, option_and_then, codes, bytes_eq}
 use Rattle.clap.specs.Words.{App, Row, Text, new_app, with_rule, with_subcommand}
@@ -20,7 +20,7 @@ svg_app = new_app (codes "svg")
 abbrev pub animation_app : App
 animation_app = with_rule (with_rule (new_app (codes "animation")) (number_rule (codes "FIRST"))) (number_rule (codes "LAST"))
 
--- the program's name, which wants one of its subcommands
+-- the program's name, which requires a subcommand
 abbrev pub draw_alone : App
 draw_alone = on_top (λ top. record top { subcommand_required = true }) (with_version (new_app (codes "life-draw")))
 
@@ -36,6 +36,6 @@ picture_named name rows =
     else (if bytes_eq name (codes "animation") then if_both picture.Animation (number_at (codes "FIRST") rows) (number_at (codes "LAST") rows)
     else None))
 
--- the picture that the words name, the program's name first
+-- the picture that the arguments name, the program's name first
 unfoldable pub words_picture : List Text → Option Picture
 words_picture words = option_and_then (λ found. by_subcommand picture_named found.1) (matches_in draw words)

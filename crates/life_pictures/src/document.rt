@@ -23,7 +23,7 @@ fn put_opening<A: Allocator>(out: &mut Vec<u8, A>, extent: Extent) -> Result<(),
     Ok(())
 }
 
-/// Writes the rectangle of the view box, on which the cells stand.
+/// Writes the rectangle of the view box, behind the cells.
 fn put_background<A: Allocator>(out: &mut Vec<u8, A>, extent: Extent) -> Result<(), AllocError>
     requires width { extent.width < 2 ^ 62 }
     requires height { extent.height < 2 ^ 62 }
@@ -35,7 +35,7 @@ fn put_background<A: Allocator>(out: &mut Vec<u8, A>, extent: Extent) -> Result<
     Ok(())
 }
 
-/// Writes what stands before the paths of a document: its opening, its title and its background.
+/// Writes the beginning of a document up to its paths: its opening, its title and its background.
 pub(crate) fn put_front<A: Allocator + Copy>(
     alloc: A,
     out: &mut Vec<u8, A>,

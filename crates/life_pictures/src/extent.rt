@@ -1,8 +1,7 @@
 //! The width and the height of a normal set's box.
 ghost use Rattle.std.specs.Prelude.{◌≡◌, ◌≤◌, ◌+◌, map};
 ghost use Rattle.std.specs.List.{All};
-ghost use Rattle.life_rle.specs.Writer.{coordinates, width_of, height_of};
-ghost use Rattle.life_rle.specs.WriterState.{IsQuarterCell};
+ghost use Rattle.life_rle.specs.Writer.{coordinates, width_of, height_of, IsQuarterCell};
 
 use life_core::{PLANE, Runs};
 use life_rle::size_of;
@@ -15,7 +14,7 @@ pub struct Extent {
     pub height: u64,
 }
 
-/// The box of cells from the origin on, which is 0 by 0 if there are none.
+/// The box of cells from the origin on; 0 by 0 if there are none.
 pub fn extent_of<A: Allocator>(cells: &Runs<A>) -> Extent
     requires { All IsQuarterCell cells.now }
     ensures width { result.width ≡ width_of (map coordinates cells.now) }

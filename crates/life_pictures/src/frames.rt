@@ -1,4 +1,4 @@
-//! A pattern in motion as an SVG document: a frame for each generation, all in one box.
+//! Animations as SVG documents: a frame for each generation, all in one box.
 ghost use Rattle.std.specs.Prelude.{◌≡◌, ◌≤◌, ◌<◌, ◌+◌, ◌++◌, ℕ, IfOk, OnOk};
 ghost use Rattle.life_core.specs.Cell.{IsCellWithin};
 ghost use Rattle.life_core.specs.Generations.{generation_of};
@@ -15,7 +15,7 @@ use life_core::{Cell, Fault, GENERATION_LIMIT, Pattern, Rule, generation, list_r
 use life_rle::{Record, Text};
 use std::alloc::Allocator;
 
-/// The most frames of an animation: its document is made whole before any of it is put.
+/// The most frames of an animation: the whole document is in memory before any of it is written.
 pub const MOST_FRAMES: u32 = 240;
 
 /// The upper left cell of a pattern's box, or the origin if it has no cell.
@@ -34,7 +34,7 @@ fn corner_of<A: Allocator>(pattern: &Pattern<A>) -> Cell
     }
 }
 
-/// All cells that are live in a pattern or in one of so many generations after it.
+/// All cells that are live in a pattern or in one of this many generations after it.
 fn trail<A: Allocator + Copy>(
     alloc: A,
     rule: &Rule,
@@ -72,7 +72,7 @@ fn put_frame<A: Allocator + Copy>(
     Ok(())
 }
 
-/// Writes the path that shows a pattern and so many generations after it.
+/// Writes the path that shows a pattern and this many generations after it.
 fn put_animated_path<A: Allocator + Copy>(
     alloc: A,
     out: &mut Vec<u8, A>,
@@ -102,7 +102,7 @@ fn put_animated_path<A: Allocator + Copy>(
     Ok(())
 }
 
-/// A pattern of this name and so many generations after it as an SVG document.
+/// A pattern with this name, and this many generations after it, as an SVG document.
 fn moving<A: Allocator + Copy>(
     alloc: A,
     name: &Option<Text<A>>,
@@ -124,7 +124,7 @@ fn moving<A: Allocator + Copy>(
     Ok(out)
 }
 
-/// Generation `n` of a record and so many more as an SVG document that shows one after the other. The title is the record's name, and the
+/// Generation `n` of a record and this many more, as an SVG document that shows one after the other. The title is the record's name, and the
 /// view box is the box of all of them, with a margin of one cell.
 pub fn animation<A: Allocator + Copy>(
     alloc: A,

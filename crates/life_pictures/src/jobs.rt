@@ -1,4 +1,4 @@
-//! Drawing the pattern file that comes in.
+//! Drawing the pattern file on the input.
 ghost use Rattle.std.specs.Prelude.{◌≡◌, ◌↔◌, IsTrue, IfOk, Err};
 ghost use Rattle.life_rle.specs.Record.{IsInside};
 ghost use Rattle.life_jobs.specs.Jobs.{PutsKnown};
@@ -24,7 +24,7 @@ pub enum Picture {
     Animation { first: u64, last: u64 },
 }
 
-/// Whether the numbers of a picture are good.
+/// Whether the numbers of a picture are valid.
 fn is_good(picture: Picture) -> bool
     ensures { IsTrue result ↔ IsGood picture }
 {
@@ -53,7 +53,7 @@ fn drawn(alloc: Global, picture: Picture, record: &Record) -> Result<Vec<u8>, Fa
     }
 }
 
-/// Puts the picture of a record.
+/// Writes the picture of a record.
 fn put_picture<O: Outlet>(
     alloc: Global,
     picture: Picture,
@@ -71,8 +71,8 @@ fn put_picture<O: Outlet>(
     }
 }
 
-/// Reads a pattern file and puts its picture. The numbers of an animation are judged first, before a byte is taken: the first is not above
-/// the last, the last is 2048 at most, and there are at most [`MOST_FRAMES`]. The input is taken to its end, or to byte 1,048,577.
+/// Reads a pattern file and writes its picture. It checks the numbers of an animation before it reads anything: the first is not above the
+/// last, the last is at most 2048, and there are at most [`MOST_FRAMES`]. It reads the input to its end, or to byte 1,048,577.
 pub fn run_draw<I: Inlet, O: Outlet>(
     alloc: Global,
     picture: Picture,
@@ -81,7 +81,7 @@ pub fn run_draw<I: Inlet, O: Outlet>(
 ) -> Result<(), Stop>
     ensures limit { (result ≡ Err Stop.OutOfLimit) ↔ ¬ IsGood picture }
     ensures untouched { ¬ IsGood picture → (input.new ≡ input.old) × (output.new ≡ output.old) }
-    // If the bytes that come in are known, what is put is their picture, and a bad pattern is theirs.
+    // If the input bytes are known, the output is their picture, and a bad pattern is theirs.
     ensures known { IsGood picture → PutsKnown (picture_text picture) (I.to_come input.old) (O.already output.old) (O.already output.new) result }
     ensures takes { TakesFile (I.to_come input.old) (I.to_come input.new) (I.failures input.old) (I.failures input.new) (I.ends input.old) (I.ends input.new) (I.last_take input.new) result }
     ensures once { PutsOnce output.old output.new (O.failures output.old) (O.failures output.new) (O.last_failed output.new) result }

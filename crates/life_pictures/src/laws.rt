@@ -1,9 +1,12 @@
 //! What holds of all pictures.
+ghost use Rattle.std.specs.Prelude.{◌≡◌};
 ghost use Rattle.life_pictures.specs.Laws.{DeadAreLeftOut, LinesEndLive, RunsAreTheCells, RunsAreLongest, NamesStayText, FramesAreInTheBox};
 
-/// What makes the definitions of pictures believable: a line leaves out the dead cells at its end and nothing else; the cells of the runs
-/// of a path are the cells, and no two neighbours could be one run; no name ends the title that it is in; and each frame of an animation lies
-/// in its box.
+use crate::frames::MOST_FRAMES;
+
+/// What makes the definitions of pictures believable: a line leaves out the dead cells at its end and nothing else; the runs of a path have
+/// exactly the cells, and no two neighbouring runs could be one; no name ends its title; each frame of an animation lies in the
+/// box, and there are at most `MOST_FRAMES`.
 pub fn laws_of_pictures()
     ensures dead { DeadAreLeftOut }
     ensures ends { LinesEndLive }
@@ -11,4 +14,5 @@ pub fn laws_of_pictures()
     ensures longest { RunsAreLongest }
     ensures names { NamesStayText }
     ensures framed { FramesAreInTheBox }
+    ensures most { MOST_FRAMES ≡ 240 }
 {}

@@ -63,7 +63,7 @@ fn length_of_line<A: Allocator>(pattern: &Pattern<A>, width: u64, i: u64) -> u64
     0
 }
 
-/// Writes line `i` of so many columns.
+/// Writes line `i`, with this many columns.
 #[tactic(auto, unfolding(crate::specs::Lines::line))]
 fn put_line<A: Allocator>(
     out: &mut Vec<u8, A>,
@@ -83,8 +83,8 @@ fn put_line<A: Allocator>(
     Ok(())
 }
 
-/// The picture of a record's cells as lines of half blocks. A line shows two rows of the cells' box, and has no blank at its end; the
-/// empty pattern has no line.
+/// The picture of a record's cells as lines of half blocks. A line shows two rows of the cells' box, without trailing blanks; the empty
+/// pattern has no line.
 #[tactic(auto, unfolding(crate::specs::Lines::text))]
 pub fn text<A: Allocator + Copy>(alloc: A, record: &Record<A>) -> Result<Vec<u8, A>, Fault>
     requires inside { IsInside 1024 «record».now.cells }

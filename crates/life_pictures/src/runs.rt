@@ -1,8 +1,7 @@
 //! The longest runs of live cells in each row, and the path that fills them.
 ghost use Rattle.std.specs.Prelude.{◌≡◌, ◌++◌, map, OnOk, IfOk};
 ghost use Rattle.std.specs.List.{All, flat_map};
-ghost use Rattle.life_rle.specs.Writer.{coordinates};
-ghost use Rattle.life_rle.specs.WriterState.{IsQuarterCell, IsQuarterRun};
+ghost use Rattle.life_rle.specs.Writer.{coordinates, IsQuarterCell, IsQuarterRun};
 ghost use Rattle.life_pictures.specs.Runs.{run_path, runs_of};
 ghost use Rattle.life_pictures.specs.RunsState.{drawn};
 
@@ -10,7 +9,7 @@ use crate::numbers::put_numbered;
 use life_core::Runs;
 use std::alloc::{AllocError, Allocator};
 
-/// Live cells of a row, one beside the other, as they are drawn: no coordinate is negative.
+/// Adjacent live cells of a row, as they are drawn: no coordinate is negative.
 #[derive(Clone, Copy)]
 pub struct Run {
     pub column: u64,
@@ -32,7 +31,7 @@ impl Run {
     }
 }
 
-/// Writes the rectangle round a run.
+/// Writes the rectangle around a run.
 #[tactic(auto, unfolding(crate::specs::Runs::run_path))]
 fn put_rectangle<A: Allocator>(out: &mut Vec<u8, A>, run: Run) -> Result<(), AllocError>
     ensures { OnOk result (out.new.items ≡ out.old.items ++ run_path run) }
@@ -45,7 +44,7 @@ fn put_rectangle<A: Allocator>(out: &mut Vec<u8, A>, run: Run) -> Result<(), All
     Ok(())
 }
 
-/// Writes the rectangles of the longest runs of cells that stand in the order of rows and columns.
+/// Writes the rectangles of the longest runs of cells, which are in the order of rows and columns.
 pub fn put_path<A: Allocator>(out: &mut Vec<u8, A>, cells: &Runs<A>) -> Result<(), AllocError>
     requires { All IsQuarterCell cells.now }
     ensures { OnOk result (out.new.items ≡ out.old.items ++ flat_map run_path (runs_of (map coordinates cells.now))) }

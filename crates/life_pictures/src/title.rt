@@ -6,7 +6,7 @@ ghost use Rattle.life_pictures.specs.Title.{is_xml_char, escaped, xml_text, titl
 use life_rle::Text;
 use std::alloc::{AllocError, Allocator};
 
-/// Whether an XML document may have the character.
+/// Whether an XML document may contain the character.
 fn is_xml_char(c: char) -> bool
     ensures { result ≡ is_xml_char c }
 {
@@ -34,7 +34,7 @@ fn put_escaped<A: Allocator>(out: &mut Vec<u8, A>, c: char) -> Result<(), AllocE
     }
 }
 
-/// Writes bytes as XML text. What of them is not UTF-8, or is a character that no XML document may have, is written as U+FFFD.
+/// Writes bytes as XML text. Invalid UTF-8, and characters that XML forbids, become U+FFFD.
 #[tactic(auto, unfolding(crate::specs::Title::xml_text))]
 fn put_xml<A: Allocator + Copy>(
     alloc: A,

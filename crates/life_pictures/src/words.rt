@@ -1,4 +1,4 @@
-//! The words of the command line, read by `clap`.
+//! The arguments of `life-draw`, read by `clap`.
 ghost use Rattle.std.specs.Prelude.{◌≡◌, map, IfOk};
 ghost use Rattle.clap.specs.Words.{app_of, subcommand_rows_of};
 ghost use Rattle.life_words.specs.Words.{MakesCommand, by_subcommand, Answers};
@@ -13,41 +13,41 @@ use life_words::{
 use std::alloc::{AllocError, Global};
 use std::convert::AsStr;
 
-// What the help of each command says: what it is for, and after its words what is read, printed and refused, and an example.
-const TEXT_ABOUT: &str = "Prints the pattern on standard input as lines of half blocks";
+// The help of each command: its purpose and, after the arguments, what it reads, prints and refuses, and an example.
+const TEXT_ABOUT: &str = "Draws the pattern on standard input as text, in half blocks";
 
 const TEXT_HELP: &str = "\
 Reads:   a pattern file (RLE) on standard input
-Prints:  the live cells' box, two rows a line, by half blocks (UTF-8), without blanks at a line's end;
-         nothing for the empty pattern
+Prints:  the box of the live cells, two rows to a line, in half blocks (UTF-8) without trailing
+         spaces; nothing for the empty pattern
 Refuses: bad-pattern NAME, unreadable, unavailable
 Example: life-draw text < glider.rle";
 
-const SVG_ABOUT: &str = "Prints the pattern on standard input as an SVG document";
+const SVG_ABOUT: &str = "Draws the pattern on standard input as an SVG document";
 
 const SVG_HELP: &str = "\
 Reads:   a pattern file (RLE) on standard input
-Prints:  an SVG document: the pattern's name as its title, and one path of the longest runs of live
-         cells in each row, on white, with a margin of one cell round the live cells' box
+Prints:  an SVG document with the pattern's name as its title: the live cells on white, with a margin
+         of one cell around their box; one path draws all runs of cells
 Refuses: bad-pattern NAME, unreadable, unavailable
 Example: life-draw svg < glider.rle > glider.svg";
 
 const ANIMATION_ABOUT: &str =
-    "Prints generations of the pattern on standard input as an animated SVG document";
+    "Draws generations of the pattern on standard input as an animated SVG document";
 
 const ANIMATION_HELP: &str = "\
 Reads:   a pattern file (RLE) on standard input
-Prints:  an SVG document that shows the generations FIRST to LAST one after the other, each for an eighth
-         of a second, over and over, in the box of all of them; the pattern's name is its title
-Refuses: out-of-limit (LAST over 2048 or below FIRST, more than 240 generations), bad-pattern NAME,
+Prints:  an SVG document with the pattern's name as its title. It shows generations FIRST to LAST for
+         an eighth of a second each, in a loop, in a box that all of them fit into
+Refuses: out-of-limit (LAST over 2048 or below FIRST, or over 240 generations), bad-pattern NAME,
          unreadable, unavailable
 Example: life-draw animation 0 29 < gosper-gun.rle > gun.svg";
 
-const DRAW_ABOUT: &str = "Pictures of Game of Life patterns";
+const DRAW_ABOUT: &str = "Draws Game of Life patterns";
 
 const DRAW_HELP: &str = "\
 A refusal is one line 'refused: NAME' on standard error, with status 1.
-Bad words, and a request for help, end with status 2.
+Usage errors and requests for help end with status 2.
 Example: life generation 30 < gun.rle | life-draw text";
 
 // The command without its subcommands.
@@ -93,9 +93,9 @@ fn picture_in(matches: &ArgMatches<'_>) -> Option<Picture>
     }
 }
 
-/// The picture that the words name. The first of them is the program's name, as in `env::args`.
+/// The picture that the arguments name. The first one is the program's name, as in `env::args`.
 ///
-/// A request for help is a fault too, `BadWords` with the text of the help.
+/// A request for help is also a fault: `BadWords` with the text of the help.
 pub fn read_words<S: AsStr>(alloc: Global, words: &[S]) -> Result<Picture, WordFault>
     ensures { Answers (λ picture. picture) (words_picture (map S.text words.entry.now)) result }
 {

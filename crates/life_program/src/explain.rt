@@ -1,4 +1,4 @@
-//! What is put to explain a refusal.
+//! Printing the explanation of a refusal.
 ghost use Rattle.std.specs.Prelude.{◌≡◌, IfErr};
 ghost use Rattle.life_jobs.specs.Streams.{PutsText, PutsOnce};
 ghost use Rattle.life_words.specs.Explain.{explanation_text};
@@ -7,7 +7,7 @@ use life_jobs::{Stop, put_text};
 use life_rle::Outlet;
 use life_words::explanation;
 
-/// Puts what explains the refusals and faults of this name: nothing, if there are none.
+/// Writes the explanation of the refusals and faults with this name; nothing if there are none.
 pub fn run_explain<O: Outlet>(name: &str, output: &mut O) -> Result<(), Stop>
     ensures fails { IfErr result (λ stop. stop ≡ Stop.Unwritable) }
     ensures puts { PutsText (O.already output.old) (O.already output.new) (explanation_text name.now) result }

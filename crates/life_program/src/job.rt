@@ -1,4 +1,4 @@
-//! The job that the arguments of a program name, over any streams.
+//! Running the job that the arguments name, on any streams.
 ghost use Rattle.std.specs.Prelude.{◌≡◌, ℕ, List, Option, None, Some, Err, MatchResult};
 ghost use Rattle.life_jobs.specs.Stop.{line_of};
 ghost use Rattle.life_jobs.specs.declared.stop.Stop.{Stop as StopValue};
@@ -13,15 +13,17 @@ use life_rle::{Inlet, Outlet};
 use life_words::Job;
 use std::alloc::Global;
 
-/// The jobs over the archive of a file, which each program does in its own way. Each answers the line for standard error if it stops, without
-/// its line end; it is empty if nothing is printed.
+/// The jobs over an archive in a file, which each program does in its own way. Each returns the line for standard error if it stops, without
+/// its line end; the line is empty if nothing is printed.
 pub trait ArchiveJobs: Drop {
-    // What a deposit does: by its file, its member and its token, its streams before it and after it, and the line.
+    // What a deposit does: a relation of its file, member and token, its streams before and after, and the line.
     ghost deposits: { (I O : Type 0) → inlet.Ghosts I → outlet.Ghosts O → List ℕ → List ℕ → List ℕ → I → I → O → O → Option (List ℕ) → Type 0 };
-    // What serving does: by its file, its port, its count of connections, and the line.
+    // What serving does: a relation of its file, port, number of connections, and the line.
     ghost serves: { List ℕ → ℕ → ℕ → Option (List ℕ) → Type 0 };
+    // What a check does: a relation of its file, the output before and after, and the line.
+    ghost checks: { (O : Type 0) → outlet.Ghosts O → List ℕ → O → O → Option (List ℕ) → Type 0 };
 
-    /// Deposits the pattern that comes in under the member and the token.
+    /// Deposits the pattern on the input under the member and the token.
     fn deposit<I: Inlet, O: Outlet>(
         self,
         rt: &HostRuntime,
@@ -35,7 +37,7 @@ pub trait ArchiveJobs: Drop {
             (λ _. deposits I O I.Inlet O.Outlet file.now member.now token.now input.old input.new output.old output.new None)
             (λ line. deposits I O I.Inlet O.Outlet file.now member.now token.now input.old input.new output.old output.new (Some line.now)) };
 
-    /// Serves so many connections at the port.
+    /// Serves this many connections at the port.
     fn serve(
         self,
         rt: &HostRuntime,
@@ -44,9 +46,20 @@ pub trait ArchiveJobs: Drop {
         connections: u64,
     ) -> Result<(), &'static str>
         ensures { MatchResult result (λ _. serves file.now port connections None) (λ line. serves file.now port connections (Some line.now)) };
+
+    /// Checks the archive in the file, and writes the result.
+    fn check<O: Outlet>(
+        self,
+        rt: &HostRuntime,
+        file: &str,
+        output: &mut O,
+    ) -> Result<(), &'static str>
+        ensures { MatchResult result
+            (λ _. checks O O.Outlet file.now output.old output.new None)
+            (λ line. checks O O.Outlet file.now output.old output.new (Some line.now)) };
 }
 
-/// The line of a stop in place of the stop.
+/// Turns a stop into its line.
 fn or_line(done: Result<(), Stop>) -> Result<(), &'static str>
     ensures { MatchResult result (λ _. line_after done ≡ None) (λ line. line_after done ≡ Some line.now) }
 {
@@ -77,8 +90,8 @@ fn do_file_job<I: Inlet, O: Outlet>(
     }
 }
 
-/// Does the job over these streams, or by `archives` if it is about one. It answers the line for standard error if the job stops, as
-/// [`ArchiveJobs`] do.
+/// Does the job on these streams, with `archives` if it concerns an archive. Like [`ArchiveJobs`], it returns the line for standard error if
+/// the job stops.
 pub fn do_job<J: ArchiveJobs, I: Inlet, O: Outlet>(
     rt: &HostRuntime,
     archives: J,
@@ -87,8 +100,8 @@ pub fn do_job<J: ArchiveJobs, I: Inlet, O: Outlet>(
     output: &mut O,
 ) -> Result<(), &'static str>
     ensures { MatchResult result
-        (λ _. DoesJob I.Inlet O.Outlet J.deposits J.serves (asked_by job.entry) input.old input.new output.old output.new None)
-        (λ line. DoesJob I.Inlet O.Outlet J.deposits J.serves (asked_by job.entry) input.old input.new output.old output.new (Some line.now)) }
+        (λ _. DoesJob I.Inlet O.Outlet J.deposits J.serves J.checks (asked_by job.entry) input.old input.new output.old output.new None)
+        (λ line. DoesJob I.Inlet O.Outlet J.deposits J.serves J.checks (asked_by job.entry) input.old input.new output.old output.new (Some line.now)) }
 {
     match job {
         Job::Deposit {
@@ -101,6 +114,7 @@ pub fn do_job<J: ArchiveJobs, I: Inlet, O: Outlet>(
             port,
             connections,
         } => archives.serve(rt, file, port, connections),
+        Job::Check { file } => archives.check(rt, file, output),
         _ => or_line(do_file_job(rt.alloc(), job, input, output)),
     }
 }

@@ -1,5 +1,5 @@
-//! What is common to the programs: what is printed if a job stops, and with which status a program ends; and, for those that take the
-//! arguments of `life`, which job they name.
+//! What the programs share: the line that is printed if a job stops, and the status of the process; and, for those that take the
+//! arguments of `life`, running the job.
 #![tactic(auto)]
 
 mod explain;

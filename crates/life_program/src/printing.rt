@@ -1,4 +1,4 @@
-//! What a program prints if it does no job, and the status that it then ends with.
+//! What a program prints if it does no job, and its status then.
 ghost use Rattle.life_program.specs.Job.{status_by, IsStatus};
 
 use clap::error::ErrorKind;
@@ -7,10 +7,10 @@ use life_words::WordFault;
 use std::io;
 use std::process::ExitCode;
 
-/// The status for words that name no job.
+/// The status for arguments that name no job.
 const BAD_WORDS: u8 = 2;
 
-/// Prints the line of a stop, if it has one, and gives the status 1.
+/// Prints the line of a stop, if it has one, and returns the status 1.
 pub fn print_stop(rt: &impl Eprint, line: &str) -> io::Result<ExitCode>
     ensures { IsStatus result 1 }
 {
@@ -20,8 +20,8 @@ pub fn print_stop(rt: &impl Eprint, line: &str) -> io::Result<ExitCode>
     Ok(ExitCode::FAILURE)
 }
 
-/// Prints why the arguments name no job: what `clap` says of them on standard error, with the status 2, or that memory was refused, as a stop.
-/// The version is printed on standard output, with the status 0.
+/// Prints why the arguments name no job: the text from `clap` on standard error, with status 2, or out of memory, as for a stop. The version
+/// goes to standard output, with status 0.
 pub fn print_fault(rt: &HostRuntime, fault: WordFault) -> io::Result<ExitCode>
     ensures { IsStatus result (status_by fault) }
 {
@@ -31,7 +31,7 @@ pub fn print_fault(rt: &HostRuntime, fault: WordFault) -> io::Result<ExitCode>
             return Ok(ExitCode::SUCCESS);
         }
         WordFault::BadWords(Some(error)) => {
-            // If standard error fails there is nobody to tell, and the status still says it.
+            // If standard error fails, only the status can report it.
             let _told = eprint!(rt; "{error}");
         }
         WordFault::BadWords(None) => {}

@@ -12,7 +12,7 @@ use std::convert::AsStr;
 use std::io;
 use std::process::ExitCode;
 
-/// Whether these words name a job that reads a pattern from standard input.
+/// Whether these arguments name a job that reads a pattern from standard input.
 fn reads_pattern(rt: &HostRuntime, words: &[String]) -> bool {
     matches!(
         read_words(rt.alloc(), words),
@@ -20,7 +20,7 @@ fn reads_pattern(rt: &HostRuntime, words: &[String]) -> bool {
     )
 }
 
-/// The status after a job, with the line on standard error if it stopped.
+/// The status after a job; prints the line on standard error if it stopped.
 fn print_done(rt: &HostRuntime, done: Result<(), &'static str>) -> io::Result<ExitCode>
     ensures { MatchResult done.entry (λ _. IsStatus result 0) (λ line. IsStatus result 1) }
 {
@@ -30,8 +30,8 @@ fn print_done(rt: &HostRuntime, done: Result<(), &'static str>) -> io::Result<Ex
     }
 }
 
-/// Does the job that the words name over these streams; the first of them is the program's name. The result is the status that the process
-/// ends with: 0; 1 if the job stopped, with a line on standard error; 2 if the words name no job, with the text of `clap`.
+/// Does the job that the arguments name on these streams; the first argument is the program's name. Returns the status of the process: 0; 1 if
+/// the job stopped, with a line on standard error; 2 if the arguments name no job, with the text from `clap`.
 pub fn run_words<J: ArchiveJobs, I: Inlet, O: Outlet>(
     rt: &HostRuntime,
     archives: J,
@@ -39,7 +39,7 @@ pub fn run_words<J: ArchiveJobs, I: Inlet, O: Outlet>(
     input: &mut I,
     output: &mut O,
 ) -> io::Result<ExitCode>
-    ensures { WordsEnd I.Inlet O.Outlet J.deposits J.serves (words_job (map ⟦<String as AsStr>⟧.text words.now)) input.old input.new output.old output.new result }
+    ensures { WordsEnd I.Inlet O.Outlet J.deposits J.serves J.checks (words_job (map ⟦<String as AsStr>⟧.text words.now)) input.old input.new output.old output.new result }
 {
     match read_words(rt.alloc(), words) {
         Ok(job) => print_done(rt, do_job::<J, I, O>(rt, archives, job, input, output)),
@@ -47,7 +47,7 @@ pub fn run_words<J: ArchiveJobs, I: Inlet, O: Outlet>(
     }
 }
 
-/// Does the job that the arguments of the process name, over standard input and output, as [`run_words`] says.
+/// Like [`run_words`], with the arguments of the process, standard input and standard output.
 pub fn run_program<J: ArchiveJobs>(rt: &HostRuntime, archives: J) -> io::Result<ExitCode> {
     let words = match words_of(rt, || life_command(rt.alloc())) {
         Ok(words) => words,

@@ -1,4 +1,4 @@
-//! The line that follows a usage error if a file is named where its pattern comes on standard input.
+//! The hint after a usage error if a file is named although the pattern comes on standard input.
 ghost use Rattle.life_program.specs.Job.{status_by, IsStatus};
 
 use crate::printing::print_fault;
@@ -8,12 +8,12 @@ use std::alloc::{AllocError, Global};
 use std::io;
 use std::process::ExitCode;
 
-/// Whether a shell takes the character as it is.
+/// Whether the character needs no quotes in a shell.
 fn is_plain(c: char) -> bool {
     c.is_ascii_alphanumeric() || matches!(c, '+' | ',' | '-' | '.' | '/' | ':' | '=' | '@' | '_')
 }
 
-/// Adds a word as a shell reads it: between single quotes, unless it is plain.
+/// Adds an argument as a shell reads it: in single quotes if it needs them.
 fn push_word(line: &mut String, word: &str) -> Result<(), AllocError> {
     if !word.is_empty() && word.chars().all(is_plain) {
         return line.push_str(word);
@@ -29,7 +29,7 @@ fn push_word(line: &mut String, word: &str) -> Result<(), AllocError> {
     line.push('\'')
 }
 
-/// The line for these words, whose pattern is in the file.
+/// The line for these arguments, whose pattern is in the file.
 fn line_of(alloc: Global, words: &[String], file: &str) -> Result<String, AllocError> {
     let mut line = "The pattern comes on standard input:".to_string(alloc)?;
     for word in words {
@@ -41,12 +41,12 @@ fn line_of(alloc: Global, words: &[String], file: &str) -> Result<String, AllocE
     Ok(line)
 }
 
-/// Whether a word may be the name of a file: it is no option and no number.
+/// Whether an argument may be the name of a file: it is neither an option nor a number.
 fn may_be_file(word: &str) -> bool {
     !word.starts_with('-') && word.parse::<u64>().is_err()
 }
 
-/// The last word, if `clap` met it as one too many and it may be a file, and the words before it.
+/// The last argument, if `clap` found it to be one too many and it may be a file, and the arguments before it.
 fn one_too_many<'a>(fault: &WordFault, words: &'a [String]) -> Option<(&'a str, &'a [String])> {
     let WordFault::BadWords(Some(error)) = fault else {
         return None;
@@ -59,7 +59,7 @@ fn one_too_many<'a>(fault: &WordFault, words: &'a [String]) -> Option<(&'a str, 
     }
 }
 
-/// The line for words with this fault, if they are one too many for a job that reads a pattern.
+/// The line for arguments with this fault, if they are one too many for a job that reads a pattern.
 fn line_for<F>(
     alloc: Global,
     fault: &WordFault,
@@ -78,8 +78,8 @@ where
     }
 }
 
-/// As [`print_fault`], for the words that have the fault. If they are one too many for a job that reads a pattern, the last is taken for its
-/// file, and a line says how a shell gives it.
+/// Like [`print_fault`], for the arguments with the fault. If they are one too many for a job that reads a pattern, the last one counts as its
+/// file, and a line shows the command with `<`.
 pub fn print_fault_of<F>(
     rt: &HostRuntime,
     fault: WordFault,
@@ -94,7 +94,7 @@ where
     let line = line_for(rt.alloc(), &fault, words, reads_pattern);
     let status = print_fault(rt, fault)?;
     if let Some(line) = line {
-        // If standard error fails there is nobody to tell, and the status still says it.
+        // If standard error fails, only the status can report it.
         let _told = eprintln!(rt; "{line}");
     }
     Ok(status)

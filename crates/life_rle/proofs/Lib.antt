@@ -2,6 +2,7 @@ pub mod LinesLaws
 pub mod RecordCells
 pub mod RecordLaws
 pub mod HeaderLemmas
+pub mod HeaderForms
 pub mod BodyPositions
 pub mod RunPairs
 pub mod BodyCounts

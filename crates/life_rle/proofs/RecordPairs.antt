@@ -21,8 +21,8 @@ use Rattle.life_core.proofs.PatternOrder.{has_cell-in_order, in_order-sorted, fr
 use Rattle.life_rle.specs.Body.{IsPlaced}
 use Rattle.life_rle.specs.Record.{IsInside}
 use Rattle.life_rle.specs.File.{cell_of}
-use Rattle.life_rle.specs.Writer.{coordinates, pairs_of}
-use Rattle.life_rle.specs.WriterState.{InOrder, IsQuarterCell}
+use Rattle.life_rle.specs.Writer.{coordinates, pairs_of, IsQuarterCell}
+use Rattle.life_rle.specs.WriterState.{InOrder}
 use Rattle.life_rle.proofs.RecordCells.{IsFromZero, normal_from_zero}
 
 -- the pairs lie in the columns and rows 0 to 1023

@@ -16,8 +16,8 @@ use Rattle.life_core.specs.Runs.{cells_from, run_cells, runs_cells, Joins, AreLo
 use Rattle.life_core.proofs.RunsLemmas.{all_at, all_of_run, push_cells}
 use Rattle.life_core.proofs.RunsLaws.{run_at}
 use Rattle.life_rle.specs.Body.{run, IsPlaced}
-use Rattle.life_rle.specs.Writer.{coordinates, width_of, height_of}
-use Rattle.life_rle.specs.WriterState.{InOrder, IsQuarterCell, column_of, row_of, IsQuarterRun, AreNextRuns}
+use Rattle.life_rle.specs.Writer.{coordinates, width_of, height_of, IsQuarterCell, IsQuarterRun}
+use Rattle.life_rle.specs.WriterState.{InOrder, column_of, row_of, AreNextRuns}
 use Rattle.life_rle.proofs.RecordPairs.{quarter_cells, pairs_in_order}
 
 pub run_pairs : (row column : ℤ) (n : ℕ) → pos 0 ≤ℤ column → map coordinates (cells_from row column n) ≡ run (nat_abs column) (nat_abs row) n

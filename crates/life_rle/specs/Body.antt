@@ -1,4 +1,4 @@
--- The items of a body, where they stand, the cells that they place, and the first that is faulty (LifeWiki, "Run Length Encoded").
+-- The items of a body, their positions, the cells that they place, and the first faulty one (LifeWiki, "Run Length Encoded").
 use Rattle.std.specs.Prelude.{ℕ, pos, ◌≤ℤ◌, zero, suc, Bool, true, false, not, ◌&&◌, ◌||◌, List, [], ◌∷◌, ◌++◌, ◌+◌, ◌==◌, nat_lt, if◌then◌else◌, Option, Some, None, Result, Ok, Err}
 use Rattle.std.specs.List.{sum_by, filter, after_last}
 use Rattle.std.specs.Char.{is_ascii_digit}
@@ -13,7 +13,7 @@ pub record Item : Type 0 where
   pub digits : List ℕ
   pub tag : Option ℕ
 
--- the items of a body; `digits` are those that stand before it
+-- the items of a body; `digits` are those before it
 unfoldable pub items_after : List ℕ → List ℕ → List Item
 items_after digits [] = record { digits = digits; tag = None } ∷ []
 items_after digits (b ∷ bytes) =
@@ -75,7 +75,7 @@ run column row (suc n) = (column, row) ∷ run (column + 1) row n
 abbrev pub live_count : Item → ℕ
 live_count item = if is_live item then count item else 0
 
--- the cells of an item that stands after these
+-- the cells of an item that comes after these
 abbrev pub cells_at : List Item → Item → List (ℕ × ℕ)
 cells_at before item = run (column_after before) (row_after before) (live_count item)
 
@@ -96,7 +96,7 @@ is_counted item = not (is_empty item.digits)
 abbrev pub is_bad_number : ℕ → Bool
 is_bad_number n = n == 0 || nat_lt 1000000 n
 
--- what is wrong with an item's byte, for an item that stands after these
+-- the fault of an item's byte, for an item that comes after these
 abbrev pub fault_at_tag : List Item → Item → Option ℕ → Option RleFault
 fault_at_tag before item None = if is_counted item then Some BadCount else Some NoEnd
 fault_at_tag before item (Some b) =
@@ -106,7 +106,7 @@ fault_at_tag before item (Some b) =
     else (if nat_lt 1024 (column_after before + count item) || nat_lt 1023 (row_after before) then Some TooWide
     else None)))
 
--- what is wrong with an item: its count, then its byte, then its cells
+-- the fault of an item: of its count, then of its byte, then of its cells
 abbrev pub fault_at : List Item → Item → Option RleFault
 fault_at before item =
     if is_counted item && is_bad_number (count item) then Some BadCount

@@ -1,14 +1,15 @@
 -- What makes the definitions of files believable: what a canonical body is and what the lines before the header leave, said without the
 -- way in which they are computed; whatever is read is a record, and what is written is read as the record again.
-use Rattle.std.specs.Prelude.{◌≡◌, ◌≢◌, ◌⊎◌, ◌≤◌, ◌<◌, ◌+◌, ◌^◌, ℕ, codes, ℤ, Bool, true, false, ◌||◌, if◌then◌else◌, List, [], ◌∷◌, ◌++◌, length, replicate, map, Option, Some, None, Ok}
+use Rattle.std.specs.Prelude.{◌≡◌, ◌≢◌, ◌↔◌, ◌⊎◌, ◌≤◌, ◌<◌, ◌+◌, ◌^◌, ℕ, codes, ℤ, Bool, true, false, ◌||◌, if◌then◌else◌, List, [], ◌∷◌, ◌++◌, length, replicate, map, Option, Some, None, Ok}
 use Rattle.std.specs.List.{AllByRecursion, flat_map, filter, find, join_with_byte}
 use Rattle.std.specs.Option.{option_map}
-use Rattle.std.specs.Char.{is_ascii_digit}
+use Rattle.std.specs.Char.{is_ascii_digit, to_ascii_lowercase}
 use Rattle.life_core.specs.Ascii.{line_feed}
 use Rattle.life_rle.specs.Tags.{dead_tag, live_tag, row_end_tag}
 use Rattle.life_core.specs.declared.cell.TheConstants.{PLANE}
 use Rattle.life_core.specs.Rule.{IsRule}
 use Rattle.life_core.specs.Pattern.{IsBox, IsWithin}
+use Rattle.life_rle.specs.Header.{header_form}
 use Rattle.life_rle.specs.Lines.{Line, named, authored, comment, ruled, line_kind, lines_of}
 use Rattle.life_rle.specs.Notes.{no_notes, notes_of}
 use Rattle.life_rle.specs.Body.{Item, items_of, placed}
@@ -27,7 +28,7 @@ abbrev pub tag_bytes : Option ℕ → List ℕ
 tag_bytes None = []
 tag_bytes (Some byte) = byte ∷ []
 
--- an item is cut after its digits: they are digits alone, and its byte is none
+-- an item is cut after its digits: these are only digits, and its byte is not a digit
 pub record IsCut (item : Item) : Type 0 where
   pub digits : AllByRecursion (λ b. is_ascii_digit b ≡ true) item.digits
   pub tag : AllByRecursion (λ b. is_ascii_digit b ≡ false) (tag_bytes item.tag)
@@ -42,13 +43,43 @@ AreMaximalRuns [] = Unit {0}
 AreMaximalRuns (run ∷ []) = 0 < run.0
 AreMaximalRuns (run ∷ next ∷ runs) = (0 < run.0) × (run.1 ≢ next.1) × AreMaximalRuns (next ∷ runs)
 
--- The runs of tags, spelled out, are the tags, and no two neighbours could be one run.
+-- The runs of tags, spelled out, are the tags, and no two neighbouring runs could be one.
 abbrev pub RunsAreLongest : Type 0
 RunsAreLongest = (tags : List ℕ) → (flat_map (λ (run : ℕ × ℕ). replicate run.0 run.1) (runs_of tags) ≡ tags) × AreMaximalRuns (runs_of tags)
 
 -- The width and the height that a header gives are those of the box of the record's cells.
 abbrev pub HeadersGiveTheBox : Type 0
 HeadersGiveTheBox = (r : Contents) (left top : ℤ) (width height : ℕ) → IsRecord r → IsBox r.cells left top width height → (width_of (pairs_of r.cells) ≡ width) × (height_of (pairs_of r.cells) ≡ height)
+
+-- ---- the header line
+
+-- digits, at least one
+pub record IsNumber (text : List ℕ) : Type 0 where
+  pub some : 1 ≤ length text
+  pub digits : AllByRecursion (λ b. is_ascii_digit b ≡ true) text
+
+-- what follows the height: nothing, or `,rule=` and a rule text
+abbrev pub IsRuleEnd : Option (List ℕ) → List ℕ → Type 0
+IsRuleEnd None end = end ≡ []
+IsRuleEnd (Some rule) end = (words : List ℕ) × (map to_ascii_lowercase words ≡ codes ",rule=") × (end ≡ words ++ rule)
+
+-- The form of a header without blanks, with its rule text if it has one: `x=`, a number, `,y=`, a number, and its end. Letters are of either case.
+pub record HasHeaderForm (text : List ℕ) (rule : Option (List ℕ)) : Type 0 where
+  pub x : List ℕ
+  pub width : List ℕ
+  pub y : List ℕ
+  pub height : List ℕ
+  pub end : List ℕ
+  pub is : text ≡ x ++ (width ++ (y ++ (height ++ end)))
+  pub x_is : map to_ascii_lowercase x ≡ codes "x="
+  pub width_is : IsNumber width
+  pub y_is : map to_ascii_lowercase y ≡ codes ",y="
+  pub height_is : IsNumber height
+  pub rule_is : IsRuleEnd rule end
+
+-- A header is read as its rule text exactly if it has the form.
+abbrev pub HeadersAreRead : Type 0
+HeadersAreRead = (text : List ℕ) (rule : Option (List ℕ)) → (header_form text ≡ Some rule) ↔ HasHeaderForm text rule
 
 -- ---- canonical bodies
 
@@ -71,7 +102,7 @@ AreFull (line ∷ next ∷ lines) = (length (spelled_runs line) ≤ 70) × (70 <
 abbrev pub IsTag : ℕ → Type 0
 IsTag tag = (tag ≡ row_end_tag) ⊎ ((tag ≡ dead_tag) ⊎ (tag ≡ live_tag))
 
--- no dead cells stand before row ends, and the last run is of live cells
+-- no dead cells come before row ends, and the last run has live cells
 abbrev pub EndInLiveCells : List (ℕ × ℕ) → Type 0
 EndInLiveCells [] = Unit {0}
 EndInLiveCells (run ∷ []) = run.1 ≡ live_tag

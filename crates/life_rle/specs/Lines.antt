@@ -4,7 +4,7 @@ use Rattle.std.specs.List.{starts_with}
 use Rattle.life_core.specs.Ascii.{line_feed, hash, capital_n, capital_o}
 use Rattle.life_core.specs.RuleText.{is_blank}
 
--- the lines of these bytes, with what has come of the first before them; after a last line feed stands an empty line, which says nothing
+-- the lines of these bytes, with the part of the first that came before them; after a final line feed there is an empty line, which has no meaning
 unfoldable pub lines_after : List ℕ → List ℕ → List (List ℕ)
 lines_after line [] = line ∷ []
 lines_after line (b ∷ bytes) = if b == line_feed then line ∷ lines_after [] bytes else lines_after (line ++ b ∷ []) bytes
@@ -35,7 +35,7 @@ pub data Line : Type 0 where
   ruled : List ℕ → Line
   header : Line
 
--- a line whose first byte that is no blank is `#`
+-- a line whose first byte other than a blank is `#`
 abbrev pub is_mark_line : List ℕ → Bool
 is_mark_line line = slice_index (trim_start line) 0 == hash
 
@@ -48,7 +48,7 @@ marked letter text =
     else (if letter == 114 then ruled text
     else passed)))
 
--- what a line is: one of blanks alone is passed over, and so is one that begins with `#CXRLE`, as Golly writes
+-- what a line is: a line of blanks is skipped, and so is one that begins with `#CXRLE`, as Golly writes
 unfoldable pub line_kind : List ℕ → Line
 line_kind line =
     let front = trim_start line in

@@ -19,7 +19,7 @@ awaited m bytes = resumed m.reader (lines_after m.line.items bytes)
 abbrev pub IsSound : {A : Type 0} → Machine A → Type 0
 IsSound m = (bytes : List ℕ) (r : Contents) → awaited m bytes ≡ Ok r → IsRecord r
 
--- the machine has read so many of the known bytes, and those after them are still to come
+-- the machine has read this many of the known bytes, and those after them are still to come
 abbrev pub Followed : {A : Type 0} → Option (List ℕ) → Option (List ℕ) → Machine A → ℕ → Type 0
 Followed None now machine taken = Unit {0}
 Followed (Some bytes) now machine taken =

@@ -1,10 +1,10 @@
--- What a function answers that puts a text into a stream.
+-- The result of a function that puts a text into a stream.
 use Rattle.std.specs.Prelude.{ℕ, List, Option, Result, Ok, Err}
 use Rattle.life_rle.specs.declared.fault.WriteFault.{WriteFault}
 use Rattle.life_rle.specs.declared.fault.WriteFault.TheVariants.{Unwritable, Memory}
 use Rattle.life_rle.specs.Stream.{Gains, GainsSome}
 
--- the text was put, or a beginning of it before a put that failed; out of memory has a clause of its own
+-- the text was put, or a prefix of it before a put that failed; out of memory has a clause of its own
 abbrev pub PutsText : Option (List ℕ) → Option (List ℕ) → List ℕ → Result (Unit {0}) WriteFault → Type 0
 PutsText old new bytes (Ok done) = Gains old new bytes
 PutsText old new bytes (Err Unwritable) = GainsSome old new bytes

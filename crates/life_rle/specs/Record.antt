@@ -39,7 +39,7 @@ abbrev pub IsName : Option (List ℕ) → Type 0
 IsName None = Unit {0}
 IsName (Some bytes) = IsText bytes × (length bytes ≢ 0)
 
--- what a record keeps: its texts are texts, at most 64 of them comments, and its cells are normal
+-- the invariant of records: its texts are texts, at most 64 of them comments, and its cells are normal
 pub record IsRecord (r : Contents) : Type 0 where
   pub name : IsName r.name
   pub author : IsName r.author
@@ -47,7 +47,7 @@ pub record IsRecord (r : Contents) : Type 0 where
   pub few : length r.comments ≤ 64
   pub cells : normal r.cells ≡ r.cells
 
--- A normal set lies in a box of at most k by k: its coordinates, which are at least 0, are below k. `Pattern::within(k - 1)` tells it.
+-- A normal set lies in a box of at most k by k: its coordinates, which are at least 0, are below k. `Pattern::within(k - 1)` tests it.
 abbrev pub IsInside : ℕ → Cells → Type 0
 IsInside k X = IsWithin (k - 1) X
 

@@ -48,7 +48,7 @@ Loses None new bytes = ⊤
 Loses (Some left) None bytes = ⊥
 Loses (Some left) (Some rest) bytes = left ≡ bytes ++ rest
 
--- known bytes lose at most so many
+-- known bytes lose at most this many
 abbrev pub LosesUpTo : ℕ → Option (List ℕ) → Option (List ℕ) → Type 0
 LosesUpTo most old new = (bytes : List ℕ) × (length bytes ≤ most) × Loses old new bytes
 
@@ -73,6 +73,6 @@ abbrev pub Puts : {E : Type 0} → Option (List ℕ) → Option (List ℕ) → R
 Puts old new (Ok k) bytes = Gains old new (take k bytes)
 Puts old new (Err e) bytes = Gains old new []
 
--- a beginning of these bytes was put
+-- a prefix of these bytes was put
 abbrev pub GainsSome : Option (List ℕ) → Option (List ℕ) → List ℕ → Type 0
 GainsSome old new bytes = (front : List ℕ) × (rest : List ℕ) × (bytes ≡ front ++ rest) × Gains old new front

@@ -1,16 +1,19 @@
 -- The one text of a record: its texts, its header, and the longest runs of its cells in lines of at most 70 bytes (LifeWiki, "Run Length
 -- Encoded": "lines should be no more than 70 characters").
-use Rattle.std.specs.Prelude.{ℕ, codes, ◌+◌, ◌-◌, ◌==◌, max, nat_le, if◌then◌else◌, nat_abs, List, [], ◌∷◌, ◌++◌, length, replicate, map, Option, Some, None}
+use Rattle.std.specs.Prelude.{◌≤◌, ◌≤ℤ◌, ℕ, pos, codes, ◌+◌, ◌-◌, ◌==◌, max, nat_le, if◌then◌else◌, nat_abs, List, [], ◌∷◌, ◌++◌, length, replicate, map, Option, Some, None}
 use Rattle.std.specs.List.{flat_map, fold}
 use Rattle.std.specs.Fmt.{decimal}
 use Rattle.life_core.specs.Ascii.{capital_n, capital_o}
 use Rattle.life_rle.specs.Tags.{dead_tag, live_tag, row_end_tag}
 use Rattle.life_core.specs.declared.cell.Cell.{Cell}
+use Rattle.life_core.specs.declared.cell.TheConstants.{PLANE}
+use Rattle.life_core.specs.declared.runs.Run.{Run}
 use Rattle.life_core.specs.Pattern.{Cells, in_order}
 use Rattle.life_core.specs.RuleText.{rule_text}
+use Rattle.life_core.specs.Runs.{first_cell}
 use Rattle.life_rle.specs.Record.{Contents}
 
--- one tag for each step that a reader at this row and column takes to the cells, which stand in the order of rows and columns: `$`, `b` or `o`
+-- one tag for each step that a reader at this row and column takes to the cells, which are in the order of rows and columns: `$`, `b` or `o`
 unfoldable pub tags_from : ℕ → ℕ → List (ℕ × ℕ) → List ℕ
 tags_from row column [] = []
 tags_from row column (cell ∷ cells) =
@@ -66,6 +69,18 @@ height_of cells = fold (λ n cell. max n (cell.1 + 1)) 0 cells
 abbrev pub header_line : ℕ → ℕ → List ℕ → List ℕ
 header_line width height rule =
     codes "x = " ++ decimal width ++ (codes ", y = " ++ decimal height) ++ (codes ", rule = " ++ rule) ++ codes "\n"
+
+-- a cell of a normal set: both coordinates lie between 0 and the greatest of the plane
+pub record IsQuarterCell (c : Cell) : Type 0 where
+  pub row_low : pos 0 ≤ℤ c.row
+  pub row_high : c.row ≤ℤ pos PLANE
+  pub column_low : pos 0 ≤ℤ c.column
+  pub column_high : c.column ≤ℤ pos PLANE
+
+-- a run of cells of a normal set: there is a first, and it is such a cell
+pub record IsQuarterRun (r : Run) : Type 0 where
+  pub some : 1 ≤ r.len
+  pub first : IsQuarterCell (first_cell r)
 
 -- a cell of a normal set as a pair (column, row)
 abbrev pub coordinates : Cell → ℕ × ℕ

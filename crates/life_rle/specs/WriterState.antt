@@ -1,13 +1,10 @@
 -- Cells that are written in their order, their runs, and the items that they make.
-use Rattle.std.specs.Prelude.{ℕ, List, ◌++◌, ◌≡◌, ◌⊎◌, ◌≤◌, ◌<◌, ◌+◌, ◌==◌, if◌then◌else◌, pos, nat_abs, ◌≤ℤ◌, [], ◌∷◌, replicate, map}
+use Rattle.std.specs.Prelude.{ℕ, List, ◌++◌, ◌≡◌, ◌⊎◌, ◌≤◌, ◌<◌, ◌+◌, ◌==◌, if◌then◌else◌, nat_abs, [], ◌∷◌, replicate, map}
 use Rattle.life_rle.specs.Tags.{live_tag}
-use Rattle.life_rle.specs.Writer.{item_text, runs_of, tags_from}
-use Rattle.life_core.specs.declared.cell.Cell.{Cell}
-use Rattle.life_core.specs.declared.cell.TheConstants.{PLANE}
+use Rattle.life_rle.specs.Writer.{item_text, runs_of, tags_from, IsQuarterRun}
 use Rattle.life_core.specs.declared.runs.Run.{Run}
-use Rattle.life_core.specs.Runs.{first_cell}
 
--- the cells stand in the order of rows and columns, from this row and column on, each once
+-- the cells are in the order of rows and columns, from this row and column on, each once
 abbrev pub InOrder : ℕ → ℕ → List (ℕ × ℕ) → Type 0
 InOrder row column [] = Unit {0}
 InOrder row column (cell ∷ cells) = (row ≤ cell.1) × (row ≡ cell.1 → column ≤ cell.0) × InOrder cell.1 (cell.0 + 1) cells
@@ -20,13 +17,6 @@ texts_from live row column cells = map item_text (runs_of (replicate live live_t
 abbrev pub counted : ℕ → ℕ → List (List ℕ)
 counted count tag = if count == 0 then [] else item_text (count, tag) ∷ []
 
--- a cell of a normal set: both coordinates lie between 0 and the greatest of the plane
-pub record IsQuarterCell (c : Cell) : Type 0 where
-  pub row_low : pos 0 ≤ℤ c.row
-  pub row_high : c.row ≤ℤ pos PLANE
-  pub column_low : pos 0 ≤ℤ c.column
-  pub column_high : c.column ≤ℤ pos PLANE
-
 -- the column of a run's first cell
 abbrev pub column_of : Run → ℕ
 column_of r = nat_abs r.first
@@ -35,12 +25,7 @@ column_of r = nat_abs r.first
 abbrev pub row_of : Run → ℕ
 row_of r = nat_abs r.row
 
--- a run of cells of a normal set: there is a first, and it is such a cell
-pub record IsQuarterRun (r : Run) : Type 0 where
-  pub some : 1 ≤ r.len
-  pub first : IsQuarterCell (first_cell r)
-
--- a run that may follow so many live cells, which end in this row at this column: it comes later in the order of rows and columns, and if there are such cells, it does not touch them
+-- a run that may follow this many live cells, which end in this row at this column: it comes later in the order of rows and columns, and if there are such cells, it does not touch them
 pub record IsNextRun (row column live : ℕ) (r : Run) : Type 0 where
   pub cells : IsQuarterRun r
   pub below : row ≤ row_of r

@@ -35,7 +35,7 @@ fn push_run<A: Allocator>(
     })
 }
 
-/// The body so far: where the next item stands, its count as far as it has come, and the cells.
+/// The body so far: the position of the next item, its count so far, and the cells.
 #[derive(Drop)]
 pub(crate) struct Body<A: Allocator> {
     row: u32,
@@ -76,7 +76,7 @@ impl<A: Allocator> Body<A> {
         self.count = Some(value.min(MOST + 1));
     }
 
-    /// Reads the next byte; says whether it ended the body.
+    /// Reads the next byte; returns whether it ended the body.
     #[tactic(auto, unfolding(crate::specs::BodyState::step))]
     fn take(&mut self, byte: u8) -> Result<bool, RleFault>
         ensures { Took (step (place_reached self.old) byte) (place_reached self.new) result }
@@ -128,7 +128,7 @@ impl<A: Allocator> Body<A> {
         Ok(())
     }
 
-    /// Reads the next bytes; says how far the body has come with them.
+    /// Reads the next bytes; returns the state of the body after them.
     fn line(&mut self, line: &[u8]) -> Result<Progress, RleFault>
         ensures { MatchResult result (λ progress. (rest : List ℕ) → outcome_at progress (place_reached self.new) rest ≡ body_from (place_reached self.old) (without_blanks line.now ++ rest)) (λ e. e ≡ Memory) }
     {
@@ -188,7 +188,7 @@ impl<A: Allocator> BodyReader<A> {
         Ok(())
     }
 
-    /// The cells, or the first fault, if nothing is left.
+    /// The cells, or the first fault, if no bytes are left.
     #[tactic(auto, unfolding(crate::specs::BodyState::body_from))]
     pub(crate) fn finish(self) -> Result<Runs<A>, RleFault>
         ensures cells { MatchResult result (λ cells. outcome self [] ≡ Ok (map coordinates cells)) (λ e. outcome self [] ≡ Err e) }

@@ -6,7 +6,7 @@ ghost use Rattle.life_rle.specs.Fault.{fault_of_rule};
 use life_core::{Fault, RuleFault};
 use std::alloc::{AllocError, AllocFailed};
 
-/// Why a file was not read, in the order in which the faults are judged.
+/// Why a file was not read, in the order in which the faults are checked.
 #[derive(Clone, Copy, Debug, PartialEq, Eq)]
 pub enum RleFault {
     /// The file has more than 1,048,576 bytes.
@@ -23,9 +23,9 @@ pub enum RleFault {
     BirthZero = 6,
     /// An item's byte is none of `b`, `o`, `$`, `!`.
     OtherTag = 7,
-    /// A count is 0 or over 1,000,000, or stands before `!` or at the end of the file.
+    /// A count is 0 or over 1,000,000, or comes before `!` or at the end of the file.
     BadCount = 8,
-    /// A live cell stands past the first 1,024 columns or rows.
+    /// A live cell is beyond the first 1,024 columns or rows.
     TooWide = 9,
     /// The body ends without `!`.
     NoEnd = 10,
@@ -43,7 +43,7 @@ impl RleFault {
         self as u8
     }
 
-    /// What the fault is called, in small letters.
+    /// The name of the fault, in lower case.
     pub fn name(self) -> &'static str
         ensures { result.now ≡ fault_name self }
     {
@@ -121,10 +121,10 @@ impl ReadFault {
     }
 }
 
-/// Why the text of a record was not put whole.
+/// Why the text of a record was not written completely.
 #[derive(Clone, Copy, Debug, PartialEq, Eq)]
 pub enum WriteFault {
-    /// A put failed. A beginning of the text was put before it.
+    /// A put failed. A prefix of the text was put before it.
     Unwritable = 1,
     /// An allocation was refused. Nothing was put.
     Memory = 2,

@@ -1,5 +1,5 @@
 //! What holds of all files and records.
-ghost use Rattle.life_rle.specs.Laws.{LinesAreTheFile, ItemsAreTheBody, RunsAreLongest, HeadersGiveTheBox, BodiesAreCanonical, OneCanonicalBody, NotesAreTheLines, TextsAreTheFile, RecordsAreRead, IsReadAgain, IsFileAgain};
+ghost use Rattle.life_rle.specs.Laws.{LinesAreTheFile, ItemsAreTheBody, RunsAreLongest, HeadersGiveTheBox, HeadersAreRead, BodiesAreCanonical, OneCanonicalBody, NotesAreTheLines, TextsAreTheFile, RecordsAreRead, IsReadAgain, IsFileAgain};
 
 /// What makes the definitions of files believable: nothing is lost where a file is cut into lines, a
 /// body into items and a row into runs, and a header gives the size of the box.
@@ -8,6 +8,11 @@ pub fn laws_of_lines_and_runs()
     ensures items { ItemsAreTheBody }
     ensures runs { RunsAreLongest }
     ensures headers { HeadersGiveTheBox }
+{}
+
+/// Which lines are headers, and with which rule text.
+pub fn law_of_headers()
+    ensures { HeadersAreRead }
 {}
 
 /// What a canonical body is, and that there is one: its lines are as full as they can be, its runs could

@@ -18,7 +18,9 @@ mod text;
 mod writer;
 
 pub use fault::{ReadFault, RleFault, WriteFault};
-pub use laws::{laws_of_canonical_bodies, laws_of_files, laws_of_lines_and_runs, laws_of_texts};
+pub use laws::{
+    law_of_headers, laws_of_canonical_bodies, laws_of_files, laws_of_lines_and_runs, laws_of_texts,
+};
 pub use machine::{read, read_from, read_kept};
 pub use memory::{MemoryOutlet, SliceInlet};
 pub use pieces::{PieceInlet, PieceOutlet};

@@ -39,7 +39,7 @@ fn trim_end(line: &[u8]) -> &[u8]
     rest
 }
 
-/// Whether the first byte that is no blank is `#`.
+/// Whether the first byte other than a blank is `#`.
 pub(crate) fn is_mark_line(line: &[u8]) -> bool
     ensures { result ≡ is_mark_line line.now }
 {
@@ -56,7 +56,7 @@ pub(crate) enum LineKind<'a> {
     Header,
 }
 
-/// What the letter after `#` makes of the text.
+/// The meaning of the text, which depends on the letter after `#`.
 fn marked(letter: u8, text: &[u8]) -> LineKind<'_>
     ensures { kind_of result ≡ marked letter text.now }
 {

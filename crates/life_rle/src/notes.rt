@@ -1,4 +1,4 @@
-//! The texts that stand before the header.
+//! The texts before the header.
 ghost use Rattle.std.specs.Prelude.{◌≡◌, OnOk, IfOk, MatchResult};
 ghost use Rattle.life_rle.specs.declared.fault.RleFault.TheVariants.{Memory};
 ghost use Rattle.std.specs.List.{list_any};
@@ -45,7 +45,7 @@ impl<A: Allocator> Notes<A> {
         self.comments.push(Text::from_slice(alloc, text)?)
     }
 
-    /// Takes what a line before the header says.
+    /// Takes the text of a line before the header.
     pub(crate) fn line(&mut self, alloc: A, kind: LineKind<'_>) -> Result<(), AllocError>
         ensures { OnOk result (notes self.new ≡ with_line (notes self.old) (kind_of kind.entry)) }
     {

@@ -20,7 +20,7 @@ pub struct PieceInlet {
 }
 
 impl PieceInlet {
-    /// These bytes, at most so many a take. The call of the number, counted from 1, fails and moves
+    /// These bytes, at most this many a take. The call with this number, counted from 1, fails and moves
     /// nothing.
     pub fn new(bytes: Vec<u8>, piece: usize, fail_at: Option<u64>) -> PieceInlet
         requires { 0 < piece }
@@ -110,7 +110,7 @@ pub struct PieceOutlet {
 }
 
 impl PieceOutlet {
-    /// An outlet of at most so many bytes a put. The call of the number, counted from 1, fails and
+    /// An outlet for at most this many bytes a put. The call with this number, counted from 1, fails and
     /// moves nothing.
     pub fn new(alloc: Global, piece: usize, fail_at: Option<u64>) -> PieceOutlet
         requires { 0 < piece }

@@ -36,7 +36,7 @@ pub(crate) struct Reader<A: Allocator> {
     stage: Stage,
 }
 
-/// The bytes of a line that are no blanks.
+/// The bytes of a line except blanks.
 fn without_blanks<A: Allocator>(alloc: A, line: &[u8]) -> Result<Vec<u8, A>, AllocError>
     ensures { IfOk result (λ text. text.items ≡ without_blanks line.now) }
 {

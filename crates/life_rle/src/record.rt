@@ -44,7 +44,7 @@ pub fn plain<A: Allocator + Copy>(
     Ok(into_plain(alloc, rule, pattern.copy(alloc)?))
 }
 
-/// The same of a pattern that is given away, in the memory that it has.
+/// The same for a pattern that is passed by value; reuses its memory.
 pub fn into_plain<A: Allocator>(alloc: A, rule: Rule, pattern: Pattern<A>) -> Record<A>
     requires { IsWithin 500_000_000 pattern }
     ensures { result ≡ plain rule pattern }

@@ -1,8 +1,8 @@
 //! Where bytes come from and where they go.
-ghost use Rattle.std.specs.Prelude.{◌≡◌, Bool, ℕ, ◌<◌, ◌≤◌, List, Option, IfOk, OnOk, OnErr, false, length};
+ghost use Rattle.std.specs.Prelude.{◌≡◌, ◌⊎◌, Bool, ℕ, ◌<◌, ◌≤◌, List, Option, Ok, IfOk, OnOk, OnErr, false, length};
 ghost use Rattle.life_rle.specs.Stream.{raised, counted, ended, moved, is_err, Takes, Puts, Gains, GainsSome, FailsLast};
 
-use std::io::{Read, Write};
+use std::io::{self, Read, Write};
 
 /// A take or a put that moved nothing.
 #[derive(Clone, Copy, Debug, PartialEq, Eq)]
@@ -77,6 +77,28 @@ impl<R: Read> FromRead<R> {
     }
 }
 
+/// What a take answers for what its reader answered: it fails only if the reader did, or gave more than there was room for.
+fn taken(answer: io::Result<usize>, room: usize) -> Result<usize, Failed>
+    ensures ok { IfOk result (λ k. (answer ≡ Ok k) × (k ≤ room)) }
+    ensures err { OnErr result ((k : ℕ) → answer ≡ Ok k → room < k) }
+{
+    match answer {
+        Ok(k) if k <= room => Ok(k),
+        _ => Err(Failed),
+    }
+}
+
+/// What a put of this many bytes returns for its writer's result: it fails only if the writer did, or if the writer took none or too many.
+fn given(answer: io::Result<usize>, most: usize) -> Result<usize, Failed>
+    ensures ok { IfOk result (λ k. (answer ≡ Ok k) × (k ≤ most) × (0 < most → 0 < k)) }
+    ensures err { OnErr result ((k : ℕ) → answer ≡ Ok k → (most < k) ⊎ ((k ≡ 0) × (0 < most))) }
+{
+    match answer {
+        Ok(k) if k <= most && (k > 0 || most == 0) => Ok(k),
+        _ => Err(Failed),
+    }
+}
+
 impl<R: Read> Inlet for FromRead<R> {
     ghost to_come = { λ s. R.remaining s.reader };
 
@@ -90,16 +112,17 @@ impl<R: Read> Inlet for FromRead<R> {
 
     fn take(&mut self, space: &mut [u8]) -> Result<usize, Failed> {
         self.takes = self.takes.saturating_add(1);
-        match self.reader.read(space) {
-            Ok(k) if k <= space.len() => {
+        let answer = self.reader.read(space);
+        match taken(answer, space.len()) {
+            Ok(k) => {
                 self.last_take = k;
                 self.ends = self.ends.saturating_add(u64::from(k == 0));
                 Ok(k)
             }
-            _ => {
+            Err(failed) => {
                 self.last_take = 0;
                 self.failures = self.failures.saturating_add(1);
-                Err(Failed)
+                Err(failed)
             }
         }
     }
@@ -136,15 +159,16 @@ impl<W: Write> Outlet for FromWrite<W> {
     ghost last_failed = { λ s. s.last_failed };
 
     fn put(&mut self, bytes: &[u8]) -> Result<usize, Failed> {
-        match self.writer.write(bytes) {
-            Ok(k) if k <= bytes.len() && (k > 0 || bytes.is_empty()) => {
+        let answer = self.writer.write(bytes);
+        match given(answer, bytes.len()) {
+            Ok(k) => {
                 self.last_failed = false;
                 Ok(k)
             }
-            _ => {
+            Err(failed) => {
                 self.failures = self.failures.saturating_add(1);
                 self.last_failed = true;
-                Err(Failed)
+                Err(failed)
             }
         }
     }

@@ -4,8 +4,8 @@ ghost use Rattle.std.specs.List.{All, flat_map};
 ghost use Rattle.life_core.specs.Runs.{run_cells, runs_cells};
 ghost use Rattle.life_rle.specs.File.{kept};
 ghost use Rattle.life_rle.specs.Record.{IsInside};
-ghost use Rattle.life_rle.specs.Writer.{item_texts, laid, text_line, optional_line, comment_line, width_of, height_of, header_line, coordinates, text};
-ghost use Rattle.life_rle.specs.WriterState.{counted, column_of, row_of, IsQuarterRun, IsNextRun, AreNextRuns};
+ghost use Rattle.life_rle.specs.Writer.{item_texts, laid, text_line, optional_line, comment_line, width_of, height_of, header_line, coordinates, text, IsQuarterRun};
+ghost use Rattle.life_rle.specs.WriterState.{counted, column_of, row_of, IsNextRun, AreNextRuns};
 
 use crate::record::Record;
 use crate::text::Text;
@@ -16,8 +16,8 @@ use std::alloc::{AllocError, Allocator};
 /// The most bytes of a line of items.
 const WIDTH: usize = 70;
 
-/// Items laid into lines. The line that has begun is in a buffer of its own, from which it goes into the text as a whole: so an item
-/// of one digit is two stores, whichever it is, and allocates nothing.
+/// Items laid out in lines. The current line has its own buffer and is moved into the text as a whole, so an item of one digit takes
+/// two stores and no allocation.
 #[derive(Drop)]
 struct ItemLines<A: Allocator> {
     /// The text up to the last line that is whole.
@@ -54,7 +54,7 @@ impl<A: Allocator + Copy> ItemLines<A> {
         Ok(())
     }
 
-    /// Ends the line if an item of so many bytes does not fit into it.
+    /// Ends the line if an item of this many bytes does not fit into it.
     fn make_room(&mut self, len: usize) -> Result<(), AllocError>
         requires { len ≤ 70 }
         ensures room { OnOk result (self.new.used + len ≤ 70) }
@@ -259,7 +259,7 @@ fn start_of(run: Run) -> (u32, u32)
     (run.first as u32, run.row as u32)
 }
 
-/// The text of a record: its texts, its header and its body. Cells stand in the longest runs, and a
+/// The text of a record: its texts, its header and its body. Cells form the longest runs, and a
 /// line takes whole items as long as it then has at most 70 bytes.
 #[tactic(auto, unfolding(crate::specs::Writer::text))]
 pub fn write<A: Allocator + Copy>(alloc: A, record: &Record<A>) -> Result<Vec<u8, A>, Fault>

@@ -1,4 +1,4 @@
--- Files in which nothing stands yet list no table.
+-- Empty files list no table.
 use Rattle.std.proofs.Common.{◌≡◌, ◌∙◌, ◌<◌, ◌≤◌, ℕ, [], ◌∷◌, ◌++◌, List, length, take, slice_index, get_or-take, Option, Some, ap, sym, inl, inr, arith}
 use Rattle.std.specs.Prelude.{codes, unwrap_or, true, false}
 use Rattle.std.proofs.lemmas.List.{length-take}

@@ -15,7 +15,7 @@ use Rattle.life_store.proofs.AddLemmas.{cast_null, cast_int}
 use Rattle.sqlite_resolve.specs.Compile.{table_defined_by}
 use Rattle.sqlite_catalog.specs.Change.{created, next_tree, KeepsRows}
 use Rattle.sqlite.specs.Does.{Tally, Does, lacks_sequence}
-use Rattle.sqlite.specs.Effect.{Database}
+use Rattle.sqlite.specs.Effect.{Database, IsDatabase}
 use Rattle.sqlite.specs.Listing.{understood}
 use Rattle.sqlite.specs.State.{State, mode_of, Writes, Executes, ExecutesInside}
 use Rattle.std.specs.Prelude.{IsTrue, OnOk}
@@ -133,6 +133,9 @@ creates_version old new count has_tables h =
       has_tables = record { is = it.schema; none = (it.step.tables.1.0 (λ e. cc) ∙ has_tables.none.1.0, (it.step.tables.1.1.0 (λ e. cc) ∙ has_tables.none.1.1.0, (it.step.tables.1.1.1.0 (λ e. cc) ∙ has_tables.none.1.1.1.0, (it.step.tables.1.1.1.1.0 (λ e. cc) ∙ has_tables.none.1.1.1.1.0, tt)))) };
       version = it.step.rows ∙ row;
     }
+
+pub creates_soundly : (old new : State) (count : ℕ) → HasTables archive_schema (0 ∷ 1 ∷ 3 ∷ 5 ∷ 7 ∷ []) old.now → Executes add_version_text [] old new (Ok count) → IsDatabase new.now
+creates_soundly old new count has_tables h = (runs_as add_version_text [] old new archive_schema has_tables.is (Insert 0 (Values version_terms 2)) version_is.0 version_is.1 count h).sound
 
 -- what a statement did inside a transaction, which stays open
 pub inside : (old new : State) (text : List ℕ) (r : Result ℕ Error) (P : Type 0) → ((count : ℕ) → Executes text [] old new (Ok count) → P) → ExecutesInside 0 text [] old new r → OnOk r (IsTrue new.in_transaction × P)

@@ -237,7 +237,7 @@ trees_hold db k sound h = record {
   };
 }
 
--- the same of the tables of layout 1
+-- the same of the tables of schema version 1
 pub first_held_as : (b c : Bool) (m n : ℕ) (was is : Bool) (db : Database) (k : Kept) → HoldsFirst (tables_in b m was db) k → HoldsFirst (tables_in c n is db) k
 first_held_as b c m n was is db k h = record {
   schema = h.schema;

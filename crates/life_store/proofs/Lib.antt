@@ -21,8 +21,10 @@ pub mod JoinLemmas
 pub mod SumLemmas
 pub mod CreatingLemmas
 pub mod LeftLemmas
+pub mod OpenedLemmas
 pub mod UpdateLemmas
 pub mod MigrationLemmas
+pub mod CommitLemmas
 pub mod BlankLemmas
 pub mod RepresentingLemmas
 pub mod TreesLemmas

@@ -1,4 +1,4 @@
--- What carries an archive of layout 1 over, statement by statement.
+-- What carries an archive of schema version 1 over, statement by statement.
 use Rattle.std.proofs.Common.{◌≡◌, ◌⊎◌, ◌<◌, ◌≤◌, Bool, inl, inr, ℕ, zero, suc, ◌+◌, pos, List, [], ◌∷◌, ◌++◌, length, map, take, slice_get, Option, Some, None, Ok, Err, Result, true, refl, sym, ap, ap₂, subst, ◌∙◌, arith, false}
 use Rattle.std.specs.Prelude.{IsTrue, IfOk, IfErr, OnOk, ◌^◌, ◌↔◌, Vec}
 use Rattle.std.specs.declared.alloc.Global.{Global}
@@ -15,12 +15,14 @@ use Rattle.life_store.specs.declared.kept.Deposit.{Deposit}
 use Rattle.sqlite_schema.specs.declared.command.Returning.{Returning}
 use Rattle.sqlite_resolve.specs.declared.compiled.Compiled.{Compiled}
 use Rattle.sqlite.specs.Clock.{timed}
-use Rattle.sqlite.specs.Effect.{Database}
+use Rattle.sqlite.specs.Effect.{Database, IsDatabase}
 use Rattle.sqlite.specs.Listing.{understood}
 use Rattle.sqlite.specs.State.{State, Shown, ShowsRows, FailsToQuery, IsTooLate, KeepsCommit, Shows, Executes}
 use Rattle.sqlite.specs.declared.error.Error.{Error}
 use Rattle.sqlite.proofs.Callers.{IsPlain}
-use Rattle.life_store.specs.Migration.{IsFlagged, unflagged, generation_in, version_1, HoldsFirst, Migrated}
+use Rattle.life_store.specs.Migration.{IsFlagged, unflagged, generation_in, version_1, HoldsFirst, Migrated, TreesMigrated}
+use Rattle.sqlite_trees.specs.Tree.{Trees}
+use Rattle.sqlite_catalog.specs.Listing.{IsSound}
 use Rattle.life_store.specs.MigrationState.{HoldsFirstParts, IsFlaggedUpTo, IsMigrated}
 use Rattle.life_store.specs.CensusesState.{Parts, HoldsParts, with_flag}
 use Rattle.life_store.specs.Kept.{Kept, Tallied, numbered}
@@ -140,9 +142,9 @@ flags_more p n old new u t there it =
     }
 
 pub all_flagged : {E : Type 0} (r : Result (Unit {0}) E) (p : Parts) (n : ℕ) (db after : Database) (u : IsFlaggedUpTo (record p { flagged = [] }) n db) → n ≡ length p.censuses
-    → OnOk r (HoldsParts after (record p { layout = version_2; flagged = u.done })) → OnOk r (IsMigrated p after)
-all_flagged (Ok x) p n db after u is stands = record { done = u.done; same = u.same ∙ ap (map unflagged) (whole n p.censuses is); flagged = u.flagged; stands = stands }
-all_flagged (Err e) p n db after u is stands = tt
+    → OnOk r (HoldsParts after (record p { layout = version_2; flagged = u.done })) → OnOk r (IsDatabase after) → OnOk r (IsMigrated p after × IsDatabase after)
+all_flagged (Ok x) p n db after u is stands sound = (record { done = u.done; same = u.same ∙ ap (map unflagged) (whole n p.censuses is); flagged = u.flagged; stands = stands }, sound)
+all_flagged (Err e) p n db after u is stands sound = tt
 
 -- the flag that was computed
 pub flagged_by : {E Q : Type 0} (r : Result Bool E) (ds : List Deposit) (t : Tallied) (deposit generation limit : ℕ) (d : Deposit) → deposit ≡ t.census.deposit → generation ≡ t.census.generation → limit ≡ t.census.limit
@@ -221,12 +223,37 @@ same_order (x ∷ xs) (y ∷ ys) e all =
     let rest : map unflagged xs ≡ map unflagged ys = cc in
     (subst (λ (u : Census × TallyCounts). HasOrder u.1) (sym first) all.0, same_order xs ys rest all.1)
 
--- the parts of what an archive of layout 1 keeps
+-- the parts of what an archive of schema version 1 keeps
 abbrev pub first_parts : Kept → Parts
 first_parts k = record { layout = version_1; deposits = k.deposits; censuses = k.censuses; counts = counts_from 1 k.censuses; flagged = [] }
 
 pub first_stands : (s : State) (k : Kept) → HoldsFirst (tables_of s) k → HoldsFirstParts s.now (first_parts k)
 first_stands s k h = record { schema = h.schema; layout = h.layout; deposits = h.deposits; censuses = h.censuses; census_rows = h.census_rows }
+
+-- what they represent in trees that were committed
+pub migrated_trees : (old : State) (db : Trees) (k : Kept) → HoldsFirst (tables_of old) k → (after : Database) × (db ≡ after.trees) × IsDatabase after × IsMigrated (first_parts k) after → TreesMigrated db k
+migrated_trees old db k h (after, is, sound, it) =
+    subst (λ (t : Trees). TreesMigrated t k) (sym is) (record {
+      sound = subst (λ s. IsSound s after.trees) it.stands.schema sound;
+      migrated = record {
+        censuses = it.done;
+        same = it.same;
+        flagged = it.flagged;
+        holds = record {
+          schema = refl;
+          committed = refl;
+          layout = it.stands.layout;
+          deposits = it.stands.deposits;
+          censuses = it.stands.censuses ∙ same_cells 1 it.done k.censuses it.same;
+          census_rows = it.stands.census_rows ∙ ap (rows_by count_cells 1) (same_counts 1 it.done k.censuses it.same);
+          census_flags = it.stands.census_flags;
+          filed = h.filed;
+          ordered = same_order it.done k.censuses it.same h.ordered;
+          few_deposits = h.few_deposits;
+          few_censuses = subst (λ n. n < 2 ^ 63) (sym (long unflagged unflagged it.done k.censuses it.same)) h.few_censuses;
+        };
+      };
+    })
 
 pub migrated_holds : (old new : State) (k : Kept) → new.in_transaction ≡ false → HoldsFirst (tables_of old) k → IsMigrated (first_parts k) new.now → Migrated (tables_of new) k
 migrated_holds old new k none h it = record {

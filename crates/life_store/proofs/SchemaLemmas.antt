@@ -24,7 +24,7 @@ use Rattle.life_store.specs.declared.fault.OpenFault.TheVariants.{BadCapacity, N
 use Rattle.life_store.specs.CreatingState.{HasTables}
 use Rattle.life_store.specs.Kept.{Kept}
 use Rattle.life_store.specs.Layout.{first_schema, archive_schema, no_schema}
-use Rattle.life_store.specs.Opening.{is_capacity, FilesHold, FilesHoldFirst, ListNothing, nothing_kept, versions_in, IsLayout, FilesHaveVersions}
+use Rattle.life_store.specs.Opening.{AreAnothers, is_capacity, FilesHold, FilesHoldFirst, ListNothing, nothing_kept, versions_in, IsLayout, FilesHaveVersions}
 use Rattle.life_store.specs.Migration.{HoldsFirst, Migrated}
 use Rattle.life_store.specs.MigrationState.{Carries}
 use Rattle.life_store.specs.OpeningState.{HaveVersions}
@@ -187,6 +187,17 @@ module _ {A F : Type 0} (s : State) (image : Image) (opened : HasCleanDisk s →
       → IfErr r (λ e. C e.1 → ListNothing image → e.0 ≢ NotOurs)
   opens_none (Ok a) h reads never = tt
   opens_none (Err e) h reads never = λ clean nothing is. let it = h clean is in never (finds_none s (opened it.0) (nothing s.committed.trees (reads it.0))) is
+
+-- what is refused as another's by a connection that was opened over files of this image
+module _ (s : State) (image : Image) (opened : HasCleanDisk s → Opens s × IsLive s) (found : HasCleanDisk s → (db : Trees) → HoldsDatabase image db → s.committed.trees ≡ db) (reads : HasCleanDisk s → AreFoundIn image s.committed.trees) where
+  pub refused_as : {Clean : Type 0} (fault : OpenFault) → fault ≡ NotOurs → (Clean → fault ≡ NotOurs → HasCleanDisk s × ((schema : Schema) (own : List Value) → IsLayout schema own → HaveVersions schema (tables_of s) own → ⊥))
+      → (s.now.schema ≡ no_schema → fault ≢ NotOurs) → Clean → AreAnothers image
+  refused_as fault is ours never clean =
+      let it = ours clean is in
+      record {
+        versions = λ schema own of hold. it.1 schema own of (finds_versions s image schema own own of (opened it.0) (found it.0) hold);
+        some = λ nothing. never (finds_none s (opened it.0) (nothing s.committed.trees (reads it.0))) is;
+      }
 
 pub healthy_then : {S E : Type 0} (s : State) (P : Type 0) (r : Result (ArchiveView S) E) → (HasCleanDisk s → P) → IfOk r (λ a. IsHealthyOf a → HasCleanDisk s) → IfOk r (λ a. IsHealthyOf a → P)
 healthy_then s P (Ok a) then was = λ healthy. then (was healthy)

@@ -74,11 +74,12 @@ stays_then {S} {A} {B} {E} {F} {g} a b c before after = record {
       let still : HasCleanDisk (state g b.now) = omega (arith, after.clean, clean) in
       keeps_then (state g a.now) (state g b.now) (state g c.now) (before.kept still begun) (after.kept clean (before.inside still begun));
   clean = omega (arith, before.clean, after.clean);
+  crash = crash_last a.now.store b.now.store c.now.store (λ clean db none. none) before.crash after.crash;
 }
 
 -- a transaction that stays open, whatever else a function answers
 pub stays_with : {S A B E F : Type 0} {g : Ghosts S} {x : A} (a b : MutBor (Held S)) (r : Result B F) → StaysInside {E = E} g a b (Ok x) → StaysInside g a b r
-stays_with a b r it = record { same_reference = it.same_reference; inside = λ clean begun. always r (it.inside clean begun); kept = it.kept; clean = it.clean }
+stays_with a b r it = record { same_reference = it.same_reference; inside = λ clean begun. always r (it.inside clean begun); kept = it.kept; clean = it.clean; crash = it.crash }
   where
     always : {B F P : Type 0} (o : Result B F) → P → OnOk o P
     always (Ok y) here = here

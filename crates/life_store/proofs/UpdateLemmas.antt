@@ -20,7 +20,7 @@ use Rattle.sqlite_rules.specs.declared.error.Rowids.TheVariants.{Given}
 use Rattle.sqlite.specs.declared.run.Mode.{Mode}
 use Rattle.sqlite.specs.Does.{Tally, Does}
 use Rattle.sqlite.specs.Rows.{Written}
-use Rattle.sqlite.specs.Effect.{Database, Answers}
+use Rattle.sqlite.specs.Effect.{Database, IsDatabase, Answers}
 use Rattle.sqlite.specs.Listing.{understood}
 use Rattle.sqlite.specs.State.{State, mode_of, Executes}
 use Rattle.sqlite.proofs.Callers.{one_step, one_permutation, statement_of, runs_as}
@@ -101,3 +101,7 @@ renames old new count p stands first h =
       census_rows = it.step.tables.1.1.1.0 (λ e. cc) ∙ stands.census_rows;
       census_flags = it.step.tables.1.1.1.1.0 (λ e. cc) ∙ stands.census_flags;
     }
+
+-- and leaves a database
+pub renames_soundly : (old new : State) (count : ℕ) (p : Parts) → HoldsParts old.now p → Executes st.rename_text [] old new (Ok count) → IsDatabase new.now
+renames_soundly old new count p stands h = (runs_as st.rename_text [] old new archive_schema stands.schema (Update 0 rename) rename_is.command rename_is.plain count h).sound

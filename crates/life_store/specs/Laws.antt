@@ -15,6 +15,6 @@ BlankFilesListNothing = (image : Image) → IsNothing image → ListNothing imag
 abbrev pub OneMeaning : Type 0
 OneMeaning = (t : Tables) (a b : Kept) → Holds t a → Holds t b → a ≡ b
 
--- So do those of layout 1, but for the flags, which it does not have.
+-- So do those of schema version 1, but for the flags, which it does not have.
 abbrev pub OneFirstMeaning : Type 0
 OneFirstMeaning = (t : Tables) (a b : Kept) → HoldsFirst t a → HoldsFirst t b → (a.deposits ≡ b.deposits) × (map unflagged a.censuses ≡ map unflagged b.censuses)

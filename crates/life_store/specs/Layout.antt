@@ -1,4 +1,4 @@
--- The schemas of the tables of docs/FORMATS.md (SQLite's "CREATE TABLE"): the five tables of layout 2, and the four of layout 1.
+-- The schemas of the tables of docs/FORMATS.md (SQLite's "CREATE TABLE"): the five tables of schema version 2, and the four of schema version 1.
 -- That the texts of the code make them is proved.
 use Rattle.std.specs.Prelude.{true, false, [], ◌∷◌, Some, None, codes, List, ℕ, pos}
 use Rattle.sqlite_value.specs.declared.keys.Collation.TheVariants.{Binary}
@@ -95,7 +95,7 @@ key_indexes =
     key_index (codes "sqlite_autoindex_deposits_1") 2 1 (2 ∷ 3 ∷ []) ∷ key_index (codes "sqlite_autoindex_censuses_1") 4 3 (2 ∷ 3 ∷ [])
     ∷ key_index (codes "sqlite_autoindex_census_rows_1") 6 5 (1 ∷ 2 ∷ []) ∷ []
 
--- layout 1: after the first four tables were made in turn
+-- schema version 1: after the first four tables were made in turn
 abbrev pub first_schema : Schema
 first_schema = record {
   tables = layout_table ∷ record deposits_table { tree = 1 } ∷ record censuses_table { tree = 3 } ∷ record census_rows_table { tree = 5 } ∷ [];
@@ -103,7 +103,7 @@ first_schema = record {
   views = [];
 }
 
--- layout 2: after the fifth was made too
+-- schema version 2: after the fifth was made too
 abbrev pub archive_schema : Schema
 archive_schema = record {
   tables = layout_table ∷ record deposits_table { tree = 1 } ∷ record censuses_table { tree = 3 } ∷ record census_rows_table { tree = 5 } ∷ record census_flags_table { tree = 7 } ∷ [];

@@ -1,8 +1,10 @@
--- What archives of layout 1 hold, and what they hold once they were opened: the same, in layout 2 (the tables of docs/FORMATS.md).
-use Rattle.std.specs.Prelude.{◌≡◌, ◌<◌, ◌^◌, ◌↔◌, ℕ, pos, List, [], ◌∷◌, length, map, Some, IsTrue}
+-- What archives of schema version 1 hold, and what they hold once they were opened: the same, in schema version 2 (the tables of docs/FORMATS.md).
+use Rattle.std.specs.Prelude.{◌≡◌, ◌<◌, ◌^◌, ◌↔◌, ℕ, true, false, pos, List, [], ◌∷◌, length, map, Some, IsTrue}
 use Rattle.std.specs.List.{AllByRecursion}
 use Rattle.sqlite_value.specs.declared.value.Value.TheVariants.{Int}
 use Rattle.sqlite_value.specs.Order.{Row}
+use Rattle.sqlite_trees.specs.Tree.{Trees}
+use Rattle.sqlite_catalog.specs.Listing.{IsSound}
 use Rattle.life_core.specs.Pattern.{Cells}
 use Rattle.life_core.specs.Generations.{generation_of}
 use Rattle.life_rle.specs.Record.{Contents}
@@ -11,15 +13,15 @@ use Rattle.life_census.specs.Steady.{IsSteady}
 use Rattle.life_store.specs.declared.kept.Deposit.{Deposit}
 use Rattle.life_store.specs.declared.kept.Census.{Census}
 use Rattle.life_store.specs.Kept.{Kept, Tallied, numbered}
-use Rattle.life_store.specs.Layout.{first_schema}
+use Rattle.life_store.specs.Layout.{first_schema, archive_schema}
 use Rattle.life_store.specs.Stored.{IsFiled, rows_by, deposit_cells, census_cells, count_cells, counts_from}
-use Rattle.life_store.specs.Tables.{Tables, HasOrder, Holds}
+use Rattle.life_store.specs.Tables.{Tables, tables_in, HasOrder, Holds}
 
 -- the one row of `layout`, whose id is 1 too: version 1
 abbrev pub version_1 : List Row
 version_1 = (Int (pos 1) ∷ Int (pos 1) ∷ []) ∷ []
 
--- The tables of layout 1 represent these deposits and these censuses, each with its tally, and for no others (Tables.antt).
+-- The tables of schema version 1 represent these deposits and these censuses, each with its tally, and for no others (Tables.antt).
 -- There is no table of flags, so the flags play no part: a database represents them whatever they are.
 pub record HoldsFirst (t : Tables) (k : Kept) : Type 0 where
   pub schema : t.schema ≡ first_schema
@@ -52,3 +54,8 @@ pub record Migrated (t : Tables) (k : Kept) : Type 0 where
   pub same : map unflagged censuses ≡ map unflagged k.censuses
   pub flagged : AllByRecursion (IsFlagged k.deposits) censuses
   pub holds : Holds t (record k { censuses = censuses })
+
+-- The trees obey the archive's tables, with rows that represent the same.
+pub record TreesMigrated (db : Trees) (k : Kept) : Type 0 where
+  pub sound : IsSound archive_schema db
+  pub migrated : Migrated (tables_in true 0 false (record { schema = archive_schema; trees = db })) k

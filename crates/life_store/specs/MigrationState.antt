@@ -1,15 +1,16 @@
--- Used by the contracts of the code alone: what stands in the tables while they are migrated, and while flags are added, census by census.
+-- Used by the contracts of the code alone: the content of the tables while they are migrated, and while flags are added, census by census.
 use Rattle.std.specs.Prelude.{◌≡◌, ℕ, List, map, take, IsTrue}
 use Rattle.std.specs.List.{AllByRecursion}
-use Rattle.sqlite.specs.Effect.{Database}
-use Rattle.life_store.specs.Migration.{IsFlagged, unflagged, HoldsFirst, Migrated}
+use Rattle.sqlite_trees.specs.Tree.{Trees}
+use Rattle.sqlite.specs.Effect.{Database, IsDatabase}
+use Rattle.life_store.specs.Migration.{version_1, IsFlagged, unflagged, HoldsFirst, Migrated}
 use Rattle.life_store.specs.CensusesState.{Parts, HoldsParts}
 use Rattle.life_store.specs.Kept.{Kept, Tallied}
 use Rattle.life_store.specs.Layout.{first_schema}
-use Rattle.life_store.specs.Stored.{rows_by, deposit_cells, census_cells, count_cells}
+use Rattle.life_store.specs.Stored.{IsFiled, rows_by, deposit_cells, census_cells, count_cells}
 use Rattle.life_store.specs.Tables.{Tables, version_2}
 
--- the rows of the tables of layout 1
+-- the rows of the tables of schema version 1
 pub record HoldsFirstParts (db : Database) (p : Parts) : Type 0 where
   pub schema : db.schema ≡ first_schema
   pub layout : db.trees 0 ≡ p.layout
@@ -31,6 +32,10 @@ pub record IsMigrated (p : Parts) (db : Database) : Type 0 where
   pub flagged : AllByRecursion (IsFlagged p.deposits) done
   pub stands : HoldsParts db (record p { layout = version_2; flagged = done })
 
--- what an opening makes of the tables of layout 1
+-- what the transaction that carries tables of schema version 1 over commits
+abbrev pub IsCarriedOver : Database → Trees → Type 0
+IsCarriedOver old db = (p : Parts) → AllByRecursion IsFiled p.deposits → HoldsFirstParts old p → p.layout ≡ version_1 → (after : Database) × (db ≡ after.trees) × IsDatabase after × IsMigrated p after
+
+-- what an opening makes of the tables of schema version 1
 abbrev pub Carries : Tables → Tables → Type 0
 Carries old new = (k : Kept) → IsTrue new.is_healthy → HoldsFirst old k → Migrated new k

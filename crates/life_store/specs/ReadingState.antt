@@ -10,7 +10,7 @@ use Rattle.life_store.specs.declared.kept.Listed.{Listed}
 use Rattle.life_store.specs.Kept.{Tallied}
 use Rattle.life_store.specs.Stored.{IsFiled, flag_number}
 
--- the greatest of so many numbers: one row, or none if there are none
+-- the greatest of this many numbers: one row, or no row if there are no numbers
 abbrev pub newest_rows : ℕ → List Row
 newest_rows zero = []
 newest_rows (suc n) = (Int (pos (suc n)) ∷ []) ∷ []

@@ -47,3 +47,5 @@ pub record StaysInside {S A E : Type 0} (g : Ghosts S) (old new : MutBor (Held S
   pub kept : HasCleanDisk (state g new.now) → IsTrue old.now.in_transaction → KeepsCommit (state g old.now) (state g new.now)
   -- a disk that has returned what was written had done so before
   pub clean : doubt (state g old.now).is_clean ≤ doubt (state g new.now).is_clean
+  -- a crash leaves nothing new
+  pub crash : CrashLeaves g NoMore old.now.store new.now.store

@@ -16,7 +16,7 @@ abbrev pub rows_by : {X : Type 0} → (X → Row) → ℕ → List X → List Ro
 rows_by f id [] = []
 rows_by f id (x ∷ xs) = (Int (pos id) ∷ f x) ∷ rows_by f (id + 1) xs
 
--- deposits: id (it stands in front), member, token, rule, population, rle
+-- deposits: id (in front), member, token, rule, population, rle
 abbrev pub deposit_cells : Deposit → Row
 deposit_cells d = Null ∷ Text d.member ∷ Text d.token ∷ Text (rule_text d.content.rule) ∷ Int (pos (set.len d.content.cells)) ∷ Blob (text d.content) ∷ []
 
@@ -25,7 +25,7 @@ pub record IsFiled (d : Deposit) : Type 0 where
   pub rule : IsRule d.content.rule
   pub again : kept (text d.content) ≡ Ok d.content
 
--- censuses: id (it stands in front), member, token, deposit, gens, lim, clusters, unresolved
+-- censuses: id (in front), member, token, deposit, gens, lim, clusters, unresolved
 abbrev pub census_cells : Tallied → Row
 census_cells t =
     Null ∷ Text t.census.member ∷ Text t.census.token ∷ Int (pos t.census.deposit) ∷ Int (pos t.census.generation) ∷ Int (pos t.census.limit)
@@ -35,7 +35,7 @@ census_cells t =
 abbrev pub count_cells : ℕ × (List ℕ × ℕ) → Row
 count_cells r = Int (pos r.0) ∷ Text r.1.0 ∷ Int (pos r.1.1) ∷ []
 
--- census_flags: census (it stands in front), steady
+-- census_flags: census (in front), steady
 abbrev pub flag_number : Bool → ℕ
 flag_number b = if b then 1 else 0
 

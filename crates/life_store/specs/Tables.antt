@@ -39,7 +39,7 @@ pub record Tables : Type 0 where
   pub census_rows : List Row
   pub census_flags : List Row
 
--- an archive: its tables, how many deposits, and how many censuses, it takes, and its store, of which the clauses on crashes speak
+-- an archive: its tables, how many deposits and how many censuses it takes, and its store, which the clauses on crashes are about
 pub record ArchiveView (S : Type 0) : Type 0 where
   pub tables : Tables
   pub capacity : ℕ
@@ -110,7 +110,7 @@ pub record Holds (t : Tables) (k : Kept) : Type 0 where
   pub census_flags : t.census_flags ≡ rows_by flag_cells 1 k.censuses
   -- each file is read as its record again
   pub filed : AllByRecursion IsFiled k.deposits
-  -- the rows of each tally stand in the order in which they are asked for
+  -- the rows of each tally are in the order in which they are queried
   pub ordered : AllByRecursion (λ t. HasOrder t.tally) k.censuses
   -- each number is an integer of SQL
   pub few_deposits : length k.deposits < 2 ^ 63

@@ -4,7 +4,7 @@ ghost use Rattle.std.specs.Prelude.{◌≡◌, ◌≤◌, ◌+◌, ◌++◌, fal
 ghost use Rattle.sqlite_trees.specs.Tree.{Trees};
 ghost use Rattle.sqlite_trees.specs.View.{doubt, IsClean};
 ghost use Rattle.life_store.specs.TreesOf.{AreTreesOf};
-ghost use Rattle.sqlite.specs.Held.{state};
+ghost use Rattle.sqlite.specs.Held.{state, AreDatabases};
 ghost use Rattle.life_rle.specs.Record.{IsInside};
 ghost use Rattle.life_rle.specs.Writer.{text};
 ghost use Rattle.life_store.specs.Kept.{Kept, numbered, deposit_by, file_of_deposit, listed_after, kept_census, census_by, censuses_of, total_of};
@@ -20,6 +20,7 @@ use crate::{censuses, deposits, flags};
 use life_census::{Rows, Tally};
 use life_core::Rule;
 use sqlite::{Alter, Connection, MemStore};
+use sqlite_schema::schema::Schema;
 use std::alloc::Global;
 use std::marker::Model;
 
@@ -27,8 +28,8 @@ use std::marker::Model;
 ///
 /// Contracts see the tables, whatever is in them, and the capacity. What a call does is said for all deposits and
 /// censuses that the tables represent before it, if the database is healthy after it: it is open, and its disk has
-/// returned what was written. Each call either does its one act, or is Unavailable and what was kept is kept. A number is a
-/// place in its list, from 1.
+/// returned what was written. Each call either does its one act, or is Unavailable and changes nothing. A number is a place in
+/// its list, from 1.
 pub struct Archive<S: Alter> {
     pub(crate) conn: Connection<S>,
     pub(crate) capacity: u64,
@@ -67,6 +68,13 @@ impl<S: Alter> Archive<S> {
         conn
     }
 
+    /// The tables, with their columns, checks and indexes. No row is read.
+    pub fn schema(&self) -> &Schema
+        ensures { result.now ≡ self.now.tables.schema }
+    {
+        self.conn.schema()
+    }
+
     /// While an archive is healthy, a crash leaves what it holds and nothing else: what was answered is committed. A law: calling
     /// it does nothing.
     pub fn law_of_crashes(&self)
@@ -76,8 +84,15 @@ impl<S: Alter> Archive<S> {
         let _settled = self.conn.is_autocommit();
     }
 
-    /// How many deposits, and how many censuses, are to be taken at most. No call here counts against it: that is for
-    /// the caller to do. Asks no store.
+    /// The store of a healthy archive is open. A law: calling it does nothing.
+    pub fn law_of_open_stores(&self)
+        ensures { IsTrue self.now.tables.is_healthy → IsTrue (S.Store.view self.now.store).is_open }
+    {
+        let _ = &self.conn;
+    }
+
+    /// The most deposits, and the most censuses, that the archive takes. No call here enforces it: the caller has to.
+    /// It does not ask the store.
     pub fn capacity(&self) -> u64
         ensures { result ≡ self.now.capacity }
     {
@@ -95,7 +110,7 @@ impl<S: Alter> Archive<S> {
         count_in(rows.as_slice())
     }
 
-    /// The deposit of the number, or none.
+    /// The deposit with the number, or `None`.
     pub fn deposit_of(&mut self, alloc: Global, id: u64) -> Result<Option<Deposit>, Unavailable>
         ensures transition { IsTransition S.Store NoMore self.old self.new }
         ensures healthy { OnOk result (IsHealthyIfClean S.Store self.new) }
@@ -104,7 +119,7 @@ impl<S: Alter> Archive<S> {
         ensures inside { IfOk result (λ o. IfSome o (λ d. IsInside 1024 d.content.cells)) }
     {
         let Ok(rowid) = i64::try_from(id) else {
-            // No row has such a number. The store is asked all the same: one that is shut answers nothing.
+            // No row has such a number. The store is asked anyway, since a closed one answers nothing.
             let _count = self.count_deposits()?;
             return Ok(None);
         };
@@ -115,8 +130,8 @@ impl<S: Alter> Archive<S> {
         }
     }
 
-    /// The pattern file of the deposit of the number, or none: the canonical text that is stored. It is compared with what is
-    /// written of the record that it is read as, and given as it is.
+    /// The pattern file of the deposit with the number, or `None`: the stored canonical text. It is parsed, written again,
+    /// compared, and returned unchanged.
     pub fn file_of(&mut self, alloc: Global, id: u64) -> Result<Option<Vec<u8>>, Unavailable>
         ensures transition { IsTransition S.Store NoMore self.old self.new }
         ensures healthy { OnOk result (IsHealthyIfClean S.Store self.new) }
@@ -124,7 +139,7 @@ impl<S: Alter> Archive<S> {
         ensures value { ForAllHeld self.old.tables self.new.tables (λ k. IfOk result (λ file. option_map (λ v. v.items) file ≡ option_map (λ d. text d.content) (numbered k.deposits id))) }
     {
         let Ok(rowid) = i64::try_from(id) else {
-            // No row has such a number. The store is asked all the same: one that is shut answers nothing.
+            // No row has such a number. The store is asked anyway, since a closed one answers nothing.
             let _count = self.count_deposits()?;
             return Ok(None);
         };
@@ -135,7 +150,7 @@ impl<S: Alter> Archive<S> {
         }
     }
 
-    /// The deposit of the member and the token, with its number, or none.
+    /// The deposit of the member and the token, with its number, or `None`.
     pub fn find_deposit(
         &mut self,
         alloc: Global,
@@ -152,8 +167,8 @@ impl<S: Alter> Archive<S> {
         first_deposit(alloc, rows.as_slice())
     }
 
-    /// The number and the pattern file of the deposit of the member and the token, or none. The file is the canonical text
-    /// that is stored, compared as [`Archive::file_of`] does.
+    /// The number and the pattern file of the deposit of the member and the token, or `None`. The file is the stored
+    /// canonical text, checked as in [`Archive::file_of`].
     pub fn find_file(
         &mut self,
         alloc: Global,
@@ -169,7 +184,7 @@ impl<S: Alter> Archive<S> {
         first_file(alloc, found.as_slice())
     }
 
-    /// The first hundred deposits with a greater number, a line each. Any number is good.
+    /// The first hundred deposits with a greater number, a line each. Any number is valid.
     pub fn deposits_after(&mut self, alloc: Global, id: u64) -> Result<Listing, Unavailable>
         ensures transition { IsTransition S.Store NoMore self.old self.new }
         ensures healthy { OnOk result (IsHealthyIfClean S.Store self.new) }
@@ -177,7 +192,7 @@ impl<S: Alter> Archive<S> {
         ensures value { ForAllHeld self.old.tables self.new.tables (λ k. IfOk result (λ lines. lines ≡ listed_after id k.deposits)) }
     {
         let Ok(rowid) = i64::try_from(id) else {
-            // No row has such a number. The store is asked all the same: one that is shut answers nothing.
+            // No row has such a number. The store is asked anyway, since a closed one answers nothing.
             let _count = self.count_deposits()?;
             return Ok(Listing::of(Vec::new(alloc)));
         };
@@ -185,8 +200,8 @@ impl<S: Alter> Archive<S> {
         all_lines(alloc, rows.as_slice())
     }
 
-    /// Adds a deposit, and answers its number. Whether its member and token are kept already is for the
-    /// caller to ask first.
+    /// Adds a deposit, and returns its number. The caller has to check first that its member and token are
+    /// not stored yet.
     pub fn add_deposit(&mut self, alloc: Global, deposit: &Deposit) -> Result<u64, Unavailable>
         requires { IsInside 1024 deposit.now.content.cells }
         ensures transition { IsTransition S.Store (HoldChanged self.old.tables (λ k. record k { deposits = k.deposits ++ deposit.now ∷ [] })) self.old self.new }
@@ -217,7 +232,7 @@ impl<S: Alter> Archive<S> {
         count_in(rows.as_slice())
     }
 
-    /// The census of the number, or none.
+    /// The census with the number, or `None`.
     pub fn census_of(&mut self, alloc: Global, id: u64) -> Result<Option<KeptCensus>, Unavailable>
         ensures transition { IsTransition S.Store NoMore self.old self.new }
         ensures healthy { OnOk result (IsHealthyIfClean S.Store self.new) }
@@ -225,7 +240,7 @@ impl<S: Alter> Archive<S> {
         ensures value { ForAllHeld self.old.tables self.new.tables (λ k. IfOk result (λ c. c ≡ option_map kept_census (numbered k.censuses id))) }
     {
         let Ok(rowid) = i64::try_from(id) else {
-            // No row has such a number. The store is asked all the same: one that is shut answers nothing.
+            // No row has such a number. The store is asked anyway, since a closed one answers nothing.
             let _count = self.count_censuses()?;
             return Ok(None);
         };
@@ -236,7 +251,7 @@ impl<S: Alter> Archive<S> {
         }
     }
 
-    /// The census of the member and the token, with its number, or none.
+    /// The census of the member and the token, with its number, or `None`.
     pub fn find_census(
         &mut self,
         alloc: Global,
@@ -280,7 +295,7 @@ impl<S: Alter> Archive<S> {
         Ok(id)
     }
 
-    /// The rows of the tally of a census that is kept, in byte order of their codes.
+    /// The rows of the tally of a stored census, in byte order of their codes.
     fn rows_kept(&mut self, alloc: Global, id: u64) -> Result<Rows, Unavailable>
         ensures transition { IsTransition S.Store NoMore self.old self.new }
         ensures healthy { OnOk result (IsHealthyIfClean S.Store self.new) }
@@ -294,8 +309,8 @@ impl<S: Alter> Archive<S> {
         all_rows(alloc, rows.as_slice())
     }
 
-    /// The rows of the tally of the census of the number, in byte order of their codes, and its flag, or none. A tally without rows
-    /// is stored by its census alone, so the flag is asked for first.
+    /// The rows of the tally of the census of the number, in byte order of their codes, and its flag, or `None`. A tally without
+    /// rows is stored only as its census, so the flag is queried first.
     pub fn rows_and_flag_of(
         &mut self,
         alloc: Global,
@@ -328,7 +343,7 @@ impl<S: Alter> Archive<S> {
         }
     }
 
-    /// The flag of the census of the number, or none: whether the generation that it counted is steady.
+    /// The flag of the census with the number, or `None`: whether the generation that it counted is steady.
     pub fn flag_of(&mut self, id: u64) -> Result<Option<bool>, Unavailable>
         ensures transition { IsTransition S.Store NoMore self.old self.new }
         ensures healthy { OnOk result (IsHealthyIfClean S.Store self.new) }
@@ -336,7 +351,7 @@ impl<S: Alter> Archive<S> {
         ensures value { ForAllHeld self.old.tables self.new.tables (λ k. IfOk result (λ b. b ≡ option_map (λ t. t.steady) (numbered k.censuses id))) }
     {
         let Ok(rowid) = i64::try_from(id) else {
-            // No row has such a number. The store is asked all the same: one that is shut answers nothing.
+            // No row has such a number. The store is asked anyway, since a closed one answers nothing.
             let _count = self.count_censuses()?;
             return Ok(None);
         };
@@ -364,6 +379,9 @@ impl<S: Alter + Drop> Archive<S> {
         ensures trees { IsTrue result.0 → IsClean (S.Store.view result.1) → (S.Store.view result.1).is_broken ≡ false → AreTreesOf self.tables (S.Store.view result.1).trees }
         ensures honest { doubt (S.Store.view self.store).is_clean ≤ doubt (S.Store.view result.1).is_clean }
         ensures outcomes { (db : Trees) → S.Store.recovers result.1 db → S.Store.recovers self.store db }
+        ensures numbers { (S.Store.view result.1).is_numbered ≡ (S.Store.view self.store).is_numbered }
+        ensures numbered { IsClean (S.Store.view result.1) → IsTrue (S.Store.view result.1).is_numbered }
+        ensures databases { IsClean (S.Store.view result.1) → AreDatabases (S.Store.recovers result.1) }
     {
         let conn = self.into_connection();
         let is_settled = conn.is_autocommit();

@@ -162,7 +162,7 @@ fn insert_with_flag<S: Alter>(
     flags::insert(tx, id, steady)
 }
 
-/// Adds the census under the number, the rows of its tally, and its flag, in one transaction: if it fails, it is rolled back.
+/// Adds the census under the number, the rows of its tally, and its flag, in one transaction. If that fails, it is rolled back.
 pub(crate) fn insert<S: Alter>(
     conn: &mut Connection<S>,
     id: u64,

@@ -1,4 +1,4 @@
-//! Statements that are run outside a transaction, and the values that are bound to them.
+//! Running statements outside a transaction, and binding values to them.
 
 ghost use Rattle.std.specs.Prelude.{◌≡◌, ◌≤◌, pos, false, [], ◌∷◌, Ok, IsTrue, IfOk, OnOk, OnErr};
 ghost use Rattle.sqlite_value.specs.declared.value.Value.TheVariants.{Int, Text, Blob};
@@ -95,7 +95,7 @@ pub(crate) fn query_inside<S: Alter>(
     Ok(tx.query_all(sql, params)?)
 }
 
-/// The same of a query about a number.
+/// The same for a query about a number.
 pub(crate) fn query_about<S: Alter>(
     tx: &mut Transaction<'_, S>,
     sql: &str,

@@ -7,7 +7,7 @@ use life_rle::RleFault;
 use sqlite::Error;
 use std::alloc::AllocError;
 
-/// The store or an allocation was refused, or a row was met that no archive writes. If the database is healthy after the
+/// The store or an allocation failed, or a row is one that no archive writes. If the database is healthy after the
 /// call, what was stored is stored and nothing else is.
 #[derive(Clone, Copy, Debug, PartialEq, Eq)]
 pub struct Unavailable;
@@ -39,12 +39,12 @@ impl From<Error> for Unavailable {
 /// Why an archive is not opened.
 #[derive(Clone, Copy, Debug, PartialEq, Eq)]
 pub enum OpenFault {
-    /// The capacity is not from 1 to 1,000,000. It is judged first.
+    /// The capacity is not from 1 to 1,000,000. It is checked first.
     BadCapacity = 1,
-    /// Some of an archive's tables stand, and `layout` is none of them or has not exactly one row: of version 2, or where
+    /// Some of an archive's tables exist, and `layout` is missing or does not have exactly one row: of version 2, or where
     /// there is no table of flags, of version 1.
     NotOurs = 2,
-    /// The store refused, or an allocation did, or the files hold no database; or an archive of layout 1 has a row that no
+    /// The store or an allocation failed, or the files hold no database; or an archive of schema version 1 has a row that no
     /// archive writes.
     Unavailable = 3,
 }

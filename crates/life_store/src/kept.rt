@@ -1,4 +1,4 @@
-//! Deposits and censuses, as they go in and come out.
+//! Deposits and censuses as values.
 
 ghost use Rattle.std.specs.Prelude.{◌≡◌};
 
@@ -8,27 +8,27 @@ use std::marker::Model;
 /// A pattern file, under the member and the token that it came with.
 #[derive(Debug, Drop)]
 pub struct Deposit {
-    /// Whose it is.
+    /// The member's name.
     pub member: Text,
-    /// What the member calls it. No two deposits that came in by look-up and add share member and token.
+    /// The member's token. No two deposits that were added after a lookup share member and token.
     pub token: Text,
     /// The record of the file.
     pub content: Record,
 }
 
 /// A census: which generation of which deposit was counted, under the member and the token that it came with. Its
-/// tally is kept beside it.
+/// tally is stored separately.
 #[derive(Debug, Drop)]
 pub struct Census {
-    /// Whose it is.
+    /// The member's name.
     pub member: Text,
-    /// What the member calls it. Tokens of censuses and of deposits have nothing to do with one another.
+    /// The member's token. Tokens of censuses and of deposits are independent.
     pub token: Text,
     /// The number of the deposit.
     pub deposit: u64,
     /// The generation that was counted.
     pub generation: u32,
-    /// The limit under which codes were looked for.
+    /// The limit on the period for the codes.
     pub limit: u32,
 }
 
@@ -48,7 +48,7 @@ pub struct KeptCensus {
 pub struct Listed {
     /// The deposit's number, from 1.
     pub id: u64,
-    /// Whose it is.
+    /// The member's name.
     pub member: Text,
     /// How many live cells it has.
     pub population: u64,

@@ -1,6 +1,6 @@
 //! The archive: deposits and censuses, kept in the tables of a database.
 //!
-//! Nothing above this crate speaks of rows or of SQL. Each call is one act on a list of deposits and a list of censuses,
+//! Crates above this one know neither rows nor SQL. Each call is one act on a list of deposits and a list of censuses,
 //! which the rows of the tables represent (`specs/Tables.antt`).
 #![tactic(auto)]
 
@@ -17,8 +17,10 @@ mod log_path;
 mod migration;
 mod opening;
 mod reading;
+mod unprepared;
 
 pub use archive::Archive;
 pub use fault::{OpenFault, Unavailable};
 pub use kept::{Census, Deposit, KeptCensus, Listed, Listing};
 pub use laws::laws_of_archives;
+pub use unprepared::MadeLog;

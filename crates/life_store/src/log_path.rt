@@ -2,10 +2,10 @@
 
 use std::{fs, io};
 
-/// How long a log is at most that has no commit: `sqlite` leaves so much of one that it has copied.
+/// The most bytes of a log without a commit: `sqlite` leaves this much of a log that it has copied into its file.
 const BLANK: u64 = 41;
 
-/// The name of the log beside a file that is there, if there is no log yet.
+/// The name of the log for an existing file, if there is no log yet.
 pub(crate) fn missing_log(rt: &HostRuntime, path: &str) -> Option<String> {
     let Ok(real) = fs::canonicalize(rt, path) else {
         return None;

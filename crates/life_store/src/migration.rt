@@ -1,15 +1,17 @@
-//! Archives of layout 1, which keep no flags, as they are migrated to layout 2.
+//! Migrating archives of schema version 1, which have no flags, to schema version 2.
 
 ghost use Rattle.std.specs.Prelude.{◌≡◌, ◌≤◌, ◌+◌, ◌↔◌, Bool, false, [], Some, length, option_map, IsTrue, IfOk, OnOk, OnErr};
 ghost use Rattle.std.specs.List.{AllByRecursion};
 ghost use Rattle.sqlite_trees.specs.View.{doubt};
+ghost use Rattle.sqlite.specs.Effect.{IsDatabase};
 ghost use Rattle.sqlite.specs.State.{HasCleanDisk};
 ghost use Rattle.sqlite.specs.Held.{state};
 ghost use Rattle.life_rle.specs.Record.{IsInside};
 ghost use Rattle.life_census.specs.Steady.{IsSteady};
 ghost use Rattle.life_store.specs.ExecutingState.{IsSeenAgain};
 ghost use Rattle.life_store.specs.Migration.{version_1, generation_in, IsFlagged};
-ghost use Rattle.life_store.specs.MigrationState.{HoldsFirstParts, IsFlaggedUpTo, IsMigrated};
+ghost use Rattle.life_store.specs.Crash.{CrashLeaves};
+ghost use Rattle.life_store.specs.MigrationState.{HoldsFirstParts, IsFlaggedUpTo, IsMigrated, IsCarriedOver};
 ghost use Rattle.life_store.specs.CensusesState.{Parts, HoldsParts, with_flag};
 ghost use Rattle.life_store.specs.Kept.{Tallied, numbered};
 ghost use Rattle.life_store.specs.ReadingState.{newest_rows, ShowsDeposit, ShowsCensus};
@@ -30,7 +32,7 @@ use life_rle::Record;
 use sqlite::{Alter, Connection, Row, Transaction};
 use std::alloc::Global;
 
-/// Whether the generation of the content is steady under the limit. A generation or a limit that no census has is
+/// Whether the generation of the content is steady under the limit. A generation or a limit that is out of range is
 /// refused.
 fn is_steady(alloc: Global, content: &Record, number: u32, limit: u32) -> Result<bool, Unavailable>
     requires { IsInside 1024 content.now.cells }
@@ -157,19 +159,20 @@ fn migrate_each<S: Alter>(
     Ok(())
 }
 
-/// Names layout 2 in the one row of `layout`.
+/// Names schema version 2 in the one row of `layout`.
 fn name_version<S: Alter>(tx: &mut Transaction<'_, S>) -> Result<(), Unavailable>
     ensures named { HasCleanDisk (state S.Store tx.new.conn.now) → IsTrue tx.old.conn.now.in_transaction → (p : Parts) → HoldsParts (state S.Store tx.old.conn.now).now p → p.layout ≡ version_1 → OnOk result (HoldsParts (state S.Store tx.new.conn.now).now (record p { layout = version_2 })) }
+    ensures sound { HasCleanDisk (state S.Store tx.new.conn.now) → IsTrue tx.old.conn.now.in_transaction → (p : Parts) → HoldsParts (state S.Store tx.old.conn.now).now p → OnOk result (IsDatabase (state S.Store tx.new.conn.now).now) }
     ensures stays { StaysInside S.Store tx.old.conn tx.new.conn result }
 {
     tx.execute("UPDATE layout SET version = 2", &[])?;
     Ok(())
 }
 
-/// Makes the table of flags, fills it, and names the layout.
+/// Creates the table of flags, fills it, and names the layout.
 fn migrate_all<S: Alter>(alloc: Global, tx: &mut Transaction<'_, S>) -> Result<(), Unavailable>
     ensures migrated { HasCleanDisk (state S.Store tx.new.conn.now) → IsTrue tx.old.conn.now.in_transaction → (p : Parts) → AllByRecursion IsFiled p.deposits → HoldsFirstParts (state S.Store tx.old.conn.now).now p → p.layout ≡ version_1
-        → OnOk result (IsMigrated p (state S.Store tx.new.conn.now).now) }
+        → OnOk result (IsMigrated p (state S.Store tx.new.conn.now).now × IsDatabase (state S.Store tx.new.conn.now).now) }
     ensures stays { StaysInside S.Store tx.old.conn tx.new.conn result }
 {
     create_census_flags(tx)?;
@@ -187,6 +190,7 @@ fn migrate_at_once<S: Alter>(alloc: Global, conn: &mut Connection<S>) -> Result<
     ensures was_open { HasCleanDisk (state S.Store conn.new) → IsTrue (state S.Store conn.new).is_open → IsTrue (state S.Store conn.old).is_open }
     ensures up { HasCleanDisk (state S.Store conn.new) → OnOk result (IsTrue (state S.Store conn.new).is_open) }
     ensures clean { doubt (state S.Store conn.old).is_clean ≤ doubt (state S.Store conn.new).is_clean }
+    ensures crash { CrashLeaves S.Store (IsCarriedOver (state S.Store conn.old).now) conn.old.store conn.new.store }
 {
     let mut tx = conn.transaction();
     match migrate_all(alloc, &mut tx) {
@@ -198,7 +202,7 @@ fn migrate_at_once<S: Alter>(alloc: Global, conn: &mut Connection<S>) -> Result<
     }
 }
 
-/// Carries an archive of layout 1 over to layout 2, or leaves it as it is.
+/// Migrates an archive of schema version 1 to schema version 2, or leaves it unchanged.
 pub(crate) fn migrate<S: Alter>(alloc: Global, conn: &mut Connection<S>) -> Result<(), Unavailable>
     ensures migrated { HasCleanDisk (state S.Store conn.new) → (p : Parts) → AllByRecursion IsFiled p.deposits → HoldsFirstParts (state S.Store conn.old).now p → p.layout ≡ version_1 → OnOk result (IsMigrated p (state S.Store conn.new).now) }
     ensures undone { HasCleanDisk (state S.Store conn.new) → OnErr result (IsSeenAgain (state S.Store conn.old) (state S.Store conn.new)) }
@@ -206,6 +210,7 @@ pub(crate) fn migrate<S: Alter>(alloc: Global, conn: &mut Connection<S>) -> Resu
     ensures was_open { HasCleanDisk (state S.Store conn.new) → IsTrue (state S.Store conn.new).is_open → IsTrue (state S.Store conn.old).is_open }
     ensures up { HasCleanDisk (state S.Store conn.new) → OnOk result (IsTrue (state S.Store conn.new).is_open) }
     ensures clean { doubt (state S.Store conn.old).is_clean ≤ doubt (state S.Store conn.new).is_clean }
+    ensures crash { CrashLeaves S.Store (IsCarriedOver (state S.Store conn.old).now) conn.old.store conn.new.store }
 {
     if !conn.is_autocommit() {
         return Err(Unavailable);

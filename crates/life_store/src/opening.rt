@@ -1,24 +1,25 @@
-//! Archives as they are opened and closed. In a database in which none of the tables stands they are made, and the tables
-//! of layout 1 are migrated.
+//! Opening and closing archives. If a database has none of the tables, they are created, and the tables
+//! of schema version 1 are migrated.
 
-ghost use Rattle.std.specs.Prelude.{◌≡◌, ◌≢◌, ◌↔◌, ◌≤◌, Ok, Err, false, List, [], IsTrue, IfOk, IfErr, OnOk};
+ghost use Rattle.std.specs.Prelude.{◌≡◌, ◌≢◌, ◌↔◌, ◌≤◌, ◌⊎◌, Ok, Err, false, List, [], IsTrue, IfOk, IfErr, OnOk};
 ghost use Rattle.sqlite_value.specs.declared.value.Value.{Value};
-ghost use Rattle.sqlite_trees.specs.View.{doubt, IsClean};
+ghost use Rattle.sqlite_trees.specs.View.{doubt, IsClean, IsQuiet};
 ghost use Rattle.sqlite_store.specs.FileStore.{view};
 ghost use Rattle.sqlite.specs.State.{HasCleanDisk};
-ghost use Rattle.sqlite.specs.Held.{state};
+ghost use Rattle.sqlite.specs.Held.{state, AreDatabases};
 ghost use Rattle.sqlite.specs.Closing.{IsCopied};
 ghost use Rattle.sqlite.specs.Files.{file_state, image_of, over_files};
 ghost use Rattle.sqlite_wal.specs.Files.{image_at};
 ghost use Rattle.sqlite_wal.specs.Reads.{AreClean};
 ghost use Rattle.sqlite_schema.specs.declared.schema.Schema.{Schema as SchemaValue};
+ghost use Rattle.life_store.specs.Crash.{NoMore, CrashLeaves};
 ghost use Rattle.life_store.specs.Migration.{Migrated};
 ghost use Rattle.life_store.specs.MigrationState.{Carries};
 ghost use Rattle.life_store.specs.Kept.{Kept};
 ghost use Rattle.life_store.specs.CreatingState.{HasTables};
 ghost use Rattle.life_store.specs.Layout.{no_schema};
-ghost use Rattle.life_store.specs.Opening.{is_capacity, nothing_kept, without_log, IsLayout, FilesHaveVersions, FilesHold, FilesHoldFirst, LeftHold, AreLeftOf, ListNothing};
-ghost use Rattle.life_store.specs.OpeningState.{IsSettled, HaveVersions, has_table, has_view, has_name, has_some, column_of, version_shown, version_with, rows_of_version, schema_of};
+ghost use Rattle.life_store.specs.Opening.{is_capacity, nothing_kept, without_log, IsLayout, FilesHaveVersions, FilesHold, FilesHoldFirst, LeftHold, AreLeftOf, AreLetGo, HaveFailedSince, AreUnharmed, AreRefusedAs, ListNothing};
+ghost use Rattle.life_store.specs.OpeningState.{IsSettled, IsMadeOfOld, IsMadeOf, AreLeftMade, HaveVersions, has_table, has_view, has_name, has_some, column_of, version_shown, version_with, rows_of_version, schema_of};
 ghost use Rattle.life_store.specs.Tables.{tables_of, Holds, HoldsTheSame, IsHealthyIfClean};
 
 use crate::archive::Archive;
@@ -32,15 +33,16 @@ use sqlite::{Alter, Connection, Error, FileFrom, FileStore, Files, MemStore, Opt
 use sqlite_disk::Disk;
 use sqlite_schema::names::same_name;
 use sqlite_schema::schema::{Schema, Table, View};
+use sqlite_trees::store::Store;
 use std::alloc::Global;
 
-/// The seed of the random numbers by which a log tells its own frames.
+/// The seed of the random numbers that identify a log's own frames.
 const SEED: u64 = 1;
 
-/// A file in which an archive is made keeps the sum of each page. One that is there stays as it is.
-const WITH_SUMS: bool = true;
+/// A new archive's file stores a checksum for each page. An existing file stays as it is.
+pub(crate) const WITH_SUMS: bool = true;
 
-/// Whether an archive may take so many.
+/// Whether an archive may take this many.
 fn is_capacity(capacity: u64) -> bool
     ensures { result ≡ is_capacity capacity }
 {
@@ -63,14 +65,14 @@ fn has_view(views: &[View], name: &[u8]) -> bool
         .any(|view| same_name(view.name.as_slice(), name))
 }
 
-/// Whether something in the database has the name.
+/// Whether the database has anything with this name.
 fn has_name(schema: &Schema, name: &[u8]) -> bool
     ensures { result ≡ has_name schema.now name.now }
 {
     has_table(schema.tables.as_slice(), name) || has_view(schema.views.as_slice(), name)
 }
 
-/// Whether some of the tables stand.
+/// Whether some of the tables exist.
 fn has_some(schema: &Schema) -> bool
     ensures { result ≡ has_some schema.now }
 {
@@ -97,11 +99,12 @@ fn versions<S: Alter>(conn: &mut Connection<S>) -> Result<Vec<Row>, Error>
     ensures up { HasCleanDisk (state S.Store conn.new) → OnOk result (IsTrue (state S.Store conn.new).is_open) }
     ensures clean { doubt (state S.Store conn.old).is_clean ≤ doubt (state S.Store conn.new).is_clean }
     ensures mode { conn.old.in_transaction ≡ false → conn.new.in_transaction ≡ false }
+    ensures crash { CrashLeaves S.Store NoMore conn.old.store conn.new.store }
 {
     query(conn, "SELECT * FROM layout ORDER BY 1 LIMIT 2", &[])
 }
 
-/// Whether the rows are version 1 alone.
+/// Whether the rows say just version 1.
 fn is_version_1(rows: &[Row]) -> bool
     ensures { IsTrue result ↔ (rows.now ≡ version_shown 1) }
 {
@@ -111,7 +114,7 @@ fn is_version_1(rows: &[Row]) -> bool
     }
 }
 
-/// Whether the rows are version 2 alone.
+/// Whether the rows say just version 2.
 fn is_version_2(rows: &[Row]) -> bool
     ensures { IsTrue result ↔ (rows.now ≡ version_shown 2) }
 {
@@ -139,7 +142,7 @@ fn version_named(has_flags: bool, rows: &[Row]) -> Result<Version, OpenFault>
     Err(OpenFault::NotOurs)
 }
 
-/// The version of the tables, some of which stand.
+/// The version of the tables, some of which exist.
 fn version_of<S: Alter>(conn: &mut Connection<S>) -> Result<Version, OpenFault>
     ensures same { OnOk result ((schema : SchemaValue) (own : List Value) → IsLayout schema own → IsTrue (tables_of (state S.Store conn.new)).is_healthy → (state S.Store conn.old).now.schema ≡ schema → (state S.Store conn.new).now ≡ (state S.Store conn.old).now) }
     ensures found { (schema : SchemaValue) (own versions : List Value) → IsLayout schema own → IsTrue (tables_of (state S.Store conn.new)).is_healthy → HaveVersions schema (tables_of (state S.Store conn.old)) versions → IfOk result (λ v. (versions ≡ own) × (schema ≡ schema_of v)) }
@@ -148,6 +151,8 @@ fn version_of<S: Alter>(conn: &mut Connection<S>) -> Result<Version, OpenFault>
     ensures up { HasCleanDisk (state S.Store conn.new) → OnOk result (IsTrue (state S.Store conn.new).is_open) }
     ensures clean { doubt (state S.Store conn.old).is_clean ≤ doubt (state S.Store conn.new).is_clean }
     ensures mode { conn.old.in_transaction ≡ false → conn.new.in_transaction ≡ false }
+    ensures crash { CrashLeaves S.Store NoMore conn.old.store conn.new.store }
+    ensures still { HasCleanDisk (state S.Store conn.new) → result ≡ Err OpenFault.NotOurs → IsTrue (state S.Store conn.old).is_open → IsTrue (state S.Store conn.new).is_open }
 {
     if !has_table(conn.schema().tables.as_slice(), b"layout") {
         return Err(OpenFault::NotOurs);
@@ -159,7 +164,7 @@ fn version_of<S: Alter>(conn: &mut Connection<S>) -> Result<Version, OpenFault>
     }
 }
 
-/// Sees that the tables, some of which stand, are those of an archive, and carries those of layout 1 over.
+/// Checks that the tables, some of which exist, are those of an archive, and migrates those of schema version 1.
 fn take_up<S: Alter>(alloc: Global, conn: &mut Connection<S>) -> Result<(), OpenFault>
     ensures keeps { OnOk result (HoldsTheSame (tables_of (state S.Store conn.old)) (tables_of (state S.Store conn.new))) }
     ensures carries { OnOk result (Carries (tables_of (state S.Store conn.old)) (tables_of (state S.Store conn.new))) }
@@ -168,6 +173,9 @@ fn take_up<S: Alter>(alloc: Global, conn: &mut Connection<S>) -> Result<(), Open
     ensures fits { result ≢ Err OpenFault.BadCapacity }
     ensures up { HasCleanDisk (state S.Store conn.new) → OnOk result (IsTrue (state S.Store conn.new).is_open) }
     ensures clean { doubt (state S.Store conn.old).is_clean ≤ doubt (state S.Store conn.new).is_clean }
+    ensures made { CrashLeaves S.Store (IsMadeOfOld (tables_of (state S.Store conn.old))) conn.old.store conn.new.store }
+    ensures untouched { result ≡ Err OpenFault.NotOurs → CrashLeaves S.Store NoMore conn.old.store conn.new.store }
+    ensures still { HasCleanDisk (state S.Store conn.new) → result ≡ Err OpenFault.NotOurs → IsTrue (state S.Store conn.old).is_open → IsTrue (state S.Store conn.new).is_open }
 {
     match version_of(conn) {
         Ok(Version::Second) => Ok(()),
@@ -179,7 +187,7 @@ fn take_up<S: Alter>(alloc: Global, conn: &mut Connection<S>) -> Result<(), Open
     }
 }
 
-/// Sees that the tables are those of an archive; if none of them stands, makes them.
+/// Checks that the tables are those of an archive; if none of them exists, creates them.
 fn prepare<S: Alter>(alloc: Global, conn: &mut Connection<S>) -> Result<(), OpenFault>
     ensures keeps { OnOk result (HoldsTheSame (tables_of (state S.Store conn.old)) (tables_of (state S.Store conn.new))) }
     ensures carries { OnOk result (Carries (tables_of (state S.Store conn.old)) (tables_of (state S.Store conn.new))) }
@@ -190,6 +198,9 @@ fn prepare<S: Alter>(alloc: Global, conn: &mut Connection<S>) -> Result<(), Open
     ensures fits { result ≢ Err OpenFault.BadCapacity }
     ensures up { HasCleanDisk (state S.Store conn.new) → OnOk result (IsTrue (state S.Store conn.new).is_open) }
     ensures clean { doubt (state S.Store conn.old).is_clean ≤ doubt (state S.Store conn.new).is_clean }
+    ensures made { CrashLeaves S.Store (IsMadeOf (tables_of (state S.Store conn.old))) conn.old.store conn.new.store }
+    ensures untouched { result ≡ Err OpenFault.NotOurs → CrashLeaves S.Store NoMore conn.old.store conn.new.store }
+    ensures still { HasCleanDisk (state S.Store conn.new) → result ≡ Err OpenFault.NotOurs → IsTrue (state S.Store conn.old).is_open → IsTrue (state S.Store conn.new).is_open }
 {
     if !conn.is_autocommit() {
         return Err(OpenFault::Unavailable);
@@ -204,7 +215,7 @@ fn prepare<S: Alter>(alloc: Global, conn: &mut Connection<S>) -> Result<(), Open
 }
 
 impl Archive<MemStore> {
-    /// A new archive in memory: no deposit and no census. The capacity is from 1 to 1,000,000.
+    /// A new archive in memory, without deposits and censuses. The capacity is from 1 to 1,000,000.
     pub fn open_in_memory(alloc: Global, capacity: u64) -> Result<Archive<MemStore>, OpenFault>
         ensures opened { IfOk result (λ a. IsTrue a.tables.is_healthy × Holds a.tables nothing_kept × (a.capacity ≡ capacity)) }
         ensures bad { (result ≡ Err OpenFault.BadCapacity) ↔ (is_capacity capacity ≡ false) }
@@ -225,7 +236,12 @@ impl Archive<MemStore> {
 
 /// The connection of the archive; where a transaction is open, its store alone.
 fn settled<S: Alter + Drop>(archive: Archive<S>) -> Result<Connection<S>, S>
-    ensures { IfOk result (λ conn. IsSettled (state S.Store conn) archive.tables) }
+    ensures ok { IfOk result (λ conn. IsSettled (state S.Store conn) archive.tables) }
+    ensures store { IfOk result (λ conn. conn.store ≡ archive.store) }
+    ensures quiet { IfErr result (λ store. IsQuiet S.Store.view S.Store.faults S.Store.recovers S.Store.is_shielded archive.store store) }
+    ensures numbered { IfErr result (λ store. IsClean (S.Store.view store) → IsTrue (S.Store.view store).is_numbered) }
+    ensures sound { IfErr result (λ store. IsClean (S.Store.view store) → AreDatabases (S.Store.recovers store)) }
+    ensures was_open { IfErr result (λ _. IsTrue archive.tables.is_healthy → IsTrue (S.Store.view archive.store).is_open) }
 {
     let conn = archive.into_connection();
     // What it says of the tables is wanted: a connection obeys them.
@@ -236,14 +252,19 @@ fn settled<S: Alter + Drop>(archive: Archive<S>) -> Result<Connection<S>, S>
     Ok(conn)
 }
 
-/// Closes the connection, and gives its files back, also if the close is refused.
+/// Closes the connection as its `close_files` does, and returns its files, even if closing fails. In between it holds the store itself, so that
+/// more can be said of a close that was refused.
 fn close<D: Disk + Drop>(conn: Connection<FileStore<D>>) -> Result<Files<D>, Files<D>>
     ensures usable { IfOk result (λ files. IsTrue (D.Disk.is_usable files.log) × IsTrue (D.Disk.is_usable files.db)) }
     ensures copied { IfOk result (λ files. AreClean D.Disk files.log files.db → IsCopied conn files) }
+    ensures refused { IfErr result (AreLetGo conn.store) }
 {
-    match conn.close_files() {
-        Ok(files) => Ok(files),
-        Err((_, store)) => Err(store.close()),
+    let mut store = conn.into_store();
+    // Again, for what only this store's rollback says of the log.
+    store.rollback();
+    match store.checkpoint() {
+        Ok(()) => Ok(store.close()),
+        Err(_) => Err(store.close()),
     }
 }
 
@@ -264,6 +285,11 @@ fn seen_to<S: Alter + Drop>(
     ensures fits { IfErr result (λ e. e.0 ≢ OpenFault.BadCapacity) }
     ensures none { (state S.Store conn).now.schema ≡ no_schema → IfErr result (λ e. e.0 ≢ OpenFault.NotOurs) }
     ensures others { IfErr result (λ e. IfErr e.1 (λ _. e.0 ≢ OpenFault.NotOurs)) }
+    ensures untouched { IfErr result (λ e. IfOk e.1 (λ left. CrashLeaves S.Store NoMore conn.store left.store)) }
+    ensures still { IfErr result (λ e. IfOk e.1 (λ left. HasCleanDisk (state S.Store left) → IsTrue (state S.Store conn).is_open → IsTrue (state S.Store left).is_open)) }
+    ensures made { IfErr result (λ e. IfErr e.1 (CrashLeaves S.Store (IsMadeOf (tables_of (state S.Store conn))) conn.store)) }
+    ensures numbered { IfErr result (λ e. IfErr e.1 (λ store. IsClean (S.Store.view store) → IsTrue (S.Store.view store).is_numbered)) }
+    ensures sound { IfErr result (λ e. IfErr e.1 (λ store. IsClean (S.Store.view store) → AreDatabases (S.Store.recovers store))) }
     ensures ours { IfErr result (λ e. IfOk e.1 (λ left. HasCleanDisk (state S.Store left) → IsTrue (state S.Store left).is_open → HasCleanDisk (state S.Store conn) × ((schema : SchemaValue) (own : List Value) → IsLayout schema own → HaveVersions schema (tables_of (state S.Store conn)) own → ⊥))) }
 {
     let mut conn = conn;
@@ -291,6 +317,7 @@ fn archive_over<D: Disk + Drop>(
     ensures ours { IfErr result (λ e. AreClean D.Disk e.1.log e.1.db → e.0 ≡ OpenFault.NotOurs → HasCleanDisk (file_state conn) × ((schema : SchemaValue) (own : List Value) → IsLayout schema own → HaveVersions schema (tables_of (file_state conn)) own → ⊥)) }
     ensures none { (file_state conn).now.schema ≡ no_schema → IfErr result (λ e. e.0 ≢ OpenFault.NotOurs) }
     ensures clean { IfOk result (λ a. IsTrue a.tables.is_healthy → HasCleanDisk (file_state conn)) }
+    ensures made { IfErr result (λ e. AreClean D.Disk e.1.log e.1.db → HasCleanDisk (file_state conn) × (IsTrue (file_state conn).is_open → AreLeftMade (tables_of (file_state conn)) conn.store e.1)) }
 {
     match seen_to(alloc, conn, capacity) {
         Ok(archive) => Ok(archive),
@@ -304,9 +331,9 @@ fn archive_over<D: Disk + Drop>(
 
 impl<D: Disk + Drop> Archive<FileStore<D>> {
     /// The archive that the files hold; if they hold none of its tables, a new one. An archive of schema version 1 is
-    /// migrated in one transaction, in which each census gets its flag; if that fails, it is Unavailable. That the
-    /// transaction is rolled back then is only tested. What the capacity was before plays no part. A refused opening gives
-    /// the files back: with BadCapacity as they were, and with NotOurs once they were closed.
+    /// migrated in one transaction, in which each census gets its flag; if that fails, it is Unavailable, and the files
+    /// hold the old archive, or the migrated one if the disk failed in the commit. What the capacity was before plays no
+    /// part. A refused opening gives the files back: with BadCapacity as they were, and with NotOurs once they were closed.
     pub fn open_files(
         alloc: Global,
         files: Files<D>,
@@ -327,6 +354,8 @@ impl<D: Disk + Drop> Archive<FileStore<D>> {
         ensures versions { IfErr result (λ e. (schema : SchemaValue) (own : List Value) → IsLayout schema own → AreClean D.Disk e.1.log e.1.db → FilesHaveVersions schema (image_of D.Disk files) own → e.0 ≢ OpenFault.NotOurs) }
         ensures none { IfErr result (λ e. AreClean D.Disk e.1.log e.1.db → ListNothing (image_of D.Disk files) → e.0 ≢ OpenFault.NotOurs) }
         ensures clean { IfErr result (λ e. AreClean D.Disk e.1.log e.1.db → e.0 ≡ OpenFault.NotOurs → AreClean D.Disk files.log files.db) }
+        // After a refusal the files still have what they had: a crash finds that, or what a migration made of it.
+        ensures unharmed { IfErr result (λ e. AreUnharmed D.Disk files e.1) }
     {
         if !is_capacity(capacity) {
             return Err((OpenFault::BadCapacity, files));
@@ -337,7 +366,7 @@ impl<D: Disk + Drop> Archive<FileStore<D>> {
         }
     }
 
-    /// Closes the archive and gives its files back, also if the close is refused. Files that were closed hold what the
+    /// Closes the archive and returns its files, even if closing fails. Files that were closed hold what the
     /// archive held, and so does the database file with no log.
     pub fn close_files(self) -> Result<Files<D>, (Unavailable, Files<D>)>
         ensures usable { IfOk result (λ files. IsTrue (D.Disk.is_usable files.log) × IsTrue (D.Disk.is_usable files.db)) }
@@ -346,7 +375,11 @@ impl<D: Disk + Drop> Archive<FileStore<D>> {
         // So does each image that a crash may leave of them then. If the disk returned what was written, the archive was healthy to the end.
         ensures left { IfOk result (λ files. (k : Kept) → AreClean D.Disk files.log files.db → Holds self.tables k → LeftHold D.Disk files k) }
         ensures healthy { IfOk result (λ files. AreClean D.Disk files.log files.db → IsTrue self.tables.is_healthy) }
+        // If the close is refused, a crash finds nothing new; and, unless a call of the disk failed in the close, what the archive held.
+        ensures refused { IfErr result (λ e. AreLetGo self.store e.1) }
+        ensures kept { IfErr result (λ e. (k : Kept) → IsTrue self.tables.is_healthy → Holds self.tables k → AreClean D.Disk e.1.log e.1.db → LeftHold D.Disk e.1 k ⊎ HaveFailedSince self.store e.1) }
     {
+        self.law_of_crashes();
         match settled(self) {
             Ok(conn) => match close(conn) {
                 Ok(files) => Ok(files),
@@ -356,7 +389,7 @@ impl<D: Disk + Drop> Archive<FileStore<D>> {
         }
     }
 
-    /// Gives the files back with no IO, as a crash at this moment would leave them: what is not committed is lost, and the log is not
+    /// Returns the files without any IO, as a crash at this moment would leave them: what is not committed is lost, and the log is not
     /// copied into the database file. What the archive held is in the two files together, and the next opening finds it.
     pub fn into_files(self) -> Files<D>
         ensures honest { AreClean D.Disk result.log result.db → IsClean (view self.store) }
@@ -389,50 +422,52 @@ impl<D: Disk + Drop> Archive<FileStore<D>> {
     }
 }
 
-/// Removes the log that an opening made and left with no commit. The files are locked until it is gone, so that no other opening takes it up.
-fn remove_unmade<D: Disk + Drop>(rt: &HostRuntime, unmade: Option<String>, files: Files<D>) {
+/// Removes the log that an opening made and left with no commit. The caller holds the files until it is gone, so that they are locked and
+/// no other opening takes it up.
+fn remove_unmade(rt: &HostRuntime, unmade: Option<String>) {
     if let Some(name) = unmade {
         remove_blank(rt, name.as_str());
     }
-    drop(files);
 }
 
 impl<T: Start> Archive<FileStore<FileFrom<T>>> {
     /// The archive in the file of the path, and in the log beside it; where they hold none of its tables, a new one. An
-    /// archive of layout 1 is migrated, as `open_files` does it. `start` says what the two files are taken to hold:
-    /// `sqlite::Unknown` says nothing of files that are not empty. A refused opening drops the files, and if it made a
-    /// log that has no commit, beside a file that was there, it removes it.
+    /// archive of schema version 1 is migrated, as `open_files` does it. `start` says what the two files are taken to hold:
+    /// `sqlite::Unknown` says nothing of files that are not empty. A refused opening gives the files back, if they were
+    /// opened; and if it made a log that has no commit, beside a file that was there, it removes it.
     pub fn open_path(
         rt: &HostRuntime,
         path: &str,
         capacity: u64,
         start: T,
-    ) -> Result<Archive<FileStore<FileFrom<T>>>, OpenFault>
+    ) -> Result<Archive<FileStore<FileFrom<T>>>, (OpenFault, Option<Files<FileFrom<T>>>)>
         ensures capacity { IfOk result (λ a. (a.capacity ≡ capacity) × IsTrue (is_capacity capacity)) }
         ensures healthy { IfOk result (IsHealthyIfClean over_files) }
         ensures found { IfOk result (λ a. (k : Kept) → IsTrue a.tables.is_healthy → FilesHold (image_at T.Start) k → Holds a.tables k) }
         ensures migrated { IfOk result (λ a. (k : Kept) → IsTrue a.tables.is_healthy → FilesHoldFirst (image_at T.Start) k → Migrated a.tables k) }
         ensures fresh { IfOk result (λ a. IsTrue a.tables.is_healthy → ListNothing (image_at T.Start) → Holds a.tables nothing_kept) }
         ensures known { IfOk result (λ a. (schema : SchemaValue) (own versions : List Value) → IsLayout schema own → IsTrue a.tables.is_healthy → FilesHaveVersions schema (image_at T.Start) versions → versions ≡ own) }
-        ensures bad { (result ≡ Err OpenFault.BadCapacity) ↔ (is_capacity capacity ≡ false) }
+        ensures bad { IfErr result (λ e. (e.0 ≡ OpenFault.BadCapacity) ↔ (is_capacity capacity ≡ false)) }
+        ensures ours { IfErr result (λ e. e.0 ≡ OpenFault.NotOurs → AreRefusedAs ⟦<FileFrom<T> as Disk>⟧ (image_at T.Start) e.1) }
     {
         if !is_capacity(capacity) {
-            return Err(OpenFault::BadCapacity);
+            return Err((OpenFault::BadCapacity, None));
         }
         let unmade = missing_log(rt, path);
         match Connection::open_from(rt, path, WITH_SUMS, start) {
             Ok(conn) => match archive_over(rt.alloc(), conn, capacity) {
                 Ok(archive) => Ok(archive),
                 Err((fault, files)) => {
-                    remove_unmade(rt, unmade, files);
-                    Err(fault)
+                    remove_unmade(rt, unmade);
+                    Err((fault, Some(files)))
                 }
             },
             Err((_, Some(left))) => {
-                remove_unmade(rt, unmade, left.into_files());
-                Err(OpenFault::Unavailable)
+                let files = left.into_files();
+                remove_unmade(rt, unmade);
+                Err((OpenFault::Unavailable, Some(files)))
             }
-            Err((_, None)) => Err(OpenFault::Unavailable),
+            Err((_, None)) => Err((OpenFault::Unavailable, None)),
         }
     }
 }

@@ -1,4 +1,4 @@
-//! Each allocation of a call refused in turn, and each take and each put of a stream failing in turn.
+//! Failing each allocation of a call in turn, and each take and each put of a stream in turn.
 ghost use Rattle.std.specs.Prelude.{◌<◌};
 
 use life_census::{Tally, clusters, csv, steady, tally, tally_and_steady};
@@ -40,7 +40,7 @@ fn has_text<A: Allocator + Copy>(alloc: A, record: &Record<A>, text: &str) -> Re
     Ok(write(alloc, record)?.as_slice() == text.as_bytes())
 }
 
-/// Whether the file is read from a stream in pieces of so many bytes. There is no other way if memory is refused.
+/// Whether the file is read from a stream in pieces of this many bytes. Out of memory has no other answer.
 fn is_read(alloc: Global, refusing: &Refusing, file: File, piece: usize) -> Result<bool, Fault>
     requires { 0 < piece }
 {
@@ -62,7 +62,7 @@ fn pieces_are_read(alloc: Global, refusing: &Refusing, file: File) -> Result<boo
     Ok(true)
 }
 
-/// Whether the text of the record is put in pieces of 3 bytes. If memory is refused, nothing is put, and there is no other way.
+/// Whether the text of the record is put in pieces of 3 bytes. Out of memory puts nothing, and has no other answer.
 fn is_put<'a>(
     alloc: Global,
     refusing: &'a Refusing,
@@ -215,14 +215,14 @@ fn fields_with_each_allocation_refused(rt: HostRuntime) {
     }
 }
 
-/// A stream of which a call fails.
+/// A stream with a call that fails.
 #[derive(Clone, Copy, Debug)]
 enum Failing {
     Takes,
     Puts,
 }
 
-/// Whether a file that is read in pieces of so many bytes is unreadable if the take of this number fails, and it is the last; or is right, if there is no
+/// Whether a file that is read in pieces of this many bytes is unreadable if the take of this number fails, and it is the last; or is right, if there is no
 /// such take.
 fn answers_take(alloc: Global, file: File, piece: usize, take: u64, is_made: bool) -> bool
     requires { 0 < piece }
@@ -238,7 +238,7 @@ fn answers_take(alloc: Global, file: File, piece: usize, take: u64, is_made: boo
     }
 }
 
-/// Whether a record that is written in pieces of so many bytes is unwritable if the put of this number fails, with what was put before it; or all is put,
+/// Whether a record that is written in pieces of this many bytes is unwritable if the put of this number fails, with what was put before it; or all is put,
 /// if there is no such put.
 fn answers_put(alloc: Global, file: File, piece: usize, put: u64, is_made: bool) -> bool
     requires { 0 < piece }
@@ -258,7 +258,7 @@ fn answers_put(alloc: Global, file: File, piece: usize, put: u64, is_made: bool)
         && file.text.as_bytes().starts_with(bytes)
 }
 
-/// How many takes or puts there are of the file in pieces of so many bytes.
+/// How many takes or puts there are of the file in pieces of this many bytes.
 fn calls(failing: Failing, file: File, piece: usize) -> u64
     requires { 0 < piece }
 {
@@ -269,7 +269,7 @@ fn calls(failing: Failing, file: File, piece: usize) -> u64
     }
 }
 
-/// The first call of the stream in pieces of so many bytes that is not answered as it should be if it fails, or one too many.
+/// The first call of the stream in pieces of this many bytes that is not answered as it should be if it fails, or one too many.
 fn other_call(alloc: Global, failing: Failing, file: File, piece: usize) -> Option<u64>
     requires { 0 < piece }
 {

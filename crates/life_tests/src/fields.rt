@@ -21,7 +21,7 @@ const LEAST_CELLS: [Cell; 4] = [
     Cell { row: 5, column: 0 },
 ];
 
-/// Whether there are as many clusters as cells, and each has the cell that stands in its place.
+/// Whether there are as many clusters as cells, and each cluster has the cell with its index.
 fn each_has(found: &[Pattern], cells: &[Cell]) -> bool {
     if found.len() != cells.len() {
         return false;
@@ -34,7 +34,7 @@ fn each_has(found: &[Pattern], cells: &[Cell]) -> bool {
     true
 }
 
-/// Whether the clusters stand in the order of their least cells, and a cell that is near one of them is in it.
+/// Whether the clusters are in the order of their least cells, and a cell that is near one of them is in it.
 fn clusters_are_in_order(alloc: Global) -> Result<bool, Fault> {
     let field = Pattern::from_cells(alloc, &CELLS)?;
     let found = clusters(alloc, &field)?;
@@ -49,7 +49,7 @@ fn clusters_stand_by_their_least_cells(rt: HostRuntime) {
     laws_of_tallies();
 }
 
-/// Files, and how many clusters their fields are.
+/// Files, and the numbers of clusters of their fields.
 const CLUSTERS: [(&str, usize); 10] = [
     // Five cells of a row, and one that is two rows below and two columns, and then three, beside the last.
     ("x = 0, y = 0\n5o2$6bo!", 1),
@@ -64,7 +64,7 @@ const CLUSTERS: [(&str, usize); 10] = [
     ("x = 0, y = 0\n5o2bo!", 2),
     // Two columns that a row joins at their ends.
     ("x = 0, y = 0\no5bo$o5bo$7o!", 1),
-    // Three rows of which none is near another, and the same with a way from each to the next.
+    // Three rows that are not near each other, and the same with a path from each to the next.
     ("x = 0, y = 0\n9o3$9o3$9o!", 3),
     ("x = 0, y = 0\n9o$o$o$9o$8bo$8bo$9o!", 1),
 ];

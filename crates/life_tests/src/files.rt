@@ -35,7 +35,7 @@ const FILES: [(&str, &str); 6] = [
     ("x = 1, y = 1\n99999999999999999999o!\n", "bad-count"),
 ];
 
-/// Whether this is written of the record.
+/// Whether this is the text of the record.
 fn is_written(alloc: Global, record: &Record, text: &str) -> bool {
     match write(alloc, record) {
         Ok(written) => written.as_slice() == text.as_bytes(),
@@ -88,7 +88,7 @@ fn files_are_written_back(rt: HostRuntime) {
     }
 }
 
-/// The file with so many blanks at its end.
+/// The file with this many blanks at its end.
 fn with_blanks(alloc: Global, front: &str, blanks: usize) -> Result<Vec<u8>, AllocError> {
     let mut file = front.as_bytes().to_vec(alloc)?;
     for _ in 0..blanks {
@@ -97,7 +97,7 @@ fn with_blanks(alloc: Global, front: &str, blanks: usize) -> Result<Vec<u8>, All
     Ok(file)
 }
 
-/// Files that end in so many blanks, and what is written of them or the name of their fault: the length is judged
+/// Files that end in this many blanks, and what is written of them or the name of their fault: the length is judged
 /// before the header.
 const LONG_FILES: [(&str, usize, &str); 3] = [
     (
@@ -134,7 +134,7 @@ fn is_long_stream(alloc: Global, file: &[u8]) -> bool {
     }
 }
 
-/// Whether a stream is too long that begins with a bad header and ends in so many blanks.
+/// Whether a stream is too long that begins with a bad header and ends in this many blanks.
 fn is_long_with_a_bad_header(alloc: Global, blanks: usize) -> bool {
     match with_blanks(alloc, "x = 1\n", blanks) {
         Ok(file) => {
@@ -217,7 +217,7 @@ fn records_are_made(rt: HostRuntime) {
     assert!(rt; cells_are_normal(rt.alloc()) == Ok(true));
 }
 
-/// The file of a row of so many live cells.
+/// The file of a row of this many live cells.
 fn row_file(alloc: Global, width: u64) -> Result<String, AllocError> {
     format!(in alloc; "x = {width}, y = 1\n{width}o!\n")
 }
@@ -240,7 +240,7 @@ fn next_is_written(alloc: Global, cells: &Pattern, text: &str) -> Result<bool, F
     Ok(plain_is_written(alloc, &next, text))
 }
 
-/// Whether a row of so many cells is written as it should in the next generation.
+/// Whether the next generation of a row of this many cells is written correctly.
 fn row_goes_on(alloc: Global, width: u64) -> bool {
     let (Ok(file), Ok(text)) = (row_file(alloc, width), rows_text(alloc, width)) else {
         return false;

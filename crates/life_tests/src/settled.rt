@@ -1,4 +1,4 @@
-//! Fields that settle: their generations are those that are made one by one.
+//! Fields that settle: their generations are the same as when they are computed one by one.
 ghost use Rattle.std.specs.Prelude.{◌≤◌};
 
 use life_code::settled_generation;

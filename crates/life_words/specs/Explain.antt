@@ -1,4 +1,4 @@
--- What explains a refusal: the names are stated here, and the texts are those of the table in `src/explain.rt`.
+-- The explanations of refusals: the names are stated here; the texts are those of the table in `src/explain.rt`.
 use Rattle.std.specs.Prelude.{ℕ, Bool, List, [], ◌∷◌, codes, bytes_eq, find, map, Option, option_map, unwrap_or}
 use Rattle.std.specs.Borrow.{Bor}
 use Rattle.std.specs.List.{list_any}
@@ -30,6 +30,7 @@ refusal_names =
     codes "no-such-page" ∷
     codes "not-canonical" ∷
     codes "not-ours" ∷
+    codes "not-sound" ∷
     codes "not-within-limit" ∷
     codes "other-tag" ∷
     codes "out-of-limit" ∷
@@ -68,10 +69,10 @@ text_in rows name = option_map (λ row. row.1) (find (λ row. bytes_eq row.0 nam
 unfoldable pub explanations : Rows
 explanations = map (λ row. (row.0.now, row.1.now)) EXPLANATIONS
 
--- what explains a name, if there is something
+-- the explanation of a name, if there is one
 unfoldable pub explanation_of : List ℕ → Option (List ℕ)
 explanation_of name = text_in explanations name
 
--- what is put to explain a name: nothing, if no refusal has it
+-- what is written to explain a name: nothing if no refusal has it
 abbrev pub explanation_text : List ℕ → List ℕ
 explanation_text name = unwrap_or (explanation_of name) []

@@ -1,6 +1,6 @@
--- The words of the command line and the job that they name.
--- What a command is, which words it takes and what it reads of them is said by the kit's `clap`; the names of the
--- subcommands and of their words are the program's own.
+-- The arguments of `life` and the job that they name.
+-- The kit's `clap` defines what a command is, which arguments it takes and what it reads in them; the names of the
+-- subcommands and of their arguments are the program's own.
 use Rattle.std.specs.Prelude.{◌≡◌, ℕ, ◌^◌, ◌-◌, true, if◌then◌else◌, List, [], ◌∷◌, fold, Option, None, Some}
 use Rattle.std.specs.Prelude.{option_map, option_and_then, codes, bytes_eq, false, IfOk, Result, Ok, Err}
 use Rattle.std.specs.Str.Parse.{digits_value, without_leading_plus}
@@ -14,17 +14,17 @@ use Rattle.clap.specs.declared.builder.value_parser.ValueParser.TheVariants as v
 use Rattle.clap.specs.declared.parser.matches.ArgMatches.{ArgMatches}
 use Rattle.life_words.specs.Explain.{is_refusal}
 use Rattle.life_words.specs.declared.words.Job.{Job}
-use Rattle.life_words.specs.declared.words.Job.TheVariants.{Generation, Kind, Object, Census, Deposit, Serve, Explain}
+use Rattle.life_words.specs.declared.words.Job.TheVariants.{Generation, Kind, Object, Census, Deposit, Serve, Check, Explain}
 use Rattle.life_words.specs.declared.fault.WordFault.{WordFault}
 use Rattle.life_words.specs.declared.fault.WordFault.TheVariants.{BadWords, Memory}
 
 -- ---- what the programs have in common
 
--- if a command was made, it is this one for `clap`, and has no global argument
+-- if a command was built, it is this one for `clap`, and has no global argument
 abbrev pub MakesCommand : {E : Type 0} → App → Result Command E → Type 0
 MakesCommand app made = IfOk made (λ command. app_of command ≡ app) × IfOk made (λ command. (fields_of command).has_globals ≡ false)
 
--- what `clap` finds in words: the rows of the command's own arguments, and the subcommand that was met with its rows
+-- what `clap` finds in arguments: the rows of the command's own arguments, and the given subcommand with its rows
 abbrev pub Matches : Type 0
 Matches = List Row × Option (Text × List Row)
 
@@ -32,26 +32,26 @@ Matches = List Row × Option (Text × List Row)
 abbrev pub matches_by : ArgMatches → Matches
 matches_by m = (rows_of (found_of m), subcommand_rows_of m)
 
--- nothing, if the words have a fault of one of these kinds
+-- nothing, if the arguments have a fault of one of these kinds
 abbrev pub unless_fault : Kinds → Matches → Option Matches
 unless_fault [] found = Some found
 unless_fault (first ∷ others) found = None
 
--- what is found in words, the program's name first, unless they have a fault
+-- what is found in arguments, the program's name first, unless they have a fault
 unfoldable pub matches_in : App → List Text → Option Matches
 matches_in app words = unless_fault (fault_of app words) (matches_of app words, subcommand_of app words)
 
--- what two words ask for, if both of them are there
+-- a function of two arguments, if both are given
 abbrev pub if_both : {A B C : Type 0} → (A → B → C) → Option A → Option B → Option C
 if_both asks (Some a) (Some b) = Some (asks a b)
 if_both asks a b = None
 
--- what three words ask for, if all of them are there
+-- a function of three arguments, if all are given
 abbrev pub if_all : {A B C D : Type 0} → (A → B → C → D) → Option A → Option B → Option C → Option D
 if_all asks (Some a) (Some b) (Some c) = Some (asks a b c)
 if_all asks a b c = None
 
--- what the subcommand that was met asks for, by its name and its rows
+-- what the given subcommand asks for, from its name and its rows
 abbrev pub by_subcommand : {A : Type 0} → (Text → List Row → Option A) → Option (Text × List Row) → Option A
 by_subcommand named None = None
 by_subcommand named (Some met) = named met.0 met.1
@@ -64,15 +64,15 @@ Answers asked_by asked (Err Memory) = Unit {0}
 
 -- ---- the command
 
--- the greatest number that a word can be
+-- the greatest number that an argument can be
 abbrev pub last_number : ℕ
 last_number = 2 ^ 64 - 1
 
--- a required word that is a number
+-- a required argument that is a number
 abbrev pub number_rule : Text → Rule
 number_rule id = record (new_rule id) { parser = Some (vp.Unsigned 0 last_number); required = true }
 
--- a required word that is a text
+-- a required argument that is a text
 abbrev pub text_rule : Text → Rule
 text_rule id = record (new_rule id) { required = true }
 
@@ -108,19 +108,23 @@ deposit = with_rule (with_rule (with_rule (new_app (codes "deposit")) file_rule)
 abbrev pub serve : App
 serve = with_rule (with_rule (with_rule (new_app (codes "serve")) file_rule) (number_rule_in (codes "P") (codes "port") 65535)) (number_rule_in (codes "N") (codes "connections") 1000000)
 
+-- `check --db F`
+abbrev pub check : App
+check = with_rule (new_app (codes "check")) file_rule
+
 -- `explain NAME`
 abbrev pub explain : App
 explain = with_rule (new_app (codes "explain")) (text_rule (codes "NAME"))
 
 -- the subcommands, in the order in which help lists them
 abbrev pub subcommands : List App
-subcommands = generation ∷ kind ∷ object ∷ census ∷ deposit ∷ serve ∷ explain ∷ []
+subcommands = generation ∷ kind ∷ object ∷ census ∷ deposit ∷ serve ∷ check ∷ explain ∷ []
 
--- a command that has a version, which `--version` asks for
+-- a command with a version, which `--version` prints
 abbrev pub with_version : App → App
 with_version command = on_top (λ top. record top { has_version = true }) command
 
--- the program's name, which wants one of its subcommands
+-- the program's name, which requires a subcommand
 abbrev pub life_alone : App
 life_alone = on_top (λ top. record top { subcommand_required = true }) (with_version (new_app (codes "life")))
 
@@ -130,7 +134,7 @@ life_app = fold (λ command below. with_subcommand command below.top) life_alone
 
 -- ---- the job
 
--- a job with the texts of its words
+-- a job with the texts of its arguments
 pub data Asked : Type 0 where
   AsksGeneration : (n : ℕ) → Asked
   AsksKind : (limit : ℕ) → Asked
@@ -138,6 +142,7 @@ pub data Asked : Type 0 where
   AsksCensus : (n limit : ℕ) → Asked
   AsksDeposit : (file member token : Text) → Asked
   AsksServe : (file : Text) (port connections : ℕ) → Asked
+  AsksCheck : (file : Text) → Asked
   AsksExplain : (name : Text) → Asked
 
 -- what a job asks for
@@ -148,21 +153,22 @@ asked_by (Object rule code limit) = AsksObject rule.now code.now limit
 asked_by (Census n limit) = AsksCensus n limit
 asked_by (Deposit file member token) = AsksDeposit file.now member.now token.now
 asked_by (Serve file port connections) = AsksServe file.now port connections
+asked_by (Check file) = AsksCheck file.now
 asked_by (Explain name) = AsksExplain name.now
 
--- the number that a text writes in decimal digits, before which a `+` may stand
+-- the number that a text writes in decimal digits, with an optional `+` in front
 abbrev pub number_text : Text → Option ℕ
 number_text text = if is_unsigned_in 0 last_number text then Some (digits_value 10 (without_leading_plus text)) else None
 
--- the number of the word with this id, where a subcommand has these matches
+-- the number of the argument with this id, if a subcommand has these matches
 abbrev pub number_at : Text → List Row → Option ℕ
 number_at id rows = option_and_then number_text (one_of id rows)
 
--- the text of the word with this id
+-- the text of the argument with this id
 abbrev pub text_at : Text → List Row → Option Text
 text_at id rows = first_of id rows
 
--- the explanation of this word, if it is there and a refusal has this name
+-- the job that explains this name, if it is given and a refusal has it
 abbrev pub explain_of : Option Text → Option Asked
 explain_of (Some name) = if is_refusal name then Some (AsksExplain name) else None
 explain_of None = None
@@ -176,9 +182,10 @@ job_named name rows =
     else if bytes_eq name (codes "census") then if_both AsksCensus (number_at (codes "N") rows) (number_at (codes "LIMIT") rows)
     else if bytes_eq name (codes "deposit") then if_all AsksDeposit (text_at (codes "F") rows) (text_at (codes "MEMBER") rows) (text_at (codes "TOKEN") rows)
     else if bytes_eq name (codes "serve") then if_all AsksServe (text_at (codes "F") rows) (number_at (codes "P") rows) (number_at (codes "N") rows)
+    else if bytes_eq name (codes "check") then option_map AsksCheck (text_at (codes "F") rows)
     else if bytes_eq name (codes "explain") then explain_of (text_at (codes "NAME") rows)
     else None
 
--- the job that the words name, the program's name first
+-- the job that the arguments name, the program's name first
 unfoldable pub words_job : List Text → Option Asked
 words_job words = option_and_then (λ found. by_subcommand job_named found.1) (matches_in life_app words)

@@ -1,4 +1,4 @@
-//! What the commands of all programs have in common: how they begin, and the words of the process that they are given.
+//! What the commands of all programs share: how they are built, and reading the arguments of the process.
 ghost use Rattle.std.specs.Prelude.{◌≡◌, codes, map, IfOk, true, false};
 ghost use Rattle.clap.specs.Simple.{App};
 ghost use Rattle.clap.specs.Words.{Rule, new_app, app_of, rule_of, with_rule, with_subcommand, is_simple, is_simple_and_free};
@@ -12,7 +12,7 @@ use std::alloc::{AllocError, Global};
 use std::convert::AsStr;
 use std::{env, io};
 
-/// A command of this name, without words, and what help says of it: `about` before its words, and `help` after them.
+/// A command with this name and no arguments. Help prints `about` before the arguments, and `help` after them.
 pub fn named_command<'a>(alloc: Global, name: &'a str, about: &'a str, help: &'a str) -> Command<'a>
     ensures app { app_of result ≡ new_app name.entry.now }
     ensures local { (fields_of result).has_globals ≡ false }
@@ -23,7 +23,7 @@ pub fn named_command<'a>(alloc: Global, name: &'a str, about: &'a str, help: &'a
 /// The version of the programs, which `--version` prints.
 pub const VERSION: &str = "1.0.0";
 
-/// As [`named_command`], of a whole program: it has a version too.
+/// Like [`named_command`], for a whole program, which also has a version.
 pub fn program_command<'a>(
     alloc: Global,
     name: &'a str,
@@ -36,7 +36,7 @@ pub fn program_command<'a>(
     named_command(alloc, name, about, help).version(VERSION)
 }
 
-/// A required argument that is a text, and what help says of it.
+/// A required argument that is a text, with its help.
 pub fn text_arg<'a>(alloc: Global, id: &'a str, help: &'a str) -> Arg<'a>
     ensures rule { rule_of result ≡ text_rule id.entry.now }
     ensures local { result.global ≡ false }
@@ -44,7 +44,7 @@ pub fn text_arg<'a>(alloc: Global, id: &'a str, help: &'a str) -> Arg<'a>
     Arg::new(alloc, id).required(true).help(help)
 }
 
-/// A required argument that is a number, and what help says of it.
+/// A required argument that is a number, with its help.
 pub fn number_arg<'a>(alloc: Global, id: &'a str, help: &'a str) -> Arg<'a>
     ensures rule { rule_of result ≡ number_rule id.entry.now }
     ensures local { result.global ≡ false }
@@ -60,15 +60,19 @@ pub fn generation_arg<'a>(alloc: Global) -> Arg<'a>
     number_arg(alloc, "N", "The number of the generation, from 0 to 2048")
 }
 
-/// The argument that is a limit of the period.
+/// The argument that is a limit on the period.
 pub fn limit_arg<'a>(alloc: Global) -> Arg<'a>
     ensures rule { rule_of result ≡ number_rule (codes "LIMIT") }
     ensures local { result.global ≡ false }
 {
-    number_arg(alloc, "LIMIT", "The limit of the period, from 1 to 2048")
+    number_arg(
+        alloc,
+        "LIMIT",
+        "The longest period to search for, from 1 to 2048",
+    )
 }
 
-/// The command with one more argument, if the command was made.
+/// The command with one more argument, if the command was built.
 pub fn with_arg<'a>(
     above: Result<Command<'a>, AllocError>,
     arg: Arg<'a>,
@@ -80,7 +84,7 @@ pub fn with_arg<'a>(
     above?.arg(arg)
 }
 
-/// The command with one more subcommand, which has no global argument, if both were made.
+/// The command with one more subcommand, which has no global argument, if both were built.
 pub fn with_command<'a>(
     above: Result<Command<'a>, AllocError>,
     below: Result<Command<'a>, AllocError>,
@@ -91,7 +95,7 @@ pub fn with_command<'a>(
     above?.subcommand(below?)
 }
 
-/// What `clap` finds in the words by a command, if the command was made. The first of them is the program's name, as in `env::args`.
+/// What `clap` finds in the arguments for a command, if the command was built. The first one is the program's name, as in `env::args`.
 pub fn read_matches<'a, S: AsStr>(
     command: Result<Command<'a>, AllocError>,
     words: &'a [S],
@@ -102,8 +106,8 @@ pub fn read_matches<'a, S: AsStr>(
     Ok(command?.try_get_matches_from(words)?)
 }
 
-/// The words of the process, the program's name first. If one of them is not UTF-8, they are a usage error, with the text that `clap`
-/// has for them of the program's command, which is made in this case alone.
+/// The arguments of the process, the program's name first. If one of them is not UTF-8, that is a usage error with the text from
+/// `clap`; only in this case is the program's command built.
 pub fn words_of<'a, C>(rt: &HostRuntime, command: C) -> Result<Vec<String>, WordFault>
 where
     C: FnOnce() -> Result<Command<'a>, AllocError>,
@@ -116,7 +120,7 @@ where
     }
 }
 
-/// The fault of words of which one is not UTF-8, in clap's form.
+/// The fault for arguments that are not all UTF-8, in clap's form.
 fn not_text(mut command: Command<'_>) -> Result<WordFault, AllocError> {
     let message = "invalid UTF-8 was found in one or more arguments";
     let error = command.error(ErrorKind::ValueValidation, message);

@@ -1,18 +1,18 @@
-//! What is said to explain a refusal: the sentences of `docs/refusals.csv`, a line for each kind of refusal that has the name.
+//! The explanations of refusals: the sentences of `docs/refusals.csv`, a line for each kind of refusal with the name.
 ghost use Rattle.std.specs.Prelude.{◌≡◌, IfOk, is_some, map, option_map};
 ghost use Rattle.life_words.specs.Explain.{rows_of, names_of, text_in, refusal_names, is_refusal, explanations, explanation_of};
 
 use std::alloc::{AllocError, Global};
 
-/// The names of refusals and faults in the order of their bytes, each with a line for each kind that has it, ended by a line feed.
-static EXPLANATIONS: [(&str, &str); 33] = [
+/// The names of refusals and faults in the order of their bytes, each with a line for each kind of refusal that has it, ended by a line feed.
+static EXPLANATIONS: [(&str, &str); 34] = [
     (
         "bad-code",
         "refusal 9, HTTP status 422: No object has this code under this rule within this limit. Check it against your source: codes are in lower case, an object has only one, and other rules have other objects.\n",
     ),
     (
         "bad-count",
-        "fault 8 of a pattern file: A count is 0 or over 1,000,000, or it stands before \"!\" or at the end of the file. Correct the count; if the file was cut off, copy it again.\n",
+        "fault 8 of a pattern file: A count is 0 or over 1,000,000, or it comes before \"!\" or at the end of the file. Correct the count; if the file was cut off, copy it again.\n",
     ),
     (
         "bad-header",
@@ -90,6 +90,10 @@ static EXPLANATIONS: [(&str, &str); 33] = [
     (
         "not-ours",
         "program: The database has tables named like those of an archive, but this version of life cannot open it as one. It belongs to another program, or to a later version. Nothing in it was changed; name another file.\n",
+    ),
+    (
+        "not-sound",
+        "program: The file is not an archive as life writes it; standard output names the first error. Keep the file, and go back to the newest copy that life check calls sound.\n",
     ),
     (
         "not-within-limit",
@@ -177,7 +181,7 @@ fn names_in(
     Ok(names)
 }
 
-/// What explains the refusals and faults of this name, if there are some.
+/// The explanation of the refusals and faults with this name, if there are any.
 pub fn explanation(name: &str) -> Option<&'static str>
     ensures names { is_some result ≡ is_refusal name.now }
     ensures text { option_map (λ text. text.now) result ≡ explanation_of name.now }

@@ -1,4 +1,4 @@
-//! Why words name no job.
+//! Why arguments name no job.
 ghost use Rattle.std.specs.Prelude.{◌≡◌};
 ghost use Rattle.life_words.specs.Fault.{number_of, ComesFrom};
 
@@ -6,12 +6,12 @@ use clap::Error;
 use clap::error::ErrorKind;
 use std::alloc::AllocError;
 
-/// Why words name no job.
+/// Why arguments name no job.
 #[derive(Drop)]
 pub enum WordFault {
-    /// The words are not the command's, or ask for help or for the version. The error has the text for the user.
+    /// A usage error, or a request for help or for the version. The error has the text for the user.
     BadWords(Option<Error>),
-    /// An allocation was refused.
+    /// Out of memory.
     Memory,
 }
 

@@ -1,4 +1,4 @@
-//! The words of the command line of `life`, read by `clap`, what the commands of all programs have in common, and what explains a refusal.
+//! The arguments of `life`, read by `clap`; what the commands of all programs share; and the explanations of refusals.
 #![tactic(auto)]
 
 mod commands;

@@ -1,8 +1,8 @@
-//! The words of the command line, read by `clap`.
+//! The arguments of `life`, read by `clap`.
 ghost use Rattle.std.specs.Prelude.{◌≡◌, codes, map, option_map, IfOk, false};
 ghost use Rattle.clap.specs.Words.{app_of, rule_of, rows_of, found_of, subcommand_rows_of};
 ghost use Rattle.clap.specs.declared.builder.command.Command.TheViews.{out-Command as fields_of};
-ghost use Rattle.life_words.specs.Words.{number_rule_in, text_rule, file_rule, MakesCommand, object, census, deposit, serve, explain, life_alone, life_app};
+ghost use Rattle.life_words.specs.Words.{number_rule_in, text_rule, file_rule, MakesCommand, object, census, deposit, serve, check, explain, life_alone, life_app};
 ghost use Rattle.life_words.specs.Words.{number_at, text_at, asked_by, explain_of, job_named, by_subcommand, words_job, Answers};
 
 use crate::commands::{
@@ -16,12 +16,13 @@ use clap::{Arg, ArgMatches, Command};
 use std::alloc::{AllocError, Global};
 use std::convert::AsStr;
 
-// What the help of each command says: what it is for, and after its words what is read, printed and refused, and an example.
+// The help of each command: its purpose and, after the arguments, what it reads, prints and refuses, and an example.
 const GENERATION_ABOUT: &str = "Prints generation N of the pattern on standard input";
 
 const GENERATION_HELP: &str = "\
 Reads:   a pattern file (RLE) on standard input
-Prints:  generation N as canonical RLE, without its texts, its first column and its first row at 0
+Prints:  generation N as canonical RLE, without name, author or comments; its first live column and
+         row are moved to 0
 Refuses: out-of-limit (N over 2048), bad-pattern NAME, unreadable, unavailable
 Example: life generation 1 < glider.rle";
 
@@ -30,53 +31,63 @@ const KIND_ABOUT: &str = "Prints the kind and the code of the pattern on standar
 const KIND_HELP: &str = "\
 Reads:   a pattern file (RLE) on standard input
 Prints:  'empty', 'unresolved', 'still CODE', 'oscillator PERIOD CODE' or 'ship PERIOD DX DY CODE';
-         CODE is '-' where no phase fits in a box of 40 by 40
+         CODE is '-' if no phase fits into 40 by 40 cells
 Refuses: out-of-limit (LIMIT 0 or over 2048), bad-pattern NAME, unreadable, unavailable
 Example: life kind 4 < glider.rle";
 
-const OBJECT_ABOUT: &str = "Prints the pattern of a code";
+const OBJECT_ABOUT: &str = "Prints the pattern that a code names";
 
 const OBJECT_HELP: &str = "\
 Reads:   nothing
-Prints:  the pattern that CODE spells as canonical RLE
+Prints:  the pattern that CODE names, as canonical RLE
 Refuses: out-of-limit (LIMIT 0 or over 2048), bad-rule, bad-code NAME, unavailable
 Example: life object B3/S23 xs6_696 1";
 
-const CENSUS_ABOUT: &str = "Prints how many clusters of generation N of the pattern have each code";
+const CENSUS_ABOUT: &str = "Counts the objects in generation N of the pattern on standard input";
 
 const CENSUS_HELP: &str = "\
 Reads:   a pattern file (RLE) on standard input
-Prints:  a line 'CODE,COUNT' for each code in byte order, after 'code,count', and 'unresolved,COUNT'
+Prints:  'code,count', then a line 'CODE,COUNT' for each code in byte order, and last
+         'unresolved,COUNT' for the clusters without a code
 Refuses: out-of-limit (N over 2048, LIMIT 0 or over 2048), bad-pattern NAME, unreadable, unavailable
 Example: life census 0 2 < traffic-light.rle";
 
-const DEPOSIT_ABOUT: &str = "Keeps the pattern on standard input in an archive";
+const DEPOSIT_ABOUT: &str = "Stores the pattern on standard input in an archive";
 
 const DEPOSIT_HELP: &str = "\
 Reads:   a pattern file (RLE) on standard input, and the archive F,
-         which is made where it is not there
-Prints:  'deposit NUMBER'; the same words with the same pattern have the first number again
+         which is created if it does not exist
+Prints:  'deposit NUMBER'; repeating the command with the same pattern prints the same number
 Refuses: bad-member, bad-token, bad-pattern NAME, token-reused, full, not-ours, unreadable, unavailable
 Example: life deposit --db club.db ann t1 < glider.rle";
 
-const SERVE_ABOUT: &str = "Serves the messages of an archive on 127.0.0.1";
+const SERVE_ABOUT: &str = "Serves an archive over HTTP on 127.0.0.1";
 
 const SERVE_HELP: &str = "\
-Reads:   HTTP requests of N connections, one after the other, and the archive F,
-         which is made where it is not there
-Prints:  'listening on 127.0.0.1:P', and a line for each connection that ended early on standard error
+Reads:   HTTP requests from N connections, one after the other, and the archive F,
+         which is created if it does not exist
+Prints:  'listening on 127.0.0.1:P', and on standard error a line for each connection that failed
 Refuses: not-ours, no-port, unavailable
 Example: life serve --db club.db --port 8080 --connections 100";
+
+const CHECK_ABOUT: &str = "Checks that the file of an archive is one, row by row";
+
+const CHECK_HELP: &str = "\
+Reads:   every row of the archive F, and counts each census again; it adds nothing to F
+Prints:  'sound: N deposits, M censuses'; otherwise the first error, such as 'deposit 17: ...',
+         and then it refuses
+Refuses: not-sound, not-ours, unavailable
+Example: life check --db club.db";
 
 const EXPLAIN_ABOUT: &str = "Prints what a refusal means and what to do";
 
 const EXPLAIN_HELP: &str = "\
 Reads:   nothing
-Prints:  what NAME means and what to do: a line for each kind of refusal that has it, which are those
-         over HTTP, the faults of pattern files and of codes, and those of the programs and the gateway
+Prints:  what NAME means and what to do. A name that several kinds of refusal share has a line for
+         each: over HTTP, a fault of a pattern file or of a code, a program, the gateway
 Names:   bad-code, bad-count, bad-header, bad-member, bad-message, bad-method, bad-pattern, bad-rule,
          bad-text, bad-token, birth-zero, full, no-end, no-header, no-port, no-reply, no-such-census,
-         no-such-deposit, no-such-page, not-canonical, not-ours, not-within-limit, other-tag,
+         no-such-deposit, no-such-page, not-canonical, not-ours, not-sound, not-within-limit, other-tag,
          out-of-limit, password, text-limit, token-reused, too-long, too-many-requests, too-wide,
          unavailable, unknown, unreadable
 Refuses: unavailable
@@ -86,42 +97,46 @@ const LIFE_ABOUT: &str = "An archive of Game of Life patterns";
 
 const LIFE_HELP: &str = "\
 A refusal is one line 'refused: NAME' on standard error, with status 1.
-What it means, and what to do, is said by 'life explain NAME'.
-Bad words, and a request for help, end with status 2.
+'life explain NAME' says what it means and what to do.
+Usage errors and requests for help end with status 2.
 Example: life generation 1 < glider.rle";
 
-/// What the program is to do.
+/// What to do.
 #[derive(Clone, Copy, Debug, PartialEq, Eq)]
 pub enum Job<'a> {
     /// Print the generation of this number of the pattern on standard input.
     Generation(u64),
-    /// Print the kind of the pattern on standard input, whose period is at most this limit.
+    /// Print the kind of the pattern on standard input, searching for periods up to this limit.
     Kind(u64),
-    /// Print the pattern of a code under a rule and a limit of the period.
+    /// Print the pattern of a code under a rule and a limit on the period.
     Object {
         rule: &'a str,
         code: &'a str,
         limit: u64,
     },
     /// Print the tally of the clusters of this generation of the pattern on standard input, under this
-    /// limit of the period.
+    /// limit on the period.
     Census {
         n: u64,
         limit: u64,
     },
-    /// Deposit the pattern on standard input in the archive of this file.
+    /// Deposit the pattern on standard input in the archive in this file.
     Deposit {
         file: &'a str,
         member: &'a str,
         token: &'a str,
     },
-    /// Serve the archive of this file at this port, for so many connections.
+    /// Serve the archive in this file at this port, for this many connections.
     Serve {
         file: &'a str,
         port: u64,
         connections: u64,
     },
-    /// Print what the refusals of this name mean.
+    /// Check the archive in this file.
+    Check {
+        file: &'a str,
+    },
+    /// Explain the refusals with this name.
     Explain(&'a str),
 }
 
@@ -129,8 +144,8 @@ fn object_command<'a>(alloc: Global) -> Result<Command<'a>, AllocError>
     ensures { MakesCommand object result }
 {
     let command = Ok(named_command(alloc, "object", OBJECT_ABOUT, OBJECT_HELP));
-    let command = with_arg(command, text_arg(alloc, "RULE", "The rule, as B3/S23"));
-    let command = with_arg(command, text_arg(alloc, "CODE", "The code, as xs4_33"));
+    let command = with_arg(command, text_arg(alloc, "RULE", "The rule, such as B3/S23"));
+    let command = with_arg(command, text_arg(alloc, "CODE", "The code, such as xs4_33"));
     with_arg(command, limit_arg(alloc))
 }
 
@@ -142,7 +157,7 @@ fn census_command<'a>(alloc: Global) -> Result<Command<'a>, AllocError>
     with_arg(command, limit_arg(alloc))
 }
 
-// The option `--db`, whose word is the file of an archive.
+// The option `--db`, whose value is the file of an archive.
 fn file_arg<'a>(alloc: Global) -> Arg<'a>
     ensures rule { rule_of result ≡ file_rule }
     ensures local { result.global ≡ false }
@@ -155,10 +170,17 @@ fn deposit_command<'a>(alloc: Global) -> Result<Command<'a>, AllocError>
 {
     let command = Ok(named_command(alloc, "deposit", DEPOSIT_ABOUT, DEPOSIT_HELP));
     let command = with_arg(command, file_arg(alloc));
-    let command = with_arg(command, text_arg(alloc, "MEMBER", "The member, as ann"));
+    let command = with_arg(
+        command,
+        text_arg(alloc, "MEMBER", "The member's name, such as ann"),
+    );
     with_arg(
         command,
-        text_arg(alloc, "TOKEN", "The member's token of the deposit, as t1"),
+        text_arg(
+            alloc,
+            "TOKEN",
+            "The member's token for this deposit, such as t1",
+        ),
     )
 }
 
@@ -180,7 +202,7 @@ fn connections_arg<'a>(alloc: Global) -> Arg<'a>
     text_arg(
         alloc,
         "N",
-        "How many connections are served, from 1 to 1000000",
+        "How many connections to serve, from 1 to 1000000",
     )
     .value_parser(ValueParser::unsigned(1, 1_000_000))
     .long("connections")
@@ -195,15 +217,26 @@ fn serve_command<'a>(alloc: Global) -> Result<Command<'a>, AllocError>
     with_arg(command, connections_arg(alloc))
 }
 
+fn check_command<'a>(alloc: Global) -> Result<Command<'a>, AllocError>
+    ensures { MakesCommand check result }
+{
+    let command = Ok(named_command(alloc, "check", CHECK_ABOUT, CHECK_HELP));
+    with_arg(command, file_arg(alloc))
+}
+
 // The name of a refusal or a fault.
 fn name_arg<'a>(alloc: Global) -> Arg<'a>
     ensures rule { rule_of result ≡ text_rule (codes "NAME") }
     ensures local { result.global ≡ false }
 {
-    text_arg(alloc, "NAME", "The name of a refusal or a fault, as no-end")
+    text_arg(
+        alloc,
+        "NAME",
+        "The name of a refusal or a fault, such as no-end",
+    )
 }
 
-// The command that takes this argument for its name.
+// The command with this argument for the name.
 fn explain_command<'a>(alloc: Global, name: Arg<'a>) -> Result<Command<'a>, AllocError>
     requires { name.global ≡ false }
     ensures app { rule_of name.entry ≡ text_rule (codes "NAME") → IfOk result (λ command. app_of command ≡ explain) }
@@ -234,6 +267,7 @@ pub fn life_command<'a>(alloc: Global) -> Result<Command<'a>, AllocError>
     let command = with_command(command, census_command(alloc));
     let command = with_command(command, deposit_command(alloc));
     let command = with_command(command, serve_command(alloc));
+    let command = with_command(command, check_command(alloc));
     with_command(command, explain_command(alloc, name_arg(alloc)))
 }
 
@@ -251,14 +285,14 @@ pub fn text_in<'a>(found: &ArgMatches<'a>, id: &str) -> Option<&'a str>
     found.get_str(id)
 }
 
-// The limit of the period.
+// The limit on the period.
 fn limit_in(found: &ArgMatches<'_>) -> Option<u64>
     ensures { result ≡ number_at (codes "LIMIT") (rows_of (found_of found.now)) }
 {
     number_in(found, "LIMIT")
 }
 
-// A name that no refusal has is none.
+// `None` if no refusal has the name.
 fn explain_in<'a>(found: &ArgMatches<'a>) -> Option<Job<'a>>
     ensures { option_map asked_by result ≡ explain_of (text_at (codes "NAME") (rows_of (found_of found.now))) }
 {
@@ -270,7 +304,7 @@ fn explain_in<'a>(found: &ArgMatches<'a>) -> Option<Job<'a>>
     }
 }
 
-// The job of the subcommand that was met.
+// The job of the subcommand that was given.
 fn job_in<'a>(matches: &ArgMatches<'a>) -> Option<Job<'a>>
     ensures { option_map asked_by result ≡ by_subcommand job_named (subcommand_rows_of matches.now) }
 {
@@ -297,12 +331,15 @@ fn job_in<'a>(matches: &ArgMatches<'a>) -> Option<Job<'a>>
             port: number_in(found, "P")?,
             connections: number_in(found, "N")?,
         }),
+        "check" => Some(Job::Check {
+            file: text_in(found, "F")?,
+        }),
         "explain" => explain_in(found),
         _ => None,
     }
 }
 
-// Fails for words that have no name of a refusal where one is wanted: `clap` lists the names, and suggests one that is near.
+// Fails for an unknown name of a refusal: `clap` lists the names, and suggests a similar one.
 fn refuse_name<S: AsStr>(alloc: Global, words: &[S]) -> Result<(), WordFault> {
     let names = refusal_names(alloc)?;
     let name = name_arg(alloc).value_parser(ValueParser::Names(names.as_slice()));
@@ -311,9 +348,9 @@ fn refuse_name<S: AsStr>(alloc: Global, words: &[S]) -> Result<(), WordFault> {
     Ok(())
 }
 
-/// The job that the words name. The first of them is the program's name, as in `env::args`.
+/// The job that the arguments name. The first one is the program's name, as in `env::args`.
 ///
-/// A request for help is a fault too, `BadWords` with the text of the help.
+/// A request for help is also a fault: `BadWords` with the text of the help.
 pub fn read_words<'a, S: AsStr>(alloc: Global, words: &'a [S]) -> Result<Job<'a>, WordFault>
     ensures { Answers asked_by (words_job (map S.text words.entry.now)) result }
 {

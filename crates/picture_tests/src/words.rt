@@ -3,7 +3,7 @@ use life_pictures::{Picture, read_words};
 use shared_tests::arguments::{is_named, other_line};
 use std::alloc::Global;
 
-/// Command lines, and the picture that each names; none if it is a usage error.
+/// Command lines, and the picture that each names; `None` for a usage error.
 const LINES: [(&str, Option<Picture>); 10] = [
     ("life-draw", None),
     ("life-draw png", None),

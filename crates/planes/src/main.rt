@@ -1,7 +1,7 @@
-//! Runs the two kinds of plane against each other on seeded sets of sizes round the edges of words and of blocks, under the
-//! rules that are its arguments, of which two that are joined by `+` take turns of three generations: for each rule and set a
-//! line with the set's number, the rule, in how many generations the planes differ, and the population and a digest of the last
-//! one. `tests/planes` runs it.
+//! Compares the two types of planes on seeded sets whose sizes are around the edges of words and of blocks, under the rules that
+//! are its arguments. Two rules that are joined by `+` alternate every three generations. For each rule and set it prints a line
+//! with the set's number, the rule, in how many generations the planes differ, and the population and a digest of the last one.
+//! `tests/test_planes.py` runs it.
 #![tactic(auto)]
 
 ghost use Rattle.std.specs.Prelude.{IsTrue};
@@ -28,7 +28,7 @@ const PRIME: u128 = 18_446_744_073_709_551_557;
 /// How far outside its first box a set can get, and a bit more.
 const MARGIN: i64 = 72;
 
-/// The element at an index, which is taken round; 1 if there is none.
+/// The element at an index, modulo the length; 1 if there is none.
 fn round(list: &[u64], index: u64) -> u64 {
     let len = list.len() as u64;
     let index = if len == 0 { 0 } else { index % len };
@@ -84,7 +84,7 @@ fn are_inside(cells: &[Cell]) -> bool
     cells.iter().all(|cell| cell.is_within(PLANE))
 }
 
-/// The number times 2 to the power of `n`, in the remainders by the prime.
+/// The number times 2 to the power of `n`, modulo the prime.
 fn doubled(number: u128, n: u64) -> u128 {
     let mut number = number;
     for _ in 0..n / 60 {
@@ -101,7 +101,7 @@ fn place_of(cell: Cell, field: Bounds) -> u64 {
         .wrapping_add(x)
 }
 
-/// The sum of 2 to the power of each live cell's place, by the prime.
+/// The sum of 2 to the power of each live cell's place, modulo the prime.
 fn digest(cells: &[Cell], field: Bounds) -> u128 {
     let mut sum = 0_u128;
     let mut last = 0_u64;
@@ -115,14 +115,14 @@ fn digest(cells: &[Cell], field: Bounds) -> u128 {
     sum
 }
 
-/// Two rules that take turns of three generations; the same twice if there is one.
+/// Two rules that alternate every three generations; the same twice if there is only one.
 #[derive(Clone, Copy)]
 struct Turns {
     first: Rule,
     second: Rule,
 }
 
-/// The rules of a name; none if it is not one or two.
+/// The rules of an argument; `None` if there are not one or two.
 fn turns_of(name: &str) -> Option<Turns> {
     let (first, second) = match name.split_once('+') {
         None => (name, name),

@@ -1,4 +1,4 @@
--- `is_refused` at a call: what it is handed, and what a caller has of it. Assumes `Logic`.
+-- `is_refused` at a call: its arguments, and what a caller knows about the result. Assumes `Logic`.
 use Rattle.std.proofs.Common.{◌≡◌, ℕ, Bool, List, [], ◌∷◌, refl, ap}
 use Rattle.std.specs.contracts.cell.Cell as cell
 use seplogic.Ra.Ura.{Ura}

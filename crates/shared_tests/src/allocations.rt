@@ -1,16 +1,16 @@
-//! Calls whose allocations are refused in turn: they answer out of memory, or succeed in less room, and give their answer when they are
-//! made again with memory.
+//! Calls whose allocations fail in turn: they return out of memory, or succeed with less room, and give their answer when they are
+//! repeated with memory.
 ghost use Rattle.std.specs.Prelude.{◌<◌};
 
 use crate::refusing::Refusing;
 use life_core::Fault;
 use std::alloc::Global;
 
-/// More allocations than any of the calls asks for.
+/// More allocations than any of the calls makes.
 const MANY: u64 = 1000;
 
-/// Makes the calls with the allocation of this number refused, and then with memory. Whether it was refused, since they ask for as many;
-/// nothing if an answer was not as it should be.
+/// Makes the calls with this allocation failing, and then with memory. Returns whether it failed, that is, whether they made that many
+/// allocations; `None` if an answer was wrong.
 fn refuse_one<F: Fn(&Refusing) -> Result<bool, Fault>>(
     alloc: Global,
     are_right: &F,
@@ -32,8 +32,8 @@ fn refuse_one<F: Fn(&Refusing) -> Result<bool, Fault>>(
     }
 }
 
-/// Refuses the first allocation of the calls, then the second, and so on until none is left to refuse. An `Err` has the number of the
-/// first at which an answer was not as it should be, or 1 if the calls ask for none.
+/// Fails the first allocation of the calls, then the second, and so on, until all have failed once. An `Err` has the number of the first
+/// one with a wrong answer, or 1 if the calls make no allocations.
 pub fn refuse_each<F: Fn(&Refusing) -> Result<bool, Fault>>(
     alloc: Global,
     are_right: &F,

@@ -16,7 +16,7 @@ pub fn is_named<J: Copy + PartialEq>(read: Result<J, WordFault>, job: Option<J>)
     }
 }
 
-/// The first command line of these whose arguments don't name its job, or are no usage error if it has none.
+/// The first of these command lines whose arguments don't name its job, or that should be a usage error and is not.
 pub fn other_line<J: Copy, F: Fn(Global, &[&str], Option<J>) -> bool>(
     alloc: Global,
     lines: &[(&'static str, Option<J>)],

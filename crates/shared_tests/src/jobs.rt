@@ -5,7 +5,7 @@ use life_jobs::Stop;
 use life_rle::{PieceInlet, PieceOutlet};
 use std::alloc::{AllocError, Global};
 
-/// How a stream comes and goes.
+/// How a stream moves its bytes.
 #[derive(Clone, Copy, Debug)]
 pub enum Flow {
     /// Whole.
@@ -55,9 +55,9 @@ pub enum End {
     Done(&'static str),
     /// It stops and puts nothing, if the file comes whole and if it comes byte by byte.
     Stopped(Stop),
-    /// It stops since the take of this number fails, and puts nothing.
+    /// It stops because the take with this number fails, and puts nothing.
     Unreadable(u64),
-    /// It stops since the put after this fails.
+    /// It stops because the put after this fails.
     Unwritable(&'static str),
 }
 
@@ -83,7 +83,7 @@ impl End {
 /// A job, the file that comes, and how the job ends.
 pub type Run<J> = (J, &'static str, End);
 
-/// Whether a job that is run over such streams ends so. If a number is out of its range, no byte may be taken.
+/// Whether a job on such streams ends this way. If a number is out of its range, no byte may be taken.
 fn ends_by<J: Copy, F: Fn(Global, J, &mut PieceInlet, &mut PieceOutlet) -> Result<(), Stop>>(
     alloc: Global,
     run: &F,
@@ -102,7 +102,7 @@ fn ends_by<J: Copy, F: Fn(Global, J, &mut PieceInlet, &mut PieceOutlet) -> Resul
     answer == end.answer() && output.bytes() == end.put().as_bytes() && is_untouched
 }
 
-/// Whether a job that is run ends so.
+/// Whether a job ends this way.
 fn ends<J: Copy, F: Fn(Global, J, &mut PieceInlet, &mut PieceOutlet) -> Result<(), Stop>>(
     alloc: Global,
     run: &F,
@@ -119,7 +119,7 @@ fn ends<J: Copy, F: Fn(Global, J, &mut PieceInlet, &mut PieceOutlet) -> Result<(
     }
 }
 
-/// The first of these jobs that ends otherwise, if each is run.
+/// The first of these jobs that ends differently.
 pub fn other_run<J: Copy, F: Fn(Global, J, &mut PieceInlet, &mut PieceOutlet) -> Result<(), Stop>>(
     alloc: Global,
     rows: &[Run<J>],

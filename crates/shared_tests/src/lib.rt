@@ -1,5 +1,5 @@
-//! What the crates of tests share: an allocator that refuses, and calls whose allocations are refused in turn; jobs over streams that
-//! fail at a call; and the arguments of a command line.
+//! What the test crates share: an allocator that fails, and calls whose allocations fail in turn; jobs on streams that fail at a call;
+//! and command lines.
 #![tactic(auto)]
 
 pub mod allocations;

@@ -1,17 +1,17 @@
-//! An allocator that refuses one allocation, so that a test can refuse each allocation of a call in turn.
+//! An allocator that fails once, so that a test can fail each allocation of a call in turn.
 ghost use Rattle.std.specs.Prelude.{◌<◌};
 
 use std::alloc::{AllocError, Allocator, Global};
 use std::cell::Cell;
 
-/// An allocator that refuses one of the allocations that are asked of it, and passes each other call on.
+/// An allocator that refuses one allocation, and passes on every other call.
 ///
 /// A test lends it: a `&Refusing` is an allocator, and is `Copy`. A block that grows or shrinks
 /// counts as an allocation.
 #[derive(Drop)]
 pub struct Refusing<A: Allocator = Global> {
     inner: A,
-    // The allocations up to the one to refuse, with it; 0 once it was refused.
+    // How many allocations are left up to and including the one to refuse; 0 once it was refused.
     left: Cell<u64>,
 }
 
@@ -39,7 +39,7 @@ impl<A: Allocator> Refusing<A> {
     }
 }
 
-// Counts an allocation, and says whether it is the one to refuse.
+// Counts an allocation, and returns whether it is the one to refuse.
 fn is_refused(left: &Cell<u64>) -> bool {
     let growths = left.get();
     left.set(growths.saturating_sub(1));
@@ -65,7 +65,7 @@ unsafe impl<A: Allocator> Allocator for Refusing<A> {
 mod tests {
     use super::*;
 
-    // Nine numbers, for which the vector grows to four places, to eight and to sixteen.
+    // For nine numbers the vector grows to four places, to eight and to sixteen.
     fn below_nine<A: Allocator + Copy>(alloc: A) -> Result<Vec<u64, A>, AllocError> {
         let mut numbers = Vec::new(alloc);
         for number in 0..9 {

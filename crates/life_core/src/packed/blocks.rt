@@ -9,8 +9,8 @@ use crate::packed::lanes::{carry, lanes_at, moved_down, moved_up, odd};
 use crate::packed::row_kernel::put_lanes;
 use std::simd::prelude::*;
 
-/// Two words of a row, and at each place how many of the two beside it are live, and of all three:
-/// each number by two digits.
+/// Two words of a row and, at each place, how many of the two places beside it are live, and how many
+/// of all three. Each number has two binary digits.
 #[derive(Clone, Copy)]
 pub(crate) struct RowSums {
     pub(crate) here: u64x2,
@@ -39,8 +39,8 @@ pub(crate) fn row_sums(rows: &[u64], k: usize) -> RowSums
     }
 }
 
-/// Puts the two words from `k` on, of the next generation, from the sums of the rows above, here and
-/// below, and gives the places that changed.
+/// Writes the two words from `k` on of the next generation, from the sums of the rows above, here and
+/// below, and returns the places that changed.
 #[inline(always)]
 fn block_row<R: LaneRule<2>>(
     rule: &R,
@@ -76,7 +76,7 @@ pub(crate) struct Changes {
     pub(crate) bottom: u64x2,
 }
 
-/// Puts the next generation of the block whose first word is at `at`.
+/// Writes the next generation of the block whose first word is at `at`.
 pub(crate) fn block_step<R: LaneRule<2>>(
     rule: &R,
     rows: &[u64],

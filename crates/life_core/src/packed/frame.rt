@@ -1,4 +1,4 @@
-//! Frames: where rows of packed words stand in the plane.
+//! Frames: the positions of rows of packed words on the plane.
 ghost use Rattle.std.specs.Prelude.{◌≡◌, ◌↔◌, IsTrue, ℤ, pos, ◌+◌, ◌*◌, ◌<◌, ◌≤◌, ◌+ℤ◌, ◌-ℤ◌, ◌≤ℤ◌, neg_ℤ, true};
 ghost use Rattle.std.specs.FinSet as set;
 ghost use Rattle.life_core.specs.declared.cell.Cell.{Cell};
@@ -9,7 +9,7 @@ use crate::cell::{Cell, PLANE};
 use crate::pattern::{Bounds, Pattern};
 use std::alloc::Allocator;
 
-/// Where rows of words stand: bit `i` of word `j` of row `y` is the cell in column `left + 64 j + i`
+/// The position of rows of words: bit `i` of word `j` of row `y` is the cell in column `left + 64 j + i`
 /// and row `top + y`.
 #[derive(Clone, Copy, Debug, PartialEq, Eq)]
 pub(crate) struct Frame {
@@ -22,7 +22,7 @@ pub(crate) struct Frame {
 }
 
 impl Frame {
-    /// A frame of whole blocks round the pattern's box, with room for 31 generations.
+    /// A frame of whole blocks around the pattern's box, with room for 31 generations.
     pub(crate) fn of<A: Allocator>(pattern: &Pattern<A>) -> Frame
         ensures frame { IsFrame result }
         ensures whole { IsWhole result }
@@ -41,7 +41,7 @@ impl Frame {
         }
     }
 
-    /// A frame of whole blocks round a box, with half a word beside it and three lines of blocks above
+    /// A frame of whole blocks around a box, with half a word on each side and three lines of blocks above
     /// and below.
     fn round(bounds: Bounds) -> Frame
         requires left { neg_ℤ (pos PLANE) ≤ℤ bounds.left }
@@ -100,7 +100,7 @@ impl Frame {
         }
     }
 
-    /// The frame with so many columns and lines of blocks more.
+    /// The frame, larger by these numbers of columns and lines of blocks.
     pub(crate) fn grown(self, left: usize, right: usize, top: usize, bottom: usize) -> Frame
         requires frame { IsFrame self }
         requires few { (left ≤ 64) × (right ≤ 64) × (top ≤ 64) × (bottom ≤ 64) }
@@ -118,7 +118,7 @@ impl Frame {
     }
 }
 
-/// Whether a number is one of so many from `least` on.
+/// Whether a number is one of `count` numbers from `least` on.
 fn is_between(least: i64, count: usize, n: i64) -> bool
     requires least { neg_ℤ (pos 1_100_000_000) ≤ℤ least }
     requires most { (least +ℤ pos count) ≤ℤ pos 1_100_000_000 }

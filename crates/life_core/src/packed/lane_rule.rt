@@ -1,4 +1,4 @@
-//! Rules by which several words of a row evolve at once.
+//! Rules in a form that evolves several words of a row at once.
 ghost use Rattle.std.specs.Prelude.{◌≡◌};
 ghost use Rattle.life_core.specs.Rule.{RuleSets, life};
 ghost use Rattle.life_core.specs.PackedLanesState.{AreNextLanes};
@@ -6,16 +6,16 @@ ghost use Rattle.life_core.specs.PackedLanesState.{AreNextLanes};
 use crate::packed::lanes::{carry, odd};
 use std::simd::prelude::*;
 
-/// A form of a rule, of whatever number of words that evolve at once.
+/// A form of a rule, for any number of words that evolve at once.
 pub(crate) trait Evolves {
     // It is a form of this rule.
     ghost is_of: { Self → RuleSets → Type 0 };
 }
 
-/// A form of a rule, by which `N` words of a row evolve at once.
+/// A form of a rule with which `N` words of a row evolve at once.
 pub(crate) trait LaneRule<const N: usize>: Evolves {
-    /// The places that are live next, by the digits of the sums of the row above, of the two beside
-    /// each place, and of the row below.
+    /// The places that are live next, from the digits of the sums of the row above, of the two places
+    /// beside each place, and of the row below.
     fn next_lanes(
         &self,
         here: Simd<u64, N>,
@@ -29,7 +29,7 @@ pub(crate) trait LaneRule<const N: usize>: Evolves {
         ensures { (r : RuleSets) → Self.is_of self.now r → AreNextLanes r N here.entry above.entry above2.entry sides.entry sides2.entry below.entry below2.entry result };
 }
 
-/// Conway's Life, which has a shorter way of its own.
+/// Conway's Life, which has a shorter formula.
 #[derive(Clone, Copy)]
 pub(crate) struct ConwayLife;
 

@@ -60,7 +60,7 @@ fn column_step<R: LaneRule<2>>(
     );
 }
 
-/// Steps two marked blocks that are neighbours in a line, at once. Their marks are cleared.
+/// Steps two marked neighbouring blocks of a line at once. Their marks are cleared.
 #[inline(always)]
 fn pair_step<R: LaneRule<4>>(
     rule: &R,
@@ -132,8 +132,8 @@ fn are_marked(columns: usize, line: usize, column: usize, marks: &[bool]) -> boo
     column + 1 < columns && marks[b] && marks[b + 1]
 }
 
-/// Steps the block in a line and a column, together with its right neighbour if both are marked. The result is the column that
-/// follows.
+/// Steps the block in a line and a column, together with its right neighbour if both are marked. Returns the next
+/// column.
 #[inline(always)]
 fn columns_step<R: LaneRule<2> + LaneRule<4>>(
     rule: &R,
@@ -173,7 +173,7 @@ fn columns_step<R: LaneRule<2> + LaneRule<4>>(
     column + 1
 }
 
-/// The blocks of a line that are marked.
+/// Steps the marked blocks of a line.
 fn line_step<R: LaneRule<2> + LaneRule<4>>(
     rule: &R,
     columns: usize,
@@ -205,7 +205,7 @@ fn line_step<R: LaneRule<2> + LaneRule<4>>(
     }
 }
 
-/// The blocks of a line that are marked, if the line is. Its mark is taken away.
+/// Steps the marked blocks of a line, if the line is marked. Its mark is cleared.
 fn marked_line_step<R: LaneRule<2> + LaneRule<4>>(
     rule: &R,
     columns: usize,
@@ -242,7 +242,7 @@ fn marked_line_step<R: LaneRule<2> + LaneRule<4>>(
     );
 }
 
-/// All lines but the first and the last.
+/// Steps all lines except the first and the last.
 pub(crate) fn advance_blocks<R: LaneRule<2> + LaneRule<4>>(
     rule: &R,
     columns: usize,

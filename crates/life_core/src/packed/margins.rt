@@ -1,4 +1,4 @@
-//! Room for a set in a frame, for some generations.
+//! How many generations of a set a frame has room for.
 ghost use Rattle.std.specs.Prelude.{◌≡◌, ℕ, ℤ, pos, ◌+◌, ◌*◌, ◌<◌, ◌≤◌, ◌+ℤ◌, ◌-ℤ◌, ◌≤ℤ◌, neg_ℤ, true, IsTrue, IsFalse, IsNone, IfSome, length, slice_index_or};
 ghost use Rattle.std.specs.Int.{bit_at};
 ghost use Rattle.std.specs.FinSet as set;
@@ -17,7 +17,7 @@ const LOW_HALF: u64 = 0xFFFF_FFFF;
 /// The upper half of a word.
 const HIGH_HALF: u64 = 0xFFFF_FFFF_0000_0000;
 
-/// A wider frame, and how many words and rows it has before those of the narrower.
+/// A wider frame, and how many words and rows it adds in front of those of the narrower one.
 #[derive(Clone, Copy)]
 pub(crate) struct Wider {
     pub(crate) frame: Frame,
@@ -25,7 +25,7 @@ pub(crate) struct Wider {
     pub(crate) top: usize,
 }
 
-/// For how many generations there is room after a look at the margins, where there was room for so
+/// For how many generations there is room, according to the margins, if there was room for this
 /// many before.
 pub(crate) fn renewed(slack: u32) -> u32
     ensures { result ≡ renewed slack }
@@ -33,8 +33,8 @@ pub(crate) fn renewed(slack: u32) -> u32
     if slack == 0 { 31 } else { slack }
 }
 
-/// A wider frame, where this one has no room for one more generation and its margins are too small
-/// for 31. A side that lacks some grows by a part of the frame's size, so that it grows rarely.
+/// A wider frame, if this one has no room for one more generation and its margins are too small for
+/// 31. A side that is too small grows by a fraction of the frame's size, so that it grows rarely.
 pub(crate) fn with_room(frame: Frame, rows: &[u64], slack: u32) -> Option<Wider>
     requires frame { IsFrame frame }
     requires whole { IsWhole frame }
@@ -64,7 +64,7 @@ pub(crate) fn with_room(frame: Frame, rows: &[u64], slack: u32) -> Option<Wider>
     })
 }
 
-/// By how many blocks a side grows: an eighth of those that there are, and so many more.
+/// By how many blocks a side grows: an eighth of the present number, plus these.
 fn growth(size: usize, least: usize) -> usize
     requires { least ≤ 4 }
     ensures some { least ≤ result }
@@ -139,7 +139,7 @@ fn bottom_growth(frame: Frame, rows: &[u64]) -> usize
     }
 }
 
-/// Whether no live cell stands in the lower half of the first words, or none can.
+/// Whether no live cell is in the lower half of the first words, or none can be.
 fn left_is_free(frame: Frame, rows: &[u64]) -> bool
     requires frame { IsFrame frame }
     requires rows { frame.height * frame.words ≡ length rows.now }
@@ -150,7 +150,7 @@ fn left_is_free(frame: Frame, rows: &[u64]) -> bool
     frame.left < -i64::from(PLANE) - 32 || column_is_dead(frame, rows, 0, LOW_HALF)
 }
 
-/// Whether no live cell stands in the upper half of the last words, or none can.
+/// Whether no live cell is in the upper half of the last words, or none can be.
 fn right_is_free(frame: Frame, rows: &[u64]) -> bool
     requires frame { IsFrame frame }
     requires rows { frame.height * frame.words ≡ length rows.now }
@@ -162,7 +162,7 @@ fn right_is_free(frame: Frame, rows: &[u64]) -> bool
         || column_is_dead(frame, rows, frame.words - 1, HIGH_HALF)
 }
 
-/// Whether no live cell stands in the first three lines of blocks, or none can.
+/// Whether no live cell is in the first three lines of blocks, or none can be.
 fn top_is_free(frame: Frame, rows: &[u64]) -> bool
     requires frame { IsFrame frame }
     requires whole { IsWhole frame }
@@ -174,7 +174,7 @@ fn top_is_free(frame: Frame, rows: &[u64]) -> bool
     frame.top < -i64::from(PLANE) - 48 || rows_are_dead(frame, rows, 0, 48)
 }
 
-/// Whether no live cell stands in the last three lines of blocks, or none can.
+/// Whether no live cell is in the last three lines of blocks, or none can be.
 fn bottom_is_free(frame: Frame, rows: &[u64]) -> bool
     requires frame { IsFrame frame }
     requires whole { IsWhole frame }

@@ -37,8 +37,8 @@ fn raise(marks: &mut [bool], j: usize, is_asked: bool)
     marks[j] |= is_asked;
 }
 
-/// Marks, in a line of blocks, the block at `b` and those beside it that the changed places of a row
-/// in its columns reach.
+/// Marks the block at `b` of a line and those beside it, if changed places in this row of its columns
+/// reach them.
 #[inline(always)]
 fn wake(changed: [u64; 2], line: usize, b: usize, marks: &mut [bool], lines: &mut [bool])
     requires line { line < length lines.old }

@@ -1,4 +1,4 @@
-//! Words of a row, one generation later, by sums that each of three rows has once: what `row_step` and the step of blocks are made of.
+//! Words of a row one generation later, from sums that are computed once for each of three rows. `row_step` and the step of blocks use it.
 ghost use Rattle.std.specs.Prelude.{◌≡◌, ◌⊎◌, ℕ, ◌+◌, ◌-◌, ◌*◌, ◌≤◌, ◌<◌, List, length, nat_eq, slice_index_or};
 ghost use Rattle.life_core.specs.PackedRow.{place, one_if};
 ghost use Rattle.life_core.specs.Rule.{RuleSets, lives_at};
@@ -38,7 +38,7 @@ pub(crate) struct WideSums {
     pub(crate) all2: u64x4,
 }
 
-/// The sums of four words of a row, by the words of their left and of their right neighbours.
+/// The sums of four words of a row, given the words of their left and right neighbours.
 #[inline(always)]
 pub(crate) fn sums_of(left: u64x4, here: u64x4, right: u64x4) -> WideSums
     ensures { AreSumsOf left here right result }
@@ -52,7 +52,7 @@ pub(crate) fn sums_of(left: u64x4, here: u64x4, right: u64x4) -> WideSums
     }
 }
 
-/// Writes the next generation of the four words from `k` on, by the sums of the rows above, here and
+/// Writes the next generation of the four words from `k` on, from the sums of the rows above, here and
 /// below. The result has a bit for each cell that changed.
 #[inline(always)]
 pub(crate) fn wide_row<R: LaneRule<4>>(

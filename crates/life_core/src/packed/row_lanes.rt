@@ -1,5 +1,5 @@
-//! The next generation of a row's words: whole groups of four by `row_kernel`, as blocks are stepped, and the words that are
-//! left one by one.
+//! The next generation of a row's words: groups of four with `row_kernel`, as in the step of blocks, and the remaining words
+//! one by one.
 ghost use Rattle.std.specs.Prelude.{◌≡◌, ◌⊎◌, ℕ, ◌+◌, ◌-◌, ◌*◌, ◌/◌, ◌<◌, ◌≤◌, length, nat_lt, slice_index_or, if◌then◌else◌};
 ghost use Rattle.std.specs.Int.{bit_at};
 ghost use Rattle.life_core.specs.PackedRow.{place, place_before, next_place};
@@ -13,7 +13,7 @@ use crate::packed::row::{from_left, from_right};
 use crate::packed::row_kernel::{WideSums, put_lanes, sums_of, wide_row};
 use std::simd::prelude::*;
 
-/// Puts the whole groups of four words, of which the first begins the row.
+/// Writes the groups of four words, from the beginning of the row.
 pub(crate) fn step_groups<R: LaneRule<4>>(
     rule: &R,
     above: &[u64],
@@ -48,7 +48,7 @@ fn group_sums(words: &[u64], k: usize) -> WideSums
     )
 }
 
-/// Puts the words that no whole group of four has.
+/// Writes the words after the last group of four.
 pub(crate) fn step_rest<R: LaneRule<1>>(
     rule: &R,
     above: &[u64],
@@ -93,7 +93,7 @@ fn step_word<R: LaneRule<1>>(
     let _changed = put_lanes(out, j, new);
 }
 
-/// At each cell of the word at `j`, the digits of how many are live of it and its two neighbours in the row.
+/// For each cell of the word at `j`, the digits of how many of it and its two neighbours in the row are live.
 #[inline(always)]
 fn word_sums(words: &[u64], j: usize) -> (Simd<u64, 1>, Simd<u64, 1>)
     requires { j < length words.now }
@@ -105,7 +105,7 @@ fn word_sums(words: &[u64], j: usize) -> (Simd<u64, 1>, Simd<u64, 1>)
     (odd(left, here, right), carry(left, here, right))
 }
 
-/// A word as a vector of one.
+/// A word as a vector of one word.
 #[inline(always)]
 fn lane(word: u64) -> Simd<u64, 1>
     ensures { slice_index_or result 0 0 ≡ word }

@@ -23,24 +23,24 @@ use std::alloc::{AllocError, Allocator, Global};
 use std::marker::Model;
 use std::mem;
 
-/// Rows of words with a bit for each cell of a box round the live cells, in whole blocks of two words
-/// and sixteen rows. A generation takes a time that is linear in the blocks in and next to which
-/// cells differ from those of two generations before.
+/// Rows of words with a bit for each cell of a box around the live cells, in whole blocks of two words
+/// and sixteen rows. A generation takes time linear in the number of blocks in or next to which cells
+/// differ from those two generations before.
 #[derive(Debug, Drop)]
 pub struct PackedRows<A: Allocator = Global> {
     frame: Frame,
     rows: Vec<u64, A>,
-    /// The generation before, and where the next is made.
+    /// The generation before; the next one is written here.
     spare: Vec<u64, A>,
-    /// Which blocks the next step makes anew.
+    /// The blocks that the next step computes.
     marks: Marks<A>,
-    /// Where the marks of the step after that are put.
+    /// The marks for the step after that.
     next_marks: Marks<A>,
     /// The rule of the last step.
     rule: Rule,
-    /// Whether `rows` is the generation after `spare`, by that rule.
+    /// Whether `rows` is the generation after `spare` under that rule.
     follows: bool,
-    /// How many generations more there is room for.
+    /// For how many more generations there is room.
     slack: u32,
 }
 
@@ -49,7 +49,7 @@ pub struct PackedRows<A: Allocator = Global> {
 struct Marks<A: Allocator> {
     /// Line by line, with one more before the first and one after the last.
     blocks: Vec<bool, A>,
-    /// One for each line, without which none of its blocks counts as marked.
+    /// A mark for each line. Without it, none of its blocks counts as marked.
     lines: Vec<bool, A>,
 }
 
@@ -147,7 +147,7 @@ impl<A: Allocator + Copy> Plane<A> for PackedRows<A> {
     }
 }
 
-/// Marks of the lines and blocks of the frame, of which all are set.
+/// Marks for the lines and blocks of the frame, all set.
 fn marks_of<A: Allocator + Copy>(alloc: A, frame: Frame) -> Result<Marks<A>, AllocError>
     requires { IsFrame frame }
     ensures { IfOk result (λ m. AreMarks frame m.blocks.items m.lines.items) }
@@ -178,9 +178,9 @@ fn both(a: bool, b: bool) -> bool
     a & b
 }
 
-/// Puts the rows one generation later into `out`, and what it changes into the marks of the step
-/// after this one. If a block is not marked, `out` has its next already: if `out` is what `rows`
-/// follow, for else all blocks are made anew, in this step and in the next.
+/// Writes the rows one generation later into `out`, and what it changes into the marks for the step
+/// after this one. If a block is not marked, `out` already has its next generation, provided that
+/// `rows` come after `out`. If they don't, all blocks are computed, in this step and in the next.
 fn advance(
     rule: &Rule,
     frame: Frame,
@@ -222,7 +222,7 @@ fn advance(
     set_unless(follows, next_lines);
 }
 
-/// Sets all marks, unless they are to be kept.
+/// Sets all marks, unless they are still valid.
 fn set_unless(kept: bool, marks: &mut [bool])
     ensures kept { KeepsMarks marks.old marks.new }
     ensures set { IsFalse kept → (j : ℕ) → j < length marks.new → IsMarked marks.new j }
@@ -232,7 +232,7 @@ fn set_unless(kept: bool, marks: &mut [bool])
     }
 }
 
-/// `advance_blocks` under the rule.
+/// `advance_blocks` with the form of this rule.
 fn rule_blocks(
     rule: &Rule,
     columns: usize,

@@ -1,4 +1,4 @@
-//! Rules as normal forms, by which several words of a row evolve at once.
+//! Rules as normal forms, with which several words of a row evolve at once.
 ghost use Rattle.std.specs.Prelude.{◌≡◌, ℕ, ◌+◌, ◌*◌, ◌%◌, ◌≤◌, ◌<◌, length, min, nat_eq, slice_index_or, if◌then◌else◌};
 ghost use Rattle.std.specs.Int.{bit_at};
 ghost use Rattle.life_core.specs.PackedRow.{place, one_if};
@@ -11,9 +11,9 @@ use crate::packed::lanes::{carry, odd};
 use crate::rule::Rule;
 use std::simd::prelude::*;
 
-/// A rule as words with all bits or none. Below 8 word `n` of `parts` toggles the places whose count
-/// has all the digits of `n`, and word 8 those whose count is eight; the words of `parts_here` toggle
-/// those of them that are live.
+/// A rule as words that have all bits set or none. For `n` below 8, word `n` of `parts` toggles the
+/// places whose count has all the digits of `n`; word 8 toggles those whose count is eight. The words
+/// of `parts_here` do the same for live places only.
 #[derive(Clone, Copy)]
 pub(crate) struct RuleForm {
     pub(crate) parts: [u64; 9],
@@ -32,7 +32,7 @@ impl RuleForm {
     }
 }
 
-/// The words by which each of nine words is toggled to another.
+/// The words that toggle each of nine words into another.
 fn toggles(from: &[u64; 9], to: &[u64; 9]) -> [u64; 9]
     ensures { (n i : ℕ) → n < 9 → bit_at (slice_index_or result n 0) i ≡ (bit_at (slice_index_or from.now n 0) i + bit_at (slice_index_or to.now n 0) i) % 2 }
 {
@@ -86,7 +86,7 @@ pub(crate) fn mask(flag: bool) -> u64
     if flag { u64::MAX } else { 0 }
 }
 
-/// The places of `x`, toggled by those of `y` where `s` is set.
+/// The places of `x`, toggled by those of `y` if `s` is set.
 #[inline(always)]
 fn toggled<const N: usize>(x: Simd<u64, N>, s: Simd<u64, N>, y: Simd<u64, N>) -> Simd<u64, N>
     ensures { (p : ℕ) → place result p ≡ toggled_bit (place x.entry p) (place s.entry p) (place y.entry p) }
@@ -102,7 +102,7 @@ fn spread<const N: usize>(word: u64) -> Simd<u64, N>
     Simd::splat(word)
 }
 
-/// A part of the form, with what a live place adds.
+/// A part of the form, including the part for live places.
 #[inline(always)]
 fn part<const N: usize>(rule: &RuleForm, here: Simd<u64, N>, n: usize) -> Simd<u64, N>
     requires { n < 9 }
@@ -127,7 +127,7 @@ fn one_of<const N: usize>(a: Simd<u64, N>, b: Simd<u64, N>) -> Simd<u64, N>
     a ^ b
 }
 
-/// The form at the three lower digits of the counts.
+/// The form for the three lower digits of the counts.
 #[inline(always)]
 fn formed<const N: usize>(
     rule: &RuleForm,

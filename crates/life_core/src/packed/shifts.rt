@@ -1,4 +1,4 @@
-//! Moves from one set in packed words to another.
+//! Translations from one set in packed words to another.
 ghost use Rattle.std.specs.Prelude.{◌≡◌, ◌↔◌, ◌+◌, ◌*◌, ◌<◌, nat_eq, ◌≤◌, ◌-ℤ◌, ◌≤ℤ◌, neg_ℤ, pos, false, IfSome, IsNone, IsTrue, length};
 ghost use Rattle.std.specs.FinSet as set;
 ghost use Rattle.life_core.specs.declared.cell.Cell.{Cell};
@@ -12,8 +12,8 @@ use crate::cell::{Cell, PLANE};
 use crate::packed::frame::Frame;
 use crate::packed::words::to_the_right;
 
-/// The one move, columns and rows, that takes the set of the words to that of the others; none if
-/// it is empty, or if no move does.
+/// The translation, columns and rows, that takes the set of these words to that of the others; `None`
+/// if the set is empty or there is no such translation.
 pub(crate) fn shift_of_words(
     frame: Frame,
     rows: &[u64],
@@ -32,10 +32,11 @@ pub(crate) fn shift_of_words(
     let other = first_cell(to, others)?;
     let there = shift_of(first, other);
     let back = shift_of(other, first);
-    if !covers(frame, rows, to, others, there) {
+    // The search for a period compares with later sets, which mostly are larger: then this fails at one of the last cells.
+    if !covers(to, others, frame, rows, back) {
         return None;
     }
-    if !covers(to, others, frame, rows, back) {
+    if !covers(frame, rows, to, others, there) {
         return None;
     }
     Some(there)
@@ -56,7 +57,8 @@ fn first_cell(frame: Frame, rows: &[u64]) -> Option<Cell>
     None
 }
 
-/// Whether the move takes each live cell of the words to one of the others.
+/// Whether the translation takes each live cell of the words to one of the others. It begins with the last word: the
+/// first cells of two shapes that grow often agree, and the last ones then lie elsewhere.
 fn covers(frame: Frame, rows: &[u64], to: Frame, others: &[u64], shift: (i64, i64)) -> bool
     requires frame { IsFrame frame }
     requires rows { frame.height * frame.words ≡ length rows.now }
@@ -66,7 +68,8 @@ fn covers(frame: Frame, rows: &[u64], to: Frame, others: &[u64], shift: (i64, i6
     requires rows_moved { (neg_ℤ (pos (2 * PLANE)) ≤ℤ shift.1) × (shift.1 ≤ℤ pos (2 * PLANE)) }
     ensures { IsTrue result ↔ Covers (framed frame rows.now) (framed to others.now) shift }
 {
-    for k in 0..rows.len() {
+    for passed in 0..rows.len() {
+        let k = rows.len() - 1 - passed;
         if rows[k] != 0 && !covers_word(frame.cell(64 * k), rows[k], to, others, shift) {
             return false;
         }
@@ -74,8 +77,8 @@ fn covers(frame: Frame, rows: &[u64], to: Frame, others: &[u64], shift: (i64, i6
     true
 }
 
-/// Whether the move takes each live cell of a word, whose lowest place is the cell `start`, to one
-/// of the others.
+/// Whether the translation takes each live cell of a word, whose lowest place is the cell `start`, to
+/// one of the others.
 fn covers_word(start: Cell, word: u64, to: Frame, others: &[u64], shift: (i64, i64)) -> bool
     requires start { IsCellWithin (2 * PLANE) start }
     requires to { IsFrame to }
@@ -92,7 +95,7 @@ fn covers_word(start: Cell, word: u64, to: Frame, others: &[u64], shift: (i64, i
     true
 }
 
-/// The cell to which the move takes the one `i` columns to the right of `start`.
+/// Where the translation takes the cell `i` columns to the right of `start`.
 fn moved_place(start: Cell, i: u32, shift: (i64, i64)) -> Cell
     requires start { IsCellWithin (2 * PLANE) start }
     requires i { i < 64 }

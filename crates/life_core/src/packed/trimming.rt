@@ -1,4 +1,4 @@
-//! Frames without the room that a set in a frame does not need.
+//! Trimming frames to the room that their sets need.
 ghost use Rattle.std.specs.Prelude.{◌≡◌, ℕ, pos, ◌+◌, ◌*◌, ◌<◌, ◌≤◌, ◌+ℤ◌, IsTrue, IfSome, length, slice_index_or};
 ghost use Rattle.life_core.specs.PackedFrameState.{framed, IsFrame};
 ghost use Rattle.life_core.specs.PackedMarginsState.{HasSlack, IsWhole};
@@ -8,7 +8,7 @@ use crate::packed::frame::Frame;
 use crate::packed::margins::row_is_dead;
 use crate::packed::words::copy_at;
 
-/// A frame within a wider one, and how many words and rows the wider has before those of it.
+/// A frame within a wider one, and how many words and rows the wider one has in front of it.
 #[derive(Clone, Copy)]
 pub(crate) struct Narrower {
     pub(crate) frame: Frame,
@@ -16,9 +16,9 @@ pub(crate) struct Narrower {
     pub(crate) top: usize,
 }
 
-/// The least frame of this one's blocks that has all live cells, three lines of blocks above and
-/// below them, and a column of blocks beside them, as far as this one has these; none if this is
-/// it.
+/// The smallest frame of this one's blocks that has all live cells, three lines of blocks above and
+/// below them, and a column of blocks on each side, if this one has them; `None` if that is this frame
+/// itself.
 pub(crate) fn narrowed(frame: Frame, rows: &[u64]) -> Option<Narrower>
     requires frame { IsFrame frame }
     requires whole { IsWhole frame }
@@ -71,7 +71,7 @@ fn part(frame: Frame, left: usize, right: usize, top: usize, bottom: usize) -> F
     }
 }
 
-/// How many rows before the last one are blank, from the first on.
+/// How many rows at the top are blank, not counting the last row.
 fn top_margin(frame: Frame, rows: &[u64]) -> usize
     requires frame { IsFrame frame }
     requires rows { frame.height * frame.words ≡ length rows.now }
@@ -86,7 +86,7 @@ fn top_margin(frame: Frame, rows: &[u64]) -> usize
     frame.height - 1
 }
 
-/// The row from which on all are blank, after row `top` at the least.
+/// The row from which all rows are blank; at least the one after row `top`.
 fn bottom_end(frame: Frame, rows: &[u64], top: usize) -> usize
     requires top { top < frame.height }
     requires rows { frame.height * frame.words ≡ length rows.now }
@@ -104,7 +104,7 @@ fn bottom_end(frame: Frame, rows: &[u64], top: usize) -> usize
     end
 }
 
-/// How many columns of words before the last one are blank, from the first on.
+/// How many columns of words on the left are blank, not counting the last column.
 fn left_margin(frame: Frame, rows: &[u64]) -> usize
     requires frame { IsFrame frame }
     requires rows { frame.height * frame.words ≡ length rows.now }
@@ -119,7 +119,7 @@ fn left_margin(frame: Frame, rows: &[u64]) -> usize
     frame.words - 1
 }
 
-/// The column of words from which on all are blank, after column `left` at the least.
+/// The column of words from which all are blank; at least the one after column `left`.
 fn right_end(frame: Frame, rows: &[u64], left: usize) -> usize
     requires left { left < frame.words }
     requires rows { frame.height * frame.words ≡ length rows.now }
@@ -151,7 +151,7 @@ fn column_is_blank(frame: Frame, rows: &[u64], j: usize) -> bool
     true
 }
 
-/// Copies what a narrower frame has of the rows.
+/// Copies the part of the rows that is in a narrower frame.
 pub(crate) fn copy_part(frame: Frame, rows: &[u64], to: Narrower, out: &mut [u64])
     requires frame { IsFrame frame }
     requires rows { frame.height * frame.words ≡ length rows.now }

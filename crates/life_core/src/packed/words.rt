@@ -1,4 +1,4 @@
-//! Sets of cells put into packed words, and listed from them.
+//! Writing sets of cells into packed words, and listing them.
 ghost use Rattle.std.specs.Prelude.{◌≡◌, ◌⊎◌, ℕ, ◌+◌, ◌*◌, ◌^◌, ◌<◌, ◌≤◌, ◌||◌, IfOk, OnOk, FitsSigned, take, drop, ◌++◌, pos, ◌+ℤ◌, length, map, slice_index_or};
 ghost use Rattle.std.specs.Int.{w64};
 ghost use Rattle.std.specs.List.{All};
@@ -16,7 +16,7 @@ use crate::packed::margins::Wider;
 use crate::runs::{Run, Runs};
 use std::alloc::{AllocError, Allocator};
 
-/// Sets so many bits from place `from` on: in each word that they reach, all at once.
+/// Sets this many bits from place `from` on; all bits of a word at once.
 fn set_bits(rows: &mut [u64], from: usize, len: usize)
     requires within { from + len ≤ 64 * length rows.old }
     requires few { from + len < 2 ^ 63 }
@@ -60,7 +60,7 @@ fn put_runs(frame: Frame, runs: &[Run], rows: &mut [u64])
     }
 }
 
-/// So many words without a bit.
+/// This many words with no bit set.
 pub(crate) fn zeros<A: Allocator>(alloc: A, n: usize) -> Result<Vec<u64, A>, AllocError>
     ensures len { IfOk result (λ v. length v.items ≡ n) }
     ensures zeros { IfOk result (λ v. (j : ℕ) → slice_index_or v.items j 0 ≡ 0) }
@@ -101,7 +101,7 @@ pub(crate) fn list_cells<A: Allocator>(
     Ok(cells)
 }
 
-/// Adds the cells of word `k` to those of the words before it. It goes from one run of live cells to the next, so that no branch depends
+/// Adds the cells of word `k` to those of the words before it. It steps from one run of live cells to the next, so that no branch depends
 /// on a single bit.
 fn list_word<A: Allocator>(
     frame: Frame,

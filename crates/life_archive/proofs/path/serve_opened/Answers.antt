@@ -5,7 +5,12 @@ pub returns-in-Ok : goal.returns-in-Ok
 returns-in-Ok g c =
     let last = c.serve_connections.new.archive in
     let served = c.serve_connections.ensures.served in
-    record { last = last; serves = served; leaves = λ image capacity opens A fits begins. closed_leaves c.args.archive last c.laws_of_steady_fields.ensures.decided c.in-Ok.files c.in-Ok.ensures.healthy c.in-Ok.ensures.left c.in-Ok.ensures.alone c.args.count _ _ served image capacity opens A fits begins }
+    record {
+      last = last;
+      serves = served;
+      leaves = λ image capacity opens A fits begins. closed_leaves c.args.archive last c.law_of_migrated_archives.ensures c.in-Ok.files c.in-Ok.ensures.healthy c.in-Ok.ensures.left c.in-Ok.ensures.alone c.args.count _ _ served image capacity opens A fits begins;
+      let_go = tt;
+    }
 
-pub returns : goal.returns
-returns g c = record { last = c.serve_connections.new.archive; serves = c.serve_connections.ensures.served; leaves = λ image capacity opens A fits begins. tt }
+pub returns-in-Err : goal.returns-in-Err
+returns-in-Err g c = record { last = c.serve_connections.new.archive; serves = c.serve_connections.ensures.served; leaves = λ image capacity opens A fits begins. tt; let_go = c.in-Err.ensures.refused }

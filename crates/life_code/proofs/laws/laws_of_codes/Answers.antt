@@ -3,6 +3,7 @@ use Rattle.life_code.proofs.PeriodKinds.{one_kind}
 use Rattle.life_code.proofs.CodesSteps.{width_of_box, height_of_box}
 use Rattle.life_code.proofs.PeriodLemmas.{phases_come_again, phases_differ}
 use Rattle.life_code.proofs.PeriodBirths.{birth_at_one_never_returns}
+use Rattle.life_code.proofs.PeriodPairs.{pairs_never_return}
 use Rattle.life_code.proofs.ApartUnions.{apart_go_on_alone}
 use Rattle.life_code.proofs.ApartMoves.{parting_never_returns}
 use Rattle.life_code.proofs.WechslerColumns.{strips_are_their_columns}
@@ -17,6 +18,9 @@ returns-clause-one_kind c = one_kind
 
 pub returns-clause-births : goal.returns-clause-births
 returns-clause-births c = birth_at_one_never_returns
+
+pub returns-clause-pairs : goal.returns-clause-pairs
+returns-clause-pairs c = pairs_never_return
 
 pub returns-clause-alone : goal.returns-clause-alone
 returns-clause-alone c = apart_go_on_alone

@@ -4,7 +4,7 @@ use Rattle.life_code.proofs.PeriodBirths.{birth_at_one_never_returns}
 use Rattle.life_code.proofs.PeriodKinds.{given}
 use Rattle.life_code.proofs.PeriodSteps.{room_at, here_room, never_from_phase, generation_more, none_more, nothing, something, found_at, none_at, none_after, none_of_nothing}
 use Rattle.life_code.proofs.period.kind_by.Goals as goal
-use Rattle.life_code.proofs.period.kind_by.Goals.{then-period-mark+in_ok-here+else-population-eq0-2+in_ok-moves_apart+else-branch+in_ok-kept-2, else-period-mark}
+use Rattle.life_code.proofs.period.kind_by.Goals.{then-period-mark+in_ok-here+else-population-eq0-2+in_ok-is_past_return+else-branch+in_ok-kept-2, else-period-mark}
 
 pub returns-then-population-eq0 : goal.returns-then-population-eq0
 returns-then-population-eq0 g c = given _ _ _ _ (nothing c.args.pattern.now _ c.population.ensures c.if-population-eq0.true)
@@ -13,6 +13,11 @@ pub returns-then-is_live_next : goal.returns-then-is_live_next
 returns-then-is_live_next g c =
     let some = something c.args.pattern.now _ c.population.ensures c.if-population-eq0.false in
     given _ _ _ _ (some, λ q from below dx dy. birth_at_one_never_returns c.args.rule.now c.args.pattern.now q dx dy c.is_live_next.ensures.kept.quiet (sym c.is_live_next.ensures.value ∙ c.if-is_live_next.true) some from)
+
+pub returns-then-grows_for_ever : goal.returns-then-grows_for_ever
+returns-then-grows_for_ever g c =
+    let some = something c.args.pattern.now _ c.population.ensures c.if-population-eq0.false in
+    given _ _ _ _ (some, λ q from below dx dy. c.grows_for_ever.ensures c.if-grows_for_ever.true q from dx dy)
 
 pub step-requires : goal.step-requires
 step-requires g c = room_at c.args.rule.now c.args.pattern.now _ c.requires.room (c.loop-period.period - 1) (omega arith) c.loop-period.invariant.now
@@ -51,8 +56,8 @@ returns-then-population-eq0-2 g c =
     let none = none_more rule cells c.loop-period.period c.loop-period.invariant.none (none_at rule cells _ _ c.loop-period.period some c.in_ok-start.ensures now c.in_default.ensures) in
     given _ _ _ _ (none_of_nothing rule cells _ c.args.limit period some c.loop-period.auto.period (c.in_ok-here.ensures ∙ now) (nothing _ _ c.population-then-period-mark.ensures c.if-population-eq0-2.true) none)
 
-pub moves_apart-requires-clause-room : goal.moves_apart-requires-clause-room
-moves_apart-requires-clause-room g c =
+pub is_past_return-requires-clause-room : goal.is_past_return-requires-clause-room
+is_past_return-requires-clause-room g c =
     let rule = c.args.rule.now in
     let cells = c.args.pattern.now in
     let now : g.P.Plane.cells c.step.new.self ≡ generation_of rule cells c.loop-period.period =
@@ -67,8 +72,8 @@ returns-then-branch g c =
     let some = something cells _ c.population.ensures c.if-population-eq0.false in
     let now : g.P.Plane.cells c.step.new.self ≡ generation_of rule cells c.loop-period.period =
     generation_more rule cells (g.P.Plane.cells c.loop-period.plane) (g.P.Plane.cells c.step.new.self) c.loop-period.period c.loop-period.auto.period c.loop-period.invariant.now c.in_ok-step.ensures.ok in
-    let seen : IsTrue c.in_ok-moves_apart.field-0 = search (c.if-branch.true) in
-    given _ _ _ _ (some, λ q from below dx dy. never_from_phase rule cells _ period (c.in_ok-here.ensures ∙ now) (c.in_ok-moves_apart.ensures seen c.is_live_next.ensures.kept) q from dx dy)
+    let seen : IsTrue c.in_ok-is_past_return.field-0 = search (c.if-branch.true) in
+    given _ _ _ _ (some, λ q from below dx dy. never_from_phase rule cells _ period (c.in_ok-here.ensures ∙ now) (c.in_ok-is_past_return.ensures seen c.is_live_next.ensures.kept) q from dx dy)
 
 pub loop-period-preserved : goal.loop-period-preserved
 loop-period-preserved g c =
@@ -81,15 +86,15 @@ loop-period-preserved g c =
     let none = none_more rule cells c.loop-period.period c.loop-period.invariant.none (none_at rule cells _ _ c.loop-period.period some c.in_ok-start.ensures now c.in_default.ensures) in
     record {
       now = (elim c.if-period-mark.branch [
-        | then-period-mark+in_ok-here+else-population-eq0-2+in_ok-moves_apart+else-branch+in_ok-kept-2 w ↦ ap g.P.Plane.cells w.plane-is ∙ w.trim.ensures ∙ now
+        | then-period-mark+in_ok-here+else-population-eq0-2+in_ok-is_past_return+else-branch+in_ok-kept-2 w ↦ ap g.P.Plane.cells w.plane-is ∙ w.trim.ensures ∙ now
         | else-period-mark w ↦ ap g.P.Plane.cells w.plane-is ∙ now
       ]) ∙ ap (generation_of rule cells) (let e : c.loop-period.period ≡ c.loop-period.period + 1 - 1 = omega arith in e);
       mark = elim c.if-period-mark.branch [
-        | then-period-mark+in_ok-here+else-population-eq0-2+in_ok-moves_apart+else-branch+in_ok-kept-2 w ↦ omega (arith, w.mark-is)
+        | then-period-mark+in_ok-here+else-population-eq0-2+in_ok-is_past_return+else-branch+in_ok-kept-2 w ↦ omega (arith, w.mark-is)
         | else-period-mark w ↦ omega (arith, w.mark-is, c.loop-period.invariant.mark)
       ];
       kept = elim c.if-period-mark.branch [
-        | then-period-mark+in_ok-here+else-population-eq0-2+in_ok-moves_apart+else-branch+in_ok-kept-2 w ↦ ap g.P.Plane.cells w.kept-is ∙ w.in_ok-kept-2.ensures ∙ w.in_ok-here.ensures ∙ now ∙ ap (generation_of rule cells) (sym w.mark-is)
+        | then-period-mark+in_ok-here+else-population-eq0-2+in_ok-is_past_return+else-branch+in_ok-kept-2 w ↦ ap g.P.Plane.cells w.kept-is ∙ w.in_ok-kept-2.ensures ∙ w.in_ok-here.ensures ∙ now ∙ ap (generation_of rule cells) (sym w.mark-is)
         | else-period-mark w ↦ ap g.P.Plane.cells w.kept-is ∙ c.loop-period.invariant.kept ∙ ap (generation_of rule cells) (sym w.mark-is)
       ];
       none = none;

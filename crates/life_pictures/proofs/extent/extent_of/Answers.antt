@@ -1,8 +1,7 @@
 use Rattle.std.proofs.Common.{◌∙◌, List, ap, sym, subst, map, arith}
 use Rattle.std.specs.List.{All}
 use Rattle.life_core.specs.declared.cell.Cell.{Cell}
-use Rattle.life_rle.specs.Writer.{coordinates, width_of, height_of}
-use Rattle.life_rle.specs.WriterState.{IsQuarterCell}
+use Rattle.life_rle.specs.Writer.{coordinates, width_of, height_of, IsQuarterCell}
 use Rattle.life_rle.proofs.RunPairs.{quarter_runs}
 use Rattle.life_pictures.proofs.ExtentLemmas.{width_bounded, height_bounded}
 use Rattle.life_pictures.proofs.extent.extent_of.Goals as goal

@@ -4,8 +4,7 @@ use Rattle.std.proofs.lemmas.List.{take_all}
 use Rattle.life_core.specs.declared.cell.Cell.{Cell}
 use Rattle.life_core.specs.declared.runs.Run.{Run as CellRun}
 use Rattle.life_core.specs.Runs.{runs_cells, AreLongest}
-use Rattle.life_rle.specs.Writer.{coordinates}
-use Rattle.life_rle.specs.WriterState.{IsQuarterCell, IsQuarterRun}
+use Rattle.life_rle.specs.Writer.{coordinates, IsQuarterCell, IsQuarterRun}
 use Rattle.life_rle.proofs.RunPairs.{quarter_runs}
 use Rattle.life_pictures.specs.Runs.{run_path, runs_of}
 use Rattle.life_pictures.specs.RunsState.{drawn}

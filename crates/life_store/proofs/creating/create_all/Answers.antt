@@ -1,7 +1,7 @@
 use Rattle.std.proofs.Common.{arith}
 use Rattle.sqlite.specs.State.{HasCleanDisk}
 use Rattle.sqlite.specs.Held.{state}
-use Rattle.life_store.proofs.CreatingLemmas.{creates_layout, creates_deposits, creates_censuses, creates_census_rows, creates_version}
+use Rattle.life_store.proofs.CreatingLemmas.{creates_layout, creates_deposits, creates_censuses, creates_census_rows, creates_version, creates_soundly}
 use Rattle.life_store.proofs.creating.create_all.Goals as goal
 
 pub returns-clause-has_tables : goal.returns-clause-has_tables
@@ -28,4 +28,4 @@ returns-clause-has_tables g c clean begun has_tables =
     let made_4 = creates_census_rows s3 s4 _ made_3 ran_4.0 in
     let made_5 = c.in_ok-create_census_flags.ensures.has_tables clean_5 ran_4.1.mode made_4 in
     let ran_6 = c.in_ok-execute-5.ensures.runs clean made_5.0 in
-    creates_version s5 s6 _ made_5.1 ran_6.0
+    (creates_version s5 s6 _ made_5.1 ran_6.0, creates_soundly s5 s6 _ made_5.1 ran_6.0)

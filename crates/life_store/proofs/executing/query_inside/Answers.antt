@@ -1,6 +1,7 @@
 use Rattle.std.proofs.Common.{rules}
 use Rattle.sqlite.specs.Held.{state}
 use Rattle.life_store.proofs.MigrationLemmas.{shown_keeps, query_keeps}
+use Rattle.life_store.proofs.CrashLemmas.{crash_by}
 use Rattle.life_store.proofs.executing.query_inside.Goals as goal
 
 pub returns-in_err-query_all-clause-stays : goal.returns-in_err-query_all-clause-stays
@@ -12,6 +13,7 @@ returns-in_err-query_all-clause-stays g c =
       inside = search rules;
       kept = λ clean. query_keeps c.args.sql.now _ old new c.query_all.result (c.query_all.ensures.ok clean) (c.query_all.ensures.err clean);
       clean = c.query_all.ensures.survives.clean;
+      crash = crash_by g.S.Store c.args.tx.now.conn.now c.query_all.new.self.conn.now _ c.query_all.ensures.survives;
     }
 
 pub returns-clause-stays : goal.returns-clause-stays
@@ -23,4 +25,5 @@ returns-clause-stays g c =
       inside = λ clean inside. (shown_keeps c.args.sql.now _ old new _ inside (c.in_ok-query_all.ensures.ok clean)).0;
       kept = λ clean. query_keeps c.args.sql.now _ old new c.query_all.result (c.query_all.ensures.ok clean) (c.query_all.ensures.err clean);
       clean = c.query_all.ensures.survives.clean;
+      crash = crash_by g.S.Store c.args.tx.now.conn.now c.query_all.new.self.conn.now _ c.query_all.ensures.survives;
     }

@@ -1,6 +1,9 @@
-use Rattle.std.proofs.Common.{◌∙◌, inl, inr, refl, sym}
+use Rattle.std.proofs.Common.{◌≡◌, ◌∙◌, true, false, inl, inr, refl, sym, subst}
 use Rattle.sqlite.specs.Held.{state}
 use Rattle.life_store.specs.Layout.{first_schema, archive_schema}
+use Rattle.life_store.specs.OpeningState.{has_some}
+use Rattle.life_store.proofs.CrashLemmas.{crash_none}
+use Rattle.life_store.proofs.CommitLemmas.{crash_as, made_of_none, made_of_some}
 use Rattle.life_store.proofs.KeepLemmas.{healthy_from}
 use Rattle.life_store.proofs.OpenLemmas.{stands_not, none_not, new_holds, first_own, second_own}
 use Rattle.life_store.proofs.opening.prepare.Goals as goal
@@ -49,3 +52,27 @@ returns-clause-fits g c = c.take_up.ensures.fits
 
 pub returns-clause-clean : goal.returns-clause-clean
 returns-clause-clean g c = c.take_up.ensures.clean
+
+pub returns-then-not-is_autocommit-clause-made : goal.returns-then-not-is_autocommit-clause-made
+returns-then-not-is_autocommit-clause-made g c = crash_none c.args.conn.now.store
+
+pub returns-in-Ok-clause-made : goal.returns-in-Ok-clause-made
+returns-in-Ok-clause-made g c =
+    crash_as c.args.conn.now.store c.create_tables.new.conn.store
+    (λ clean db made. made_of_none (state g.S.Store c.args.conn.now) db (subst (λ s. has_some s ≡ false) c.schema.ensures.value (sym c.has_some.ensures ∙ c.if-not-has_some.true)) made) c.create_tables.ensures.crash
+
+pub returns-in-Err-clause-made : goal.returns-in-Err-clause-made
+returns-in-Err-clause-made g c =
+    crash_as c.args.conn.now.store c.create_tables.new.conn.store
+    (λ clean db made. made_of_none (state g.S.Store c.args.conn.now) db (subst (λ s. has_some s ≡ false) c.schema.ensures.value (sym c.has_some.ensures ∙ c.if-not-has_some.true)) made) c.create_tables.ensures.crash
+
+pub returns-clause-made : goal.returns-clause-made
+returns-clause-made g c =
+    crash_as c.args.conn.now.store c.take_up.new.conn.store
+    (λ clean db made. made_of_some (state g.S.Store c.args.conn.now) db (subst (λ s. has_some s ≡ true) c.schema.ensures.value (sym c.has_some.ensures ∙ c.if-not-has_some.false)) made) c.take_up.ensures.made
+
+pub returns-clause-untouched : goal.returns-clause-untouched
+returns-clause-untouched g c = c.take_up.ensures.untouched
+
+pub returns-clause-still : goal.returns-clause-still
+returns-clause-still g c = c.take_up.ensures.still

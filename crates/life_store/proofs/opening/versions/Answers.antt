@@ -3,6 +3,8 @@ use Rattle.std.specs.Prelude.{◌↔◌}
 use Rattle.sqlite.specs.Held.{state}
 use Rattle.life_store.specs.OpeningState.{column_of}
 use Rattle.life_store.proofs.Statements.{version_text}
+use Rattle.life_store.proofs.Texts.{version_asks}
+use Rattle.life_store.proofs.CrashLemmas.{asks_nothing}
 use Rattle.life_store.proofs.KeepLemmas.{seen_same, told, open_when_shown}
 use Rattle.life_store.proofs.OpenLemmas.{version_plain, finds_own}
 use Rattle.life_store.proofs.opening.versions.Goals as goal
@@ -18,4 +20,5 @@ returns g c =
       up = λ clean. open_when_shown version_text [] old new c.query.result (c.query.ensures.shown clean);
       clean = c.query.ensures.clean;
       mode = c.query.ensures.mode;
+      crash = asks_nothing g.S.Store c.args.conn.now c.query.new.conn version_text [] version_asks c.query.ensures.withstands.crash;
     }

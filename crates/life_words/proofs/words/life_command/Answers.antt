@@ -10,4 +10,5 @@ returns c =
     let fourth = c.with_command-command-4.ensures _ _ third c.census_command.ensures.0 in
     let fifth = c.with_command-command-5.ensures _ _ fourth c.deposit_command.ensures.0 in
     let sixth = c.with_command-command-6.ensures _ _ fifth c.serve_command.ensures.0 in
-    c.with_command.ensures _ _ sixth (c.explain_command.ensures.app c.name_arg.ensures.rule)
+    let seventh = c.with_command-command-7.ensures _ _ sixth c.check_command.ensures.0 in
+    c.with_command.ensures _ _ seventh (c.explain_command.ensures.app c.name_arg.ensures.rule)

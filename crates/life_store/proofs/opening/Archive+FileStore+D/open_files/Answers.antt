@@ -2,6 +2,7 @@ use Rattle.std.proofs.Common.{◌≡◌, ◌∙◌, true, false, refl, sym}
 use Rattle.sqlite_wal.specs.Reads.{AreClean}
 use Rattle.sqlite.specs.Files.{file_state, image_of}
 use Rattle.life_store.specs.Opening.{is_capacity}
+use Rattle.life_store.proofs.OpenedLemmas.{left_alone, left_unopened, left_made_of}
 use Rattle.life_store.proofs.SchemaLemmas.{opens_held, opens_migrated, opens_fresh, opens_known, opens_ours, opens_clean, opens_versions, opens_none, healthy_then, errs_not, errs_never, capacity_fits, bad_not_ours, unavailable_not_bad, unavailable_not_ours}
 use Rattle.life_store.proofs.opening.Archive+FileStore+D.open_files.Goals as goal
 
@@ -86,3 +87,12 @@ returns-in-Ok-clause-none g c =
 pub returns-in-Ok-clause-clean : goal.returns-in-Ok-clause-clean
 returns-in-Ok-clause-clean g c =
     opens_clean (file_state c.in-Ok.conn) (image_of g.D.Disk c.args.files) c.in-Ok.ensures.opened (λ clean. (c.in-Ok.ensures.found clean).holds) (λ files. AreClean g.D.Disk files.log files.db) (AreClean g.D.Disk c.args.files.log c.args.files.db) c.archive_over.result (λ clean. (c.in-Ok.ensures.found clean).honest) c.archive_over.ensures.ours
+
+pub returns-then-not-is_capacity-clause-unharmed : goal.returns-then-not-is_capacity-clause-unharmed
+returns-then-not-is_capacity-clause-unharmed g c = left_alone g.D.Disk c.args.files
+
+pub returns-in-Err-clause-unharmed : goal.returns-in-Err-clause-unharmed
+returns-in-Err-clause-unharmed g c = left_unopened c.args.files c.into_files.result c.in-Err.left c.into_files.ensures c.in-Err.ensures.unharmed
+
+pub returns-in-Ok-clause-unharmed : goal.returns-in-Ok-clause-unharmed
+returns-in-Ok-clause-unharmed g c = left_made_of c.in-Ok.conn c.args.files c.archive_over.result g.met.D.Disk.seen_may_stay c.in-Ok.ensures.opened c.in-Ok.ensures.found c.archive_over.ensures.made

@@ -1,6 +1,6 @@
 use Rattle.sqlite_wal.specs.Files.{image_at}
 use Rattle.sqlite.specs.Files.{file_state}
-use Rattle.life_store.proofs.SchemaLemmas.{finds_held, finds_first, finds_versions, finds_none}
+use Rattle.life_store.proofs.SchemaLemmas.{finds_held, finds_first, finds_versions, finds_none, refused_as}
 use Rattle.life_store.proofs.opening.Archive+FileStore+FileFrom+T.open_path.Goals as goal
 
 pub returns-in-Ok-archive_over-clause-found : goal.returns-in-Ok-archive_over-clause-found
@@ -23,3 +23,8 @@ pub returns-in-Ok-archive_over-clause-known : goal.returns-in-Ok-archive_over-cl
 returns-in-Ok-archive_over-clause-known g c schema own versions known healthy files =
     let clean = c.in-Ok-archive_over.ensures.clean healthy in
     c.in-Ok-archive_over.ensures.known schema own versions known healthy (finds_versions (file_state c.in-Ok.conn) (image_at g.T.Start) schema own versions known (c.in-Ok.ensures.opened clean) (c.in-Ok.ensures.found clean).holds files)
+
+pub returns-in-Err-clause-ours : goal.returns-in-Err-clause-ours
+returns-in-Err-clause-ours g c is clean =
+    refused_as (file_state c.in-Ok.conn) (image_at g.T.Start) c.in-Ok.ensures.opened (λ now. (c.in-Ok.ensures.found now).holds) (λ now. (c.in-Ok.ensures.found now).reads)
+    c.in-Err.fault is c.in-Err.ensures.ours c.in-Err.ensures.none clean

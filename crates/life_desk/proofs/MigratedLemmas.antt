@@ -1,4 +1,4 @@
--- An archive that was migrated as it was opened: its flags are those that the archive computes anew.
+-- An archive that was migrated when it was opened: its flags are those that the archive computes.
 use Rattle.std.proofs.Common.{◌≡◌, ◌↔◌, Bool, true, false, List, [], ◌∷◌, Option, Some, IsTrue, map, refl, sym, ap, ap₂, subst, ◌∙◌}
 use Rattle.std.specs.List.{AllByRecursion}
 use Rattle.life_core.specs.Generations.{generation_of}
@@ -7,11 +7,11 @@ use Rattle.life_census.specs.Steady.{is_steady}
 use Rattle.life_census.specs.Laws.{SteadyIsDecided}
 use Rattle.life_store.specs.declared.kept.Deposit.{Deposit}
 use Rattle.life_store.specs.declared.kept.Census.{Census}
-use Rattle.life_store.specs.Migration.{Migrated, IsFlagged, unflagged}
+use Rattle.life_store.specs.Migration.{IsFlagged, unflagged}
 use Rattle.life_store.specs.Kept.{Kept, Tallied}
-use Rattle.life_store.specs.Tables.{Tables, Holds}
-use Rattle.life_desk.specs.Archive.{Archive, tally_at, steady_at, steady_for}
-use Rattle.life_desk.specs.Represents.{tallied, kept_of}
+use Rattle.life_store.specs.Tables.{Holds}
+use Rattle.life_desk.specs.Archive.{tally_at, steady_at, steady_for}
+use Rattle.life_desk.specs.Represents.{tallied, MigratedIsTheSame}
 
 same_flag : {P : Type 0} (a b : Bool) → IsTrue a ↔ P → IsTrue b ↔ P → a ≡ b
 same_flag true true one two = refl
@@ -44,7 +44,7 @@ same_tallied decided ds (c ∷ cs) (t ∷ ts) same flagged =
     ap₂ (λ (x : Tallied) (xs : List Tallied). x ∷ xs) (one_is t c (tally_at ds c) (steady_at ds c) census tally (flag_is decided ds c t census flagged.0)) (same_tallied decided ds cs ts rest flagged.1)
 
 -- so what was migrated is the archive
-pub migrated_is : SteadyIsDecided → (t : Tables) (A : Archive) → Migrated t (kept_of A) → Holds t (kept_of A)
-migrated_is decided t A it =
+pub migrated_is : SteadyIsDecided → MigratedIsTheSame
+migrated_is decided t capacity A fits each it =
     let same : it.censuses ≡ map (tallied A.deposits) A.censuses = same_tallied decided A.deposits A.censuses it.censuses it.same it.flagged in
-    subst (λ (ts : List Tallied). let k : Kept = record { deposits = A.deposits; censuses = ts } in Holds t k) same it.holds
+    record { capacity = fits; each = each; holds = subst (λ (ts : List Tallied). let k : Kept = record { deposits = A.deposits; censuses = ts } in Holds t k) same it.holds }

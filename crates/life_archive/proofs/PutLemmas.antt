@@ -1,0 +1,32 @@
+-- What is put and answered for the result of a check.
+use Rattle.std.proofs.Common.{◌≡◌, ℕ, Bool, List, Option, Result, Ok, Err, refl, sym, subst, inl, inr}
+use Rattle.life_jobs.specs.declared.stop.Stop.{Stop}
+use Rattle.life_jobs.specs.declared.stop.Stop.TheVariants.{OutOfLimit, BadPattern, BadRule, BadCode, Unreadable, Unavailable, Unwritable}
+use Rattle.life_jobs.specs.Streams.{PutsText, PutsOnce}
+use Rattle.life_check.specs.declared.judging.Verdict.{Verdict}
+use Rattle.life_check.specs.declared.judging.Verdict.TheVariants.{Sound, NotSound}
+use Rattle.life_archive.specs.declared.stop.ArchiveStop.{ArchiveStop}
+use Rattle.life_archive.specs.declared.stop.ArchiveStop.TheVariants as stops
+use Rattle.life_archive.specs.Checking.{verdict_line, answer_of, PutsVerdict, by_output}
+
+-- the line was not put
+pub stopped_verdict : (v : Verdict) (before after : Option (List ℕ)) (stop : Stop) → PutsText before after (verdict_line v) (Err stop) → PutsVerdict v before after (Err (stops.Job stop))
+stopped_verdict v before after Unwritable put = inr (inl (refl, put))
+stopped_verdict v before after Unavailable put = inr (inr refl)
+stopped_verdict v before after OutOfLimit put = absurd put
+stopped_verdict v before after (BadPattern fault) put = absurd put
+stopped_verdict v before after BadRule put = absurd put
+stopped_verdict v before after (BadCode fault) put = absurd put
+stopped_verdict v before after Unreadable put = absurd put
+
+-- it was
+pub put_answer : (v : Verdict) (before after : Option (List ℕ)) (answer : Result (Unit {0}) ArchiveStop) → answer ≡ answer_of v → PutsText before after (verdict_line v) (Ok tt) → PutsVerdict v before after answer
+put_answer v before after answer is put = inl (is, put)
+
+by_answer : (v : Verdict) → by_output (answer_of v) ≡ Ok tt
+by_answer (Sound d c) = refl
+by_answer (NotSound w) = refl
+
+pub put_once : {O : Type 0} (old new : O) (a b : ℕ) (last : Bool) (v : Verdict) (answer : Result (Unit {0}) ArchiveStop) → answer ≡ answer_of v → PutsOnce old new a b last (Ok tt) → PutsOnce old new a b last (by_output answer)
+put_once old new a b last v answer is once =
+    subst (λ (r : Result (Unit {0}) ArchiveStop). PutsOnce old new a b last (by_output r)) (sym is) (subst (λ (r : Result (Unit {0}) Stop). PutsOnce old new a b last r) (sym (by_answer v)) once)

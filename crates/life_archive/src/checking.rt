@@ -1,0 +1,112 @@
+//! Printing what a check of the file of a path finds.
+ghost use Rattle.std.specs.Prelude.{◌≡◌, ◌∷◌, ◌++◌, [], Err, IfOk, IfErr};
+ghost use Rattle.life_core.specs.Ascii.{line_feed};
+ghost use Rattle.sqlite_wal.specs.Files.{image_at};
+ghost use Rattle.life_jobs.specs.Streams.{PutsText, PutsOnce};
+ghost use Rattle.life_archive.specs.Checking.{wrong_words, verdict_words, verdict_line, answer_of, PutsChecked, by_output, ChecksAt, CheckedFilesBegin};
+
+use crate::stop::ArchiveStop;
+use life_check::{Verdict, Wrong, check_path};
+use life_jobs::{Stop, put_text};
+use life_rle::Outlet;
+use life_store::Unavailable;
+use sqlite::{FileFrom, Start};
+use sqlite_disk::{Disk, Files};
+use std::alloc::{AllocError, Global};
+
+/// The first error of a check, in words.
+fn wrong_words(alloc: Global, wrong: Wrong) -> Result<Vec<u8>, AllocError>
+    ensures { IfOk result (λ v. v.items ≡ wrong_words wrong) }
+{
+    let words = match wrong {
+        Wrong::Tables => "the tables are not those of an archive".to_string(alloc)?,
+        Wrong::Layout => "layout: its row is wrong or missing".to_string(alloc)?,
+        Wrong::Deposit(id) => format!(in alloc; "deposit {id}: its row is wrong or missing")?,
+        Wrong::Census(id) => {
+            format!(in alloc; "census {id}: its row, its counts or its flag are wrong or missing")?
+        }
+    };
+    Ok(words.into_bytes())
+}
+
+/// The result of a check, in words.
+fn verdict_words(alloc: Global, verdict: Verdict) -> Result<Vec<u8>, AllocError>
+    ensures { IfOk result (λ v. v.items ≡ verdict_words verdict) }
+{
+    match verdict {
+        Verdict::Sound(deposits, censuses) => {
+            let words = format!(in alloc; "sound: {deposits} deposits, {censuses} censuses")?;
+            Ok(words.into_bytes())
+        }
+        Verdict::NotSound(wrong) => wrong_words(alloc, wrong),
+    }
+}
+
+/// The line of the result.
+fn verdict_line(alloc: Global, verdict: Verdict) -> Result<Vec<u8>, AllocError>
+    ensures { IfOk result (λ v. v.items ≡ verdict_line verdict) }
+{
+    let mut line = verdict_words(alloc, verdict)?;
+    line.extend_from_slice(b"\n")?;
+    Ok(line)
+}
+
+/// The answer once the line of the result was put.
+fn answer_of(verdict: Verdict) -> Result<(), ArchiveStop>
+    ensures { result ≡ answer_of verdict }
+{
+    match verdict {
+        Verdict::Sound(_, _) => Ok(()),
+        Verdict::NotSound(_) => Err(ArchiveStop::NotSound),
+    }
+}
+
+/// Writes the line of the result.
+fn put_verdict<O: Outlet>(alloc: Global, verdict: Verdict, output: &mut O) -> Result<(), Stop>
+    ensures puts { PutsText (O.already output.old) (O.already output.new) (verdict_line verdict) result }
+    ensures once { PutsOnce output.old output.new (O.failures output.old) (O.failures output.new) (O.last_failed output.new) result }
+{
+    match verdict_line(alloc, verdict) {
+        Ok(line) => put_text(output, line.as_slice()),
+        Err(_) => Err(Stop::Unavailable),
+    }
+}
+
+/// Writes the line of a check, if it gave a result, and returns what the job answers.
+fn put_checked<O: Outlet>(
+    alloc: Global,
+    checked: Result<Verdict, Unavailable>,
+    output: &mut O,
+) -> Result<(), ArchiveStop>
+    ensures puts { PutsChecked checked (O.already output.old) (O.already output.new) result }
+    ensures once { PutsOnce output.old output.new (O.failures output.old) (O.failures output.new) (O.last_failed output.new) (by_output result) }
+{
+    let Ok(verdict) = checked else {
+        return Err(ArchiveStop::Job(Stop::Unavailable));
+    };
+    match put_verdict(alloc, verdict, output) {
+        Ok(()) => answer_of(verdict),
+        Err(stop) => Err(ArchiveStop::Job(stop)),
+    }
+}
+
+/// Checks the file of the path as [`check_path`] does, and writes the result as one line.
+pub fn run_check<T: Start, O: Outlet>(
+    rt: &HostRuntime,
+    path: &str,
+    capacity: u64,
+    start: T,
+    output: &mut O,
+) -> (Result<(), ArchiveStop>, Option<Files<FileFrom<T>>>)
+    ensures checks { ChecksAt ⟦<FileFrom<T> as Disk>⟧ (image_at T.Start) capacity (O.already output.old) (O.already output.new) result.0 result.1 }
+    ensures once { PutsOnce output.old output.new (O.failures output.old) (O.failures output.new) (O.last_failed output.new) (by_output result.0) }
+{
+    let (checked, left) = check_path(rt, path, capacity, start);
+    (put_checked(rt.alloc(), checked, output), left)
+}
+
+/// What `life check` calls sound is an archive, whoever wrote it, and the next `life serve` or `life deposit` begins with it. A law: calling
+/// it does nothing.
+pub fn law_of_checked_files<D: Disk, E: Disk>()
+    ensures { CheckedFilesBegin D.Disk E.Disk }
+{}

@@ -1,0 +1,13 @@
+use Rattle.std.proofs.Common.{inr, refl}
+use Rattle.life_check.proofs.FileLemmas.{is_path_check}
+use Rattle.life_check.proofs.files.check_path.Goals as goal
+
+pub returns-in-Ok : goal.returns-in-Ok
+returns-in-Ok g c =
+    let it = c.in-Ok.ensures in
+    let end = c.check_opened-checked in
+    inr (
+      end.result.1,
+      refl,
+      is_path_check c.in-Ok.archive end.result.0 end.result.1 end.ensures _ c.args.capacity (record { capacity = it.capacity; healthy = it.healthy; found = it.found }),
+    )

@@ -1,0 +1,57 @@
+use Rattle.std.proofs.Common.{◌≡◌, IsTrue, sym, ap, subst, ◌∙◌, arith}
+use Rattle.sqlite_wal.specs.Files.{outcomes}
+use Rattle.sqlite_wal.specs.Reads.{AreClean}
+use Rattle.sqlite_wal.specs.Recovery.{Image}
+use Rattle.sqlite_wal.proofs.StateLemmas.{open_from}
+use Rattle.sqlite_pool.proofs.StateLemmas.{open_usable, clean_is, may_leave_is}
+use Rattle.sqlite_trees.specs.View.{View, IsClean}
+use Rattle.sqlite_trees.proofs.Doubt.{clean_of as sure, no_doubt}
+use Rattle.sqlite_rules.proofs.ViewLemmas.{still_quiet}
+use Rattle.sqlite_store.specs.FileStore.{state, view}
+use Rattle.sqlite.specs.Closing.{HoldsAlone}
+use Rattle.sqlite.proofs.Theorems.{copied}
+use Rattle.life_store.proofs.LeftLemmas.{let_go}
+use Rattle.life_store.proofs.opening.close.Goals as goal
+
+pub returns-in-Ok-clause-usable : goal.returns-in-Ok-clause-usable
+returns-in-Ok-clause-usable g c =
+    subst (λ p. IsTrue (g.D.Disk.is_usable p.0) × IsTrue (g.D.Disk.is_usable p.1)) (sym c.close.ensures) (open_usable c.checkpoint.new.self.pool c.in-Ok.ensures.still)
+
+-- as the kit proves it of its own `close_files`
+pub returns-in-Ok-clause-copied : goal.returns-in-Ok-clause-copied
+returns-in-Ok-clause-copied g c honest =
+    let back = c.into_store-store.result in
+    let before = c.rollback.new.self in
+    let last = c.checkpoint.new.self in
+    let q = c.checkpoint.ensures.quiet in
+    let stays = g.met.D.Disk.seen_may_stay in
+    let sure_now = subst (λ p. AreClean g.D.Disk p.0 p.1) c.close.ensures honest in
+    let none : IsClean (view last) = no_doubt _ (clean_is last.pool ∙ sure_now) in
+    let clean : IsClean (view before) = omega (arith, q.clean, none) in
+    let early : IsClean (view back) = omega (arith, c.rollback.ensures.quiet.clean, clean) in
+    let h = open_from (state before) c.in-Ok.ensures.ready (sure (view before).is_clean clean) in
+    let second = c.rollback.ensures.undone.kept clean in
+    let first = c.into_store-store.ensures.undone.kept early in
+    let on = c.in-Ok.ensures.open none in
+    let same = c.checkpoint.ensures.same on in
+    let numbered : IsTrue (view last).is_numbered = ap (λ (v : View). v.is_numbered) same ∙ second.numbered ∙ c.into_store-store.ensures.numbered early in
+    let committed : (view last).committed ≡ (view c.args.conn.store).committed = ap (λ (v : View). v.committed) same ∙ second.committed h ∙ first.committed (second.was_open h) in
+    let each = λ (image : Image) (may : outcomes g.D.Disk c.close.result.log c.close.result.db image).
+    subst (HoldsAlone image) committed (copied last stays on numbered
+    (λ db found. c.into_store-store.ensures.sound early db (c.rollback.ensures.quiet.outcomes db (q.outcomes db found)))
+    (c.in-Ok.ensures.moved (c.rollback.ensures.logged (second.was_open h))) image
+    (may_leave_is last.pool image sure_now (subst (λ p. outcomes g.D.Disk p.0 p.1 image) c.close.ensures may))) in
+    record {
+      was_clean = omega (arith, c.into_store-store.ensures.quiet.clean, early);
+      was_open = first.was_open (second.was_open h);
+      seen = each _ (stays _, stays _);
+      left = each;
+    }
+
+pub returns-in-Err-clause-refused : goal.returns-in-Err-clause-refused
+returns-in-Err-clause-refused g c =
+    let q = c.checkpoint.ensures.quiet in
+    let_go c.args.conn.store c.checkpoint.new.self c.close-in-Err.result c.close-in-Err.ensures
+    (still_quiet (still_quiet c.into_store-store.ensures.quiet c.rollback.ensures.quiet) q)
+    (λ none db may. c.into_store-store.ensures.sound (omega (arith, q.clean, c.rollback.ensures.quiet.clean, none)) db (c.rollback.ensures.quiet.outcomes db (q.outcomes db may)))
+    (λ none up. ap (λ (v : View). v.is_numbered) (c.checkpoint.ensures.same up) ∙ c.rollback.ensures.undone.numbered ∙ c.into_store-store.ensures.numbered (omega (arith, q.clean, c.rollback.ensures.quiet.clean, none)))

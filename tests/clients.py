@@ -1,54 +1,99 @@
-"""What the scripts over the archive's program share: counting what is as wanted, a server that a script starts, and messages to it.
+"""What the tests of the archive's program share: counting results, a server that a test starts, and messages to it.
 
 A server is one that a script started, and is ended by its process number alone.
 """
+import collections
 import os
 import shutil
 import socket
 import subprocess
-import sys
 import tempfile
 import threading
-import traceback
+from collections.abc import Iterable
+from typing import IO, Protocol
 
 HERE = os.path.dirname(os.path.abspath(__file__))
 GLIDER = b"x = 3, y = 3\nbo$2bo$3o!\n"
 GLIDER_TEXT = b"x = 3, y = 3, rule = B3/S23\nbo$2bo$3o!\n"
 BLOCKS = b"x = 6, y = 2\n2o2b2o$2o2b2o!\n"
 BLOCKS_TEXT = b"x = 6, y = 2, rule = B3/S23\n2o2b2o$2o2b2o!\n"
-UNAVAILABLE = (b"HTTP/1.1 503 Service Unavailable\r\ncontent-type: application/json\r\ncontent-length: 36\r\n\r\n"
-               b'{"error":"unavailable","refusal":11}')
+UNAVAILABLE = (
+    b"HTTP/1.1 503 Service Unavailable\r\ncontent-type: application/json\r\ncontent-length: 36\r\n\r\n"
+    b'{"error":"unavailable","refusal":11}'
+)
+# How many checks passed and failed, and what to say of those that failed. conftest.py fails a test by it.
 PASSED = [0, 0]
+FAILED: list[str] = []
+# Figures of a test that the run prints at its end, and what a test left out since it is missing here.
+NOTES: list[str] = []
+LEFT_OUT: list[str] = []
 ALONE = threading.Lock()
 
 
-def check(name, good):
+def note(text: str) -> None:
+    """Keeps a line that the run prints at its end, for example a time that was measured."""
+    NOTES.append(text)
+
+
+def left_out(why: str) -> None:
+    """Counts as skipped what a part of a test would have checked."""
+    LEFT_OUT.append(why)
+
+
+def count(good: bool, message: str) -> None:
+    """Counts a check, and keeps the message if it failed. The test continues."""
     with ALONE:
         PASSED[0 if good else 1] += 1
-    if not good:
-        print(f"{os.path.basename(sys.argv[0])} {name}: not as wanted")
+        if not good:
+            FAILED.append(message)
 
 
-def option(name, default):
-    return int(sys.argv[sys.argv.index(name) + 1]) if name in sys.argv else default
+def check(name: str, good: object) -> None:
+    """Counts a check."""
+    count(bool(good), f"{name}: failed")
 
 
-PROGRAM = next((word for word in sys.argv[1:2] if not word.startswith("-")),
-               os.path.join(HERE, "..", "crates", "life_cli", "out", "life_cli"))
+def same(name: str, came: object, wanted: object) -> None:
+    """Counts a check that two values are equal. If they are not, it shows both."""
+    count(came == wanted, f"{name}\n  came:   {came!r:.400}\n  wanted: {wanted!r:.400}")
 
 
-# Processes of a script beside one another start their servers at ports of their own, below those that the system gives to clients.
+# The program `life`. conftest.py sets another one if it is given.
+PROGRAM = os.path.join(HERE, "..", "crates", "life_cli", "out", "life_cli")
+
+
+# Parallel processes of a test start their servers at separate ports, below those that the system gives to clients.
 FIRST_PORT = 12000
 PORTS = {"first": FIRST_PORT, "many": 4000, "last": 0}
+# A name of the system for each of the last ports, by which no other test here takes them, of another gate neither. It goes with the process.
+TAKEN: collections.deque[socket.socket] = collections.deque()
+MOST_TAKEN = 200
 
 
-def free_port():
+def take(port: int) -> bool:
+    """Whether no other test has this port. It is this one's from now on, until some hundred others are."""
+    name = socket.socket(socket.AF_UNIX)
+    try:
+        name.bind(f"\0life-test-port-{port}")
+    except OSError:
+        name.close()
+        return False
+    with ALONE:
+        TAKEN.append(name)
+        if len(TAKEN) > min(MOST_TAKEN, PORTS["many"] // 2):
+            TAKEN.popleft().close()
+    return True
+
+
+def free_port() -> int:
     while True:
         with ALONE:
             PORTS["last"] = (PORTS["last"] + 1) % PORTS["many"]
             port = PORTS["first"] + PORTS["last"]
+        if not take(port):
+            continue
         with socket.socket() as probe:
-            # A process that is started meanwhile has the probe too, until its program is there: it is not to keep the server off.
+            # A process that starts meanwhile inherits the probe until its program runs; it must not block the server.
             probe.setsockopt(socket.SOL_SOCKET, socket.SO_REUSEADDR, 1)
             try:
                 probe.bind(("127.0.0.1", port))
@@ -57,24 +102,39 @@ def free_port():
                 pass
 
 
-class Server:
-    """A server on an archive's file for so many connections, at a port of its own where none is given."""
+class Archive(Protocol):
+    """An archive that a test keeps itself, as reference.py has one."""
 
-    def __init__(self, database, connections, environment=None, stderr=subprocess.PIPE, port=None):
+    def replies(self, message: bytes) -> bytes:
+        ...
+
+
+class Server:
+    """A server on an archive's file for this many connections, at a free port unless one is given."""
+
+    def __init__(
+        self,
+        database: str,
+        connections: int,
+        environment: dict[str, str] | None = None,
+        stderr: int | IO[bytes] = subprocess.PIPE,
+        port: int | None = None,
+    ) -> None:
         self.port = port or free_port()
         words = [PROGRAM, "serve", "--db", database, "--port", str(self.port), "--connections", str(connections)]
         self.process = subprocess.Popen(words, stdout=subprocess.PIPE, stderr=stderr, env=environment)
+        assert self.process.stdout is not None
         self.line = self.process.stdout.readline()
 
-    def __enter__(self):
+    def __enter__(self) -> "Server":
         return self
 
-    def __exit__(self, *_):
+    def __exit__(self, *_: object) -> None:
         if self.process.poll() is None:
             self.process.kill()
         self.process.communicate()
 
-    def ended(self):
+    def ended(self) -> int | None:
         """The status after the last connection."""
         try:
             return self.process.wait(30)
@@ -82,8 +142,8 @@ class Server:
             return None
 
 
-def exchanged(port, pieces):
-    """What comes back for a stream that is sent in these pieces, after which nothing more is sent."""
+def exchanged(port: int, pieces: Iterable[bytes]) -> bytes:
+    """The reply to a stream that is sent in these pieces and then ended."""
     with socket.create_connection(("127.0.0.1", port), timeout=60) as peer:
         peer.setsockopt(socket.IPPROTO_TCP, socket.TCP_NODELAY, 1)
         try:
@@ -103,63 +163,50 @@ def exchanged(port, pieces):
             back += more
 
 
-def message(method, target, body=b"", *lines, version="1.1"):
+def message(method: str, target: str, body: bytes = b"", *lines: str, version: str = "1.1") -> bytes:
     head = [f"{method} {target} HTTP/{version}", *lines]
     if body:
         head.append(f"content-length: {len(body)}")
     return "".join(line + "\r\n" for line in head).encode() + b"\r\n" + body
 
 
-def deposit(member, token, body, *lines, **words):
-    return message("POST", "/deposits", body, f"x-member: {member}", f"x-token: {token}", *lines, **words)
+def deposit(member: str, token: str, body: bytes, *lines: str, version: str = "1.1") -> bytes:
+    return message("POST", "/deposits", body, f"x-member: {member}", f"x-token: {token}", *lines, version=version)
 
 
-def run(*words, data=b""):
+def run(*words: str, data: bytes = b"") -> tuple[int, bytes, bytes]:
     done = subprocess.run([PROGRAM, *words], input=data, capture_output=True, timeout=60)
     return done.returncode, done.stdout, done.stderr
 
 
-def is_answered(archive, messages, back):
-    """Whether each message was answered as by this archive of the reference, or is unavailable. The archive is then the one after those that were
-    answered."""
+def is_answered(archive: Archive, messages: Iterable[bytes], back: bytes) -> bool:
+    """Whether each reply is that of this reference archive, or unavailable. The archive then includes the messages that were answered."""
     for one in messages:
         if back.startswith(UNAVAILABLE):
-            back = back[len(UNAVAILABLE):]
+            back = back[len(UNAVAILABLE) :]
             continue
         wanted = archive.replies(one)
         if not back.startswith(wanted):
             return False
-        back = back[len(wanted):]
+        back = back[len(wanted) :]
     return back == b""
 
 
-def new_folder():
-    """A folder in memory, if the system has room for one: a program waits for a disk at each commit, and is killed here, not the system."""
+def new_folder() -> str:
+    """A folder in memory, if the system has room for one: programs wait for a disk at each commit, and tests kill only the program, not the system."""
     memory = "/dev/shm"
-    fits = os.access(memory, os.W_OK) and not os.statvfs(memory).f_flag & os.ST_NOEXEC and shutil.disk_usage(memory).free > 1 << 28
+    fits = (
+        os.access(memory, os.W_OK)
+        and not os.statvfs(memory).f_flag & os.ST_NOEXEC
+        and shutil.disk_usage(memory).free > 1 << 28
+    )
     return tempfile.mkdtemp(prefix="life-archive-", dir=memory if fits else None)
 
 
-def fresh(folder, name):
-    """The path of a database of this name, of which nothing is left."""
+def fresh(folder: str, name: str) -> str:
+    """The path of a database with this name, after removing its files."""
     database = os.path.join(folder, name)
     for ending in ("", "-wal", "-shm", "-journal"):
         if os.path.exists(database + ending):
             os.remove(database + ending)
     return database
-
-
-def tried(part, *words):
-    """Runs a part; one that breaks off is not as wanted."""
-    try:
-        return part(*words)
-    except Exception:
-        traceback.print_exc(file=sys.stdout)
-        check(f"{part.__name__} to its end", False)
-        return None
-
-
-def finish():
-    """Says how much was as wanted, and ends with the status of it."""
-    print(f"{PASSED[0]} passed, {PASSED[1]} failed")
-    sys.exit(1 if PASSED[1] else 0)

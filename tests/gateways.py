@@ -1,4 +1,4 @@
-"""deploy/try as the scripts run it that ask the archive through its gateway.
+"""Runs deploy/try for tests that send requests through the gateway.
 """
 import os
 import shutil
@@ -6,56 +6,83 @@ import signal
 import subprocess
 import threading
 import time
+from collections.abc import Iterable
 
-from clients import HERE, PROGRAM
+import clients
+from clients import HERE
 
 DEPLOY = os.path.join(HERE, "..", "deploy")
-# What a client waits for at most, in seconds, on a machine that is busy.
+# How many seconds a client waits at most, on a busy machine.
 BUSY = 8
 
 
-def missing():
-    """The servers of the gateway that are not installed here."""
-    return [name for name in ("nginx", "haproxy") if not shutil.which(name, path=os.environ.get("PATH", "") + ":/usr/sbin:/usr/local/sbin:/sbin")]
+def missing() -> list[str]:
+    """The servers of the gateway that are not installed."""
+    return [
+        name
+        for name in ("nginx", "haproxy")
+        if not shutil.which(name, path=os.environ.get("PATH", "") + ":/usr/sbin:/usr/local/sbin:/sbin")
+    ]
 
 
 class Gateway:
-    """deploy/try over an archive's file, up to its end."""
+    """A run of deploy/try on an archive's file."""
 
-    def __init__(self, database, first_port, *settings, seconds=120):
-        words = [os.path.join(DEPLOY, "try"), "--seconds", str(seconds), "--first-port", str(first_port), "--program", PROGRAM, "--db", database, "--index", "0", *settings]
+    def __init__(self, database: str, first_port: int, *settings: str, seconds: int = 120) -> None:
+        words = [
+            os.path.join(DEPLOY, "try"),
+            "--seconds",
+            str(seconds),
+            "--first-port",
+            str(first_port),
+            "--program",
+            clients.PROGRAM,
+            "--db",
+            database,
+            "--index",
+            "0",
+            *settings,
+        ]
         self.process = subprocess.Popen(words, stdout=subprocess.PIPE, stderr=subprocess.STDOUT, text=True)
-        self.lives, self.folder, self.port, self.life_port = [], None, None, None
-        while self.port is None and (line := self.process.stdout.readline()):
+        # The numbers of the processes that ran the program, the last one now; and what deploy/try says of itself.
+        self.lives: list[int] = []
+        self.folder, self.port, self.life_port, self.metrics_port = "", 0, 0, 0
+        assert self.process.stdout is not None
+        lines = self.process.stdout
+        while not self.port and (line := lines.readline()):
             self.read(line)
-        self.reader = threading.Thread(target=lambda: [self.read(line) for line in self.process.stdout])
+        self.reader = threading.Thread(target=self.read_all, args=(lines,))
         self.reader.start()
 
-    def read(self, line):
+    def read(self, line: str) -> None:
         if line.startswith("life at "):
             self.life_port = int(line.split(",")[0].split(":")[1])
             self.lives.append(int(line.split()[-1]))
-        elif line.startswith("in "):
-            self.folder = line[3:].split(";")[0]
+        elif line.startswith("running in "):
+            self.folder = line.removeprefix("running in ").split(";")[0]
         elif line.startswith(("http://", "https://")):
             self.port = int(line.rsplit(":", 1)[1])
-        elif line.endswith(" is not there: a new archive is made\n"):
+        elif line.endswith(" does not exist: creating a new archive\n"):
             pass
         else:
             print(line, end="")
 
-    def kill(self):
-        """Kills the program that runs now, as a fault of its own would end it, and waits for the next one."""
+    def read_all(self, lines: Iterable[str]) -> None:
+        for line in lines:
+            self.read(line)
+
+    def kill(self) -> None:
+        """Kills the running program, as a crash would, and waits for the next one."""
         before = len(self.lives)
         os.kill(self.lives[-1], signal.SIGKILL)
         until = time.monotonic() + BUSY
         while len(self.lives) == before and time.monotonic() < until:
             time.sleep(0.02)
 
-    def end(self):
+    def end(self) -> int | None:
         self.process.terminate()
         try:
-            status = self.process.wait(30)
+            status: int | None = self.process.wait(30)
         except subprocess.TimeoutExpired:
             self.process.kill()
             status = None

@@ -1,9 +1,11 @@
-"""A Debian of its own for a test: made by mmdebstrap, with systemd booted in it as process 1 in namespaces, and a network of its own.
+"""A separate Debian for a test: made by mmdebstrap, with systemd as process 1 in namespaces, and its own network.
 
 Root is needed, and mmdebstrap. No daemon of the host is asked, and only processes that this file started are ended.
 """
+import ctypes
 import os
 import shutil
+import signal
 import subprocess
 import time
 
@@ -31,80 +33,132 @@ umount --lazy mnt
 exec env --ignore-environment container=private PATH=/usr/sbin:/usr/bin:/sbin:/bin /lib/systemd/systemd --system
 """
 # What the packages of life depend on; and, for what is tried, another machine's ssh and rsync, and a sendmail.
-PACKAGES = "systemd,systemd-sysv,dbus,nginx-light,haproxy,logrotate,python3,curl,libsqlite3-0,procps,openssh-server,rsync,dma"
+PACKAGES = (
+    "systemd,systemd-sysv,dbus,nginx-light,haproxy,logrotate,python3,curl,libsqlite3-0,procps,openssh-server,rsync,dma"
+)
 NAMESPACES = ["--mount", "--pid", "--uts", "--ipc", "--net", "--cgroup"]
 
 
-def missing():
+def missing() -> str:
     """Why no machine can be booted here, or nothing."""
     if os.geteuid() != 0:
         return "this is not root"
-    gone = [name for name in ("mmdebstrap", "unshare", "nsenter", "dpkg-deb", "zstd", "strip") if not shutil.which(name)]
+    gone = [
+        name for name in ("mmdebstrap", "unshare", "nsenter", "dpkg-deb", "zstd", "strip") if not shutil.which(name)
+    ]
     if gone:
         return f"{', '.join(gone)} not installed"
     return "" if cgroups() else "the system has no cgroup2"
 
 
-def cgroups():
-    """Where the system's second kind of control groups is, or nothing."""
+def cgroups() -> str:
+    """The mount point of cgroup version 2, or nothing."""
     with open("/proc/self/mounts", encoding="utf-8") as mounts:
-        found = [line.split()[1] for line in mounts if line.split()[2] == "cgroup2"]
-    return found[0] if found else None
+        return next((line.split()[1] for line in mounts if line.split()[2] == "cgroup2"), "")
 
 
-def make(tar):
-    """A fresh Debian as a file of tar, with what the packages depend on: the machine has no network to fetch it."""
+def make(tar: str) -> str:
+    """Makes a fresh Debian as a tar file, with the packages' dependencies: the machine has no network to fetch them. Why it can't, or nothing."""
     words = ["mmdebstrap", "--quiet", "--variant=minbase", f"--include={PACKAGES}", "bookworm", tar]
     done = subprocess.run(words, stdin=subprocess.DEVNULL, capture_output=True, text=True, timeout=900, check=False)
     return "" if done.returncode == 0 else (done.stderr.strip().splitlines() or ["no word"])[-1]
 
 
-class Machine:
-    """A Debian in a folder, which may be booted and switched off again and again."""
+def die_with_parent() -> None:
+    """Has the system end this process when its parent ends, however that ends (PR_SET_PDEATHSIG)."""
+    ctypes.CDLL(None).prctl(1, signal.SIGKILL, 0, 0, 0)
 
-    def __init__(self, folder, tar):
-        self.folder, self.process, self.pid = os.path.realpath(folder), None, None
+
+class Machine:
+    """A Debian in a folder, which can be booted and switched off repeatedly."""
+
+    def __init__(self, folder: str, tar: str) -> None:
+        self.folder, self.pid = os.path.realpath(folder), ""
+        self.process: subprocess.Popen[bytes] | None = None
         self.group = os.path.join(cgroups(), f"life-boot-{os.getpid()}")
         os.makedirs(self.folder)
         subprocess.run(["tar", "--extract", "--file", tar, "--directory", self.folder], check=True, timeout=300)
         for unit in ("console-getty.service", "getty@tty1.service"):
             os.symlink("/dev/null", self.path(f"etc/systemd/system/{unit}"))
 
-    def boot(self):
-        """Boots, and says what systemd makes of it: running, or degraded."""
+    def boot(self) -> str:
+        """Boots, and returns systemd's state: running or degraded."""
         os.makedirs(self.group, exist_ok=True)
         join = 'echo $$ > "$1/cgroup.procs"; shift; exec "$@"'
-        words = ["bash", "-c", join, "join", self.group, "unshare", *NAMESPACES, "--fork", "bash", "-c", BOOT, "boot", self.folder]
+        words = [
+            "bash",
+            "-c",
+            join,
+            "join",
+            self.group,
+            "unshare",
+            *NAMESPACES,
+            "--fork",
+            "--kill-child",
+            "bash",
+            "-c",
+            BOOT,
+            "boot",
+            self.folder,
+        ]
         with open(self.folder + ".console", "ab") as console:
-            self.process = subprocess.Popen(words, stdin=subprocess.DEVNULL, stdout=console, stderr=console)
+            # A test that is ended from outside takes its machine with it.
+            self.process = subprocess.Popen(
+                words, stdin=subprocess.DEVNULL, stdout=console, stderr=console, preexec_fn=die_with_parent
+            )
         until = time.monotonic() + 60
         while time.monotonic() < until:
-            children = self.children()
-            if children and self.run("systemctl", "is-system-running", timeout=20).stdout.strip() in ("running", "degraded"):
+            if self.is_up() and self.run("systemctl", "is-system-running", timeout=20).stdout.strip() in (
+                "running",
+                "degraded",
+            ):
                 return self.run("systemctl", "is-system-running").stdout.strip()
             time.sleep(0.5)
         return "not up"
 
-    def children(self):
-        """The systemd of the machine, by its number here, once it is there."""
+    def is_up(self) -> bool:
+        """Whether the machine's systemd runs. Its process number is known then."""
+        assert self.process is not None
         try:
             with open(f"/proc/{self.process.pid}/task/{self.process.pid}/children", encoding="utf-8") as file:
-                self.pid = next(iter(file.read().split()), None)
-            return self.pid and os.readlink(f"/proc/{self.pid}/exe").endswith("systemd")
+                self.pid = next(iter(file.read().split()), "")
+            return self.pid != "" and os.readlink(f"/proc/{self.pid}/exe").endswith("systemd")
         except OSError:
             return False
 
-    def run(self, *words, data=None, timeout=120):
-        """A command in the machine."""
-        enter = ["nsenter", f"--target={self.pid}", *NAMESPACES, "--root", "--wd", "env", "--ignore-environment", "PATH=/usr/sbin:/usr/bin:/sbin:/bin",
-                 "LC_ALL=C.UTF-8", "DEBIAN_FRONTEND=noninteractive"]
-        return subprocess.run([*enter, *words], input=data, capture_output=True, text=True, timeout=timeout, check=False)
+    def entering(self) -> list[str]:
+        """The words before a command that runs in the machine."""
+        return [
+            "nsenter",
+            f"--target={self.pid}",
+            *NAMESPACES,
+            "--root",
+            "--wd",
+            "env",
+            "--ignore-environment",
+            "PATH=/usr/sbin:/usr/bin:/sbin:/bin",
+            "LC_ALL=C.UTF-8",
+            "DEBIAN_FRONTEND=noninteractive",
+        ]
 
-    def path(self, name):
+    def run(self, *words: str, data: str | None = None, timeout: int = 120) -> subprocess.CompletedProcess[str]:
+        """A command in the machine."""
+        return subprocess.run(
+            [*self.entering(), *words],
+            input=data,
+            capture_output=True,
+            text=True,
+            errors="replace",
+            timeout=timeout,
+            check=False,
+        )
+
+    def path(self, name: str) -> str:
         return os.path.join(self.folder, name.lstrip("/"))
 
-    def switch_off(self):
-        """Switches the machine off as its administrator would; whether it went off by itself."""
+    def switch_off(self) -> bool:
+        """Switches the machine off as its administrator would, and returns whether it stopped by itself."""
+        assert self.process is not None
         self.run("systemctl", "--no-block", "poweroff")
         try:
             self.process.wait(60)
@@ -113,8 +167,8 @@ class Machine:
             self.end()
             return False
 
-    def end(self):
-        """Ends the machine at once, by the end of its process 1."""
+    def end(self) -> None:
+        """Stops the machine at once by killing its process 1."""
         if self.process and self.process.poll() is None:
             if self.pid:
                 subprocess.run(["kill", "-9", self.pid], check=False)

@@ -1,19 +1,22 @@
-"""What the parts of tests/web share: requests beside the pages, and an index of the archive.
+"""What the parts of tests/test_web.py share: requests outside the pages, and an index of the archive.
 """
 import http.client
 import json
 import os
 import subprocess
+from typing import Any
 
-from gateways import DEPLOY
+from gateways import DEPLOY, Gateway
 
 
-def content(path):
+def content(path: str) -> bytes:
     with open(path, "rb") as file:
         return file.read()
 
 
-def asked(port, path, method="GET", body=None, headers=None):
+def asked(
+    port: int, path: str, method: str = "GET", body: bytes | str | None = None, headers: dict[str, str] | None = None
+) -> tuple[int, bytes, dict[str, str]]:
     """The status, the body and the header lines of a reply."""
     connection = http.client.HTTPConnection("127.0.0.1", port, timeout=60)
     try:
@@ -24,27 +27,30 @@ def asked(port, path, method="GET", body=None, headers=None):
         connection.close()
 
 
-def told(gateway, path):
-    """What the program itself says, past the gateway."""
+def told(gateway: Gateway, path: str) -> bytes:
+    """The program's own reply, without the gateway."""
     return asked(gateway.life_port, path)[1]
 
 
-def kept(gateway, name, text, member="ann"):
-    """The number of a deposit that is made beside the pages."""
+def kept(gateway: Gateway, name: str, text: bytes, member: str = "ann") -> int:
+    """Makes a deposit outside the pages, and returns its number, or 0 if it was refused."""
     status, answer, _ = asked(gateway.life_port, "/deposits", "POST", text, {"x-member": member, "x-token": name})
-    return json.loads(answer).get("deposit") if status == 201 else None
+    return int(json.loads(answer)["deposit"]) if status == 201 else 0
 
 
-def listed(gateway):
-    """All deposits, list by list, from the program itself."""
-    found = []
+def listed(gateway: Gateway) -> list[dict[str, Any]]:
+    """All deposits, list by list, from the program."""
+    found: list[dict[str, Any]] = []
     while rows := json.loads(told(gateway, f"/deposits/after/{found[-1]['id'] if found else 0}"))["deposits"]:
         found += rows
     return found
 
 
-def index(gateway, database):
-    """Makes the index of the archive as the gateway gives it; whether it is made."""
+def index(gateway: Gateway, database: str) -> bool:
+    """Builds the archive's index for the gateway, and returns whether that worked."""
     copy = os.path.join(gateway.folder, "copy.db")
     steps = [("life-copy", database, copy), ("life-index", copy, os.path.join(gateway.folder, "index"))]
-    return all(subprocess.run([os.path.join(DEPLOY, name), *words], timeout=120, stdout=subprocess.DEVNULL).returncode == 0 for name, *words in steps)
+    return all(
+        subprocess.run([os.path.join(DEPLOY, name), *words], timeout=120, stdout=subprocess.DEVNULL).returncode == 0
+        for name, *words in steps
+    )

@@ -1,4 +1,4 @@
-"""The parts of tests/web on what a member who knows the field looks for: who deposited, comments, the wheel, playing from a cited
+"""The parts of tests/test_web.py on what a member who knows the field looks for: who deposited, comments, the wheel, playing from a cited
 generation, the search box, objects, groups, the first page and the page about the archive.
 """
 import json
@@ -6,9 +6,12 @@ import os
 import random
 import re
 import time
+from typing import Any
 
-import reference
-from clients import HERE, check, exchanged, message
+import life
+from browser import Browser
+from clients import HERE, check, exchanged, message, same
+from gateways import Gateway
 from pages import asked, content, index, kept
 
 WEB = os.path.join(HERE, "..", "web")
@@ -27,13 +30,13 @@ return took;
 """
 
 
-def soup(size, seed):
+def soup(size: int, seed: int) -> bytes:
     chance = random.Random(seed)
     cells = {(x, y) for x in range(size) for y in range(size) if chance.random() < 0.35}
-    return reference.file_text((None, None, (), reference.LIFE, reference.normal(cells)))
+    return life.file_text((None, None, (), life.LIFE, life.normal(cells)))
 
 
-def imported(name, found):
+def imported(name: str, found: set[str]) -> set[str]:
     """The modules that a module imports, directly or not, and itself."""
     if name not in found:
         found.add(name)
@@ -42,20 +45,41 @@ def imported(name, found):
     return found
 
 
-def ahead(_gateway, _browser, _base, _folder):
+def ahead(_gateway: Gateway, _browser: Browser, _base: str, _folder: str) -> None:
     """What is asked for ahead is what the pages import."""
-    page, script, own = content(os.path.join(WEB, "index.html")).decode(), content(os.path.join(WEB, "ahead.js")).decode(), imported("main", set())
-    check("the modules of each page", set(re.findall(r'"modulepreload" href="/web/([a-z]+)\.js"', page)) == own - {"main"})
-    check("the modules of a deposit's page", set(re.findall("[a-z]+", script[script.index("["):script.index("];")])) == imported("deposit", set()) - own)
+    page, script, own = (
+        content(os.path.join(WEB, "index.html")).decode(),
+        content(os.path.join(WEB, "ahead.js")).decode(),
+        imported("main", set()),
+    )
+    same("the modules of each page", set(re.findall(r'"modulepreload" href="/web/([a-z]+)\.js"', page)), own - {"main"})
+    same(
+        "the modules of a deposit's page",
+        set(re.findall("[a-z]+", script[script.index("[") : script.index("];")])),
+        imported("deposit", set()) - own,
+    )
 
 
-def wheel(browser, pixels, modifiers=0):
+def listed(_gateway: Gateway, _browser: Browser, _base: str, _folder: str) -> None:
+    """The page about the modules names each of them once, and no others."""
+    page = content(os.path.join(WEB, "README.md")).decode()
+    names = [name for line in page.splitlines() if line.startswith("| ") for name in re.findall(r"`([a-z]+)`", line)]
+    modules = {name[: -len(".js")] for name in os.listdir(WEB) if name.endswith(".js")}
+    same("the modules of the page", sorted(names), sorted(modules - {"main"}))
+
+
+def wheel(browser: Browser, pixels: Any, modifiers: int = 0) -> None:
     """A turn of the wheel over the middle of the canvas."""
-    box = browser.run("const box = document.querySelector('canvas.large').getBoundingClientRect(); return [box.x + box.width / 2, box.y + box.height / 2]")
-    browser.driver.execute_cdp_cmd("Input.dispatchMouseEvent", {"type": "mouseWheel", "x": box[0], "y": box[1], "deltaX": 0, "deltaY": pixels, "modifiers": modifiers})
+    box = browser.run(
+        "const box = document.querySelector('canvas.large').getBoundingClientRect(); return [box.x + box.width / 2, box.y + box.height / 2]"
+    )
+    browser.driver.execute_cdp_cmd(
+        "Input.dispatchMouseEvent",
+        {"type": "mouseWheel", "x": box[0], "y": box[1], "deltaX": 0, "deltaY": pixels, "modifiers": modifiers},
+    )
 
 
-def deposited(_gateway, browser, base, _folder):
+def deposited(_gateway: Gateway, browser: Browser, base: str, _folder: str) -> None:
     """The page that follows a deposit says who deposited it, also right after the list before it was asked for."""
     for turn in range(3):
         browser.open(f"{base}/new")
@@ -63,19 +87,35 @@ def deposited(_gateway, browser, base, _folder):
         browser.type("#pattern", f"x = {turn + 70}, y = 1\n{turn + 70}o!")
         browser.type("#member", "ann")
         browser.one("#send").click()
-        check(f"who deposited, try {turn}", browser.until(lambda: "Deposited by ann." in browser.text(".by") and "Deposited." in browser.text(".note")))
-    check("a link to one's own deposits", browser.run("const mine = document.getElementById('mine'); return !mine.hidden && mine.pathname") == "/d/of/ann")
+        check(
+            f"who deposited, try {turn}",
+            browser.until(lambda: "Deposited by ann." in browser.text(".by") and "Deposited." in browser.text(".note")),
+        )
+    same(
+        "a link to one's own deposits",
+        browser.run("const mine = document.getElementById('mine'); return !mine.hidden && mine.pathname"),
+        "/d/of/ann",
+    )
 
 
-def comments(gateway, browser, base, _folder):
+def comments(gateway: Gateway, browser: Browser, base: str, _folder: str) -> None:
     """The comments are below the picture: three lines, and all of them by a press."""
-    number = kept(gateway, "club-comments", b"".join(b"#C line %d\n" % line for line in range(1, 54)) + b"x = 3, y = 1\n3o!\n")
+    number = kept(
+        gateway, "club-comments", b"".join(b"#C line %d\n" % line for line in range(1, 54)) + b"x = 3, y = 1\n3o!\n"
+    )
     browser.open(f"{base}/d/{number}")
     top = browser.run("return document.querySelector('canvas.large').getBoundingClientRect().top")
     check(f"the canvas begins at {top}", top < 250)
-    check("three lines", browser.text("#comments-text") == "line 1\nline 2\nline 3" and browser.text("#all-comments") == "All 53 lines")
+    check(
+        "three lines",
+        browser.text("#comments-text") == "line 1\nline 2\nline 3" and browser.text("#all-comments") == "All 53 lines",
+    )
     browser.one("#all-comments").click()
-    check("all lines", browser.text("#comments-text").endswith("line 53") and browser.run("return document.getElementById('all-comments').ariaExpanded") == "true")
+    check(
+        "all lines",
+        browser.text("#comments-text").endswith("line 53")
+        and browser.run("return document.getElementById('all-comments').ariaExpanded") == "true",
+    )
     for width, height in ((1280, 720), (390, 844)):
         browser.screen(width, height)
         browser.open(f"{base}/d/{number}")
@@ -84,7 +124,7 @@ def comments(gateway, browser, base, _folder):
     browser.screen()
 
 
-def wheeled(gateway, browser, base, _folder):
+def wheeled(gateway: Gateway, browser: Browser, base: str, _folder: str) -> None:
     """The wheel scrolls the page until the canvas has the focus; small movements add up to a step of the zoom."""
     number = kept(gateway, "club-wheeled", b"#N Wheeled\nx = 3, y = 3\n3o$o$bo!\n")
     browser.open(f"{base}/d/{number}")
@@ -99,92 +139,290 @@ def wheeled(gateway, browser, base, _folder):
     for _ in range(10):
         wheel(browser, -4)
     time.sleep(0.3)
-    check("ten small movements are less than a step", browser.wait_for(live) == before and browser.run("return scrollY") == 0)
+    check(
+        "ten small movements are less than a step",
+        browser.wait_for(live) == before and browser.run("return scrollY") == 0,
+    )
     for _ in range(20):
         wheel(browser, -4)
     check("more of them are a step", browser.until(lambda: browser.wait_for(live) > before))
 
 
-def cited(gateway, browser, base, _folder):
+def cited(gateway: Gateway, browser: Browser, base: str, _folder: str) -> None:
     """Playing from a cited generation begins at once, on and back; at the last one the page offers to deposit it."""
     number = kept(gateway, "club-large", soup(400, 5))
     browser.open(f"{base}/d/{number}/at/1500")
     took = browser.wait_for(FIRST_PICTURE)
     check(f"the first picture after {took:.0f} ms", took < LATE)
-    check("it is the archive's", browser.until(lambda: ": the same." in browser.text(".source")))
-    browser.run("const speed = document.getElementById('speed'); speed.value = '60'; speed.dispatchEvent(new Event('change'))")
+    check("it is the archive's", browser.until(lambda: "it matched the archive" in browser.text(".source")))
+    browser.run(
+        "const speed = document.getElementById('speed'); speed.value = '60'; speed.dispatchEvent(new Event('change'))"
+    )
     browser.type("#run-to", "1480")
     browser.one("#run").click()
-    check("run to one before", browser.at(f"/d/{number}/at/1480") and browser.until(lambda: "generation 1,480: the same." in browser.text(".source")))
+    check(
+        "run to one before",
+        browser.at(f"/d/{number}/at/1480")
+        and browser.until(lambda: "At generation 1,480 it matched" in browser.text(".source")),
+    )
     gun = kept(gateway, "club-acorn", b"#N Acorn\nx = 7, y = 3\nbo$3bo$2o2b3o!\n")
     browser.open(f"{base}/d/{gun}")
-    browser.run("const speed = document.getElementById('speed'); speed.value = '1920'; speed.dispatchEvent(new Event('change'))")
+    browser.run(
+        "const speed = document.getElementById('speed'); speed.value = '1920'; speed.dispatchEvent(new Event('change'))"
+    )
     browser.one("#play").click()
-    check("32 generations a picture, to the end", browser.at("/at/2048") and browser.until(lambda: "2,048 is the last generation" in browser.text(".end")))
+    check(
+        "32 generations a picture, to the end",
+        browser.at("/at/2048") and browser.until(lambda: "2,048 is the last generation" in browser.text(".end")),
+    )
     browser.one("#deposit-generation").click()
-    check("the last generation is offered", browser.at("/new") and browser.until(lambda: browser.run("return document.getElementById('text-name').value") == "Acorn, generation 2048"))
+    check(
+        "the last generation is offered",
+        browser.at("/new")
+        and browser.until(
+            lambda: browser.run("return document.getElementById('text-name').value") == "Acorn, generation 2048"
+        ),
+    )
     browser.run("localStorage.removeItem('speed'); sessionStorage.clear()")
 
 
-def sought(browser, text):
+def sought(browser: Browser, text: str) -> None:
     """Types into the search box: the one in the head, or the one of the page that searches."""
     browser.type("#search-text" if browser.all("#search-text") else "#box", text + ENTER)
 
 
-def boxed(gateway, browser, base, folder):
+def boxed(gateway: Gateway, browser: Browser, base: str, folder: str) -> None:
     """The search box leads to an object, a deposit, a census, a rule, or to what has a name or a comment."""
     number = kept(gateway, "club-boxed", b"#N Boxed\n#C Found by D. Greene in 2003\nx = 3, y = 1\n3o!\n")
     check("an index for the box", index(gateway, os.path.join(folder, "club.db")))
     browser.open(f"{base}/about")
-    for text, wanted in (("xq4_153", "/o/B3-S23/xq4_153"), ("XQ4_153", "/o/B3-S23/xq4_153"), (f"#{number}", f"/d/{number}"), (str(number), f"/d/{number}"), (f"Deposit {number}", f"/d/{number}"), ("census 1", "/c/1"),
-                         ("B36/S23", "/find?rule=B36%2FS23"), ("23/36", "/find?rule=B36%2FS23"), ("xq4_153 B36/S23", "/o/B36-S23/xq4_153")):
+    for text, wanted in (
+        ("xq4_153", "/o/B3-S23/xq4_153"),
+        ("XQ4_153", "/o/B3-S23/xq4_153"),
+        (f"#{number}", f"/d/{number}"),
+        (str(number), f"/d/{number}"),
+        (f"Deposit {number}", f"/d/{number}"),
+        ("census 1", "/c/1"),
+        ("B36/S23", "/find?rule=B36%2FS23"),
+        ("23/36", "/find?rule=B36%2FS23"),
+        ("xq4_153 B36/S23", "/o/B36-S23/xq4_153"),
+    ):
         sought(browser, text)
         check(f"the box with {text}", browser.at(wanted))
     sought(browser, "loaves")
-    check("an object by its name", browser.until(lambda: browser.run("return [...document.querySelectorAll('#named-objects a')].map((link) => link.pathname)") == ["/o/B3-S23/xs7_2596"]))
+    check(
+        "an object by its name",
+        browser.until(
+            lambda: browser.run(
+                "return [...document.querySelectorAll('#named-objects a')].map((link) => link.pathname)"
+            )
+            == ["/o/B3-S23/xs7_2596"]
+        ),
+    )
     sought(browser, "morley")
     check("a rule by its name", browser.until(lambda: "B368/S245" in browser.text(".named")))
     sought(browser, "greene")
-    check("a comment", browser.until(lambda: browser.run("return [...document.querySelectorAll('.cards a')].map((link) => link.pathname)") == [f"/d/{number}"]))
+    check(
+        "a comment",
+        browser.until(
+            lambda: browser.run("return [...document.querySelectorAll('.cards a')].map((link) => link.pathname)")
+            == [f"/d/{number}"]
+        ),
+    )
 
 
-def objects(gateway, browser, base, folder):
+def objects(gateway: Gateway, browser: Browser, base: str, folder: str) -> None:
     """The page of objects has the totals of the archive, the most frequent first, sorts and filters them, and names groups."""
     number = kept(gateway, "club-field", b"#N Field\nx = 40, y = 9\n2o5b2ob2o5b3o$2o5b2ob2o3$b3o$o5bo$o5bo$o5bo$b3o!\n")
-    exchanged(gateway.life_port, [message("POST", f"/deposits/{number}/censuses/0/4", b"", "x-member: ann", "x-token: club-field")])
+    exchanged(
+        gateway.life_port,
+        [message("POST", f"/deposits/{number}/censuses/0/4", b"", "x-member: ann", "x-token: club-field")],
+    )
     check("an index for the objects", index(gateway, os.path.join(folder, "club.db")))
     browser.open(f"{base}/o")
     lines = "return [...document.querySelectorAll('.catalog tbody tr')].map((row) => [new URL(row.querySelector('a').href).pathname.split('/')[3], Number(row.children[5].firstChild.data.replaceAll(',', '')), row.children[1].textContent])"
     rows = browser.run(lines)
-    check("the most frequent first", len(rows) > 2 and [row[1] for row in rows] == sorted((row[1] for row in rows), reverse=True))
+    check(
+        "the most frequent first",
+        len(rows) > 2 and [row[1] for row in rows] == sorted((row[1] for row in rows), reverse=True),
+    )
     for code, count, _ in rows[:5]:
-        limit = int(code[2:code.index("_")]) if code[1] != "s" else 1
-        check(f"the total of {code}", json.loads(asked(gateway.life_port, f"/objects/B3S23/{code}/{limit}")[1])["total"] == count)
+        limit = int(code[2 : code.index("_")]) if code[1] != "s" else 1
+        same(
+            f"the total of {code}",
+            json.loads(asked(gateway.life_port, f"/objects/B3S23/{code}/{limit}")[1])["total"],
+            count,
+        )
     check("a group is named", browser.until(lambda: any("2 blocks" in row[2] for row in browser.run(lines))))
     browser.one("[data-column=period] button").click()
-    check("sorted by period", browser.run("return document.querySelector('[data-column=period]').ariaSort") == "ascending" and browser.run("return location.search") == "?sort=period")
+    check(
+        "sorted by period",
+        browser.run("return document.querySelector('[data-column=period]').ariaSort") == "ascending"
+        and browser.run("return location.search") == "?sort=period",
+    )
     browser.type("#objects-cells", "3")
-    check("filtered by cells", [row[0] for row in browser.run(lines)] == ["xp2_7"])
+    same("filtered by cells", [row[0] for row in browser.run(lines)], ["xp2_7"])
     browser.open(f"{base}/o?groups=split")
     blocks = next(row[1] for row in rows if row[0] == "xs4_33")
-    check("groups are split", browser.until(lambda: all(row[0] != "xs8_rr" for row in browser.run(lines)) and next(row[1] for row in browser.run(lines) if row[0] == "xs4_33") > blocks))
+    check(
+        "groups are split",
+        browser.until(
+            lambda: all(row[0] != "xs8_rr" for row in browser.run(lines))
+            and next(row[1] for row in browser.run(lines) if row[0] == "xs4_33") > blocks
+        ),
+    )
     browser.open(f"{base}/o/B3-S23?text=glider")
     check("a filter that was cited", [row[0] for row in browser.run(lines)] in (["xq4_153"], []))
     browser.open(f"{base}/o/B3-S23/xs8_rr")
-    check("a group's page", browser.until(lambda: "2 blocks" in browser.text(".group")) and browser.all("a[href*=catagolue]") == [])
+    check(
+        "a group's page",
+        browser.until(lambda: "2 blocks" in browser.text(".group")) and browser.all("a[href*=catagolue]") == [],
+    )
     check("its parts by the archive's count", browser.until(lambda: f"block {blocks:,} time" in browser.text("#parts")))
     browser.open(f"{base}/")
-    check("the first page", browser.until(lambda: browser.text("#frequent h2") == "Most frequent objects") and browser.all(".cards li"))
+    check(
+        "the first page",
+        browser.until(lambda: browser.text("#frequent h2") == "Most frequent objects") and browser.all(".cards li"),
+    )
     browser.open(f"{base}/about#census")
-    check("about the archive", browser.text("h1") == "About this archive" and browser.until(lambda: browser.run("return scrollY") > 100))
+    check(
+        "about the archive",
+        browser.text("h1") == "About this archive" and browser.until(lambda: browser.run("return scrollY") > 100),
+    )
     for address in ("", "o", "o/B3-S23/xs8_rr", "about", "find?text=loaf"):
         browser.screen(320, 780)
         browser.open(f"{base}/{address}")
         browser.until(lambda: browser.all(".object-link") or address != "")
         wide = browser.run("return document.documentElement.scrollWidth")
         check(f"'{address}' on 320 pixels: {wide}", wide <= 320)
-        check(f"names on '{address}': {(unnamed := browser.unnamed())}", unnamed == [])
+        same(f"names on '{address}': {(unnamed := browser.unnamed())}", unnamed, [])
     browser.screen()
 
 
-PARTS = [ahead, deposited, comments, wheeled, cited, boxed, objects]
+def scripted(gateway: Gateway, browser: Browser, base: str, _folder: str) -> None:
+    """The scripts of LifeViewer in comments are not shown."""
+    number = kept(
+        gateway,
+        "club-scripted",
+        b"#C A gun [[ ZOOM 4 ]] of 1970\n#C [[ AUTOSTART ]]\n#C\n#C [[ THEME 6\n#C GPS 10\n#C ]]\n#C [1] a note\nx = 2, y = 1\n2o!\n",
+    )
+    browser.open(f"{base}/d/{number}")
+    same("comments without scripts", browser.text("#comments-text"), "A gun  of 1970\n\n[1] a note")
+
+
+def single_keys(_gateway: Gateway, browser: Browser, base: str, _folder: str) -> None:
+    """Letters, digits and signs that are commands can be turned off; arrows, space and the buttons still work."""
+    browser.open(f"{base}/d/4")
+    choose = "const keys = document.getElementById('letters'); keys.value = arguments[0]; keys.dispatchEvent(new Event('change'))"
+    at = "return document.getElementById('generation').value"
+    browser.run(choose, "off")
+    for key in ("n", "?", "/", "+", "b"):
+        browser.press(key)
+    check(
+        "letters do nothing",
+        browser.driver.current_url.endswith("/d/4")
+        and not browser.run("return document.getElementById('keys').open")
+        and browser.run("return document.activeElement.tagName") == "H1",
+    )
+    browser.press("\ue014")
+    check("an arrow is a step", browser.until(lambda: browser.run(at) == "1"))
+    browser.driver.refresh()
+    browser.settled()
+    same("the choice is kept", browser.run("return document.getElementById('letters').value"), "off")
+    browser.press("n")
+    browser.run(choose, "on")
+    browser.press("n")
+    check("letters are commands again", browser.at("/new"))
+    browser.open(f"{base}/new")
+    browser.type("#pattern", "#N Named\nx = 1, y = 1\no!")
+    style = "const style = getComputedStyle(document.getElementById(arguments[0])); return [style.borderStyle, style.opacity]"
+    same(
+        "a field that is disabled looks so",
+        [browser.run(style, name) for name in ("text-name", "text-author")],
+        [["dashed", "0.6"], ["solid", "1"]],
+    )
+    browser.run("sessionStorage.clear()")
+
+
+# Buttons whose name does not have the words that are seen on them.
+MISNAMED = """
+return [...document.querySelectorAll('button[aria-label]')].filter((button) => /[a-z]/i.test(button.textContent))
+  .filter((button) => !button.ariaLabel.toLowerCase().includes(button.textContent.trim().toLowerCase())).map((button) => button.textContent);
+"""
+
+
+def spoken(_gateway: Gateway, browser: Browser, base: str, _folder: str) -> None:
+    """Who says what is seen on a button gets that button."""
+    browser.open(f"{base}/d/1")
+    check("where it is back", browser.until(lambda: browser.all("#back-at")))
+    same("buttons with another name than they show", browser.run(MISNAMED), [])
+
+
+def sorts(gateway: Gateway, browser: Browser, base: str, folder: str) -> None:
+    """The tables of a census and of censuses are sorted by a press on a head."""
+    check("an index for the tables", index(gateway, os.path.join(folder, "club.db")))
+    browser.open(f"{base}/c/1")
+    codes = "return [...document.querySelectorAll('.census tbody th code')].map((code) => code.textContent)"
+    most_first = browser.run(codes)
+    browser.one("[data-column=code] button").click()
+    same("a census by codes", browser.run(codes), sorted(most_first))
+    browser.one("[data-column=code] button").click()
+    same("a census by codes, descending", browser.run(codes), sorted(most_first, reverse=True))
+    same("its last row stays", browser.text(".census tbody tr:last-child th").split("no code")[0], "unresolved")
+    browser.one("[data-column=count] button").click()
+    same("a census by counts", browser.run(codes), most_first)
+    browser.open(f"{base}/c")
+    lines = "return [...document.querySelectorAll('.censuses tbody tr')].map((row) => [Number(row.querySelector('th').textContent), Number(row.querySelector('.number').textContent.replaceAll(',', ''))])"
+    rows = browser.run(lines)
+    same("censuses, the newest first", [row[0] for row in rows], sorted((row[0] for row in rows), reverse=True))
+    browser.one("[data-column=clusters] button").click()
+    check(
+        "censuses by clusters",
+        browser.until(
+            lambda: [row[1] for row in browser.run(lines)] == sorted((row[1] for row in rows), reverse=True)
+            and browser.run("return document.querySelector('[data-column=clusters]').ariaSort") == "descending"
+        ),
+    )
+
+
+def printed(_gateway: Gateway, browser: Browser, base: str, _folder: str) -> None:
+    """On paper there are the pattern and the text, and no buttons."""
+    browser.open(f"{base}/d/4")
+    browser.driver.execute_cdp_cmd("Emulation.setEmulatedMedia", {"media": "print"})
+    seen = browser.run(
+        "return [...document.querySelectorAll('button, input, select, header nav, canvas.large, h1, .address')].filter((one) => one.checkVisibility()).map((one) => one.className || one.tagName)"
+    )
+    browser.screen()
+    same("what is on paper", seen, ["H1", "large", "address"])
+
+
+def nothing_found(_gateway: Gateway, browser: Browser, base: str, _folder: str) -> None:
+    """A page without a reply is headed so, and without an index the page that searches says why it has no box."""
+    browser.open(f"{base}/about")
+    browser.run("window.fetch = () => Promise.reject(new TypeError('away'))")
+    browser.go("/find")
+    check("no index", browser.until(lambda: "has no search index" in browser.text("main .empty")))
+    browser.go("/d/4")
+    check(
+        "no reply",
+        browser.until(lambda: browser.text("h1") == "No reply")
+        and browser.run("return document.title") == "No reply · Life archive",
+    )
+
+
+PARTS = [
+    ahead,
+    listed,
+    deposited,
+    comments,
+    scripted,
+    single_keys,
+    wheeled,
+    cited,
+    boxed,
+    objects,
+    sorts,
+    spoken,
+    printed,
+    nothing_found,
+]

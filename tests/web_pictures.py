@@ -1,19 +1,24 @@
-"""The parts of tests/web on pictures to keep, and on the page of an object.
+"""The parts of tests/test_web.py on pictures to keep, and on the page of an object.
 """
 import base64
 import os
 import re
+import struct
 import subprocess
 import xml.etree.ElementTree
+import zlib
+from typing import Any
 
-import reference
-from clients import HERE, check, run
+import life
+from browser import Browser
+from clients import HERE, check, left_out, run, same
+from gateways import Gateway
 from pages import asked, content, kept
 
 DRAW = os.path.join(HERE, "..", "crates", "life_draw", "out", "life_draw")
 SVG = "{http://www.w3.org/2000/svg}"
 DOWNLOADS = "downloads"
-# Each cell's middle pixel of a picture, dark or not, with the size of a cell that the box of so many columns has.
+# Each cell's middle pixel of a picture, dark or not, with the size of a cell in a box of this many columns.
 PIXELS = """
 const [encoded, wide] = words;
 const bitmap = await createImageBitmap(new Blob([Uint8Array.from(atob(encoded), (byte) => byte.charCodeAt(0))], { type: 'image/png' }));
@@ -41,7 +46,7 @@ return (await phasesOf(pattern, rule, words[1], new AbortController().signal)).m
 """
 
 
-def saved(browser, folder, button, name):
+def saved(browser: Browser, folder: str, button: str, name: str) -> Any:
     """Presses a button, and answers the bytes of the file that comes."""
     path = os.path.join(folder, DOWNLOADS, name)
     browser.one(button).click()
@@ -49,32 +54,142 @@ def saved(browser, folder, button, name):
     return content(path) if os.path.exists(path) else b""
 
 
-def cells_of(path):
+def attribute(tree: xml.etree.ElementTree.Element, path: str, name: str) -> str:
+    """An attribute of an element of a document."""
+    element = tree.find(path)
+    return "" if element is None else element.get(name, "")
+
+
+def cells_of(path: str) -> set[tuple[int, int]]:
     """The cells of the path of a document."""
     runs = re.findall(r"M(-?\d+) (-?\d+)h(\d+)v1h-(\d+)z", path)
     return {(int(left) + step, int(top)) for left, top, long, _ in runs for step in range(int(long))}
 
 
-def pictures(gateway, browser, base, folder):
-    """A picture is byte for byte the one of life-draw, and a PNG has the same cells."""
-    number = kept(gateway, "pictured", b"#N A <b> & \"c\"\nx = 9, y = 3\nbo3b3o$2bo2bo$3o5bo!\n")
+# What a button of the page copies.
+COPY = """
+let copied = null;
+Object.defineProperty(navigator, 'clipboard', { configurable: true, value: { writeText: async (text) => { copied = text; } } });
+[...document.querySelectorAll('button')].find((button) => button.textContent === words[0]).click();
+await new Promise((resolve) => setTimeout(resolve));
+return copied;
+"""
+
+
+def unsigned(svg: bytes) -> tuple[bytes, str]:
+    """A document without the line that says where it comes from, and that line's text."""
+    found = re.search(rb"<desc>(.*)</desc>\n", svg)
+    assert found is not None
+    return svg.replace(found[0], b""), found[1].decode()
+
+
+def chunks(png: bytes) -> list[tuple[str, bytes]]:
+    """The chunks of a PNG, each with its type and data. Their checksums are right."""
+    place, found = 8, []
+    while place < len(png):
+        length, kind = struct.unpack(">I4s", png[place : place + 8])
+        data, total = png[place + 8 : place + 8 + length], png[place + 8 + length : place + 12 + length]
+        if zlib.crc32(kind + data) != struct.unpack(">I", total)[0]:
+            return []
+        found.append((kind.decode(), data))
+        place += 12 + length
+    return found if png.startswith(b"\x89PNG\r\n\x1a\n") else []
+
+
+def texts_of(png: bytes) -> dict[str, str]:
+    """The texts of a PNG by their keywords."""
+    parts = [data.split(b"\0", 5) for kind, data in chunks(png) if kind == "iTXt"]
+    return {part[0].decode(): part[5].decode() for part in parts if part[1:5] == [b""] * 4}
+
+
+def pictures(gateway: Gateway, browser: Browser, base: str, folder: str) -> None:
+    """A picture is byte for byte the one that life-draw makes of the copied text, but for its origin, and a PNG has the same cells."""
+    name = 'A <b> & "c"'
+    number = kept(gateway, "pictured", f"#N {name}\nx = 9, y = 3\nbo3b3o$2bo2bo$3o5bo!\n".encode())
     browser.open(f"{base}/d/{number}")
-    for at, name in ((0, f"deposit-{number}"), (7, f"deposit-{number}-at-7")):
+    for at, file in ((0, f"deposit-{number}"), (7, f"deposit-{number}-at-7")):
         if at:
             browser.type("#generation", f"{at}\ue007")
             browser.at(f"/at/{at}")
         text = asked(gateway.life_port, f"/deposits/{number}" + (f"/at/{at}" if at else ""))[1]
-        svg = saved(browser, folder, "#save-svg", f"{name}.svg")
+        url = f"{base}/d/{number}" + (f"/at/{at}" if at else "")
+        origin = f"Generation {at} of deposit {number}, {url}" if at else f"Deposit {number}, {url}"
+        title = f"{name}, generation {at}" if at else name
+        body = text[text.index(b"x = ") :].decode()
+        wanted = f"#N {title}\n#C {origin}\n{body}"
+        same(f"what is copied of generation {at}", browser.wait_for(COPY, "Copy as RLE"), wanted)
+        same(
+            f"what is loaded of generation {at}",
+            saved(browser, folder, "a.button[download]", f"{file}.rle").decode(),
+            wanted,
+        )
+        svg, said = unsigned(saved(browser, folder, "#save-svg", f"{file}.svg"))
+        same(f"the picture of generation {at} says where it comes from", said, origin)
         if os.access(DRAW, os.X_OK):
-            check(f"the picture of generation {at} is that of life-draw", svg == subprocess.run([DRAW, "svg"], input=text, capture_output=True, timeout=60).stdout)
+            same(
+                f"the picture of generation {at} is that of life-draw",
+                svg,
+                subprocess.run([DRAW, "svg"], input=wanted.encode(), capture_output=True, timeout=60).stdout,
+            )
         else:
-            print(f"web: there is no {DRAW}, so no picture is compared with its own")
-        cells = reference.read_file(text)[4]
+            left_out(f"there is no {DRAW}, so no picture is compared with its own")
+        cells = life.read_file(text)[4]
         tree = xml.etree.ElementTree.fromstring(svg)
-        check(f"the cells of the picture of generation {at}", cells_of(tree.find(f"{SVG}path").get("d")) == cells)
+        same(f"the title of generation {at}", tree.findtext(f"{SVG}title"), title)
+        same(f"the cells of the picture of generation {at}", cells_of(attribute(tree, f"{SVG}path", "d")), cells)
         wide, high = 3 + max(x for x, _ in cells), 3 + max(y for _, y in cells)
-        size, rows, dark = browser.wait_for(PIXELS, base64.b64encode(saved(browser, folder, "#save-png", f"{name}.png")).decode(), wide)
-        check(f"the PNG of generation {at}", size == 16 and rows == high and {tuple(cell) for cell in dark} == set(cells))
+        png = saved(browser, folder, "#save-png", f"{file}.png")
+        size, rows, dark = browser.wait_for(PIXELS, base64.b64encode(png).decode(), wide)
+        check(
+            f"the PNG of generation {at}", size == 16 and rows == high and {tuple(cell) for cell in dark} == set(cells)
+        )
+        same(f"what the PNG of generation {at} says", texts_of(png), {"Title": title, "Description": origin})
+
+
+def copied(gateway: Gateway, browser: Browser, base: str, _folder: str) -> None:
+    """What is copied while it plays is the generation whose address is copied. A file that is copied twice has its origin once."""
+    number = kept(gateway, "copied", b"#N Copied\nx = 3, y = 3\nb2o$2o$bo!\n")
+    browser.open(f"{base}/d/{number}")
+    browser.run(
+        "const speed = document.getElementById('speed'); speed.value = '5'; speed.dispatchEvent(new Event('change'))"
+    )
+    browser.one("#play").click()
+    browser.until(lambda: int(browser.run("return document.getElementById('generation').value")) > 1)
+    text, address = browser.wait_for(
+        COPY.replace("return copied", "const text = copied")
+        + """[...document.querySelectorAll('button')].find((button) => button.textContent === 'Copy the address').click();
+        await new Promise((resolve) => setTimeout(resolve));
+        return [text, copied];""",
+        "Copy as RLE",
+    )
+    browser.one("#play").click()
+    at = int(address.rsplit("/", 1)[1])
+    own = asked(gateway.life_port, f"/deposits/{number}/at/{at}")[1].decode()
+    same(
+        f"generation {at} is copied while it plays",
+        text,
+        f"#N Copied, generation {at}\n#C Generation {at} of deposit {number}, computed by a browser, {address}\n{own}",
+    )
+    browser.run("localStorage.removeItem('speed')")
+    again = f"#N Again\n#C Deposit 1, {base}/d/1\n"
+    same(
+        "an origin is written once, and not as a comment too many",
+        browser.wait_for(
+            """
+        const [{ withOrigin }, { readFile }] = [await import('/web/writer.js'), await import('/web/rle.js')];
+        return words[0].map((text) => {
+          const bytes = new TextEncoder().encode(text);
+          return new TextDecoder().decode(withOrigin(bytes, readFile(bytes), { title: null, origin: words[1] }));
+        });""",
+            [again + "x = 1, y = 1\no!\n", "#C c\n" * 64 + "x = 1, y = 1\no!\n", "#C x\n#O Xe\nx = 1, y = 1\no!\n"],
+            f"Deposit 1, {base}/d/1",
+        ),
+        [
+            again + "x = 1, y = 1\no!\n",
+            "#C c\n" * 64 + "x = 1, y = 1\no!\n",
+            f"#C x\n#O Xe\n#C Deposit 1, {base}/d/1\nx = 1, y = 1\no!\n",
+        ],
+    )
 
 
 # The box of what the path of an animation shows at a moment.
@@ -87,64 +202,160 @@ return [x, y, width, height];
 """
 
 
-def animations(gateway, browser, base, folder):
+def animations(gateway: Gateway, browser: Browser, base: str, folder: str) -> None:
     """An animation is byte for byte the one of life-draw. It has each generation in its own place in one box, so a glider glides."""
     file = b"#N Glides\nx = 3, y = 3\nbo$2bo$3o!\n#\n"
     glider = kept(gateway, "glides", file)
     browser.open(f"{base}/d/{glider}/at/2")
     browser.type("#frames", "9")
-    svg = saved(browser, folder, "#save-animation", f"deposit-{glider}-from-2.svg")
+    svg, said = unsigned(saved(browser, folder, "#save-animation", f"deposit-{glider}-from-2.svg"))
+    same("where an animation comes from", said, f"Generations 2 to 10 of deposit {glider}, {base}/d/{glider}/at/2")
     if os.access(DRAW, os.X_OK):
-        check("an animation is that of life-draw", svg == subprocess.run([DRAW, "animation", "2", "10"], input=file, capture_output=True, timeout=60).stdout)
+        same(
+            "an animation is that of life-draw",
+            svg,
+            subprocess.run([DRAW, "animation", "2", "10"], input=file, capture_output=True, timeout=60).stdout,
+        )
     else:
-        print(f"web: there is no {DRAW}, so no animation is compared with its own")
+        left_out(f"there is no {DRAW}, so no animation is compared with its own")
     tree = xml.etree.ElementTree.fromstring(svg)
-    now, frames = {(1, 0), (2, 1), (0, 2), (1, 2), (2, 2)}, []
+    now, made = frozenset({(1, 0), (2, 1), (0, 2), (1, 2), (2, 2)}), []
     for _ in range(11):
-        frames.append(now)
-        now = reference.following(reference.LIFE, now)
-    frames = frames[2:]
-    left, top = min(x for frame in frames for x, _ in frame), min(y for frame in frames for _, y in frame)
-    frames = [{(x - left, y - top) for x, y in frame} for frame in frames]
-    found = [cells_of(data) for data in tree.find(f"{SVG}path/{SVG}animate").get("values").split(";")]
-    check("each frame is in its place", found == frames)
-    check("the box has all of them", tree.get("viewBox") == "-1 -1 7 7")
+        made.append(now)
+        now = life.following(life.LIFE, now)
+    made = made[2:]
+    left, top = min(x for frame in made for x, _ in frame), min(y for frame in made for _, y in frame)
+    frames = [{(x - left, y - top) for x, y in frame} for frame in made]
+    found = [cells_of(data) for data in attribute(tree, f"{SVG}path/{SVG}animate", "values").split(";")]
+    same("each frame is in its place", found, frames)
+    same("the box has all of them", tree.get("viewBox"), "-1 -1 7 7")
     browser.driver.get("about:blank")
     browser.run("document.body.innerHTML = arguments[0]", svg.decode())
     shown = [browser.run(BOX, 0.125 * at + 0.06) for at in range(18)]
-    boxes = [[min(x for x, _ in cells), min(y for _, y in cells), 1 + max(x for x, _ in cells) - min(x for x, _ in cells), 1 + max(y for _, y in cells) - min(y for _, y in cells)]
-             for cells in frames]
-    check("one is seen after the other, over and over", shown == boxes * 2)
+    boxes = [
+        [
+            min(x for x, _ in cells),
+            min(y for _, y in cells),
+            1 + max(x for x, _ in cells) - min(x for x, _ in cells),
+            1 + max(y for _, y in cells) - min(y for _, y in cells),
+        ]
+        for cells in frames
+    ]
+    same("one is seen after the other, over and over", shown, boxes * 2)
 
 
-def objects(_gateway, browser, base, folder):
+# How a browser decodes an animated PNG: the number of frames, how often it repeats, and of each frame the time and the cells.
+DECODED = """
+const [encoded, size] = words;
+const decoder = new ImageDecoder({ type: 'image/png', data: Uint8Array.from(atob(encoded), (byte) => byte.charCodeAt(0)) });
+await decoder.tracks.ready;
+const { frameCount, repetitionCount } = decoder.tracks.selectedTrack;
+const frames = [];
+for (let frameIndex = 0; frameIndex < frameCount; frameIndex += 1) {
+  const { image } = await decoder.decode({ frameIndex });
+  const canvas = new OffscreenCanvas(image.displayWidth, image.displayHeight);
+  const context = canvas.getContext('2d');
+  context.drawImage(image, 0, 0);
+  const { data, width, height } = context.getImageData(0, 0, canvas.width, canvas.height);
+  const cells = [];
+  for (let y = 0; y < height / size; y += 1)
+    for (let x = 0; x < width / size; x += 1)
+      if (data[4 * (Math.floor((y + 0.5) * size) * width + Math.floor((x + 0.5) * size))] < 128) cells.push([x - 1, y - 1]);
+  frames.push([image.duration, cells]);
+}
+return [frameCount, String(repetitionCount), frames];
+"""
+
+
+def moving(gateway: Gateway, browser: Browser, base: str, folder: str) -> None:
+    """An animated PNG has each generation in its own place, as a browser decodes it, and says where it comes from."""
+    number = kept(gateway, "moving", b"#N Moves\nx = 3, y = 3\nbo$2bo$3o!\n##\n")
+    browser.open(f"{base}/d/{number}/at/1")
+    browser.type("#frames", "13")
+    png = saved(browser, folder, "#save-moving", f"deposit-{number}-from-1.png")
+    now, made = frozenset({(1, 0), (2, 1), (0, 2), (1, 2), (2, 2)}), []
+    for _ in range(14):
+        made.append(now)
+        now = life.following(life.LIFE, now)
+    made = made[1:]
+    left, top = min(x for frame in made for x, _ in frame), min(y for frame in made for _, y in frame)
+    many, turns, found = browser.wait_for(DECODED, base64.b64encode(png).decode(), 16)
+    same("the frames", (many, turns), (13, "Infinity"))
+    same(
+        "each frame is in its place",
+        [(time, {tuple(cell) for cell in cells}) for time, cells in found],
+        [(125_000, {(x - left, y - top) for x, y in frame}) for frame in made],
+    )
+    same(
+        "what it says",
+        texts_of(png),
+        {"Title": "Moves", "Description": f"Generations 1 to 13 of deposit {number}, {base}/d/{number}/at/1"},
+    )
+    same(
+        "its chunks",
+        [kind for kind, _ in chunks(png)],
+        ["IHDR", "iTXt", "iTXt", "acTL", "fcTL", "IDAT"] + ["fcTL", "fdAT"] * 12 + ["IEND"],
+    )
+    numbers = [struct.unpack(">I", data[:4])[0] for kind, data in chunks(png) if kind in ("fcTL", "fdAT")]
+    same("the numbers of its chunks", numbers, list(range(25)))
+
+
+def objects(_gateway: Gateway, browser: Browser, base: str, folder: str) -> None:
     """An object is played, its text is the program's, and its phases are those of the rule."""
-    for code, rule, period in (("xq4_153", "B3/S23", 4), ("xs6_696", "B3/S23", 1), ("xp15_4r4z4r4", "B3/S23", 15), ("xp2_7", "B36/S23", 2),
-                               ("xp3_co9nas0san9oczgoldlo0oldlogz1047210127401", "B3/S23", 3)):
+    for code, rule, period in (
+        ("xq4_153", "B3/S23", 4),
+        ("xs6_696", "B3/S23", 1),
+        ("xp15_4r4z4r4", "B3/S23", 15),
+        ("xp2_7", "B36/S23", 2),
+        ("xp3_co9nas0san9oczgoldlo0oldlogz1047210127401", "B3/S23", 3),
+    ):
         browser.open(f"{base}/o/{rule.replace('/', '-')}/{code}")
         status, wanted, _ = run("object", rule, code, str(period))
-        check(f"the text of {code} is the program's", status == 0 and browser.until(lambda: browser.one("#load-object")) and saved(browser, folder, "#load-object", f"{code}.rle") == wanted)
-        check(f"where {code} may be looked up", browser.one("a[href^='https://catagolue']").get_attribute("href") == f"https://catagolue.hatsya.com/object/{code}/{rule.lower().replace('/', '')}")
+        browser.until(lambda: browser.one("#load-object"))
+        named = {"xq4_153": b"#N glider\n", "xs6_696": b"#N beehive\n", "xp15_4r4z4r4": b"#N pentadecathlon\n"}
+        named["xp3_co9nas0san9oczgoldlo0oldlogz1047210127401"] = b"#N pulsar\n"
+        origin = f"#C {code} of {rule}, {base}/o/{rule.replace('/', '-')}/{code}\n".encode()
+        same(
+            f"the text of {code} is the program's, with its name and its origin",
+            (status, saved(browser, folder, "#load-object", f"{code}.rle")),
+            (0, (named.get(code, b"") if rule == "B3/S23" else b"") + origin + wanted),
+        )
+        same(
+            f"where {code} may be looked up",
+            browser.one("a[href^='https://catagolue']").get_attribute("href"),
+            f"https://catagolue.hatsya.com/object/{code}/{rule.lower().replace('/', '')}",
+        )
         if period == 1:
             check(f"{code} has no phases", browser.all("#phases") == [] and browser.all("#play-object") == [])
             continue
         browser.one("#phases summary").click()
         found = [cells for cells in browser.wait_for(PHASES, wanted.decode(), period)]
-        now, phases = reference.read_file(wanted)[4], []
+        now, phases = life.read_file(wanted)[4], []
         for _ in range(period):
             phases.append(now)
-            now = reference.following(reference.read_rule(rule.encode()), now)
+            now = life.following(life.read_rule(rule.encode()), now)
         left, top = min(x for phase in phases for x, _ in phase), min(y for phase in phases for _, y in phase)
-        check(f"the phases of {code}", [{tuple(cell) for cell in cells} for cells in found] == [{(x - left, y - top) for x, y in phase} for phase in phases]
-              and len(browser.all("#phases canvas")) == period)
+        check(
+            f"the phases of {code}",
+            [{tuple(cell) for cell in cells} for cells in found]
+            == [{(x - left, y - top) for x, y in phase} for phase in phases]
+            and len(browser.all("#phases canvas")) == period,
+        )
         browser.one("#play-object").click()
-        check(f"{code} is played", browser.until(lambda: "phase" in browser.one(".page > .picture canvas").get_attribute("aria-label")) and browser.text("#play-object") == "Pause")
+        check(
+            f"{code} is played",
+            browser.until(lambda: "phase" in browser.one(".page > .picture canvas").get_attribute("aria-label"))
+            and browser.text("#play-object") == "Pause",
+        )
     browser.picture("object-phases")
     browser.screen(320, 780)
     browser.open(f"{base}/o/B3-S23/xp3_co9nas0san9oczgoldlo0oldlogz1047210127401")
     browser.one("#load-object")
-    check("an object fits a phone", browser.run("return document.documentElement.scrollWidth") <= 320 and browser.unnamed() == [])
+    check(
+        "an object fits a phone",
+        browser.run("return document.documentElement.scrollWidth") <= 320 and browser.unnamed() == [],
+    )
     browser.screen()
 
 
-PARTS = [pictures, animations, objects]
+PARTS = [pictures, copied, animations, moving, objects]

@@ -1,9 +1,10 @@
-"""The parts of tests/web on waiting and going on: what is seen while a reply stays away, asking again, and what a browser keeps.
+"""The parts of tests/test_web.py on waiting and continuing: what a page shows while a reply is missing, trying again, and what a browser stores.
 """
 import time
 
-from browser import Relay
-from clients import check
+from browser import Browser, Relay
+from clients import check, same
+from gateways import Gateway
 from pages import kept
 
 VISIBLE = "const style = getComputedStyle(document.querySelector('.page'), '::after'); return style.content.includes('Waiting') && style.visibility === 'visible'"
@@ -12,21 +13,36 @@ OLD = 2.1
 KEYS = {"older": "[", "newer": "]"}
 
 
-def waiting(gateway, browser, _base, _folder):
+def waiting(gateway: Gateway, browser: Browser, _base: str, _folder: str) -> None:
     """A page that waits says so, for who sees it and who hears it; a read without a reply can be tried again, and then shows the page."""
     relay = Relay(gateway.port)
     try:
         browser.open(f"http://127.0.0.1:{relay.port}/find")
         check("a page that is there does not wait", not browser.run(VISIBLE))
-        for address, heading in (("/", "Game of Life patterns"), ("/d", "Deposits"), ("/d/1", "deposit 1"), ("/c/1", "Census 1")):
+        for address, heading in (
+            ("/", "Game of Life patterns"),
+            ("/d", "Deposits"),
+            ("/d/1", "deposit 1"),
+            ("/c/1", "Census 1"),
+        ):
             relay.away = True
             browser.go(address)
             check(f"waiting for {address} is seen", browser.until(lambda: browser.run(VISIBLE)))
-            check(f"waiting for {address} is heard", browser.until(lambda: browser.text("#status") == "Waiting for the archive…"))
-            check(f"no reply to {address} is shown", browser.until(lambda: browser.text(".refusal")) and browser.settled() and not browser.run(VISIBLE))
+            check(
+                f"waiting for {address} is heard",
+                browser.until(lambda: browser.text("#status") == "Waiting for the archive…"),
+            )
+            check(
+                f"no reply to {address} is shown",
+                browser.until(lambda: browser.text(".refusal")) and browser.settled() and not browser.run(VISIBLE),
+            )
             relay.away = False
             browser.one(".again").click()
-            check(f"{address} once more", browser.until(lambda: heading in browser.text("h1") and not browser.all(".refusal")) and browser.settled())
+            check(
+                f"{address} once more",
+                browser.until(lambda: heading in browser.text("h1") and not browser.all(".refusal"))
+                and browser.settled(),
+            )
             browser.go("/find")
             browser.at("/find")
         # A generation that does not come.
@@ -38,52 +54,72 @@ def waiting(gateway, browser, _base, _folder):
         relay.away = False
         if again:
             again[0].click()
-        check("a generation is asked for again", bool(again) and browser.at("/d/1/at/777") and browser.until(lambda: browser.all(".again") == []))
+        check(
+            "a generation is asked for again",
+            bool(again) and browser.at("/d/1/at/777") and browser.until(lambda: browser.all(".again") == []),
+        )
         browser.open(f"http://127.0.0.1:{relay.port}/d/4000")
-        check("what is not there is not tried again", browser.until(lambda: browser.text(".refusal")) and browser.all(".again") == [])
+        check(
+            "what is not there is not tried again",
+            browser.until(lambda: browser.text(".refusal")) and browser.all(".again") == [],
+        )
     finally:
         relay.end()
 
 
-def already(_gateway, browser, base, _folder):
+def already(_gateway: Gateway, browser: Browser, base: str, _folder: str) -> None:
     """A deposit that was there already says so, and one that is new does not."""
-    for said in ("Deposited.", "You had deposited this already: it keeps its number."):
+    for said in ("Deposited.", "You had already deposited this; it keeps its number."):
         browser.open(f"{base}/new")
         browser.type("#pattern", "#N Told\nx = 7, y = 1\n7o!")
         browser.type("#member", "ann")
         browser.one("#send").click()
         time.sleep(OLD)
-        check(f"it is shown: {said}", browser.until(lambda: browser.text("h1").startswith("Told ")) and browser.text(".note") == said)
+        check(
+            f"it is shown: {said}",
+            browser.until(lambda: browser.text("h1").startswith("Told ")) and browser.text(".note") == said,
+        )
     browser.driver.refresh()
     browser.settled()
-    check("it is shown once", browser.until(lambda: browser.text("h1").startswith("Told ")) and browser.text(".note") == "")
+    check(
+        "it is shown once",
+        browser.until(lambda: browser.text("h1").startswith("Told ")) and browser.text(".note") == "",
+    )
 
 
-def neighbours(gateway, browser, base, _folder):
+def neighbours(gateway: Gateway, browser: Browser, base: str, _folder: str) -> None:
     """A deposit leads to the next one only if there is one, and from a number that is not there one goes back."""
     last = kept(gateway, "last", b"#N Last\nx = 1, y = 2\no$o!\n")
     time.sleep(OLD)
     links = "return [...document.querySelectorAll('.pager a')].map((link) => link.getAttribute('href'))"
     browser.open(f"{base}/d/{last}")
-    check("the newest has none after it", browser.run(links) == [f"/d/{last - 1}"])
+    same("the newest has none after it", browser.run(links), [f"/d/{last - 1}"])
     browser.press(KEYS["newer"])
     browser.press(KEYS["older"])
-    check("its key leads nowhere", browser.at(f"/d/{last - 1}") and browser.until(lambda: browser.run(links) == [f"/d/{last - 2}", f"/d/{last}"]))
+    check(
+        "its key leads nowhere",
+        browser.at(f"/d/{last - 1}") and browser.until(lambda: browser.run(links) == [f"/d/{last - 2}", f"/d/{last}"]),
+    )
     browser.open(f"{base}/d/{last + 1}")
     browser.until(lambda: browser.text(".refusal"))
     browser.press(KEYS["older"])
     check("back from a number that is not there", browser.at(f"/d/{last}"))
 
 
-def capitals(_gateway, browser, base, _folder):
+def capitals(_gateway: Gateway, browser: Browser, base: str, _folder: str) -> None:
     """Addresses are taken in capitals, too."""
-    for address, wanted in (("D/1", "deposit 1"), ("o/b3-s23/XQ4_153", "xq4_153 glider"), ("d/of/ANN", "Deposits of ann"), ("New", "Deposit a file")):
+    for address, wanted in (
+        ("D/1", "deposit 1"),
+        ("o/b3-s23/XQ4_153", "xq4_153 glider"),
+        ("d/of/ANN", "Deposits of ann"),
+        ("New", "Deposit a file"),
+    ):
         browser.open(f"{base}/{address}")
         check(f"the address {address}", wanted in browser.text("h1") and browser.all(".refusal") == [])
 
 
-# Asks for the last number of an archive of so many, which takes its time, and counts the requests, those at once and the turns. Each try has
-# the module anew, which remembers what it found.
+# Asks for the last number of an archive with this many deposits, which answers slowly, and counts the requests, those at once and the turns. Each try has
+# the module again, which remembers what it found.
 LAST = """
 const { lastDeposit } = await import(`/web/archive.js?${words[0]}-${words[1]}`);
 const whole = window.fetch;
@@ -110,17 +146,22 @@ try {
 """
 
 
-def last_number(_gateway, browser, base, _folder):
+def last_number(_gateway: Gateway, browser: Browser, base: str, _folder: str) -> None:
     """The newest number is looked for by four lists at a time: few turns, also in a large archive. The time is the least of three, as others
     may be at work."""
     browser.open(f"{base}/find")
     for number in (0, 1, 99, 100, 101, 1099, 1100, 43_557, 999_999):
-        found, requests, most, took = min((browser.wait_for(LAST, number, turn) for turn in range(3)), key=lambda one: one[-1])
-        check(f"the last of {number} is {found} by {requests} requests in {took:.0f} ms", found == number and most <= 4 and requests <= 40 and took < 800)
-    check("four are asked at once", most == 4)
+        found, requests, most, took = min(
+            (browser.wait_for(LAST, number, turn) for turn in range(3)), key=lambda one: float(one[-1])
+        )
+        check(
+            f"the last of {number} is {found} by {requests} requests in {took:.0f} ms",
+            found == number and most <= 4 and requests <= 40 and took < 800,
+        )
+    same("four are asked at once", most, 4)
 
 
-def kept_places(gateway, browser, base, _folder):
+def kept_places(gateway: Gateway, browser: Browser, base: str, _folder: str) -> None:
     """Back and reload find the place in a list, a text that is half typed, and the speed."""
     for turn in range(30):
         kept(gateway, f"place-{turn}", f"#N Place {turn}\nx = 1, y = 1\n{turn + 100}o!".encode())
@@ -131,11 +172,17 @@ def kept_places(gateway, browser, base, _folder):
     browser.run("document.querySelectorAll('.cards a')[9].click()")
     browser.until(lambda: browser.all("canvas.large"))
     browser.settled()
-    check("another page begins at its top", browser.run("return scrollY") == 0)
+    same("another page begins at its top", browser.run("return scrollY"), 0)
     browser.driver.back()
-    check("back finds the place in the list", browser.until(lambda: browser.run("return !!document.querySelector('.cards') && scrollY") == 420))
+    check(
+        "back finds the place in the list",
+        browser.until(lambda: browser.run("return !!document.querySelector('.cards') && scrollY") == 420),
+    )
     browser.driver.refresh()
-    check("reload finds it, too", browser.until(lambda: browser.run("return !!document.querySelector('.cards') && scrollY") == 420))
+    check(
+        "reload finds it, too",
+        browser.until(lambda: browser.run("return !!document.querySelector('.cards') && scrollY") == 420),
+    )
     browser.screen()
     text = "#N Half\nx = 3, y = 1\n3"
     browser.open(f"{base}/new")
@@ -143,19 +190,31 @@ def kept_places(gateway, browser, base, _folder):
     browser.go("/find")
     browser.at("/find")
     browser.driver.back()
-    check("back finds what was typed", browser.until(lambda: browser.run("return document.getElementById('pattern')?.value") == text))
+    check(
+        "back finds what was typed",
+        browser.until(lambda: browser.run("return document.getElementById('pattern')?.value") == text),
+    )
     browser.driver.refresh()
-    check("reload finds what was typed", browser.until(lambda: browser.run("return document.getElementById('pattern')?.value") == text))
+    check(
+        "reload finds what was typed",
+        browser.until(lambda: browser.run("return document.getElementById('pattern')?.value") == text),
+    )
     browser.one("#pattern").send_keys("o!")
     browser.type("#member", "ann")
     browser.one("#send").click()
     browser.until(lambda: browser.text("h1").startswith("Half "))
     browser.open(f"{base}/new")
-    check("nothing of it is left after it is deposited", browser.run("return document.getElementById('pattern').value") == "")
+    same(
+        "nothing of it is left after it is deposited",
+        browser.run("return document.getElementById('pattern').value"),
+        "",
+    )
     browser.open(f"{base}/d/1")
-    browser.run("const speed = document.getElementById('speed'); speed.value = '2'; speed.dispatchEvent(new Event('change'))")
+    browser.run(
+        "const speed = document.getElementById('speed'); speed.value = '2'; speed.dispatchEvent(new Event('change'))"
+    )
     browser.open(f"{base}/d/2")
-    check("the speed is kept", browser.run("return document.getElementById('speed').value") == "2")
+    same("the speed is kept", browser.run("return document.getElementById('speed').value"), "2")
     browser.run("localStorage.removeItem('speed')")
 
 
@@ -172,7 +231,7 @@ return [...document.querySelectorAll('main button, main input:not([type=range]):
 """
 
 
-def contrasts(_gateway, browser, base, _folder):
+def contrasts(_gateway: Gateway, browser: Browser, base: str, _folder: str) -> None:
     """Borders of fields and buttons are seen, light and dark."""
     for scheme in ("light", "dark"):
         browser.screen(1100, 900, scheme)
@@ -192,43 +251,52 @@ return [...pixels.filter((_, at) => at % 4 === 0)];
 """
 
 
-def shaded(_gateway, browser, base, _folder):
+def shaded(_gateway: Gateway, browser: Browser, base: str, _folder: str) -> None:
     """A small drawing of a large field is as dark as it has live cells, and a single cell is seen, in one pixel or across up to four."""
     browser.screen(1100, 900, "light")
     browser.open(f"{base}/find")
     half, few = browser.wait_for(SHADES, "half"), browser.wait_for(SHADES, "few")
     dark, white = min(half), max(half)
     check(f"half of the cells are live: {dark} to {white}", white == 255 and 110 < dark < 175)
-    check(f"single cells are seen: {min(few)}, {sum(shade < 255 for shade in few)}", 150 < min(few) < 230 and 16 <= sum(shade < 255 for shade in few) <= 64)
+    check(
+        f"single cells are seen: {min(few)}, {sum(shade < 255 for shade in few)}",
+        150 < min(few) < 230 and 16 <= sum(shade < 255 for shade in few) <= 64,
+    )
 
 
-def phone(_gateway, browser, base, _folder):
+def phone(_gateway: Gateway, browser: Browser, base: str, _folder: str) -> None:
     """On a phone the controls take few rows, the head of a census' table is not broken, and there is room beside the canvas to scroll by."""
     browser.screen(390, 844)
     browser.open(f"{base}/d/1")
     beside = browser.run("return innerWidth - document.querySelector('canvas.large').getBoundingClientRect().right")
     check(f"{beside} pixels beside the canvas", beside >= 32)
     browser.open(f"{base}/c/1")
-    heads = browser.run("return [...document.querySelectorAll('.census thead th')].map((head) => head.getClientRects().length === 1 && head.getBoundingClientRect().height < 40)")
-    check("the head of a census", heads == [True, True])
+    heads = browser.run(
+        "return [...document.querySelectorAll('.census thead th')].map((head) => head.getClientRects().length === 1 && head.getBoundingClientRect().height < 40)"
+    )
+    same("the head of a census", heads, [True, True])
     browser.screen()
 
 
-# The files of the pages that a window has loaded, with their bytes; what an archive or an index answered is none.
+# The files of the pages that a window has loaded, with their bytes, without the replies of an archive or an index.
 LOADED = """
 return [...performance.getEntriesByType('navigation'), ...performance.getEntriesByType('resource')].map((entry) => [new URL(entry.name).pathname, entry.decodedBodySize])
   .filter(([path]) => path === '/d' || path.startsWith('/web/') || path === '/favicon.ico');
 """
-# The most bytes that the list of deposits may load before it asks the archive.
-MOST_BYTES = 95_000
+# The most bytes that the list of deposits may load before it asks the archive. Comments with types are among them. Each page takes drops and
+# pastes, has the style for paper, and can turn single keys off, which together are 2,000.
+MOST_BYTES = 99_000
 
 
-def light(_gateway, browser, base, _folder):
+def light(_gateway: Gateway, browser: Browser, base: str, _folder: str) -> None:
     """The list of deposits loads what it shows, and no more: a player, a form or the names of objects come with their own pages."""
     browser.open(f"{base}/d")
     browser.until(lambda: browser.all(".cards canvas"))
     loaded = dict(browser.run(LOADED))
-    check(f"the list is {sum(loaded.values())} bytes: {sorted(loaded)}", 40_000 < sum(loaded.values()) <= MOST_BYTES and min(loaded.values()) > 0)
+    check(
+        f"the list is {sum(loaded.values())} bytes: {sorted(loaded)}",
+        40_000 < sum(loaded.values()) <= MOST_BYTES and min(loaded.values()) > 0,
+    )
 
 
 PARTS = [light, waiting, already, neighbours, capitals, last_number, kept_places, contrasts, shaded, phone]

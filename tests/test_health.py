@@ -1,0 +1,360 @@
+"""Whether an administrator learns about problems: alarms that begin and end once, the checks of life-age, settings that are named with their
+line, and files that somebody has changed by hand. systemd is a stand-in here; tests/test_boot.py has a real one.
+"""
+import getpass
+import os
+import re
+import shutil
+import subprocess
+import time
+
+import pytest
+
+import clubs
+from clients import GLIDER, HERE, Server, check, deposit, exchanged, same
+
+pytestmark = pytest.mark.full
+
+DEPLOY = os.path.join(HERE, "..", "deploy")
+UNIT = "life-backup.service"
+
+
+def content(path: str) -> str:
+    if not os.path.exists(path):
+        return ""
+    with open(path, encoding="utf-8", errors="replace") as file:
+        return file.read()
+
+
+def write(path: str, text: str, mode: int = 0o644) -> None:
+    os.makedirs(os.path.dirname(path), exist_ok=True)
+    with open(path, "w", encoding="utf-8") as file:
+        file.write(text)
+    os.chmod(path, mode)
+
+
+def script(name: str, *words: str, **environment: str) -> tuple[int, str, str]:
+    """The status and the two streams of a script of deploy/."""
+    done = subprocess.run(
+        [os.path.join(DEPLOY, name), *words],
+        capture_output=True,
+        text=True,
+        timeout=120,
+        env=os.environ | environment,
+        check=False,
+    )
+    return done.returncode, done.stdout, done.stderr
+
+
+# ---- alarms
+
+
+class Desk:
+    """Stand-ins for the journal, systemctl and sendmail, each of which writes what it is given into a file."""
+
+    def __init__(self, folder: str) -> None:
+        self.room, self.alarms = folder, os.path.join(folder, "alarms")
+        self.binaries = os.path.join(folder, "bin")
+        self.stand_in("journalctl", f'cat "{folder}/last" 2> /dev/null')
+        self.stand_in("systemctl", f'cat "{folder}/shown" 2> /dev/null')
+        for name in ("systemd-cat", "logger", "sendmail"):
+            self.stand_in(name, f'{{ echo "$*"; cat; }} >> "{folder}/{name}.said"')
+
+    def stand_in(self, name: str, body: str) -> None:
+        write(os.path.join(self.binaries, name), f"#!/bin/bash\n{body}\n", 0o755)
+
+    def alarm(self, *words: str) -> list[str]:
+        """What an alarm said: to the journal, as a line of the unit, and by mail."""
+        for name in ("systemd-cat", "logger", "sendmail"):
+            write(os.path.join(self.room, f"{name}.said"), "")
+        environment = {
+            "PATH": f"{self.binaries}:{os.environ['PATH']}",
+            "SENDMAIL": os.path.join(self.binaries, "sendmail"),
+            "LIFE_ALARMS": self.alarms,
+        }
+        same(
+            f"life-alarm {' '.join(words)}",
+            script("life-alarm", *words, UNIT, "ops@club.example", **environment),
+            (0, "", ""),
+        )
+        return [content(os.path.join(self.room, f"{name}.said")) for name in ("systemd-cat", "logger", "sendmail")]
+
+
+def test_alarms(folder: str) -> None:
+    """An alarm is in the journal at priority crit, and by mail if there is a sendmail. The same reason sends one alarm, until it is over."""
+    desk = Desk(os.path.join(folder, "alarms"))
+    write(os.path.join(desk.room, "last"), "life-copy: club.db is not there\n")
+    write(os.path.join(desk.room, "shown"), "Result=exit-code\nExecMainStatus=1\nExecMainCode=1\n")
+    journal, line, mail = desk.alarm()
+    reason = "reason: life-copy: club.db is not there"
+    check("the journal has it as critical", "--priority=crit" in journal and f"{UNIT} failed\n{reason}\n" in journal)
+    check(
+        "it is a line of the unit",
+        line.startswith("--journald\n")
+        and f"OBJECT_SYSTEMD_UNIT={UNIT}\n" in line
+        and line.endswith(f"MESSAGE={reason}\n"),
+    )
+    check(
+        "it is mail",
+        "To: ops@club.example\n" in mail
+        and re.search(rf"(?m)^Subject: life on \S+: {UNIT} failed$\n\n{reason}$", mail) is not None,
+    )
+    journal, line, mail = desk.alarm()
+    check(
+        "the same reason is no second mail, and no second alarm",
+        mail == "" and "--priority=err" in journal and "crit" not in journal and reason in line,
+    )
+    write(os.path.join(desk.room, "last"), "life-copy: /var/backups/life has room for 31,457,280 bytes\n")
+    check("another reason is one", "has room for 31,457,280" in desk.alarm()[2])
+    write(os.path.join(desk.room, "last"), "life-copy: /var/backups/life has room for 12,288 bytes\n")
+    same("another number is no new alarm", desk.alarm()[2], "")
+    journal, _, mail = desk.alarm("--ended")
+    check(
+        "its end is an alarm",
+        f"{UNIT} is well again" in mail and "--priority=crit" in journal and f"{UNIT} is well again" in journal,
+    )
+    same("once", desk.alarm("--ended"), ["", "", ""])
+    check("after that it is a new alarm", "has room for 12,288" in desk.alarm()[2])
+    write(os.path.join(desk.room, "shown"), "Result=signal\nExecMainStatus=9\nExecMainCode=2\n")
+    check("a signal is named", "reason: killed by signal 9\n" in desk.alarm()[2])
+    desk.stand_in("sendmail", "cat > /dev/null; exit 75")
+    write(os.path.join(desk.room, "shown"), "Result=timeout\n")
+    journal = desk.alarm()[0]
+    check(
+        "a sendmail that fails is said, and the alarm is in the journal",
+        "could not send mail" in journal and "reason: timeout" in journal,
+    )
+    status, _, err = script("life-alarm", UNIT, "--no-such")
+    check("wrong arguments", status == 2 and err.startswith("usage: life-alarm"))
+
+
+# ---- what life-age looks at
+
+
+class Place:
+    """An archive, its copies, and the files by which systemd says what runs and what is enabled."""
+
+    def __init__(self, folder: str) -> None:
+        self.root, self.state = os.path.join(folder, "root"), os.path.join(folder, "state")
+        self.archive, self.copies = os.path.join(folder, "archive", "club.db"), os.path.join(folder, "copies")
+        for path in (os.path.dirname(self.archive), self.copies, self.state):
+            os.makedirs(path)
+
+    def age(self, limit: str = "2h") -> tuple[int, str]:
+        status, out, err = script(
+            "life-age", "--state", self.state, "--root", self.root, self.archive, self.copies, limit
+        )
+        return status, out + err
+
+    def group(self, unit: str) -> str:
+        return os.path.join(self.root, "sys/fs/cgroup/system.slice", unit)
+
+    def enable(self, unit: str) -> None:
+        write(os.path.join(self.root, "etc/systemd/system/multi-user.target.wants", unit), "")
+
+    def copied(self, seconds: int = 0) -> str:
+        """A copy that is some seconds old. Only its name counts."""
+        name = time.strftime("club-%Y-%m-%dT%H%M.db", time.gmtime(time.time() - seconds))
+        write(os.path.join(self.copies, name), "")
+        return os.path.join(self.copies, name)
+
+
+def test_ages(folder: str) -> None:
+    """A newest copy that is too old is a failure for as long as it is so. A copy with a time in the future does not count."""
+    place = Place(os.path.join(folder, "ages"))
+    same("a new folder without a copy", place.age()[0], 0)
+    os.utime(place.copies, (time.time() - 8000, time.time() - 8000))
+    same(
+        "an old folder without a copy",
+        place.age(),
+        (1, f"life-age: no good copy for 2h: there is no copy in {place.copies}\n"),
+    )
+    old = place.copied(7300)
+    same("a copy of two hours ago", place.age(), (1, f"life-age: no good copy for 2h: the newest copy is {old}\n"))
+    same("it stays a failure", place.age()[0], 1)
+    same("for three hours it is young", place.age("3h"), (0, f"life-age: the newest copy is {old}\n"))
+    tomorrow = place.copied(-86400)
+    same("a copy with tomorrow's time does not count", place.age()[0], 1)
+    os.remove(tomorrow)
+    new = place.copied()
+    same("a new copy", place.age(), (0, f"life-age: the newest copy is {new}\n"))
+    shutil.rmtree(place.copies)
+    same("no folder", place.age(), (1, f"life-age: {place.copies}: No such file or directory\n"))
+    status, _, err = script("life-age", place.archive)
+    check("wrong arguments", status == 2 and err.startswith("usage: life-age"))
+
+
+def test_served(program: str, folder: str) -> None:
+    """A file that was removed, or exchanged by another one, while it is served is seen; one that is served is well."""
+    place = Place(os.path.join(folder, "served"))
+    place.copied()
+    with Server(place.archive, 10) as server:
+        exchanged(server.port, [deposit("ann", "t1", GLIDER)])
+        same("without the service nothing is looked at", place.age()[0], 0)
+        os.makedirs(place.group("life.service"))
+        same("the file that is served", place.age()[0], 0)
+        os.rename(place.archive, place.archive + ".away")
+        status, said = place.age()
+        check(
+            f"a file that is gone: {said}",
+            status == 1 and f"{place.archive}: No such file" in said and "Don't stop the service" in said,
+        )
+        shutil.copy(place.archive + ".away", place.archive)
+        status, said = place.age()
+        check(
+            f"another file in its place: {said}",
+            status == 1 and f"{place.archive} is not the file that life.service has open" in said,
+        )
+        os.replace(place.archive + ".away", place.archive)
+        same("the file is back", place.age()[0], 0)
+
+
+def test_away(folder: str) -> None:
+    """A service that is enabled and does not run is a failure after ten minutes, and none if it is not enabled."""
+    place = Place(os.path.join(folder, "away"))
+    place.copied()
+    same("none is enabled", place.age()[0], 0)
+    place.enable("life-gateway.service")
+    same("it may have been stopped on purpose", place.age()[0], 0)
+    seen = os.path.join(place.state, "life-gateway.service")
+    os.utime(seen, (time.time() - 601, time.time() - 601))
+    same("after ten minutes", place.age(), (1, "life-age: life-gateway.service is enabled but not running\n"))
+    os.makedirs(place.group("life-gateway.service"))
+    same("it runs", (place.age()[0], os.path.exists(seen)), (0, False))
+    os.rmdir(place.group("life-gateway.service"))
+    same("the ten minutes start over", place.age()[0], 0)
+
+
+def test_room(folder: str) -> None:
+    """Little room on the archive's disk is a failure. The disk is one in memory, which only root can mount."""
+    if os.geteuid() != 0:
+        pytest.skip("this is not root, so no small disk is mounted")
+    place = Place(os.path.join(folder, "room"))
+    place.copied()
+    disk = os.path.dirname(place.archive)
+    mounted = subprocess.run(
+        ["mount", "-t", "tmpfs", "-o", "size=8m", "disk", disk], capture_output=True, text=True, check=False
+    )
+    if mounted.returncode:
+        pytest.skip(f"{mounted.stderr.strip()}: so no small disk is mounted")
+    try:
+        same("a small disk", place.age(), (1, f"life-age: {disk} has only 8 MiB left\n"))
+    finally:
+        subprocess.run(["umount", disk], check=True)
+    same("a large disk", place.age()[0], 0)
+
+
+@pytest.mark.parametrize(
+    "words",
+    [
+        ["life-check"],
+        ["life-await", "1"],
+        ["life-watch", "1"],
+        ["life-index", "one"],
+        ["life-copy", "one"],
+        ["life-restore", "--older"],
+        ["life-configure", "--no-such"],
+        ["life-new-archive", "one"],
+        ["configure"],
+    ],
+    ids=" ".join,
+)
+def test_usages(words: list[str]) -> None:
+    """Wrong arguments are a usage error: a line about them, and status 2."""
+    status, out, err = script(*words)
+    check(f"wrong arguments of {words[0]}: {err}", (status, out) == (2, "") and "usage: " in err)
+
+
+# ---- settings and files
+
+
+def test_spellings(program: str, folder: str) -> None:
+    """The settings file in twelve spellings: the copy is of the archive that is named."""
+    room = os.path.join(folder, "spellings")
+    archive, copies = os.path.join(room, "archive", "club.db"), os.path.join(room, "copies")
+    for path in (os.path.dirname(archive), copies):
+        os.makedirs(path)
+    with Server(archive, 1) as server:
+        exchanged(server.port, [deposit("ann", "t1", GLIDER)])
+        server.ended()
+    others = f"PROGRAM={program}\nARCHIVE_FOLDER={os.path.dirname(archive)}\nBACKUP_FOLDER={copies}\nLIFE_USER={getpass.getuser()}\nMETRICS_FOLDER=\n"
+    for number, spelling in enumerate(clubs.SPELLINGS):
+        path = os.path.join(room, f"settings{number}")
+        with open(path, "wb") as file:
+            file.write((others + spelling.format(f"ARCHIVE={archive}")).encode("latin-1"))
+        status, out, err = script("life-copy", "--settings", path)
+        check(f"spelling {spelling!r}: {err}", status == 0 and out.endswith(": 1 deposit, 0 censuses\n"))
+
+
+@pytest.mark.parametrize("line", ["READS 60", "NO_SUCH=1", "ARCHIVE='/srv/club.db'"])
+def test_broken_line(folder: str, line: str) -> None:
+    """An invalid line of the settings is named, with its number."""
+    path = os.path.join(folder, "broken")
+    write(path, f"# a comment\n{line}\n")
+    status, _, err = script("life-copy", "--settings", path)
+    check(f"a broken line is named: {err}", status == 1 and f"{path}, line 2: " in err and line.split("=")[0] in err)
+
+
+class Root:
+    """A root folder with settings, for life-configure."""
+
+    def __init__(self, folder: str) -> None:
+        self.folder = folder
+        write(self.path("etc/life/settings"), "READS=9r/s\nWATCH_SECONDS=77\n")
+
+    def path(self, name: str) -> str:
+        return os.path.join(self.folder, name)
+
+    def configured(self, *words: str) -> tuple[int, str, str]:
+        return script("life-configure", "--files-only", "--root", self.folder, *words)
+
+
+def test_changed_by_hand(folder: str) -> None:
+    """A file that somebody has changed stays, and what the settings make of it is beside it, until --replace is asked for."""
+    root = Root(os.path.join(folder, "configured"))
+    site, unit = root.path("etc/nginx/sites-available/life"), root.path("etc/systemd/system/life-watch.service")
+    status, out, err = root.configured()
+    check(
+        f"files are written: {err}",
+        status == 0 and "life-site.conf" in out and "life-watch.service" in out and " 77\n" in content(unit),
+    )
+    same("a second time nothing changes", root.configured(), (0, "changed: nothing\n", ""))
+    ours = content(site)
+    for path in (site, unit):
+        write(
+            path,
+            content(path)
+            .replace("[Service]", "[Service]\n# ours")
+            .replace("server {", "server {\n    deny 203.0.113.7; # ours"),
+        )
+    write(root.path("etc/life/settings"), "READS=8r/s\nWATCH_SECONDS=78\n")
+    status, out, err = root.configured()
+    check(
+        f"what was changed stays: {err}",
+        status == 0
+        and "# ours" in content(site)
+        and "# ours" in content(unit)
+        and err.count("was changed by hand and stays") == 2,
+    )
+    check(
+        "the new one is beside it", " 78\n" in content(unit + ".dpkg-dist") and "8r/s" in content(site + ".dpkg-dist")
+    )
+    status, out, _ = root.configured("--replace")
+    check(
+        "it is replaced if that is asked for",
+        status == 0
+        and "8r/s" in content(site)
+        and "# ours" not in content(site)
+        and "# ours" in content(site + ".dpkg-old")
+        and ours != content(site),
+    )
+    write(unit, "[Service]\nExecStart=/bin/true\n")
+    status, _, err = root.configured()
+    check(
+        "a unit of somebody else stays, without an error",
+        status == 0 and content(unit) == "[Service]\nExecStart=/bin/true\n" and unit in err,
+    )
+    write(site, "# Made by life-configure from /etc/life/settings.\nserver { }\n")
+    check("a file of release 1.0.0 is written again", root.configured()[0] == 0 and "8r/s" in content(site))
+    digest = re.search(r"(?s)location = /\.life-configured .*?return 200 '([0-9a-f]{64})'", content(site))
+    check("the site answers with its digest", digest is not None and digest[1] in content(site))

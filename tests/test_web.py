@@ -1,0 +1,1049 @@
+"""The pages of web/ in a Chromium, and some in a Firefox, through the gateway as deploy/try runs it, over the archive's program.
+
+Each test uses the archive that the ones before it have made. Pictures of the pages are left in tests/out, which is not kept.
+"""
+import base64
+import csv
+import glob
+import hashlib
+import io
+import json
+import os
+import random
+import re
+import sqlite3
+import time
+from collections.abc import Callable, Iterable, Iterator
+from typing import Any
+
+import pytest
+
+import browser as browsers
+import gateways
+import life
+import reference
+import web_haul
+from browser import Browser, Relay
+from clients import HERE, check, left_out, run, same
+from gateways import BUSY, Gateway
+from pages import asked, content, kept, told
+import web_addresses
+import web_club
+import web_colors
+import web_firefox
+import web_files
+import web_many
+import web_members
+import web_pictures
+import web_player
+import web_search
+import web_waiting
+
+pytestmark = pytest.mark.full
+
+FIRST_PORT = 10500
+TOP = os.path.join(HERE, "..")
+PICTURES = os.path.join(HERE, "out")
+GOLLY = "/usr/share/golly/Patterns"
+GUN = os.path.abspath(os.path.join(TOP, "examples", "gosper-gun.rle"))
+
+UNFINISHED = "#C Cut.\nx = 1, y = 1\n3o"
+CONTROL, SHIFT, SPACE, RIGHT, LEFT, HOME, ENTER, ESCAPE = (
+    "\ue009",
+    "\ue008",
+    " ",
+    "\ue014",
+    "\ue012",
+    "\ue011",
+    "\ue007",
+    "\ue00c",
+)
+
+
+def runs_of(cells: Iterable[tuple[int, int]]) -> list[list[int]]:
+    """For each row its runs of live cells, `[begin, end, begin, end, ..]`, as the pages have a pattern."""
+    rows: list[list[int]] = [[] for _ in range(1 + max((row for _, row in cells), default=-1))]
+    for column, row in sorted(cells, key=lambda cell: (cell[1], cell[0])):
+        if rows[row] and rows[row][-1] == column:
+            rows[row][-1] = column + 1
+        else:
+            rows[row] += [column, column + 1]
+    return rows
+
+
+# The cells that a canvas shows, from the pixels that are of the color of live ones: given the size of a cell, it finds where the first one is
+# seen. Each live cell has its left upper pixel of that color, and there are no others.
+SEEN = """
+const canvas = document.querySelector(words[0]);
+const { colors } = await import('/web/draw.js');
+await new Promise((resolve) => requestAnimationFrame(() => requestAnimationFrame(resolve)));
+const { width, height } = canvas;
+const pixels = new Uint32Array(canvas.getContext('2d').getImageData(0, 0, width, height).data.buffer);
+const { live } = colors();
+const cells = [];
+for (let at = 0; at < pixels.length; at += 1)
+  if (pixels[at] === live && pixels[at - 1] !== live && pixels[at - width] !== live) cells.push([at % width, Math.floor(at / width)]);
+return cells;
+"""
+
+
+def seen(browser: Browser) -> tuple[set[tuple[int, int]], tuple[float, float, float]]:
+    """The cells that the large canvas shows, apart from one another as gaps are, moved to the corner; and where that is. A canvas that is being
+    redrawn may show none: then they are nowhere."""
+    pixels = browser.wait_for(SEEN, "canvas.large")
+    if len(pixels) < 2:
+        nowhere = float("inf")
+        return set(), (nowhere, nowhere, nowhere)
+    left, top = min(x for x, _ in pixels), min(y for _, y in pixels)
+    steps = {x - left for x, _ in pixels} | {y - top for _, y in pixels}
+    size = min(step for step in steps if step > 0)
+    return {((x - left) // size, (y - top) // size) for x, y in pixels}, (left, top, size)
+
+
+def later(text: bytes, generations: int) -> set[tuple[int, int]]:
+    """The cells of a generation of a file by the reference, moved to the corner."""
+    rule, cells = life.read_file(text)[3:]
+    return set(life.normal(life.generation(rule, cells, generations)))
+
+
+@pytest.fixture(scope="module")
+def gateway(program: str, folder: str) -> Iterator[Gateway]:
+    """The gateway of all pages here."""
+    if lacking := gateways.missing() + browsers.missing():
+        pytest.skip(f"{' and '.join(lacking)} not installed")
+    own = Gateway(os.path.join(folder, "club.db"), FIRST_PORT, seconds=1800)
+    yield own
+    own.end()
+
+
+@pytest.fixture(scope="module")
+def base(gateway: Gateway) -> str:
+    """The address of the site."""
+    return f"http://127.0.0.1:{gateway.port}"
+
+
+@pytest.fixture(scope="module")
+def downloads(folder: str) -> str:
+    """Where the browser puts what it downloads."""
+    path = os.path.join(folder, "downloads")
+    os.makedirs(path, exist_ok=True)
+    return path
+
+
+@pytest.fixture(scope="module")
+def browser(gateway: Gateway, downloads: str) -> Iterator[Browser]:
+    """The browser of all pages here."""
+    os.makedirs(PICTURES, exist_ok=True)
+    own = Browser(downloads, PICTURES, BUSY)
+    yield own
+    own.end()
+
+
+@pytest.fixture(scope="module")
+def tokens() -> set[str]:
+    """The tokens under which the pages made deposits."""
+    return set()
+
+
+# ---- the tests
+
+
+def test_the_beginning(gateway: Gateway) -> None:
+    """The gateway runs."""
+    check("the gateway begins", gateway.port != 0)
+
+
+def test_headers(gateway: Gateway) -> None:
+    """The pages have their headers, and hide no route of the archive."""
+    status, page, lines = asked(gateway.port, "/")
+    check(
+        "the page",
+        status == 200
+        and page == web_addresses.page_of(gateway)
+        and lines["content-type"] == "text/html; charset=utf-8",
+    )
+    policy = dict(part.strip().partition(" ")[::2] for part in lines["content-security-policy"].split(";"))
+    check(
+        "the policy of the page",
+        policy["default-src"] == "'none'"
+        and {policy[name] for name in ("script-src", "style-src", "img-src", "connect-src")} == {"'self'"}
+        and policy["base-uri"] == policy["form-action"] == policy["frame-ancestors"] == "'none'",
+    )
+    check(
+        "the page is revalidated each time",
+        lines["cache-control"] == "no-cache" and lines["x-content-type-options"] == "nosniff",
+    )
+    types = {
+        "css": "text/css; charset=utf-8",
+        "csv": "text/csv; charset=utf-8",
+        "ico": "image/x-icon",
+        "js": "text/javascript; charset=utf-8",
+        "png": "image/png",
+        "svg": "image/svg+xml",
+        "txt": "text/plain; charset=utf-8",
+    }
+    for name in sorted(os.listdir(os.path.join(TOP, "web"))):
+        if name not in ("index.html", "README.md"):
+            status, file, lines = asked(gateway.port, f"/web/{name}")
+            same(
+                f"the file {name}",
+                (status, file, lines["content-type"]),
+                (200, content(os.path.join(TOP, "web", name)), types[name.rsplit(".")[-1]]),
+            )
+    check(
+        "the notes of web/ are not with the pages",
+        not os.path.exists(os.path.join(gateway.folder, "pages", "README.md")),
+    )
+    for path in (
+        "/web/",
+        "/web/none.js",
+        "/web/index.html",
+        "/web/README.md",
+        "/web",
+        "/web/../nginx.conf",
+        "/x",
+        "/deposit/1",
+    ):
+        same(f"no page at {path}", asked(gateway.port, path)[:2], (404, b'{"error":"no-such-page","refusal":12}'))
+    for path in ("/", "/d/1", "/web/main.js", "/favicon.ico"):
+        same(
+            f"a deposit at {path}",
+            asked(gateway.port, path, "POST", b"")[:2],
+            (405, b'{"error":"bad-method","refusal":13}'),
+        )
+    kept(gateway, "glider", content(os.path.join(TOP, "examples", "glider.rle")))
+    for path in (
+        "/deposits/1",
+        "/deposits/after/1",
+        "/deposits/1/at/7",
+        "/deposits/1/kind/4",
+        "/deposits/2",
+        "/censuses/1",
+        "/censuses/1/csv",
+        "/objects/B3S23/xq4_153/4",
+        "/deposits",
+        "/deposits/1/at",
+        "/objects/B3S23/xq4_154/4",
+    ):
+        own, through = asked(gateway.life_port, path), asked(gateway.port, path)
+        check(
+            f"the route {path} beside the pages",
+            own[:2] == through[:2]
+            and through[2]["x-content-type-options"] == "nosniff"
+            and "x-cache" in through[2] | {"x-cache": ""},
+        )
+    for path in ("/", "/d/1", "/web/main.js"):
+        same(f"the program has no page {path}", asked(gateway.life_port, path)[0], 404)
+
+
+def test_pasted(gateway: Gateway, browser: Browser, base: str, tokens: set[str]) -> None:
+    """A file that is pasted is drawn, deposited under the sum of its bytes, and shown."""
+    text = "#N Pasted\n#O Ann\nx = 3, y = 3, rule = B3/S23\nbo$2bo$3o!\n"
+    browser.open(f"{base}/new")
+    # A paste of the system's clipboard: the text comes into it by a cut.
+    browser.type("#pattern", text)
+    browser.one("#pattern").send_keys(CONTROL, "a")
+    browser.one("#pattern").send_keys(CONTROL, "x")
+    same("the text is cut", browser.run("return document.getElementById('pattern').value"), "")
+    browser.open(f"{base}/")
+    browser.run("document.body.tabIndex = -1; document.body.focus()")
+    browser.press(CONTROL, "v")
+    check(
+        "a paste on a list goes to the form",
+        browser.at("/new")
+        and browser.until(lambda: browser.run("return document.getElementById('pattern').value") == text),
+    )
+    check(
+        "the pasted file is drawn",
+        "Pasted: 5 cells, 3 by 3, B3/S23" in browser.text(".preview") and browser.one(".preview canvas"),
+    )
+    browser.type("#member", "Ann Smith")
+    same("capitals become small letters", browser.run("return document.getElementById('member').value"), "ann smith")
+    browser.one("#send").click()
+    check("a bad member is explained", browser.until(lambda: "not a valid member name" in browser.text(".refusal")))
+    browser.type("#member", "ann")
+    browser.picture("deposit-form")
+    browser.one("#send").click()
+    check(
+        "the pasted file is shown",
+        browser.at("/d/2") and browser.until(lambda: browser.text("h1") == "Pasted deposit 2"),
+    )
+    same("what is kept of it", told(gateway, "/deposits/2"), text.encode())
+    check(
+        "that is said",
+        "Generation 0: 5 live cells in 3 by 3" == browser.until(lambda: browser.text("#status"))
+        and "By Ann." in browser.text(".by"),
+    )
+    check(
+        "its kind and code",
+        browser.until(
+            lambda: "spaceship of period 4, moves 1 column to the right and 1 row down" in browser.text(".facts")
+        )
+        and browser.until(lambda: "xq4_153 glider" in browser.text(".facts")),
+    )
+    browser.picture("deposit-glider")
+    tokens.add(hashlib.sha256(text.encode()).hexdigest())
+
+
+def test_dropped(gateway: Gateway, browser: Browser, base: str, folder: str, tokens: set[str]) -> None:
+    """A file is dropped, one with line ends and bytes that no text field keeps; one is chosen; the same again is the same deposit."""
+    file = os.path.join(folder, "dropped.rle")
+    raw = b"#N Dropped \xff\r\nx = 3, y = 1\r\n3o!\r\n"
+    with open(file, "wb") as out:
+        out.write(raw)
+    browser.open(f"{base}/")
+    browser.drop([file], "main")
+    check(
+        "a drop on a list goes to the form",
+        browser.at("/new") and browser.until(lambda: "3 cells, 3 by 1" in browser.text(".preview")),
+    )
+    token = "return document.getElementById('token').value"
+    same(
+        "a file that is not UTF-8 is read as windows-1252",
+        (browser.run(token), browser.run("return document.getElementById('text-name').value")),
+        (hashlib.sha256(raw.decode("cp1252").encode()).hexdigest(), "Dropped ÿ"),
+    )
+    browser.one("#as-old").click()
+    same("the token is the sum of the bytes", browser.run(token), hashlib.sha256(raw).hexdigest())
+    same("the member is remembered", browser.run("return document.getElementById('member').value"), "ann")
+    browser.one("#send").click()
+    check("the dropped file is shown", browser.at("/d/3"))
+    same(
+        "what is kept of the drop", told(gateway, "/deposits/3"), b"#N Dropped \xff\nx = 3, y = 1, rule = B3/S23\n3o!\n"
+    )
+    browser.open(f"{base}/new")
+    browser.one("#file").send_keys(GUN)
+    browser.until(lambda: "Gosper glider gun: 36 cells, 36 by 9" in browser.text(".preview"))
+    browser.one("#send").click()
+    check(
+        "the chosen file is shown",
+        browser.at("/d/4") and told(gateway, "/deposits/4").startswith(b"#N Gosper glider gun\n"),
+    )
+    browser.open(f"{base}/new")
+    browser.drop([GUN], ".drop")
+    browser.until(lambda: "36 cells" in browser.text(".preview"))
+    browser.one("#send").click()
+    check("the same file again has its number", browser.at("/d/4"))
+    tokens.update((hashlib.sha256(raw).hexdigest(), hashlib.sha256(content(GUN)).hexdigest()))
+
+
+# Counts the files that a page reads.
+COUNT_READS = """
+window.reads = 0;
+const whole = Blob.prototype.arrayBuffer;
+Blob.prototype.arrayBuffer = function () { window.reads += 1; return whole.call(this); };
+"""
+
+
+def test_too_long(gateway: Gateway, browser: Browser, base: str, folder: str) -> None:
+    """A file is read only if it is not longer than the archive takes; the sentence for one that is longer is the usual one."""
+    longest, longer, huge = (os.path.join(folder, name) for name in ("longest.rle", "longer.rle", "huge.rle"))
+    for path, size in ((longest, 1_048_576), (longer, 1_048_577), (huge, 64 << 20)):
+        with open(path, "wb") as out:
+            out.write(b"x = 3, y = 1\n3o!\n")
+            out.truncate(size)
+    before = told(gateway, "/deposits/after/0")
+    browser.open(f"{base}/new")
+    usual = browser.wait_for("const { FAULTS } = await import('/web/refusals.js'); return FAULTS[1][1];")
+    browser.run(COUNT_READS)
+    browser.drop([longest], ".drop")
+    check(
+        "the longest file is read",
+        browser.until(lambda: "3 cells, 3 by 1" in browser.text(".preview"))
+        and browser.run("return window.reads") == 1,
+    )
+    for path in (longer, huge):
+        begun = time.monotonic()
+        browser.drop([path], ".drop")
+        name = os.path.basename(path)
+        found = browser.until(
+            lambda: browser.text("#status") == f"{name} is too long." and browser.text(".preview .refusal p") == usual
+        )
+        check(
+            f"{name} is too long, which is said after {time.monotonic() - begun:.1f} s",
+            found and time.monotonic() - begun < BUSY,
+        )
+        same(f"{name} is not read", browser.run("return window.reads"), 1)
+        same(
+            f"nothing is left of the file before {name}",
+            browser.run("return document.getElementById('pattern').value + document.getElementById('token').value"),
+            "",
+        )
+    browser.type("#member", "ann")
+    browser.one("#send").click()
+    check(
+        "it is said again by the button",
+        browser.until(lambda: browser.text("form > div:first-child .refusal p") == usual)
+        and browser.driver.current_url.endswith("/new"),
+    )
+    same("no file that is too long is sent", told(gateway, "/deposits/after/0"), before)
+    browser.type("#pattern", "x = 2, y = 1\n2o!")
+    check(
+        "a pattern that is typed after it is taken",
+        browser.until(lambda: "2 cells, 2 by 1" in browser.text(".preview")),
+    )
+
+
+def test_faults(browser: Browser, base: str) -> None:
+    """The fault of a file is explained in a sentence, with its line, before it is sent and after."""
+    browser.open(f"{base}/new")
+    browser.type("#pattern", UNFINISHED)
+    check(
+        "a fault is shown before sending",
+        browser.until(lambda: 'ends without "!"' in browser.text(".preview .refusal"))
+        and "Line 3: 3o" in browser.text(".preview"),
+    )
+    browser.one("#send").click()
+    told_after = browser.until(lambda: browser.text("form > div:first-child .refusal"))
+    check(
+        "a refused file is explained",
+        "Add it at the end" in told_after
+        and "Line 3: 3o" in told_after
+        and "no-end" in told_after
+        and browser.driver.current_url.endswith("/new"),
+    )
+    same("a refusal is heard", browser.one("form > div:first-child .refusal").get_attribute("role"), "alert")
+    browser.picture("refused")
+    for rule, wanted in (
+        ("HighLife", "Write it in digits"),
+        ("LifeHistory", "Generations, isotropic and LifeHistory rules are not taken"),
+        ("B2/S/C3", "Generations, isotropic and LifeHistory rules are not taken"),
+        ("23/3/8", "Generations, isotropic and LifeHistory rules are not taken"),
+        ("B2-a/S12", "Generations, isotropic and LifeHistory rules are not taken"),
+        ("B3/S23:T100", "bounded grid"),
+    ):
+        browser.type("#pattern", f"x = 3, y = 3, rule = {rule}\n3o!")
+        check(
+            f"the rule {rule} is explained",
+            browser.until(lambda: wanted in browser.text(".preview .refusal")),
+        )
+    browser.type("#pattern", "x = 3, y = 3, rule = LifeHistory\n3o!")
+    browser.one("#send").click()
+    check(
+        "and so is the archive's refusal",
+        browser.until(lambda: "are not taken" in browser.text("form > div:first-child .refusal")),
+    )
+    # The token of another pattern.
+    browser.type("#pattern", "x = 1, y = 1\no!")
+    browser.one("form details summary").click()
+    browser.type("#token", "glider")
+    browser.one("#send").click()
+    check(
+        "a used token is explained",
+        browser.until(lambda: "Take another token" in browser.text("form > div:first-child .refusal")),
+    )
+
+
+def test_sentences(browser: Browser, base: str) -> None:
+    """Each refusal of docs/API.md and each fault of docs/FORMATS.md has a sentence of its own, and its number names it."""
+    with open(os.path.join(TOP, "docs", "API.md"), encoding="utf-8") as text:
+        refusals = [name for number, name in re.findall(r"^\| (\d+) \| `([a-z-]+)` \| \d+ \|", text.read(), re.M)]
+    with open(os.path.join(TOP, "docs", "FORMATS.md"), encoding="utf-8") as text:
+        faulty = re.findall(
+            r"^\| (\d+) \| `([a-z-]+)` \|", text.read().split("**Faults**")[1].split("The last four")[0], re.M
+        )
+    same("the refusals and faults that are tried", (len(faulty), len(refusals)), (10, 14))
+    browser.open(f"{base}/find")
+    named = browser.wait_for(
+        "const { FAULTS } = await import('/web/refusals.js'); return FAULTS.map((fault) => fault?.[0]);"
+    )
+    same("the names of faults", named[1:], [name for _, name in faulty])
+    texts = browser.wait_for(
+        """
+        const { sentenceOf, refusalOf } = await import('/web/refusals.js');
+        const said = words[0].map((name) => sentenceOf(refusalOf(400, JSON.stringify({ error: name, refusal: 1 }))));
+        return said.concat(words[1].map((rle) => sentenceOf(refusalOf(422, JSON.stringify({ error: 'bad-pattern', refusal: 7, rle })))));""",
+        refusals + ["too-many-requests", "no-reply"],
+        [int(number) for number, _ in faulty],
+    )
+    unknown = browser.wait_for(
+        "const { sentenceOf, refusalOf } = await import('/web/refusals.js'); return [[418, 'x'], [502, '<html>'], [401, '<html>']].map((reply) => sentenceOf(refusalOf(...reply)));"
+    )
+    check(
+        "a sentence for each",
+        all(len(text) > 40 and text.endswith(".") for text in texts) and len(set(texts)) == len(texts) == 26,
+    )
+    check(
+        "a reply that is not from an archive",
+        unknown[0] not in texts and unknown[1] == texts[15] and "password" in unknown[2],
+    )
+
+
+def test_played(gateway: Gateway, browser: Browser, base: str) -> None:
+    """What is shown is the generation of the archive, on and back, in its place on the plane."""
+    gun = told(gateway, "/deposits/4")
+    browser.open(f"{base}/d/4")
+    check("generation 0 is drawn", browser.until(lambda: seen(browser)[0] == later(gun, 0)))
+    _, place = seen(browser)
+    browser.one("#step").click()
+    check(
+        "a step is drawn",
+        browser.until(
+            lambda: browser.text("canvas.large") is not None
+            and browser.run("return document.getElementById('generation').value") == "1"
+        )
+        and seen(browser)[0] == later(gun, 1)
+        and browser.at("/d/4/at/1"),
+    )
+    browser.run(
+        "const speed = document.getElementById('speed'); speed.value = '20'; speed.dispatchEvent(new Event('change'))"
+    )
+    browser.one("#play").click()
+    check(
+        "it plays on",
+        browser.until(lambda: int(browser.run("return document.getElementById('generation').value")) > 20),
+    )
+    browser.one("#play").click()
+    at = browser.until(
+        lambda: browser.run(
+            "return location.pathname.split('/at/')[1] === document.getElementById('generation').value && location.pathname.split('/at/')[1]"
+        )
+    )
+    same(f"generation {at} is drawn after playing", seen(browser)[0], later(gun, int(at)))
+    browser.one("#back").click()
+    check(
+        "it plays back to the beginning",
+        browser.until(lambda: browser.run("return document.getElementById('generation').value") == "0")
+        and browser.at("/d/4"),
+    )
+    check("generation 0 is drawn where it was", browser.until(lambda: seen(browser) == (later(gun, 0), place)))
+    # A glider flies over the plane, though the archive gives it at the corner each time.
+    browser.open(f"{base}/d/1")
+    browser.until(lambda: browser.run("return document.getElementById('generation').value") == "0")
+    shape, (left, top, size) = seen(browser)
+    for wanted in range(1, 9):
+        browser.one("#step").click()
+        browser.until(lambda: browser.run("return document.getElementById('generation').value") == str(wanted))
+    check("a glider moves", browser.until(lambda: seen(browser) == (shape, (left + 2 * size, top + 2 * size, size))))
+    for wanted in range(7, -1, -1):
+        browser.one("#step-back").click()
+        browser.until(lambda: browser.run("return document.getElementById('generation').value") == str(wanted))
+    check("a glider moves back", browser.until(lambda: seen(browser) == (shape, (left, top, size))))
+    browser.type("#generation", "2048" + ENTER)
+    check("the last generation", browser.at("/d/1/at/2048") and browser.until(lambda: seen(browser)[0] == shape))
+    browser.one("#play").click()
+    check("playing ends at the last", browser.until(lambda: browser.one("#play").get_attribute("aria-label") == "Play"))
+
+
+def test_counted(gateway: Gateway, browser: Browser, base: str, downloads: str) -> None:
+    """A census is asked for, and shown as a table with bars, whether it is steady, and its CSV."""
+    field = kept(gateway, "field", b"x = 34, y = 4\n2o4b2o4b2o5b3o10bo$2o4b2o4b2o17bobo$31bobo$32bo!")
+    browser.open(f"{base}/d/{field}")
+    browser.type("#census-limit", "2")
+    browser.one("#census-limit").send_keys(ENTER)
+    check("a census is shown", browser.at("/c/1"))
+    rows = list(csv.DictReader(io.StringIO(told(gateway, "/censuses/1/csv").decode())))
+    same(
+        "what the archive counted",
+        rows,
+        [
+            {"code": "xp2_7", "count": "1"},
+            {"code": "xs4_33", "count": "3"},
+            {"code": "xs6_696", "count": "1"},
+            {"code": "unresolved", "count": "0"},
+        ],
+    )
+    table = browser.run(
+        """return [...document.querySelectorAll('tbody tr')].map((row) => [row.querySelector('th code, th').firstChild.textContent, row.querySelector('.number').textContent,
+        row.querySelector('th small')?.textContent ?? null, row.querySelector('.bar').getBoundingClientRect().width, !!row.querySelector('canvas')])"""
+    )
+    same(
+        "the table",
+        [row[:3] for row in table],
+        [
+            ["xs4_33", "3", "block"],
+            ["xp2_7", "1", "blinker"],
+            ["xs6_696", "1", "beehive"],
+            ["unresolved", "0", "no code within the limit"],
+        ],
+    )
+    check("the bars", abs(table[0][3] - 3 * table[1][3]) < 1.5 and table[1][3] == table[2][3] and table[3][3] < 3)
+    same("the objects are drawn", [row[4] for row in table], [True, True, True, False])
+    check(
+        "it is steady",
+        browser.text(".steady").startswith("Steady") and json.loads(told(gateway, "/censuses/1"))["steady"] is True,
+    )
+    browser.picture("census")
+    browser.one("a[download='census-1.csv']").click()
+    file = os.path.join(downloads, "census-1.csv")
+    check(
+        "the CSV is loaded",
+        browser.until(lambda: os.path.exists(file) and content(file) == told(gateway, "/censuses/1/csv")),
+    )
+    browser.open(f"{base}/d/1")
+    browser.type("#census-limit", "4" + ENTER)
+    check("a census of a glider is not steady", browser.at("/c/2") and browser.text(".steady").startswith("Not steady"))
+    browser.open(f"{base}/d/1")
+    browser.type("#census-limit", "4" + ENTER)
+    check("the same census again has its number", browser.at("/c/2"))
+    browser.open(f"{base}/c/9")
+    check("a census that is not there", browser.until(lambda: "no census with this number" in browser.text(".refusal")))
+
+
+def test_cited(gateway: Gateway, browser: Browser, base: str) -> None:
+    """An address opens what it names, in a browser that knows nothing."""
+    browser.run("localStorage.clear()")
+    gun = told(gateway, "/deposits/4")
+    browser.open(f"{base}/d/4/at/30")
+    check(
+        "a generation by its address",
+        browser.until(lambda: seen(browser)[0] == later(gun, 30))
+        and browser.run("return document.getElementById('generation').value") == "30",
+    )
+    same("the address to cite", browser.text(".columns .address"), f"{base}/d/4/at/30")
+    browser.picture("deposit-gun")
+    same(
+        "a file to load",
+        browser.one("a[download='deposit-4-at-30.rle']").get_attribute("href"),
+        f"{base}/deposits/4/at/30",
+    )
+    browser.open(f"{base}/c/1")
+    check("a census by its address", browser.text("h1") == "Census 1" and len(browser.all("tbody tr")) == 4)
+    browser.open(f"{base}/d/400")
+    check(
+        "a deposit that is not there",
+        browser.until(lambda: "no deposit with this number" in browser.text(".refusal"))
+        and browser.one("main a[href='/']"),
+    )
+    browser.open(f"{base}/d/4/at/2049")
+    check("a generation out of range", browser.until(lambda: "0 to 2048" in browser.text(".refusal")))
+    browser.open(f"{base}/nothing/1")
+    check("an unknown address", browser.until(lambda: "no such page" in browser.text(".refusal")))
+
+
+def test_looked_up(browser: Browser, base: str) -> None:
+    """A code is looked up: how often it occurs, what it looks like as the program opens it, and how the program is asked."""
+    browser.open(f"{base}/find")
+    browser.type("#code", "xs4_33")
+    browser.one("form.code button").click()
+    check(
+        "a code",
+        browser.at("/o/B3-S23/xs4_33")
+        and "3 times in all censuses of deposits under B3/S23." == browser.text(".total"),
+    )
+    check(
+        "its name", browser.text("h1") == "xs4_33 block" and browser.text(".command") == "life object B3/S23 xs4_33 1"
+    )
+    browser.picture("code")
+    for address, rule, command in (
+        ("23-3/xq4_153", "B3/S23", "life object B3/S23 xq4_153 4"),
+        ("b36s23/xp2_7", "B36/S23", "life object B36/S23 xp2_7 2"),
+    ):
+        browser.open(f"{base}/o/{address}")
+        check(
+            f"a code by {address}", browser.text(".command") == command and f"under {rule}." in browser.text(".total")
+        )
+    for address, part in (
+        ("B3-S23/xp2_111", "No object has this code"),
+        ("Life/xq4_153", "not a supported rule"),
+        ("B3-S23/a%20b", "No object has this code"),
+        ("B3-S23/xp5000_7", "1 to 2048"),
+    ):
+        browser.open(f"{base}/o/{address}")
+        check(f"a refusal of {address}", browser.until(lambda: part in browser.text(".refusal")))
+    with open(os.path.join(TOP, "web", "objects.csv"), encoding="ascii") as table:
+        codes = [row["code"] for row in csv.DictReader(line for line in table if not line.startswith("#"))]
+    spelled = browser.wait_for(
+        "const { patternOf, limitOf } = await import('/web/code.js'); return words[0].map((code) => [patternOf(code).rows, limitOf(code)]);",
+        codes,
+    )
+    for code, (rows, limit) in zip(codes, spelled):
+        status, opened, _ = run("object", "B3/S23", code, str(limit))
+        check(f"the cells of {code}", status == 0 and runs_of(life.read_file(opened)[4]) == rows)
+
+
+def test_lost(gateway: Gateway, browser: Browser) -> None:
+    """A deposit whose reply is lost is sent again with its token, by itself and then by hand, and is kept once."""
+    relay = Relay(gateway.port)
+    base = f"http://127.0.0.1:{relay.port}"
+    try:
+        before = len(json.loads(told(gateway, "/deposits/after/0"))["deposits"])
+        browser.open(f"{base}/new")
+        relay.left = 1000
+        browser.type("#pattern", "#N Lost\nx = 2, y = 2\n2o$2o!")
+        browser.type("#member", "ann")
+        browser.one("#send").click()
+        check(
+            "a lost reply is reported",
+            browser.until(lambda: "sending it again with the same token" in browser.text("form > div:first-child")),
+        )
+        relay.left = 0
+        check("a deposit whose reply was lost is shown", browser.at(f"/d/{before + 1}"))
+        same("it was sent with one token", len(set(relay.cut)), 1)
+        browser.open(f"{base}/new")
+        browser.type("#pattern", "#N Lost again\nx = 2, y = 2\n2o$2o!")
+        relay.left = 1000
+        browser.one("#send").click()
+        found = browsers.until(
+            lambda: "send it again with the same token" in browser.text("form > div:first-child .refusal"), 30
+        )
+        check("a missing reply is reported", found and browser.text("#send") == "Send again")
+        relay.left = 0
+        browser.one("#send").click()
+        check("a deposit that is sent again by hand is shown", browser.at(f"/d/{before + 2}"))
+        same("lost deposits are kept once", len(json.loads(told(gateway, "/deposits/after/0"))["deposits"]), before + 2)
+        same("the second had one token too", len(set(relay.cut)), 2)
+    finally:
+        relay.end()
+
+
+def test_unanswered(gateway: Gateway, browser: Browser) -> None:
+    """A read that gets no reply does not speak of anything that was sent."""
+    relay = Relay(gateway.port)
+    try:
+        browser.open(f"http://127.0.0.1:{relay.port}/find")
+        relay.away = True
+        for address in ("/d/1", "/c/1", "/d/after/3"):
+            browser.go(address)
+            found = browser.until(lambda: browser.text(".refusal"))
+            check(
+                f"no reply to {address}",
+                found and "No reply came" in found and not re.search("sen[dt]|token|kept", found),
+            )
+    finally:
+        relay.end()
+
+
+def test_keyed(browser: Browser, base: str) -> None:
+    """The pages by the keys alone."""
+    generation = "return document.getElementById('generation').value"
+    browser.open(f"{base}/")
+    same("the heading has the focus", browser.run("return document.activeElement.tagName"), "H1")
+    browser.press("j")
+    browser.press("j")
+    browser.press("k")
+    first = browser.run("return document.activeElement.pathname")
+    browser.press(ENTER)
+    check("a list by keys", first.startswith("/d/") and browser.at(first))
+    browser.open(f"{base}/d/4")
+    browser.press(RIGHT)
+    browser.until(lambda: browser.run(generation) == "1")
+    browser.press(RIGHT)
+    check("steps by keys", browser.until(lambda: browser.run(generation) == "2"))
+    browser.press(LEFT)
+    check("a step back by a key", browser.until(lambda: browser.run(generation) == "1") and browser.at("at/1"))
+    browser.press(SPACE)
+    check("playing by a key", browser.until(lambda: int(browser.run(generation)) > 3))
+    browser.press(SPACE)
+    check("a pause by a key", browser.until(lambda: browser.one("#play").get_attribute("aria-label") == "Play"))
+    browser.press(HOME)
+    check("the beginning by a key", browser.until(lambda: browser.run(generation) == "0"))
+    size = seen(browser)[1][2]
+    browser.press("-")
+    check("zoom by keys", browser.until(lambda: seen(browser)[1][2] < size))
+    browser.press("+")
+    check("zoom by keys again", browser.until(lambda: seen(browser)[1][2] == size))
+    place = seen(browser)[1]
+    browser.press(SHIFT, RIGHT)
+    check("moving by keys", browser.until(lambda: seen(browser)[1][0] < place[0]))
+    browser.press(SHIFT)
+    browser.press("0")
+    check("all is shown by a key", browser.until(lambda: seen(browser)[1] == place))
+    browser.press("]")
+    check("the next deposit by a key", browser.at("/d/5"))
+    browser.press("?")
+    check("the keys are shown", browser.until(lambda: browser.run("return document.getElementById('keys').open")))
+    browser.picture("keys")
+    browser.press(ESCAPE)
+    check("the keys are gone", browser.until(lambda: not browser.run("return document.getElementById('keys').open")))
+    browser.press("n")
+    check("the form by a key", browser.at("/new"))
+    browser.type("#pattern", "fl")
+    check(
+        "letters in a field are letters",
+        browser.driver.current_url.endswith("/new")
+        and browser.run("return document.getElementById('pattern').value") == "fl",
+    )
+    browser.open(f"{base}/")
+    same(
+        "the first place of the focus passes over the head",
+        browser.run("return document.querySelector('button, a, input').id"),
+        "skip",
+    )
+    browser.one("#skip").send_keys(ENTER)
+    same("the head is passed over", browser.run("return document.activeElement.id"), "main")
+
+
+def test_listed(gateway: Gateway, browser: Browser, base: str) -> None:
+    """Lists: the newest, those after a number, those of a member."""
+    for turn in range(60):
+        kept(
+            gateway,
+            f"list-{turn}",
+            f"#N List {turn}\nx = 1, y = 1\n{turn + 1}o!".encode(),
+            "bob" if turn % 2 else "eve",
+        )
+    last = json.loads(told(gateway, "/deposits/after/0"))["deposits"][-1]["id"]
+    links = "return [...document.querySelectorAll('.cards a')].map((link) => Number(link.pathname.split('/')[2]))"
+
+    # A list may be two seconds old.
+    def newest() -> Any:
+        browser.open(f"{base}/")
+        return browser.run(links) == list(range(last, last - 24, -1))
+
+    check("the newest", browsers.until(newest, BUSY))
+    check(
+        "names and drawings",
+        browser.until(lambda: "List 59" in browser.text(".cards") and len(browser.all(".cards canvas")) > 5),
+    )
+    check("what a card tells", f"No. {last} · bob · 60 cells" in browser.text(".cards li"))
+    browser.picture("list")
+    browser.press("[")
+    check(
+        "older ones",
+        browser.at(f"/d/after/{last - 48}") and browser.run(links) == list(range(last - 24, max(0, last - 48), -1)),
+    )
+    browser.type("#after", "3" + ENTER)
+    check("those after a number", browser.at("/d/after/3") and browser.run(links) == list(range(27, 3, -1)))
+    browser.type("#of", "eve" + ENTER)
+    check(
+        "those of a member",
+        browser.at("/d/of/eve") and browser.run(links) == [last - 1 - 2 * turn for turn in range(24)],
+    )
+    browser.type("#of", "nobody" + ENTER)
+    check("those of nobody", browser.at("/d/of/nobody") and browser.until(lambda: "None" in browser.text(".count")))
+
+
+ADDRESSES = [
+    "",
+    "d/of/ann",
+    "d/4/at/30",
+    "d/1",
+    "new",
+    "find",
+    "haul",
+    "c/1",
+    "o/B3-S23/xp3_co9nas0san9oczgoldlo0oldlogz1047210127401",
+    "d/900",
+    "x",
+]
+
+
+# What other modules try in the pages, in this order.
+PARTS: list[Callable[..., None]] = [
+    *web_addresses.PARTS,
+    *web_many.PARTS,
+    *web_files.PARTS,
+    *web_player.PARTS,
+    *web_colors.PARTS,
+    *web_pictures.PARTS,
+    *web_waiting.PARTS,
+    *web_search.PARTS,
+    *web_club.PARTS,
+    *web_members.PARTS,
+]
+
+
+def name_of(part: Callable[..., None]) -> str:
+    """How a part is chosen with -k: `web_many.folders`."""
+    return f"{part.__module__}.{part.__name__}"
+
+
+@pytest.mark.parametrize("part", PARTS, ids=name_of)
+def test_part(part: Callable[..., None], gateway: Gateway, browser: Browser, base: str, folder: str) -> None:
+    """What the module web_NAME tries: its own words say what."""
+    part(gateway, browser, base, folder)
+
+
+def test_screens(browser: Browser, base: str) -> None:
+    """No page is wider than a phone, and each is light or dark as is preferred; and what is on it has a name for who hears it."""
+    for address in ADDRESSES:
+        for width in (320, 390):
+            browser.screen(width, 780)
+            browser.open(f"{base}/{address}")
+            wide = browser.run("return [document.documentElement.scrollWidth, window.innerWidth]")
+            check(f"'{address}' on {width} pixels: {wide}", wide[0] <= width == wide[1])
+        browser.picture("phone-" + (re.sub("[^a-z0-9]+", "-", address).strip("-")[:20] or "list"))
+        same(f"names on '{address}': {(unnamed := browser.unnamed())}", unnamed, [])
+        same(f"one heading on '{address}'", len(browser.all("h1")), 1)
+    brightness = "return getComputedStyle(document.documentElement).backgroundColor.match(/[0-9]+/g).slice(0, 3).reduce((sum, part) => sum + Number(part), 0) / 765"
+    for scheme in ("light", "dark"):
+        browser.screen(1100, 900, scheme)
+        browser.open(f"{base}/d/4/at/30")
+        found = browser.run(brightness)
+        check(f"the page is {scheme}: {found}", found > 0.9 if scheme == "light" else found < 0.15)
+        check(
+            f"the canvas is {scheme}",
+            browser.wait_for(
+                """
+            await new Promise((resolve) => requestAnimationFrame(() => requestAnimationFrame(resolve)));
+            return [...document.querySelector('canvas.large').getContext('2d').getImageData(1, 1, 1, 1).data.slice(0, 3)];"""
+            )[0]
+            * 1
+            // 128
+            == (scheme == "light"),
+        )
+        check(f"the cells are there in {scheme}", len(seen(browser)[0]) > 30)
+    browser.picture("dark")
+    browser.screen(1100, 900, "light")
+    check("a change of the preference is drawn", browser.until(lambda: len(seen(browser)[0]) > 30))
+    browser.screen(1100, 900, "light", 2)
+    browser.open(f"{base}/d/4/at/30")
+    check(
+        "a screen of two pixels in one",
+        browser.run(
+            "const canvas = document.querySelector('canvas.large'); return canvas.width === 2 * canvas.clientWidth"
+        ),
+    )
+    browser.screen()
+
+
+# The rows of runs that are drawn of a file, at a pixel a cell, or the number of its fault.
+DRAWN = """
+const [encoded] = words;
+const { readFile, Fault } = await import('/web/rle.js');
+const { paint, colors } = await import('/web/draw.js');
+let pattern;
+try {
+  pattern = readFile(Uint8Array.from(atob(encoded), (byte) => byte.charCodeAt(0))).pattern;
+} catch (error) {
+  if (error instanceof Fault) return error.number;
+  throw error;
+}
+const canvas = document.createElement('canvas');
+canvas.width = pattern.width + 3;
+canvas.height = pattern.height + 3;
+paint(canvas, pattern, { left: -1, top: -2, size: 1, place: { column: 0, row: 0 } });
+const { width, height } = canvas;
+const pixels = new Uint32Array(canvas.getContext('2d').getImageData(0, 0, width, height).data.buffer);
+const { live } = colors();
+const rows = [];
+for (let row = 0; row < height; row += 1) {
+  const runs = [];
+  for (let column = 0; column < width; column += 1) {
+    if (pixels[row * width + column] !== live) continue;
+    if (runs.at(-1) === column - 1) runs[runs.length - 1] = column;
+    else runs.push(column - 1, column);
+  }
+  rows.push(runs);
+}
+return { before: rows.slice(0, 2), rows: rows.slice(2, 2 + pattern.height), after: rows.slice(2 + pattern.height), population: pattern.population };
+"""
+
+
+def test_drawing(browser: Browser, base: str) -> None:
+    """What the pages read and draw of a file is what the program has of it, or the program's fault."""
+    browser.open(f"{base}/find")
+    files = {os.path.basename(path): content(path) for path in glob.glob(os.path.join(TOP, "examples", "*.rle"))}
+    files |= {os.path.basename(path): content(path) for path in glob.glob(os.path.join(HERE, "cases", "*", "*.stdin"))}
+    soup = random.Random(7)
+    files |= {
+        f"soup-{size}": life.file_text(
+            (
+                None,
+                None,
+                (),
+                life.LIFE,
+                life.normal({(x, y) for x in range(size) for y in range(size) if soup.random() < 0.4}),
+            )
+        )
+        for size in (1, 5, 33, 200)
+    }
+    if os.path.isdir(GOLLY):
+        files |= {
+            os.path.relpath(path, GOLLY): content(path) for path in glob.glob(GOLLY + "/**/*.rle", recursive=True)
+        }
+    numbers = {name: number for number, name in reference.RLE_NAMES.items()}
+    good = {"drawn": 0, "refused": 0}
+    for name, file in sorted(files.items()):
+        status, printed, refused = run("generation", "0", data=file)
+        found = browser.wait_for(DRAWN, base64.b64encode(file).decode())
+        if status != 0:
+            right = found == numbers.get(refused.decode().split()[-1])
+            good["refused"] += right
+        else:
+            cells = life.read_file(printed)[4]
+            right = (
+                isinstance(found, dict)
+                and found["rows"] == runs_of(cells)
+                and found["population"] == len(cells)
+                and not any(found["before"])
+                and not any(found["after"])
+            )
+            good["drawn"] += right
+        check(f"the drawing of {name}", right)
+    check(f"files drawn and refused: {good}", good["drawn"] > 40 and good["refused"] > 10)
+    if not os.path.isdir(GOLLY):
+        left_out(f"there is no {GOLLY}, so its files are not drawn")
+
+
+def test_sizes(browser: Browser, base: str) -> None:
+    """At each size of a cell all live cells are seen and no others, wherever the view begins."""
+    browser.open(f"{base}/find")
+    found = browser.wait_for(
+        """
+        const { paint, colors, SIZES } = await import('/web/draw.js');
+        const { live } = colors();
+        const cells = [];
+        for (let cell = 0; cell < 200; cell += 1) cells.push([(cell * 37) % 61, (cell * 11) % 43]);
+        const rows = Array.from({ length: 43 }, (_, row) => [...new Set(cells.filter((cell) => cell[1] === row).map((cell) => cell[0]))].sort((a, b) => a - b).flatMap((column) => [column, column + 1]));
+        const wrong = [];
+        for (const size of SIZES) for (const shift of [0, -3.25, 5.5]) {
+          const canvas = document.createElement('canvas');
+          canvas.width = 300;
+          canvas.height = 200;
+          paint(canvas, { width: 61, height: 43, rows }, { left: shift, top: shift, size, place: { column: 2, row: 1 } });
+          const pixels = new Uint32Array(canvas.getContext('2d').getImageData(0, 0, 300, 200).data.buffer);
+          const wanted = new Set();
+          for (const [column, row] of cells) {
+            const [x, y] = [(column + 2 - shift) * size, (row + 1 - shift) * size].map(Math.floor);
+            if (x >= 0 && y >= 0 && x < 300 && y < 200) wanted.add(y * 300 + x);
+          }
+          const lit = new Set([...pixels.keys()].filter((at) => pixels[at] === live));
+          const within = (at) => cells.some(([column, row]) => {
+            const x = (column + 2 - shift) * size; const y = (row + 1 - shift) * size;
+            return at % 300 >= Math.floor(x) && at % 300 < Math.max(x + size, Math.floor(x) + 1) && Math.floor(at / 300) >= Math.floor(y) && Math.floor(at / 300) < Math.max(y + size, Math.floor(y) + 1);
+          });
+          if ([...wanted].some((at) => !lit.has(at)) || [...lit].some((at) => !within(at))) wrong.push([size, shift]);
+        }
+        return wrong;"""
+    )
+    same(f"sizes of cells: {found}", found, [])
+
+
+@pytest.mark.parametrize("part", web_haul.PARTS, ids=name_of)
+def test_haul(part: Callable[..., None], gateway: Gateway, browser: Browser, base: str, folder: str) -> None:
+    """The page on tables of hauls."""
+    part(gateway, browser, base, folder)
+
+
+def test_logs(browser: Browser, base: str) -> None:
+    """The pages asked nobody but their own origin, and met no fault of their own."""
+    browser.keep_logs()
+    own = ("about:", "data:", base)
+    same(
+        "requests to other origins",
+        [url for url in browser.asked if not url.startswith(own) and not re.match(r"http://127\.0\.0\.1:\d+/", url)],
+        [],
+    )
+    check("requests were made", len(browser.asked) > 100)
+    # Of the reading of pictures, which these tests do, the browser has an advice of its own.
+    faulty = [
+        line for line in browser.said if "Failed to load resource" not in line and "willReadFrequently" not in line
+    ]
+    same(f"faults of the pages: {faulty[:3]}", faulty, [])
+
+
+def test_firefox(gateway: Gateway, base: str, folder: str) -> None:
+    """The main pages in a Firefox, and what is played and cited there."""
+    web_firefox.in_firefox(gateway, base, folder, (test_played, test_cited))
+
+
+def test_rows(gateway: Gateway, folder: str, tokens: set[str]) -> None:
+    """What the pages deposited is kept once each, under the sums of the files."""
+    gateway.end()
+    archive = sqlite3.connect(os.path.join(folder, "club.db"))
+    found = dict(archive.execute("SELECT token, member FROM deposits WHERE length(token) = 64"))
+    same("tokens that no deposit has", tokens - set(found), set())
+    same("whose they are", set(found.values()), {"ann", "dora"})
+    same(
+        "no file is kept twice",
+        archive.execute("SELECT count(*), count(DISTINCT rle) FROM deposits").fetchone(),
+        archive.execute("SELECT max(id), max(id) FROM deposits").fetchone(),
+    )
+    same(
+        "the tokens of censuses",
+        archive.execute("SELECT token, member FROM censuses WHERE token LIKE 'g%' ORDER BY id").fetchall()[1:],
+        [("g0-l4-d1", "ann")],
+    )
+    archive.close()

@@ -1,0 +1,6 @@
+// What the pages add to elements.
+
+interface HTMLCanvasElement {
+  /** Redraws the canvas in the colors of the theme. */
+  redraw?: () => void;
+}

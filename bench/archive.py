@@ -1,9 +1,9 @@
 #!/usr/bin/env python3
-"""Times the archive's calls beside python's sqlite3 module doing the same statements on the same tables, and prints a table.
+"""Times the archive's calls, and Python's sqlite3 module with the same statements on the same tables, and prints a table.
 
     bench/archive.py
 
-The program is bench/archive.rattle. It is no crate of the repository, so that the gate does not prove it each time: it is
+The program is bench/archive.rattle. It is not a crate of the repository, so that the gate does not prove it each time: it is
 built here in a folder of its own, over the crates as they are (which are proved on the way, if they are not yet), and
 runs there beside python's. Both files lie in that folder; both write a log and wait for the disk at each commit.
 """
@@ -14,12 +14,21 @@ import subprocess
 import sys
 import tempfile
 import time
+from collections.abc import Callable
 
 HERE = os.path.dirname(os.path.abspath(__file__))
 TOP = os.path.dirname(HERE)
 SIZES = [100, 10_000, 100_000]
 BELOW = ["life_core", "life_rle", "life_code", "life_census", "life_store"]
-CALLS = [("add", "deposits"), ("number", "look-ups by number"), ("token", "look-ups by token"), ("count", "counts"), ("page", "pages of 100")]
+CALLS = [
+    ("add", "deposits"),
+    ("number", "look-ups by number"),
+    ("token", "look-ups by token"),
+    ("count", "counts"),
+    ("page", "pages of 100"),
+]
+# The nanoseconds per call, by store, size and name of the call.
+Times = dict[tuple[str, int, str], float]
 RLE = b"x = 3, y = 3, rule = B3/S23\nbo$2bo$3o!\n"
 
 TABLES = [
@@ -33,10 +42,10 @@ PAGE = "SELECT id, member, population, rule FROM deposits WHERE id > ?1 ORDER BY
 ADD = "INSERT INTO deposits (id, member, token, rule, population, rle) VALUES (?1, ?2, ?3, ?4, ?5, ?6)"
 
 
-def python_calls(conn):
+def python_calls(conn: sqlite3.Connection) -> dict[str, Callable[[int], object]]:
     """Each call as a function of a number."""
 
-    def add(number):
+    def add(number: int) -> None:
         rows = conn.execute(NEWEST).fetchall()
         conn.execute(ADD, ((rows[0][0] if rows else 0) + 1, "ann", f"t{number}", "B3/S23", 5, RLE))
 
@@ -49,7 +58,7 @@ def python_calls(conn):
     }
 
 
-def python_times(store, path, times):
+def python_times(store: str, path: str, times: Times) -> None:
     conn = sqlite3.connect(path, isolation_level=None)
     for text in ["PRAGMA journal_mode=WAL", "PRAGMA synchronous=FULL", "PRAGMA foreign_keys=ON", *TABLES]:
         conn.execute(text)
@@ -58,7 +67,13 @@ def python_times(store, path, times):
     for size in SIZES:
         for number in range(kept, size):
             calls["add"](number)
-        for name, numbers in [("add", range(size, size + 200)), ("number", range(1, 101)), ("token", range(1, 101)), ("count", range(1000)), ("page", range(100))]:
+        for name, numbers in [
+            ("add", range(size, size + 200)),
+            ("number", range(1, 101)),
+            ("token", range(1, 101)),
+            ("count", range(1000)),
+            ("page", range(100)),
+        ]:
             start = time.perf_counter()
             for number in numbers:
                 calls[name](number)
@@ -67,7 +82,7 @@ def python_times(store, path, times):
     conn.close()
 
 
-def built(folder):
+def built(folder: str) -> str:
     """The program, built over the repository's crates."""
     os.makedirs(f"{folder}/crates/archive_bench/src")
     shutil.copy(f"{HERE}/archive.rattle", f"{folder}/crates/archive_bench/src/main.rt")
@@ -84,7 +99,7 @@ def built(folder):
     return program
 
 
-def life_times(program, folder, times):
+def life_times(program: str, folder: str, times: Times) -> None:
     done = subprocess.run([program], cwd=folder, capture_output=True, text=True, check=True)
     for line in done.stdout.splitlines():
         store, size, name, each, ok = line.split()
@@ -93,18 +108,21 @@ def life_times(program, folder, times):
         times[store, int(size), name] = float(each)
 
 
-def opened(path):
-    """What SQLite says of the file that life wrote."""
+def opened(path: str) -> str:
+    """What SQLite says about the file that life wrote."""
     conn = sqlite3.connect(path)
     (answer,) = conn.execute("PRAGMA integrity_check").fetchone()
-    rows = conn.execute("SELECT count(*), min(id), max(id), min(rule), max(rule), sum(population) FROM deposits").fetchone()
+    rows = conn.execute(
+        "SELECT count(*), min(id), max(id), min(rule), max(rule), sum(population) FROM deposits"
+    ).fetchone()
     tables = [name for (name,) in conn.execute("SELECT name FROM sqlite_schema WHERE type = 'table' ORDER BY name")]
     conn.close()
     return f"SQLite on the file that life wrote: integrity_check {answer}; tables {', '.join(tables)}; deposits {rows}"
 
 
-def main():
-    ours, theirs = {}, {}
+def main() -> None:
+    ours: Times = {}
+    theirs: Times = {}
     with tempfile.TemporaryDirectory() as folder:
         program = built(folder)
         os.makedirs(f"{folder}/life")
@@ -115,7 +133,9 @@ def main():
     print(found)
     print(f"python {sys.version.split()[0]}, SQLite {sqlite3.sqlite_version}, load {os.getloadavg()[0]:.1f}")
     print()
-    print("| calls | kept | life, memory, a second | python | life / python, time | life, file, a second | python | life / python, time |")
+    print(
+        "| calls | kept | life, memory, a second | python | life / python, time | life, file, a second | python | life / python, time |"
+    )
     print("| --- | --- | --- | --- | --- | --- | --- | --- |")
     for name, words in CALLS:
         for size in SIZES:
@@ -126,8 +146,12 @@ def main():
             print(f"| {words} | {size:,} | " + " | ".join(cells) + " |")
     print()
     for store in ("memory", "file"):
-        grown = ", ".join(f"{words} {ours[store, SIZES[-1], name] / ours[store, SIZES[0], name]:.1f}" for name, words in CALLS)
-        print(f"At 100,000 kept a call takes, beside one at 100, in {'memory' if store == 'memory' else 'a file'}: {grown} times as long.")
+        grown = ", ".join(
+            f"{words} {ours[store, SIZES[-1], name] / ours[store, SIZES[0], name]:.1f}" for name, words in CALLS
+        )
+        print(
+            f"At 100,000 kept a call takes, beside one at 100, in {'memory' if store == 'memory' else 'a file'}: {grown} times as long."
+        )
 
 
 main()

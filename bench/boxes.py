@@ -3,7 +3,7 @@
 
     bench/boxes.py
 
-The program is bench/boxes.rattle. It is no crate of the repository, so that the gate does not prove it each time: it is built
+The program is bench/boxes.rattle. It is not a crate of the repository, so that the gate does not prove it each time: it is built
 here in a folder of its own, over a copy of life_core, which is proved on the way. Only the call of `generation` is timed.
 """
 import os
@@ -18,7 +18,7 @@ SIDES = [64, 256, 1024, 4096]
 GENERATIONS = 1024
 
 
-def built(folder):
+def built(folder: str) -> str:
     """The program, built over life_core."""
     os.makedirs(f"{folder}/crates/boxes/src")
     shutil.copy(f"{HERE}/boxes.rattle", f"{folder}/crates/boxes/src/main.rt")
@@ -33,19 +33,24 @@ def built(folder):
     return program
 
 
-def main():
-    print("| soup | cells at the start | at generation 1,024 | ms a generation | ns a cell of the box | ns a live cell | peak memory, MB |")
+def main() -> None:
+    print(
+        "| soup | cells at the start | at generation 1,024 | ms a generation | ns a cell of the box | ns a live cell | peak memory, MB |"
+    )
     print("| --- | --- | --- | --- | --- | --- | --- |")
     with tempfile.TemporaryDirectory() as folder:
         program = built(folder)
         for side in SIDES:
             with subprocess.Popen([program, str(side)], stdout=subprocess.PIPE, text=True) as running:
+                assert running.stdout is not None
                 line = running.stdout.read()
                 _, _, used = os.wait4(running.pid, 0)
             _, first, last, took = (int(word) for word in line.split())
             each = took / GENERATIONS
             live = (first + last) / 2
-            print(f"| {side:,} by {side:,} | {first:,} | {last:,} | {each / 1e6:.3f} | {each / side / side:.3f} | {each / live:.2f} | {used.ru_maxrss / 1000:,.0f} |")
+            print(
+                f"| {side:,} by {side:,} | {first:,} | {last:,} | {each / 1e6:.3f} | {each / side / side:.3f} | {each / live:.2f} | {used.ru_maxrss / 1000:,.0f} |"
+            )
 
 
 main()

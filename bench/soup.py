@@ -5,14 +5,15 @@ The cells are drawn one in three in the rows of a square, until there are CELLS 
 file on every machine: the numbers come from a generator of our own (Marsaglia's xorshift, 64 bits).
 
 soup.py --long BYTES writes a file of exactly that many bytes with as many items as fit.
-soup.py --sparse SIDE PERCENT SEED writes a square of that side in which so many cells of 100 are live.
+soup.py --sparse SIDE PERCENT SEED writes a square of that side in which PERCENT % of the cells are live.
 soup.py --grid SIDE SOUP SQUARE SEED writes a square of that side parted into squares, with a soup of SOUP by SOUP, half live, in each.
 soup.py --field OBJECTS SEED writes a field of scattered blocks, blinkers and gliders, each in a square of 6 by 6 of its own.
 """
 import sys
+from collections.abc import Iterator
 
 
-def numbers(seed):
+def numbers(seed: int) -> Iterator[int]:
     state = seed * 2654435761 + 88172645463325252
     mask = 2**64 - 1
     state &= mask
@@ -23,7 +24,7 @@ def numbers(seed):
         yield state
 
 
-def rows_of(cells, seed):
+def rows_of(cells: int, seed: int) -> list[str]:
     """Rows of a soup, each a string of b and o."""
     side = 1
     while side * side < 3 * cells:
@@ -41,31 +42,33 @@ def rows_of(cells, seed):
     return rows
 
 
-def sparse(side, percent, seed):
-    """Rows of a square in which each cell is live with that chance."""
+def sparse(side: int, percent: int, seed: int) -> list[str]:
+    """Rows of a square in which each cell is live with this probability."""
     source = numbers(seed)
     return ["".join("o" if next(source) % 100 < percent else "b" for _ in range(side)) for _ in range(side)]
 
 
-def grid(side, soup, square, seed):
+def grid(side: int, soup: int, square: int, seed: int) -> list[str]:
     """Rows of a square of that side with a soup in the corner of each of its squares."""
     source = numbers(seed)
     rows = []
     for row in range(side):
         drawn = row % square < soup
-        rows.append("".join("o" if drawn and column % square < soup and next(source) % 2 else "b" for column in range(side)))
+        rows.append(
+            "".join("o" if drawn and column % square < soup and next(source) % 2 else "b" for column in range(side))
+        )
     return rows
 
 
 OBJECTS = [["oo", "oo"], ["ooo"], ["bo", "bbo", "ooo"]]
 
 
-def field_of(objects, seed):
-    """Rows of a field of 170 squares a row, each with a block, a blinker or a glider."""
+def field_of(objects: int, seed: int) -> list[str]:
+    """Rows of a field with 170 squares per row, each with a block, a blinker or a glider."""
     source = numbers(seed)
     rows = []
     for first in range(0, objects, 170):
-        band = [[] for _ in range(6)]
+        band: list[list[str]] = [[] for _ in range(6)]
         for _ in range(min(170, objects - first)):
             drawn = OBJECTS[next(source) % 3]
             for number, row in enumerate(band):
@@ -74,7 +77,7 @@ def field_of(objects, seed):
     return rows
 
 
-def body_of(rows):
+def body_of(rows: list[str]) -> str:
     lines = []
     line = ""
     for number, row in enumerate(rows):
@@ -97,11 +100,11 @@ def body_of(rows):
     return "\n".join(lines) + "\n"
 
 
-def main():
+def main() -> None:
     if sys.argv[1] == "--long":
         size = int(sys.argv[2])
         head = "x = 1024, y = 1024\n"
-        body = []
+        body: list[str] = []
         used = len(head) + 1
         row = "bo" * 512 + "$"
         while used + len(row) <= size and len(body) < 1000:

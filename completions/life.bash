@@ -21,7 +21,7 @@ _life() {
       return ;;
   esac
   if [ "$COMP_CWORD" = 1 ]; then
-    words='generation kind object census deposit serve explain help -h --help -V --version'
+    words='generation kind object census deposit serve check explain help -h --help -V --version'
   else
     case ${COMP_WORDS[1]} in
       generation) words='-h --help' ;;
@@ -30,8 +30,9 @@ _life() {
       census) words='-h --help' ;;
       deposit) words='--db -h --help' ;;
       serve) words='--db --port --connections -h --help' ;;
-      explain) words='bad-code bad-count bad-header bad-member bad-message bad-method bad-pattern bad-rule bad-text bad-token birth-zero full no-end no-header no-port no-reply no-such-census no-such-deposit no-such-page not-canonical not-ours not-within-limit other-tag out-of-limit password text-limit token-reused too-long too-many-requests too-wide unavailable unknown unreadable -h --help' ;;
-      help) [ "$COMP_CWORD" != 2 ] || words='generation kind object census deposit serve explain' ;;
+      check) words='--db -h --help' ;;
+      explain) words='bad-code bad-count bad-header bad-member bad-message bad-method bad-pattern bad-rule bad-text bad-token birth-zero full no-end no-header no-port no-reply no-such-census no-such-deposit no-such-page not-canonical not-ours not-sound not-within-limit other-tag out-of-limit password text-limit token-reused too-long too-many-requests too-wide unavailable unknown unreadable -h --help' ;;
+      help) [ "$COMP_CWORD" != 2 ] || words='generation kind object census deposit serve check explain' ;;
     esac
   fi
   mapfile -t COMPREPLY < <(compgen -W "$words" -- "$word")

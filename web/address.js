@@ -1,4 +1,4 @@
-// The addresses of the pages (docs/GUIDE.md, The web pages), and going to one without loading all anew.
+// The addresses of the pages (docs/GUIDE.md, The web pages), and opening one without a full reload.
 
 import { ruleAddress } from './rule.js';
 
@@ -8,7 +8,7 @@ export const memberAddress = (member) => `/d/of/${member}`;
 export const censusAddress = (number) => `/c/${number}`;
 export const objectAddress = (rule, code) => `/o/${ruleAddress(rule)}/${encodeURIComponent(code)}`;
 
-/** Goes to a page, which the history of the window then has. */
+/** Opens a page and adds it to the window's history. */
 export function go(address) {
   if (address === location.pathname + location.search) history.replaceState(null, '', address);
   else history.pushState(null, '', address);

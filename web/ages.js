@@ -1,9 +1,9 @@
-// The age of each live cell: for how many generations, the one that is shown too, it has been live without a break. Ages end at a greatest one,
-// so those of a generation follow from few before it, as the page makes them.
+// The age of each live cell: for how many generations it has been live without a break, including the one shown. Ages have a maximum, so only a
+// few earlier generations, which the page computes, are needed.
 
 import { OLDEST } from './shades.js';
 
-/** The ages of a generation's cells, row by row in its box; each cell is one old where nothing is known of the generation before. */
+/** The ages of a generation's cells, row by row in its box; if the generation before is unknown, every cell has age 1. */
 function agesOf({ pattern: { width, height, rows }, corner }, before) {
   const ages = new Uint8Array(width * height);
   const right = before ? corner.column - before.corner.column : 0;
@@ -21,14 +21,14 @@ function agesOf({ pattern: { width, height, rows }, corner }, before) {
   return { ages, width, height, corner };
 }
 
-/** The ages of what a player shows, while they are wanted. */
+/** The ages of the cells that a player shows, while they are needed. */
 export class Ages {
   isOn = false;
   #wanted = 0;
-  /** The ages that were found last, and of which generation they are. */
+  /** The ages that were computed last, and their generation. */
   #last = null;
 
-  /** `made(at)` answers a generation that the page makes; `told` hears the ages of the one that is shown, null where there are none. */
+  /** `made(at)` returns a generation that the page computes; `told` gets the ages of the one shown, or null. */
   constructor(made, told) {
     this.made = made;
     this.told = told;
@@ -40,7 +40,7 @@ export class Ages {
     else this.told(null);
   }
 
-  /** Finds the ages of a generation, and tells them if it is still the one that is shown. */
+  /** Computes the ages of a generation, and reports them if it is still shown. */
   async show(at) {
     this.#wanted = at;
     if (!this.isOn) return;
@@ -48,20 +48,20 @@ export class Ages {
       const found = await this.#find(at);
       if (this.isOn && this.#wanted === at) this.told(found);
     } catch {
-      // Where the page makes no generations, cells have no age.
+      // If the page computes no generations, cells have no age.
     }
   }
 
   /**
    * @param {number} at
-   * @param {boolean} mayBeginAnew whether it is tried once more if the page began its generations anew meanwhile
+   * @param {boolean} mayBeginAnew whether to try again if the page restarted its generations meanwhile
    */
   async #find(at, mayBeginAnew = true) {
     let { found, of } = this.#last ?? { found: null, of: -Infinity };
     if (of > at || at - of >= OLDEST) [found, of] = [null, Math.max(0, at - OLDEST + 1) - 1];
     for (of += 1; of <= at; of += 1) {
       const made = await this.made(of);
-      // Places of two beginnings can't be compared.
+      // Positions from two different starts can't be compared.
       if (found && found.turn !== made.turn) {
         this.#last = null;
         return mayBeginAnew ? this.#find(at, false) : null;

@@ -1,8 +1,8 @@
-// Asks for what a page wants as soon as its address is known: the modules of the first page and of a deposit's, which imports would find only one
-// after the other, and the deposit's file. This is no module, so that it is run before one.
+// Preloads what a page needs as soon as its address is known: the deposit's file, and the modules of the first page or of a deposit's page, which
+// imports would discover only one after the other. This is a plain script, so that it runs before the modules.
 
 {
-  const DEPOSIT = ['ages', 'brought', 'code', 'comments', 'controls', 'deposit', 'maker', 'names', 'pattern', 'picture', 'player', 'plot', 'search', 'shown', 'view', 'wheel'];
+  const DEPOSIT = ['ages', 'brought', 'code', 'comments', 'controls', 'deposit', 'maker', 'member', 'names', 'pattern', 'picture', 'player', 'plot', 'png', 'search', 'shown', 'sorts', 'view', 'wheel', 'writer'];
   const ask = (attributes) => document.head.append(Object.assign(document.createElement('link'), attributes));
   const askModules = (names) => { for (const name of names) ask({ rel: 'modulepreload', href: `/web/${name}.js` }); };
   // addresses: written by docs/make-tables from docs/addresses.csv

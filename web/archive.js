@@ -1,7 +1,8 @@
-// Asks the archive over its routes (docs/API.md). What is read is asked again where no reply came; a deposit is sent
-// again with its token; a census is not, since it may be what the archive is held by.
+// Requests to the archive's routes (docs/API.md). If no reply comes, reads are retried, and deposits are sent again
+// with the same token. A census is not, since it may be what keeps the archive busy.
 
 import { indexHead } from './index.js';
+import { keepSetting, setting } from './kept.js';
 import { LONGEST_LIST } from './limits.js';
 import { Refused, refusalOf } from './refusals.js';
 import { readFile } from './rle.js';
@@ -21,7 +22,7 @@ const pause = (time, signal) => new Promise((resolve, reject) => {
   signal?.addEventListener('abort', stopped, { once: true });
 });
 
-/** Lets a few requests go at once, the others in their order. */
+/** Lets a few requests run at once; the others wait in order. */
 const line = { going: 0, waiting: [] };
 
 async function inLine(act, signal) {
@@ -37,7 +38,7 @@ async function inLine(act, signal) {
   }
 }
 
-/** One request: the bytes of a good reply, or what it refuses by; `no-reply` where none came. */
+/** One request: the bytes of the reply, or its refusal; `no-reply` if none came. */
 async function askOnce(path, options) {
   let reply;
   let bytes;
@@ -50,12 +51,14 @@ async function askOnce(path, options) {
   }
   if (reply.status === 200 || reply.status === 201) return bytes;
   const refused = refusalOf(reply.status, new TextDecoder().decode(bytes));
+  // The field for a member's name then says who logs in (member.js).
+  if (refused.name === 'password') keepSetting('login', setting('login') ?? '');
   refused.wait = Number(reply.headers.get('retry-after') ?? 0) * 1000;
   throw refused;
 }
 
-/** Asks, and after each pause again where nothing was asked of the archive, or nothing came of it. */
-async function askAgain(path, options, pauses, said = () => {}) {
+/** Sends a request, and again after each pause as long as it did not reach the archive or had no effect. */
+async function askAgain(path, options, pauses, said = (_error) => {}) {
   for (let tries = 0; ; tries += 1) {
     try {
       return await askOnce(path, options);
@@ -80,7 +83,7 @@ function parsed(bytes, key) {
     const value = JSON.parse(new TextDecoder().decode(bytes));
     if (key in value) return value;
   } catch {
-    // As below.
+    // As further down.
   }
   throw new Refused('unknown');
 }
@@ -99,24 +102,24 @@ export async function deposit(number, signal) {
   return { bytes, record: recordOf(bytes) };
 }
 
-/** A generation of a deposit, likewise. */
+/** A generation of a deposit as bytes, and its record. */
 export async function generation(number, at, signal) {
   const bytes = await read(`/deposits/${number}/at/${at}`, signal);
   return { bytes, record: recordOf(bytes) };
 }
 
-/** The deposits with a greater number, at most LONGEST_LIST of them, by number. */
+/** Up to LONGEST_LIST deposits with a greater number, in ascending order. */
 export async function depositsAfter(number, signal) {
   return parsed(await read(`/deposits/after/${number}`, signal), 'deposits').deposits;
 }
 
-/** How long a list may be kept by the gateway, in milliseconds, and how often a row that is not in it is asked for. */
+/** For how many milliseconds the gateway may cache a list, and how often to ask for a row that is missing in it. */
 const LIST_KEPT = 1100;
 const ROW_TRIES = 3;
 
 /**
- * The row of a deposit and that of the next one, if there is one. The gateway keeps a list for up to two seconds, and one that was asked for just
- * before the deposit lacks it. So the list begins one deposit earlier, where a search for the last one does not ask, and is asked for again.
+ * The row of a deposit and that of the next one, if there is one. The gateway caches a list for up to two seconds, so a list that was requested
+ * just before the deposit lacks it. Therefore the list begins one deposit earlier than the search for the last one does, and is requested again.
  * @param {number} number
  * @param {AbortSignal} signal
  */
@@ -142,18 +145,18 @@ export async function total(rule, code, limit, signal) {
   return parsed(await read(`/objects/${rulePart(rule)}/${encodeURIComponent(code)}/${limit}`, signal), 'total').total;
 }
 
-// The greatest number of a deposit that was seen: numbers are never given back.
+// The greatest number of a deposit seen so far: numbers only grow.
 let seen = 0;
 
-/** Where lists are asked for, of which one may be the last: at first far apart, then between the bounds that are known. */
+/** The numbers at which to request lists to find the last deposit: at first far apart, then between the known bounds. */
 function probes(low, high) {
   if (high === Infinity) return [10, 100, 1000, 10_000].map((lists) => low + lists * LONGEST_LIST);
   return [1, 2, 3, 4].map((part) => Math.floor(low + (high - low) * part / 5));
 }
 
 /**
- * The greatest number of a deposit, 0 where there is none. No route tells it: it is looked for by lists, from one that was seen or that the
- * index has, four at a time.
+ * The greatest number of a deposit, 0 if there is none. No route gives it, so it is searched for with lists, four at a time, from a number that
+ * was seen or that the index has.
  */
 export async function lastDeposit(signal) {
   let low = Math.max(seen, (await indexHead())?.counts.deposits ?? 0);
@@ -172,14 +175,14 @@ export async function lastDeposit(signal) {
 
 const sent = (member, token, body, signal) => ({ method: 'POST', headers: { 'x-member': member, 'x-token': token }, body, signal });
 
-/** Deposits a file, and answers its number. Where no reply comes it is sent again, always with the same token; `said` hears of it. */
+/** Deposits a file, and returns its number. If no reply comes, it is sent again with the same token, and `said` is called. */
 export async function sendDeposit(member, token, bytes, said, signal) {
   const number = parsed(await askAgain('/deposits', sent(member, token, bytes, signal), SEND_PAUSES, said), 'deposit').deposit;
   seen = Math.max(seen, number);
   return number;
 }
 
-/** Asks for a census once, and answers its number. */
+/** Requests a census once, and returns its number. */
 export async function sendCensus(member, token, number, at, limit, signal) {
   return parsed(await askAgain(`/deposits/${number}/censuses/${at}/${limit}`, sent(member, token, null, signal), []), 'census').census;
 }

@@ -1,4 +1,4 @@
-// The search box in the head of each page: which address its text leads to, and what it names besides deposits.
+// The search box in the head of each page: the address that its text leads to, and what it names besides deposits.
 
 import { censusAddress, depositAddress, memberAddress, objectAddress } from './address.js';
 import { objectNames, patternOf } from './code.js';
@@ -23,7 +23,7 @@ const RULES = new Map(Object.entries({
   stains: 'B3678/S235678', 'walled cities': 'B45678/S2345', serviettes: 'B234/S', 'live free or die': 'B2/S0', 'pseudo life': 'B357/S238', assimilation: 'B345/S4567', coagulations: 'B378/S235678',
 }));
 
-/** The canonical text of a rule; nothing if a text is none. */
+/** The canonical text of a rule; nothing if the text is not a rule. */
 function ruleOf(text) {
   const rule = RULE.test(text) && text.length > 2 ? readRule(text) : 'bad-rule';
   return typeof rule === 'string' ? null : ruleText(rule);
@@ -46,7 +46,7 @@ export function addressOf(given) {
   return `/find?${new URLSearchParams({ text })}`;
 }
 
-/** Whether an address is that of a search for words. @param {string} address */
+/** Whether an address is a search for words. @param {string} address */
 export const isSearch = (address) => address.startsWith('/find?text=');
 
 /** How well a name fits a text: 3 for the name itself, 2 for its beginning, 1 for the beginning of a word of it, else 0. */

@@ -1,4 +1,4 @@
-// What one page hands to another: files that are to be deposited, and what is said of the deposit that was sent last.
+// What one page passes to another: files to deposit, and a note about the last deposit.
 
 import { make } from './dom.js';
 
@@ -6,14 +6,14 @@ let files = null;
 let note = null;
 
 /**
- * Keeps files for the page that deposits them.
+ * Stores files for the page that deposits them.
  * @param {(File | Blob)[]} given
  */
 export function bring(given) {
   files = given;
 }
 
-/** The files that were brought, once; nothing if there are none. */
+/** The files that were passed, once; nothing if there are none. */
 export function broughtFiles() {
   const taken = files;
   files = null;
@@ -21,20 +21,22 @@ export function broughtFiles() {
 }
 
 /**
- * Keeps what is to be said on the page of a deposit.
+ * Stores a note for the page of a deposit, and the member's name that was typed, if any.
  * @param {number} number
  * @param {string} text
+ * @param {string | null} typed
  */
-export function keepNote(number, text) {
-  note = { number, text };
+export function keepNote(number, text, typed) {
+  note = { number, text, typed };
 }
 
 /**
- * The note of a deposit, once; an empty one if it has none.
+ * The note of a deposit, once, and the name that was typed for it; an empty one if it has none.
  * @param {number} number
+ * @returns {{ line: HTMLElement, typed?: string | null }}
  */
 export function noteOf(number) {
-  const text = note?.number === number ? note.text : null;
+  const own = note?.number === number ? note : null;
   note = null;
-  return make('p', { class: 'note', role: 'status' }, text ?? '');
+  return { line: make('p', { class: 'note', role: 'status' }, own?.text ?? ''), typed: own?.typed };
 }

@@ -1,4 +1,4 @@
-// All objects of all censuses of a rule, by the index: a table that can be sorted and filtered, and its CSV.
+// All objects in the censuses of a rule, from the search index: a table to sort and filter, and its CSV.
 
 import { depositAddress, go, objectAddress } from './address.js';
 import { limitOf, objectNames, patternOf } from './code.js';
@@ -9,6 +9,7 @@ import { groupsOf } from './parts.js';
 import { save } from './picture.js';
 import { Refused } from './refusals.js';
 import { readRule, ruleAddress, ruleOfAddress, ruleText } from './rule.js';
+import { Heads, sorted } from './sorts.js';
 
 const LIFE = 'B3/S23';
 const SHOWN = 100;
@@ -18,22 +19,23 @@ const KINDS = { s: 'still life', p: 'oscillator', q: 'spaceship' };
 /**
  * @typedef {object} Row an object of the table
  * @property {string} code
+ * @property {ReturnType<typeof patternOf>} pattern what the code spells
  * @property {string} name its name, or what it is made of; empty if it has neither
  * @property {string} kind
  * @property {number} period
  * @property {number} cells
  * @property {number} count
- * @property {number} grouped how often it is in groups besides
+ * @property {number} grouped how many more of it are in groups
  * @property {boolean} isGroup whether it is several objects side by side
  * @property {number} deposits
  * @property {number} first the first deposit that has it
  * @property {string} day
  */
 
-/** How often an object is there: alone, or, with groups split, in groups too. @param {Row} row @param {boolean} isSplit */
+/** How often an object occurs: alone or, if groups are split, in groups too. @param {Row} row @param {boolean} isSplit */
 const countOf = (row, isSplit) => (isSplit ? row.count + row.grouped : row.count);
 
-/** The columns: their names in an address, their heads, and what is seen of a row; the first order of a number is from the greatest down. */
+/** The columns. Numbers are first sorted in descending order. @type {import('./sorts.js').Column[]} */
 const COLUMNS = [
   { id: 'name', head: 'Object', value: (row) => row.name || '\uffff', isUp: true },
   { id: 'kind', head: 'Kind', value: (row) => row.kind, isUp: true, more: true },
@@ -51,7 +53,7 @@ function rowOf(object, names) {
     grouped: 0, isGroup: false, deposits: object.deposits.size, first: object.first?.deposit ?? 0, day: object.first?.day ?? '' };
 }
 
-/** A range as it is typed: `3`, `3-8`, `3-` or `-8`; all numbers if it is none. */
+/** A range as it is typed: `3`, `3-8`, `3-` or `-8`. Any other text means all numbers. */
 function rangeOf(text) {
   const found = /^\s*([0-9]*)\s*(-|–|to|\.\.)?\s*([0-9]*)\s*$/.exec(text);
   if (!found || (found[1] === '' && found[3] === '')) return () => true;
@@ -59,7 +61,7 @@ function rangeOf(text) {
   return (number) => number >= least && number <= most;
 }
 
-/** What is asked for by the address: an order and filters. */
+/** The order and the filters in the address. */
 function askedBy(query) {
   const words = new URLSearchParams(query);
   const [, isDown, sort] = /^(-?)([a-z]+)$/.exec(words.get('sort') ?? '') ?? [null, '-', 'count'];
@@ -67,31 +69,27 @@ function askedBy(query) {
   return { sort: column.id, isUp: isDown !== '-', text: words.get('text') ?? '', kind: words.get('kind') ?? '', period: words.get('period') ?? '', cells: words.get('cells') ?? '', groups: words.get('groups') ?? '' };
 }
 
-/** The words of an address for what is asked. */
+/** The query of the address for an order and filters. */
 function queryOf({ sort, isUp, ...filters }) {
   const words = new URLSearchParams(Object.entries(filters).filter(([, value]) => value !== ''));
   if (sort !== 'count' || isUp) words.set('sort', `${isUp ? '' : '-'}${sort}`);
-  return words.size === 0 ? '' : `?${words}`;
+  const query = words.toString();
+  return query && `?${query}`;
 }
 
 /**
- * The rows that fit, in the order that is asked for.
+ * The matching rows, in the requested order.
  * @param {Row[]} rows
  */
 function fitting(rows, asked) {
   const text = asked.text.trim().toLowerCase();
   const [period, cells] = [rangeOf(asked.period), rangeOf(asked.cells)];
-  const { value } = COLUMNS.find(({ id }) => id === asked.sort);
-  const sign = asked.isUp ? 1 : -1;
   const isSplit = asked.groups === 'split';
-  const order = (one, other) => {
-    const [first, second] = [value(one, isSplit), value(other, isSplit)];
-    return first < second ? -sign : first > second ? sign : other.count - one.count;
-  };
-  return rows.filter((row) => !(isSplit && row.isGroup) && (row.name.toLowerCase().includes(text) || row.code.includes(text)) && (!asked.kind || row.code[1] === asked.kind) && period(row.period) && cells(row.cells)).sort(order);
+  const found = rows.filter((row) => !(isSplit && row.isGroup) && (row.name.toLowerCase().includes(text) || row.code.includes(text)) && (!asked.kind || row.code[1] === asked.kind) && period(row.period) && cells(row.cells));
+  return sorted(found.sort((one, other) => other.count - one.count), COLUMNS, asked, isSplit);
 }
 
-/** How often an object is there, and how much of that is in groups. */
+/** How often an object occurs, and how many of these are in groups. */
 function countCell(row, isSplit) {
   const more = isSplit ? `${counted(row.count)} alone` : `+ ${counted(row.grouped)} in groups`;
   return make('td', { class: 'number' }, counted(countOf(row, isSplit)), row.grouped ? make('small', {}, more) : null);
@@ -134,27 +132,25 @@ class Catalog {
    * @param {[string, number][]} rules the rules that can be chosen, each with the number of its objects
    */
   constructor(page, rule, rows, rules) {
-    Object.assign(this, { page, rule, rows, asked: askedBy(location.search) });
+    this.page = page;
+    this.rule = rule;
+    this.rows = rows;
+    this.asked = askedBy(location.search);
     this.count = make('p', { class: 'count', role: 'status' });
     this.body = make('tbody');
     this.more = make('button', { type: 'button', class: 'more', click: () => this.#showMore() });
-    this.heads = COLUMNS.map((column) => this.#headOf(column));
+    this.heads = new Heads(COLUMNS, this.asked, (order) => {
+      this.asked = { ...this.asked, ...order };
+      this.show();
+    });
     this.form = this.#formOf(rules);
     this.root = make('div', {}, this.form, this.count, make('table', { class: 'census catalog' }, make('caption', { class: 'aside' }, `Objects of the censuses of deposits under ${rule}`),
-      make('thead', {}, make('tr', {}, make('td', {}), this.heads)), this.body), make('p', {}, this.more));
+      make('thead', {}, make('tr', {}, make('td', {}), this.heads.cells)), this.body), make('p', {}, this.more));
     this.show();
   }
 
   get #isSplit() {
     return this.asked.groups === 'split';
-  }
-
-  #headOf({ id, head, isNumber, isUp, more }) {
-    const sort = () => {
-      this.asked = { ...this.asked, sort: id, isUp: this.asked.sort === id ? !this.asked.isUp : Boolean(isUp) };
-      this.show();
-    };
-    return make('th', { scope: 'col', class: [isNumber ? 'number' : '', more ? 'more' : ''].join(' ').trim(), 'data-column': id }, make('button', { type: 'button', class: 'sort', click: sort }, head));
   }
 
   #formOf(rules) {
@@ -170,10 +166,10 @@ class Catalog {
       field('Cells', input('cells', '4 or 4-10')), make('p', { class: 'row' }, this.#splitOf(), csv));
   }
 
-  /** Counts the objects of groups one by one, as a catalogue of separated objects does. Only in Conway's Life are parts known. */
+  /** Counts each object of a group separately, as a catalogue of separated objects does. Parts are known only in Conway's Life. */
   #splitOf() {
     const split = make('input', { id: 'objects-split', type: 'checkbox', checked: this.asked.groups === 'split', change: () => this.#filter('groups', split.checked ? 'split' : '') });
-    return this.rule === LIFE ? make('span', { class: 'check' }, split, make('label', { for: split.id, title: 'Count the objects of groups one by one' }, 'Split groups')) : null;
+    return this.rule === LIFE ? make('span', { class: 'check' }, split, make('label', { for: split.id, title: 'Count each object in a group separately' }, 'Split groups')) : null;
   }
 
   #filter(name, value) {
@@ -181,15 +177,11 @@ class Catalog {
     this.show();
   }
 
-  /** Shows the rows that fit, from the first on. */
+  /** Shows the matching rows from the first on. */
   show() {
     this.#fitting = fitting(this.rows, this.asked);
     this.#shown = 0;
     this.body.replaceChildren();
-    for (const head of this.heads) {
-      if (head.dataset.column === this.asked.sort) head.setAttribute('aria-sort', this.asked.isUp ? 'ascending' : 'descending');
-      else head.removeAttribute('aria-sort');
-    }
     const all = this.#fitting.reduce((sum, row) => sum + countOf(row, this.#isSplit), 0);
     this.count.replaceChildren(`${many(this.#fitting.length, 'object')}${this.#fitting.length < this.rows.length ? ` of ${counted(this.rows.length)}` : ''}, counted ${many(all, 'time')}`);
     history.replaceState(history.state, '', location.pathname + queryOf(this.asked));
@@ -204,7 +196,7 @@ class Catalog {
   }
 }
 
-/** Finds what is a group of other objects, and says it in the rows. */
+/** Finds the groups of other objects, and marks their rows. */
 async function nameGroups(catalog, signal) {
   const { texts, grouped } = await groupsOf(catalog.rows, catalog.rule, signal);
   if (texts.size === 0) return;
@@ -216,7 +208,7 @@ async function nameGroups(catalog, signal) {
   catalog.show();
 }
 
-/** The rule of an address. */
+/** The rule in an address. */
 function ruleGiven(given) {
   const rule = readRule(ruleOfAddress(decodeURIComponent(given)));
   if (typeof rule === 'string') throw new Refused('bad-rule');
@@ -236,9 +228,9 @@ export async function catalogPage(page, given) {
   const rules = await rulesWithObjects(page.signal);
   const rule = wanted ?? (rules.some(([text]) => text === LIFE) ? LIFE : rules[0]?.[0] ?? LIFE);
   const [objects, names] = await Promise.all([objectsOfRule(rule, page.signal), rule === LIFE ? objectNames() : new Map()]);
-  page.root.append(make('p', { class: 'by' }, `Every object that a census of a deposit under ${rule} found, the most frequent first. `, make('a', { href: '/about#census' }, 'How objects are counted')));
+  page.root.append(make('p', { class: 'by' }, `All objects that censuses of deposits under ${rule} have found, the most frequent first. `, make('a', { href: '/about#census' }, 'How objects are counted')));
   if (objects.length === 0) {
-    page.root.append(make('p', { class: 'empty' }, `No census of a deposit under ${rule} has found an object yet. `, rules.length > 0 ? ['There are objects of ', make('a', { href: `/o/${ruleAddress(rules[0][0])}` }, rules[0][0]), '.'] : 'Count the objects of a deposit to begin.'), indexNote(head));
+    page.root.append(make('p', { class: 'empty' }, `No census of a deposit under ${rule} has found an object yet. `, rules.length > 0 ? ['There are objects of ', make('a', { href: `/o/${ruleAddress(rules[0][0])}` }, rules[0][0]), '.'] : 'To begin, count the objects of a deposit.'), indexNote(head));
     return;
   }
   const catalog = new Catalog(page, rule, objects.map((object) => rowOf(object, names)), rules);

@@ -7,10 +7,11 @@ import { copyButton, counted, make, many } from './dom.js';
 import { thumbnail } from './draw.js';
 import { groupsOf } from './parts.js';
 import { ruleText } from './rule.js';
+import { Heads, sorted } from './sorts.js';
 
 const SIDE = 48;
 
-/** The bar of a count beside the greatest one. */
+/** The bar of a count, relative to the greatest one. */
 function barOf(count, most, more = '') {
   const bar = make('span', { class: `bar ${more}`, 'aria-hidden': 'true', hidden: count === 0 });
   bar.style.inlineSize = `${100 * count / most}%`;
@@ -18,8 +19,8 @@ function barOf(count, most, more = '') {
 }
 
 /**
- * What the objects of a table are called: names of well-known ones, what groups are made of, and how often an object is in groups. Groups are
- * found later than the table is shown.
+ * What the objects of a table are called: the names of well-known ones, the parts of groups, and how often an object is in groups. Groups are
+ * found after the table is shown.
  */
 export class Labels {
   #names;
@@ -35,7 +36,7 @@ export class Labels {
     this.#names = rule === 'B3/S23' ? names : new Map();
   }
 
-  /** The line below a code, which is filled once more when the groups are known. */
+  /** The line below a code, which is updated when the groups are known. */
   lineOf(code) {
     const line = make('small');
     this.#lines.set(code, line);
@@ -60,11 +61,11 @@ export class Labels {
   }
 }
 
-/** Said before a table of objects, since the numbers are not those that a reader knows from elsewhere. */
-export const countNote = () => make('p', { class: 'hint' }, 'A cluster is one object, also if its parts never change each other, so these counts are not apgsearch’s. ', make('a', { href: '/about#census' }, 'How objects are counted'));
+/** The note above a table of objects: its counts differ from those that readers may know from elsewhere. */
+export const countNote = () => make('p', { class: 'hint' }, 'A cluster counts as one object even if its parts never change each other, so these counts differ from apgsearch’s. ', make('a', { href: '/about#census' }, 'How objects are counted'));
 
 /**
- * A row of a table: an object, what it is called, how often it is there, and a bar of that.
+ * A row of a table: an object, its name, its count, and a bar.
  * @param {{code: string, count: number}} object
  * @param {number} most
  * @param {Labels} labels
@@ -82,10 +83,26 @@ export function unresolvedRow(count, most) {
     make('td', { class: 'number' }, counted(count)), barOf(count, most, 'none'));
 }
 
+/** The columns by which the table can be sorted. @type {import('./sorts.js').Column[]} */
+const COLUMNS = [{ id: 'code', head: 'Code', value: (row) => row.code, isUp: true }, { id: 'count', head: 'Count', value: (row) => row.count, isNumber: true }];
+
+/** The table of the objects; the archive sorts by code, and this table by count at first. */
+function objectsTable(number, found, labels) {
+  const most = Math.max(1, found.unresolved, ...found.rows.map((row) => row.count));
+  const lines = new Map(found.rows.map((row) => [row, objectRow(row, most, labels)]));
+  const body = make('tbody');
+  const last = unresolvedRow(found.unresolved, most);
+  const show = (order) => body.replaceChildren(...sorted(found.rows, COLUMNS, order).map((row) => lines.get(row)), last);
+  const heads = new Heads(COLUMNS, { sort: 'count', isUp: false }, show);
+  show(heads.order);
+  return make('table', { class: 'census' }, make('caption', { class: 'aside' }, `Objects of census ${number}`),
+    make('thead', {}, make('tr', {}, make('td', {}), heads.cells, make('td', {}))), body);
+}
+
 function steadyText(found) {
   return found.steady
-    ? 'Steady: all clusters are still lifes and oscillators that never come near each other, so each later generation is theirs, each run alone.'
-    : 'Not steady: a cluster moves, does not come back within the limit, or comes near another.';
+    ? 'Steady: all clusters are still lifes and oscillators that never come near each other, so from now on each of them runs as if it were alone.'
+    : 'Not steady: a cluster moves, does not return within the limit, or comes near another.';
 }
 
 export async function censusPage(page, given) {
@@ -94,9 +111,7 @@ export async function censusPage(page, given) {
   const found = await census(number, page.signal);
   const [{ record }, names] = await Promise.all([deposit(found.deposit, page.signal), objectNames()]);
   const rule = ruleText(record.rule);
-  // The most frequent first; the archive has them by code.
-  const rows = found.rows.toSorted((one, other) => other.count - one.count);
-  const most = Math.max(1, found.unresolved, ...rows.map((row) => row.count));
+  const { rows } = found;
   const labels = new Labels(rule, names);
   const url = location.origin + censusAddress(number);
   const place = depositAddress(found.deposit, found.generation);
@@ -108,9 +123,7 @@ export async function censusPage(page, given) {
     make('dl', { class: 'facts' }, [['Clusters', counted(found.clusters)], ['Objects', many(rows.length, 'code')], ['Unresolved', counted(found.unresolved)]]
       .map(([term, told]) => make('div', {}, make('dt', {}, term), make('dd', {}, told)))),
     make('p', { class: found.steady ? 'steady yes' : 'steady' }, steadyText(found)), countNote(),
-    make('table', { class: 'census' }, make('caption', { class: 'aside' }, `Objects of census ${number}, the most frequent first`),
-      make('thead', {}, make('tr', {}, make('td', {}), make('th', { scope: 'col' }, 'Code'), make('th', { scope: 'col', class: 'number' }, 'Count'), make('td', {}))),
-      make('tbody', {}, rows.map((row) => objectRow(row, most, labels)), unresolvedRow(found.unresolved, most))),
+    objectsTable(number, found, labels),
     make('p', { class: 'row' }, make('a', { class: 'button', href: `/censuses/${number}/csv`, download: `census-${number}.csv` }, 'Download CSV'), make('a', { class: 'address', href: url }, url), copyButton('Copy the address', () => url, page.say)));
   labels.findGroups(rows, page.signal).catch(() => {});
   page.say(`Census ${number}: ${many(found.clusters, 'cluster')}, ${many(rows.length, 'code')}, ${found.unresolved} unresolved.`);

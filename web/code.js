@@ -3,7 +3,7 @@
 const ROWS = 5;
 const FORM = /^x([spq])([1-9][0-9]{0,5})_([0-9a-z]+)$/;
 
-/** The least limit of the period under which a code can be opened; 1 for what is no code, for the archive to refuse. */
+/** The smallest limit under which a code can be opened; 1 if the text is not a code, so that the archive refuses it. */
 export function limitOf(code) {
   const found = FORM.exec(code);
   return found && found[1] !== 's' ? Number(found[2]) : 1;
@@ -19,7 +19,7 @@ function runsOf(columns) {
   return runs;
 }
 
-/** The pattern that a code's text spells; null where it is none. Whether it is some object's code is for the archive to say. */
+/** The pattern that the text of a code spells; null if it spells none. Only the archive says whether it is an object's code. */
 export function patternOf(code) {
   const text = FORM.exec(code)?.[3];
   if (!text) return null;
@@ -51,11 +51,14 @@ export function patternOf(code) {
 
 let names = null;
 
-/** The names of objects of Conway's Life by their codes, of the table that is beside this file. */
+/** The names of objects of Conway's Life by their codes, from the table next to this file. */
 export function objectNames() {
   names ??= fetch('/web/objects.csv').then((reply) => (reply.ok ? reply.text() : '')).catch(() => '').then((text) => {
     const lines = text.split('\n').filter((line) => line.includes(',') && !line.startsWith('#')).slice(1);
-    return new Map(lines.map((line) => line.split(',').reverse()));
+    return new Map(lines.map((line) => {
+      const [name, code] = line.split(',');
+      return [code, name];
+    }));
   });
   return names;
 }

@@ -1,20 +1,31 @@
-// The comments of a deposit, below its picture: the first lines, and all of them by a press.
+// The comments of a deposit, below its picture: the first lines, and a button that shows all.
 
 import { counted, make } from './dom.js';
 
 const FIRST = 3;
 
 /**
- * The comments as one block with the lines of the file; nothing if there are none.
+ * Comments without the scripts of LifeViewer, such as `[[ AUTOSTART ]]`, and without the lines that only had these.
  * @param {string[]} comments
+ */
+export function withoutScripts(comments) {
+  // A script may go over several lines. What it leaves is marked by a character that no line has.
+  const rest = comments.join('\n').replace(/\[\[[^]*?\]\]/g, (script) => script.replace(/[^\n]+/g, '\r'));
+  return rest.split('\n').filter((line) => !/^[ \r]*\r[ \r]*$/.test(line)).map((line) => line.replaceAll('\r', '').trim());
+}
+
+/**
+ * The comments as one block with the lines of the file; nothing if there are none.
+ * @param {string[]} given
  * @returns {HTMLElement | null}
  */
-export function commentsPart(comments) {
+export function commentsPart(given) {
+  const comments = withoutScripts(given);
   if (comments.length === 0) return null;
   const text = make('p', { class: 'comment', id: 'comments-text' });
   const show = (lines) => text.replaceChildren(lines.join('\n'));
   const part = make('section', { class: 'comments', 'aria-label': 'Comments' }, text);
-  // One line more costs no more room than a button.
+  // One more line takes no more room than the button would.
   if (comments.length <= FIRST + 1) {
     show(comments);
     return part;

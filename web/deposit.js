@@ -8,8 +8,10 @@ import { objectNames } from './code.js';
 import { commentsPart } from './comments.js';
 import { controls, keysOf } from './controls.js';
 import { Plot } from './plot.js';
-import { addLater, againButton, copyButton, counted, field, isMember, make, many, memberInput, refusal, rememberMember } from './dom.js';
+import { addLater, againButton, copyButton, counted, field, isMember, make, many, refusal } from './dom.js';
 import { GENERATION_LIMIT, PERIOD_LIMIT } from './limits.js';
+import { countAll } from './maker.js';
+import { learnMember, memberPart, rememberMember } from './member.js';
 import { saveSection } from './picture.js';
 import { Player } from './player.js';
 import { Refused } from './refusals.js';
@@ -18,9 +20,11 @@ import { censusesSection } from './search.js';
 import { Shown } from './shown.js';
 import { View } from './view.js';
 
-/** How long it is said that the page scrolls and the canvas does not zoom, in milliseconds. */
+/** For how many milliseconds the hint about scrolling and zooming is shown. */
 const SAID = 2500;
-/** The limit that finds what ash has: a multiple of the common periods. */
+/** After how many milliseconds the plot of all generations begins. */
+const LATER = 300;
+/** The limit that finds the objects of ash: a multiple of the common periods. */
 const USUAL_LIMIT = 60;
 
 const across = (columns, rows) => [columns === 0 ? null : `${many(Math.abs(columns), 'column')} to the ${columns < 0 ? 'left' : 'right'}`,
@@ -31,12 +35,12 @@ function kindText(found, limit) {
     case 'empty': return 'empty: no cell is live';
     case 'still': return 'still life';
     case 'oscillator': return `oscillator of period ${counted(found.period)}`;
-    case 'ship': return `spaceship of period ${counted(found.period)}, which moves ${across(found.dx, found.dy)}`;
-    default: return `does not come back within ${many(limit, 'generation')}`;
+    case 'ship': return `spaceship of period ${counted(found.period)}, moves ${across(found.dx, found.dy)}`;
+    default: return `does not return within ${many(limit, 'generation')}`;
   }
 }
 
-/** The kind of the deposit, within a limit that can be asked for anew. */
+/** The kind of the deposit, with a form for another limit. */
 function kindParts(number, record, page, periodic) {
   const said = make('span', {}, '…');
   const code = make('span', {}, '…');
@@ -54,7 +58,7 @@ function kindParts(number, record, page, periodic) {
       const name = found.code && rule === 'B3/S23' ? (await objectNames()).get(found.code) : null;
       code.replaceChildren(...(found.code
         ? [make('a', { href: objectAddress(rule, found.code) }, make('code', {}, found.code)), name ? ` ${name} ` : ' ', copyButton('Copy', () => found.code, page.say)]
-        : [isPeriodic ? 'none: no phase fits in a box of 40 by 40' : 'none']));
+        : [isPeriodic ? 'none: no phase fits into 40 by 40 cells' : 'none']));
     } catch (error) {
       if (page.signal.aborted) return;
       said.replaceChildren(refusal(error));
@@ -66,9 +70,9 @@ function kindParts(number, record, page, periodic) {
   return [['Kind', [said, form]], ['Code', [code]]];
 }
 
-/** Asks for a census of the generation that is shown. Its token is made of what is asked for, as that of examples/scripts/census-all. */
+/** Takes a census of the generation that is shown. Its token consists of the arguments, like that of examples/scripts/census-all. */
 function censusPart(shown, page) {
-  const name = memberInput('census-member');
+  const { part: member, input: name } = memberPart('census-member');
   const limit = make('input', { id: 'census-limit', type: 'number', min: 1, max: PERIOD_LIMIT, required: true, inputmode: 'numeric' });
   limit.value = USUAL_LIMIT;
   const said = make('div');
@@ -91,25 +95,31 @@ function censusPart(shown, page) {
     }
   };
   return make('section', {}, make('h2', {}, 'Census'),
-    make('p', {}, 'Count the objects of this generation. The archive keeps the count under a number. ', make('a', { href: '/about#census' }, 'What is a census?')),
-    make('form', { submit: ask }, field('Member', name), field('Longest period', limit, '60 is right for ash. A large one may take long on a large field.'), send), said);
+    make('p', {}, 'Count the objects in this generation. The archive stores the count under a number. ', make('a', { href: '/about#census' }, 'What is a census?')),
+    make('form', { submit: ask }, member, field('Longest period', limit, '60 finds all common objects. A larger one can take long on a large field.'), send), said);
 }
 
-/** The title, the author, and the member, who is filled in once the row of the deposit has come. */
+/** The title, the author, and the member, who is added once the row of the deposit has arrived. */
 function heading(number, record, rows) {
   const by = make('p', { class: 'by' }, record.author ? `By ${record.author}. ` : null);
-  rows.then(({ row }) => { if (row) by.append('Deposited by ', make('a', { href: memberAddress(row.member) }, row.member), '.'); }, () => {});
-  return make('div', { class: 'title' }, make('h1', { tabindex: -1 }, record.name ?? `Deposit ${number}`, record.name ? make('small', {}, ` deposit ${counted(number)}`) : null), by, noteOf(number));
+  const { line, typed } = noteOf(number);
+  rows.then(({ row }) => {
+    if (!row) return;
+    by.append('Deposited by ', make('a', { href: memberAddress(row.member) }, row.member), '.');
+    const said = typed === undefined ? null : learnMember(typed, row.member);
+    if (said) line.append(` ${said}`);
+  }, () => {});
+  return make('div', { class: 'title' }, make('h1', { tabindex: -1 }, record.name ?? `Deposit ${number}`, record.name ? make('small', {}, ` deposit ${counted(number)}`) : null), by, line);
 }
 
-/** The links to the deposits beside this one. */
+/** The links to the deposits before and after this one. */
 function neighbours(number, rows) {
   const nav = make('nav', { class: 'pager', 'aria-label': 'Other deposits' }, number > 1 ? make('a', { href: depositAddress(number - 1) }, `← ${counted(number - 1)}`) : null);
   rows.then(({ next }) => { if (next) nav.append(make('a', { href: depositAddress(next.id) }, `${counted(next.id)} →`)); }, () => {});
   return nav;
 }
 
-/** The canvas of a deposit with what is said of the generation that it shows, and who made it. */
+/** The canvas of a deposit, with the facts about the generation that it shows and where that came from. */
 class Stage {
   canvas = make('canvas', { class: 'large', role: 'img', tabindex: 0 });
   facts = { population: make('span'), box: make('span') };
@@ -120,21 +130,28 @@ class Stage {
   source = make('span');
   equal = make('span');
 
-  constructor(number, name, page) {
+  constructor(number, own, page) {
     this.page = page;
-    this.text = new Shown(number, name, page);
+    this.text = new Shown(number, own, page);
     this.view = new View(this.canvas, page.signal, () => this.#sayScrolled());
     this.plot = new Plot((at) => this.player.go(at));
     this.player = new Player(number, page.signal, this);
     this.ages = new Ages((at) => this.player.made(at), (found) => this.view.showAges(found));
-    this.bar = controls(this.player, this.view, this.ages);
+    this.bar = controls(this.player, this.view, this.ages, () => this.turnFull());
+    this.stage = make('div', { class: 'stage' }, make('div', { class: 'seen' }, this.canvas, this.hint, this.end), this.bar.bar);
   }
 
-  /** Shows a generation; `bytes` is null where the page made it. Answers where it was put. */
+  /** Shows the canvas and its controls on the whole screen, or no longer. */
+  turnFull() {
+    // The browser may refuse; then nothing changes.
+    (document.fullscreenElement ? document.exitFullscreen() : this.stage.requestFullscreen()).catch(() => {});
+  }
+
+  /** Shows a generation; `bytes` is null if the page computed it. Returns its position. */
   shown(at, record, bytes, place) {
     const { pattern } = record;
     const put = this.view.show(pattern, place);
-    // At a greater speed most of the generations between are not there to count ages by.
+    // At a higher speed, most of the generations in between are missing, so ages can't be counted.
     if (this.player.direction === 0 || this.player.stride === 1) this.ages.show(at);
     this.bar.at(at);
     this.end.replaceChildren();
@@ -143,7 +160,7 @@ class Stage {
     this.canvas.setAttribute('aria-label', `Generation ${at}: ${many(pattern.population, 'live cell')} in ${pattern.width} by ${pattern.height}`);
     this.text.take(at, bytes, record);
     this.plot.add(at, pattern.population);
-    this.source.replaceChildren(bytes === null ? 'Made in the page, to be compared.' : 'The archive’s own answer.');
+    this.source.replaceChildren(bytes === null ? 'Computed by your browser, and compared with the archive later.' : 'The archive’s own answer.');
     if (bytes !== null) this.said.replaceChildren();
     this.#settle();
     return put;
@@ -155,20 +172,20 @@ class Stage {
   }
 
   compared(at, isSame) {
-    if (isSame) this.equal.replaceChildren(`Compared with the archive’s at generation ${counted(at)}: the same.`);
-    else this.doubt.replaceChildren(make('p', { class: 'refusal', role: 'alert' }, `What the page made of generation ${counted(at)} is not what the archive answers. From here on each generation is the archive’s.`));
+    if (isSame) this.equal.replaceChildren(`At generation ${counted(at)} it matched the archive’s answer.`);
+    else this.doubt.replaceChildren(make('p', { class: 'refusal', role: 'alert' }, `The page’s generation ${counted(at)} differs from the archive’s. From here on, every generation comes from the archive.`));
   }
 
-  /** Said at the last generation, also if it is to be played from there. */
+  /** Shown at the last generation, even if playing continues from there. */
   async ended() {
     await this.player.show(this.player.at);
     if (this.player.at < GENERATION_LIMIT) return;
-    this.end.replaceChildren(`${counted(GENERATION_LIMIT)} is the last generation here. To see more: `, this.text.depositPart());
+    this.end.replaceChildren(`${counted(GENERATION_LIMIT)} is the last generation here. To play on: `, this.text.depositPart());
   }
 
   #saidScrolled = false;
 
-  /** Said once on a page: the wheel scrolls the page until the canvas has the focus. */
+  /** Shown once per page: the wheel scrolls the page until the canvas has the focus. */
   #sayScrolled() {
     if (this.#saidScrolled) return;
     this.#saidScrolled = true;
@@ -186,15 +203,22 @@ class Stage {
     this.page.say(this.canvas.getAttribute('aria-label'));
   }
 
-  /** What is to be on one screen: the canvas and its controls. */
-  get picture() {
-    return make('div', { class: 'stage' }, make('div', { class: 'seen' }, this.canvas, this.hint, this.end), this.bar.bar);
-  }
-
-  /** What is below them. */
+  /** What comes below the canvas and its controls. */
   get parts() {
-    return [make('p', { class: 'source' }, this.source, ' ', this.equal), this.doubt, this.said, this.plot.canvas];
+    return [make('p', { class: 'source' }, this.source, ' ', this.equal), this.doubt, this.said, this.plot.figure];
   }
+}
+
+/** Counts the cells of all generations for the plot, once the page is there. Without a worker the plot has only what was shown. */
+function countLater({ plot, player }, record, page) {
+  const begin = () => {
+    try {
+      countAll(record, GENERATION_LIMIT, (from, populations) => plot.fill(from, populations), () => player.direction !== 0, page.signal);
+    } catch {
+      // As above.
+    }
+  };
+  setTimeout(() => { if (!page.signal.aborted) begin(); }, LATER);
 }
 
 /** The page of a deposit, at a generation. */
@@ -204,19 +228,22 @@ export async function depositPage(page, given, at = '0') {
   const rows = depositRows(number, page.signal);
   let next = null;
   rows.then((found) => { next = found.next; }, () => {});
-  const { record } = await deposit(number, page.signal);
-  const stage = new Stage(number, record.name ?? `Deposit ${number}`, page);
+  const own = await deposit(number, page.signal);
+  const { record } = own;
+  const stage = new Stage(number, own, page);
   const { player, view, bar, text, facts } = stage;
   keysOf(page, player, view, bar.toggle, () => next);
+  page.keys.w = () => stage.turnFull();
   const list = [['Cells', [facts.population]], ['Box', [facts.box]], ['Rule', [ruleText(record.rule)]], ...kindParts(number, record, page, bar.periodic)];
   const censuses = make('div');
-  page.root.append(...[make('div', { class: 'screen' }, heading(number, record, rows), stage.picture), ...stage.parts, commentsPart(record.comments),
+  page.root.append(...[make('div', { class: 'screen' }, heading(number, record, rows), stage.stage), ...stage.parts, commentsPart(record.comments),
     make('dl', { class: 'facts' }, list.map(([term, told]) => make('div', {}, make('dt', {}, term), make('dd', {}, told)))),
-    make('div', { class: 'columns' }, ...text.parts(), saveSection(number, record, () => text.whole, page), censusPart(text, page)),
+    make('div', { class: 'columns' }, ...text.parts(), saveSection(text, page), censusPart(text, page)),
     censuses, neighbours(number, rows)].filter(Boolean));
   await player.show(Math.min(Number(at), GENERATION_LIMIT));
   view.fit();
   player.preload();
+  countLater(stage, record, page);
   addLater(page, censuses, censusesSection(page, number));
   if (Number(at) > GENERATION_LIMIT) stage.said.replaceChildren(refusal(new Refused('out-of-limit')));
 }

@@ -1,10 +1,9 @@
-// Making elements, and what several pages have.
+// Creating elements, and parts that several pages share.
 
-import { keepSetting, setting } from './kept.js';
 import { LONGEST_MEMBER } from './limits.js';
 import { nameOf, Refused, sentenceOf } from './refusals.js';
 
-/** An element with attributes (a function is a listener, `true` an attribute without a value) and with what is in it. */
+/** An element with attributes (a function is a listener, `true` an attribute without a value) and children. */
 export function make(tag, attributes = {}, ...inside) {
   const element = document.createElement(tag);
   for (const [name, value] of Object.entries(attributes)) {
@@ -17,9 +16,10 @@ export function make(tag, attributes = {}, ...inside) {
 
 const ICONS = {
   first: 'M3 3h2v10H3zM13 3v10L6 8z', back: 'M12 2v12L3 8z', less: 'M10 3 5 8l5 5', play: 'M4 2v12l9-6z', more: 'm6 3 5 5-5 5', pause: 'M4 3h3v10H4zM9 3h3v10H9z',
+  full: 'M2 6V2h4M10 2h4v4M14 10v4h-4M6 14H2v-4',
 };
 
-/** A small drawing on a button; the button has its name besides. */
+/** An icon for a button, which also has a name. */
 export function icon(name) {
   const named = (tag, attributes) => {
     const element = document.createElementNS('http://www.w3.org/2000/svg', tag);
@@ -31,7 +31,7 @@ export function icon(name) {
   return drawing;
 }
 
-/** A number with its thousands parted. */
+/** A number with thousands separators. */
 export const counted = (number) => number.toLocaleString('en');
 
 /** `1 cell`, `2 cells`. */
@@ -44,14 +44,14 @@ export function field(label, input, hint) {
   return make('p', { class: 'field' }, make('label', { for: input.id }, label), input, said);
 }
 
-/** Why something is refused, and what to do; a line of the file where it is known. */
+/** Why something was refused, and what to do; with the line of the file, if it is known. */
 export function refusal(error, more) {
   if (!(error instanceof Refused)) throw error;
   return make('div', { class: 'refusal', role: 'alert' }, make('p', {}, sentenceOf(error)), more ? make('p', {}, more) : null,
     make('p', { class: 'name' }, make('code', {}, nameOf(error))));
 }
 
-/** A button that copies a text, also on pages that did not come over TLS, where a browser has no clipboard. */
+/** A button that copies a text, even on pages without TLS, where browsers have no clipboard. */
 export function copyButton(label, text, say) {
   const copy = async () => {
     const value = text();
@@ -70,22 +70,13 @@ export function copyButton(label, text, say) {
   return make('button', { type: 'button', click: copy }, label);
 }
 
-/** A field for a member's name, with the one that was used last, which this browser alone keeps, if it keeps anything. */
-export function memberInput(id) {
-  const input = make('input', { id, name: 'member', required: true, maxlength: LONGEST_MEMBER, autocomplete: 'username', autocapitalize: 'none', spellcheck: 'false' });
-  input.value = setting('member') ?? '';
-  return input;
-}
-
-export const rememberMember = (name) => keepSetting('member', name);
-
-/** A button that asks again, where what was asked for may come yet; else nothing. */
+/** A button that tries again, if that may help; otherwise nothing. */
 export function againButton(error, again) {
   const may = error.isRead && ['no-reply', 'unavailable', 'too-many-requests'].includes(error.name);
   return may ? make('p', {}, make('button', { type: 'button', class: 'again', click: again }, 'Try again')) : null;
 }
 
-/** Adds parts to a page once they have come. A page is whole without what the index says, so nothing is said where it does not come. */
+/** Adds parts to a page once they arrive. A page is complete without the index, so a failure is not reported. */
 export function addLater(page, place, coming) {
   coming.then((parts) => { if (!page.signal.aborted) place.append(...parts); }, () => {});
 }

@@ -1,19 +1,19 @@
-// Drawing patterns. What is drawn is worked out in bytes of a picture, run by run, so that a large field costs no more than its runs.
+// Drawing patterns. Pictures are filled run by run in a byte buffer, so that the cost depends on the runs and not on the size of the field.
 
 import { shadesOfAges, wordOf } from './shades.js';
 import { paintShares } from './shares.js';
 
-/** The sizes of a cell from one pixel on. Smaller cells have any size, since a pixel then shows the share of its live cells. */
+/** The sizes of a cell, from one pixel on. Smaller cells may have any size, since a pixel then shows its share of live cells. */
 export const SIZES = [1, 2, 3, 4, 6, 8, 12, 16, 24, 32, 48];
-/** The least size: the widest pattern still fits on a phone after as many generations as the archive makes. */
+/** The smallest size: even after the last generation, the widest pattern still fits on a phone. */
 export const LEAST_SIZE = 1 / 16;
-/** How many steps below one pixel halve a cell. */
+/** How many zoom steps halve a cell that is smaller than a pixel. */
 const STEPS_A_HALF = 2;
 const LEAST_STEP = STEPS_A_HALF * Math.log2(LEAST_SIZE);
 const GAP_FROM = 6;
 const GRID_FROM = 8;
 
-/** The colors of the style, which are others in the dark theme. */
+/** The colors of the style sheet, which depend on the theme. */
 export function colors() {
   const style = getComputedStyle(document.documentElement);
   const named = (name) => wordOf(style.getPropertyValue(name).trim());
@@ -21,13 +21,13 @@ export function colors() {
 }
 
 /**
- * The size at a step of the zoom: steps from 0 on are the sizes of SIZES, those below 0 are smaller without a gap.
+ * The size at a zoom step: steps from 0 on are the sizes of SIZES, steps below 0 continuous smaller sizes.
  * @param {number} step
  */
 export const sizeAt = (step) => (step < 0 ? 2 ** (step / STEPS_A_HALF) : SIZES[Math.min(Math.round(step), SIZES.length - 1)]);
 
 /**
- * The step of a size, and the greatest step of all for one that is larger.
+ * The zoom step of a size; the greatest step if the size is larger.
  * @param {number} size
  */
 export function stepOf(size) {
@@ -37,7 +37,7 @@ export function stepOf(size) {
 }
 
 /**
- * A step that the zoom can have.
+ * A step, limited to those that the zoom allows.
  * @param {number} step
  */
 export const boundStep = (step) => Math.min(Math.max(step, LEAST_STEP), SIZES.length - 1);
@@ -64,7 +64,7 @@ function paintRow(words, width, runs, top, bottom, view, word) {
     for (let column = runs[at]; column < runs[at + 1]; column += step) {
       const left = Math.floor((column + view.place.column - view.left) * view.size);
       const end = Math.floor((column + step + view.place.column - view.left) * view.size);
-      // A cell that is smaller than a pixel is seen all the same.
+      // A cell smaller than a pixel is still visible.
       const from = Math.max(left, 0);
       const to = Math.min(Math.max(end - gap, left + 1), width);
       if (from < to) for (let row = top; row < bottom; row += 1) words.fill(word, row * width + from, row * width + to);
@@ -93,7 +93,8 @@ function paintAges(words, width, runs, top, bottom, view, ages, shades) {
 
 /**
  * Draws a pattern on a canvas. A view has the column and row of the plane at the left and top edge, the size of a cell in pixels, the
- * place of the pattern's corner, and the ages of its cells if they are to be seen.
+ * place of the pattern's corner, and the ages of its cells if they are shown; only then are the shades of young and old cells needed.
+ * @param {{ live: number, dead: number, grid: number, young?: number, old?: number }} [shades]
  */
 export function paint(canvas, pattern, view, shades = colors()) {
   const { width, height } = canvas;
@@ -121,7 +122,7 @@ export function paint(canvas, pattern, view, shades = colors()) {
   context.putImageData(picture, 0, 0);
 }
 
-/** A small canvas that shows a whole pattern, of so many pixels of the page. */
+/** A small canvas that shows a whole pattern, with this size in CSS pixels. */
 export function thumbnail(pattern, width, height, label) {
   const canvas = document.createElement('canvas');
   const scale = Math.min(window.devicePixelRatio || 1, 2);
@@ -146,7 +147,7 @@ export function thumbnail(pattern, width, height, label) {
   return canvas;
 }
 
-// What is on the page is drawn anew when the theme changes.
+// Everything on the page is redrawn when the theme changes.
 addEventListener('recolored', () => {
   for (const canvas of document.querySelectorAll('canvas')) canvas.redraw?.();
 });

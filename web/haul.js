@@ -1,29 +1,30 @@
-// A haul: the table of `life-haul` is dropped or chosen, and its objects are shown, the most frequent first, with the soups that have them.
+// A haul: you drop or choose a table from `life-haul`, and the page shows its objects, the most frequent first, with the soups that have them.
 
 import { go } from './address.js';
 import { Labels, countNote, objectRow, unresolvedRow } from './census.js';
 import { objectNames } from './code.js';
 import { counted, field, make, many } from './dom.js';
-import { bring } from './brought.js';
+import { bring, broughtFiles } from './brought.js';
+import { draft, keepDraft } from './kept.js';
 import { sumOf } from './sum.js';
 
-/** How many objects are shown at first, and how many more by each press: a drawing each. */
+/** How many objects are shown at first, and how many more by each press. Each has a drawing. */
 const SHOWN = 100;
-/** The longest table that is read, in bytes: some 200,000 codes. */
+/** The longest table that is read, in bytes: about 200,000 codes. */
 const LONGEST_TABLE = 16_777_216;
 const HEADINGS = ['root', 'rule', 'generation', 'limit'];
 const HEAD = 'code,count,first';
-/** The symmetries of soups by their names: how many cells a row has, and which row is the mirror image of row 0, if there is a mirror. */
+/** The symmetries of soups by name: how many cells a row has, and which row is the mirror image of row 0, if any. */
 const SYMMETRIES = { C1: [16], '8x32': [32], '4x64': [64], '2x128': [128], '1x256': [256], 'D2_+1': [16, 0], 'D2_+2': [16, -1] };
 const NAMED = /^# symmetry (.*)$/;
 const ROW = /^(x[spq][1-9][0-9]*_[0-9a-z]+),([1-9][0-9]{0,15}),([0-9]{1,16})$/;
 const ENDS = [/^unresolved,([0-9]{1,16}),[0-9]{0,16}$/, /^clusters,([0-9]{1,16}),$/, /^soups,([0-9]{1,16}),([0-9]{1,16})$/];
 
-/** What a table says; null for a text that is none, or whose counts do not add up. */
+/** The content of a table; null if the text is not a table or its counts do not add up. */
 export function readTable(text) {
   const lines = text.split('\n');
   const said = HEADINGS.map((name, at) => (lines[at]?.startsWith(`# ${name} `) ? lines[at].slice(name.length + 3) : null));
-  // A table of C1 does not name it.
+  // A table with symmetry C1 does not name it.
   const named = NAMED.exec(lines[HEADINGS.length]);
   const symmetry = named ? named[1] : 'C1';
   if (!Object.hasOwn(SYMMETRIES, symmetry) || (named && symmetry === 'C1')) return null;
@@ -38,10 +39,10 @@ export function readTable(text) {
   return { root, rule, symmetry, generation: Number(generation), limit: Number(limit), unresolved, clusters, soups, first, objects };
 }
 
-/** The symmetry in words that follow the root; none for C1. */
+/** The symmetry as words that follow the root; nothing for C1. */
 const symmetryWords = (symmetry) => (symmetry === 'C1' ? '' : ` (${symmetry})`);
 
-/** A soup as a pattern file: the bits of the SHA-256 digest of its root and its number, row by row, and before them their mirror image. */
+/** A soup as a pattern file: the bits of the SHA-256 digest of its root and its number, row by row, with their mirror image before them. */
 export function soupFile(root, rule, number, symmetry = 'C1') {
   const digest = sumOf(new TextEncoder().encode(`${root}${number}`));
   const cells = [...digest].map((digit) => parseInt(digit, 16).toString(2).padStart(4, '0').replaceAll('0', 'b').replaceAll('1', 'o')).join('');
@@ -51,7 +52,7 @@ export function soupFile(root, rule, number, symmetry = 'C1') {
   return `#N soup ${number} of ${root}${symmetryWords(symmetry)}\nx = ${width}, y = ${images.length + rows.length}, rule = ${rule}\n${[...images, ...rows].join('$\n')}!\n`;
 }
 
-/** A button that takes a soup to the page on which files are deposited. */
+/** A button that opens a soup on the page for depositing files. */
 function soupButton(haul, number) {
   const click = () => {
     bring([new File([soupFile(haul.root, haul.rule, number, haul.symmetry)], `soup-${number}.rle`)]);
@@ -66,7 +67,7 @@ function rowOf(object, most, haul, labels) {
   return row;
 }
 
-/** The table of the objects, of which more are shown by a press. */
+/** The table of objects, with a button that shows more. */
 function objectsOf(haul, labels) {
   const objects = haul.objects.toSorted((one, other) => other.count - one.count);
   const most = Math.max(1, haul.unresolved, ...objects.slice(0, 1).map(({ count }) => count));
@@ -94,25 +95,37 @@ function shownHaul(haul, labels) {
   return [make('p', { class: 'by' }, `Soups ${counted(haul.first)} to ${counted(haul.first + Math.max(haul.soups, 1) - 1)} of `, make('code', {}, haul.root),
     `${symmetryWords(haul.symmetry)}, at generation ${counted(haul.generation)} under ${haul.rule}, with periods up to ${counted(haul.limit)}.`),
   make('dl', { class: 'facts' }, facts.map(([term, told]) => make('div', {}, make('dt', {}, term), make('dd', {}, told)))), countNote(), ...objectsOf(haul, labels),
-  make('p', { class: 'hint' }, 'The page shows what the table says; the archive has not seen it. A soup that is deposited is counted by the archive itself.')];
+  make('p', { class: 'hint' }, 'This page shows the file’s table, which the archive has not checked. If you deposit a soup, the archive counts it itself.')];
 }
 
-export function haulPage(page) {
+/** The name under which the window keeps the table, if it is not too large for that. */
+const DRAFT = 'haul';
+
+export async function haulPage(page) {
   page.title('Haul');
   const place = make('div');
-  const take = async (files) => {
-    const [file] = files;
-    if (!file) return;
+  const show = async (text, name) => {
     const names = await objectNames();
-    const haul = file.size > LONGEST_TABLE ? null : readTable(await file.text());
-    const refused = make('p', { class: 'refusal', role: 'alert' }, `${file.name ?? 'The text'} is not a whole table of life-haul.`);
+    const haul = text === null ? null : readTable(text);
+    const refused = make('p', { class: 'refusal', role: 'alert' }, `${name} is not a whole table of life-haul.`);
     const labels = haul ? new Labels(haul.rule, names) : null;
     place.replaceChildren(...(haul ? shownHaul(haul, labels) : [refused]));
     labels?.findGroups(haul.objects, page.signal).catch(() => {});
-    page.say(haul ? `${many(haul.soups, 'soup')}, ${many(haul.objects.length, 'code')}.` : 'That is no table of a haul.');
+    page.say(haul ? `${many(haul.soups, 'soup')}, ${many(haul.objects.length, 'code')}.` : 'That is not a table of a haul.');
+    if (!haul) return;
+    // If this one is too large to be kept, an earlier one must not come back in its place.
+    keepDraft(DRAFT, null);
+    keepDraft(DRAFT, text);
+  };
+  const take = async (files) => {
+    const file = files[0];
+    if (file) await show(file.size > LONGEST_TABLE ? null : await file.text(), file.name ?? 'The text');
   };
   const input = make('input', { id: 'haul-file', type: 'file', accept: '.csv,text/csv', change: () => take([...input.files]) });
   page.taken = take;
   page.root.append(make('h1', { tabindex: -1 }, 'A haul'),
-    field('A table of life-haul', input, 'Choose it, or drop it anywhere on the page. It stays on this machine.'), place);
+    field('A table of life-haul', input, 'Choose it, or drop it anywhere on the page. It never leaves this computer, and this window keeps it until you close it.'), place);
+  const [brought, kept] = [broughtFiles(), draft(DRAFT)];
+  if (brought) await take(brought);
+  else if (kept) await show(kept, 'The table');
 }

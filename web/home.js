@@ -3,13 +3,16 @@
 import { make } from './dom.js';
 import { deposits } from './list.js';
 
-/** What the search box takes: a word of each kind, and where it leads. */
+/** Examples for the search box, one of each kind, and where they lead. */
 const EXAMPLES = [['loaf', '/find?text=loaf'], ['xq4_153', '/o/B3-S23/xq4_153'], ['B36/S23', '/find?rule=B36%2FS23'], ['#1', '/d/1']];
 
-/** Waits until the page has nothing to do, so that the deposits are drawn first. A browser without such a moment gets a short pause. */
-const idle = () => new Promise((resolve) => { (globalThis.requestIdleCallback ?? setTimeout)(resolve, globalThis.requestIdleCallback ? { timeout: 1000 } : 200); });
+/** Waits until the page is idle, so that the deposits are drawn first. Browsers that can't tell get a short pause. */
+const idle = () => new Promise((resolve) => {
+  if (globalThis.requestIdleCallback) requestIdleCallback(resolve, { timeout: 1000 });
+  else setTimeout(resolve, 200);
+});
 
-/** Fills in the most frequent objects, whose files are loaded after the deposits are there. Without an index there is nothing. */
+/** Adds the most frequent objects, whose files are loaded after the deposits. Without an index it adds nothing. */
 async function addFrequent(page, place) {
   try {
     await idle();
@@ -17,7 +20,7 @@ async function addFrequent(page, place) {
     const parts = await frequentParts(page.signal);
     if (!page.signal.aborted) place.replaceChildren(...parts);
   } catch {
-    // The page is whole without them.
+    // The page is complete without them.
   }
   place.classList.remove('coming');
 }
@@ -27,7 +30,7 @@ export async function homePage(page) {
   const examples = EXAMPLES.flatMap(([text, href]) => [' ', make('a', { class: 'example', href }, text)]);
   const frequent = make('div', { class: 'frequent coming' });
   page.root.append(make('h1', { tabindex: -1 }, 'A club’s archive of Game of Life patterns'),
-    make('p', { class: 'lead' }, 'Play a pattern, count its objects, and cite any generation by an address that never changes. Each generation shown at rest comes from a program that is proved correct. ',
+    make('p', { class: 'lead' }, 'Play a pattern, count its objects, and cite any generation by an address that never changes. Whenever you stop, the generation shown comes from a program that is proved correct. ',
       make('a', { href: '/about' }, 'About this archive')),
     make('p', { class: 'examples' }, 'Try the search box:', examples), frequent);
   await deposits(page);

@@ -1,13 +1,13 @@
-// The index for finding (docs/FORMATS.md, The index for finding): a list of what the archive has, behind by a quarter of an hour, of
-// which nothing is proved. Where the club has none, the pages do without.
+// The search index (docs/FORMATS.md, The search index). It may be 15 minutes old, and nothing about it is proved. If the club has no
+// index, the pages work without it.
 
 import { make } from './dom.js';
 import { Refused } from './refusals.js';
 
 const PLACE = '/index/';
-/** How long a list of blocks is taken as it is, in milliseconds. */
+/** For how many milliseconds a list of blocks is reused. */
 const FRESH = 60_000;
-/** How many blocks are asked for at once: over HTTP/2 each counts as a connection, of which a gateway allows a client a hundred. */
+/** How many blocks are requested at once. Over HTTP/2 each counts as a connection, and the gateway allows a client a hundred. */
 const TOGETHER = 8;
 export const BLOCK = 1000;
 const NONE = { counts: { deposits: 0, censuses: 0 }, blocks: { deposits: [], censuses: [], objects: [] } };
@@ -17,7 +17,7 @@ async function jsonOf(name) {
     const reply = await fetch(PLACE + name);
     if (reply.ok) return await reply.json();
   } catch {
-    // As below.
+    // As further down.
   }
   throw Object.assign(new Refused('no-reply'), { isRead: true });
 }
@@ -25,7 +25,7 @@ async function jsonOf(name) {
 let head = null;
 let headAt = -Infinity;
 
-/** The list of all blocks; null where there is no index, or another version of it. */
+/** The list of all blocks; null if there is no index, or one with another version. */
 export function indexHead() {
   if (performance.now() - headAt > FRESH) {
     headAt = performance.now();
@@ -34,10 +34,10 @@ export function indexHead() {
   return head;
 }
 
-/** What the index is, said wherever it is used. */
+/** The note about the index, shown wherever it is used. */
 export function indexNote(head) {
   return make('p', { class: 'hint' }, `From the search index of ${head.made.slice(0, 10)}, ${head.made.slice(11, 16)} UTC. It may be 15 minutes old, and nothing about it is proved. `
-    + 'What it links to is the archive’s own answer.');
+    + 'The pages that it links to show the archive’s own answers.');
 }
 
 /** The day of each row of a block. */
@@ -50,13 +50,13 @@ function daysOf(block, count) {
   return days;
 }
 
-/** Letters that have no mark to take away. */
+/** Letters whose accent can't be removed by decomposition. */
 const PLAIN = { ß: 'ss', ø: 'o', ł: 'l', đ: 'd', æ: 'ae', œ: 'oe', ð: 'd', þ: 'th', ı: 'i' };
 
-/** A text in lower case and without accents, as it is searched. */
+/** A text in lower case and without accents, for searching. */
 export const folded = (text) => text.normalize('NFKD').replace(/\p{M}/gu, '').toLowerCase().replace(/[ßøłđæœðþı]/g, (letter) => PLAIN[letter]);
 
-/** The deposits of a block, each with what is searched in it. */
+/** The deposits of a block, each with the texts to search. */
 function depositsOf(block) {
   const days = daysOf(block, block.name.length);
   const [authors, members] = [block.author, block.member].map((column) => column.of.map(folded));
@@ -78,7 +78,7 @@ function censusesOf(block) {
 const READ = { deposits: depositsOf, censuses: censusesOf, objects: (block) => block, comments: ({ first, text }) => ({ first, text: text.map(folded) }) };
 const blocks = new Map();
 
-/** A block as it is read, asked once. One that did not come is asked again the next time. */
+/** A parsed block, requested once. If it did not arrive, it is requested again the next time. */
 function blockOf(kind, name) {
   if (!blocks.has(name)) {
     blocks.set(name, jsonOf(name).then(READ[kind]).catch((error) => {
@@ -90,11 +90,11 @@ function blockOf(kind, name) {
   return blocks.get(name);
 }
 
-/** All blocks of a kind, the newest first, as they come: `came(block, how many have come, how many there are)`. */
+/** All blocks of a kind, the newest first, as they arrive: `came(block, how many have arrived, how many there are)`. */
 export async function eachBlock(kind, came, signal) {
-  // An index that was made before comments were in it has none.
+  // An older index has no comments.
   const names = (((await indexHead()) ?? NONE).blocks[kind] ?? []).toReversed();
-  // They are taken in their order. The next few are on their way meanwhile.
+  // They are handled in order, while the next few are being loaded.
   const asked = [];
   for (const at of names.keys()) {
     for (const name of names.slice(asked.length, at + TOGETHER)) {
@@ -107,7 +107,7 @@ export async function eachBlock(kind, came, signal) {
   }
 }
 
-/** A deposit or a census as the index has it; null where it has none. */
+/** A deposit or a census from the index, or null. */
 async function rowOf(kind, id) {
   const name = ((await indexHead()) ?? NONE).blocks[kind][Math.floor((id - 1) / BLOCK)];
   if (!name) return null;
@@ -118,7 +118,7 @@ async function rowOf(kind, id) {
 export const indexedDeposit = (id) => rowOf('deposits', id);
 export const indexedCensus = (id) => rowOf('censuses', id);
 
-/** All deposits, the newest first; `came` hears how many blocks have come of how many. */
+/** All deposits, the newest first; `came` gets how many blocks have arrived, and how many there are. */
 export async function allDeposits(came, signal) {
   const found = [];
   await eachBlock('deposits', (block, number, all) => {
@@ -129,7 +129,7 @@ export async function allDeposits(came, signal) {
 }
 
 /**
- * Gives deposits their comments, which are only wanted for a search.
+ * Adds comments to deposits; only searches need them.
  * @param {object[]} rows all deposits
  * @param {AbortSignal} signal
  */
@@ -140,7 +140,7 @@ export async function addComments(rows, signal) {
 }
 
 /**
- * All objects of all censuses of a rule: how often each is there, in which deposits, and in which census first. The most frequent one is first.
+ * All objects in the censuses of a rule, the most frequent first: the count of each, its deposits, and its first census.
  * @param {string} rule
  * @param {AbortSignal} signal
  */
@@ -158,7 +158,7 @@ export async function objectsOfRule(rule, signal) {
   return [...found.values()].sort((one, other) => other.count - one.count || (one.code < other.code ? -1 : 1));
 }
 
-/** Adds a census and how often it has an object. */
+/** Adds a census, with its count of an object. */
 function addPlace(object, census, count) {
   object.count += count;
   object.censuses += 1;
@@ -168,16 +168,18 @@ function addPlace(object, census, count) {
 }
 
 /**
- * The rules of which there are objects, each with how many different ones at least, the one with the most first.
+ * The rules that have objects, each with the least number of different objects, the greatest number first.
  * @param {AbortSignal} signal
  * @returns {Promise<[string, number][]>}
  */
 export async function rulesWithObjects(signal) {
+  /** @type {Map<string, Set<string>>} */
   const codes = new Map();
   await eachBlock('objects', (block) => {
     for (const [rule, objects] of Object.entries(block.rules)) codes.set(rule, new Set([...codes.get(rule) ?? [], ...Object.keys(objects)]));
   }, signal);
-  return [...codes].map(([rule, own]) => [rule, own.size]).sort((one, other) => other[1] - one[1]);
+  const sizes = /** @type {[string, number][]} */ ([...codes].map(([rule, own]) => [rule, own.size]));
+  return sizes.sort((one, other) => other[1] - one[1]);
 }
 
 /** Censuses with a property, the newest first. */
@@ -199,10 +201,10 @@ export async function censusesOfObject(rule, code, signal) {
 
 // ---- searching
 
-/** What is asked for: words, a member, an author, a rule, and ranges `[least, greatest]` of cells, of the longer side, and of days. */
+/** A query: words, a member, an author, a rule, and ranges `[least, greatest]` of cells, of the longer side, and of days. */
 export const NOTHING = { text: '', member: '', author: '', rule: '', cells: ['', ''], side: ['', ''], day: ['', ''] };
 
-/** How well a word fits a deposit; 0 where it does not. */
+/** How well a word matches a deposit; 0 if it does not. */
 function fit(word, { search, id }) {
   const at = search.name.indexOf(word);
   if (at === 0 || (at > 0 && /[^\p{L}\p{N}]/u.test(search.name[at - 1]))) return 50;
@@ -215,7 +217,7 @@ function fit(word, { search, id }) {
 
 const within = (value, [least, greatest]) => (least === '' || value >= least) && (greatest === '' || value <= greatest);
 
-/** How well a deposit fits what is asked for; 0 where it does not. */
+/** How well a deposit matches a query; 0 if it does not. */
 function rank(row, asked) {
   if (asked.member && row.member !== asked.member) return 0;
   if (asked.author && !row.search.author.includes(asked.author)) return 0;
@@ -232,7 +234,7 @@ function rank(row, asked) {
   return row.search.name.startsWith(asked.text) ? sum + 500 : sum;
 }
 
-/** The deposits that fit what is asked for, the best first, and of equal ones the newest. */
+/** The deposits that match a query, the best first; equal ones by age, the newest first. */
 export function search(rows, given) {
   const text = folded(given.text.trim());
   const number = (part) => (part === '' ? '' : Number(part));

@@ -1,4 +1,4 @@
-// What this browser keeps, if it keeps anything: settings, for good; what is half done, up to the end of the window; where a page was left.
+// What this browser stores, if it may: settings permanently; unfinished work until the window is closed; and the scroll position of each page.
 
 function read(store, name) {
   try {
@@ -13,7 +13,7 @@ function write(store, name, value) {
     if (value === null) store().removeItem(name);
     else store().setItem(name, value);
   } catch {
-    // Then it is given again.
+    // Then it is not remembered.
   }
 }
 
@@ -24,6 +24,6 @@ export const keepSetting = (name, value) => write(forGood, name, value);
 export const draft = (name) => read(forWindow, name);
 export const keepDraft = (name, value) => write(forWindow, name, value);
 
-/** What is kept with this place in the history of the window, so that going back finds the page as it was left. */
+/** What is stored with an entry in the window's history, so that going back finds the page as it was left. */
 export const place = () => history.state ?? {};
 export const keepPlace = (more) => history.replaceState({ ...history.state, ...more }, '');

@@ -12,16 +12,16 @@ import { Refused } from './refusals.js';
 const SHOWN = 24;
 const WIDTH = 176;
 const HEIGHT = 120;
-/** How many lists are asked for at once, in looking for the deposits of a member. */
+/** How many lists are requested at once when searching for the deposits of a member. */
 const TOGETHER = 4;
 
-/** Draws a deposit into its card once it is near the screen, and gives it its name. */
+/** Draws a deposit on its card once it is near the screen, and adds its name. */
 function drawLater(page) {
   const watch = new IntersectionObserver((entries) => {
     for (const { isIntersecting, target } of entries) {
       if (isIntersecting) {
         watch.unobserve(target);
-        target.draw();
+        /** @type {any} */ (target).draw();
       }
     }
   }, { rootMargin: '200px' });
@@ -52,7 +52,7 @@ export function cards(page, rows) {
   return make('ul', { class: 'cards' }, rows.map((row) => card(page, row, watch)));
 }
 
-/** Which deposits are to be seen: a number after which, and a member. */
+/** The forms that choose the deposits: those after a number, and those of a member. */
 function forms(page, after, member) {
   const number = make('input', { id: 'after', type: 'number', min: 0, inputmode: 'numeric', required: true });
   number.value = after ?? '';
@@ -91,7 +91,7 @@ export function walk(page) {
   page.keys.k = by(-1);
 }
 
-/** The first of a list of deposits, drawn, and a button that shows more. */
+/** The first deposits of a list as cards, and a button that shows more. */
 export function shownRows(page, rows) {
   const list = make('div');
   const more = make('button', { type: 'button', class: 'more' });
@@ -113,10 +113,10 @@ export function shownRows(page, rows) {
 
 const nothing = () => make('p', { class: 'empty' }, 'There is nothing here yet. ', make('a', { href: '/new' }, 'Deposit a file'), ' and be the first.');
 
-/** The deposits after a number, the greatest first; the newest where no number is given. */
+/** The deposits after a number, the greatest first; without a number, the newest. */
 export async function deposits(page, given) {
   page.title('Deposits');
-  // The first page has a heading of its own, and no forms.
+  // The first page has its own heading, and no forms.
   const isFirst = page.root.querySelector('h1') !== null;
   page.root.append(isFirst ? make('h2', {}, 'Newest deposits') : make('h1', { tabindex: -1 }, 'Deposits'));
   const last = await lastDeposit(page.signal);
@@ -144,18 +144,18 @@ async function newer(after, signal) {
   }
 }
 
-/** All deposits of a member, the newest first, by the index; those that came after it was made, by the archive's lists. */
+/** All deposits of a member, the newest first: from the index, and newer ones from the archive's lists. */
 async function indexedOf(head, member, said, signal) {
   const since = await newer(head.counts.deposits, signal);
-  const all = await allDeposits((number, of) => { if (number < of) said.replaceChildren(`The index is read: ${counted(number)} of ${counted(of)} blocks…`); }, signal);
+  const all = await allDeposits((number, of) => { if (number < of) said.replaceChildren(`Reading the index: ${counted(number)} of ${counted(of)} blocks…`); }, signal);
   return [...since.reverse(), ...all].filter((row) => row.member === member);
 }
 
-/** The same without an index: all lists are looked through. */
+/** The same without an index: searches all lists. */
 async function listedOf(member, said, signal) {
   const found = [];
   for (let before = await lastDeposit(signal) + 1; before > 1; before -= TOGETHER * LONGEST_LIST) {
-    said.replaceChildren(`Looking through the lists: ${many(found.length, 'deposit')} so far, ${counted(before - 1)} to look at…`);
+    said.replaceChildren(`Searching the lists: ${many(found.length, 'deposit')} so far, ${counted(before - 1)} left to search…`);
     const begins = Array.from({ length: TOGETHER }, (_, at) => before - 1 - (at + 1) * LONGEST_LIST).filter((begin) => begin > -LONGEST_LIST);
     const lists = await Promise.all(begins.map((begin) => depositsAfter(Math.max(0, begin), signal).then((rows) => rows.filter((row) => row.id <= begin + LONGEST_LIST).reverse())));
     found.push(...lists.flat().filter((row) => row.member === member));
@@ -163,7 +163,7 @@ async function listedOf(member, said, signal) {
   return found;
 }
 
-/** The deposits of a member, the newest first; those before a number where one is given. */
+/** The deposits of a member, the newest first; with a number, those before it. */
 export async function depositsOf(page, member, before = Infinity) {
   page.title(`Deposits of ${member}`);
   const said = make('p', { class: 'count' }, 'Looking…');

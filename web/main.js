@@ -1,4 +1,4 @@
-// Which page the address names, and the keys. An address names what is shown: `/d/7/at/30`, `/c/3`, `/o/B3-S23/xq4_153`.
+// Finds the page for an address, and handles keys. An address names what is shown: `/d/7/at/30`, `/c/3`, `/o/B3-S23/xq4_153`.
 
 import { go, memberAddress } from './address.js';
 import { againButton, isMember, make, refusal } from './dom.js';
@@ -6,13 +6,13 @@ import { keepPlace, keepSetting, place, setting } from './kept.js';
 import { deposits, depositsOf } from './list.js';
 import { Refused } from './refusals.js';
 
-/** How often a module did not come. A browser does not ask again for one that failed under the same address. */
+/** How often a module failed to load. A browser does not request it again under the same address. */
 const failed = {};
 
-/** After which pauses it is asked for again, in milliseconds, as the archive is. */
+/** The pauses before it is requested again, in milliseconds, as for the archive. */
 const PAUSES = [500, 1000, 2000];
 
-/** A module that only some pages want, loaded with the first of them. */
+/** A module that only some pages need, loaded with the first of them. */
 async function load(name) {
   for (let tries = 0; ; tries += 1) {
     try {
@@ -49,7 +49,10 @@ const ADDRESSES = {
 };
 // end of addresses
 
-/** Each page: its address, its link in the head, and what shows it. */
+/**
+ * Each page: its address, its link in the head, and the function that shows it.
+ * @type {[RegExp, string, (page: Page, ...parts: any[]) => unknown][]}
+ */
 const PAGES = [
   [ADDRESSES.home, 'deposits', later('home', 'homePage')],
   [ADDRESSES.deposits, 'deposits', (page) => deposits(page)],
@@ -68,12 +71,12 @@ const PAGES = [
 
 const main = document.getElementById('main');
 const status = document.getElementById('status');
-const keysDialog = document.getElementById('keys');
-const mine = document.getElementById('mine');
-const box = document.getElementById('box');
+const keysDialog = /** @type {HTMLDialogElement} */ (document.getElementById('keys'));
+const mine = /** @type {HTMLAnchorElement} */ (document.getElementById('mine'));
+const box = /** @type {HTMLInputElement} */ (document.getElementById('box'));
 let current = null;
 
-/** What a page gets: where it writes, what ends it, how it says something, and the keys that it takes. */
+/** What a page gets: its root element, its abort signal, a function for status messages, and its keys. */
 class Page {
   root = make('div', { class: 'page' });
   keys = {};
@@ -94,9 +97,15 @@ class Page {
   say(text) {
     status.textContent = text;
   }
+
+  /** Shows that a drop or a paste had nothing for these pages. */
+  sayNothing(text) {
+    this.root.querySelector('.nothing')?.remove();
+    this.root.prepend(make('p', { class: 'refusal nothing', role: 'alert' }, text));
+  }
 }
 
-/** Refusals after which the same address may well be found. */
+/** Refusals after which the same address may work later. */
 const NO_REPLIES = ['no-reply', 'unavailable', 'too-many-requests'];
 
 function fail(page, error) {
@@ -111,23 +120,28 @@ function fail(page, error) {
   page.root.append(...[refusal(refused), againButton(refused, show)].filter(Boolean), make('p', {}, make('a', { href: '/' }, 'The newest deposits')));
 }
 
-/** How long a page may be without anything to show before it says that it waits, in milliseconds. */
+/** After how many milliseconds with nothing to show a page says that it is waiting. */
 const WAITING = 400;
-/** How long after the last scroll the place of a page is kept, in milliseconds. */
+/** How many milliseconds after the last scroll the position is stored. */
 const STILL = 100;
 let scrolled = null;
 
-/** Says that a page waits, for who hears it; who sees it has it from the style. */
+/** Tells screen readers that a page is waiting; the style sheet shows it to others. */
 function sayWaiting(page) {
   setTimeout(() => { if (current === page && main.hasAttribute('aria-busy')) page.say('Waiting for the archive…'); }, WAITING);
 }
 
-/** What has a path of the pages; nothing for another one. */
-const pageOf = (path) => PAGES.find(([form]) => form.test(path)) ?? [];
+/** A path without slashes at its end. */
+const bare = (path) => path.replace(/(.)\/+$/, '$1');
 
-/** The path that is shown. An old address, which is after `#`, becomes the one that took its place. */
+/** The page for a path; nothing if there is none. */
+const pageOf = (path) => PAGES.find(([form]) => form.test(bare(path)));
+
+/** The current path. An old address, after `#`, is replaced by its new one, and a slash at the end is dropped. */
 async function pathNow(page) {
-  if (location.pathname !== '/' || location.hash === '') return location.pathname;
+  const path = bare(location.pathname);
+  if (path !== location.pathname) history.replaceState(history.state, '', path + location.search + location.hash);
+  if (path !== '/' || location.hash === '') return path;
   const { newAddress } = await load('old');
   page.signal.throwIfAborted();
   const address = newAddress(location.hash.slice(1));
@@ -135,22 +149,22 @@ async function pathNow(page) {
   return address ? location.pathname : location.hash;
 }
 
-/** Marks the link to the part of the pages that is shown. */
+/** Marks the link to the current part of the site. */
 function markLinks(part) {
-  for (const link of document.querySelectorAll('nav [data-page]')) {
+  for (const link of /** @type {NodeListOf<HTMLElement>} */ (document.querySelectorAll('nav [data-page]'))) {
     if (link.dataset.page === part) link.setAttribute('aria-current', 'page');
     else link.removeAttribute('aria-current');
   }
 }
 
-/** A link to the deposits of the member who used this browser last. */
+/** A link to the deposits of the member who last used this browser. */
 function markMember() {
   const member = setting('member');
   mine.hidden = !isMember(member ?? '');
   if (!mine.hidden) mine.href = memberAddress(member);
 }
 
-/** The box has the words that are searched for, and is empty on other pages. */
+/** The search box shows the words of the current search, and is empty on other pages. */
 function fillBox(path) {
   box.value = path === '/find' ? new URLSearchParams(location.search).get('text') ?? '' : '';
 }
@@ -167,7 +181,7 @@ async function show() {
   try {
     const path = await pathNow(page);
     page.signal.throwIfAborted();
-    const [form, part, begin] = pageOf(path);
+    const [form, part, begin] = pageOf(path) ?? [];
     markLinks(part);
     markMember();
     fillBox(path);
@@ -190,13 +204,17 @@ const GLOBAL = {
   n: () => go('/new'),
   f: () => go('/find'),
   '?': () => keysDialog.showModal(),
-  '/': () => (document.getElementById('search-text') ?? box).select(),
+  '/': () => (/** @type {HTMLInputElement | null} */ (document.getElementById('search-text')) ?? box).select(),
 };
 
-/** Whether a key is the business of what has the focus: of a field each, of a button or link those that press it. */
+/** Whether letters, digits and signs are commands: who dictates, or types by mistake, can turn them off. */
+const areCommands = () => setting('letters') !== 'off';
+
+/** Whether the focused element handles a key itself: a field handles every key, a button or link those that press it. */
 function isTaken(event) {
   const at = event.target;
   if (event.ctrlKey || event.metaKey || event.altKey || keysDialog.open) return true;
+  if (event.key.length === 1 && event.key !== ' ' && !areCommands()) return true;
   if (at.matches('input[type=range]')) return event.key.startsWith('Arrow') || ['Home', 'End'].includes(event.key);
   if (at.matches('input, textarea, select')) return true;
   return at.matches('button, summary, a') && [' ', 'Enter'].includes(event.key);
@@ -211,31 +229,36 @@ document.addEventListener('keydown', (event) => {
   act();
 });
 
-// ---- files that come on any page
+// ---- files dropped on any page
+
+/** What a table of a haul begins with, by which it is known on any page. */
+const HAUL = '# root ';
 
 async function take(files) {
-  if (current?.taken) {
-    current.taken(files);
-    return;
-  }
   try {
+    const isHaul = await files[0].slice(0, HAUL.length).text() === HAUL;
+    if (current.taken && (!isHaul || location.pathname === '/haul')) {
+      current.taken(files);
+      return;
+    }
     (await load('brought')).bring(files);
+    go(isHaul ? '/haul' : '/new');
   } catch (error) {
     fail(current, error);
-    return;
   }
-  go('/new');
 }
 
-/** The files of a drop; of a folder its pattern files. What a drop has is there for its event alone, so it is taken before anything is waited for. */
+/** The files of a drop, and the pattern files of its folders. A drop's data exist only during its event, so they are read before any await. */
 async function dropped({ items, files: own }) {
   const [entries, files] = [[...items].map((item) => item.webkitGetAsEntry?.()), [...own]];
   if (!entries.some((entry) => entry?.isDirectory)) return files;
-  const { filesOf } = await load('names');
-  return (await Promise.all(entries.filter(Boolean).map((entry) => filesOf(entry)))).flat();
+  const { NO_FILES, filesOf } = await load('names');
+  const found = (await Promise.all(entries.filter(Boolean).map((entry) => filesOf(entry)))).flat();
+  if (found.length === 0) current.sayNothing(NO_FILES);
+  return found;
 }
 
-/** Takes a drag of files, and says whether it is one. */
+/** Accepts a drag if it has files, and returns whether it does. */
 function takesDrag(event) {
   if (![...event.dataTransfer.types].includes('Files')) return false;
   event.preventDefault();
@@ -243,7 +266,7 @@ function takesDrag(event) {
   return true;
 }
 
-// Where the page changes under a drag, `dragenter` alone comes before the drop.
+// If the page changes during a drag, only `dragenter` comes before the drop.
 document.addEventListener('dragenter', takesDrag);
 document.addEventListener('dragover', takesDrag);
 document.addEventListener('dragleave', (event) => { if (!event.relatedTarget) document.body.classList.remove('dragging'); });
@@ -251,23 +274,35 @@ document.addEventListener('drop', (event) => {
   if (takesDrag(event)) dropped(event.dataTransfer).then((files) => { if (files.length > 0) take(files); }, (error) => fail(current, error));
 });
 document.addEventListener('paste', (event) => {
-  if (event.target.matches?.('input, textarea')) return;
+  if (event.target instanceof Element && event.target.matches('input, textarea')) return;
   const files = [...event.clipboardData.files];
   const text = event.clipboardData.getData('text/plain');
   if (files.length > 0) take(files);
-  else if (/^\s*(#|x\s*=)/i.test(text)) take([new Blob([text])]);
+  else pasted(text).catch((error) => fail(current, error));
 });
 
-// ---- the theme, which this browser keeps
+/** Takes a text if it can be a pattern. */
+async function pasted(text) {
+  const { mayBePattern } = await load('formats');
+  if (mayBePattern(text)) await take([new Blob([text])]);
+  else current.sayNothing('There is no pattern on the clipboard.');
+}
 
-const theme = document.getElementById('theme');
+// ---- the theme, and whether letters are commands, which this browser remembers
+
+const theme = /** @type {HTMLSelectElement} */ (document.getElementById('theme'));
 const keptTheme = () => { theme.value = ['light', 'dark'].includes(setting('theme')) ? setting('theme') : 'system'; };
 theme.addEventListener('change', () => {
   keepSetting('theme', theme.value === 'system' ? null : theme.value);
   dispatchEvent(new CustomEvent('theme', { detail: theme.value }));
 });
-addEventListener('storage', keptTheme);
-keptTheme();
+const letters = /** @type {HTMLSelectElement} */ (document.getElementById('letters'));
+const keptLetters = () => { letters.value = areCommands() ? 'on' : 'off'; };
+letters.addEventListener('change', () => keepSetting('letters', letters.value === 'off' ? 'off' : null));
+for (const kept of [keptTheme, keptLetters]) {
+  addEventListener('storage', kept);
+  kept();
+}
 
 // ---- the search box
 
@@ -289,11 +324,11 @@ addEventListener('scroll', () => {
   scrolled = setTimeout(() => keepPlace({ scroll: scrollY }), STILL);
 }, { passive: true });
 addEventListener('popstate', show);
-// A link to a page is followed here, unless it is to be opened elsewhere.
+// Links to pages are handled here, unless they open in another tab or window.
 document.addEventListener('click', (event) => {
-  const link = event.target.closest?.('a[href]');
-  if (!link || event.defaultPrevented || event.button !== 0 || event.ctrlKey || event.metaKey || event.shiftKey || event.altKey) return;
-  if (link.origin !== location.origin || link.hasAttribute('download') || pageOf(link.pathname).length === 0) return;
+  const link = event.target instanceof Element && event.target.closest('a');
+  if (!link?.href || event.defaultPrevented || event.button !== 0 || event.ctrlKey || event.metaKey || event.shiftKey || event.altKey) return;
+  if (link.origin !== location.origin || link.hasAttribute('download') || !pageOf(link.pathname)) return;
   event.preventDefault();
   go(link.pathname + link.search + link.hash);
 });

@@ -1,14 +1,14 @@
-// Generations that the page makes by itself for playing, by the worker of stepper.js: a block of them at a time, ahead of what is shown.
+// Generations that the page computes itself for playing, with the worker in stepper.js: one block at a time, ahead of the generation shown.
 
 const BLOCK = 16;
 const KEPT = 48;
-/** How many steps are few. */
+/** The number of steps that counts as few. */
 const FEW = 64;
 const PLACE = '/web/stepper.js';
-// The pages allow no address of a script that is a mere text (nginx.conf): this one is always the same.
+// The site's policy forbids script addresses from plain text (life-site.conf). This one is always the same.
 const policy = globalThis.trustedTypes?.createPolicy('life-stepper', { createScriptURL: () => PLACE });
 
-/** A generation as the pages have one: for each row its runs; and the place of its corner beside that of generation 0. */
+/** A generation in the pages' form: the runs of each row, and the position of its corner relative to generation 0. */
 function generationOf({ list, ends, width, height, population, column, row }) {
   const rows = Array.from(ends, (end, at) => list.subarray(at === 0 ? 0 : ends[at - 1], end));
   return { pattern: { width, height, population, rows }, corner: { column, row } };
@@ -20,38 +20,68 @@ export function isSame(one, other) {
     && one.rows.every((runs, row) => runs.length === other.rows[row].length && runs.every((column, at) => column === other.rows[row][at]));
 }
 
+const newWorker = () => new Worker(policy ? policy.createScriptURL('') : PLACE, { type: 'module' });
+
+/** How long to wait until a page that is hidden or busy may be seen and idle, in milliseconds. */
+const WAIT = 500;
+
+/**
+ * Counts the cells of all generations in a worker of its own, while the page is seen and `isBusy` is false.
+ * @param {{pattern: object, rule: object}} record
+ * @param {number} last
+ * @param {(from: number, populations: number[]) => void} found called with the populations of some generations after another
+ * @param {() => boolean} isBusy
+ * @param {AbortSignal} signal
+ */
+export function countAll({ pattern, rule }, last, found, isBusy, signal) {
+  const worker = newWorker();
+  const ask = () => {
+    if (signal.aborted) return;
+    if (document.hidden || isBusy()) setTimeout(ask, WAIT);
+    else worker.postMessage({ last });
+  };
+  worker.addEventListener('message', ({ data: { from, populations } }) => {
+    found(from, populations);
+    if (from + populations.length <= last) ask();
+    else worker.terminate();
+  });
+  signal.addEventListener('abort', () => worker.terminate());
+  worker.postMessage({ toCount: true, pattern, rule });
+  ask();
+}
+
 export class Maker {
   #made = new Map();
   #waiting = new Map();
   #going = null;
-  /** The generation that it begins with, and the last one that was asked for: what is between needs few steps. */
+  /** The generation that it starts from, and the last one that was requested: those in between need few steps. */
   #first = 0;
   #reach = -1;
-  /** How often it was begun: an answer for an earlier beginning is passed over. */
+  /** How often it was started: answers for an earlier start are ignored. */
   #turn = 0;
 
   /**
-   * Makes generations of a record, up to a last one; without a record it waits until it is begun.
+   * Computes generations of a record, up to a last one; without a record it waits until it is started.
    * @param {{pattern: object, rule: object} | null} record
    * @param {number} last
    * @param {AbortSignal} signal
    */
   constructor(record, last, signal) {
     this.last = last;
-    this.worker = new Worker(policy ? policy.createScriptURL('') : PLACE, { type: 'module' });
+    this.worker = newWorker();
     this.worker.addEventListener('message', ({ data }) => this.#take(data));
     this.worker.addEventListener('error', () => this.end());
     signal.addEventListener('abort', () => this.end());
     if (record) this.begin(record, 0);
   }
 
-  /** Which beginning the places of its generations belong to: only those of one beginning can be compared. */
+  /** The start that its positions refer to: only positions from the same start can be compared. */
   get turn() {
     return this.#turn;
   }
 
   /**
-   * Begins anew with a generation, beside which all places are.
+   * Starts again from a generation, to which all positions are relative.
    * @param {{pattern: object, rule: object}} record
    * @param {number} first
    */
@@ -59,12 +89,12 @@ export class Maker {
     this.#turn += 1;
     [this.#first, this.#reach, this.#going] = [first, first, null];
     this.#made.clear();
-    this.#fail('the stepper begins anew');
+    this.#fail('the stepper starts over');
     this.worker.postMessage({ pattern, rule, first, turn: this.#turn });
   }
 
   /**
-   * Whether a generation is few steps from one that it has.
+   * Whether a generation is only a few steps from a known one.
    * @param {number} at
    */
   reaches(at) {
@@ -95,7 +125,7 @@ export class Maker {
     }
   }
 
-  /** Asks for a block that begins or ends with a generation, of each `by`-th. */
+  /** Requests a block that begins or ends with a generation and has every `by`-th one. */
   #ask(at, direction, by) {
     const many = (end) => Math.max(0, Math.min(BLOCK - 1, Math.floor(end / by)));
     const [from, to] = direction < 0 ? [at - many(at - this.#first) * by, at] : [at, at + many(this.last - at) * by];
@@ -105,10 +135,10 @@ export class Maker {
   }
 
   /**
-   * A generation; those that come after it in a direction are made ahead.
+   * A generation; the following ones in a direction are computed ahead.
    * @param {number} at
    * @param {number} direction
-   * @param {number} by how many generations a picture goes on
+   * @param {number} by how many generations a frame advances
    */
   get(at, direction = 1, by = 1) {
     for (const kept of this.#made.keys()) if (Math.abs(kept - at) > KEPT * by) this.#made.delete(kept);

@@ -1,45 +1,17 @@
-// An object's pattern: its phases as the page steps it, played or side by side, its text, and where else it may be looked up.
+// An object's pattern: its phases, played or side by side, its text, and where else to look it up.
 
+import { objectAddress } from './address.js';
 import { copyButton, make, many } from './dom.js';
 import { thumbnail } from './draw.js';
-import { LONGEST_LINE } from './limits.js';
 import { Maker } from './maker.js';
 import { save } from './picture.js';
 import { readRule, ruleText } from './rule.js';
+import { fileOf, withOrigin } from './writer.js';
 
 const SIDE = 120;
 const MOST_PHASES = 60;
-/** How long a phase is shown, in milliseconds. */
+/** For how many milliseconds a phase is shown. */
 const SHOWN = 250;
-
-/** The items of a body: runs, and the row ends between rows with live cells. */
-function itemsOf(pattern) {
-  const items = [];
-  const item = (count, tag) => items.push(`${count === 1 ? '' : count}${tag}`);
-  let row = 0;
-  for (const [at, runs] of pattern.rows.entries()) {
-    if (runs.length === 0) continue;
-    if (at > row) item(at - row, '$');
-    row = at;
-    let column = 0;
-    for (let place = 0; place < runs.length; place += 2) {
-      if (runs[place] > column) item(runs[place] - column, 'b');
-      item(runs[place + 1] - runs[place], 'o');
-      column = runs[place + 1];
-    }
-  }
-  return [...items, '!'];
-}
-
-/** The canonical text of a pattern (docs/FORMATS.md, Pattern files), without texts. */
-export function fileOf(pattern, rule) {
-  const lines = [''];
-  for (const item of itemsOf(pattern)) {
-    if (lines.at(-1).length + item.length <= LONGEST_LINE) lines.push(lines.pop() + item);
-    else lines.push(item);
-  }
-  return `x = ${pattern.width}, y = ${pattern.height}, rule = ${rule}\n${lines.join('\n')}\n`;
-}
 
 /** The phases of a pattern, moved into one box. */
 export async function phasesOf(pattern, rule, period, signal) {
@@ -64,7 +36,7 @@ function boxed(made) {
   });
 }
 
-/** A button that shows one phase after the other, over and over, in the place of the picture. */
+/** A button that plays the phases in a loop in place of the picture. */
 function playButton(picture, phases, code, signal) {
   let [timer, at] = [null, 0];
   const show = () => {
@@ -88,21 +60,27 @@ function playButton(picture, phases, code, signal) {
   return button;
 }
 
-/** Where else an object of a rule may be looked up, by the same code. A group of objects is not listed there under the code that it has here. */
+/** Where else to look up an object by the same code. Groups of objects are not listed there under the code that they have here. */
 function lookUp(code, rule, isGroup) {
   const place = rule.toLowerCase().replace('/', '');
   return isGroup ? null : make('p', {}, 'Look it up: ', make('a', { href: `https://catagolue.hatsya.com/object/${code}/${place}`, rel: 'noreferrer' }, 'Catagolue'), ', which has well-known objects under the same code.');
 }
 
-/** The parts of an object's page: what plays it, its text to copy or load, its phases, and where else it may be. */
-export async function objectParts(pattern, code, period, ruleWord, picture, page, isGroup = false) {
+/** An object as a pattern file, with its name and its address. */
+function textOf(pattern, code, rule, title) {
+  const own = new TextEncoder().encode(fileOf(pattern, rule));
+  return new TextDecoder().decode(withOrigin(own, {}, { title, origin: `${code} of ${rule}, ${location.origin}${objectAddress(rule, code)}` }));
+}
+
+/** The parts of an object's page: the play button, its text to copy or download, its phases, and where else to look it up. */
+export async function objectParts(pattern, code, period, ruleWord, picture, page, { title = '', isGroup = false } = {}) {
   const rule = readRule(ruleWord);
-  const text = () => fileOf(pattern, ruleText(rule));
+  const text = () => textOf(pattern, code, ruleText(rule), title);
   const load = make('button', { type: 'button', id: 'load-object', click: () => save(text(), `${code}.rle`, 'text/plain') }, 'Download');
   const copy = copyButton('Copy as RLE', text, page.say);
   const phases = period > 1 ? await phasesOf(pattern, rule, period, page.signal) : [];
   const play = phases.length > 1 ? playButton(picture, phases, code, page.signal) : null;
-  const said = period > MOST_PHASES ? `The first ${MOST_PHASES} of ${many(period, 'phase')}, by the page’s own steps` : `${many(period, 'phase')}, by the page’s own steps`;
+  const said = period > MOST_PHASES ? `The first ${MOST_PHASES} of ${many(period, 'phase')}, computed by your browser` : `${many(period, 'phase')}, computed by your browser`;
   const drawn = phases.length > 1 ? [make('details', { id: 'phases' }, make('summary', {}, said), make('div', { class: 'phases' }, phases.map((phase, at) => thumbnail(phase, SIDE, SIDE, `Phase ${at}`))))] : [];
   return [make('section', {}, make('h2', {}, 'As a pattern file'), make('p', { class: 'row' }, ...[play, copy, load].filter(Boolean)), ...drawn, ...[lookUp(code, ruleText(rule), isGroup)].filter(Boolean))];
 }

@@ -1,8 +1,11 @@
-// Old addresses of the pages, which were after `#`: each leads to the one that took its place.
+// Old addresses of the pages, which were after `#`; each redirects to its new one.
 
 import { censusAddress } from './address.js';
 
-/** What addresses were once, after `#`, and what they are now. */
+/**
+ * The old addresses, after `#`, and the new ones.
+ * @type {[RegExp, (...parts: string[]) => string][]}
+ */
 const OLD = [
   [/^(?:deposits)?$/i, () => '/'],
   [/^deposits\/(after\/[0-9]+|of\/[a-z0-9-]+(?:\/before\/[0-9]+)?)$/i, (rest) => `/d/${rest}`],
@@ -13,7 +16,7 @@ const OLD = [
   [/^(new|haul|find(?:\?.*)?)$/i, (same) => `/${same}`],
 ];
 
-/** The address that took the place of an old one; null for a text that was none. */
+/** The address that replaced an old one; null if the text was never an address. */
 export function newAddress(old) {
   const [form, made] = OLD.find(([form]) => form.test(old)) ?? [];
   return form ? made(...form.exec(old).slice(1)) : null;

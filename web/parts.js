@@ -1,18 +1,18 @@
-// Constellations: a cluster of a census may be several objects side by side, none of which changes another. Here such a cluster is parted, and its
-// parts are named. This is the page's own work: it steps the whole and each part through all phases, and compares.
+// Constellations: a cluster of a census may be several objects that do not change each other. This module separates such a cluster and names
+// its parts. The page does this itself: it steps the whole and each part through all phases, and compares them.
 
 import { limitOf, objectNames, patternOf } from './code.js';
 import { cellsOf } from './pattern.js';
 import { LIFE } from './rule.js';
 
-/** What is not parted, since it would take long: more cells, a longer period, more pieces. */
+/** The limits for separating a cluster: with more cells, a longer period or more pieces it would take too long. */
 const MOST_CELLS = 200;
 const LONGEST_PERIOD = 60;
 const MOST_PIECES = 24;
-/** How long the page is held at once, in milliseconds. */
+/** For how many milliseconds the page may be blocked at a time. */
 const HELD = 20;
 
-/** A cell is one number. A pattern stays within a few hundred columns and rows of its first cell. */
+/** A cell is encoded as one number. A pattern stays within a few hundred columns and rows of its first cell. */
 const WIDTH = 4096;
 const FIRST = 1000;
 const ROUND = [-WIDTH - 1, -WIDTH, -WIDTH + 1, -1, 1, WIDTH - 1, WIDTH, WIDTH + 1];
@@ -53,7 +53,7 @@ function phasesOf(cells, period) {
 }
 
 /**
- * The pieces of which the cells touch, also at a corner.
+ * The pieces: cells that touch, at least at a corner, are in one piece.
  * @param {Cells} cells
  */
 function piecesOf(cells) {
@@ -69,7 +69,7 @@ function piecesOf(cells) {
 }
 
 /**
- * Whether two pieces change each other: together they are not what they are alone.
+ * Whether two pieces change each other, that is, evolve differently together than alone.
  * @param {Cells[]} one the phases of one
  * @param {Cells[]} other
  */
@@ -91,7 +91,7 @@ function changing(phases) {
 }
 
 /**
- * The objects that a cluster is made of, each with its phases; nothing if it is one object.
+ * The objects in a cluster, each with its phases; null if it is one object.
  * @param {Cells} cells
  * @param {number} period
  * @returns {Cells[] | null}
@@ -109,7 +109,7 @@ function objectsOf(cells, period) {
   }
 }
 
-/** Whether the objects are the whole in each phase, and each comes back. */
+/** Whether the objects add up to the whole in every phase, and each is periodic. */
 function isWhole(cells, phases, period) {
   return phases.every((own) => isEqual(own[0], own[period]))
     && phasesOf(cells, period).every((whole, at) => isEqual(whole, new Set(phases.flatMap((own) => [...own[at]]))));
@@ -127,15 +127,16 @@ function textOf(cells) {
 /** @param {Cells} cells @returns {[number, number][]} */
 const placesOf = (cells) => [...cells].map((cell) => [cell % WIDTH, Math.floor(cell / WIDTH)]);
 
+/** @type {((cell: [number, number]) => [number, number])[]} */
 const TURNS = [([x, y]) => [x, y], ([x, y]) => [-x, y], ([x, y]) => [x, -y], ([x, y]) => [-x, -y], ([x, y]) => [y, x], ([x, y]) => [-y, x], ([x, y]) => [y, -x], ([x, y]) => [-y, -x]];
 
-/** Whether a code is of an object that stays, and small enough to be parted. */
+/** Whether a code names a still life or oscillator that is small enough to separate. */
 function isParted(code) {
   const pattern = /^x[sp]/.test(code) && limitOf(code) <= LONGEST_PERIOD ? patternOf(code) : null;
   return pattern !== null && pattern.population <= MOST_CELLS;
 }
 
-/** Lets the page do something else, if it was held for long; the time from which it is held anew. */
+/** Yields to the page if it was blocked for long; returns the time at which this began again. */
 async function rested(begun) {
   if (performance.now() - begun < HELD) return begun;
   await new Promise((resolve) => { setTimeout(resolve); });
@@ -144,7 +145,7 @@ async function rested(begun) {
 
 let known = null;
 
-/** The codes of named objects by the texts of all their phases, however they are turned. */
+/** The codes of named objects, by the texts of all their phases in all orientations. */
 function knownObjects() {
   known ??= objectNames().then(async (names) => {
     const found = new Map();
@@ -162,7 +163,7 @@ function knownObjects() {
 }
 
 /**
- * The objects that a code of Conway's Life is made of, the most frequent first; nothing if it is one object, or is not parted.
+ * The objects in a code's pattern in Conway's Life, the most frequent first; null if it is one object or was not separated.
  * @param {string} code
  * @returns {Promise<Part[] | null>}
  */
@@ -201,7 +202,7 @@ export function partsText(parts) {
 }
 
 /**
- * What the objects of a table are made of: a text for each code that is a group, and how often each object is in groups.
+ * The groups in a table: a text with the parts for each code that is a group, and how often each object is in groups.
  * @param {{code: string, count: number}[]} rows
  * @param {string} rule
  * @param {AbortSignal} signal

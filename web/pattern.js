@@ -1,9 +1,9 @@
 // A pattern is a set of live cells whose least column and row are 0, as `rle.js` reads it: width, height, population, and for each
-// row its runs `[begin, end, begin, end, ..]`. The archive gives each generation so; here is found how far its corner has moved.
+// row its runs `[begin, end, begin, end, ..]`. The archive gives each generation that way, so this module computes how far its corner has moved.
 
 const EMPTY = [];
 
-/** Writes a row's cells into a line of bytes that has a dead margin of two at its left. */
+/** Writes a row's cells into a line of bytes with a dead margin of two on the left. */
 function put(line, runs, value) {
   for (let at = 0; at < runs.length; at += 2) line.fill(value, runs[at] + 2, runs[at + 1] + 2);
 }
@@ -19,7 +19,7 @@ function firstLive(lines, rule, limit) {
   return limit;
 }
 
-/** How far the corner of the next generation is from that of the pattern, in columns and rows; null where the next one is empty. */
+/** How far the corner of the next generation is from that of the pattern, in columns and rows; null if the next one is empty. */
 export function nextCorner(pattern, rule) {
   const { width, height, rows } = pattern;
   const runsOf = (row) => rows[row] ?? EMPTY;
@@ -30,7 +30,7 @@ export function nextCorner(pattern, rule) {
   for (let row = -1; row <= height; row += 1) {
     if (runsOf(row - 1).length + runsOf(row).length + runsOf(row + 1).length > 0) {
       const first = firstLive(lines, rule, left);
-      // Before a live cell is found each column is looked at, and then those further left alone.
+      // Until a live cell is found, every column is examined; after that only those further left.
       if (first < left) {
         top ??= row;
         left = first;

@@ -1,5 +1,5 @@
-// Playing a deposit. What is shown at rest is the archive's own answer. While it plays the page makes the generations by itself (maker.js):
-// each hundredth, and the one at which it stops, is compared with the archive's.
+// Playing a deposit. When stopped, it shows the archive's own answer. While it plays, the page computes the generations itself (maker.js), and
+// compares every hundredth one, and the one at which it stops, with the archive's.
 
 import { generation } from './archive.js';
 import { GENERATION_LIMIT } from './limits.js';
@@ -9,12 +9,12 @@ import { nextCorner } from './pattern.js';
 const TOGETHER = 3;
 const KEPT = 160;
 const COMPARED_EACH = 100;
-/** How far a leap may be of which the place is made out by steps, and how many cells of boxes these steps may have. */
+/** The longest jump whose position is computed by steps, and the most cells that the boxes of these steps may have. */
 const NEAR = 256;
 const FEW_CELLS = 20_000_000;
-/** How far back the page begins when it plays back, at least: farther if the pattern is small. */
+/** How far back the page starts computing when it plays backwards, at least; farther if the pattern is small. */
 const BACK = 64;
-/** Pictures a second: a greater speed shows several generations on. */
+/** Frames per second: at higher speeds, a frame advances several generations. */
 const MOST_PICTURES = 60;
 
 export class Player {
@@ -22,14 +22,14 @@ export class Player {
   #places = new Map();
   #going = new Map();
   #timer = null;
-  /** The generation that is shown, and the one that is wanted. */
+  /** The generation that is shown, and the one that is requested. */
   at = 0;
   wanted = 0;
-  /** 1 while it plays on, -1 while it plays back, else 0. */
+  /** 1 while it plays forward, -1 while it plays back, otherwise 0. */
   direction = 0;
-  /** Generations a second. */
+  /** Generations per second. */
   speed = 10;
-  /** The generation at which the pattern is back, if it is known, and whether playing then begins anew. */
+  /** The generation at which the pattern returns, if it is known, and whether to loop there. */
   period = null;
   isLoop = false;
   /** The generation at which playing stops. */
@@ -38,9 +38,9 @@ export class Player {
   #isDoubted = false;
 
   /**
-   * Tells `told`: `shown(at, record, bytes, place)` is called for each generation that is shown, and answers where it was put; `place` is null where
-   * it isn't known, and `bytes` where the page made it. `changed()` is called as playing begins and ends, `failed(error)` where a generation
-   * did not come, `compared(at, isSame)` after a comparison, `ended()` at the last generation.
+   ** Calls the functions of `told`. `shown(at, record, bytes, place)` is called for each generation that is shown, and returns its position; `place` is
+   * null if the position isn't known, and `bytes` if the page computed the generation. `changed()` is called when playing begins and ends,
+   * `failed(error)` if a generation did not arrive, `compared(at, isSame)` after a comparison, `ended()` at the last generation.
    */
   constructor(deposit, signal, told) {
     this.deposit = deposit;
@@ -49,7 +49,7 @@ export class Player {
     signal.addEventListener('abort', () => this.#stop());
   }
 
-  /** A generation, asked once. */
+  /** A generation, requested once. */
   #fetch(at) {
     if (this.#known.has(at)) return Promise.resolve(this.#known.get(at));
     if (!this.#going.has(at)) {
@@ -62,7 +62,7 @@ export class Player {
     return this.#going.get(at);
   }
 
-  /** Asks for those that come next, a few at a time: as many as a second and a half shows. */
+  /** Requests the next ones, a few at a time: as many as are shown in a second and a half. */
   #ahead() {
     const direction = this.direction || 1;
     const many = this.direction === 0 ? 4 : Math.max(8, Math.ceil(this.speed * 1.5));
@@ -74,7 +74,7 @@ export class Player {
     for (const at of this.#known.keys()) if (this.#known.size > KEPT && Math.abs(at - this.at) > KEPT / 2) this.#known.delete(at);
   }
 
-  /** Where a generation stands: the archive moves each to the corner, and the next one's corner follows from the one before. */
+  /** The position of a generation. The archive moves each one to the corner, so it is computed from the generation before. */
   #placeOf(at) {
     const [before, after] = [at - 1, at + 1];
     if (!this.#places.has(at)) {
@@ -89,7 +89,7 @@ export class Player {
     if (corner) this.#places.set(at, { column: place.column + sign * corner.column, row: place.row + sign * corner.row });
   }
 
-  /** Shows a generation once it is here; answers whether it did. */
+  /** Shows a generation once it has arrived; returns whether it did. */
   async show(at) {
     this.wanted = at;
     try {
@@ -112,7 +112,7 @@ export class Player {
     }
   }
 
-  /** Loads what makes generations, so that playing begins at once, also when the line is gone by then. */
+  /** Loads the module that computes generations, so that playing starts at once, even if the connection is lost by then. */
   preload() {
     this.#worker();
   }
@@ -129,8 +129,8 @@ export class Player {
   }
 
   /**
-   * What makes generations in the page, so that a generation is few steps away; null where it can't, or where it was found to be wrong. It
-   * begins with that generation as the archive answers it, and not with the deposit.
+   ** The module that computes generations, started so that a generation is only a few steps away; null if it can't run or was found to be wrong.
+   * It starts from the archive's answer for that generation, not from the deposit.
    * @param {number} at
    */
   async #making(at) {
@@ -141,7 +141,7 @@ export class Player {
     return maker;
   }
 
-  /** A generation as the page makes it, with its place, and the beginning that its place belongs to. */
+  /** A generation that the page computed, with its position, and the start that the position refers to. */
   async made(at) {
     const maker = await this.#making(at);
     if (!maker) throw new Error('the page makes no generations');
@@ -149,13 +149,13 @@ export class Player {
     return { ...await maker.get(at), turn };
   }
 
-  /** The generation from which those up to one are made when it plays back. */
+  /** The generation from which to compute up to a given one when playing back. */
   #beginningBefore(at) {
     const { width, height } = this.#shownMade?.pattern ?? this.#known.get(this.at).record.pattern;
     return Math.max(0, at + 1 - Math.max(BACK, Math.floor(FEW_CELLS / (width * height + 1))));
   }
 
-  /** Two generations with places of one beginning. Playing back, the page begins some generations before them. */
+  /** Two generations with positions from the same start. When playing back, the page starts some generations before them. */
   async #pair(from, at) {
     const maker = this.#worker();
     if (!maker) return null;
@@ -164,7 +164,7 @@ export class Player {
     return { before, after: await maker.get(at, this.direction, this.stride) };
   }
 
-  /** Where a generation is, by the steps between it and the one that is shown; null where these are too many. */
+  /** The position of a generation, from the steps between it and the one shown; null if there are too many. */
   async #madePlace(at) {
     const shown = this.#places.get(this.at);
     const { width, height } = this.#known.get(at).record.pattern;
@@ -179,7 +179,7 @@ export class Player {
     }
   }
 
-  /** Compares what the page made of a generation with the archive's answer, if it made it. */
+  /** Compares a generation with the archive's answer, if the page computed it. */
   #compare(at, own) {
     const made = this.#shownMade?.at === at ? this.#shownMade.pattern : null;
     if (!made) return;
@@ -191,7 +191,7 @@ export class Player {
 
   #shownMade = null;
 
-  /** Shows a generation that the page makes; answers whether it did. */
+  /** Shows a generation that the page computes; returns whether it did. */
   async #showMade(at) {
     const from = this.at;
     const turn = this.#timer;
@@ -207,7 +207,7 @@ export class Player {
       const put = this.told.shown(at, { pattern }, null, place ? { column: place.column + corner.column - before.column, row: place.row + corner.row - before.row } : null);
       this.#places.clear();
       this.#places.set(at, put);
-      // At a greater speed the one to be compared may be passed over: then the next one is.
+      // At a higher speed, the generation to compare may be skipped; then the next one is compared.
       if (Math.floor(at / COMPARED_EACH) !== Math.floor((at - this.stride) / COMPARED_EACH)) this.#check(at, pattern);
       return true;
     } catch {
@@ -215,7 +215,7 @@ export class Player {
     }
   }
 
-  /** Asks for a generation beside the play, and compares it. A reply that stays away is met again where it stops. */
+  /** Requests a generation while playing, and compares it. If no reply comes, that shows again when playing stops. */
   async #check(at, made) {
     try {
       const { record } = await this.#fetch(at);
@@ -226,11 +226,11 @@ export class Player {
       this.#maker.end();
       this.go(at);
     } catch {
-      // As above.
+      // As further up.
     }
   }
 
-  /** Plays to a generation, on or back, and stops. */
+  /** Plays to a generation, forward or back, and stops. */
   runTo(at) {
     const goal = Math.min(Math.max(Math.trunc(at) || 0, 0), GENERATION_LIMIT);
     if (goal === this.at) return;
@@ -238,18 +238,18 @@ export class Player {
     this.until = goal;
   }
 
-  /** How many generations a picture goes on. */
+  /** How many generations a frame advances. */
   get stride() {
     return Math.max(1, Math.round(this.speed / MOST_PICTURES));
   }
 
-  /** Goes to a generation, and stops. */
+  /** Jumps to a generation, and stops. */
   go(at) {
     this.pause();
     return this.show(Math.min(Math.max(Math.trunc(at) || 0, 0), GENERATION_LIMIT));
   }
 
-  /** Goes some generations on or back, and stops. */
+  /** Moves some generations forward or back, and stops. */
   step(many) {
     return this.go(this.wanted + many);
   }
@@ -283,7 +283,7 @@ export class Player {
     }
     const done = await this.#showMade(at);
     if (!done || this.#timer !== turn) return;
-    // What came late is not made up for.
+    // Delays are not made up for.
     const next = Math.max(due + 1000 / Math.min(this.speed, MOST_PICTURES), performance.now());
     setTimeout(() => { if (this.#timer === turn) this.#next(next); }, next - performance.now());
   }
@@ -298,7 +298,7 @@ export class Player {
     this.#stop();
     if (!played) return;
     this.told.changed();
-    // Where it stops is the archive's own answer.
+    // When it stops, it shows the archive's own answer.
     if (this.#shownMade?.at === this.at) this.show(this.at);
   }
 }

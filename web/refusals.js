@@ -36,7 +36,7 @@ export const FAULTS = [
   ['bad-rule', 'The rule is not supported. Write it in digits, like B3/S23, without a name and without a bounded grid such as ":T100,100".'],
   ['birth-zero', 'The rule has 0 among its births, so it would make cells out of nothing. Take another rule.'],
   ['other-tag', 'The body has an item other than "b", "o", "$" and "!". For a rule of two states, write "b" for "." and "o" for "A".'],
-  ['bad-count', 'A count is 0 or over 1,000,000, or it stands before "!" or at the end of the file. Correct the count; if the file was cut off, copy it again.'],
+  ['bad-count', 'A count is 0 or over 1,000,000, or it comes before "!" or at the end of the file. Correct the count; if the file was cut off, copy it again.'],
   ['too-wide', 'A live cell is in a column or row beyond 1023. Move the cells, or use only a part of the pattern.'],
   ['no-end', 'The body ends without "!". Add it at the end; if the file was cut off, copy it again.'],
 ];
@@ -49,6 +49,10 @@ const NO_REPLY_TO_READ = 'No reply came, and nothing has changed. Wait a little 
 export class Refused extends Error {
   /** Whether a read was refused, and not a deposit or a census. */
   isRead = false;
+  /** How long the gateway wants a client to wait, in milliseconds. */
+  wait = 0;
+  /** A sentence that fits better than the usual one. */
+  sentence = '';
 
   constructor(name, number = 0, fault = 0) {
     super(name);
@@ -63,6 +67,7 @@ export const nameOf = (error) => FAULTS[error.fault]?.[0] ?? error.name;
 
 /** The sentence that says what to do. */
 export function sentenceOf(error) {
+  if (error.sentence) return error.sentence;
   if (error.fault) return FAULTS[error.fault]?.[1] ?? REFUSALS['bad-pattern'];
   if (error.isRead && error.name === 'no-reply') return NO_REPLY_TO_READ;
   return REFUSALS[error.name] ?? GATEWAY[error.name] ?? GATEWAY.unknown;
@@ -75,7 +80,7 @@ export function refusalOf(status, text) {
     const { error, refusal, rle } = JSON.parse(text);
     if (error in REFUSALS || error in GATEWAY) return new Refused(error, refusal ?? 0, rle ?? 0);
   } catch {
-    // What is no JSON is no reply of an archive.
+    // A reply that is not JSON does not come from an archive.
   }
   return new Refused(status >= 502 ? 'no-reply' : 'unknown');
 }

@@ -1,21 +1,27 @@
 // Pattern files (docs/FORMATS.md, Pattern files): the record of a file, or its first fault and the line that has it. The archive
-// judges what is deposited; this draws it before, and what the archive answers.
+// checks what is deposited; the pages use this to draw a file before, and to draw the archive's answers.
 
 import { GREATEST_COUNT, LONGEST_FILE, LONGEST_SIDE, LONGEST_TEXT, MOST_COMMENTS } from './limits.js';
 import { LIFE, readRule } from './rule.js';
 
-/** Why a file is refused: the fault's number, and the number of the line, or 0 where it is none in particular. */
+/** Why a file is refused: the number of the fault and of the line, or 0 if it concerns no particular line. */
 export class Fault extends Error {
-  constructor(number, line = 0) {
+  /** Whether the file only has more comments than the archive takes. */
+  isTooMany = false;
+  /** The text of a rule that the archive doesn't take. */
+  rule = '';
+
+  constructor(number, line = 0, more = {}) {
     super(`fault ${number} of a pattern file`);
     this.number = number;
     this.line = line;
+    Object.assign(this, more);
   }
 }
 
-/** The lines of a file without their ends: where each begins, and its bytes as characters of one byte each. */
+/** The lines of a file without line ends: where each begins, and its bytes as one character each. */
 function* linesOf(bytes) {
-  // One character a byte: the characters over 127 are not those of the file, and play no part in any form.
+  // One character per byte: characters over 127 are not those of the file, but no syntax depends on them.
   const all = new TextDecoder('latin1').decode(bytes);
   for (let begin = 0, number = 1; begin < all.length; number += 1) {
     const found = all.indexOf('\n', begin);
@@ -25,7 +31,7 @@ function* linesOf(bytes) {
   }
 }
 
-/** The text behind the mark of a line without blanks at its ends, and how many bytes it has. */
+/** The text after the mark of a line, without blanks at its ends, and its length in bytes. */
 function textOf(bytes, line) {
   const [blanks] = /^[ \t\r]*/.exec(line.text);
   const rest = line.text.slice(blanks.length + 2);
@@ -35,12 +41,18 @@ function textOf(bytes, line) {
   return length <= 0 ? { length: 0, text: '' } : { length, text: new TextDecoder().decode(bytes.subarray(begin, begin + length)) };
 }
 
-/** What the mark lines before the header say. */
+/** The content of the `#` lines before the header. */
 class Notes {
   name = null;
   author = null;
   comments = [];
   rule = null;
+  /** The lines of comments beyond those that the archive takes. */
+  left = [];
+
+  constructor(isCut) {
+    this.isCut = isCut;
+  }
 
   take(bytes, line) {
     const bare = line.text.replace(/^[ \t\r]+/, '');
@@ -57,17 +69,20 @@ class Notes {
   }
 
   #keep(kind, length, text, line) {
-    if (length > LONGEST_TEXT) throw new Fault(2, line.number);
-    if (kind !== 'comment' && this[kind] === null) {
-      this[kind] = text;
-    } else {
-      if (this.comments.length === MOST_COMMENTS) throw new Fault(2, line.number);
-      this.comments.push(text);
+    const isComment = kind === 'comment' || this[kind] !== null;
+    const isFull = isComment && this.comments.length === MOST_COMMENTS;
+    if (isFull && this.isCut) {
+      this.left.push(line);
+      return;
     }
+    if (length > LONGEST_TEXT) throw new Fault(2, line.number);
+    if (isFull) throw new Fault(2, line.number, { isTooMany: true });
+    if (isComment) this.comments.push(text);
+    else this[kind] = text;
   }
 }
 
-/** The rule that the header gives, or the notes, or Life. */
+/** The rule in the header, otherwise the one in the `#` lines, otherwise Life. */
 function ruleOf(line, notes) {
   const bare = line.text.replace(/[ \t\r]/g, '');
   if (!/^[xX]/.test(bare)) throw new Fault(3, line.number);
@@ -76,11 +91,11 @@ function ruleOf(line, notes) {
   if (found[1] === undefined && notes.rule === null) return LIFE;
   const [text, number] = found[1] === undefined ? [notes.rule.text, notes.rule.line] : [found[1], line.number];
   const rule = readRule(text);
-  if (typeof rule === 'string') throw new Fault(rule === 'bad-rule' ? 5 : 6, number);
+  if (typeof rule === 'string') throw new Fault(rule === 'bad-rule' ? 5 : 6, number, { rule: text });
   return rule;
 }
 
-/** The body, item by item: runs of live cells in rows, where the file has them. */
+/** Reads the body item by item: the runs of live cells, at their positions in the file. */
 class Body {
   constructor(widest) {
     this.widest = widest;
@@ -143,11 +158,12 @@ function normal(rows) {
 }
 
 /**
- * The record of a file: its texts, its rule and its pattern. What the archive itself made may be longer and wider than a file: `ours`.
+ * The record of a file: its texts, its rule and its pattern. With `ours`, for a file from the archive itself, it may be longer and wider. With
+ * `isCut`, the comments after the last one that the archive takes are left out, and `left` has their lines.
  */
-export function readFile(bytes, { ours = false } = {}) {
+export function readFile(bytes, { ours = false, isCut = false } = {}) {
   if (!ours && bytes.length > LONGEST_FILE) throw new Fault(1);
-  const notes = new Notes();
+  const notes = new Notes(isCut);
   const body = new Body(ours ? Infinity : LONGEST_SIDE - 1);
   let rule = null;
   let last = 0;
@@ -170,5 +186,5 @@ export function readFile(bytes, { ours = false } = {}) {
   }
   if (rule === null) throw new Fault(3, 0);
   if (!body.ended) throw new Fault(body.counted ? 8 : 10, last);
-  return { name: notes.name, author: notes.author, comments: notes.comments, rule, pattern: normal(body.rows) };
+  return { name: notes.name, author: notes.author, comments: notes.comments, left: notes.left, rule, pattern: normal(body.rows) };
 }

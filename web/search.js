@@ -1,17 +1,18 @@
-// Searching the index: a form, the deposits that fit, and the places where other pages show what the index says.
+// Searching the index: a form, the matching deposits, and the parts of other pages that show results from the index.
 
 import { censusAddress, depositAddress, go } from './address.js';
 import { counted, field, make, many } from './dom.js';
 import { NOTHING, addComments, allDeposits, censusesOfObject, censusesWith, indexHead, indexNote, indexedCensus, indexedDeposit, search } from './index.js';
 import { shownRows } from './list.js';
 import { readRule, ruleText } from './rule.js';
+import { Heads, sorted } from './sorts.js';
 
 const LINES = 20;
-/** The fields beside the words: their names in an address, labels and types; a range has two. */
+/** The fields besides the text: their names in an address, labels and types; a range has two. */
 const FIELDS = [['member', 'Member', 'text'], ['author', 'Author', 'text'], ['rule', 'Rule', 'text']];
 const RANGES = [['cells', 'Cells', 'number'], ['side', 'Longer side', 'number'], ['day', 'First seen', 'date']];
 
-/** What an address asks for, as `text=glider&cells=5-10`. */
+/** The query in an address, such as `text=glider&cells=5..10`. */
 function askedBy(query) {
   const words = new URLSearchParams(query);
   const one = (name) => words.get(name) ?? '';
@@ -37,6 +38,7 @@ function input(id, type, value) {
   return found;
 }
 
+/** @param {string[]} range */
 function rangeField([name, label, type], [least, greatest]) {
   const [from, to] = [input(`search-${name}`, type, least), input(`search-${name}-to`, type, greatest)];
   from.setAttribute('aria-label', `${label}, from`);
@@ -55,7 +57,7 @@ export function searchForm(asked = NOTHING) {
   const submit = async (event) => {
     event.preventDefault();
     const [words, more] = [text.value.trim(), Object.fromEntries(all.map(({ name, value }) => [name, value()]))];
-    // A code, a number or a rule leads to its page, as in the box in the head of other pages; other words are searched, with the fields.
+    // As in the search box of other pages, a code, a number or a rule leads to its page. Other words are searched for, with the fields.
     const { addressOf, isSearch } = await import('./box.js');
     const address = addressOf(words);
     go(words === '' || isSearch(address) ? searchAddress({ text: words, ...more }) : address);
@@ -65,9 +67,9 @@ export function searchForm(asked = NOTHING) {
     make('details', { open }, make('summary', {}, 'Rule, size, day'), make('div', { class: 'fields' }, all.map(({ part }) => part))));
 }
 
-/** The deposits that an address asks for. */
+/** The deposits that match the query in an address. */
 export async function results(page, query) {
-  const said = make('p', { class: 'count', role: 'status' }, 'The index is read…');
+  const said = make('p', { class: 'count', role: 'status' }, 'Reading the index…');
   page.root.append(said);
   const [head, { namedLines }] = await Promise.all([indexHead(), import('./box.js')]);
   if (!head) {
@@ -75,12 +77,12 @@ export async function results(page, query) {
     said.before(...await namedLines(askedBy(query).text, []));
     return;
   }
-  const all = await allDeposits((number, of) => { if (number < of) said.replaceChildren(`The index is read: ${counted(number)} of ${counted(of)} blocks…`); }, page.signal);
+  const all = await allDeposits((number, of) => { if (number < of) said.replaceChildren(`Reading the index: ${counted(number)} of ${counted(of)} blocks…`); }, page.signal);
   const asked = askedBy(query);
   if (asked.text) await addComments(all, page.signal);
   const rows = search(all, asked);
   said.before(...await namedLines(asked.text, [...new Set(all.map(({ member }) => member))]));
-  said.replaceChildren(rows.length === 0 ? `None of ${many(all.length, 'deposit')} fits.` : `${many(rows.length, 'deposit')} of ${counted(all.length)}, the best first.`);
+  said.replaceChildren(rows.length === 0 ? `None of ${many(all.length, 'deposit')} matches.` : `${many(rows.length, 'deposit')} of ${counted(all.length)}, best matches first.`);
   page.root.append(...shownRows(page, rows), indexNote(head));
 }
 
@@ -90,7 +92,7 @@ export const formOf = (query) => searchForm(askedBy(query ?? ''));
 
 const nameOf = async (id) => (await indexedDeposit(id))?.name || null;
 
-/** A line of a list of censuses: its number, what it is of, and what it found. */
+/** A line in a list of censuses: its number, deposit, generation and result. */
 async function censusLine(row, count) {
   const place = depositAddress(row.deposit, row.generation);
   const name = await nameOf(row.deposit);
@@ -101,26 +103,38 @@ async function censusLine(row, count) {
     make('td', {}, row.steady ? 'steady' : 'not steady', make('small', {}, row.day)));
 }
 
-/** A table of censuses, of which more are shown by a press; `counts` says how often each has the object that is looked at. */
+/** The columns of a table of censuses; `counts` says how often each has an object. @type {import('./sorts.js').Column[]} */
+const COLUMNS = [{ id: 'census', head: 'Census', value: (row) => row.id }, { id: 'of', head: 'Of', value: (row) => row.deposit * 10_000 + row.generation, isUp: true },
+  { id: 'count', head: 'Of it', value: (row, counts) => counts.get(row.id), isNumber: true }, { id: 'clusters', head: 'Clusters', value: (row) => row.clusters, isNumber: true },
+  { id: 'field', head: 'Field', value: (row) => `${row.steady ? 'a' : 'b'}${row.day}`, isUp: true }];
+
+/** A table of censuses, the newest first until it is sorted, with a button that shows more. */
 async function censusTable(page, rows, caption, counts) {
   const body = make('tbody');
   const more = make('button', { type: 'button', class: 'more' });
+  const columns = COLUMNS.filter(({ id }) => counts || id !== 'count');
+  let shown = rows;
   const show = async () => {
-    const from = body.childElementCount;
-    const lines = await Promise.all(rows.slice(from, from + LINES).map((row) => censusLine(row, counts?.get(row.id))));
+    const [from, own] = [body.childElementCount, shown];
+    const lines = await Promise.all(own.slice(from, from + LINES).map((row) => censusLine(row, counts?.get(row.id))));
     page.signal.throwIfAborted();
+    // It may have been sorted meanwhile.
+    if (own !== shown || body.childElementCount !== from) return;
     body.append(...lines);
     more.hidden = body.childElementCount >= rows.length;
     more.textContent = `Show ${counted(Math.min(LINES, rows.length - body.childElementCount))} more of ${counted(rows.length)}`;
   };
+  const heads = new Heads(columns, { sort: 'census', isUp: false }, (order) => {
+    shown = sorted(rows, columns, order, counts);
+    body.replaceChildren();
+    show();
+  });
   more.addEventListener('click', show);
   await show();
-  const heads = [['Census', ''], ['Of', ''], counts ? ['Of it', 'number'] : null, ['Clusters', 'number'], ['Field', '']].filter(Boolean);
-  return [make('table', { class: 'census censuses' }, make('caption', { class: 'aside' }, caption),
-    make('thead', {}, make('tr', {}, heads.map(([text, kind]) => make('th', { scope: 'col', class: kind }, text)))), body), make('p', {}, more)];
+  return [make('table', { class: 'census censuses' }, make('caption', { class: 'aside' }, caption), make('thead', {}, make('tr', {}, heads.cells)), body), make('p', {}, more)];
 }
 
-/** The censuses of a deposit, as a section of its page; nothing where there is no index, or it has none. */
+/** The censuses of a deposit, as a section of its page; nothing if there is no index or no census. */
 export async function censusesSection(page, number) {
   const head = await indexHead();
   const rows = head ? await censusesWith((row) => row.deposit === number, page.signal) : [];
@@ -128,15 +142,15 @@ export async function censusesSection(page, number) {
   return [make('section', { id: 'censuses' }, make('h2', {}, many(rows.length, 'census', 'censuses')), ...await censusTable(page, rows, `Censuses of deposit ${number}`), indexNote(head))];
 }
 
-/** Where an object occurs: the censuses that have it, and of how many deposits they are. */
+/** Where an object occurs: the censuses that contain it, and the number of their deposits. */
 export async function occurrences(page, rule, code) {
   const head = await indexHead();
   if (!head) return [];
   const found = await censusesOfObject(rule, code, page.signal);
   const rows = (await Promise.all(found.map(({ id }) => indexedCensus(id)))).filter(Boolean);
   const deposits = new Set(rows.map((row) => row.deposit));
-  const said = rows.length === 0 ? 'No census in the index has it.' : `In ${many(rows.length, 'census', 'censuses')} of ${many(deposits.size, 'deposit')}, the newest first.`;
-  const table = rows.length === 0 ? [] : await censusTable(page, rows, `Censuses that have ${code}`, new Map(found.map(({ id, count }) => [id, count])));
+  const said = rows.length === 0 ? 'No census in the index contains it.' : `In ${many(rows.length, 'census', 'censuses')} of ${many(deposits.size, 'deposit')}, the newest first.`;
+  const table = rows.length === 0 ? [] : await censusTable(page, rows, `Censuses that contain ${code}`, new Map(found.map(({ id, count }) => [id, count])));
   return [make('section', { id: 'occurrences' }, make('h2', {}, 'Where it occurs'), make('p', {}, said), ...table, indexNote(head))];
 }
 
@@ -146,11 +160,11 @@ export async function censusesPage(page) {
   page.root.append(make('h1', { tabindex: -1 }, 'Censuses'));
   const head = await indexHead();
   if (!head) {
-    page.root.append(make('p', { class: 'empty' }, 'This archive has no index, so censuses are found by their numbers alone: ', make('a', { href: '/find' }, 'find one'), '.'));
+    page.root.append(make('p', { class: 'empty' }, 'This archive has no index, so you can only open a census by its number: ', make('a', { href: '/find' }, 'find one'), '.'));
     return;
   }
   const rows = await censusesWith(() => true, page.signal);
-  if (rows.length === 0) page.root.append(make('p', { class: 'empty' }, 'There is no census yet. Ask for one at a deposit.'));
+  if (rows.length === 0) page.root.append(make('p', { class: 'empty' }, 'There is no census yet. You can take one on the page of a deposit.'));
   else page.root.append(make('p', { class: 'count' }, many(rows.length, 'census', 'censuses')), ...await censusTable(page, rows, 'Censuses, the newest first'));
   page.root.append(indexNote(head));
   page.say(`${many(rows.length, 'census', 'censuses')}.`);

@@ -1,27 +1,27 @@
-// Colors as words of a picture's bytes, and those between two of them.
+// Colors as 32-bit words of an image, and colors between two of them.
 
-/** The age of a cell from which on none is shown as older. */
+/** The greatest age that is shown; older cells look the same. */
 export const OLDEST = 32;
 
-/** A color `#rrggbb` as a word of a picture's bytes. */
+/** A color `#rrggbb` as a 32-bit word of an image. */
 export function wordOf(color) {
   const [red, green, blue] = [1, 3, 5].map((at) => parseInt(color.slice(at, at + 2), 16));
   return (0xff000000 | (blue << 16) | (green << 8) | red) >>> 0;
 }
 
-/** A color between two, of which the second has a share. */
+/** A color between two; `share` is that of the second. */
 export function between(one, other, share) {
   const part = (shift) => Math.round(((one >>> shift) & 255) * (1 - share) + ((other >>> shift) & 255) * share) << shift;
   return (0xff000000 | part(16) | part(8) | part(0)) >>> 0;
 }
 
-// ---- colors by age: between two colors in OKLCH (B. Ottosson, 2020), where no color between them is dull
+// ---- colors by age: between two colors in OKLCH (B. Ottosson, 2020), which avoids dull colors in between
 
 const linear = (part) => (part <= 0.04045 ? part / 12.92 : ((part + 0.055) / 1.055) ** 2.4);
 const encoded = (part) => Math.round(255 * Math.min(1, Math.max(0, part <= 0.0031308 ? part * 12.92 : 1.055 * part ** (1 / 2.4) - 0.055)));
 
 /**
- * Lightness, chroma and hue of a word of a picture's bytes.
+ * Lightness, chroma and hue of a 32-bit word of an image.
  * @param {number} word
  */
 function oklchOf(word) {
@@ -35,7 +35,7 @@ function oklchOf(word) {
 }
 
 /**
- * The word of a color that is given by lightness, chroma and hue.
+ * The 32-bit word of a color given by lightness, chroma and hue.
  * @param {{lightness: number, chroma: number, hue: number}} color
  */
 function wordOfOklch({ lightness, chroma, hue }) {
@@ -50,7 +50,7 @@ function wordOfOklch({ lightness, chroma, hue }) {
 }
 
 /**
- * A color between two, by the way through pink and violet: orange to blue by the other way would be green.
+ * A color between two, on the path through pink and violet: the other path from orange to blue goes through green.
  * @param {number} one
  * @param {number} other
  * @param {number} share
@@ -62,5 +62,8 @@ function betweenHues(one, other, share) {
   return wordOfOklch({ lightness: part('lightness'), chroma: part('chroma'), hue: from.hue + turn * share });
 }
 
-/** The color of each age: from young to old, at first fast. */
+/**
+ * The color of each age, from young to old; it changes fast at first.
+ * @param {{ young?: number, old?: number }} shades the two ends
+ */
 export const shadesOfAges = ({ young, old }) => Array.from({ length: OLDEST + 1 }, (_, age) => betweenHues(young, old, Math.log2(Math.max(1, age)) / Math.log2(OLDEST)));

@@ -1,16 +1,16 @@
-// Drawing cells smaller than a pixel: each pixel has the color of the share of it that is live.
+// Drawing cells smaller than a pixel: the color of each pixel shows the share of it that is live.
 
 import { OLDEST, between, shadesOfAges } from './shades.js';
 
 /** How much of a pixel a lone cell darkens, however small it is, so that it is seen. */
 const FAINTEST = 0.3;
-/** How many shares of live cells have a color of their own. */
+/** How many different shares have their own color. */
 const SHARES = 64;
 
 /**
- * Adds a span of a line, from one place to another in pixels, to the pixels that it covers, each by the part of it that is covered.
+ * Adds a span of a line, from one position to another in pixels: each pixel gains the part of it that is covered.
  * @param {Float32Array} covered
- * @param {number} line where the line's first pixel is
+ * @param {number} line the index of the line's first pixel
  * @param {number} begin
  * @param {number} end
  * @param {number} weight
@@ -27,7 +27,7 @@ function addSpan(covered, line, begin, end, weight) {
 }
 
 /**
- * How much of each pixel is covered by live cells that are smaller than one; `weights` has a weight for each cell of the box, if they have one.
+ * How much of each pixel is covered by live cells smaller than a pixel; `weights` has a weight for each cell of the box, if they have weights.
  * @returns {Float32Array}
  */
 function coverOf(width, height, pattern, view, weights) {
@@ -36,7 +36,7 @@ function coverOf(width, height, pattern, view, weights) {
   for (let row = 0; row < pattern.height; row += 1) {
     const top = (row + view.place.row - view.top) * size;
     const line = Math.floor(top);
-    // A row is lower than a pixel, so it lies in one line or in two.
+    // A row is less than a pixel high, so it covers one line or two.
     const below = Math.max(0, top + size - line - 1);
     for (const [at, share] of [[line, size - below], [line + 1, below]]) {
       if (at >= 0 && at < height && share > 1e-9) coverLine(covered, at * width, width, pattern.rows[row], share, view, weights && weights.subarray(row * pattern.width));
@@ -59,7 +59,7 @@ function coverLine(covered, line, width, runs, share, view, weights) {
   }
 }
 
-/** Draws a pattern of cells smaller than a pixel: each pixel has the color of its share of live cells, and a lone cell is seen. */
+/** Draws a pattern with cells smaller than a pixel: each pixel gets the color of its share of live cells, and a lone cell stays visible. */
 export function paintShares(words, width, height, pattern, view, shades) {
   const covered = coverOf(width, height, pattern, view, null);
   const ages = view.ages ? coverOf(width, height, pattern, view, view.ages) : null;
@@ -67,7 +67,7 @@ export function paintShares(words, width, height, pattern, view, shades) {
   const lone = FAINTEST / view.size ** 2;
   for (let at = 0; at < covered.length; at += 1) {
     const share = covered[at];
-    // A share so small is what an addition leaves.
+    // A share this small is a rounding error.
     if (share < 1e-4) continue;
     const seen = Math.min(1, Math.max(share, Math.min(FAINTEST, share * lone)));
     words[at] = colors[ages ? Math.min(OLDEST, Math.round(ages[at] / share)) : 0][Math.round(seen * SHARES)];

@@ -1,76 +1,101 @@
-// The generation of a deposit that is shown: its address, its text, and itself as a new deposit.
+// The generation of a deposit that is shown: its address, its text, and depositing it.
 
 import { depositAddress, go } from './address.js';
 import { copyButton, counted, make } from './dom.js';
 import { LONGEST_SIDE } from './limits.js';
-import { withTexts } from './names.js';
+import { save } from './picture.js';
 import { bring } from './brought.js';
+import { ruleText } from './rule.js';
+import { fileOf, withOrigin } from './writer.js';
 
-/** The longest side of a pattern that the archive takes. */
-
-/** What is to be done with the generation that is shown: its address, its text, a census. It hears of each generation that is shown. */
+/** What a member can do with the generation that is shown: cite its address, copy its text, take a census. It is updated with each generation. */
 export class Shown {
-  constructor(number, name, page) {
+  /**
+   * @param {number} number
+   * @param {{ bytes: Uint8Array, record: object }} own the deposit itself
+   * @param {object} page
+   */
+  constructor(number, own, page) {
     this.number = number;
-    this.name = name;
+    this.own = own;
+    this.first = own.record;
+    this.name = this.first.name ?? `Deposit ${number}`;
     this.page = page;
-    this.bytes = new Uint8Array();
     this.address = make('a', { class: 'address' });
     this.text = make('textarea', { id: 'text', readonly: true, rows: 8, spellcheck: 'false', wrap: 'off' });
-    this.load = make('a', { class: 'button' }, 'Download');
+    this.load = make('a', { class: 'button', click: (event) => this.#save(event) }, 'Download');
     this.which = make('span');
     this.details = make('details', { toggle: () => this.#fill() }, make('summary', {}, 'Text'), make('label', { for: 'text', class: 'aside' }, 'Text of the generation'), this.text);
+  }
+
+  get at() {
+    return this.seen?.at;
   }
 
   get url() {
     return location.origin + depositAddress(this.number, this.at);
   }
 
-  /** Takes the generation that is shown; one that the page made has no bytes, and only its address is known. */
+  /** Sets the generation that is shown. If the page computed it, it has no bytes, and only its pattern is known. */
   take(at, bytes, record) {
-    this.at = at;
+    // Only the deposit itself has its texts.
+    this.seen = at === 0 ? { at, ...this.own } : { at, bytes, record: { ...record, rule: this.first.rule } };
+    this.which.replaceChildren(at === 0 ? 'The file' : `Generation ${counted(at)}`);
     if (bytes === null) return;
-    this.whole = { at, record };
-    this.bytes = bytes;
+    this.whole = this.seen;
     this.address.href = this.url;
     this.address.replaceChildren(this.url);
-    this.which.replaceChildren(at === 0 ? 'The file' : `Generation ${counted(at)}`);
     this.load.href = at === 0 ? `/deposits/${this.number}` : `/deposits/${this.number}/at/${at}`;
-    this.load.download = at === 0 ? `deposit-${this.number}.rle` : `deposit-${this.number}-at-${at}.rle`;
+    this.load.download = this.fileName;
     this.#fill();
   }
 
-  /** The address and the title of the page are those of what is shown. A browser takes few changes a second, so none is made while it plays. */
+  /** What a saved file says: its title, and where it comes from. Only generation 0, the file itself, has the deposit's own name. */
+  get from() {
+    const { at, bytes } = this.seen;
+    const computed = bytes === null ? ', computed by a browser' : '';
+    return { title: at === 0 ? this.first.name : `${this.name}, generation ${at}`,
+      origin: `${at === 0 ? 'Deposit' : `Generation ${at} of deposit`} ${this.number}${computed}, ${this.url}` };
+  }
+
+  get fileName() {
+    return `deposit-${this.number}${this.at === 0 ? '' : `-at-${this.at}`}.rle`;
+  }
+
+  /** The generation that is seen as a file, while it plays too. */
+  get file() {
+    const { bytes, record } = this.seen;
+    return withOrigin(bytes ?? new TextEncoder().encode(fileOf(record.pattern, ruleText(record.rule))), record, this.from);
+  }
+
+  #save(event) {
+    event.preventDefault();
+    save(this.file, this.fileName, 'text/plain');
+  }
+
+  /** Updates the page's address and title. Browsers limit how often they may change, so they stay the same while it plays. */
   cite() {
     this.page.title(this.at === 0 ? this.name : `${this.name}, generation ${this.at}`);
     history.replaceState(history.state, '', depositAddress(this.number, this.at));
   }
 
   #fill() {
-    if (this.details.open) this.text.value = new TextDecoder().decode(this.bytes);
+    if (this.details.open) this.text.value = new TextDecoder().decode(this.whole.bytes);
   }
 
-  /** The generation as a file to deposit, with a name and where it is from. */
-  file() {
-    const { at } = this.whole;
-    const from = new TextEncoder().encode(`#C Generation ${at} of deposit ${this.number}\n`);
-    const texts = withTexts(this.bytes, { name: null, author: '' }, `${this.name}, generation ${at}`, '');
-    return new File([from, texts], `deposit-${this.number}-at-${at}.rle`);
-  }
-
-  /** Offers to deposit the generation, so that a longer life can be followed. */
+  /** Offers to deposit the generation, so that playing can continue from there. */
   depositPart() {
     const { pattern } = this.whole.record;
     if (Math.max(pattern.width, pattern.height) > LONGEST_SIDE) return make('span', {}, `It is ${counted(pattern.width)} by ${counted(pattern.height)}, and the archive takes patterns of up to ${counted(LONGEST_SIDE)} by ${counted(LONGEST_SIDE)}.`);
     const click = () => {
-      bring([this.file()]);
+      bring([new File([this.file], this.fileName)]);
       go('/new');
     };
     return make('button', { type: 'button', id: 'deposit-generation', click }, 'Deposit this generation');
   }
 
   parts() {
-    const copied = () => new TextDecoder().decode(this.bytes);
+    const copied = () => new TextDecoder().decode(this.file);
     return [
       make('section', {}, make('h2', {}, 'Cite'), make('p', { class: 'row' }, this.address, copyButton('Copy the address', () => this.url, this.page.say))),
       make('section', {}, make('h2', {}, this.which), make('p', { class: 'row' }, copyButton('Copy as RLE', copied, this.page.say), this.load), this.details),

@@ -1,18 +1,22 @@
-// A worker that makes generations for playing: rows as words of 32 cells, of which each is stepped by sums of bits. What it makes is the
-// page's own; the player compares it with the archive's answers.
+// A worker that computes generations for playing. Rows are words of 32 cells, and bitwise sums step a word at a time. The results are the page's
+// own; the player compares them with the archive's answers.
 
-/** Dead words and rows round what is live, so that a pattern grows some time before it gets more room. */
+/** Dead words and rows around the live cells, so that a pattern can grow for some time before it needs more room. */
 const MARGIN_WORDS = 2;
 const MARGIN_ROWS = 48;
-/** Between generations that are kept, so that playing back need not begin anew: all of these, and near what was made last more of them. */
+/** The distance between stored generations, so that playing back need not start over; more are stored near the last one. */
 const KEPT_EACH = 64;
 const KEPT_NEAR = 16;
 const NEAR = 128;
 
-/** A field of cells: rows of words, and where its first column and row are on the plane. */
+/** A field of cells: rows of words, and the position of its first column and row on the plane. */
 class Field {
+  /** @param {number} words @param {number} rows @param {number} column @param {number} row */
   constructor(words, rows, column, row) {
-    [this.words, this.rows, this.column, this.row] = [words, rows, column, row];
+    this.words = words;
+    this.rows = rows;
+    this.column = column;
+    this.row = row;
     this.bits = new Uint32Array(words * rows);
   }
 
@@ -26,7 +30,7 @@ class Field {
     this.bits[row * this.words + (column >>> 5)] |= 1 << (column & 31);
   }
 
-  /** The first and last row and word with a live cell; null where there is none. */
+  /** The first and last row and word with a live cell; null if there is none. */
   box() {
     const { words, rows, bits } = this;
     let [top, bottom, left, right] = [rows, -1, words, -1];
@@ -66,7 +70,7 @@ function fieldOf(pattern) {
   return field;
 }
 
-/** The sums of a word's cells with their left and right neighbours, as bits of value 1 and 2, for each word of a row. */
+/** The sum of each cell with its left and right neighbours, as bits of value 1 and 2, for each word of a row. */
 function sumRow(bits, from, words, ones, twos) {
   for (let word = 0; word < words; word += 1) {
     const here = bits[from + word];
@@ -77,10 +81,10 @@ function sumRow(bits, from, words, ones, twos) {
   }
 }
 
-/** Which counts of nine cells, the middle one too, make a live cell, for a dead and for a live middle. */
+/** The counts of nine cells, including the middle one, that make a live cell, for a dead and for a live middle. */
 const countsOf = ({ births, survivals }) => ({ dead: [...births.keys()].filter((count) => births[count]), live: [...survivals.keys()].filter((count) => survivals[count]).map((count) => count + 1) });
 
-/** The words in which a count, given by four words of bits, is one of some numbers. */
+/** The cells whose count, given by four words of bits, is one of some numbers. */
 function isOneOf(numbers, one, two, four, eight) {
   let found = 0;
   for (const number of numbers) found |= (number & 1 ? one : ~one) & (number & 2 ? two : ~two) & (number & 4 ? four : ~four) & (number & 8 ? eight : ~eight);
@@ -122,7 +126,7 @@ export function following(given, counts) {
   return next;
 }
 
-/** Puts the columns at which a row of words goes from dead to live and back into a list from a place on; the place after them. */
+/** Writes the columns at which a row changes from dead to live and back into a list, from an index on; returns the index after them. */
 function edgesOf(bits, from, words, list, place) {
   let last = 0;
   for (let word = 0; word < words; word += 1) {
@@ -180,24 +184,24 @@ function counted(list, left) {
 
 // ---- the worker
 
-/** The fields that are kept by their generations, the first generation that is known, and the number of the pattern that was given last. */
+/** The stored fields by generation, the first known generation, and the number of the last pattern. */
 const state = { kept: new Map(), counts: null, first: 0, turn: 0 };
 
-/** Begins anew with a generation: nothing before it is known. */
+/** Starts over from a generation: nothing before it is known. */
 function begin({ pattern, rule, first, turn }) {
   state.counts = countsOf(rule);
   state.kept = new Map([[first, fieldOf(pattern)]]);
   Object.assign(state, { first, turn });
 }
 
-/** Keeps a field, and forgets others that are far away and not at a multiple that stays. */
+/** Stores a field, and drops those that are far away and not at one of the multiples that stay. */
 function keep(at, field) {
   if (at % KEPT_NEAR !== 0 || state.kept.has(at)) return;
   state.kept.set(at, field);
   for (const other of state.kept.keys()) if (other !== state.first && other % KEPT_EACH !== 0 && Math.abs(other - at) > NEAR) state.kept.delete(other);
 }
 
-/** Answers the generations from one to another, each `by`-th of them, each as a message. */
+/** Sends every `by`-th generation from one to another, each as a message. */
 function answer({ from, to, by, turn }) {
   if (turn !== state.turn) return;
   let at = Math.max(...[...state.kept.keys()].filter((number) => number <= from));
@@ -206,10 +210,48 @@ function answer({ from, to, by, turn }) {
     keep(at, field);
     if (at >= from && (at - from) % by === 0) {
       const found = patternOf(field);
-      postMessage({ at, turn, ...found }, [found.list.buffer, found.ends.buffer]);
+      /** @type {any} */ (globalThis).postMessage({ at, turn, ...found }, [found.list.buffer, found.ends.buffer]);
     }
     if (at < to) field = following(field, state.counts);
   }
 }
 
-if (typeof WorkerGlobalScope !== 'undefined') addEventListener('message', ({ data }) => (data.pattern ? begin(data) : answer(data)));
+/** The number of bits that are set in a word. */
+function bitsOf(word) {
+  let sums = word - ((word >>> 1) & 0x55555555);
+  sums = (sums & 0x33333333) + ((sums >>> 2) & 0x33333333);
+  return Math.imul((sums + (sums >>> 4)) & 0x0f0f0f0f, 0x01010101) >>> 24;
+}
+
+/** @param {Field} field */
+export const populationOf = ({ bits }) => bits.reduce((sum, word) => (word === 0 ? sum : sum + bitsOf(word)), 0);
+
+/** For how many milliseconds generations are counted before the page gets the numbers. */
+const COUNTING = 50;
+const counting = { at: 0, field: null, counts: null };
+
+/** Starts counting from a pattern on. */
+function beginCount({ pattern, rule }) {
+  Object.assign(counting, { at: 0, field: fieldOf(pattern), counts: countsOf(rule) });
+}
+
+/** Sends the populations of the next generations, at least one, up to a last one. */
+function count({ last }) {
+  const [from, populations, begun] = [counting.at, [], performance.now()];
+  do {
+    populations.push(populationOf(counting.field));
+    counting.field = following(counting.field, counting.counts);
+    counting.at += 1;
+  } while (counting.at <= last && performance.now() - begun < COUNTING);
+  globalThis.postMessage({ from, populations });
+}
+
+/** What the worker does for a message. */
+function act(data) {
+  if (data.toCount) beginCount(data);
+  else if (data.last !== undefined) count(data);
+  else if (data.pattern) begin(data);
+  else answer(data);
+}
+
+if ('WorkerGlobalScope' in globalThis) addEventListener('message', ({ data }) => act(data));

@@ -1,8 +1,8 @@
-// The SHA-256 sum of bytes (FIPS 180-4) as 64 digits. A browser has it only on pages that came over TLS, and a club's may not.
+// The SHA-256 sum of bytes (FIPS 180-4) as 64 digits. Browsers offer it only on pages with TLS, which a club's may not have.
 
 const rotated = (word, by) => (word >>> by) | (word << (32 - by));
 
-/** The first 32 bits behind the point of a root of each of the first primes. */
+/** The first 32 bits of the fractional part of a root of each of the first primes. */
 function fractions(count, root) {
   const words = [];
   for (let number = 2; words.length < count; number += 1) {
@@ -35,7 +35,7 @@ function schedule(words, view, begin) {
   }
 }
 
-/** The sum of bytes, of which there are less than 2 to the 29. */
+/** The digest of fewer than 2^29 bytes. */
 export function sumOf(bytes) {
   const view = padded(bytes);
   const words = new Int32Array(64);

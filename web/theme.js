@@ -1,4 +1,4 @@
-// The theme: light, dark, or as the system has it. This is no module, so that it is set before anything is drawn.
+// The theme: light, dark, or that of the system. This is a plain script, so that the theme is set before anything is drawn.
 
 {
   const dark = matchMedia('(prefers-color-scheme: dark)');
@@ -14,8 +14,8 @@
     dispatchEvent(new Event('recolored'));
   };
   dark.addEventListener('change', () => set(kept()));
-  // Chosen on this page, or on another one of this browser.
-  addEventListener('theme', (event) => set(event.detail));
+  // Chosen on this page, or on another page in this browser.
+  addEventListener('theme', (/** @type {CustomEvent} */ event) => set(event.detail));
   addEventListener('storage', () => set(kept()));
   set(kept());
 }

@@ -1,12 +1,12 @@
-// The large drawing of a deposit: where it is looked at, how large, and by which hands: wheel, fingers, buttons, keys.
+// The large drawing of a deposit: its position and zoom, and how wheel, fingers, buttons and keys change them.
 
 import { boundStep, paint, sizeAt, sizeFor, stepOf } from './draw.js';
 import { Wheel } from './wheel.js';
 
 const LARGEST_AT_FIRST = 16;
-/** How much more than the pattern is seen when all of it is shown. */
+/** How much larger than the pattern the view is when all of it is shown. */
 const ROOM = 1.05;
-/** By how much two fingers go apart for a step of the zoom. */
+/** By which factor two fingers have to move apart for one zoom step. */
 const SPREAD_A_STEP = 1.35;
 
 export class View {
@@ -19,15 +19,15 @@ export class View {
   #pointers = new Map();
   #grid = true;
   #ages = null;
-  /** The step of the zoom with its fraction, which small movements add up to. */
+  /** The zoom step with its fraction, which adds up small movements. */
   #step = 0;
-  /** Whether the whole pattern is kept in sight; a hand that moves or zooms ends it. */
+  /** Whether the whole pattern is kept in view; moving or zooming ends that. */
   following = true;
 
   /**
    * @param {HTMLCanvasElement} canvas
    * @param {AbortSignal} signal
-   * @param {() => void} scrolled hears of a wheel that scrolls the page over the canvas
+   * @param {() => void} scrolled called when the wheel scrolls the page over the canvas
    */
   constructor(canvas, signal, scrolled = () => {}) {
     this.canvas = canvas;
@@ -37,7 +37,7 @@ export class View {
     canvas.addEventListener('wheel', (event) => this.#wheel(event), { ...options, passive: false });
     canvas.addEventListener('pointerdown', (event) => this.#down(event), options);
     canvas.addEventListener('pointermove', (event) => this.#move(event), options);
-    for (const name of ['pointerup', 'pointercancel']) canvas.addEventListener(name, (event) => this.#pointers.delete(event.pointerId), options);
+    for (const name of ['pointerup', 'pointercancel']) canvas.addEventListener(name, (/** @type {PointerEvent} */ event) => this.#pointers.delete(event.pointerId), options);
     const watch = new ResizeObserver(() => this.#resize());
     watch.observe(canvas);
     signal.addEventListener('abort', () => watch.disconnect());
@@ -79,7 +79,7 @@ export class View {
     });
   }
 
-  /** Shows a pattern at a place of the plane, or, where it is not known, around the middle of what is seen. */
+  /** Shows a pattern at a position on the plane or, if that is not known, around the middle of the view. */
   show(pattern, place) {
     const middle = this.#middle();
     this.#pattern = pattern;
@@ -90,7 +90,7 @@ export class View {
     return this.#place;
   }
 
-  /** Moves the view, and makes cells smaller where it must be, so that the whole pattern is seen. */
+  /** Moves the view, and makes cells smaller if necessary, so that the whole pattern is visible. */
   #follow() {
     const { width, height } = this.#pattern;
     const { column, row } = this.#place;
@@ -101,7 +101,7 @@ export class View {
     this.#look({ column: column + width / 2, row: row + height / 2 });
   }
 
-  /** Shows the ages of the cells, or none. */
+  /** Turns the ages of the cells on or off. */
   showAges(found) {
     const fits = found && found.width === this.#pattern.width && found.height === this.#pattern.height;
     this.#ages = fits ? found.ages : null;
@@ -128,7 +128,7 @@ export class View {
   }
 
   /**
-   * Makes cells larger or smaller by some steps, about a point of the canvas or its middle. Fractions of a step add up.
+   * Makes cells larger or smaller by some steps, around a point of the canvas or its middle. Fractions of a step add up.
    * @param {number} steps
    * @param {{x: number, y: number}} at
    */
@@ -150,7 +150,7 @@ export class View {
     this.zoom((direction > 0 ? Math.floor(this.#step) : Math.ceil(this.#step)) + direction - this.#step);
   }
 
-  /** Moves what is seen by a part of its width and height. */
+  /** Moves the view by a fraction of its width and height. */
   pan(columns, rows) {
     this.following = false;
     this.#left += columns * this.canvas.width / this.#size;

@@ -1,13 +1,13 @@
 // The wheel and the trackpad over the canvas. As with a map in a page, the page scrolls until the canvas has the focus or Ctrl is held.
 
-/** The pixels of a wheel's notch, and of a pinch on a trackpad, for a step of the zoom. */
+/** The pixels of a wheel's notch, and of a pinch on a trackpad, for one zoom step. */
 const NOTCH = 100;
 const PINCH = 25;
 /** The pixels of a line, for browsers that count in lines, and of a page. */
 const UNITS = [1, 33, 600];
 
 /**
- * How far an event goes down, in pixels.
+ * How far an event scrolls down, in pixels.
  * @param {WheelEvent} event
  */
 const pixelsOf = ({ deltaY, deltaMode }) => deltaY * UNITS[deltaMode];
@@ -15,7 +15,7 @@ const pixelsOf = ({ deltaY, deltaMode }) => deltaY * UNITS[deltaMode];
 export class Wheel {
   /**
    * @param {HTMLCanvasElement} canvas
-   * @param {() => void} scrolled hears of a wheel that scrolls the page
+   * @param {() => void} scrolled called when the wheel scrolls the page
    */
   constructor(canvas, scrolled) {
     this.canvas = canvas;
@@ -23,11 +23,11 @@ export class Wheel {
   }
 
   /**
-   * The steps of the zoom that an event asks for, a fraction for a small movement; 0 if the page is to be scrolled.
+   * The zoom steps of an event, a fraction for a small movement; 0 if the page should scroll.
    * @param {WheelEvent} event
    */
   steps(event) {
-    // A browser tells a pinch of two fingers on a trackpad as a wheel with Ctrl.
+    // Browsers report a pinch on a trackpad as a wheel event with Ctrl.
     if (!event.ctrlKey && document.activeElement !== this.canvas) {
       this.scrolled();
       return 0;

@@ -1,4 +1,4 @@
-"""What the ways to share a haul out have in common: its arguments, its folder, and the pieces that its range is cut into."""
+"""What the scripts that split a haul share: its arguments, its folder, and the pieces of its range."""
 import argparse
 import json
 import os
@@ -6,14 +6,14 @@ import re
 import subprocess
 import sys
 
-# The repository, by the path by which the script was called.
+# The repository, found from the path under which the script was called.
 TOP = os.path.join(os.path.dirname(os.path.abspath(sys.argv[0])), "..", "..")
 ADD = os.path.join(TOP, "examples", "scripts", "add-hauls")
-# The most soups that one call of the program counts, and the most tables that fit on the command line of `add-hauls`.
+# The most soups for one call of the program, and the most tables that fit on the command line of `add-hauls`.
 MOST_SOUPS = 1_000_000
 MOST_PIECES = 10_000
-# What counts a piece: FIRST is its first soup, COUNT how many it has. A table gets its name when it is whole, and then it is not made
-# again. The arguments of the haul are in the environment, so a shell never parses them.
+# The command that counts a piece: FIRST is its first soup, COUNT the number of soups. A table gets its name once it is whole, and is then
+# never made again. The arguments of the haul are in the environment, so a shell never parses them.
 PIECE = """\
 trap 'rm -f FIRST.$$' EXIT
 trap 'exit 1' INT TERM
@@ -38,8 +38,10 @@ def positive(text):
 
 
 def parser_of(description):
-    """A parser of the arguments that every way has."""
-    parser = argparse.ArgumentParser(description=description, formatter_class=argparse.RawDescriptionHelpFormatter, allow_abbrev=False)
+    """A parser for the arguments that all scripts have."""
+    parser = argparse.ArgumentParser(
+        description=description, formatter_class=argparse.RawDescriptionHelpFormatter, allow_abbrev=False
+    )
     parser.add_argument("root", metavar="ROOT")
     for name in ("FIRST", "COUNT", "N", "LIMIT"):
         parser.add_argument(name.lower(), metavar=name, type=number)
@@ -56,7 +58,7 @@ def read_arguments(parser, arguments):
     if haul.size > MOST_SOUPS:
         parser.error(f"a piece has at most {MOST_SOUPS} soups")
     if haul.count > MOST_PIECES * haul.size:
-        parser.error(f"more than {MOST_PIECES} pieces: take a greater --size")
+        parser.error(f"more than {MOST_PIECES} pieces: use a larger --size")
     return haul
 
 
@@ -66,10 +68,14 @@ def pieces_of(haul):
 
 
 def validate(haul, pieces):
-    """Ends as the program does if it refuses the first soup of the last piece. The program is built here if it is not built yet."""
+    """Ends like the program if that refuses the first soup of the last piece. This also builds the program if necessary."""
     last = pieces[-1][0] if pieces else haul.first
     numbers = map(str, (last, min(haul.count, 1), haul.n, haul.limit))
-    done = subprocess.run([haul.program, "--rule", haul.rule, "--symmetry", haul.symmetry, "--", haul.root, *numbers], stdout=subprocess.DEVNULL, check=False)
+    done = subprocess.run(
+        [haul.program, "--rule", haul.rule, "--symmetry", haul.symmetry, "--", haul.root, *numbers],
+        stdout=subprocess.DEVNULL,
+        check=False,
+    )
     if done.returncode != 0:
         sys.exit(done.returncode)
 
@@ -77,7 +83,7 @@ def validate(haul, pieces):
 def take_folder(haul):
     """Makes the folder, or checks that it is this haul's."""
     names = ["root", "first", "count", "n", "limit", "rule", "size"]
-    # Hauls of C1 do not name it, as their tables do not.
+    # Like their tables, hauls of C1 do not name their symmetry.
     names += ["symmetry"] if haul.symmetry != "C1" else []
     own = json.dumps({name: getattr(haul, name) for name in names}) + "\n"
     stored = os.path.join(haul.folder, "haul.json")
@@ -85,7 +91,7 @@ def take_folder(haul):
     if os.path.exists(stored):
         with open(stored, encoding="utf-8") as file:
             if file.read() != own:
-                end(f"{haul.folder}: the folder of another haul, whose arguments are in haul.json")
+                end(f"{haul.folder}: this folder belongs to another haul (its arguments are in haul.json)")
     elif os.listdir(haul.folder):
         end(f"{haul.folder}: the folder has other files")
     else:
@@ -101,9 +107,15 @@ def write_list(haul, pieces):
 
 
 def environment(haul):
-    """The environment in which pieces are counted."""
-    return os.environ | {"HAUL_PROGRAM": haul.program, "HAUL_ROOT": haul.root, "HAUL_N": str(haul.n), "HAUL_LIMIT": str(haul.limit), "HAUL_RULE": haul.rule,
-                         "HAUL_SYMMETRY": haul.symmetry}
+    """The environment for the commands that count pieces."""
+    return os.environ | {
+        "HAUL_PROGRAM": haul.program,
+        "HAUL_ROOT": haul.root,
+        "HAUL_N": str(haul.n),
+        "HAUL_LIMIT": str(haul.limit),
+        "HAUL_RULE": haul.rule,
+        "HAUL_SYMMETRY": haul.symmetry,
+    }
 
 
 def table_names(pieces):

@@ -1,11 +1,11 @@
-"""Says what is not well with a club's archive. Run by life-age.timer, as the user of the archive.
+"""Reports problems of a club's archive. Run by life-age.timer, as the user of the archive.
 
     life-age [--state FOLDER] [--root FOLDER] ARCHIVE COPIES AGE
 
-The status is 1, with a line on standard error, as long as one of these holds: the folder COPIES has no copy that is younger than AGE (as
-2h); the archive's file is not the one that the service has open; the service, its gateway or nginx is enabled, and has not been active for
-ten minutes; the disk of the archive has little room. That a copy will come is not looked at: without any copy the last change of COPIES
-counts. In the folder --state is since when something is not active. --root is in place of /.
+The status is 1, with a line on standard error, as long as one of these holds: the folder COPIES has no copy younger than AGE (such as 2h);
+the archive's file is not the one that the service has open; the service, its gateway or nginx is enabled, but has not been active for
+ten minutes; the disk of the archive is nearly full. If there is no copy at all, the last change of COPIES counts. The folder --state
+records since when a unit has not been active. --root replaces /.
 """
 import argparse
 import datetime
@@ -24,31 +24,35 @@ from life_operate.archive import LOCK_LENGTH, LOCK_START, STAMP, Copies, line_of
 UTC = datetime.timezone.utc
 # A flock of Linux on 64 bits: type, whence, start, length, process.
 FLOCK = "hhqqi4x"
-# The units that have to run if they are enabled, and where systemd says that each is.
+# The units that have to run if they are enabled, and where systemd keeps their processes.
 SERVICES = ("life.service", "life-gateway.service", "nginx.service")
 WANTED_BY = "etc/systemd/system/multi-user.target.wants"
 GROUPS = "sys/fs/cgroup/system.slice"
-# A stop of this many seconds may be on purpose.
+# A unit may be stopped on purpose for this many seconds.
 AWAY_SECONDS = 600
-# A disk with less room than this, in bytes, or than a tenth of the archive, has little.
+# A disk is nearly full if it has fewer bytes left than this, or than a tenth of the archive.
 LEAST_ROOM = 64 << 20
-# How often, and how long apart, a file is looked at that nobody has open: the service may have just begun.
+# How often, and how many seconds apart, to check a file that nobody has open: the service may just be starting.
 LOOKS, PAUSE = 5, 1.0
 
 
 # ---- copies
 
+
 def newest(copies: Copies) -> tuple[float, str]:
-    """When the newest copy was made, and in words. A name of a later moment than now is of a clock that was wrong."""
+    """When the newest copy was made, as a time and as a text. A name with a time in the future comes from a clock that was wrong."""
     now = datetime.datetime.now(UTC).strftime(STAMP)
     stamps = [stamp for stamp in copies.stamps if stamp <= now]
     if not stamps:
         return os.path.getmtime(copies.folder), f"there is no copy in {copies.folder}"
-    return datetime.datetime.strptime(stamps[0], STAMP).replace(tzinfo=UTC).timestamp(), f"the newest copy is {copies.path(stamps[0])}"
+    return (
+        datetime.datetime.strptime(stamps[0], STAMP).replace(tzinfo=UTC).timestamp(),
+        f"the newest copy is {copies.path(stamps[0])}",
+    )
 
 
 def age_of(archive: str, folder: str, age: str) -> tuple[str, str]:
-    """What is wrong with the age of the newest copy, or nothing; and what is well."""
+    """The problem with the age of the newest copy, if there is one; and what is fine."""
     try:
         moment, words = newest(Copies(archive, folder))
     except (OSError, ValueError) as fault:
@@ -60,8 +64,9 @@ def age_of(archive: str, folder: str, age: str) -> tuple[str, str]:
 
 # ---- the service
 
+
 def is_open(path: str) -> bool:
-    """Whether a program has the file locked, as `life` has it while it serves it."""
+    """Whether a program has the file locked, as `life` does while it serves it."""
     with open(path, "rb") as file:
         wanted = struct.pack(FLOCK, fcntl.F_WRLCK, os.SEEK_SET, LOCK_START, LOCK_LENGTH, 0)
         found: int = struct.unpack(FLOCK, fcntl.fcntl(file, fcntl.F_GETLK, wanted))[0]
@@ -74,7 +79,7 @@ def is_active(root: str, unit: str) -> bool:
 
 
 def served(root: str, archive: str) -> str:
-    """What is wrong with the file that the service has open, or nothing."""
+    """The problem with the file that the service has open, if there is one."""
     for _ in range(LOOKS):
         if not is_active(root, "life.service"):
             return ""
@@ -87,11 +92,11 @@ def served(root: str, archive: str) -> str:
                 raise
             fault = line_of(missing)
         time.sleep(PAUSE)
-    return f"{fault}: what is deposited now is in no file that has a name. Don't stop the service: see 'A file that was exchanged' in OPERATING"
+    return f"{fault}: new deposits go into a file that no longer has a name. Don't stop the service: see 'A file that was exchanged' in OPERATING"
 
 
 def away(root: str, state: str) -> Iterator[str]:
-    """The services that are enabled and have not been active for a while. A file for each has the moment at which that was first seen."""
+    """The services that are enabled but have not been active for a while. A file for each records when that was first seen."""
     for unit in SERVICES:
         seen = os.path.join(state, unit)
         if is_active(root, unit) or not os.path.lexists(os.path.join(root, WANTED_BY, unit)):
@@ -102,21 +107,26 @@ def away(root: str, state: str) -> Iterator[str]:
             with open(seen, "w", encoding="ascii"):
                 pass
         if time.time() - os.path.getmtime(seen) >= AWAY_SECONDS:
-            yield f"{unit} is enabled and does not run"
+            yield f"{unit} is enabled but not running"
 
 
 def room(archive: str) -> str:
-    """What is wrong with the room on the archive's disk, or nothing."""
+    """The problem with the free space on the archive's disk, if there is one."""
     free = shutil.disk_usage(os.path.dirname(archive)).free
     size = os.path.getsize(archive) if os.path.exists(archive) else 0
-    return f"{os.path.dirname(archive)} has room for {free >> 20} MiB only" if free < max(LEAST_ROOM, size // 10) else ""
+    return f"{os.path.dirname(archive)} has only {free >> 20} MiB left" if free < max(LEAST_ROOM, size // 10) else ""
 
 
 def faults_of(words: argparse.Namespace) -> tuple[list[str], str]:
-    """All that is not well, and what is said if nothing is."""
+    """All problems, and the line to print if there are none."""
     archive, folder = os.path.realpath(words.archive), os.path.realpath(words.copies)
     fault, well = age_of(archive, folder, words.age)
-    faults = [fault, served(words.root, archive), *(away(words.root, words.state) if words.state else []), room(archive)]
+    faults = [
+        fault,
+        served(words.root, archive),
+        *(away(words.root, words.state) if words.state else []),
+        room(archive),
+    ]
     return [fault for fault in faults if fault], well
 
 

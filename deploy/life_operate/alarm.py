@@ -1,12 +1,12 @@
-"""Tells somebody that a unit has failed, once, and once that it is well again.
+"""Sends one alarm when a unit has failed, and one message when it works again.
 
     life-alarm UNIT [ADDRESS]
     life-alarm --ended UNIT [ADDRESS]
 
-The first form is for a unit that has failed: it writes into the journal at priority crit, always, and sends mail if there is a sendmail
-that takes it. A file in /run/life-alarm has the reasons: if the unit fails for the same one before it was well, there is no second mail,
-and the line has priority err. The second form is for a unit that did its work: if an alarm was sent about it, it says that it is over.
-Without ADDRESS it is that of the settings. SENDMAIL of the environment is another sendmail, and LIFE_ALARMS another folder.
+The first form is for a unit that has failed: it writes a line into the journal, at priority crit, and sends mail if there is a sendmail
+that accepts it. A file in /run/life-alarm lists the reasons: if the unit fails again for one of them before it has worked, no mail is
+sent, and the line has priority err. The second form is for a unit that has done its work: if an alarm was sent, it says that it is over.
+The default of ADDRESS is in the settings. The environment may name another sendmail (SENDMAIL) and another folder (LIFE_ALARMS).
 """
 import argparse
 import os
@@ -17,62 +17,77 @@ import sys
 
 from life_operate.settings import USUAL, end_if_unusable
 
-# How far back the last line of a unit is looked for.
+# How far back to look for a unit's last line.
 SAID_WITHIN = "-2min"
 SIGNALED = {"signal", "core-dump"}
 
 
 def output_of(*words: str) -> list[str]:
-    done = subprocess.run(words, stdin=subprocess.DEVNULL, capture_output=True, text=True, errors="replace", check=False)
+    done = subprocess.run(
+        words, stdin=subprocess.DEVNULL, capture_output=True, text=True, errors="replace", check=False
+    )
     return done.stdout.splitlines()
 
 
 def shown(unit: str) -> dict[str, str]:
-    """What systemd knows of how a unit ended."""
+    """What systemd knows about how a unit ended."""
     lines = output_of("systemctl", "show", "--property=Result,ExecMainStatus,ExecMainCode", unit)
     return dict(line.split("=", 1) for line in lines if "=" in line)
 
 
 def reason_of(unit: str) -> str:
-    """Why a unit failed: what ended its program from outside, or else its own last line."""
+    """Why a unit failed: what stopped its program from outside, or otherwise its own last line."""
     known = shown(unit)
     result, status = known.get("Result", ""), known.get("ExecMainStatus", "")
     if result in SIGNALED:
         return f"killed by signal {status}"
     if result in ("timeout", "watchdog", "oom-kill"):
         return result
-    # What the unit said a moment ago may not be in the journal yet.
+    # The unit's last lines may not be in the journal yet.
     output_of("journalctl", "--sync")
-    said = output_of("journalctl", "--no-pager", "--quiet", "--output=cat", "--boot", f"--since={SAID_WITHIN}", f"_SYSTEMD_UNIT={unit}")
-    return said[-1] if said else "the unit said nothing"
+    said = output_of(
+        "journalctl",
+        "--no-pager",
+        "--quiet",
+        "--output=cat",
+        "--boot",
+        f"--since={SAID_WITHIN}",
+        f"_SYSTEMD_UNIT={unit}",
+    )
+    return said[-1] if said else "the unit printed nothing"
 
 
 def journal(priority: str, *lines: str) -> None:
-    subprocess.run(["systemd-cat", "--identifier=life-alarm", f"--priority={priority}"], input="\n".join(lines) + "\n", text=True, check=False)
+    subprocess.run(
+        ["systemd-cat", "--identifier=life-alarm", f"--priority={priority}"],
+        input="\n".join(lines) + "\n",
+        text=True,
+        check=False,
+    )
 
 
 def journal_of(unit: str, line: str) -> None:
-    """A line that `systemctl status` of the unit shows last. It shows lines about another unit only if they are root's."""
+    """Adds a line that `systemctl status` of the unit shows last. It shows lines about another unit only if root wrote them."""
     fields = f"SYSLOG_IDENTIFIER=life-alarm\nPRIORITY=3\nOBJECT_SYSTEMD_UNIT={unit}\nMESSAGE={line}\n"
     subprocess.run(["logger", "--journald"], input=fields, text=True, check=False)
 
 
 def mail(address: str, subject: str, *parts: str) -> None:
-    """Sends mail, if there is a sendmail. Whether it arrives nobody knows: so the journal has every alarm too."""
+    """Sends mail, if there is a sendmail. Nobody knows whether it arrives, so the journal has every alarm too."""
     sendmail = os.environ.get("SENDMAIL", "/usr/sbin/sendmail")
     if os.access(sendmail, os.X_OK):
         text = f"To: {address}\nSubject: {subject}\n\n" + "\n\n".join(parts) + "\n"
         if subprocess.run([sendmail, "-t", "-i"], input=text, text=True, check=False).returncode:
-            journal("err", f"{sendmail} did not take the mail to {address}: {subject}")
+            journal("err", f"{sendmail} could not send mail to {address}: {subject}")
 
 
 def told_of(unit: str) -> str:
-    """The file that says that an alarm about a unit was sent."""
+    """The file that records that an alarm about a unit was sent."""
     return os.path.join(os.environ.get("LIFE_ALARMS", "/run/life-alarm"), unit.replace("/", "-"))
 
 
 def is_new(unit: str, reason: str) -> bool:
-    """Whether no alarm was sent for this reason since the unit was well. Numbers in it play no part. From now on one was sent."""
+    """Whether this reason is new since the unit last worked, numbers aside. It is recorded as sent."""
     told = told_of(unit)
     os.makedirs(os.path.dirname(told), exist_ok=True)
     with open(told, "a+", encoding="utf-8") as file:

@@ -1,9 +1,9 @@
-"""An archive's file and its log, as the scripts beside this file need them: copied, read, compared, and opened by the program.
+"""An archive's file and its log: copying, reading and comparing them, and opening them with the program.
 
-The server holds the file's lock, so no sqlite3 reads it. `copied` copies the bytes of the file and then those of its log. While the
-file and the head of its log stay as they were, the program only appends to the log, so what was copied is what a stop at that moment
-would have left. SQLite then copies the log into the file. It changes no byte that the program did not write: `.backup`, VACUUM INTO or
-another journal mode would leave wrong checksums in the pages.
+The server holds the file's lock, so sqlite3 can't read it. `copied` copies the bytes of the file and then those of its log. As long as
+the file and the head of its log do not change, the program only appends to the log, so the copy is what a crash at that moment would
+have left. SQLite then merges the log into the file. It must not change any other byte: `.backup`, VACUUM INTO or another journal mode
+would leave wrong checksums in the pages.
 """
 import datetime
 import fcntl
@@ -18,33 +18,33 @@ import sqlite3
 import subprocess
 import time
 from collections.abc import Iterable
-from typing import BinaryIO
+from typing import Any, BinaryIO
 
 from life_operate.signals import die_with_parent
 
 TRIES = 40
 # A log's head, a frame's head and the smallest page of SQLite: a shorter log has no commit.
 LEAST_COMMIT = 32 + 24 + 512
-# The bytes of a file that SQLite and `life` lock while they have it open.
+# The bytes of a file that SQLite and `life` lock while they have the file open.
 LOCK_START, LOCK_LENGTH = 1 << 30, 512
-# How long the program may take to open a copy, in seconds. A migration takes as long as the censuses took.
+# How many seconds the program may take to open a copy. A migration takes as long as its censuses took.
 OPENED_WITHIN = 1800
-# The moment in the name of a copy, in UTC.
+# The time in the name of a copy, in UTC.
 STAMP = "%Y-%m-%dT%H%M"
-# The tables with numbers: what a row is called, and the columns that tell it from the row of another archive.
+# The numbered tables: what a row is called, and the columns that distinguish it from a row of another archive.
 TABLES = {"deposits": ("deposit", "member, token, rle"), "censuses": ("census", "member, token, deposit, gens, lim")}
 
 
 class Refused(Exception):
-    """Why something is not done, in words."""
+    """Why something is refused, as a sentence."""
 
 
 class NoAnswer(Refused):
-    """The program was not there for a question."""
+    """The program did not answer."""
 
 
 def line_of(fault: BaseException) -> str:
-    """One line for people about what hindered a script."""
+    """One line that says why a script failed."""
     if isinstance(fault, OSError) and fault.filename:
         return f"{fault.filename2 or fault.filename}: {fault.strerror}"
     return str(fault)
@@ -52,8 +52,9 @@ def line_of(fault: BaseException) -> str:
 
 # ---- the bytes of an archive
 
+
 def begin_of(path: str) -> tuple[bytes, int]:
-    """The head of a log, which changes when a log is begun anew, and its length."""
+    """The head of a log, which changes when the log starts over, and its length."""
     try:
         with open(path, "rb") as log:
             return log.read(32), os.fstat(log.fileno()).st_size
@@ -62,7 +63,7 @@ def begin_of(path: str) -> tuple[bytes, int]:
 
 
 def has_commit(path: str) -> bool:
-    """Whether the log of a file may have a commit."""
+    """Whether a file's log may contain a commit."""
     return begin_of(path + "-wal")[1] >= LEAST_COMMIT
 
 
@@ -72,7 +73,7 @@ def state_of(path: str) -> tuple[int, int, int]:
 
 
 def copied(archive: str, new: str) -> bool:
-    """Whether the two files were copied as they were at one moment."""
+    """Whether the copies of the two files are from one moment."""
     file, (head, length) = state_of(archive), begin_of(archive + "-wal")
     shutil.copyfile(archive, new)
     pathlib.Path(new + "-wal").unlink(missing_ok=True)
@@ -84,7 +85,7 @@ def copied(archive: str, new: str) -> bool:
 
 
 def copied_in_time(archive: str, new: str) -> None:
-    """Copies the two files, again while they change."""
+    """Copies the two files, and tries again while they change."""
     for turn in range(TRIES):
         if copied(archive, new):
             return
@@ -93,7 +94,7 @@ def copied_in_time(archive: str, new: str) -> None:
 
 
 def sync(path: str) -> None:
-    """Waits until a file, or the names in a folder, are on the disk."""
+    """Syncs a file, or the names in a folder, to the disk."""
     number = os.open(path, os.O_RDONLY)
     try:
         os.fsync(number)
@@ -102,7 +103,7 @@ def sync(path: str) -> None:
 
 
 def locked(path: str) -> BinaryIO | None:
-    """A file, open, with a lock by which no program can begin to write to it, or None if one has it open."""
+    """Opens a file with a lock that keeps every program from writing to it; None if a program has it open."""
     file = open(path, "rb")
     try:
         fcntl.lockf(file, fcntl.LOCK_SH | fcntl.LOCK_NB, LOCK_LENGTH, LOCK_START)
@@ -114,8 +115,9 @@ def locked(path: str) -> BinaryIO | None:
 
 # ---- what is in an archive
 
+
 class Database:
-    """A database of one name for people. What SQLite can't do with it is an error with that name."""
+    """A database, and the name under which messages mention it. What SQLite can't do is an error with that name."""
 
     def __init__(self, name: str, address: str) -> None:
         self.name = name
@@ -124,9 +126,10 @@ class Database:
         except sqlite3.Error as fault:
             raise self.refused(fault) from fault
 
-    def first_row(self, query: str, *values: object) -> tuple | None:
+    def first_row(self, query: str, *values: object) -> tuple[Any, ...]:
+        """The first row; an empty one if there is none."""
         try:
-            return self.opened.execute(query, values).fetchone()
+            return self.opened.execute(query, values).fetchone() or ()
         except sqlite3.Error as fault:
             raise self.refused(fault) from fault
 
@@ -135,17 +138,17 @@ class Database:
 
 
 def fold(new: str, archive: str) -> None:
-    """Copies the log into its file, and checks the file."""
+    """Merges the log into its file, and checks the file."""
     database = Database(archive, pathlib.Path(new).as_uri())
     if database.first_row("PRAGMA wal_checkpoint(TRUNCATE)")[0] != 0:
-        raise database.refused("its log can't be copied into its file")
+        raise database.refused("its log can't be merged into its file")
     if (found := database.first_row("PRAGMA integrity_check")[0]) != "ok":
         raise database.refused(found.splitlines()[-1])
     database.opened.close()
 
 
 class Contents(Database):
-    """What is in an archive of one file. The file is only read, and a log beside it is not."""
+    """The content of an archive that is one file. The file is only read; a log beside it is ignored."""
 
     def __init__(self, path: str, name: str) -> None:
         super().__init__(name, pathlib.Path(path).as_uri() + "?mode=ro&immutable=1")
@@ -155,9 +158,9 @@ class Contents(Database):
         count, last = self.first_row(f"SELECT count(*), coalesce(max(id), 0) FROM {table}")
         if count != last:
             raise self.refused(f"the {table} have gaps")
-        return count
+        return int(count)
 
-    def row(self, table: str, number: int) -> tuple | None:
+    def row(self, table: str, number: int) -> tuple[Any, ...]:
         return self.first_row(f"SELECT {TABLES[table][1]} FROM {table} WHERE id = ?", number)
 
     def text(self) -> str:
@@ -168,13 +171,17 @@ class Contents(Database):
         return self.text() + (f", the first deposit by {first[0]!a}" if first else "")
 
     def newest(self) -> tuple[str, bytes]:
-        """The path of a route for the newest deposit, and what the program has to answer."""
+        """The route of the newest deposit, and what the program has to answer."""
         number = self.counts["deposits"]
-        return (f"/deposits/{number}", self.row("deposits", number)[2]) if number else ("/deposits/after/0", b'{"deposits":[]}')
+        return (
+            (f"/deposits/{number}", self.row("deposits", number)[2])
+            if number
+            else ("/deposits/after/0", b'{"deposits":[]}')
+        )
 
 
 def lacking(new: Contents, there: Contents) -> list[str]:
-    """What an archive that is there has and the new one lacks."""
+    """What the existing archive has and the new one lacks."""
     found = [f"fewer {table}" for table in TABLES if new.counts[table] < there.counts[table]]
     for table, (one, _) in TABLES.items():
         last = min(new.counts[table], there.counts[table])
@@ -184,12 +191,17 @@ def lacking(new: Contents, there: Contents) -> list[str]:
 
 
 def lacks(new: Contents, there: Contents) -> str:
-    """That a new archive can't take the place of another one, in words, or nothing."""
+    """Why a new archive can't replace another one, as a sentence; empty if it can."""
     found = lacking(new, there)
-    return f"{there.name} stays with {there.text_with_first()}; {new.name} has {new.text_with_first()}: {', '.join(found)}" if found else ""
+    return (
+        f"{there.name} was kept, with {there.text_with_first()}; {new.name} has {new.text_with_first()}: {', '.join(found)}"
+        if found
+        else ""
+    )
 
 
 # ---- the copies of a club
+
 
 class Copies:
     """The copies in the folder of a club, the newest first."""
@@ -204,7 +216,7 @@ class Copies:
         return os.path.join(self.folder, f"{self.stem}-{stamp}.db")
 
     def past(self) -> list[str]:
-        """The moments of copies, without those that are still to come: a clock was wrong then."""
+        """The times of the copies, except those in the future, which come from a clock that was wrong."""
         now = datetime.datetime.now(datetime.timezone.utc).strftime(STAMP)
         return [stamp for stamp in self.stamps if stamp <= now]
 
@@ -212,7 +224,7 @@ class Copies:
         return [stamp for stamp in self.stamps if stamp not in self.past()]
 
     def newest_good(self, stamps: Iterable[str]) -> tuple[Contents | None, list[str]]:
-        """The newest copy of these moments that can be read, and what is wrong with those that are newer."""
+        """The newest readable copy from these times, and the problems of the newer ones."""
         faults: list[str] = []
         for stamp in stamps:
             try:
@@ -224,14 +236,15 @@ class Copies:
 
 # ---- the program
 
+
 def free_port() -> int:
     with socket.socket() as probe:
         probe.bind(("127.0.0.1", 0))
-        return probe.getsockname()[1]
+        return int(probe.getsockname()[1])
 
 
 def answered(port: int, path: str, timeout: float = 60) -> tuple[int, bytes]:
-    """The status and the body of a reply of the program."""
+    """The status and the body of the program's reply."""
     asked = http.client.HTTPConnection("127.0.0.1", port, timeout=timeout)
     try:
         asked.request("GET", path, headers={"connection": "close"})
@@ -244,12 +257,14 @@ def answered(port: int, path: str, timeout: float = 60) -> tuple[int, bytes]:
 
 
 class Opened:
-    """The program with a file, for one connection at a port of 127.0.0.1. It ends by itself after that, or is killed."""
+    """The program, serving a file for one connection on 127.0.0.1. It ends after that by itself, or is killed."""
 
     def __init__(self, program: str, path: str) -> None:
         self.path, self.port = path, free_port()
         words = [program, "serve", "--db", path, "--port", str(self.port), "--connections", "1"]
-        self.process = subprocess.Popen(words, stdin=subprocess.DEVNULL, stdout=subprocess.PIPE, stderr=subprocess.PIPE, preexec_fn=die_with_parent)
+        self.process = subprocess.Popen(
+            words, stdin=subprocess.DEVNULL, stdout=subprocess.PIPE, stderr=subprocess.PIPE, preexec_fn=die_with_parent
+        )
 
     def __enter__(self) -> "Opened":
         return self
@@ -260,19 +275,21 @@ class Opened:
         self.process.communicate()
 
     def asked(self, name: str, route: str) -> tuple[int, bytes]:
-        """The reply for a route, or why the program doesn't serve the file, which people know by this name."""
-        if not (select.select([self.process.stdout], [], [], OPENED_WITHIN)[0] and self.process.stdout.readline()):
+        """The reply for a route, or why the program doesn't serve the file. Messages call the file by this name."""
+        out, errors = self.process.stdout, self.process.stderr
+        assert out and errors, "both are pipes"
+        if not (select.select([out], [], [], OPENED_WITHIN)[0] and out.readline()):
             self.process.kill()
-            raise Refused(f"{name} is not opened by the program: {self.process.stderr.read().decode().strip()}")
+            raise Refused(f"{name} can't be opened by the program: {errors.read().decode().strip()}")
         return answered(self.port, route)
 
     def ended(self) -> bool:
-        """Whether the program ended well after its connection."""
+        """Whether the program succeeded after its connection."""
         return self.process.wait(60) == 0
 
 
 def asked_of_program(program: str, path: str, name: str, route: str, ends: bool = False) -> tuple[int, bytes]:
-    """What the program answers with a file open; `ends` wants it to end well after that. Anybody on the machine may use up its one
+    """What the program answers with a file open; with `ends` it also has to succeed after that. Anybody on the machine may use up its one
     connection, so a question without an answer is asked once more."""
     for last in (False, True):
         with Opened(program, path) as opened:
@@ -283,22 +300,22 @@ def asked_of_program(program: str, path: str, name: str, route: str, ends: bool 
                     raise
                 continue
             if ends and not opened.ended():
-                raise Refused(f"the program did not end well with {name}")
+                raise Refused(f"the program failed after opening {name}")
             return reply
     raise AssertionError
 
 
 def try_by_program(program: str, path: str, contents: Contents) -> None:
-    """Opens a file, which is not kept, by the program, and reads its newest deposit."""
+    """Has the program open a throw-away copy, and reads its newest deposit."""
     route, wanted = contents.newest()
     if asked_of_program(program, path, contents.name, route) != (200, wanted):
-        raise contents.refused(f"the program answers {route} with something else")
+        raise contents.refused(f"the program answers {route} with something different")
 
 
 def made_by_program(program: str, path: str) -> None:
-    """Has the program make an archive; its log has nothing, and is removed."""
+    """Has the program create an archive. Its log is empty, and is removed."""
     if asked_of_program(program, path, path, "/deposits/after/0", ends=True) != (200, b'{"deposits":[]}'):
-        raise Refused(f"the program made no archive at {path}")
+        raise Refused(f"the program created no archive at {path}")
     if has_commit(path):
-        raise Refused(f"{path}-wal has what should be in {path}")
+        raise Refused(f"{path}-wal contains what should be in {path}")
     os.remove(path + "-wal")

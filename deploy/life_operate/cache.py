@@ -1,4 +1,4 @@
-"""nginx's cache, which shows what a number named before. It belongs to nginx's user, whose links no other user follows."""
+"""nginx's cache, which still has what a number named before a restore. It belongs to nginx's user; no other user follows links in it."""
 import contextlib
 import errno
 import os
@@ -9,7 +9,7 @@ from collections.abc import Callable, Iterator
 from life_operate.archive import Refused
 from life_operate.identity import call_as
 
-# What was in the cache is moved here first, beside it: removing it can take long.
+# The content of the cache is first moved here, next to it, because removing it can take long.
 OLD = ".old-"
 FOLDER = os.O_RDONLY | os.O_DIRECTORY | os.O_NOFOLLOW
 
@@ -25,16 +25,16 @@ def opened(name: str, within: int | None = None, flags: int = FOLDER) -> Iterato
 
 @contextlib.contextmanager
 def site_and_cache(folder: str) -> Iterator[tuple[int, int] | None]:
-    """The folder of the site and that of the cache in it, open; nothing if there is no cache."""
+    """Opens the site's folder and the cache in it; None if there is no cache."""
     with contextlib.ExitStack() as stack:
         try:
             site = stack.enter_context(opened(folder, flags=os.O_RDONLY | os.O_DIRECTORY))
-            found = site, stack.enter_context(opened("cache", site))
+            found: tuple[int, int] | None = (site, stack.enter_context(opened("cache", site)))
         except FileNotFoundError:
             found = None
         except OSError as fault:
             if fault.errno in (errno.ELOOP, errno.ENOTDIR):
-                raise Refused(f"{folder}/cache is a link, or no folder, and nothing behind it is removed") from fault
+                raise Refused(f"{folder}/cache is a link or not a folder, so nothing was removed") from fault
             raise
         yield found
 
@@ -55,12 +55,12 @@ def move(name: str, cache: int, old: int) -> None:
     except OSError as fault:
         if fault.errno != errno.EXDEV:
             raise
-        # The cache is a disk of its own.
+        # The cache is a separate disk.
         shutil.rmtree(name, dir_fd=cache)
 
 
 def move_away(folder: str) -> int:
-    """Empties the cache, with a rename for each name in it. How many names that were."""
+    """Empties the cache by renaming everything in it; returns how many names that were."""
     with site_and_cache(folder) as found:
         names = os.listdir(found[1]) if found else []
         if found and names:
@@ -69,26 +69,28 @@ def move_away(folder: str) -> int:
             with opened(place, found[0]) as old:
                 for name in names:
                     move(name, found[1], old)
-                # After a power cut, too, nothing old is shown.
+                # So that nothing old is served after a power cut either.
                 os.fsync(found[1])
         return len(names)
 
 
 def remove_old(folder: str) -> None:
-    """Removes what was moved away, also by a command that was killed."""
+    """Removes what was moved away, including what a killed command left."""
     with site_and_cache(folder) as found:
-        for name in os.listdir(found[0]) if found else []:
+        if found is None:
+            return
+        for name in os.listdir(found[0]):
             if name.startswith(OLD):
                 shutil.rmtree(name, ignore_errors=True, dir_fd=found[0])
 
 
 def as_owner(function: Callable[[str], object], folder: str) -> object:
-    """Does one of these things as the user whose folder it is."""
+    """Calls one of these functions as the user who owns the folder."""
     if os.geteuid() != 0 or not os.path.isdir(folder):
         return function(folder)
     number = os.stat(folder).st_uid
     try:
         owner = pwd.getpwuid(number)
     except KeyError as fault:
-        raise Refused(f"{folder} is of user {number}, who has no name") from fault
+        raise Refused(f"{folder} belongs to user {number}, who has no name") from fault
     return call_as(owner, function, folder)

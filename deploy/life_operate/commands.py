@@ -1,4 +1,4 @@
-"""What the commands share that exchange an archive: their worker, and what the helper does for it."""
+"""What the commands that replace an archive share: their worker, and what the helper does for it."""
 import functools
 import subprocess
 import sys
@@ -11,18 +11,26 @@ from life_operate.identity import Action, Helper
 from life_operate.settings import end_if_unusable
 from life_operate.signals import Interrupted, Signals
 
-# The settings that these commands read: they work if others are wrong.
+# The settings that these commands read: they work even if others are invalid.
 NEEDED = ("PROGRAM", "ARCHIVE", "BACKUP_FOLDER", "LIFE_USER", "LIFE_PORT", "WEB_FOLDER")
 # What a command does, as the user of the archive.
 Worker = Callable[[dict[str, str], Helper, Signals], None]
 
 
 def systemctl(word: str) -> tuple[str, None]:
-    """Asks systemd. A session of its own keeps a Ctrl-C away: a stop that has begun ends."""
+    """Runs systemctl in its own session, so that Ctrl-C does not interrupt a stop that has begun."""
     if word not in ("is-active", "stop", "start", "reset-failed"):
-        raise Refused(f"systemctl {word} is not for this")
+        raise Refused(f"systemctl {word} is not allowed here")
     output = subprocess.PIPE if word in ("is-active", "reset-failed") else None
-    done = subprocess.run(["systemctl", word, UNIT], stdin=subprocess.DEVNULL, stdout=output, stderr=output, text=True, start_new_session=True, check=False)
+    done = subprocess.run(
+        ["systemctl", word, UNIT],
+        stdin=subprocess.DEVNULL,
+        stdout=output,
+        stderr=output,
+        text=True,
+        start_new_session=True,
+        check=False,
+    )
     if word == "is-active":
         return ("yes" if done.stdout.strip() in ("active", "activating", "reloading") else "no"), None
     if done.returncode and word != "reset-failed":
@@ -31,7 +39,8 @@ def systemctl(word: str) -> tuple[str, None]:
 
 
 def actions(folder: str, paths: list[str]) -> dict[str, Action]:
-    """What a helper does: systemd, the cache below a folder, and files of these paths."""
+    """What a helper does: systemctl, the cache below a folder, and opening files with these paths."""
+
     def of_cache(function: Callable[[str], object]) -> tuple[str, None]:
         return str(cache.as_owner(function, folder)), None
 
@@ -41,11 +50,13 @@ def actions(folder: str, paths: list[str]) -> dict[str, Action]:
         return "", identity.open_plain(path)
 
     functions = {"look-cache": cache.look, "empty-cache": cache.move_away, "remove-old-cache": cache.remove_old}
-    return {"systemctl": systemctl, "open": file} | {name: functools.partial(of_cache, function) for name, function in functions.items()}
+    return {"systemctl": systemctl, "open": file} | {
+        name: functools.partial(of_cache, function) for name, function in functions.items()
+    }
 
 
 def run_worker(name: str, settings: dict[str, str], worker: Worker, helper: Helper) -> None:
-    """A worker in its process, with its end in words."""
+    """Runs a worker, and reports how it ended."""
     signals = Signals()
     try:
         worker(settings, helper, signals)
@@ -60,13 +71,15 @@ def run_worker(name: str, settings: dict[str, str], worker: Worker, helper: Help
 
 
 def run(name: str, path: str, paths: list[str], worker: Worker) -> None:
-    """Runs a command by the settings of a file, as the user of the archive, and ends with its status."""
+    """Runs a command with the settings of a file, as the user of the archive, and ends with its status."""
     settings = end_if_unusable(name, path, NEEDED)
     try:
         user = identity.user_of(settings["LIFE_USER"])
-        status = identity.split(user, functools.partial(run_worker, name, settings, worker), actions(settings["WEB_FOLDER"], paths))
+        status = identity.split(
+            user, functools.partial(run_worker, name, settings, worker), actions(settings["WEB_FOLDER"], paths)
+        )
     except Refused as fault:
         sys.exit(f"{name}: {fault}")
     if status < 0:
-        sys.exit(f"{name}: it was killed by signal {-status}; life-restore without a copy finishes or undoes what it began")
+        sys.exit(f"{name}: killed by signal {-status}; life-restore without a copy finishes or undoes what it began")
     sys.exit(status)

@@ -1,33 +1,53 @@
-"""Brings the settings of a club to where they are used. Run as root, after /etc/life/settings was changed.
+"""Puts a club's settings into effect. Run it as root after a change of /etc/life/settings.
 
     life-configure [--files-only] [--replace] [--root FOLDER]
 
 Units that differ from those of the package are written into /etc/systemd/system. If the gateway is installed, nginx's site, HAProxy's
-configuration and a file for logrotate go to their places. What nginx, HAProxy or logrotate refuses is not kept. A file that was changed by
-hand stays, and what the settings make of it is put beside it as FILE.dpkg-dist; with --replace it is moved to FILE.dpkg-old instead.
+configuration and a file for logrotate go to their places. A file that nginx, HAProxy or logrotate refuses is not kept. A file that was
+changed by hand stays, and the new one is put beside it as FILE.dpkg-dist; with --replace it is moved to FILE.dpkg-old instead.
 
-Unless --files-only is given, whatever is newer than what runs is then loaded, and nginx is asked whether it has taken the site: it refuses
-some changes only when it runs. FOLDER is in place of /.
+Unless --files-only is given, everything that is newer than what runs is then loaded, and nginx is asked whether it has accepted the site:
+it refuses some changes only while it runs. FOLDER replaces /.
+
+A signal ends it after the current file, which is then wholly the old one or the new one; the next life-configure does the rest. After a
+kill it first puts back what nginx, HAProxy or logrotate had not yet accepted.
 """
 import argparse
+import contextlib
+import fcntl
 import hashlib
 import os
 import re
 import shutil
 import subprocess
 import sys
+from collections.abc import Callable
 
 from life_operate import settings as life_settings
+from life_operate.archive import Refused
+from life_operate.exchange import folder_lock
 from life_operate.loading import load
 from life_operate.settings import Wrong
+from life_operate.signals import Interrupted, Signals, end_by
 from life_operate.templates import GATEWAY, TEMPLATES, filled_templates
 
-# The first line of a file of ours, with the digest of the rest. Release 1.0.0 wrote none.
+# The first line of a file that life-configure wrote, with the digest of the rest. Release 1.0.0 wrote no digest.
 MARK = "# Made by life-configure from /etc/life/settings"
 MARKED = re.compile(re.escape(MARK) + r"(?:, digest ([0-9a-f]{64}))?\.\n")
-PLACES = {"life-site.conf": "etc/nginx/sites-available/life", "haproxy.cfg": "etc/life/haproxy.cfg", "life-logrotate": "etc/logrotate.d/life-gateway"}
-CHECKS = {"life-site.conf": ["nginx", "-t", "-q"], "haproxy.cfg": ["haproxy", "-c", "-q", "-f", "/etc/life/haproxy.cfg"],
-          "life-logrotate": ["logrotate", "--debug", "/etc/logrotate.d/life-gateway"]}
+# A file that is being written, and what was there until its program has taken the new one. logrotate passes over both.
+NEW, BEFORE = ".dpkg-new", ".dpkg-tmp"
+# How long it waits for another life-configure, in seconds.
+WITHIN = 120
+PLACES = {
+    "life-site.conf": "etc/nginx/sites-available/life",
+    "haproxy.cfg": "etc/life/haproxy.cfg",
+    "life-logrotate": "etc/logrotate.d/life-gateway",
+}
+CHECKS = {
+    "life-site.conf": ["nginx", "-t", "-q"],
+    "haproxy.cfg": ["haproxy", "-c", "-q", "-f", "/etc/life/haproxy.cfg"],
+    "life-logrotate": ["logrotate", "--debug", "/etc/logrotate.d/life-gateway"],
+}
 
 
 def content(path: str) -> str | None:
@@ -38,17 +58,33 @@ def content(path: str) -> str | None:
 
 
 def write(path: str, text: str | None) -> bool:
-    """Writes a file, or removes it if there is no text. Whether that changed it."""
+    """Writes a file, or removes it if there is no text; returns whether that changed it."""
     if content(path) == text:
         return False
     if text is None:
         os.remove(path)
         return True
     os.makedirs(os.path.dirname(path), exist_ok=True)
-    with open(path + ".new", "w", encoding="utf-8", errors="surrogateescape") as file:
-        file.write(text)
-    os.replace(path + ".new", path)
+    try:
+        with open(path + NEW, "w", encoding="utf-8", errors="surrogateescape") as file:
+            file.write(text)
+        os.replace(path + NEW, path)
+    finally:
+        with contextlib.suppress(FileNotFoundError):
+            os.remove(path + NEW)
     return True
+
+
+def bring_back(path: str) -> None:
+    """Puts back what was there before a file that its program has not taken: it was refused, or life-configure was killed. An empty text was no
+    file."""
+    before = content(path + BEFORE)
+    if before:
+        os.replace(path + BEFORE, path)
+    elif before is not None:
+        for name in (path, path + BEFORE):
+            with contextlib.suppress(FileNotFoundError):
+                os.remove(name)
 
 
 def digest_of(text: str) -> str:
@@ -60,60 +96,81 @@ def marked(text: str) -> str:
 
 
 def is_ours(text: str) -> bool:
-    """Whether life-configure wrote this text, and nobody has changed it since. Of a text of release 1.0.0 nobody knows: it counts as ours."""
+    """Whether life-configure wrote this text and nobody has changed it since. A text from release 1.0.0 can't be checked, and counts as such."""
     mark = MARKED.match(text)
-    return mark is not None and mark[1] in (None, digest_of(text[mark.end():]))
+    return mark is not None and mark[1] in (None, digest_of(text[mark.end() :]))
 
 
 def stays(path: str, text: str | None, replace: bool) -> bool:
-    """Whether a file stays because somebody has changed it; then the text is put beside it. One that is replaced is moved away."""
+    """Whether a file stays because somebody has changed it. If so, the text is put beside it; if it is replaced, it is moved away."""
+    with contextlib.suppress(FileNotFoundError):
+        # Left by a life-configure that was killed.
+        os.remove(path + NEW)
     there = content(path)
     if there is None or is_ours(there):
         return False
     if replace:
-        os.replace(path, path + ".dpkg-old")
+        # The file itself stays until the new one has its name.
+        shutil.copy2(path, path + ".dpkg-old")
         print(f"{path} was changed by hand; it is now {path}.dpkg-old")
         return False
     write(path + ".dpkg-dist", text)
-    print(f"{path} was changed by hand and stays" + (f"; what the settings make of it is in {path}.dpkg-dist" if text else ""), file=sys.stderr)
+    print(
+        f"{path} was changed by hand and stays"
+        + (f"; what the settings make of it is in {path}.dpkg-dist" if text else ""),
+        file=sys.stderr,
+    )
     return True
 
 
 def put_unit(root: str, name: str, text: str, replace: bool) -> bool:
-    """A unit in place of the package's, if the settings make it another one. Whether something has changed."""
+    """Writes a unit that replaces the package's, if the settings make it differ; returns whether something changed."""
     path = os.path.join(root, "etc/systemd/system", name)
     own = None if text == content(os.path.join(root, "usr/lib/systemd/system", name)) else marked(text)
     return not stays(path, own, replace) and write(path, own)
 
 
 def put_checked(root: str, name: str, text: str, replace: bool) -> bool:
-    """A file that its program has to take, if it is here: else what was there is there again. Whether something has changed."""
+    """Writes a file that its program, if installed, has to accept; otherwise the old file stays. Returns whether something changed."""
     path = os.path.join(root, PLACES[name])
-    before = content(path)
-    if stays(path, marked(text), replace) or not write(path, marked(text)):
+    if stays(path, marked(text), replace) or content(path) == marked(text):
         return False
-    # Another root's files are not those that a program here would look at.
+    # With --root, the files are not those that the programs of this machine read.
     if root != "/" or not shutil.which(CHECKS[name][0]):
-        return True
-    done = subprocess.run(CHECKS[name], capture_output=True, text=True, check=False)
+        return write(path, marked(text))
+    write(path + BEFORE, content(path) or "")
+    write(path, marked(text))
+    # A session of its own keeps a Ctrl-C away, which would look like a refusal.
+    done = subprocess.run(CHECKS[name], capture_output=True, text=True, start_new_session=True, check=False)
     if done.returncode:
-        write(path, before)
-        raise Wrong(f"{path} is as it was: {(done.stderr or done.stdout).strip().splitlines()[0]}")
+        bring_back(path)
+        raise Wrong(f"{path} was not changed: {(done.stderr or done.stdout).strip().splitlines()[0]}")
+    os.remove(path + BEFORE)
     return True
 
 
-def put_all(root: str, settings: dict[str, str], replace: bool) -> list[str]:
-    """The names of what has changed."""
+def put_all(root: str, settings: dict[str, str], replace: bool, signals: Signals) -> list[str]:
+    """The names of what has changed. A signal waits for the end of a file."""
     files = filled_templates(TEMPLATES, settings) | filled_templates(GATEWAY, settings)
-    # HAProxy's configuration and the site come before the units, so that a refusal leaves these as they were.
-    changed = [name for name in PLACES if name in files and put_checked(root, name, files[name], replace)]
-    return changed + [name for name in files if name not in PLACES and put_unit(root, name, files[name], replace)]
+    changed = []
+    # HAProxy's configuration and the site come before the units, so that the units stay unchanged if one is refused.
+    for name in [*(name for name in PLACES if name in files), *(name for name in files if name not in PLACES)]:
+        put = put_checked if name in PLACES else put_unit
+        with signals.held_back():
+            changed += [name] if put(root, name, files[name], replace) else []
+        signals.check()
+    return changed
 
 
 def judge(settings: dict[str, str], files_only: bool) -> None:
-    """Ends if passwords would travel in clear, or could not be read. An upgrade, which wants files only, says so and goes on. Times that don't
-    go together are said: those of release 1.0.0 don't."""
-    for judged, is_firm in ((life_settings.judge_passwords, True), (life_settings.judge_reader, True), (life_settings.judge_times, False)):
+    """Ends if passwords would travel unencrypted or could not be read. An upgrade, which only writes files, reports that and continues.
+    Times that don't fit together are only reported, since those of release 1.0.0 don't fit."""
+    judges: list[tuple[Callable[[dict[str, str]], None], bool]] = [
+        (life_settings.judge_passwords, True),
+        (life_settings.judge_reader, True),
+        (life_settings.judge_times, False),
+    ]
+    for judged, is_firm in judges:
         try:
             judged(settings)
         except Wrong as fault:
@@ -122,18 +179,32 @@ def judge(settings: dict[str, str], files_only: bool) -> None:
             print(f"life-configure: {fault}", file=sys.stderr)
 
 
+def configure(words: argparse.Namespace, settings: dict[str, str], signals: Signals) -> None:
+    """Writes all files, and has what runs read them."""
+    with signals.held_back():
+        for place in PLACES.values():
+            bring_back(os.path.join(words.root, place))
+    changed = put_all(words.root, settings, words.replace, signals)
+    print("changed: " + (", ".join(changed) or "nothing"), flush=True)
+    if not words.files_only and os.path.isdir("/run/systemd/system"):
+        load(changed, settings, os.path.join(words.root, PLACES["life-site.conf"]))
+
+
 def main() -> None:
     parser = argparse.ArgumentParser(description=__doc__, formatter_class=argparse.RawDescriptionHelpFormatter)
     parser.add_argument("--files-only", action="store_true")
     parser.add_argument("--replace", action="store_true")
     parser.add_argument("--root", default="/", metavar="FOLDER")
     words = parser.parse_args()
-    settings = life_settings.end_if_wrong("life-configure", os.path.join(words.root, life_settings.USUAL.lstrip("/")))
+    path = os.path.join(words.root, life_settings.USUAL.lstrip("/"))
+    settings = life_settings.end_if_wrong("life-configure", path)
     judge(settings, words.files_only)
     try:
-        changed = put_all(words.root, settings, words.replace)
-        print("changed: " + (", ".join(changed) or "nothing"), flush=True)
-        if not words.files_only and os.path.isdir("/run/systemd/system"):
-            load(changed, settings, os.path.join(words.root, PLACES["life-site.conf"]))
-    except (OSError, Wrong) as fault:
+        signals = Signals()
+        with folder_lock(os.path.dirname(path), fcntl.LOCK_EX, WITHIN, "another life-configure is at work"):
+            configure(words, settings, signals)
+    except (OSError, Refused, Wrong) as fault:
         sys.exit(f"life-configure: {fault}")
+    except Interrupted as end:
+        print(f"life-configure: {end}; the next life-configure does the rest", file=sys.stderr, flush=True)
+        end_by(end.number)

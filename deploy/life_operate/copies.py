@@ -1,77 +1,99 @@
-"""A copy of an archive as one file, also while `life serve` has it.
+"""Copies an archive into one file, even while `life serve` has it open.
 
     life-copy ARCHIVE COPY
     life-copy [--settings FILE]
     life-copy [--settings FILE] --before VERSION
 
-The second form makes the copy of a club by its settings (/etc/life/settings), under a name of its own in BACKUP_FOLDER:
-club-2026-11-26T0715.db, in UTC. It looks for room on the disk first, and the program itself opens the copy and reads its newest deposit.
-Then copies that are too many are removed, and the newest one goes to SECOND_PLACE, as one file for each day. The third form makes the copy
-before an upgrade from VERSION, before-VERSION.db there: no rule removes it, and without an archive that should be there it is refused.
+The second form makes a copy for a club, as its settings (/etc/life/settings) say, with the time in its name: club-2026-11-26T0715.db in
+BACKUP_FOLDER, in UTC. It first checks the room on the disk, and has the program open the copy and read its newest deposit. Then it
+removes surplus copies and sends the newest one to SECOND_PLACE, one file for each day. The third form makes the copy before an upgrade
+from VERSION, before-VERSION.db in the same folder. No rule removes that one. If the archive is missing but should exist, it refuses.
 
-A copy is made in a folder beside its place, and gets its name only when it is whole and on the disk. It has to have all that the copy of
-that name, or the newest copy of a club, has: as many deposits and censuses, and the same ones. A copy that a program has open, or
-beside which a log has a commit, is not replaced. Whatever hinders the copy is one line on standard error, and the status is 1.
+A copy is made in a folder next to its place, and gets its name only when it is whole and on the disk. It must have everything that the
+copy of that name, or the club's newest copy, has: at least as many deposits and censuses, and the same ones. A copy is not replaced if a
+program has it open, or if a log beside it has a commit. If the copy fails, one line on standard error says why, and the status is 1.
 
-Typed by root, the second form becomes the user of the archive first, and the first form the user to whom the folder of COPY belongs.
+Run by root, the second form first becomes the user of the archive, and the first form the user who owns the folder of COPY. If that is root,
+the user of ARCHIVE makes the copy in a folder next to it, and root takes its bytes: root opens nothing that another user may have planted.
 """
 import argparse
 import contextlib
 import datetime
 import fcntl
+import functools
 import os
 import pwd
 import re
 import shutil
 import subprocess
 import sys
+import tempfile
 import time
 from collections.abc import Callable
 from typing import BinaryIO
 
-from life_operate import identity
+from life_operate import commands, identity
 from life_operate import settings as life_settings
-from life_operate.archive import STAMP, Contents, Copies, Refused, copied_in_time, fold, has_commit, lacks, line_of, locked, sync, try_by_program
-from life_operate.exchange import COPY_WITHIN, folder_lock, new_room, remove_old_rooms
-from life_operate.signals import Interrupted, Signals, end_by
+from life_operate.archive import (
+    STAMP,
+    Contents,
+    Copies,
+    Refused,
+    copied_in_time,
+    fold,
+    has_commit,
+    lacks,
+    line_of,
+    locked,
+    state_of,
+    sync,
+    try_by_program,
+)
+from life_operate.exchange import COPY_WITHIN, folder_lock, new_room, remove_old_rooms, say
+from life_operate.identity import Helper
+from life_operate.signals import ENDING, Interrupted, Signals, end_by
 
-# How long the begin of a moment is that names its day, and its month.
+# How many characters of a time name its day, and its month.
 DAY, MONTH = len("2026-11-26"), len("2026-11")
-# The copy, what the program makes of it, and the next one.
+# Room for the copy, what the program makes of it, and the next copy.
 TIMES_THE_ROOM = 3
+# How long rsync may take to end after a signal, in seconds.
+ENDS_WITHIN = 10
 ROOM = ".life-copy-"
-# What refuses a new copy that is not good: it gets the copy's path and what is in it.
+# A function that refuses a bad new copy. It gets the copy's path and content.
 Judge = Callable[[str, Contents], None]
 
 
 # ---- one copy
 
+
 def held(copy: str) -> BinaryIO:
-    """The copy that is there, open, with a lock by which no other program can begin to write to it."""
+    """Opens the existing copy with a lock that keeps other programs from writing to it."""
     if not (file := locked(copy)):
-        raise Refused(f"{copy} stays: a program has it open")
+        raise Refused(f"{copy} was not replaced: a program has it open")
     if has_commit(copy):
-        raise Refused(f"{copy} stays: {copy}-wal has what was written to it since")
+        raise Refused(f"{copy} was not replaced: {copy}-wal has what was written to it since")
     return file
 
 
 def put(new: str, found: Contents, copy: str) -> None:
-    """Gives the new copy its name, unless the one that is there has something that it lacks."""
-    if os.path.exists(copy):
-        # It is open up to the end of this function: the lock would end with it.
-        holding = held(copy)
-        if why := lacks(found, Contents(copy, copy)):
-            raise Refused(why)
-        del holding
-    sync(new)
-    os.replace(new, copy)
-    sync(os.path.dirname(copy))
+    """Gives the new copy its name, unless the existing copy has something that it lacks."""
+    # The existing copy stays open until the new one has its name: closing it ends the lock.
+    with contextlib.ExitStack() as stack:
+        if os.path.exists(copy):
+            stack.enter_context(held(copy))
+            if why := lacks(found, Contents(copy, copy)):
+                raise Refused(why)
+        sync(new)
+        os.replace(new, copy)
+        sync(os.path.dirname(copy))
 
 
 def made(archive: str, copy: str, judge: Judge, signals: Signals) -> Contents:
-    """Makes the copy in a folder beside it; what is in it."""
+    """Makes the copy in a folder next to it, and returns its content."""
     if os.path.exists(copy) and os.path.samefile(archive, copy):
         raise Refused(f"{copy} is the archive itself")
+    remove_old_rooms(os.path.dirname(copy), ROOM)
     with new_room(os.path.dirname(copy), ROOM, signals) as room:
         new = os.path.join(room, "new.db")
         copied_in_time(archive, new)
@@ -84,14 +106,16 @@ def made(archive: str, copy: str, judge: Judge, signals: Signals) -> Contents:
 
 # ---- the copies of a club
 
+
 def quarter_of(stamp: str) -> str:
     return stamp[:13] + str(int(stamp[13:]) // 15)
 
 
 def kept(stamps: list[str], counts: list[int]) -> set[str]:
-    """Of these moments, the newest first, those whose copies stay: the last of each of the latest quarters of an hour, days and months."""
+    """The times, newest first, whose copies are kept: the last one in each of the latest quarters of an hour, days and months."""
     stay: set[str] = set()
-    for period, count in zip((quarter_of, lambda stamp: stamp[:DAY], lambda stamp: stamp[:MONTH]), counts):
+    periods: list[Callable[[str], str]] = [quarter_of, lambda stamp: stamp[:DAY], lambda stamp: stamp[:MONTH]]
+    for period, count in zip(periods, counts):
         newest: dict[str, str] = {}
         for stamp in stamps:
             newest.setdefault(period(stamp), stamp)
@@ -100,26 +124,28 @@ def kept(stamps: list[str], counts: list[int]) -> set[str]:
 
 
 def remove_old(copies: Copies, new: str, counts: list[int]) -> None:
-    """Removes copies that are too many, but for the new one and those that somebody has written to. Those of a time to come neither count
-    nor go: the clock was wrong then, and they would push out all others."""
+    """Removes surplus copies, except the new one and those that somebody has written to. Copies with a time in the future neither count
+    nor are removed: the clock was wrong then, and they would push out all others."""
     past = copies.past()
     stay = kept(past, counts)
     for path in [copies.path(stamp) for stamp in past if stamp not in stay]:
         if path != new and not has_commit(path):
-            os.remove(path)
-            if os.path.exists(path + "-wal"):
+            # The log first: without its copy it would stay for ever.
+            with contextlib.suppress(FileNotFoundError):
                 os.remove(path + "-wal")
+            os.remove(path)
 
 
 def look_for_room(archive: str, folder: str) -> None:
     sizes = [os.path.getsize(path) for path in (archive, archive + "-wal") if os.path.exists(path)]
     wanted, free = TIMES_THE_ROOM * sum(sizes), shutil.disk_usage(folder).free
     if free < wanted:
-        raise Refused(f"{folder} has room for {free:,} bytes, and a copy wants {wanted:,}")
+        raise Refused(f"{folder} has room for {free:,} bytes, but a copy needs {wanted:,}")
 
 
 def judge_by(program: str, before: list[Contents]) -> Judge:
-    """What a new copy of a club has to be: no less than these, and opened by the program."""
+    """The requirements of a club's new copy: it has no less than these, and the program opens it."""
+
     def judge(new: str, found: Contents) -> None:
         for there in before:
             if why := lacks(found, there):
@@ -127,18 +153,36 @@ def judge_by(program: str, before: list[Contents]) -> Judge:
         trial = new + ".trial"
         shutil.copyfile(new, trial)
         try_by_program(program, trial, found)
+
     return judge
 
 
 def send(copy: str, place: str) -> None:
     """Sends a copy to the second place, where there is one file for each day."""
     if place.startswith("/") and os.path.isdir(place) and os.stat(place).st_dev == os.stat(copy).st_dev:
-        raise Refused(f"{copy} is good, and {place} is on the same disk: is the other one mounted?")
-    name = os.path.basename(copy).removesuffix(".db")[:-len("T0000")] + ".db"
-    done = subprocess.run(["rsync", "--ignore-times", "--timeout=600", copy, f"{place.rstrip('/')}/{name}"], capture_output=True, text=True, check=False)
-    if done.returncode:
-        said = done.stderr.strip().splitlines() or ["no word"]
-        raise Refused(f"{copy} is good, and {place} did not take it: {said[0]}")
+        raise Refused(f"{copy} is good, but {place} is on the same disk: is the other disk mounted?")
+    name = os.path.basename(copy).removesuffix(".db")[: -len("T0000")] + ".db"
+    status, errors = run_politely(["rsync", "--ignore-times", "--timeout=600", copy, f"{place.rstrip('/')}/{name}"])
+    if status:
+        said = errors.strip().splitlines() or ["no message"]
+        raise Refused(f"{copy} is good, but could not be sent to {place}: {said[0]}")
+
+
+def run_politely(words: list[str]) -> tuple[int, str]:
+    """The status of a program and what it wrote to standard error. If a signal ends this command, the program gets SIGTERM and some time, so that
+    it removes what it has begun."""
+    with subprocess.Popen(
+        words, stdin=subprocess.DEVNULL, stdout=subprocess.DEVNULL, stderr=subprocess.PIPE, text=True
+    ) as process:
+        try:
+            _, errors = process.communicate()
+            return process.returncode, errors
+        except BaseException:
+            process.terminate()
+            with contextlib.suppress(subprocess.TimeoutExpired):
+                process.wait(ENDS_WITHIN)
+            process.kill()
+            raise
 
 
 METRICS = """# HELP life_copy_time_seconds When the newest good copy was made.
@@ -154,40 +198,53 @@ life_copy_bytes {size}
 """
 
 
-def write_metrics(folder: str, copy: str, found: Contents) -> None:
-    """A file for Prometheus, by its node exporter's textfile collector. Everybody may read it."""
+def write_metrics(folder: str, copy: str, found: Contents, signals: Signals) -> None:
+    """Writes a file for the textfile collector of Prometheus's node exporter. Everybody may read it."""
     path = os.path.join(folder, "life.prom")
+    text = METRICS.format(moment=int(time.time()), size=os.path.getsize(copy), **found.counts)
     with contextlib.suppress(FileNotFoundError):
         os.remove(path + ".new")
-    with open(path + ".new", "x", encoding="utf-8") as file:
-        os.fchmod(file.fileno(), 0o644)
-        file.write(METRICS.format(moment=int(time.time()), size=os.path.getsize(copy), **found.counts))
-    os.replace(path + ".new", path)
+    with signals.held_back():
+        with open(path + ".new", "x", encoding="utf-8") as file:
+            os.fchmod(file.fileno(), 0o644)
+            file.write(text)
+        os.replace(path + ".new", path)
+    signals.check()
 
 
 def club_copy(settings: dict[str, str], signals: Signals) -> str:
-    """The copy of a club; the lines that say what is in it."""
+    """Makes a club's copy, and returns the lines that describe it."""
     archive, folder = os.path.realpath(settings["ARCHIVE"]), os.path.realpath(settings["BACKUP_FOLDER"])
-    with folder_lock(folder, fcntl.LOCK_EX, COPY_WITHIN, f"another command is at the copies in {folder}"):
-        remove_old_rooms(folder, ROOM)
+    with folder_lock(folder, fcntl.LOCK_EX, COPY_WITHIN, f"another command is using the copies in {folder}"):
         look_for_room(archive, folder)
         copies = Copies(archive, folder)
-        # A copy of a time to come is older than its name, so it does not stand for the newest one.
+        # A copy with a time in the future is older than its name says, so it does not count as the newest one.
         found_before = [copies.newest_good(stamps) for stamps in (copies.future(), copies.past())]
         copy = copies.path(datetime.datetime.now(datetime.timezone.utc).strftime(STAMP))
-        found = made(archive, copy, judge_by(settings["PROGRAM"], [before for before, _ in found_before if before]), signals)
-        remove_old(Copies(archive, folder), copy, [int(settings[name]) for name in ("KEEP_QUARTERS", "KEEP_DAYS", "KEEP_MONTHS")])
+        found = made(
+            archive, copy, judge_by(settings["PROGRAM"], [before for before, _ in found_before if before]), signals
+        )
+        remove_old(
+            Copies(archive, folder),
+            copy,
+            [int(settings[name]) for name in ("KEEP_QUARTERS", "KEEP_DAYS", "KEEP_MONTHS")],
+        )
     if settings["METRICS_FOLDER"]:
-        write_metrics(settings["METRICS_FOLDER"], copy, found)
+        write_metrics(settings["METRICS_FOLDER"], copy, found, signals)
     if settings["SECOND_PLACE"]:
         send(copy, settings["SECOND_PLACE"])
     if faults := [fault for _, faults in found_before for fault in faults]:
         raise Refused(f"{copy} is good with {found.text()}, but {faults[0]}")
-    return "\n".join([f"{copy}: {found.text()}", *(f"{copies.path(stamp)} has a time to come, and is passed over" for stamp in copies.future())])
+    return "\n".join(
+        [
+            f"{copy}: {found.text()}",
+            *(f"{copies.path(stamp)} has a time in the future and is ignored" for stamp in copies.future()),
+        ]
+    )
 
 
 def before_upgrade(settings: dict[str, str], version: str, signals: Signals) -> str:
-    """The copy that is made before another version has the archive. No rule removes it, and none of an earlier upgrade is replaced."""
+    """Makes the copy before another version opens the archive. No rule removes it, and it replaces none from an earlier upgrade."""
     archive, folder = os.path.realpath(settings["ARCHIVE"]), os.path.realpath(settings["BACKUP_FOLDER"])
     if not os.path.lexists(archive):
         if os.listdir(folder):
@@ -195,7 +252,9 @@ def before_upgrade(settings: dict[str, str], version: str, signals: Signals) -> 
         return f"{archive} is not there, and there is no copy of it: there is nothing to copy"
     copy = os.path.join(folder, f"before-{version}.db")
     if os.path.lexists(copy):
-        copy = os.path.join(folder, f"before-{version}-{datetime.datetime.now(datetime.timezone.utc).strftime(STAMP + '%S')}.db")
+        copy = os.path.join(
+            folder, f"before-{version}-{datetime.datetime.now(datetime.timezone.utc).strftime(STAMP + '%S')}.db"
+        )
     look_for_room(archive, folder)
     return one_copy(archive, copy, signals)
 
@@ -204,38 +263,131 @@ def one_copy(archive: str, copy: str, signals: Signals) -> str:
     return f"{copy}: {made(archive, copy, lambda new, found: None, signals).text()}"
 
 
+# ---- rights
+
+
 def give_up_rights(owner: pwd.struct_passwd) -> None:
-    """Root works as somebody else in that user's folders."""
+    """Does the work as the owner of the folder, if root runs it."""
     if os.geteuid() == 0 and owner.pw_uid != 0:
         identity.become(owner)
 
 
 def owner_of_folder(path: str) -> pwd.struct_passwd:
-    """To whom the folder of a file belongs. Root works in no folder of its own in which others may plant links."""
+    """Who owns the folder of a file. Root refuses to work in a folder of its own in which others may plant links."""
     folder = os.path.dirname(os.path.abspath(path))
     state = os.stat(folder)
     if os.geteuid() == 0 and state.st_uid == 0 and state.st_mode & 0o022:
-        raise Refused(f"{folder} can be written to by others, so root makes no copy there")
+        raise Refused(f"others can write to {folder}, so root makes no copy there")
     try:
         return pwd.getpwuid(state.st_uid)
     except KeyError as fault:
-        raise Refused(f"{folder} is of user {state.st_uid}, who has no name") from fault
+        raise Refused(f"{folder} belongs to user {state.st_uid}, who has no name") from fault
+
+
+def owner_of_archive(path: str) -> pwd.struct_passwd:
+    """To whom an archive belongs: the user of its folder or, if that is root, of the file."""
+    owner = owner_of_folder(path)
+    if owner.pw_uid == 0 and os.path.lexists(path):
+        owner = pwd.getpwuid(os.lstat(path).st_uid)
+    return owner
+
+
+class OwnFolder:
+    """What root does in a folder of its own for a copy that another user makes there: it opens what is there, and gives the new file its name."""
+
+    def __init__(self, copy: str) -> None:
+        self.copy, self.room = os.path.realpath(copy), ""
+        self.before: tuple[int, int, int] | None = None
+
+    def there(self) -> tuple[str, int | None]:
+        """The copy that is there, to be compared with the new one."""
+        if not os.path.exists(self.copy):
+            return "", None
+        file, self.before = held(self.copy), state_of(self.copy)
+        number = os.dup(file.fileno())
+        file.close()
+        return "", number
+
+    def begin(self) -> tuple[str, int | None]:
+        """A new file, for the bytes of the copy."""
+        self.room = tempfile.mkdtemp(prefix=ROOM, dir=os.path.dirname(self.copy))
+        return "", os.open(os.path.join(self.room, "new.db"), os.O_WRONLY | os.O_CREAT | os.O_EXCL, 0o600)
+
+    def put(self) -> tuple[str, int | None]:
+        # The lock ends with the function, so nobody begins to write to what is replaced.
+        holding = held(self.copy) if os.path.exists(self.copy) else None
+        if (state_of(self.copy) if holding else None) != self.before:
+            raise Refused(f"{self.copy} has changed meanwhile")
+        new = os.path.join(self.room, "new.db")
+        sync(new)
+        os.replace(new, self.copy)
+        sync(os.path.dirname(self.copy))
+        del holding
+        return "", None
+
+    def end(self) -> None:
+        if self.room:
+            shutil.rmtree(self.room, ignore_errors=True)
+
+
+def copy_for_root(archive: str, copy: str, helper: Helper, signals: Signals) -> None:
+    """Makes the copy as the archive's user, and hands its bytes to root."""
+    archive = os.path.realpath(archive)
+    with new_room(os.path.dirname(archive), ROOM, signals) as room:
+        new, there = os.path.join(room, "new.db"), os.path.join(room, "there.db")
+        copied_in_time(archive, new)
+        fold(new, archive)
+        found = Contents(new, archive)
+        if (number := helper.file("there")) is not None:
+            with os.fdopen(number, "rb") as file, open(there, "xb") as out:
+                shutil.copyfileobj(file, out, 1 << 20)
+            if why := lacks(found, Contents(there, copy)):
+                raise Refused(why)
+        place = helper.file("begin")
+        assert place is not None, "a new file"
+        with os.fdopen(place, "wb") as out, open(new, "rb") as file:
+            shutil.copyfileobj(file, out, 1 << 20)
+        helper.ask("put")
+    say(f"{copy}: {found.text()}")
+
+
+def done_for_root(owner: pwd.struct_passwd, archive: str, copy: str) -> None:
+    """The copy of another user's archive in root's own folder, and the end of this process."""
+    folder, archive = OwnFolder(copy), os.path.abspath(archive)
+    remove_old_rooms(os.path.dirname(folder.copy), ROOM)
+    worker = functools.partial(
+        commands.run_worker,
+        "life-copy",
+        {},
+        lambda _, helper, signals: copy_for_root(archive, folder.copy, helper, signals),
+    )
+    try:
+        status = identity.split(owner, worker, {"there": folder.there, "begin": folder.begin, "put": folder.put})
+    finally:
+        folder.end()
+    for number in ENDING:
+        if status in (128 + number, -number):
+            end_by(number)
+    sys.exit(status)
 
 
 def done(words: argparse.Namespace, signals: Signals) -> str:
     if words.files:
         give_up_rights(owner_of_folder(words.files[1]))
-        # The log of an archive is beside the file itself, also if a link leads there.
-        return one_copy(*map(os.path.realpath, words.files), signals)
+        # The log of an archive is next to the file itself, even if a link leads to the file.
+        archive, copy = words.files
+        return one_copy(os.path.realpath(archive), os.path.realpath(copy), signals)
     settings = life_settings.end_if_wrong("life-copy", words.settings)
-    # rsync wants a folder that its user may read.
+    # rsync needs a current folder that its user may read.
     os.chdir("/")
     give_up_rights(identity.user_of(settings["LIFE_USER"]))
     return before_upgrade(settings, words.before, signals) if words.before else club_copy(settings, signals)
 
 
 def main() -> None:
-    parser = argparse.ArgumentParser(prog="life-copy", description=__doc__, formatter_class=argparse.RawDescriptionHelpFormatter)
+    parser = argparse.ArgumentParser(
+        prog="life-copy", description=__doc__, formatter_class=argparse.RawDescriptionHelpFormatter
+    )
     parser.add_argument("--settings", default=life_settings.USUAL, metavar="FILE")
     parser.add_argument("--before", metavar="VERSION")
     parser.add_argument("files", nargs="*", metavar="ARCHIVE COPY")
@@ -245,6 +397,13 @@ def main() -> None:
     if len(words.files) not in (0, 2):
         parser.error("an archive and a copy, or neither")
     try:
+        if (
+            words.files
+            and os.geteuid() == 0
+            and owner_of_folder(words.files[1]).pw_uid == 0
+            and (owner := owner_of_archive(words.files[0])).pw_uid != 0
+        ):
+            done_for_root(owner, *words.files)
         print(done(words, Signals()))
     except (OSError, Refused) as fault:
         sys.exit(f"life-copy: {line_of(fault)}")

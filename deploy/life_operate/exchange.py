@@ -1,4 +1,4 @@
-"""The one procedure by which another file takes the place of a club's archive.
+"""The one procedure that replaces a club's archive with another file.
 
 The new file is checked and on the disk before anything stops. Then the steps are: stop the service, move the archive and its log away, move
 away copies that have more, empty nginx's cache, rename the new file, start the service. The rename decides. Before it, an error or a signal
@@ -26,20 +26,21 @@ from life_operate.signals import Signals
 UNIT = "life.service"
 JOURNAL = ".exchange"
 ROOM = ".life-exchange-"
-# Rooms of all commands; one that a killed command left is removed when it is so old, in seconds.
+# The commands' private folders. One that a killed command left is removed when it is this old, in seconds.
 ROOMS = (ROOM, ".life-copy-", ".life-new-")
 OLD_ROOM = 86400
-# How long an exchange waits for a copy that is being made, in seconds.
+# How many seconds an exchange waits for a copy that is being made.
 COPY_WITHIN = 600
 
 
 def say(line: str) -> None:
-    """Prints a line. A terminal that was closed is no reason to stop halfway."""
+    """Prints a line. A closed terminal must not stop the command halfway."""
     with contextlib.suppress(OSError):
         print(line, flush=True)
 
 
 # ---- locks and rooms
+
 
 @contextlib.contextmanager
 def folder_lock(folder: str, kind: int, within: float, refusal: str) -> Iterator[None]:
@@ -55,7 +56,7 @@ def folder_lock(folder: str, kind: int, within: float, refusal: str) -> Iterator
                 if time.monotonic() >= end:
                     raise Refused(refusal) from fault
                 if not said:
-                    say(f"{refusal}: this waits for its end")
+                    say(f"{refusal}: waiting until it is done")
                 said = True
                 time.sleep(0.1)
         yield
@@ -76,8 +77,14 @@ def alone(archive: str, copies: str) -> contextlib.ExitStack:
 def remove_old_rooms(folder: str, prefix: str | tuple[str, ...] = ROOMS) -> None:
     """Removes what killed commands have left, once no command can still be using it."""
     for entry in os.scandir(folder):
-        if entry.name.startswith(prefix) and entry.is_dir(follow_symlinks=False) and entry.stat(follow_symlinks=False).st_mtime < time.time() - OLD_ROOM:
-            shutil.rmtree(entry.path, ignore_errors=True)
+        # Another command may remove one meanwhile.
+        with contextlib.suppress(FileNotFoundError):
+            if (
+                entry.name.startswith(prefix)
+                and entry.is_dir(follow_symlinks=False)
+                and entry.stat(follow_symlinks=False).st_mtime < time.time() - OLD_ROOM
+            ):
+                shutil.rmtree(entry.path, ignore_errors=True)
 
 
 @contextlib.contextmanager
@@ -89,15 +96,22 @@ def new_room(folder: str, prefix: str, signals: Signals) -> Iterator[str]:
         signals.check()
         yield room
     finally:
-        with signals.held_back():
+        try:
+            with signals.held_back():
+                shutil.rmtree(room, ignore_errors=True)
+        except BaseException:
+            # A signal came just before it was held back. Later ones do nothing.
             shutil.rmtree(room, ignore_errors=True)
+            raise
 
 
 # ---- what is to be done
 
+
 @dataclasses.dataclass
 class Plan:
     """An exchange, as the journal has it. File names are relative to the archive's folder or to that of the copies."""
+
     command: str
     archive: str
     copies: str
@@ -105,10 +119,10 @@ class Plan:
     aside: str
     # Copies that have more than the new file.
     newer: list[str]
-    # Whether the service is stopped and started, and whether it ran before.
+    # Whether the service is stopped and restarted, and whether it ran before.
     serves: bool = True
     ran: bool = False
-    # Tells the new file from others, whatever its name is.
+    # Identifies the new file, whatever its name is.
     inode: int = 0
 
     @property
@@ -120,9 +134,14 @@ class Plan:
         return os.path.join(self.folder, self.room, "new.db")
 
     def moves(self) -> list[tuple[str, str]]:
-        """What moves away, and where to. The archive goes before its log, so that it never stands there without its log."""
-        away = [(path, os.path.join(self.folder, self.aside, os.path.basename(path))) for path in (self.archive, self.archive + "-wal")]
-        return away + [(os.path.join(self.copies, name), os.path.join(self.copies, self.aside, name)) for name in self.newer]
+        """What moves away, and where to. The archive moves before its log, so that it is never in its place without its log."""
+        away = [
+            (path, os.path.join(self.folder, self.aside, os.path.basename(path)))
+            for path in (self.archive, self.archive + "-wal")
+        ]
+        return away + [
+            (os.path.join(self.copies, name), os.path.join(self.copies, self.aside, name)) for name in self.newer
+        ]
 
     def is_put(self) -> bool:
         """Whether the new file has the archive's name."""
@@ -158,10 +177,13 @@ def read_journal(archive: str) -> Plan | None:
     except FileNotFoundError:
         return None
     except (ValueError, TypeError) as fault:
-        raise Refused(f"{path} can't be read: look what before-restore-.. has, put it back, and remove {path}") from fault
+        raise Refused(
+            f"{path} can't be read: see what is in before-restore-.., put it back, and remove {path}"
+        ) from fault
 
 
 # ---- the steps
+
 
 class Exchange:
     """The steps of a plan, and how they are undone."""
@@ -175,7 +197,7 @@ class Exchange:
             say(f"{UNIT} is stopped")
 
     def start(self) -> None:
-        # After a row of failures systemd refuses each start, until they are forgotten.
+        # After several failures systemd refuses every start until they are reset.
         self.helper.ask("systemctl", "reset-failed")
         self.helper.ask("systemctl", "start")
 
@@ -197,14 +219,14 @@ class Exchange:
         """Gives the new file the archive's name, which must be free, like that of its log."""
         for path in (self.plan.archive, self.plan.archive + "-wal"):
             if os.path.lexists(path):
-                raise Refused(f"{path} has come back")
+                raise Refused(f"{path} exists again")
         os.rename(self.plan.new, self.plan.archive)
 
     def undo(self) -> None:
         """Brings everything back, the log before its file. What somebody else has put there meanwhile stays."""
         for there, away in reversed(self.plan.moves()):
             if os.path.lexists(away) and os.path.lexists(there):
-                say(f"{away} stays where it is: {there} is another file now")
+                say(f"{away} was left where it is: {there} is another file now")
             elif os.path.lexists(away):
                 os.rename(away, there)
         for aside in {os.path.dirname(away) for _, away in self.plan.moves()}:
@@ -221,8 +243,8 @@ class Exchange:
         self.sync(self.plan.copies)
 
     def start_and_forget(self, starts: bool) -> None:
-        """The last step. A service that fails by itself is its unit's matter; if the helper is gone, nothing was started, and the journal stays
-        so that the next command does it."""
+        """The last step. If the service itself fails, its unit reports that. If the helper is gone, nothing was started, and the journal stays
+        so that the next command starts it."""
         try:
             if starts:
                 self.start()
@@ -239,7 +261,8 @@ class Exchange:
 
     def run(self, signals: Signals, look_again: Callable[[], bool]) -> None:
         """Does all steps up to the rename, or none; `finish` does the rest. The caller holds signals back: one that came before the rename
-        undoes everything, a later one does nothing. Once the service is stopped, `look_again` may refuse; it says whether it made the new file anew."""
+        undoes everything, a later one does nothing. Once the service is stopped, `look_again` may refuse; it returns whether it made the new file again.
+        """
         signals.check()
         self.plan.ran = self.plan.serves and self.helper.ask("systemctl", "is-active") == "yes"
         write_journal(self.plan)
@@ -258,11 +281,11 @@ class Exchange:
         # Closing the file anywhere in this process would end the lock, so from here on nothing else opens it.
         held = locked(self.plan.archive) if os.path.exists(self.plan.archive) else None
         if os.path.exists(self.plan.archive) and not held:
-            raise Refused(f"{self.plan.archive} stays: a program other than {UNIT} has it open")
+            raise Refused(f"{self.plan.archive} was not replaced: a program other than {UNIT} has it open")
         try:
             self.move_away()
             signals.check()
-            say(f"the cache of nginx is emptied: {self.helper.ask('empty-cache')} folders")
+            say(f"nginx's cache was emptied: {self.helper.ask('empty-cache')} folders")
             signals.check()
             self.put()
         finally:
@@ -274,19 +297,21 @@ class Exchange:
         try:
             self.undo()
         except (OSError, Refused) as second:
-            raise Refused(f"{line_of(fault)}; then the way back failed: {line_of(second)}; life-restore without a copy tries it again") from fault
+            raise Refused(
+                f"{line_of(fault)}; then undoing it failed: {line_of(second)}; life-restore without a copy tries again"
+            ) from fault
         ran = f"; {UNIT} runs again" if self.plan.serves and self.plan.ran else ""
         say(f"{self.plan.archive} is as it was{ran}")
         self.tidy()
 
     def tidy(self) -> None:
-        """Removes what was in the cache. That can take long; what is left is removed the next time."""
+        """Removes what was in the cache. That can take long; the next command removes what is left."""
         with contextlib.suppress(OSError, Refused):
             self.helper.ask("remove-old-cache")
 
 
 def end_interrupted(archive: str, helper: Helper, signals: Signals) -> bool:
-    """Finishes or undoes what a killed command began, and says whether there was anything. A signal waits for the end of it."""
+    """Finishes or undoes what a killed command began, and returns whether there was anything. A signal waits until that is done."""
     plan = read_journal(archive)
     if plan:
         with signals.held_back():

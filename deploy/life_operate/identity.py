@@ -44,8 +44,8 @@ def become(user: pwd.struct_passwd) -> None:
 
 
 def call_as(user: pwd.struct_passwd, function: Callable[..., object], *words: object) -> object:
-    """Calls a function in a process of its own that has become a user, and returns its result, which must fit into JSON. What it does is short,
-    so it ignores signals."""
+    """Calls a function in a separate process that has become a user, and returns its result, which must fit into JSON. It is short, so the
+    process ignores signals."""
     reading, writing = os.pipe()
     child = os.fork()
     if child == 0:
@@ -92,7 +92,7 @@ def open_plain(path: str) -> int | None:
     state = os.fstat(file)
     if not stat.S_ISREG(state.st_mode) or state.st_nlink != 1:
         os.close(file)
-        raise Refused(f"{path} is no file, or has a second name")
+        raise Refused(f"{path} is not a regular file, or has a second name")
     return file
 
 
@@ -136,7 +136,7 @@ def answer(line: socket.socket, request: bytes, actions: dict[str, Action]) -> N
         text, file = actions[name](*words)
         reply, files = [True, text], [file] if file is not None else []
     except Exception as fault:  # pylint: disable=broad-except
-        # Whatever it is, the worker has to know: it undoes what it did.
+        # Whatever the fault is, the worker has to know it, so that it undoes its steps.
         reply = [False, line_of(fault)]
     socket.send_fds(line, [json.dumps(reply).encode()], files)
     for file in files:
@@ -144,7 +144,7 @@ def answer(line: socket.socket, request: bytes, actions: dict[str, Action]) -> N
 
 
 def work(user: pwd.struct_passwd, line: socket.socket, helper: int, worker: Callable[[Helper], None]) -> None:
-    """The worker's process. In a session of its own, it gets a Ctrl-C once: from the helper, which passes it on."""
+    """The worker's process. In its own session, it gets a Ctrl-C only once: from the helper, which passes it on."""
     status = 1
     try:
         os.setsid()

@@ -1,23 +1,23 @@
-"""A list for finding, made of a copy of an archive: static files that a web server gives out.
+"""Builds the search index of an archive from a copy: static files for a web server.
 
     life-index [--archive FILE] COPY FOLDER
 
-COPY is what life-copy made, or a folder of copies, of which the newest is taken; with --archive only those that life-copy made of FILE
-count. In FOLDER, which is made if it is missing, are then:
+COPY is a copy that life-copy made, or a folder of copies, from which it takes the newest; with --archive, the newest copy of FILE. It
+writes these files into FOLDER, which it creates if necessary:
 
     index.json            how many deposits and censuses there are, and the names of all blocks
-    deposits-N-SUM.json   deposits from N on, at most 1,000: name, author, member, rule, population, width, height, the day first seen
+    deposits-N-SUM.json   up to 1,000 deposits from N on: name, author, member, rule, population, width, height, the day first seen
     censuses-N-SUM.json   censuses from N on: deposit, generation, limit, clusters, unresolved, steady, the day first seen
-    objects-N-SUM.json    for each rule and each code the censuses among these that have it, and how often
-    comments-N-SUM.json   the comments of deposits from N on, at most 1,000 deposits
+    objects-N-SUM.json    for each rule and each code, which of these censuses have it, and how often
+    comments-N-SUM.json   the comments of up to 1,000 deposits from N on
     feed.xml              the newest deposits, as Atom
 
-SUM is the beginning of the SHA-256 digest of the file, so a file of one name never changes. A block of 1,000 is full: as long as the
-archive only grows, it is not made again. An archive has no dates: the day is the one on which this program first saw the row, of UTC,
-or that of SOURCE_DATE_EPOCH. What the index says is not proved; the archive answers for what it leads to.
+SUM is the beginning of the file's SHA-256 digest, so a file with a given name never changes. A block of 1,000 is full: as long as the
+archive only grows, it is not made again. An archive has no dates: the day is when this program first saw the row, in UTC, or that of
+SOURCE_DATE_EPOCH. Nothing about the index is proved; what it links to comes from the archive itself.
 
-If the copy is damaged, or no archive, all files stay as they are. Whatever hinders the index is one line on standard error, and the
-status is 1.
+If the copy is damaged or not an archive, all files stay as they are. If the index can't be built, one line on standard error says why,
+and the status is 1.
 """
 import argparse
 import datetime
@@ -33,6 +33,7 @@ import sys
 import time
 import uuid
 from collections.abc import Iterable
+from typing import Any
 from xml.sax.saxutils import escape
 
 from life_operate.archive import Copies, Refused, sync
@@ -43,26 +44,28 @@ HEAD = "index.json"
 FEED = "feed.xml"
 IN_FEED = 50
 BLOCK_NAME = re.compile(r"(deposits|censuses|objects|comments)-[0-9]+-([0-9a-f]{16})\.json")
-# Blocks that are no longer named stay this long, in seconds: a browser may still have the list that names them.
+# Blocks that are no longer listed stay for this many seconds: a browser may still have the list that names them.
 STAYS = 3600
 # The texts and the header of a canonical pattern file. Its texts have at most 13,500 bytes (docs/FORMATS.md).
 BEGIN_OF_FILE = 14_000
 TEXTS = re.compile(rb"(?:#N (.+)\n)?(?:#O (.+)\n)?((?:#C.*\n)*)x = ([0-9]+), y = ([0-9]+), rule = (.+)\n")
 TABLES = ("deposits", "censuses")
 KINDS = ("deposits", "censuses", "objects", "comments")
-# How many characters of a deposit's comments are in the index: titles and authors are in the first lines.
+# How many characters of a deposit's comments the index keeps. Titles and authors are usually in the first lines.
 MOST_OF_COMMENTS = 1000
 
 
 # ---- the copy
 
+
 def newest(path: str, archive: str | None) -> str:
-    """The copy itself, or the newest one of a folder: of this archive's copies, if one is given, and else of all."""
+    """The copy itself, or the newest one in a folder, of this archive if one is given."""
     if not os.path.isdir(path):
         return path
     if archive:
         copies = Copies(archive, path)
-        found = [copies.path(stamp) for stamp in copies.stamps]
+        # A copy with a time in the future is older than its name says: a clock was wrong.
+        found = [copies.path(stamp) for stamp in copies.past() or copies.stamps]
     else:
         named = [os.path.join(path, name) for name in os.listdir(path) if name.endswith(".db")]
         found = sorted(named, key=lambda copy: (os.stat(copy).st_mtime_ns, copy), reverse=True)
@@ -72,19 +75,21 @@ def newest(path: str, archive: str | None) -> str:
 
 
 class Archive:
-    """What a copy has. The file is only read, and a log beside it is not."""
+    """The content of a copy. The file is only read; a log beside it is ignored."""
 
     def __init__(self, path: str) -> None:
         self.path = path
         with open(path, "rb"):
             pass
-        self.database = sqlite3.connect(pathlib.Path(os.path.realpath(path)).as_uri() + "?mode=ro&immutable=1", uri=True)
+        self.database = sqlite3.connect(
+            pathlib.Path(os.path.realpath(path)).as_uri() + "?mode=ro&immutable=1", uri=True
+        )
         found = self.rows("PRAGMA integrity_check")
         if found != [("ok",)]:
             raise Refused(f"{path} is damaged: {found[0][0].splitlines()[-1]}")
         self.counts = {table: self.count(table) for table in TABLES}
 
-    def rows(self, statement: str, *values: object) -> list[tuple]:
+    def rows(self, statement: str, *values: object) -> list[tuple[Any, ...]]:
         try:
             return self.database.execute(statement, values).fetchall()
         except (sqlite3.Error, UnicodeDecodeError) as fault:
@@ -94,57 +99,91 @@ class Archive:
         count, last = self.rows(f"SELECT count(*), coalesce(max(id), 0) FROM {table}")[0]
         if count != last:
             raise Refused(f"{self.path}: the {table} have gaps")
-        return count
+        return int(count)
 
     def mark(self, counts: dict[str, int]) -> str:
-        """A digest of the first and of the last row of each table that has this many rows. Another archive, or less of this one, has another digest."""
+        """A digest of the first and the last row of each table, up to these numbers of rows. It tells whether an archive is the same, only longer."""
         numbers = [{1, counts[table]} for table in TABLES]
-        rows = [self.rows(f"SELECT id, member, rule, rle FROM deposits WHERE id IN ({', '.join('?' * len(numbers[0]))})", *numbers[0]),
-                self.rows(f"SELECT id, deposit, gens, lim, clusters FROM censuses WHERE id IN ({', '.join('?' * len(numbers[1]))})", *numbers[1])]
+        rows = [
+            self.rows(
+                f"SELECT id, member, rule, rle FROM deposits WHERE id IN ({', '.join('?' * len(numbers[0]))})",
+                *numbers[0],
+            ),
+            self.rows(
+                f"SELECT id, deposit, gens, lim, clusters FROM censuses WHERE id IN ({', '.join('?' * len(numbers[1]))})",
+                *numbers[1],
+            ),
+        ]
         return hashlib.sha256(repr([sorted(found) for found in rows]).encode()).hexdigest()
 
-    # -- blocks: the content of each, from a number on
+    # -- the content of blocks, from a number on
 
-    def deposits(self, first: int) -> dict:
-        rows = self.rows("SELECT id, member, rule, population, substr(rle, 1, ?) FROM deposits WHERE id >= ? ORDER BY id LIMIT ?", BEGIN_OF_FILE, first, BLOCK)
+    def deposits(self, first: int) -> dict[str, Any]:
+        rows = self.rows(
+            "SELECT id, member, rule, population, substr(rle, 1, ?) FROM deposits WHERE id >= ? ORDER BY id LIMIT ?",
+            BEGIN_OF_FILE,
+            first,
+            BLOCK,
+        )
         names, authors, _, widths, heights = zip(*(self.texts(number, rule, text) for number, _, rule, _, text in rows))
         _, members, rules, populations, _ = zip(*rows)
-        return {"first": first, "name": names, "author": columned(authors), "member": columned(members), "rule": columned(rules), "cells": populations,
-                "width": widths, "height": heights}
+        return {
+            "first": first,
+            "name": names,
+            "author": columned(authors),
+            "member": columned(members),
+            "rule": columned(rules),
+            "cells": populations,
+            "width": widths,
+            "height": heights,
+        }
 
-    def comments(self, first: int) -> dict:
-        """For each deposit its comments as one text."""
-        rows = self.rows("SELECT id, rule, substr(rle, 1, ?) FROM deposits WHERE id >= ? ORDER BY id LIMIT ?", BEGIN_OF_FILE, first, BLOCK)
+    def comments(self, first: int) -> dict[str, Any]:
+        """The comments of each deposit as one text."""
+        rows = self.rows(
+            "SELECT id, rule, substr(rle, 1, ?) FROM deposits WHERE id >= ? ORDER BY id LIMIT ?",
+            BEGIN_OF_FILE,
+            first,
+            BLOCK,
+        )
         return {"first": first, "text": [self.texts(*row)[2] for row in rows]}
 
     def texts(self, number: int, rule: str, text: bytes) -> tuple[str, str, str, int, int]:
         """The name, author, comments, width and height that the stored file begins with."""
         found = TEXTS.match(text) if isinstance(text, bytes) else None
         if not found or found[6] != rule.encode():
-            raise Refused(f"{self.path}: deposit {number} is not as an archive writes it")
+            raise Refused(f"{self.path}: deposit {number} is not in the form that an archive writes")
         name, author, comments = ((words or b"").decode(errors="replace") for words in found.group(1, 2, 3))
         lines = (line[2:].strip() for line in comments.split("\n"))
         return name, author, " ".join(filter(None, lines))[:MOST_OF_COMMENTS], int(found[4]), int(found[5])
 
-    def censuses(self, first: int) -> dict:
-        rows = self.rows("SELECT deposit, gens, lim, clusters, unresolved, steady FROM censuses LEFT JOIN census_flags ON census = id WHERE id >= ? ORDER BY id LIMIT ?", first, BLOCK)
+    def censuses(self, first: int) -> dict[str, Any]:
+        rows = self.rows(
+            "SELECT deposit, gens, lim, clusters, unresolved, steady FROM censuses LEFT JOIN census_flags ON census = id WHERE id >= ? ORDER BY id LIMIT ?",
+            first,
+            BLOCK,
+        )
         names = ("deposit", "generation", "limit", "clusters", "unresolved", "steady")
         if any(None in row for row in rows):
             raise Refused(f"{self.path}: a census from {first} on has no flag")
         return {"first": first, **dict(zip(names, zip(*rows)))}
 
-    def objects(self, first: int) -> dict:
-        """For each rule and code the places of its censuses in the block and its counts there, one after the other."""
-        rows = self.rows("SELECT rule, code, census, n FROM census_rows JOIN censuses ON censuses.id = census JOIN deposits ON deposits.id = deposit"
-                         " WHERE census >= ? AND census < ? ORDER BY rule, code, census", first, first + BLOCK)
-        found = {}
+    def objects(self, first: int) -> dict[str, Any]:
+        """For each rule and code, pairs of the place of a census in the block and the count there, as a flat list."""
+        rows = self.rows(
+            "SELECT rule, code, census, n FROM census_rows JOIN censuses ON censuses.id = census JOIN deposits ON deposits.id = deposit"
+            " WHERE census >= ? AND census < ? ORDER BY rule, code, census",
+            first,
+            first + BLOCK,
+        )
+        found: dict[str, dict[str, list[int]]] = {}
         for rule, code, census, count in rows:
             found.setdefault(rule, {}).setdefault(code, []).extend((census - first, count))
         return {"first": first, "rules": found}
 
 
-def columned(values: Iterable[str]) -> dict:
-    """A column whose values repeat: the different ones, and for each row the place of its own."""
+def columned(values: Iterable[str]) -> dict[str, Any]:
+    """A column with repeating values: the distinct values, and for each row the index of its value."""
     different = sorted(set(values))
     places = {value: place for place, value in enumerate(different)}
     return {"of": different, "at": [places[value] for value in values]}
@@ -152,29 +191,35 @@ def columned(values: Iterable[str]) -> dict:
 
 # ---- the folder
 
+
 class Folder:
-    """The index that is there."""
+    """The existing index."""
 
     def __init__(self, path: str) -> None:
         self.path = path
         os.makedirs(path, exist_ok=True)
-        # Two runs at once would remove each other's blocks; the lock ends with the program.
+        # Two runs at the same time would remove each other's blocks. The lock ends with the program.
         self.lock = os.open(path, os.O_RDONLY)
         fcntl.flock(self.lock, fcntl.LOCK_EX)
         self.head = self.read_head()
 
-    def read_head(self) -> dict:
-        """The list of what is there. It is empty if the file is missing or has another version."""
-        nothing = {"version": VERSION, "mark": "", "counts": dict.fromkeys(TABLES, 0), "blocks": {kind: [] for kind in KINDS}}
+    def read_head(self) -> dict[str, Any]:
+        """The list in index.json. It is empty if the file is missing or has another version."""
+        nothing = {
+            "version": VERSION,
+            "mark": "",
+            "counts": dict.fromkeys(TABLES, 0),
+            "blocks": {kind: [] for kind in KINDS},
+        }
         try:
             with open(os.path.join(self.path, HEAD), "rb") as file:
                 head = json.load(file)
-            return head if head["version"] == VERSION and head.keys() >= nothing.keys() else nothing
+            return dict(head) if head["version"] == VERSION and head.keys() >= nothing.keys() else nothing
         except (OSError, ValueError, KeyError, TypeError):
             return nothing
 
     def content(self, name: str) -> bytes | None:
-        """The bytes of a block; none if it is missing, or not as it was written."""
+        """The bytes of a block; None if it is missing or was changed."""
         found = BLOCK_NAME.fullmatch(name)
         try:
             with open(os.path.join(self.path, name), "rb") as file:
@@ -183,8 +228,8 @@ class Folder:
             return None
         return content if found and hashlib.sha256(content).hexdigest().startswith(found[2]) else None
 
-    def block(self, kind: str, place: int) -> dict | None:
-        """A block that the list names; none if it is not there as a whole."""
+    def block(self, kind: str, place: int) -> dict[str, Any] | None:
+        """A block that the list names; None if it is not there as a whole."""
         names = self.head["blocks"].get(kind, [])
         content = self.content(names[place]) if place < len(names) else None
         return json.loads(content) if content else None
@@ -196,16 +241,16 @@ class Folder:
         sync(path + ".new")
         os.replace(path + ".new", path)
 
-    def put(self, kind: str, block: dict) -> str:
-        """Writes a block, if it is not there; its name."""
+    def put(self, kind: str, block: dict[str, Any]) -> str:
+        """Writes a block unless it exists, and returns its name."""
         content = json_of(block)
         name = f"{kind}-{block['first']}-{hashlib.sha256(content).hexdigest()[:16]}.json"
         if self.content(name) is None:
             self.write(name, content)
         return name
 
-    def remove_others(self, head: dict) -> None:
-        """Removes blocks that are not named, once they are old."""
+    def remove_others(self, head: dict[str, Any]) -> None:
+        """Removes old blocks that are no longer listed."""
         named = {name for names in head["blocks"].values() for name in names}
         old = time.time() - STAYS
         for name in os.listdir(self.path):
@@ -220,23 +265,31 @@ def json_of(value: object) -> bytes:
 
 # ---- days
 
-def today() -> str:
-    """The day of this run: that of SOURCE_DATE_EPOCH, if it is set, as for builds that can be repeated."""
+
+def this_moment() -> datetime.datetime:
+    """The time of this run, or SOURCE_DATE_EPOCH, if it is set, for reproducible output."""
     moment = float(os.environ.get("SOURCE_DATE_EPOCH") or time.time())
-    return datetime.datetime.fromtimestamp(moment, datetime.timezone.utc).strftime("%Y-%m-%d")
+    return datetime.datetime.fromtimestamp(moment, datetime.timezone.utc)
 
 
-COMPARED = {"deposits": ("name", "cells", "width", "height"), "censuses": ("deposit", "generation", "limit", "clusters", "unresolved")}
+def today() -> str:
+    return this_moment().strftime("%Y-%m-%d")
 
 
-def common(kind: str, old: dict, new: dict) -> int:
-    """How many rows a block and an older one have in common, from the first on."""
+COMPARED = {
+    "deposits": ("name", "cells", "width", "height"),
+    "censuses": ("deposit", "generation", "limit", "clusters", "unresolved"),
+}
+
+
+def common(kind: str, old: dict[str, Any], new: dict[str, Any]) -> int:
+    """How many rows at their beginning a block and an older one have in common."""
     rows = [zip(*(block[name] for name in COMPARED[kind])) for block in (old, new)]
     return len(list(itertools.takewhile(lambda pair: pair[0] == pair[1], zip(*rows))))
 
 
-def days_of(kind: str, old: dict | None, new: dict) -> list[list]:
-    """When the rows of a block were first seen: `[number, day]` for the first row of each day. Rows that were there keep theirs."""
+def days_of(kind: str, old: dict[str, Any] | None, new: dict[str, Any]) -> list[list[Any]]:
+    """When the rows of a block were first seen: `[number, day]` for the first row of each day. Old rows keep their day."""
     known = new["first"] + (common(kind, old, new) if old else 0)
     end = new["first"] + len(new[COMPARED[kind][0]])
     days = [run for run in old["seen"] if run[0] < known] if old else []
@@ -247,40 +300,91 @@ def days_of(kind: str, old: dict | None, new: dict) -> list[list]:
 
 # ---- the feed
 
+# The identity and the time of an entry, as `feed_of` writes them.
+FEED_TIME = re.compile(r"<id>(urn:uuid:[0-9a-f-]+)</id>\n<updated>([0-9TZ:-]+)</updated>\n<link")
+
+
+def times_in(feed: str) -> dict[str, str]:
+    """When the entries of a feed were first seen, by their identities."""
+    try:
+        with open(feed, encoding="utf-8") as file:
+            return dict(FEED_TIME.findall(file.read()))
+    except (FileNotFoundError, UnicodeDecodeError):
+        return {}
+
+
 def feed_of(archive: Archive, folder: Folder, names: list[str]) -> bytes:
-    """The newest deposits as an Atom feed (RFC 4287), with addresses that are those of the web pages beside it."""
+    """The newest deposits as an Atom feed (RFC 4287), with relative links to the web pages, which the gateway makes absolute.
+    An entry keeps the time that it has in the feed before. A new one is as old as this run, unless the index has an earlier
+    day for it."""
     entries = []
     for name in names[-2:]:
-        entries += entries_of(json.loads(folder.content(name)))
+        if content := folder.content(name):
+            entries += entries_of(json.loads(content))
     entries = entries[-IN_FEED:][::-1]
-    updated = entries[0]["day"] if entries else "1970-01-01"
-    origin = uuid.uuid5(uuid.NAMESPACE_OID, archive.mark({"deposits": min(1, archive.counts["deposits"]), "censuses": 0}))
-    lines = ['<?xml version="1.0" encoding="utf-8"?>', '<feed xmlns="http://www.w3.org/2005/Atom">', "<title>Life archive: new deposits</title>", f"<id>{origin.urn}</id>",
-             f"<updated>{updated}T00:00:00Z</updated>", '<link rel="self" href="/index/feed.xml"/>', '<link href="/"/>', "<author><name>Life archive</name></author>"]
+    origin = uuid.uuid5(
+        uuid.NAMESPACE_OID, archive.mark({"deposits": min(1, archive.counts["deposits"]), "censuses": 0})
+    )
+    known, now = times_in(os.path.join(folder.path, FEED)), this_moment().strftime("%Y-%m-%dT%H:%M:%SZ")
     for entry in entries:
-        title = escape("".join(letter if letter.isprintable() else "\ufffd" for letter in entry["name"] or f"Deposit {entry['number']}"))
+        entry["urn"] = uuid.uuid5(origin, str(entry["number"])).urn
+        early = now if now.startswith(entry["day"]) else f"{entry['day']}T00:00:00Z"
+        entry["time"] = known.get(entry["urn"], early)
+    updated = max((entry["time"] for entry in entries), default="1970-01-01T00:00:00Z")
+    lines = [
+        '<?xml version="1.0" encoding="utf-8"?>',
+        '<feed xmlns="http://www.w3.org/2005/Atom">',
+        "<title>Life archive: new deposits</title>",
+        f"<id>{origin.urn}</id>",
+        f"<updated>{updated}</updated>",
+        '<link rel="self" href="/index/feed.xml"/>',
+        '<link href="/"/>',
+        "<author><name>Life archive</name></author>",
+    ]
+    for entry in entries:
+        title = escape(
+            "".join(
+                letter if letter.isprintable() else "\ufffd" for letter in entry["name"] or f"Deposit {entry['number']}"
+            )
+        )
         said = f"{entry['cells']} cells, {entry['width']} by {entry['height']}, {entry['rule']}"
-        lines += ["<entry>", f"<title>{title}</title>", f"<id>{uuid.uuid5(origin, str(entry['number'])).urn}</id>", f"<updated>{entry['day']}T00:00:00Z</updated>",
-                  f'<link href="/d/{entry["number"]}"/>', f"<author><name>{escape(entry['member'])}</name></author>", f"<summary>{escape(said)}</summary>", "</entry>"]
+        lines += [
+            "<entry>",
+            f"<title>{title}</title>",
+            f"<id>{entry['urn']}</id>",
+            f"<updated>{entry['time']}</updated>",
+            f'<link href="/d/{entry["number"]}"/>',
+            f"<author><name>{escape(entry['member'])}</name></author>",
+            f"<summary>{escape(said)}</summary>",
+            "</entry>",
+        ]
     return "\n".join([*lines, "</feed>", ""]).encode()
 
 
-def entries_of(block: dict) -> list[dict]:
+def entries_of(block: dict[str, Any]) -> list[dict[str, Any]]:
     """The deposits of a block, one by one."""
     days = dict(block["seen"])
     day, found = "", []
     for place, name in enumerate(block["name"]):
         number = block["first"] + place
         day = days.get(number, day)
-        found.append({"number": number, "name": name, "day": day, **{key: block[key][place] for key in ("cells", "width", "height")},
-                      **{key: block[key]["of"][block[key]["at"][place]] for key in ("author", "member", "rule")}})
+        found.append(
+            {
+                "number": number,
+                "name": name,
+                "day": day,
+                **{key: block[key][place] for key in ("cells", "width", "height")},
+                **{key: block[key]["of"][block[key]["at"][place]] for key in ("author", "member", "rule")},
+            }
+        )
     return found
 
 
 # ---- the index
 
+
 def names_of(kind: str, archive: Archive, folder: Folder, grown: bool) -> list[str]:
-    """The names of all blocks of a kind. Full ones stay, if the archive has only grown."""
+    """The names of all blocks of a kind. Full ones are kept if the archive has only grown."""
     table = "deposits" if kind in ("deposits", "comments") else "censuses"
     count, before, names = archive.counts[table], folder.head["counts"][table], []
     for place, first in enumerate(range(1, count + 1, BLOCK)):
@@ -297,13 +401,18 @@ def names_of(kind: str, archive: Archive, folder: Folder, grown: bool) -> list[s
 
 
 def made(copy: str, path: str, own: str | None) -> str:
-    """Makes the index; what it is of."""
+    """Builds the index, and returns a description of it."""
     archive, folder = Archive(newest(copy, own)), Folder(path)
     before = folder.head["counts"]
     grown = folder.head["mark"] != "" and archive.mark(before) == folder.head["mark"]
     blocks = {kind: names_of(kind, archive, folder, grown) for kind in KINDS}
-    head = {"version": VERSION, "mark": archive.mark(archive.counts), "counts": archive.counts, "blocks": blocks,
-            "made": datetime.datetime.now(datetime.timezone.utc).strftime("%Y-%m-%dT%H:%M:%SZ")}
+    head = {
+        "version": VERSION,
+        "mark": archive.mark(archive.counts),
+        "counts": archive.counts,
+        "blocks": blocks,
+        "made": datetime.datetime.now(datetime.timezone.utc).strftime("%Y-%m-%dT%H:%M:%SZ"),
+    }
     folder.write(FEED, feed_of(archive, folder, blocks["deposits"]))
     folder.write(HEAD, json_of(head))
     sync(path)
@@ -312,7 +421,7 @@ def made(copy: str, path: str, own: str | None) -> str:
 
 
 def line_of(fault: Exception) -> str:
-    """One line for people about what hindered the index."""
+    """One line that says why the index could not be built."""
     if isinstance(fault, OSError) and fault.filename:
         return f"{fault.filename}: {fault.strerror}"
     return " ".join(str(fault).split())

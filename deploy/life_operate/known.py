@@ -6,13 +6,27 @@ import os
 import shlex
 import shutil
 
-from life_operate.archive import TABLES, Contents, Copies, Refused, begin_of, copied_in_time, fold, has_commit, lacking, lacks, state_of, try_by_program
+from life_operate.archive import (
+    TABLES,
+    Contents,
+    Copies,
+    Refused,
+    begin_of,
+    copied_in_time,
+    fold,
+    has_commit,
+    lacking,
+    lacks,
+    state_of,
+    try_by_program,
+)
 from life_operate.exchange import say
 
 RESTORE = "life-restore"
 
 
 # ---- what is there
+
 
 class CurrentArchive:
     """The archive that the copy is to replace, as it was when it was read."""
@@ -25,7 +39,9 @@ class CurrentArchive:
                 self.contents = read_archive(archive, os.path.join(room, "there.db"), archive)
                 self.words = self.contents.text()
             except PermissionError as fault:
-                raise Refused(f"{archive} can't be read by the user of the archive: chown it, or move it away with its log") from fault
+                raise Refused(
+                    f"{archive} can't be read by the user of the archive: change its owner, or move it away together with its log"
+                ) from fault
             except Refused as fault:
                 self.words = f"it can't be read: {fault}"
 
@@ -57,6 +73,7 @@ def remove_files(path: str) -> None:
 @dataclasses.dataclass
 class Findings:
     """Everything that a new archive is compared with."""
+
     there: CurrentArchive
     # The newest copy merged with the archive's log, and the path of that copy.
     joined: Contents | None = None
@@ -69,7 +86,7 @@ class Findings:
 
 def join(copy: str, archive: str, new: str, name: str) -> Contents:
     """Merges a copy with the log that is beside the archive's place. A log holds whole pages, so it fits every copy that was made after the
-    log was begun. An older copy lacks pages; since an archive only grows, the check then finds gaps in it."""
+    log began. An older copy lacks pages; since an archive only grows, the check then finds gaps in it."""
     remove_files(new)
     shutil.copyfile(copy, new)
     shutil.copyfile(archive + "-wal", new + "-wal")
@@ -82,10 +99,12 @@ def join(copy: str, archive: str, new: str, name: str) -> Contents:
 
 def known_copies(archive: str, folder: str, new: Contents) -> dict[str, Contents]:
     """The readable copies of a club, from the newest to the first that has nothing more than the new archive: older copies have even less.
-    That rule fails for copies whose time is still to come, so all of them are read."""
+    That rule fails for copies with a time in the future, so all of those are read."""
     found: dict[str, Contents] = {}
-    copies = Copies(archive, folder) if os.path.isdir(folder) else None
-    for stamps, ends in ((copies.past(), True), (copies.future(), False)) if copies else ():
+    if not os.path.isdir(folder):
+        return found
+    copies = Copies(archive, folder)
+    for stamps, ends in ((copies.past(), True), (copies.future(), False)):
         for stamp in stamps:
             with contextlib.suppress(Refused):
                 contents = Contents(copies.path(stamp), copies.path(stamp))
@@ -101,7 +120,10 @@ def gather(archive: str, folder: str, room: str, program: str, new: Contents) ->
     if not found.there.contents and has_commit(archive) and found.copies:
         newest, joined = next(iter(found.copies.values())), os.path.join(room, "joined.db")
         try:
-            found.joined, found.newest = join(newest.name, archive, joined, f"{newest.name} with the log that is there"), newest.name
+            found.joined, found.newest = (
+                join(newest.name, archive, joined, f"{newest.name} with the existing log"),
+                newest.name,
+            )
             try_copy(program, joined, found.joined)
         except Refused:
             found.joined = None
@@ -121,6 +143,7 @@ def try_copy(program: str, path: str, found: Contents) -> None:
 
 # ---- what would be lost
 
+
 def lost_numbers(new: Contents, there: Contents) -> str:
     """The numbers that the current archive has and a new one lacks, in words."""
     found = []
@@ -132,7 +155,7 @@ def lost_numbers(new: Contents, there: Contents) -> str:
 
 
 def differences(new: Contents, there: Contents) -> list[str]:
-    """What shows that these are two archives, and not one archive at two moments."""
+    """The evidence that these are two archives, not one archive at two times."""
     return [part for part in lacking(new, there) if part.startswith("another")]
 
 
@@ -146,14 +169,21 @@ def decide(new: Contents, found: Findings, words: argparse.Namespace) -> None:
     there, count = (others or faults)[0], len(faults) - 1
     more = f" and of {count} {'copy' if count == 1 else 'copies'}" if count else ""
     if others:
-        text = (f"{words.copy} with {new.text_with_first()} is another archive than {there.name} with {there.text_with_first()}: "
-                f"{', '.join(differences(new, there))}")
+        text = (
+            f"{words.copy} with {new.text_with_first()} is a different archive from {there.name} with {there.text_with_first()}: "
+            f"{', '.join(differences(new, there))}"
+        )
         advice = f"if it is the right one: {again}"
     elif found.joined and lacking(new, found.joined):
         text = f"{words.copy} lacks {lost_numbers(new, found.joined)}, which {found.joined.name} has"
-        advice = f"to have them: {shlex.join([RESTORE, '--with-log', found.newest])}; to give these numbers again: {again}"
+        advice = (
+            f"to have them: {shlex.join([RESTORE, '--with-log', found.newest])}; to give these numbers again: {again}"
+        )
     else:
-        text, advice = f"{words.copy} lacks {lost_numbers(new, there)} of {there.name}{more}", f"to put it back, and give these numbers again: {again}"
+        text, advice = (
+            f"{words.copy} lacks {lost_numbers(new, there)} of {there.name}{more}",
+            f"to put it back, and give these numbers again: {again}",
+        )
     if not (words.other or words.older and not others):
         raise Refused(f"{text}; {advice}")
     say(text)

@@ -1,4 +1,4 @@
-"""Has systemd, HAProxy and nginx read what is newer than what runs, and looks whether nginx took it."""
+"""Has systemd, HAProxy and nginx load what is newer than what runs, and checks that nginx accepted it."""
 import http.client
 import os
 import re
@@ -8,7 +8,14 @@ import time
 
 from life_operate.settings import Wrong
 
-UNITS = ("life.service", "life-gateway.service", "life-backup.timer", "life-age.timer", "life-index.timer", "life-watch.timer")
+UNITS = (
+    "life.service",
+    "life-gateway.service",
+    "life-backup.timer",
+    "life-age.timer",
+    "life-index.timer",
+    "life-watch.timer",
+)
 HAPROXY = "/etc/life/haproxy.cfg"
 # When HAProxy last read its configuration. It is gone after a start of the machine, at which HAProxy reads it anyway.
 HAPROXY_READ = "/run/life-gateway.read"
@@ -20,7 +27,8 @@ TAKEN_WITHIN = 10
 
 def systemctl(*words: str) -> None:
     print("systemctl " + " ".join(words), flush=True)
-    if subprocess.run(["systemctl", *words], check=False).returncode:
+    # A session of its own keeps a Ctrl-C away: what has begun ends.
+    if subprocess.run(["systemctl", *words], stdin=subprocess.DEVNULL, start_new_session=True, check=False).returncode:
         raise Wrong(f"systemctl {' '.join(words)} failed")
 
 
@@ -39,13 +47,13 @@ def load_units(changed: list[str]) -> None:
 
 
 def load_haproxy() -> None:
-    """HAProxy's configuration, if it is newer than what HAProxy has read."""
+    """Loads HAProxy's configuration, if it is newer than what HAProxy has read."""
     if not os.path.exists(HAPROXY) or shown("life-gateway.service", "ActiveState") != "active":
         return
     begun = float(shown("life-gateway.service", "ActiveEnterTimestamp").lstrip("@") or 0)
     read = os.path.getmtime(HAPROXY_READ) if os.path.exists(HAPROXY_READ) else 0.0
     written = os.path.getmtime(HAPROXY)
-    # Times of systemd are whole seconds here, so a file of the same second may be newer.
+    # systemd gives times in whole seconds here, so a file from the same second may be newer.
     if written >= max(begun, read):
         systemctl("reload-or-restart", "life-gateway.service")
         with open(HAPROXY_READ, "w", encoding="ascii"):
@@ -54,23 +62,26 @@ def load_haproxy() -> None:
 
 # ---- nginx
 
+
 def address_of(settings: dict[str, str]) -> tuple[str, int]:
-    """Where nginx of this machine is asked, by the setting LISTEN."""
+    """The address at which this machine's nginx listens, from the setting LISTEN."""
     host, _, port = settings["LISTEN"].rpartition(":")
     wild = {"": "127.0.0.1", "*": "127.0.0.1", "0.0.0.0": "127.0.0.1", "[::]": "::1"}
     return wild.get(host, host.strip("[]")), int(port)
 
 
 def name_of(settings: dict[str, str]) -> str:
-    """A name of the site. An address of no name has the site that takes all that no other site has."""
+    """A host name of the site. Without HOST, any name leads to the site that answers for all other names."""
     return settings["HOST"].split()[0].replace("*", "life").strip(".") if settings["HOST"] else "life.invalid"
 
 
 def digest_served(settings: dict[str, str]) -> str:
-    """What nginx says is the digest of the site that it has read, or nothing."""
+    """The digest of the site that nginx has read, as it answers, or nothing."""
     host, port = address_of(settings)
     if settings["TLS"] == "yes":
-        asked: http.client.HTTPConnection = http.client.HTTPSConnection(host, port, timeout=5, context=ssl._create_unverified_context())
+        asked: http.client.HTTPConnection = http.client.HTTPSConnection(
+            host, port, timeout=5, context=ssl._create_unverified_context()
+        )
     else:
         asked = http.client.HTTPConnection(host, port, timeout=5)
     try:
@@ -83,7 +94,7 @@ def digest_served(settings: dict[str, str]) -> str:
 
 
 def digest_in(path: str) -> str:
-    """The digest that a site answers with, or nothing if it has none."""
+    """The digest in a site's file, or nothing if it has none."""
     if not os.path.exists(path):
         return ""
     with open(path, encoding="utf-8", errors="replace") as file:
@@ -92,7 +103,7 @@ def digest_in(path: str) -> str:
 
 
 def load_nginx(changed: list[str], settings: dict[str, str], site: str) -> None:
-    """The site, if nginx has read another one. What nginx refuses only when it runs, such as a cache in another folder, it writes into its log."""
+    """Loads the site, if nginx has read another one. Some changes nginx refuses only while it runs, such as another cache folder; its log says so."""
     if not os.path.exists(ENABLED_SITE) or shown("nginx.service", "ActiveState") != "active":
         return
     wanted = digest_in(site)
@@ -102,12 +113,14 @@ def load_nginx(changed: list[str], settings: dict[str, str], site: str) -> None:
     until = time.monotonic() + TAKEN_WITHIN
     while wanted and digest_served(settings) != wanted:
         if time.monotonic() > until:
-            raise Wrong("nginx goes on with the old site; its error log says why. This loads the new one: systemctl restart nginx.service")
+            raise Wrong(
+                "nginx keeps the old site; its error log says why. To load the new one: systemctl restart nginx.service"
+            )
         time.sleep(0.2)
 
 
 def load(changed: list[str], settings: dict[str, str], site: str) -> None:
-    """Loads what has changed, now or before. A service that is stopped stays so."""
+    """Loads what has changed, now or before. A stopped service stays stopped."""
     load_units(changed)
     load_haproxy()
     load_nginx(changed, settings, site)

@@ -1,10 +1,11 @@
-"""Makes the archive of a club, once. Run as root, or as the user of the archive; all that is done with files is done as that user.
+"""Creates a club's archive, once. Run it as root or as the user of the archive; everything with files is done as that user.
 
     life-new-archive [--settings FILE] [--although-there-are-copies] [--if-missing]
 
-A file that is there stays, and is refused; with --if-missing nothing is said of it. The service makes no archive: a file that is missing is a disk or a path that is wrong. Where
-copies are, or what a restore has moved away, there was an archive before: its numbers would be given again, so this has to be asked for. The
-copies are then moved away into a folder before-new-archive-.. beside them.
+If the file exists, it stays, and the command refuses; with --if-missing it says nothing. The service itself never creates an archive: if
+the file is missing, a disk is not mounted or a path is wrong. If there are copies, or something that a restore moved away, there was an
+archive before, and its numbers would be given again. That needs --although-there-are-copies, which moves the copies away into a folder
+before-new-archive-.. next to them.
 """
 import argparse
 import os
@@ -26,22 +27,29 @@ def copies_in(archive: str, folder: str) -> list[str]:
 
 
 def traces(archive: str, copies: str) -> list[str]:
-    """What shows that there was an archive: copies of it, and what other commands have moved or copied before they changed it."""
+    """The evidence that there was an archive: copies of it, and what other commands have moved away or copied before a change."""
     folders = [folder for folder in sorted({os.path.dirname(archive), copies}) if os.path.isdir(folder)]
-    kept = [os.path.join(folder, name) for folder in folders for name in sorted(os.listdir(folder)) if name.startswith("before-")]
+    kept = [
+        os.path.join(folder, name)
+        for folder in folders
+        for name in sorted(os.listdir(folder))
+        if name.startswith("before-")
+    ]
     return copies_in(archive, copies) + kept
 
 
 def look(archive: str, copies: str, words: argparse.Namespace) -> None:
-    """Refuses a name that is taken, and an archive beside what is left of another one."""
+    """Refuses a name that is taken, and a new archive next to the remains of another one."""
     for path in (archive, archive + "-wal"):
         if os.path.lexists(path):
-            raise Refused(f"{path} is there, and stays")
+            raise Refused(f"{path} exists and was left alone")
     there = traces(archive, copies)
     if there and not words.although_there_are_copies:
         more = f" and {len(there) - 1} more" if len(there) > 1 else ""
-        raise Refused(f"{there[0]}{more}: there was an archive, and its numbers would be given again; life-restore puts a copy back; "
-                      f"for a new archive all the same: {NAME} --although-there-are-copies")
+        raise Refused(
+            f"{there[0]}{more}: there was an archive, and a new one would give its numbers again; life-restore puts a copy back; "
+            f"to create a new archive anyway: {NAME} --although-there-are-copies"
+        )
 
 
 def make_archive(words: argparse.Namespace, settings: dict[str, str], helper: Helper, signals: Signals) -> None:
@@ -66,15 +74,19 @@ def make_archive(words: argparse.Namespace, settings: dict[str, str], helper: He
                 steps.run(signals, lambda: False)
                 steps.finish()
                 steps.tidy()
-    say(f"{archive} is a new archive, of {settings['LIFE_USER']}; its first deposit is number 1")
+    say(f"{archive} is a new archive, owned by {settings['LIFE_USER']}; its first deposit will be number 1")
     if plan.newer:
         say(f"copies of another archive are in {os.path.join(copies, plan.aside)}: {', '.join(plan.newer)}")
 
 
 def main() -> None:
-    parser = argparse.ArgumentParser(prog=NAME, description=__doc__, formatter_class=argparse.RawDescriptionHelpFormatter)
+    parser = argparse.ArgumentParser(
+        prog=NAME, description=__doc__, formatter_class=argparse.RawDescriptionHelpFormatter
+    )
     parser.add_argument("--settings", default=USUAL, metavar="FILE")
     parser.add_argument("--although-there-are-copies", action="store_true")
     parser.add_argument("--if-missing", action="store_true")
     words = parser.parse_args()
-    commands.run(NAME, words.settings, [], lambda settings, helper, signals: make_archive(words, settings, helper, signals))
+    commands.run(
+        NAME, words.settings, [], lambda settings, helper, signals: make_archive(words, settings, helper, signals)
+    )

@@ -1,4 +1,4 @@
-"""Puts a copy in the place of a club's archive. Run as root; everything that is done with files is done as the archive's user.
+"""Replaces a club's archive with a copy. Run it as root; everything with files is done as the archive's user.
 
     life-restore [--settings FILE] [--older | --other] [--with-log] COPY
     life-restore [--settings FILE]
@@ -12,7 +12,7 @@ Then the service stops, the archive and its log move away together, nginx's cach
 service starts and is asked for the newest deposit. Copies that have more than the archive has now move away too. An error or a signal before
 the copy has its name undoes everything. After a kill or a power cut, the next command finishes or undoes it; without COPY it does only that.
 
-The status is 0 if the copy is served, 1 if something hindered that, 2 for a usage error, and 128 + N after signal N.
+The status is 0 if the copy is served, 1 if not, 2 for a usage error, and 128 + N after signal N.
 """
 import argparse
 import contextlib
@@ -26,25 +26,39 @@ from life_operate import commands, exchange
 from life_operate.archive import LEAST_COMMIT, Contents, Refused, answered, begin_of, fold, has_commit, line_of, sync
 from life_operate.exchange import UNIT, say
 from life_operate.identity import Helper
-from life_operate.known import RESTORE, CurrentArchive, copies_with_more, decide, differences, gather, join, lost_numbers, remove_files, try_copy
+from life_operate.known import (
+    RESTORE,
+    CurrentArchive,
+    copies_with_more,
+    decide,
+    differences,
+    gather,
+    join,
+    lost_numbers,
+    remove_files,
+    try_copy,
+)
 from life_operate.settings import USUAL
 from life_operate.signals import Signals
 
 
 # ---- the copy
 
+
 class Source:
     """A copy and its log, open. If the archive's user may not read them, the helper opens them, as root named them."""
 
     def __init__(self, path: str, helper: Helper) -> None:
         self.path = path
-        self.file = self.opened(path, helper)
-        if not self.file:
-            raise Refused(f"{path} is no file")
+        file = self.opened(path, helper)
+        if not file:
+            raise Refused(f"{path} is not a file")
+        self.file = file
         self.log = self.opened(path + "-wal", helper)
 
     @staticmethod
     def opened(path: str, helper: Helper) -> BinaryIO | None:
+        number: int | None
         try:
             number = os.open(path, os.O_RDONLY | os.O_NONBLOCK)
         except FileNotFoundError:
@@ -72,7 +86,9 @@ class Source:
             raise Refused(f"{self.path} is the archive itself")
         written = self.log and os.fstat(self.log.fileno()).st_size >= LEAST_COMMIT
         if written and not os.path.basename(os.path.dirname(os.path.realpath(self.path))).startswith("before-"):
-            raise Refused(f"{self.path}-wal has what was written to the copy since: no copy of life-copy has that; a pair is taken from a folder before-..")
+            raise Refused(
+                f"{self.path}-wal has what was written to the copy since, and life-copy makes no such file; a copy with a log must be in a folder before-.."
+            )
 
     def put(self, new: str) -> None:
         """Copies the file and its log, and merges them into one file."""
@@ -89,6 +105,7 @@ class Source:
 
 
 # ---- the restore
+
 
 class Restore:
     """A restore, from reading the copy to asking the service for it."""
@@ -128,7 +145,7 @@ class Restore:
         say(f"the copy {name}: {self.found.text_with_first()}")
         self.findings = gather(self.archive, self.copies, room, self.settings["PROGRAM"], self.found)
         if self.words.with_log and self.findings.there.contents:
-            raise Refused(f"{self.archive} is there with its log and can be read: {self.findings.there.words}")
+            raise Refused(f"{self.archive} exists with its log and can be read: {self.findings.there.words}")
         decide(self.found, self.findings, self.words)
         sync(self.new)
         sync(room)
@@ -136,7 +153,7 @@ class Restore:
     def with_log(self, room: str) -> None:
         """Makes the new file from the copy and the archive's log."""
         if not has_commit(self.archive):
-            raise Refused(f"{self.archive}-wal is not there, or has nothing")
+            raise Refused(f"{self.archive}-wal is missing or empty")
         self.log = begin_of(self.archive + "-wal")
         joined = os.path.join(room, "joined.db")
         plain = os.path.join(room, "plain.db")
@@ -152,14 +169,14 @@ class Restore:
         remove_files(joined)
 
     def look_for_room(self) -> None:
-        """Wants room for the new file and one more: what the program tries, or what is read of the archive."""
+        """Requires room for the new file and one more: the program's trial, or what is read from the archive."""
         there = sum(os.path.getsize(path) for path in (self.archive, self.archive + "-wal") if os.path.exists(path))
         wanted, free = 2 * self.source.size() + there, shutil.disk_usage(self.folder).free
         if free < wanted:
-            raise Refused(f"{self.folder} has room for {free:,} bytes, and a restore wants {wanted:,}")
+            raise Refused(f"{self.folder} has room for {free:,} bytes, but a restore needs {wanted:,}")
 
     def look_again(self) -> bool:
-        """Looks at what came while the service still ran: takes a log that grew once more, or decides again about what would be lost."""
+        """Checks what came while the service still ran: merges a log that grew again, or decides again about what would be lost."""
         room = os.path.dirname(self.new)
         if self.words.with_log:
             if self.log == begin_of(self.archive + "-wal"):
@@ -176,14 +193,23 @@ class Restore:
     def exchange(self, room: str) -> None:
         words = shlex.join([RESTORE, self.words.copy])
         self.aside = exchange.new_aside("restore", [self.folder, self.copies])
-        self.plan = plan = exchange.Plan(words, self.archive, self.copies, os.path.basename(room), self.aside, copies_with_more(self.found, self.findings))
+        self.plan = plan = exchange.Plan(
+            words,
+            self.archive,
+            self.copies,
+            os.path.basename(room),
+            self.aside,
+            copies_with_more(self.found, self.findings),
+        )
         steps = exchange.Exchange(plan, self.helper)
         steps.run(self.signals, self.look_again)
         try:
             steps.finish()
             self.verify()
         except (OSError, Refused) as fault:
-            raise Refused(f"{self.words.copy} is in its place, but {line_of(fault)}: see systemctl status {UNIT}") from fault
+            raise Refused(
+                f"{self.words.copy} was put back, but {line_of(fault)}: see systemctl status {UNIT}"
+            ) from fault
         finally:
             self.report()
             steps.tidy()
@@ -191,8 +217,8 @@ class Restore:
     def verify(self) -> None:
         route, wanted = self.found.newest()
         if answered(int(self.settings["LIFE_PORT"]), route) != (200, wanted):
-            raise Refused(f"{UNIT} runs, and answers {route} with something else than the copy has")
-        say(f"{UNIT} runs with {self.archive}, and answers {route} as the copy has it")
+            raise Refused(f"{UNIT} runs, but its answer to {route} differs from the copy")
+        say(f"{UNIT} runs with {self.archive}, and its answer to {route} matches the copy")
 
     def report(self) -> None:
         """Says where everything is, and the command that goes back."""
@@ -200,17 +226,21 @@ class Restore:
         if os.path.isdir(aside):
             say(f"what was at {self.archive} is in {aside}: {there.words}")
         if there.contents and differences(self.found, there.contents):
-            say(f"it is another archive than {self.archive} is now: the same numbers name other deposits")
+            say(f"it is a different archive from {self.archive} now: the same numbers name other deposits")
         elif there.contents and (gone := lost_numbers(self.found, there.contents)):
-            say(f"{gone} of it are not in the archive now: these numbers will be given again")
+            say(f"{gone} from it are not in the archive now: these numbers will be given again")
         if os.path.exists(os.path.join(aside, os.path.basename(self.archive))):
             say(f"to go back: {shlex.join([RESTORE, os.path.join(aside, os.path.basename(self.archive))])}")
         if self.plan.newer:
-            say(f"copies with more than the archive has now are in {os.path.join(self.copies, self.aside)}: {', '.join(self.plan.newer)}")
+            say(
+                f"copies with more than the archive has now are in {os.path.join(self.copies, self.aside)}: {', '.join(self.plan.newer)}"
+            )
 
 
 def main() -> None:
-    parser = argparse.ArgumentParser(prog=RESTORE, description=__doc__, formatter_class=argparse.RawDescriptionHelpFormatter)
+    parser = argparse.ArgumentParser(
+        prog=RESTORE, description=__doc__, formatter_class=argparse.RawDescriptionHelpFormatter
+    )
     parser.add_argument("--settings", default=USUAL, metavar="FILE")
     which = parser.add_mutually_exclusive_group()
     which.add_argument("--older", action="store_true")
@@ -221,5 +251,9 @@ def main() -> None:
     if words.copy is None and (words.older or words.other or words.with_log):
         parser.error("a copy is missing")
     words.copy = words.copy and os.path.abspath(words.copy)
-    commands.run(RESTORE, words.settings, [words.copy, f"{words.copy}-wal"] if words.copy else [],
-                 lambda settings, helper, signals: Restore(words, settings, helper, signals).run())
+    commands.run(
+        RESTORE,
+        words.settings,
+        [words.copy, f"{words.copy}-wal"] if words.copy else [],
+        lambda settings, helper, signals: Restore(words, settings, helper, signals).run(),
+    )

@@ -1,4 +1,4 @@
-"""The settings of a club's archive: lines NAME=VALUE, what each may be, and how they are read."""
+"""The settings of a club's archive: lines NAME=VALUE, the values that each may have, and how they are read."""
 import os
 import re
 import shutil
@@ -7,60 +7,111 @@ import sys
 from collections.abc import Container, Iterable
 
 USUAL = "/etc/life/settings"
-# Every setting has a value here, beside the package, which that of a club replaces.
+# The file beside the package has a value for every setting; a club's file overrides it.
 OWN = os.path.join(os.path.dirname(os.path.dirname(os.path.realpath(__file__))), "settings")
 LINE = re.compile(r"([A-Z_]+)=([A-Za-z0-9_./:@%+*,\[\] -]*)")
 PORT = (r"[1-9][0-9]{0,4}", "a port from 1 to 65535")
 COUNT = (r"[1-9][0-9]{0,8}", "a number from 1 on")
-PATH = (r"/[A-Za-z0-9_./@+:-]*", "a path from / on, without spaces")
+PATH = (r"/[A-Za-z0-9_./@+:-]*", "an absolute path without spaces")
 PATH_OR_NONE = (PATH[0] + "|", PATH[1] + ", or nothing")
 USER = (r"[a-z_][a-z0-9_-]*", "the name of a user")
-RATE = (r"[1-9][0-9]{0,5}r/[sm]", "a rate, as 5r/s or 12r/m")
-TIME = (r"[1-9][0-9]{0,5}(ms|s|m|h)", "a time, as 30s")
-ADDRESS_OR_NONE = (r"|([A-Za-z0-9_.*-]+:|\[[0-9a-f:.]+\]:)?[1-9][0-9]{0,4}", "a port, an address and a port as [::]:80, or nothing")
-CALENDAR = (r"[A-Za-z0-9*].*", "a calendar of systemd, as *:0/15")
-# What each setting may be: a form, and the form in words.
+RATE = (r"[1-9][0-9]{0,5}r/[sm]", "a rate such as 5r/s or 12r/m")
+TIME = (r"[1-9][0-9]{0,5}(ms|s|m|h)", "a time such as 30s")
+ADDRESS_OR_NONE = (
+    r"|([A-Za-z0-9_.*-]+:|\[[0-9a-f:.]+\]:)?[1-9][0-9]{0,4}",
+    "a port, an address and a port such as [::]:80, or nothing",
+)
+CALENDAR = (r"[A-Za-z0-9*].*", "a systemd calendar such as *:0/15")
+# For each setting, the regular expression of its values, and what to say about them.
 FORMS = {
-    "PROGRAM": PATH, "ARCHIVE": PATH, "ARCHIVE_FOLDER": PATH, "SCRIPTS": PATH, "SETTINGS": PATH, "BACKUP_FOLDER": PATH, "METRICS_FOLDER": PATH_OR_NONE,
+    "PROGRAM": PATH,
+    "ARCHIVE": PATH,
+    "ARCHIVE_FOLDER": PATH,
+    "SCRIPTS": PATH,
+    "SETTINGS": PATH,
+    "BACKUP_FOLDER": PATH,
+    "METRICS_FOLDER": PATH_OR_NONE,
     "LIFE_USER": USER,
-    "LIFE_MEMORY": (r"[1-9][0-9]{0,8}[KMGT]", "an amount of memory, as 400M"),
-    "LIFE_PORT": PORT, "PROXY_PORT": PORT, "METRICS_PORT": (PORT[0] + "|", PORT[1] + ", or nothing"),
-    "LISTEN": (ADDRESS_OR_NONE[0][1:], "a port, or an address and a port as 127.0.0.1:80"), "LISTEN_ALSO": ADDRESS_OR_NONE,
-    "REDIRECT": ADDRESS_OR_NONE, "REDIRECT_ALSO": ADDRESS_OR_NONE,
+    "LIFE_MEMORY": (r"[1-9][0-9]{0,8}[KMGT]", "an amount of memory such as 400M"),
+    "LIFE_PORT": PORT,
+    "PROXY_PORT": PORT,
+    "METRICS_PORT": (PORT[0] + "|", PORT[1] + ", or nothing"),
+    "LISTEN": (ADDRESS_OR_NONE[0][1:], "a port, or an address and a port such as 127.0.0.1:80"),
+    "LISTEN_ALSO": ADDRESS_OR_NONE,
+    "REDIRECT": ADDRESS_OR_NONE,
+    "REDIRECT_ALSO": ADDRESS_OR_NONE,
     "HOST": (r"([A-Za-z0-9_.*-]+( [A-Za-z0-9_.*-]+)*)?", "names of hosts, or nothing"),
-    "TLS": (r"yes|no", "yes or no"), "TLS_CERTIFICATE": PATH, "TLS_KEY": PATH, "ACME_FOLDER": PATH_OR_NONE,
+    "TLS": (r"yes|no", "yes or no"),
+    "TLS_CERTIFICATE": PATH,
+    "TLS_KEY": PATH,
+    "ACME_FOLDER": PATH_OR_NONE,
     "HSTS": (r"[1-9][0-9]{0,8}|no|", "a number of seconds, or no"),
-    "MEMBERS_FILE": PATH_OR_NONE, "PAGES_FOLDER": PATH_OR_NONE, "OWN_SITE": PATH_OR_NONE,
-    "FRONT_PROXIES": (r"([0-9a-f:.]+(/[0-9]{1,3})?( [0-9a-f:.]+(/[0-9]{1,3})?)*)?", "addresses or networks, as 10.0.0.7 192.0.2.0/24, or nothing"),
-    "FRONT_HEADER": (r"[A-Za-z][A-Za-z0-9-]*", "the name of a header line, as X-Forwarded-For"),
-    "PAGES": RATE, "READS": RATE, "DEAR_READS": RATE, "DEPOSITS": RATE, "CENSUSES": RATE,
-    "PAGES_AT_ONCE": COUNT, "READS_AT_ONCE": COUNT, "DEAR_READS_AT_ONCE": COUNT, "DEPOSITS_AT_ONCE": COUNT, "CENSUSES_AT_ONCE": COUNT,
-    "CONNECTIONS": COUNT, "DEAR_CONNECTIONS": COUNT,
-    "READS_LOGGED": (r"100%|(?!0(\.0+)?%)[1-9]?[0-9](\.[0-9]{1,2})?%", "a part in a hundred above 0%, as 5%"), "CACHE_FREE": (r"[1-9][0-9]{0,8}[kKmMgG]", "an amount, as 1g"),
-    "QUEUE_TIME": TIME, "ANSWER_TIME": TIME, "WEB_TIME": TIME, "WATCH_SECONDS": COUNT,
-    "WEB_FOLDER": (r"/[A-Za-z0-9_./@+-]*", "a path from / on, without spaces and colons"), "CACHE_SIZE": (r"[1-9][0-9]{0,8}[kKmMgG]", "an amount, as 4g"), "CACHE_NAME": (r"[A-Za-z0-9_.-]+", "a word"),
-    "WEB_LOG": PATH, "WEB_ERRORS": PATH, "PROXY_CONNECTIONS": COUNT, "PROXY_USER": USER,
-    "BACKUP_TIMES": CALENDAR, "INDEX_TIMES": CALENDAR, "INDEX_FOLDER": PATH_OR_NONE,
-    "COPY_AGE": TIME, "KEEP_QUARTERS": COUNT, "KEEP_DAYS": COUNT, "KEEP_MONTHS": COUNT,
-    "SECOND_PLACE": (r"|([A-Za-z0-9_.@-]+:)?/[A-Za-z0-9_./@+-]*", "a folder, as /mnt/club or club@host:/srv/club, or nothing"),
-    "ALARM_TO": (r"[A-Za-z0-9_.@+-]+", "an address of mail"),
+    "MEMBERS_FILE": PATH_OR_NONE,
+    "PAGES_FOLDER": PATH_OR_NONE,
+    "OWN_SITE": PATH_OR_NONE,
+    "FRONT_PROXIES": (
+        r"([0-9a-f:.]+(/[0-9]{1,3})?( [0-9a-f:.]+(/[0-9]{1,3})?)*)?",
+        "addresses or networks such as 10.0.0.7 192.0.2.0/24, or nothing",
+    ),
+    "FRONT_HEADER": (r"[A-Za-z][A-Za-z0-9-]*", "the name of a header such as X-Forwarded-For"),
+    "PAGES": RATE,
+    "READS": RATE,
+    "DEAR_READS": RATE,
+    "DEPOSITS": RATE,
+    "CENSUSES": RATE,
+    "PAGES_AT_ONCE": COUNT,
+    "READS_AT_ONCE": COUNT,
+    "DEAR_READS_AT_ONCE": COUNT,
+    "DEPOSITS_AT_ONCE": COUNT,
+    "CENSUSES_AT_ONCE": COUNT,
+    "CONNECTIONS": COUNT,
+    "DEAR_CONNECTIONS": COUNT,
+    "READS_LOGGED": (r"100%|(?!0(\.0+)?%)[1-9]?[0-9](\.[0-9]{1,2})?%", "a percentage above 0% such as 5%"),
+    "CACHE_FREE": (r"[1-9][0-9]{0,8}[kKmMgG]", "a size such as 1g"),
+    "QUEUE_TIME": TIME,
+    "ANSWER_TIME": TIME,
+    "WEB_TIME": TIME,
+    "WATCH_SECONDS": COUNT,
+    "WEB_FOLDER": (r"/[A-Za-z0-9_./@+-]*", "an absolute path without spaces and colons"),
+    "CACHE_SIZE": (r"[1-9][0-9]{0,8}[kKmMgG]", "a size such as 4g"),
+    "CACHE_NAME": (r"[A-Za-z0-9_.-]+", "a word"),
+    "WEB_LOG": PATH,
+    "WEB_ERRORS": PATH,
+    "PROXY_CONNECTIONS": COUNT,
+    "PROXY_USER": USER,
+    "BACKUP_TIMES": CALENDAR,
+    "INDEX_TIMES": CALENDAR,
+    "INDEX_FOLDER": PATH_OR_NONE,
+    "COPY_AGE": TIME,
+    "KEEP_QUARTERS": COUNT,
+    "KEEP_DAYS": COUNT,
+    "KEEP_MONTHS": COUNT,
+    "SECOND_PLACE": (
+        r"|([A-Za-z0-9_.@-]+:)?/[A-Za-z0-9_./@+-]*",
+        "a folder such as /mnt/club or club@host:/srv/club, or nothing",
+    ),
+    "ALARM_TO": (r"[A-Za-z0-9_.@+-]+", "a mail address"),
 }
 SECONDS = {"ms": 0.001, "s": 1, "m": 60, "h": 3600}
 
 
 class Wrong(Exception):
-    """What is wrong with the settings, in words."""
+    """A problem of the settings, as a sentence."""
 
 
 def lines_of(path: str) -> list[tuple[str, str]]:
-    """The lines of a file that are settings, each with where it stands. Another encoding in a comment does no harm."""
+    """The lines of a file that are settings, each with its place. Comments may have another encoding."""
     with open(path, "rb") as file:
         lines = [line.rstrip(b"\r\n") for line in file]
-    return [(f"{path}, line {number}: ", line.decode(errors="replace")) for number, line in enumerate(lines, 1) if line.strip() and not line.startswith(b"#")]
+    return [
+        (f"{path}, line {number}: ", line.decode(errors="replace"))
+        for number, line in enumerate(lines, 1)
+        if line.strip() and not line.startswith(b"#")
+    ]
 
 
 def taken(lines: Iterable[tuple[str, str]], known: Container[str]) -> dict[str, str]:
-    """The settings of these lines, each with a text to put before what is wrong with it. `known` has the names that there are."""
+    """The settings in these lines. Each line comes with a text to put before its error. `known` has the names of all settings."""
     settings = {}
     for place, line in lines:
         found = LINE.fullmatch(line)
@@ -80,26 +131,31 @@ def judged(name: str, value: str) -> None:
 
 
 def seconds(value: str) -> float:
-    number, unit = re.fullmatch(r"([0-9]+)([a-z]+)", value).groups()
+    number, unit = re.split(r"(?<=[0-9])(?=[a-z])", value)
     return int(number) * SECONDS[unit]
 
 
 def is_calendar(value: str) -> bool:
-    """Whether systemd knows these times. Without its tool each text is one."""
+    """Whether systemd accepts these times. Without its tool every text is accepted."""
     if not shutil.which("systemd-analyze"):
         return True
-    return subprocess.run(["systemd-analyze", "calendar", value], capture_output=True, timeout=60, check=False).returncode == 0
+    return (
+        subprocess.run(["systemd-analyze", "calendar", value], capture_output=True, timeout=60, check=False).returncode
+        == 0
+    )
 
 
 def judge_passwords(settings: dict[str, str]) -> None:
-    """Refuses a gateway by which passwords travel in clear. A copy or a restore does not depend on it."""
+    """Refuses a gateway that sends passwords unencrypted. Copies and restores don't check this."""
     if settings["MEMBERS_FILE"] and settings["TLS"] == "no" and not is_here_alone(settings):
-        raise Wrong("MEMBERS_FILE wants TLS=yes, or LISTEN and LISTEN_ALSO on 127.0.0.1 and [::1] alone: passwords would travel in clear")
+        raise Wrong(
+            "MEMBERS_FILE needs TLS=yes, or LISTEN and LISTEN_ALSO on 127.0.0.1 and [::1] alone: otherwise passwords travel unencrypted"
+        )
 
 
 def judge_times(settings: dict[str, str]) -> None:
-    """Refuses times by which a request that waits is given up before the one ahead of it, or the program is ended while somebody still waits
-    for its answer."""
+    """Refuses times with which a waiting request would expire before the one ahead of it, or the program would be stopped while somebody
+    still waits for its answer."""
     queue, answer = seconds(settings["QUEUE_TIME"]), seconds(settings["ANSWER_TIME"])
     if seconds(settings["WEB_TIME"]) <= queue + answer:
         raise Wrong("WEB_TIME has to be longer than QUEUE_TIME and ANSWER_TIME together")
@@ -109,12 +165,12 @@ def judge_times(settings: dict[str, str]) -> None:
 
 
 def is_here_alone(settings: dict[str, str]) -> bool:
-    """Whether nginx listens to this machine alone."""
+    """Whether nginx only listens on this machine's own addresses."""
     return all(re.match(r"127\.|localhost:|\[::1\]:|$", settings[name]) for name in ("LISTEN", "LISTEN_ALSO"))
 
 
 def judge_reader(settings: dict[str, str], user: str = "www-data") -> None:
-    """Refuses a file of members that nginx, which is this user, can't read. Only root can look, and only if there is such a user."""
+    """Refuses a members file that nginx, running as this user, can't read. Only root can check that, and only if the user exists."""
     path = settings["MEMBERS_FILE"]
     if not path or os.geteuid() != 0 or subprocess.run(["id", user], capture_output=True, check=False).returncode:
         return
@@ -123,7 +179,7 @@ def judge_reader(settings: dict[str, str], user: str = "www-data") -> None:
 
 
 def judge(settings: dict[str, str]) -> None:
-    """Refuses what is no value of its setting, and values that don't go together."""
+    """Refuses invalid values, and values that don't fit together."""
     for name, value in settings.items():
         judged(name, value)
     ports = [settings[name] for name in ("LIFE_PORT", "PROXY_PORT", "METRICS_PORT")]
@@ -137,7 +193,7 @@ def judge(settings: dict[str, str]) -> None:
 
 
 def settings_of(path: str | None, words: Iterable[str] = ()) -> dict[str, str]:
-    """All settings: those beside the package, then those of a file, which may be None, then those of the words; each of them judged."""
+    """All settings, checked. Arguments override those of a file, which may be None, and these override the file beside the package."""
     settings = taken(lines_of(OWN), FORMS)
     if path:
         settings.update(taken(lines_of(path), settings))
@@ -147,8 +203,8 @@ def settings_of(path: str | None, words: Iterable[str] = ()) -> dict[str, str]:
 
 
 def needed_of(path: str, names: Iterable[str]) -> tuple[dict[str, str], list[str]]:
-    """These settings alone, for what has to work in an emergency, and what is wrong with the lines that were passed over. Each
-    setting that is needed is judged; a file that can't be read has none."""
+    """Only these settings, for commands that have to work in an emergency, and the errors in the lines that were ignored. Each needed
+    setting is checked; a file that can't be read has no settings."""
     settings, faults = taken(lines_of(OWN), FORMS), []
     for place, line in lines_of(path):
         try:
@@ -161,7 +217,7 @@ def needed_of(path: str, names: Iterable[str]) -> tuple[dict[str, str], list[str
 
 
 def end_if_wrong(name: str, path: str) -> dict[str, str]:
-    """The settings of a file, or the end of a script of this name with a line about what is wrong."""
+    """The settings of a file. If there is an error, ends the script, which has this name, with a line about it."""
     try:
         return settings_of(path)
     except (OSError, Wrong) as fault:
@@ -169,11 +225,11 @@ def end_if_wrong(name: str, path: str) -> dict[str, str]:
 
 
 def end_if_unusable(name: str, path: str, needed: Iterable[str]) -> dict[str, str]:
-    """The settings that a script needs, which works in an emergency: a line that is wrong elsewhere is said, and passed over."""
+    """The settings that an emergency command needs. Errors in other lines are printed and ignored."""
     try:
         settings, faults = needed_of(path, needed)
     except (OSError, Wrong) as fault:
         sys.exit(f"{name}: {fault}")
-    for fault in faults:
-        print(f"{name}: passed over: {fault}", file=sys.stderr)
+    for wrong in faults:
+        print(f"{name}: ignored: {wrong}", file=sys.stderr)
     return settings

@@ -1,4 +1,4 @@
-"""Signals that end a command, as exceptions, so that what it began is undone."""
+"""Turns signals that end a command into exceptions, so that its steps are undone."""
 import contextlib
 import ctypes
 import os
@@ -7,17 +7,17 @@ from collections.abc import Iterator
 from types import FrameType
 
 ENDING = (signal.SIGINT, signal.SIGTERM, signal.SIGHUP)
-# The request of prctl(2) by which the system signals a process when its parent ends.
+# The prctl(2) option that has the system signal a process when its parent ends.
 PR_SET_PDEATHSIG = 1
 
 
 def die_with_parent() -> None:
-    """Has the system kill this process when its parent ends, however that ends: half of a command does not work on."""
+    """Has the system kill this process when its parent ends, however that ends, so that half a command does not keep working."""
     ctypes.CDLL(None).prctl(PR_SET_PDEATHSIG, signal.SIGKILL, 0, 0, 0)
 
 
 class Interrupted(BaseException):
-    """A signal came that ends the command."""
+    """A signal that ends the command."""
 
     def __init__(self, number: int) -> None:
         super().__init__(f"ended by {signal.Signals(number).name}")
@@ -25,20 +25,20 @@ class Interrupted(BaseException):
 
 
 def end_by(number: int) -> None:
-    """Ends this process by a signal, as if it had not been caught: whoever waits for it, like systemd, knows its end by that."""
+    """Ends this process with a signal, as if it had not been caught, so that its parent, such as systemd, knows why it ended."""
     signal.signal(number, signal.SIG_DFL)
     os.kill(os.getpid(), number)
 
 
 class Signals:
-    """The first signal raises Interrupted, at once or at the next check while it is held back. Later ones do nothing: cleaning up goes on."""
+    """The first signal raises Interrupted, either at once or, while signals are held back, at the next check. Later signals don't stop the cleanup."""
 
     def __init__(self) -> None:
         self.number: int | None = None
         self.held = False
         for number in ENDING:
             signal.signal(number, self.come)
-        # Whoever started this process may have kept them back until now.
+        # The process that started this one may have blocked them.
         signal.pthread_sigmask(signal.SIG_UNBLOCK, ENDING)
 
     def come(self, number: int, _: FrameType | None) -> None:
@@ -48,7 +48,7 @@ class Signals:
                 raise Interrupted(number)
 
     def check(self) -> None:
-        """Raises what came while signals were held back."""
+        """Raises a signal that came while signals were held back."""
         if self.number is not None:
             raise Interrupted(self.number)
 

@@ -1,7 +1,7 @@
-"""Templates, and the settings in their places.
+"""Fills settings into templates.
 
-In a template @NAME@ is the setting. A line that begins with @NAME?@ is kept if the setting is neither empty nor `no`, one with @NAME!@
-if it is. A line may have several of these. @DIGEST@ is the digest of the whole text.
+In a template @NAME@ becomes the setting. A line that begins with @NAME?@ is kept if the setting is neither empty nor `no`, a line with
+@NAME!@ if it is. A line may begin with several of these. @DIGEST@ becomes the digest of the whole text.
 """
 import hashlib
 import os
@@ -14,32 +14,36 @@ GATEWAY = os.path.join(TEMPLATES, "gateway")
 
 
 def with_derived(settings: dict[str, str]) -> dict[str, str]:
-    """The settings, and what follows from them: a second place that is a folder here, no HSTS without TLS, nginx's line for each proxy in
-    front of it, and the logs that Debian's file for nginx does not rotate."""
+    """The settings, and what is derived from them: a second place on this machine, no HSTS without TLS, nginx's line for each proxy in
+    front of it, and the logs that Debian's logrotate file for nginx does not cover."""
     place, logs = settings["SECOND_PLACE"], {settings["WEB_LOG"], settings["WEB_ERRORS"]}
-    return settings | {"SECOND_FOLDER": place if place.startswith("/") else "", "HSTS": settings["HSTS"] if settings["TLS"] == "yes" else "",
-                       "FRONT_LINES": " ".join(f"set_real_ip_from {one};" for one in settings["FRONT_PROXIES"].split()),
-                       "OWN_LOGS": " ".join(sorted(log for log in logs if not re.fullmatch(r"/var/log/nginx/[^/]+\.log", log)))}
+    return settings | {
+        "SECOND_FOLDER": place if place.startswith("/") else "",
+        "HSTS": settings["HSTS"] if settings["TLS"] == "yes" else "",
+        "FRONT_LINES": " ".join(f"set_real_ip_from {one};" for one in settings["FRONT_PROXIES"].split()),
+        "OWN_LOGS": " ".join(sorted(log for log in logs if not re.fullmatch(r"/var/log/nginx/[^/]+\.log", log))),
+    }
 
 
 def filled(name: str, text: str, settings: dict[str, str]) -> str:
-    """A template with the settings in their places."""
+    """A template with the settings filled in."""
+
     def value(found: re.Match[str]) -> str:
         if found[1] not in settings:
-            raise Wrong(f"{name} wants {found[1]}, which is not set")
+            raise Wrong(f"{name} needs {found[1]}, which is not set")
         return settings[found[1]]
 
     kept = []
     for line in text.splitlines():
-        conditions = re.match(r"(@[A-Z_]+[?!]@)*", line)[0]
+        conditions = re.sub(r"^((?:@[A-Z_]+[?!]@)*).*$", r"\1", line)
         found = re.finditer(r"@([A-Z_]+)([?!])@", conditions)
         if all((value(one) not in ("", "no")) == (one[2] == "?") for one in found):
-            kept.append(re.sub(r"@([A-Z_]+)@", value, line[len(conditions):]) + "\n")
+            kept.append(re.sub(r"@([A-Z_]+)@", value, line[len(conditions) :]) + "\n")
     return "".join(kept)
 
 
 def filled_templates(folder: str, settings: dict[str, str]) -> dict[str, str]:
-    """The name of each template in a folder, and its text with the settings. A folder that is not there has none."""
+    """The name of each template in a folder, and its text with the settings. A missing folder has no templates."""
     files = {}
     for name in sorted(os.listdir(folder)) if os.path.isdir(folder) else []:
         path = os.path.join(folder, name)

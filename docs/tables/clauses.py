@@ -1,4 +1,4 @@
-"""docs/clauses.txt: what docs/PROOFS.md says of each clause. The rest of a row is written from the sources."""
+"""docs/clauses.txt: what docs/PROOFS.md says about each clause. The rest of a row is written from the sources."""
 from __future__ import annotations
 
 import re
@@ -14,6 +14,7 @@ NAME = r"\w+(?:::\w+)?"
 
 class Row(NamedTuple):
     """A row of a crate's table: functions with a clause of this name, anchors for links to it, and the sentence."""
+
     crate: str
     functions: Tuple[str, ...]
     clause: str
@@ -34,7 +35,8 @@ def joined(text: str) -> List[str]:
 
 def read_rows(read: Read, limits: Limits) -> List[Row]:
     rows: List[Row] = []
-    crate, functions = "", ("",)
+    crate = ""
+    functions: Tuple[str, ...] = ("",)
     for line in joined(read(PATH)):
         section = re.fullmatch(r"\[(\w+)\]", line)
         clause = re.fullmatch(r"  (\w+)((?: #[\w-]+)*): (.+)", line)
@@ -51,10 +53,14 @@ def read_rows(read: Read, limits: Limits) -> List[Row]:
 
 
 def compare(rows: List[Row], libraries: Libraries) -> Iterator[Optional[str]]:
-    """For each clause of a function, what is wrong if it has no sentence or two, and for each sentence, if it has no
+    """For each clause of a function, the problem if it has no sentence or two, and for each sentence, if it has no
     clause."""
-    wanted = {(crate, name, clause) for crate, functions in libraries.items()
-              for name, found in functions.items() for clause in found.names}
+    wanted = {
+        (crate, name, clause)
+        for crate, functions in libraries.items()
+        for name, found in functions.items()
+        for clause in found.names
+    }
     seen = set()
     for row in rows:
         for name in row.functions:

@@ -7,7 +7,7 @@ from typing import Dict, Iterator, List, NamedTuple, Optional
 from .texts import Fault, Read, markdown, rows_of, without_marked
 
 PATH = "docs/limits.csv"
-# In the crate's `file` the text `before` stands in front of the value. A limit with `web` is a constant of the web
+# In the crate's `file` the text `before` comes in front of the value. A limit with `web` is a constant of the web
 # pages. One with a `table` has a row in API: its meaning, and the `cells` that follow. `prose` lists the pages that
 # name the value in a sentence, where no script writes it.
 COLUMNS = ["name", "value", "web", "file", "before", "meaning", "table", "cells", "prose"]
@@ -32,6 +32,7 @@ class Limits(Dict[str, Limit]):
     def put_into(self, text: str) -> str:
         """The text with numbers in place of names. {LONGEST_SIDE} is 1024, {LONGEST_SIDE-1} is 1023, {LONGEST_SIDE:,}
         is 1,024."""
+
         def number(found: re.Match[str]) -> str:
             if found[1] not in self:
                 raise Fault(f"{PATH}: no limit is called {found[1]}, which this names: {text[:60]}")
@@ -71,13 +72,13 @@ def forms(value: int) -> List[str]:
 
 
 def has_number(page: str, value: int) -> bool:
-    """Whether a page has a number, or the one before or after it: some sentences name the first that is refused."""
+    """Whether a page has a number, or the one before or after it: some sentences name the first number that is refused."""
     known = "|".join(re.escape(form) for near in (value - 1, value, value + 1) for form in forms(near))
     return re.search(rf"(?<![\w.,])(?:{known})(?![\w]|,\d)", page) is not None
 
 
 def compare(limits: Limits, read: Read) -> Iterator[Optional[str]]:
-    """For each limit, what is wrong if a crate has another value than the table, or if a page's prose has."""
+    """For each limit, the problem if a crate, or the prose of a page, has a value that differs from the table's."""
     for limit in limits.values():
         for path in limit.prose.split():
             there = has_number(without_marked(read(path)), limit.value)
@@ -86,8 +87,8 @@ def compare(limits: Limits, read: Read) -> Iterator[Optional[str]]:
         if len(found) != 1:
             yield f"{limit.file}: {limit.name}: '{limit.before} NUMBER' is there {len(found)} times, and not once"
         elif int(found[0]) != limit.value:
-            here, there = written(int(found[0])), written(limit.value)
-            yield f"{limit.file}: {limit.name} is {here}, and {there} in {PATH}: change one of them"
+            own, listed = written(int(found[0])), written(limit.value)
+            yield f"{limit.file}: {limit.name} is {own}, and {listed} in {PATH}: change one of them"
         else:
             yield None
 
@@ -101,11 +102,14 @@ def table(limits: Limits, name: str) -> List[str]:
 def script_module(limits: Limits) -> str:
     """The constants of the web pages."""
     values = {limit.name: written(limit.value).replace(",", "_") for limit in limits.values() if limit.web}
-    lines = [f"// Limits of the archive, which {PATH} explains. Written by docs/make-tables.", "",
-             *(f"export const {name} = {value};" for name, value in values.items())]
+    lines = [
+        f"// Limits of the archive, which {PATH} explains. Written by docs/make-tables.",
+        "",
+        *(f"export const {name} = {value};" for name, value in values.items()),
+    ]
     return "\n".join(lines) + "\n"
 
 
 def shell_limits(limits: Limits) -> List[str]:
-    """The numbers that the members' scripts judge by."""
+    """The limits that the members' scripts check."""
     return [f"{name.lower()}={limits.named(name).value}" for name in ("LONGEST_FILE", "LONGEST_MEMBER")]

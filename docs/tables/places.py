@@ -1,11 +1,11 @@
-"""The places that docs/make-tables writes: of each file, the part and what it is written from."""
+"""The places that docs/make-tables writes: for each file, the part and its source."""
 from __future__ import annotations
 
 import os
 from functools import partial
 from typing import Callable, Dict, Iterator, List, NamedTuple, Optional, Tuple
 
-from . import clauses, limits, refusals, routes, sources, version
+from . import clauses, kit, limits, refusals, routes, sources, version
 from .texts import Fault, Read, with_lines, with_marked
 
 # The text of a file, and that text with one part written again.
@@ -20,20 +20,29 @@ class Place(NamedTuple):
 
 class Facts(NamedTuple):
     """All tables."""
+
     limits: limits.Limits
     refusals: List[refusals.Refusal]
     routes: List[routes.Route]
     addresses: List[routes.Address]
     version: str
+    kit: str
     rows: List[clauses.Row]
     libraries: sources.Libraries
 
 
 def read_facts(read: Read) -> Facts:
     known = limits.read_limits(read)
-    return Facts(known, refusals.read_refusals(read, known), routes.read_routes(read, known),
-                 routes.read_addresses(read), version.read_version(read), clauses.read_rows(read, known),
-                 sources.public_clauses(read))
+    return Facts(
+        known,
+        refusals.read_refusals(read, known),
+        routes.read_routes(read, known),
+        routes.read_addresses(read),
+        version.read_version(read),
+        kit.read_kit(read),
+        clauses.read_rows(read, known),
+        sources.public_clauses(read),
+    )
 
 
 def marked(path: str, source: str, name: str, lines: List[str]) -> Place:
@@ -42,7 +51,7 @@ def marked(path: str, source: str, name: str, lines: List[str]) -> Place:
 
 
 def bounded(path: str, source: str, first: str, last: str, lines: List[str]) -> Place:
-    """The lines of a crate's source from one to another: it has no comments for this."""
+    """A range of lines in a crate's source, which has no comments that mark it."""
     return Place(path, source, lambda text: with_lines(text, first, last, lines))
 
 
@@ -53,8 +62,9 @@ def of_crates(facts: Facts) -> List[Place]:
     return [
         bounded(f"{folder}/src/explain.rt", source, "static EXPLANATIONS:", "];", refusals.rust_table(named)),
         bounded(f"{folder}/specs/Explain.antt", source, "refusal_names =", "∷ []", refusals.specified_names(named)),
-        bounded(f"{folder}/src/words.rt", source, "Names:   ", "\nRefuses: unavailable",
-                [*names, "Refuses: unavailable"]),
+        bounded(
+            f"{folder}/src/words.rt", source, "Names:   ", "\nRefuses: unavailable", [*names, "Refuses: unavailable"]
+        ),
     ]
 
 
@@ -108,18 +118,27 @@ def of_proofs(facts: Facts) -> List[Place]:
     return [marked(clauses.PROOFS, clauses.PATH, f"clauses of {crate}", lines) for crate, lines in tables.items()]
 
 
-def of_version(facts: Facts) -> List[Place]:
-    return [Place(path, version.PATH, partial(version.with_version, before=before, after=after, version=facts.version))
-            for path, pairs in version.PLACES.items() for before, after in pairs]
+def of_names(facts: Facts) -> List[Place]:
+    """The version of the programs and the name of the kit."""
+    tables = [
+        (version.PATH, version.PLACES, version.NUMBER, facts.version),
+        (kit.PATH, kit.PLACES, kit.NAME, facts.kit),
+    ]
+    return [
+        Place(path, source, partial(version.with_name, before=before, after=after, form=form, name=name))
+        for source, where, form, name in tables
+        for path, pairs in where.items()
+        for before, after in pairs
+    ]
 
 
 def places(facts: Facts) -> List[Place]:
-    parts = (of_crates, of_pages, of_scripts, of_gateway, of_documents, of_proofs, of_version)
+    parts = (of_crates, of_pages, of_scripts, of_gateway, of_documents, of_proofs, of_names)
     return [place for part in parts for place in part(facts)]
 
 
 def difference(text: str, wanted: str) -> Optional[str]:
-    """The number of the first line that differs, with what both have there, from a little before the difference on."""
+    """The number of the first line that differs, and what both have there, from a little before the difference on."""
     if text == wanted:
         return None
     at = len(os.path.commonprefix([text, wanted]))
@@ -129,7 +148,7 @@ def difference(text: str, wanted: str) -> Optional[str]:
 
 
 def compare(read: Read) -> Iterator[Optional[str]]:
-    """For each place and each fact, what is wrong with it."""
+    """The problems of each place and each fact."""
     try:
         facts = read_facts(read)
     except Fault as fault:
@@ -146,7 +165,7 @@ def compare(read: Read) -> Iterator[Optional[str]]:
 
 
 def compare_with_sources(facts: Facts, read: Read) -> Iterator[Optional[str]]:
-    """For each fact that a crate and a table have, what is wrong if they differ. No run of docs/make-tables helps."""
+    """The problems of facts that a crate and a table both have, if they differ. docs/make-tables can't mend these."""
     yield from refusals.compare(facts.refusals, read)
     yield from limits.compare(facts.limits, read)
     yield from routes.compare(facts.routes, read)

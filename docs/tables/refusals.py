@@ -13,15 +13,23 @@ PATH = "docs/refusals.csv"
 # is the place in the order of checks, if that is not the order of the numbers.
 COLUMNS = ["kind", "number", "name", "status", "sentence", "when", "script", "step", "command"]
 # The kinds in their order, and how a line of `life explain` begins.
-FRONTS = {"refusal": "refusal {number}", "file": "fault {number} of a pattern file", "code": "fault {number} of a code",
-          "program": "program", "gateway": "gateway"}
+FRONTS = {
+    "refusal": "refusal {number}",
+    "file": "fault {number} of a pattern file",
+    "code": "fault {number} of a code",
+    "program": "program",
+    "gateway": "gateway",
+}
 # On the command line these are followed by the name of a fault.
 WITH_FAULT = {"bad-pattern", "bad-code"}
-# The widest that the lines of names in the help may be. Their first line has 101 columns.
+# The most columns of the lines of names in the help. Their first line has 101.
 HELP_COLUMNS = 104
 # The definitions of the crates that give numbers and names, by kind, and those that give a status.
-LABELS = {"refusal": ["crates/life_desk/specs/Refusals.antt", "crates/life_pages/specs/Fault.antt"],
-          "file": ["crates/life_rle/specs/Fault.antt"], "code": ["crates/life_code/specs/Fault.antt"]}
+LABELS = {
+    "refusal": ["crates/life_desk/specs/Refusals.antt", "crates/life_pages/specs/Fault.antt"],
+    "file": ["crates/life_rle/specs/Fault.antt"],
+    "code": ["crates/life_code/specs/Fault.antt"],
+}
 STATUSES = "crates/life_pages/specs/Reply.antt"
 # A fault that is answered `unavailable`, so no table has it.
 UNLISTED = "memory"
@@ -48,8 +56,8 @@ def read_refusals(read: Read, limits: Limits) -> List[Refusal]:
     rows = [Refusal(*row) for row in cells]
     for row in rows:
         if row.kind not in FRONTS or not all(text.isdigit() for text in (row.number, row.step) if text):
-            raise Fault(f"{PATH}: {row.kind} {row.name}: an unknown kind, or a number or step that is no number")
-        # These texts stand between single quotes in scripts and on the pages.
+            raise Fault(f"{PATH}: {row.kind} {row.name}: an unknown kind, or a number or step that is not a number")
+        # These texts are in single quotes in scripts and on the pages.
         if any(mark in row.sentence + row.script for mark in "'\\\n"):
             raise Fault(f"{PATH}: {row.kind} {row.name}: sentence and script may not contain ' or \\")
     return rows
@@ -58,14 +66,20 @@ def read_refusals(read: Read, limits: Limits) -> List[Refusal]:
 def specified(read: Read, kind: str) -> Set[Tuple[str, str, str]]:
     """The number, name and status of each refusal of a kind, as the crates define them."""
     statuses = dict(re.findall(r"(?m)^(?:refusal|page)_status \(?(\w+).* = (\d+)$", read(STATUSES)))
-    labels = [found for path in LABELS[kind]
-              for found in re.findall(r'(?m)^label_of \(?(\w+).* = label (\d+) \(codes "([a-z-]+)"\)$', read(path))]
-    return {(number, name, statuses.get(variant, "") if kind == "refusal" else "")
-            for variant, number, name in labels if name != UNLISTED}
+    labels = [
+        found
+        for path in LABELS[kind]
+        for found in re.findall(r'(?m)^label_of \(?(\w+).* = label (\d+) \(codes "([a-z-]+)"\)$', read(path))
+    ]
+    return {
+        (number, name, statuses.get(variant, "") if kind == "refusal" else "")
+        for variant, number, name in labels
+        if name != UNLISTED
+    }
 
 
 def compare(refusals: List[Refusal], read: Read) -> Iterator[Optional[str]]:
-    """For each refusal that the crates define, what is wrong if the table has another number, name or status."""
+    """For each refusal that the crates define, the problem if the table has another number, name or status."""
     for kind, paths in LABELS.items():
         wanted = specified(read, kind)
         listed = {(row.number, row.name, row.status) for row in of_kind(refusals, kind)}
@@ -81,6 +95,7 @@ def of_kind(refusals: List[Refusal], kind: str) -> List[Refusal]:
 
 
 # ---- life explain
+
 
 def explanations(refusals: List[Refusal]) -> Dict[str, List[str]]:
     """The lines of each name, with the names in byte order."""
@@ -117,44 +132,73 @@ def help_names(refusals: List[Refusal]) -> List[str]:
 
 # ---- the web pages and the members' scripts
 
+
 def script_sentences(refusals: List[Refusal]) -> List[str]:
     """The constants of refusals.js. A fault's number is its index in the list, so place 0 is empty."""
     keys = {row.name: f"'{row.name}'" if "-" in row.name else row.name for row in refusals}
-    archive, gateway = ([f"  {keys[row.name]}: '{row.sentence}'," for row in of_kind(refusals, kind)]
-                        for kind in ("refusal", "gateway"))
+    archive, gateway = (
+        [f"  {keys[row.name]}: '{row.sentence}'," for row in of_kind(refusals, kind)] for kind in ("refusal", "gateway")
+    )
     faults = [f"  ['{row.name}', '{row.sentence}']," for row in of_kind(refusals, "file")]
-    return ["export const REFUSALS = {", *archive, "};", "",
-            "/** What the gateway says in place of the archive, and what comes from no reply at all. */",
-            "export const GATEWAY = {", *gateway, "};", "",
-            "/** The faults of pattern files by number: their names, and what to do. */",
-            "export const FAULTS = [", "  null,", *faults, "];"]
+    return [
+        "export const REFUSALS = {",
+        *archive,
+        "};",
+        "",
+        "/** What the gateway says in place of the archive, and what comes from no reply at all. */",
+        "export const GATEWAY = {",
+        *gateway,
+        "};",
+        "",
+        "/** The faults of pattern files by number: their names, and what to do. */",
+        "export const FAULTS = [",
+        "  null,",
+        *faults,
+        "];",
+    ]
 
 
 def shell_faults(refusals: List[Refusal]) -> List[str]:
     """The function of asking.sh for the faults of pattern files."""
     branches = [f"    {row.number}) echo '{row.name}: {row.script}' ;;" for row in of_kind(refusals, "file")]
-    return ["# Prints the fault of a pattern file that has this number.", "fault() {", "  case $1 in", *branches,
-            '    *) echo "fault $1 of pattern files" ;;', "  esac", "}"]
+    return [
+        "# Prints the fault of a pattern file that has this number.",
+        "fault() {",
+        "  case $1 in",
+        *branches,
+        '    *) echo "fault $1 of pattern files" ;;',
+        "  esac",
+        "}",
+    ]
 
 
 def shell_refusals(refusals: List[Refusal]) -> List[str]:
     """The function of asking.sh for the other refusals."""
     rows = of_kind(refusals, "refusal") + of_kind(refusals, "gateway")
     branches = [f"    {row.name}) echo '{row.name}: {row.script}' ;;" for row in rows if row.script]
-    return ["# Prints the refusal that has this name.", "refusal() {", "  case $1 in", *branches, '    *) echo "$1" ;;',
-            "  esac", "}"]
+    return [
+        "# Prints the refusal that has this name.",
+        "refusal() {",
+        "  case $1 in",
+        *branches,
+        '    *) echo "$1" ;;',
+        "  esac",
+        "}",
+    ]
 
 
 # ---- documents
 
+
 def table_of_refusals(refusals: List[Refusal]) -> List[str]:
     rows = of_kind(refusals, "refusal")
-    return markdown("Number | Name | Status | When",
-                    [f"{row.number} | `{row.name}` | {row.status} | {row.when}" for row in rows])
+    return markdown(
+        "Number | Name | Status | When", [f"{row.number} | `{row.name}` | {row.status} | {row.when}" for row in rows]
+    )
 
 
 def table_of_faults(refusals: List[Refusal], kind: str) -> List[str]:
-    """The table of the faults of files or of codes, in the order in which they are judged."""
+    """The table of the faults of files or of codes, in the order in which they are checked."""
     rows = sorted(of_kind(refusals, kind), key=Refusal.order)
     return markdown("Number | Name | When", [f"{row.number} | `{row.name}` | {row.when}" for row in rows])
 
@@ -165,5 +209,7 @@ def table_of_lines(refusals: List[Refusal]) -> List[str]:
     for row in sorted((row for row in refusals if row.command), key=Refusal.order):
         line = f"`refused: {row.name}{' NAME' if row.name in WITH_FAULT else ''}`"
         shared.setdefault(row.command, []).append(line)
-    return markdown("Line, in the order in which a command checks | When",
-                    [f"{', '.join(lines)} | {cell}" for cell, lines in shared.items()])
+    return markdown(
+        "Line, in the order in which a command checks | When",
+        [f"{', '.join(lines)} | {cell}" for cell, lines in shared.items()],
+    )

@@ -13,7 +13,7 @@ from .texts import Fault, Read, markdown, rows_of
 ROUTES, ADDRESSES = "docs/routes.csv", "docs/addresses.csv"
 # The definition of the routes.
 SPECIFIED = "crates/life_pages/specs/Route.antt"
-# `cache` says how long the gateway keeps a reply: a `fixed` one never changes, a `moving` one may grow.
+# `cache` says how long the gateway caches a reply: a `fixed` one never changes, a `moving` one may grow.
 ROUTE_COLUMNS = ["method", "path", "request", "reply", "cache"]
 # An address may lack what is in brackets. `title` is what a preview of a link says: with brackets for both forms of the
 # address, without them for the short one.
@@ -60,9 +60,9 @@ def read_addresses(read: Read) -> List[Address]:
 
 
 def kept_as(site: str, path: str) -> str:
-    """How the gateway keeps the reply at a path: what the location sets that nginx takes, an equal one or the first."""
+    """How the gateway caches the reply at a path, from the location that nginx chooses: an exact one, or else the first match."""
     locations = re.findall(r"(?ms)^(?:@[A-Z_]+\?@)* {4}location (=|~) (\S+) \{$(.*?)^(?:@[A-Z_]+\?@)* {4}\}$", site)
-    # Python spells named groups in another way.
+    # Python writes named groups differently.
     forms = [(re.sub(r"\(\?<(\w)", r"(?P<\1", form), body) for kind, form, body in locations if kind == "~"]
     fitting = [body for kind, form, body in locations if kind == "=" and form == path]
     fitting += [body for form, body in forms if re.search(form, path)]
@@ -71,7 +71,7 @@ def kept_as(site: str, path: str) -> str:
 
 
 def compare(routes: List[Route], read: Read) -> Iterator[Optional[str]]:
-    """For each route, what is wrong if only the program or only the table has it, or if the gateway keeps its replies
+    """For each route, the problem if only the program or only the table has it, or if the gateway caches its replies
     in another way."""
     specified = set(re.findall(r'\(codes "(/[^"]*)"', read(SPECIFIED)))
     listed = {route.path for route in routes}
@@ -94,6 +94,7 @@ def in_addresses(limits: Limits) -> Patterns:
 
 def expression(path: str, patterns: Patterns, form: Callable[[str, str], str] = lambda name, pattern: pattern) -> str:
     """A regular expression for a path. `form` makes that of a parameter from its name and its pattern."""
+
     def parameter(found: re.Match[str]) -> str:
         if found[1] not in patterns:
             raise Fault(f"docs/tables/routes.py does not say what {{{found[1]}}} may be in {path}")
@@ -104,13 +105,17 @@ def expression(path: str, patterns: Patterns, form: Callable[[str, str], str] = 
 
 # ---- documents
 
+
 def table(routes: List[Route]) -> List[str]:
     """The table of API."""
-    return markdown("Method and path | Request | Reply",
-                    [f"`{route.method} {route.path}` | {route.request} | {route.reply}" for route in routes])
+    return markdown(
+        "Method and path | Request | Reply",
+        [f"`{route.method} {route.path}` | {route.request} | {route.reply}" for route in routes],
+    )
 
 
 # ---- the web pages
+
 
 def in_script(address: Address, limits: Limits) -> str:
     """The expression of an address in a script. Each parameter is a group. Within [^/] the slash needs no escape."""
@@ -130,10 +135,11 @@ def script_ahead(addresses: List[Address], limits: Limits) -> List[str]:
 
 # ---- the gateway
 
+
 def site_pages(addresses: List[Address], limits: Limits) -> List[str]:
-    """The location of the pages. One page is at all their addresses."""
+    """The location of the pages. One page is at all their addresses, with a slash at the end too."""
     paths = [expression(one.path[1:], in_addresses(limits)) for one in addresses if one.path != "/"]
-    return [f'@PAGES_FOLDER?@    location ~* "^/({"|".join(paths)})?$" {{']
+    return [f'@PAGES_FOLDER?@    location ~* "^/({"|".join(paths)})?/?$" {{']
 
 
 def site_titles(addresses: List[Address], limits: Limits) -> List[str]:
@@ -143,10 +149,11 @@ def site_titles(addresses: List[Address], limits: Limits) -> List[str]:
     for one in addresses:
         short = re.sub(r"\[.*\]", "", one.path), re.sub(r"\[.*\]", "", one.title)
         long = re.sub(r"[\[\]]", "", one.path), re.sub(r"[\[\]]", "", one.title)
-        for path, title in ([short, long] if "[" in one.title else [short] if one.title else []):
+        for path, title in [short, long] if "[" in one.title else [short] if one.title else []:
+
             def form(name: str, pattern: str, title: str = title) -> str:
                 return f"(?<life_in_{name}>{pattern})" if f"{{{name}}}" in title else pattern
 
             variables = re.sub(r"\{(\w+)\}", r"$life_in_\1", title)
-            lines.append(f'    "~*^{expression(path, patterns, form)}$" "{variables} · ";')
+            lines.append(f'    "~*^{expression(path, patterns, form)}/*$" "{variables} · ";')
     return [*lines, "}"]

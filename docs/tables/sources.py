@@ -13,6 +13,7 @@ from .texts import TOP, Read
 class Function(NamedTuple):
     """A function of a source. Each clause on what it leaves is a pair: its name, and the definition that it cites
     first."""
+
     of: Optional[str]
     in_block: bool
     is_public: bool
@@ -22,6 +23,7 @@ class Function(NamedTuple):
 
 class Clauses(NamedTuple):
     """The file of a public function, and the names of its clauses."""
+
     path: str
     names: List[str]
 
@@ -32,13 +34,17 @@ Libraries = Dict[str, Dict[str, Clauses]]
 
 @lru_cache(maxsize=None)
 def files_of_repository() -> Set[str]:
-    """The paths of all files, as git has them or is about to; of a copy without git, of all that is not built."""
+    """The paths of all files that git knows or would add; in a copy without git, all files that are not built."""
     words = ["git", "-C", TOP, "ls-files", "--cached", "--others", "--exclude-standard"]
     git = subprocess.run(words, stdout=subprocess.PIPE, stderr=subprocess.DEVNULL, check=False)
     listed = git.stdout.decode().splitlines()
     if not listed:
-        listed = [os.path.relpath(os.path.join(folder, name), TOP) for folder, _, found in os.walk(TOP)
-                  for name in found if not re.search(r"/(out|\.git)(/|$)", folder)]
+        listed = [
+            os.path.relpath(os.path.join(folder, name), TOP)
+            for folder, _, found in os.walk(TOP)
+            for name in found
+            if not re.search(r"/(out|\.git)(/|$)", folder)
+        ]
     return {path for path in listed if os.path.exists(os.path.join(TOP, path))}
 
 
@@ -49,7 +55,7 @@ def files_like(form: str) -> List[str]:
 
 
 def libraries() -> List[str]:
-    """The crates that are libraries, but for those of tests alone."""
+    """The crates that are libraries, except those for tests."""
     names = [path.split("/")[1] for path in files_like(r"crates/\w+/src/lib\.rt")]
     return [name for name in names if not name.endswith("_tests") and name != "planes"]
 
@@ -73,7 +79,7 @@ def signature(lines: Sequence[str], at: int) -> List[str]:
 
 
 def owner(line: str) -> Tuple[Optional[str], bool]:
-    """The type whose functions a block has, and whether they are those of a trait, which are public as it is."""
+    """The type that a block belongs to, and whether the block is for a trait, whose functions are as public as the trait."""
     trait = re.match(r"(?:pub )?trait (\w+)", line)
     if trait:
         return trait[1], True
@@ -110,7 +116,7 @@ def records_of_clauses(read: Read) -> Dict[str, List[str]]:
 
 
 def public_clauses(read: Read) -> Libraries:
-    """For each library, each public function that says what it leaves, with its file and its clauses. A clause without
+    """For each library, each public function with a contract, with its file and its clauses. A clause without
     a name is `ensures`. One that cites a record about its call's result counts as a clause for each field."""
     records = records_of_clauses(read)
     found: Libraries = {}

@@ -8,16 +8,16 @@ from typing import Callable, Dict, List, Sequence
 
 TOP = os.path.normpath(os.path.join(os.path.dirname(os.path.abspath(__file__)), "..", ".."))
 
-# Gives the text of a file by its path from the top of the repository. The check of tests/documents gives changed texts.
+# Gives the text of a file by its path from the top of the repository. The check of tests/test_documents.py gives changed texts.
 Read = Callable[[str], str]
 
 
 class Fault(Exception):
-    """What is wrong with a table, or missing in a text, and what to do about it."""
+    """An error in a table or a missing part of a text, and what to do about it."""
 
 
 def read_file(path: str) -> str:
-    """The text of a file. One that is not there yet has none."""
+    """The text of a file; empty if the file does not exist yet."""
     try:
         with open(os.path.join(TOP, path), encoding="utf-8", newline="") as file:
             return file.read()
@@ -62,8 +62,8 @@ def with_marked(text: str, name: str, lines: List[str]) -> str:
     begins = list(re.finditer(MARK + re.escape(name) + r": written by docs/make-tables from .*\n", text))
     ends = list(re.finditer(MARK + f"end of {re.escape(name)}(?: -->)?$", text))
     if len(begins) != 1 or len(ends) != 1 or ends[0].start() < begins[0].end():
-        raise Fault(f"wants the comments '{name}: written by docs/make-tables from ..' and 'end of {name}' once each")
-    return text[:begins[0].end()] + "".join(line + "\n" for line in lines) + text[ends[0].start():]
+        raise Fault(f"needs the comments '{name}: written by docs/make-tables from ..' and 'end of {name}' once each")
+    return text[: begins[0].end()] + "".join(line + "\n" for line in lines) + text[ends[0].start() :]
 
 
 def with_lines(text: str, first: str, last: str, lines: List[str]) -> str:
@@ -72,4 +72,4 @@ def with_lines(text: str, first: str, last: str, lines: List[str]) -> str:
     found = re.search(rf"(?ms)^{re.escape(first)}.*?{re.escape(last)}$", text)
     if not found:
         raise Fault(f"no lines from '{first}' to '{last}'")
-    return text[:found.start()] + "\n".join(lines) + text[found.end():]
+    return text[: found.start()] + "\n".join(lines) + text[found.end() :]

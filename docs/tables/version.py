@@ -1,4 +1,4 @@
-"""The version, which is a constant of life_words, wherever else it stands."""
+"""The version, a constant of life_words, in all other places that have it."""
 from __future__ import annotations
 
 import re
@@ -7,28 +7,29 @@ from .texts import Fault, Read
 
 PATH, BEFORE = "crates/life_words/src/commands.rt", 'pub const VERSION: &str = "'
 NUMBER = r"\d+\.\d+\.\d+"
-# What stands in front of it and behind it in each file.
+# What comes before it and after it in each file.
 PLACES = {
     "docs/OPERATING.md": [("life_", "_amd64"), ("life-gateway_", "_all"), ("life-", "-x86_64-linux")],
     "docs/life-restore.8": [('"life ', '"')],
+    "docs/life-index.8": [('"life ', '"')],
     "docs/life.1": [('"life ', '"')],
     "docs/life-draw.1": [('"life\\-draw ', '"')],
     "docs/life-haul.1": [('"life\\-haul ', '"')],
-    "tests/boot": [('VERSION = "', '"')],
+    "tests/booted.py": [('VERSION = "', '"')],
     "tests/cases/words/version.stdout": [("life ", "\n")],
 }
 
 
 def read_version(read: Read) -> str:
-    found = re.search(f"^{re.escape(BEFORE)}({NUMBER})\";$", read(PATH), re.M)
+    found = re.search(f'^{re.escape(BEFORE)}({NUMBER})";$', read(PATH), re.M)
     if not found:
-        raise Fault(f"{PATH}: no line {BEFORE}..\";")
+        raise Fault(f'{PATH}: no line {BEFORE}..";')
     return found[1]
 
 
-def with_version(text: str, before: str, after: str, version: str) -> str:
-    """The text with the version between these two texts."""
-    made, times = re.subn(f"({re.escape(before)}){NUMBER}(?={re.escape(after)})", rf"\g<1>{version}", text)
+def with_name(text: str, before: str, after: str, form: str, name: str) -> str:
+    """The text with this name in place of one of its form between these two texts."""
+    made, times = re.subn(f"({re.escape(before)}){form}(?={re.escape(after)})", rf"\g<1>{name}", text)
     if not times:
-        raise Fault(f"no version between '{before}' and '{after.strip()}'")
+        raise Fault(f"no {form} between '{before}' and '{after.strip()}'")
     return made

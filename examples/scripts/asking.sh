@@ -1,10 +1,10 @@
 # shellcheck shell=sh
-# What the scripts in this folder share: asking a server by curl, and saying in words why it refuses.
+# Shared by the scripts in this folder: sending requests with curl, and explaining refusals.
 
 LC_ALL=C
 export LC_ALL
 
-# A folder for the last reply. It is removed when the script ends, by a signal too.
+# A folder for the last reply. It is removed when the script ends, even by a signal.
 room=$(mktemp -d)
 trap 'rm -rf "$room"' EXIT
 trap 'exit 129' HUP
@@ -12,12 +12,16 @@ trap 'exit 130' INT
 trap 'exit 141' PIPE
 trap 'exit 143' TERM
 
-# How far the run is: how many are done, of how many. The next message on it is due after so many seconds of waiting.
+# The progress: how many are done, out of how many. The next message about it is due after this many seconds of waiting.
 finished=0
 total=0
 message_in=5
 
-# Says on standard error what is wrong, and ends.
+tab=$(printf '\t')
+line_feed='
+'
+
+# Prints an error message and ends.
 end() {
   echo "${0##*/}: $1" >&2
   exit "${2:-1}"
@@ -28,28 +32,28 @@ longest_file=1048576
 longest_member=32
 # end of limits
 
-# Ends if a text is no member: some of a-z, 0-9 and -, and not too many.
+# Ends with an error if a text is not a valid member name.
 judge_member() {
   case $1 in
-    '' | *[!a-z0-9-]*) end "a member is 1 to $longest_member of a-z, 0-9 and -" 2 ;;
+    '' | *[!a-z0-9-]*) end "a member name has 1 to $longest_member of the characters a-z, 0-9 and -" 2 ;;
   esac
-  [ "${#1}" -le "$longest_member" ] || end "a member is 1 to $longest_member of a-z, 0-9 and -" 2
+  [ "${#1}" -le "$longest_member" ] || end "a member name has 1 to $longest_member of the characters a-z, 0-9 and -" 2
 }
 
-# Whether a file has more bytes than the archive takes.
+# Whether a file has more bytes than the archive accepts.
 is_too_long() {
   [ "$(wc -c < "$1")" -gt "$longest_file" ]
 }
 
-# Sets 'url' to the archive's URL without a slash at its end, and 'archive' to the same without a password, for messages.
+# Sets 'url' to the archive's URL without a trailing slash, and 'archive' to the same without a password, for messages.
 take_url() {
   url=${1%/}
   archive=$(printf '%s\n' "$url" | sed 's|^\([^/@]*://\)\{0,1\}[^/]*@|\1|')
 }
 
-# Sends a request with these arguments of curl. Sets 'status' and 'body' to those of the reply; a status of 000 says that none came.
-# The password is that of ~/.netrc, if it has one for the host. (Some versions of curl wait a second for a '100 Continue', which the
-# server doesn't send, unless the line 'expect' is taken out.)
+# Sends a request with these curl arguments. Sets 'status' and 'body' to those of the reply; status 000 means that no reply came. The
+# password comes from ~/.netrc, if it has one for the host. (Unless the header 'expect' is removed, some versions of curl wait a second
+# for a '100 Continue', which the server doesn't send.)
 ask() {
   : > "$room/head"
   : > "$room/body"
@@ -58,7 +62,7 @@ ask() {
   body=$(tr -d '\000' < "$room/body")
 }
 
-# Waits as a reply of status 429 asks: as many seconds as its line 'Retry-After' says, or 1. A long wait says how far the run is.
+# Waits as a reply with status 429 asks: for the seconds in its header 'Retry-After', or for 1. A long wait prints the progress.
 wait_as_asked() {
   seconds=$(tr '[:upper:]' '[:lower:]' < "$room/head" |
     sed -n 's/^retry-after:[[:space:]]*0*\([1-9][0-9]\{0,5\}\)[[:space:]]*$/\1/p' | tail -n 1)
@@ -71,7 +75,7 @@ wait_as_asked() {
   sleep "$seconds"
 }
 
-# Asks as often as the reply is 429: such a request did not reach the archive, so asking again is safe.
+# Sends a request again as long as the reply is 429: such a request did not reach the archive, so that is safe.
 ask_in_turn() {
   ask "$@"
   while [ "$status" = 429 ]; do
@@ -80,7 +84,7 @@ ask_in_turn() {
   done
 }
 
-# Asks, and up to three times again if no reply came or nothing was done.
+# Sends a request, and up to three times more if no reply came or nothing was done.
 ask_again() {
   for pause in 1 2 4 none; do
     ask_in_turn "$@"
@@ -91,13 +95,37 @@ ask_again() {
   done
 }
 
-# Ends because no reply came, and says first what curl said about it. The argument is put before the message.
+# Ends because no reply came, after printing curl's own error. The argument goes in front of the message.
 no_reply() {
   sed -n 1p "$room/errors" >&2
   end "${1-}no reply from $archive; give the same command again"
 }
 
-# Prints the number that the reply gives under a name; nothing if it gives none.
+# Sets 'listed' to a line 'NUMBER MEMBER' for each of the deposits after number 'last', at most 100 of them, and then 'last' to the greatest
+# of these numbers.
+list_next() {
+  ask_again "$url/deposits/after/$last"
+  [ "$status" != 000 ] || no_reply ''
+  case $body in
+    '{"deposits":['*) ;;
+    *) end "$(why)" ;;
+  esac
+  listed=$(printf '%s\n' "$body" | tr '{' '\n' | sed -n 's/^"id":\([0-9]*\),"member":"\([a-z0-9-]*\)",.*/\1 \2/p')
+  [ -z "$listed" ] || {
+    last=${listed##*"$line_feed"}
+    last=${last%% *}
+  }
+}
+
+# Prints a file's name as one field of one line: a tab is \t, a line feed is \n and a backslash is \\.
+shown() {
+  case $1 in
+    *[\\"$tab$line_feed"]*) printf '%s\n' "$1" | sed "s/\\\\/&&/g; s/$tab/\\\\t/g" | awk '{ printf "%s%s", separator, $0; separator = "\\n" }' ;;
+    *) printf '%s' "$1" ;;
+  esac
+}
+
+# Prints the number that the reply has under a key, or nothing.
 number_of() {
   printf '%s\n' "$body" | sed -n "s/^{\"$1\":\([0-9]*\)}\$/\1/p"
 }
@@ -136,7 +164,7 @@ refusal() {
 }
 # end of refusals
 
-# Prints why the reply refuses: the fault of a pattern file, or the archive's own name.
+# Prints why the request was refused: the fault of a pattern file, or the name of the refusal.
 why() {
   name=$(printf '%s\n' "$body" | sed -n 's/^{"error":"\([a-z-]*\)".*/\1/p')
   number=$(printf '%s\n' "$body" | sed -n 's/.*"rle":\([0-9]*\)}$/\1/p')

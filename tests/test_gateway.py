@@ -486,7 +486,15 @@ def test_links(gateway: Gateway, folder: str) -> None:
         asked(gateway.port, 262, "GET", "/index/feed.xml")[:2],
         (404, b'{"error":"no-such-page","refusal":12}'),
     )
-    for name in ("feed.xml", "index.json"):
+    with open(secret, "w", encoding="utf-8") as file:
+        file.write("4 Secret\n")
+    names = os.path.join(index, "names-0.txt")
+    shutil.copy(secret, names)
+    check("a name in a title", b"<title>Secret \xc2\xb7 Deposit 4 " in asked(gateway.port, 262, "GET", "/d/4")[1])
+    os.remove(names)
+    os.symlink(secret, names)
+    check("no name through a link", b"<title>Deposit 4 " in asked(gateway.port, 262, "GET", "/d/4")[1])
+    for name in ("feed.xml", "index.json", "names-0.txt"):
         os.remove(os.path.join(index, name))
 
 

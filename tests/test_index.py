@@ -99,6 +99,11 @@ def files(folder: str) -> dict[str, bytes]:
     return {name: content(folder, name) for name in os.listdir(folder)}
 
 
+def names_for_titles(folder: str) -> dict[str, str]:
+    """The files of names that the gateway writes into titles."""
+    return {name: text.decode() for name, text in files(folder).items() if name.startswith("names-")}
+
+
 # ---- the parts
 
 
@@ -220,6 +225,7 @@ def test_grown(folder: str) -> None:
         os.utime(os.path.join(steps, name), (1, 1))
     same("an old index again", life_index(copy, steps)[0][0], 0)
     named = {name for names in head_of(steps)["blocks"].values() for name in names} | {"index.json", "feed.xml"}
+    named |= {f"names-{thousand}.txt" for thousand in range(3)}
     same("blocks that are no longer named are removed", set(os.listdir(steps)), named)
     # A block of the folder that is not as it was written is made again.
     name = head_of(steps)["blocks"]["deposits"][0]
@@ -254,6 +260,18 @@ def test_other_archives(folder: str) -> None:
         check(
             f"{len(members)} deposits",
             life_index(copy, room, day)[0][0] == 0 and said(room) == [entry.said() for entry in members],
+        )
+        same(
+            f"the names for titles of {len(members)} deposits",
+            names_for_titles(room),
+            {
+                f"names-{thousand}.txt": "".join(
+                    f"{number} {entry.name[:80].strip()}\n"
+                    for number, entry in enumerate(members, 1)
+                    if number // 1000 == thousand and entry.name
+                )
+                for thousand in range(len(members) // 1000 + 1)
+            },
         )
         same(
             f"the days of {len(members)} deposits",

@@ -134,15 +134,11 @@ class Previewed(html.parser.HTMLParser):
 
 
 def page_of(gateway: Gateway, named: str = "") -> bytes:
-    """The page as the gateway gives it at an address that a preview calls so."""
+    """The page as the gateway gives it, while there is no index, at an address that a preview calls so."""
     page = content(os.path.join(WEB, "index.html")).decode()
-    for before, put in (
-        ("<title>", named),
-        ('"og:title" content="', named),
-        ('"og:image" content="', f"http://127.0.0.1:{gateway.port}"),
-    ):
-        page = page.replace(before, before + put, 1)
-    return page.encode()
+    put = {"named": "", "life_title": named, "life_origin": f"http://127.0.0.1:{gateway.port}"}
+    page = re.sub(r'<!--# echo var="(\w+)" default="" -->', lambda found: put[found[1]], page)
+    return re.sub(r"<!--# .*? -->", "", page).encode()
 
 
 def accepting(form: str | None) -> dict[str, str]:

@@ -17,6 +17,7 @@ from browser import Browser
 from clients import check, exchanged, message, same
 from gateways import DEPLOY, Gateway
 from pages import asked, index, kept, listed
+from web_addresses import Previewed
 
 LINKS = "return [...document.querySelectorAll('.cards a')].map((link) => Number(link.getAttribute('href').match(/[0-9]+/)[0]))"
 ENTER = "\ue007"
@@ -249,6 +250,39 @@ def fed(gateway: Gateway, browser: Browser, base: str, _: object) -> None:
     check("a block is kept by browsers", status == 200 and "immutable" in lines["cache-control"])
 
 
+MARKED = b'#N <b>"Glider" & <!--# echo var="host" --> gr\xc3\xb6\xc3\x9fer\nx = 3, y = 3, rule = B3/S23\nbob$2bo$3o!\n'
+NAMED = '<b>"Glider" & <!--# echo var="host" --> größer'
+
+
+def titles(gateway: Gateway, _browser: Browser, base: str, folder: str) -> None:
+    """A preview of a link to a deposit has its name, from the index. What is in a name is text; long names are cut."""
+    marked = kept(gateway, "titles-marked", MARKED, "eve")
+    long = kept(gateway, "titles-long", b"#N " + b"long " * 40 + b"\nx = 1, y = 1, rule = B3/S23\no!\n", "eve")
+    bare = kept(gateway, "titles-bare", b"x = 2, y = 1, rule = B3/S23\n2o!\n", "eve")
+    same("before the index has it", titled(gateway, f"/d/{marked}"), f"Deposit {marked} · Life archive")
+    check("an index with names", index(gateway, os.path.join(folder, "club.db")))
+    for path, wanted in (
+        (f"/d/{marked}", f"{NAMED} · Deposit {marked} · Life archive"),
+        (f"/d/000{marked}", f"{NAMED} · Deposit 000{marked} · Life archive"),
+        (f"/D/{marked}/at/7/", f"{NAMED} · Deposit {marked}, generation 7 · Life archive"),
+        (f"/d/{long}", f"{('long ' * 16).strip()} · Deposit {long} · Life archive"),
+        (f"/d/{bare}", f"Deposit {bare} · Life archive"),
+        (f"/d/{bare}{marked}", f"Deposit {bare}{marked} · Life archive"),
+        (f"/c/{marked}", f"Census {marked} · Life archive"),
+        ("/", "Life archive"),
+    ):
+        same(f"the preview of {path}", titled(gateway, path), wanted)
+    for path in ("/index/names-0.txt", "/.names/0"):
+        same(f"{path} is not served", asked(gateway.port, path)[:2], (404, b'{"error":"no-such-page","refusal":12}'))
+
+
+def titled(gateway: Gateway, path: str) -> str:
+    """The title of a page, which is the same in its properties."""
+    said = Previewed(asked(gateway.port, path)[1]).said
+    same(f"the two titles of {path}", said["title"], said["og:title"])
+    return said["title"]
+
+
 def narrow(gateway: Gateway, browser: Browser, base: str, _: object) -> None:
     """What the index adds fits a phone, and has a name for who hears it."""
     for address in ("find", "find?text=list&cells=1..", "c", "o/B3-S23/xs4_33", "d/of/eve"):
@@ -355,4 +389,4 @@ def large(gateway: Gateway, browser: Browser, base: str, folder: str) -> None:
     shutil.rmtree(made)
 
 
-PARTS = [without, searched, members, counted, fed, narrow, large]
+PARTS = [without, searched, members, counted, fed, titles, narrow, large]

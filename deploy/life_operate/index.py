@@ -11,6 +11,7 @@ writes these files into FOLDER, which it creates if necessary:
     objects-N-SUM.json    for each rule and each code, which of these censuses have it, and how often
     comments-N-SUM.json   the comments of up to 1,000 deposits from N on
     feed.xml              the newest deposits, as Atom
+    names-K.txt           the names of deposits 1,000 K to 1,000 K + 999: the gateway writes them into the titles of pages
 
 SUM is the beginning of the file's SHA-256 digest, so a file with a given name never changes. A block of 1,000 is full: as long as the
 archive only grows, it is not made again. An archive has no dates: the day is when this program first saw the row, in UTC, or that of
@@ -43,6 +44,9 @@ BLOCK = 1000
 HEAD = "index.json"
 FEED = "feed.xml"
 IN_FEED = 50
+# Names for titles are cut after this many characters.
+MOST_OF_NAME = 80
+NAMES_FILE = re.compile(r"names-[0-9]+\.txt")
 BLOCK_NAME = re.compile(r"(deposits|censuses|objects|comments)-[0-9]+-([0-9a-f]{16})\.json")
 # Blocks that are no longer listed stay for this many seconds: a browser may still have the list that names them.
 STAYS = 3600
@@ -342,11 +346,7 @@ def feed_of(archive: Archive, folder: Folder, names: list[str]) -> bytes:
         "<author><name>Life archive</name></author>",
     ]
     for entry in entries:
-        title = escape(
-            "".join(
-                letter if letter.isprintable() else "\ufffd" for letter in entry["name"] or f"Deposit {entry['number']}"
-            )
-        )
+        title = escape(printable(entry["name"] or f"Deposit {entry['number']}"))
         said = f"{entry['cells']} cells, {entry['width']} by {entry['height']}, {entry['rule']}"
         lines += [
             "<entry>",
@@ -378,6 +378,41 @@ def entries_of(block: dict[str, Any]) -> list[dict[str, Any]]:
             }
         )
     return found
+
+
+def printable(text: str) -> str:
+    return "".join(letter if letter.isprintable() else "\ufffd" for letter in text)
+
+
+# ---- names for the titles of pages
+
+
+def write_names(folder: Folder, blocks: list[str]) -> None:
+    """Writes a line `NUMBER NAME` for each deposit with a name. Of blocks that the index had before, the files are there already. Files beyond
+    the last deposit are removed."""
+    before, known = set(folder.head["blocks"]["deposits"]), set()
+    # The first number of a file is the last of a block.
+    for place in range(len(blocks) + 1):
+        sources, file = blocks[max(place - 1, 0) : place + 1], f"names-{place}.txt"
+        if before.issuperset(sources) and os.path.exists(os.path.join(folder.path, file)):
+            known.add(file)
+        elif lines := "".join(name_line(*named) for named in named_in(folder, sources) if named[0] // BLOCK == place):
+            folder.write(file, lines.encode())
+            known.add(file)
+    for name in os.listdir(folder.path):
+        if NAMES_FILE.fullmatch(name) and name not in known:
+            os.remove(os.path.join(folder.path, name))
+
+
+def named_in(folder: Folder, blocks: list[str]) -> Iterable[tuple[int, str]]:
+    """The deposits of these blocks that have a name."""
+    for name in blocks:
+        block = json.loads(folder.content(name) or b'{"first": 1, "name": []}')
+        yield from ((number, text) for number, text in enumerate(block["name"], block["first"]) if text)
+
+
+def name_line(number: int, name: str) -> str:
+    return f"{number} {printable(name)[:MOST_OF_NAME].strip()}\n"
 
 
 # ---- the index
@@ -414,6 +449,7 @@ def made(copy: str, path: str, own: str | None) -> str:
         "made": datetime.datetime.now(datetime.timezone.utc).strftime("%Y-%m-%dT%H:%M:%SZ"),
     }
     folder.write(FEED, feed_of(archive, folder, blocks["deposits"]))
+    write_names(folder, blocks["deposits"])
     folder.write(HEAD, json_of(head))
     sync(path)
     folder.remove_others(head)

@@ -93,7 +93,10 @@ def of_gateway(facts: Facts) -> List[Place]:
     """The site of nginx."""
     site = partial(marked, routes.SITE, routes.ADDRESSES)
     return [
-        site("titles", routes.site_titles(facts.addresses, facts.limits)),
+        site(
+            "titles",
+            routes.site_titles(facts.addresses, facts.limits) + routes.site_deposit(facts.addresses, facts.limits),
+        ),
         site("addresses", routes.site_pages(facts.addresses, facts.limits)),
     ]
 

@@ -157,3 +157,14 @@ def site_titles(addresses: List[Address], limits: Limits) -> List[str]:
             variables = re.sub(r"\{(\w+)\}", r"$life_in_\1", title)
             lines.append(f'    "~*^{expression(path, patterns, form)}/*$" "{variables} · ";')
     return [*lines, "}"]
+
+
+def site_deposit(addresses: List[Address], limits: Limits) -> List[str]:
+    """The map that has the number of the deposit which an address names, without leading zeros."""
+
+    def form(name: str, pattern: str) -> str:
+        return f"0*(?<life_in_deposit>{pattern})" if name == "number" else pattern
+
+    paths = [expression(one.path, in_addresses(limits), form) for one in addresses if one.name == AHEAD]
+    lines = [f'    "~*^{path}/*$" $life_in_deposit;' for path in paths]
+    return ["map $life_path $life_deposit {", '    default "";', *lines, "}"]

@@ -246,9 +246,11 @@ def test_installation(fresh: Debian) -> None:
                     "life-watch.timer",
                     "life-backup.timer",
                     "life-age.timer",
+                    "life-sound.timer",
+                    "life-index.timer",
                 )
             ]
-            == ["active"] * 6
+            == ["active"] * 8
         ),
     )
     check("the list through nginx", until(lambda: curl(fresh, "/deposits/after/0") == ("200", '{"deposits":[]}')))
@@ -347,6 +349,28 @@ def test_ages(debian: Debian) -> None:
             "one alarm says that it is well again",
             until(lambda: over(debian, "life-age.service") == before + 1),
         )
+
+
+@pytest.mark.usefixtures("first_copy")
+def test_sound(debian: Debian) -> None:
+    """Every row of the newest copy is read. One that is damaged is an alarm, and another one once it is sound again."""
+    unit = "life-sound.service"
+    debian.run("systemctl", "stop", "life-backup.timer")
+    same("the newest copy is read", debian.run("systemctl", "start", unit).returncode, 0)
+    newest = copies(debian)[-1]
+    check("the unit says that it is sound", f"{newest}: sound: 3 deposits, 0 censuses" in status_of(debian, unit))
+    path, begun, over_before = debian.path(f"{COPIES}/{newest}"), alarms(debian, unit), over(debian, unit)
+    with open(path, "r+b") as file:
+        good = file.read()
+        file.seek(0)
+        file.write(b"x" * 4096)
+    check("a damaged copy is a failure", debian.run("systemctl", "start", unit).returncode != 0)
+    check("and an alarm", until(lambda: alarms(debian, unit) == begun + 1))
+    with open(path, "r+b") as file:
+        file.write(good)
+    same("it is sound again", debian.run("systemctl", "start", unit).returncode, 0)
+    check("one alarm says so", until(lambda: over(debian, unit) == over_before + 1))
+    debian.run("systemctl", "start", "life-backup.timer")
 
 
 def test_stopped(debian: Debian) -> None:

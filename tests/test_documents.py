@@ -40,6 +40,7 @@ PARTS = {
 PROOFS, DEFINITIONS = "docs/PROOFS.md", "docs/DEFINITIONS.md"
 ARCHITECTURE, TESTING = "docs/ARCHITECTURE.md", "docs/TESTING.md"
 API, FORMATS, COMMANDS, OPERATING = "docs/API.md", "docs/FORMATS.md", "docs/COMMANDS.md", "docs/OPERATING.md"
+DECISIONS = "docs/DECISIONS.md"
 # The tables, and what repeats them beside the documents.
 REFUSALS, LIMITS, ROUTES, ADDRESSES, CLAUSES = refusals.PATH, limits.PATH, routes.ROUTES, routes.ADDRESSES, clauses.PATH
 SENTENCES, SCRIPTS, SITE = "web/refusals.js", "examples/scripts/asking.sh", routes.SITE
@@ -101,7 +102,7 @@ OTHER_LENGTHS = {
     "README.md": 170,
     "bench/README.md": 280,
     "docs/COMMANDS.md": 280,
-    "docs/DECISIONS.md": 660,
+    DECISIONS: 700,
     "docs/OPERATING.md": 340,
 }
 
@@ -453,6 +454,13 @@ def lengths(pages: Pages) -> Problems:
             yield None
 
 
+def decisions(pages: Pages) -> Problems:
+    """Each number of a decision is there once, from 1 to the last."""
+    numbers = sorted(map(int, re.findall(r"(?m)^### (\d+)\. ", pages[DECISIONS])))
+    for place, number in enumerate(numbers, 1):
+        yield None if number == place else f"{DECISIONS}: the decision at place {place} has the number {number}"
+
+
 def cells(pages: Pages) -> Problems:
     """No cell of a table is long; those of PROOFS.md are looked at row by row."""
     for path, page in documents(pages):
@@ -536,6 +544,7 @@ CHECKS: list[Callable[[Pages], Problems]] = [
     table,
     printed,
     lengths,
+    decisions,
     cells,
     wording,
     what_changed,
@@ -575,6 +584,7 @@ CHANGES = [
     (parts, TESTING, rf"(?m)^\| `{re.escape(PARTS['peers'])}`.*\n", ""),
     (lengths, "README.md", r"\n", "\n" * 3),
     (lengths, "docs/OPERATING.md", r"\n", " " * 121 + "\n"),
+    (decisions, DECISIONS, r"(?m)^### 59\.", "### 44."),
     (table, REFUSALS, "status,sentence", "status,text"),
     (table, REFUSALS, "no-end", "No-End"),
     (table, REFUSALS, r"(?m)^file,2,.*\n", ""),

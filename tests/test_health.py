@@ -1,17 +1,20 @@
 """Whether an administrator learns about problems: alarms that begin and end once, the checks of life-age, settings that are named with their
 line, and files that somebody has changed by hand. systemd is a stand-in here; tests/test_boot.py has a real one.
 """
+import contextlib
 import getpass
 import os
+import pathlib
 import re
 import shutil
+import sqlite3
 import subprocess
 import time
 
 import pytest
 
 import clubs
-from clients import GLIDER, HERE, Server, check, deposit, exchanged, same
+from clients import BLOCKS, GLIDER, HERE, Server, check, deposit, exchanged, same
 
 pytestmark = pytest.mark.full
 
@@ -263,6 +266,55 @@ def test_usages(words: list[str]) -> None:
     """Wrong arguments are a usage error: a line about them, and status 2."""
     status, out, err = script(*words)
     check(f"wrong arguments of {words[0]}: {err}", (status, out) == (2, "") and "usage: " in err)
+
+
+# ---- what life-sound looks at
+
+
+def sound(place: Place, program: str) -> tuple[int, str]:
+    status, out, err = script("life-sound", program, place.archive, place.copies)
+    return status, out + err
+
+
+def test_sound(program: str, folder: str) -> None:
+    """The newest copy is read row by row, and stays as it is. A wrong row, a file that is not a database, and a missing copy are failures."""
+    place = Place(os.path.join(folder, "sound"))
+    same("no copy", sound(place, program), (1, f"life-sound: there is no copy in {place.copies}\n"))
+    with Server(place.archive, 2) as server:
+        exchanged(server.port, [deposit("ann", "t1", GLIDER), deposit("bob", "t2", BLOCKS)])
+    copy = place.copied(60)
+    same("a copy is made", script("life-copy", place.archive, copy)[0], 0)
+    future = place.copied(-7200)
+    write(future, "from a clock that was wrong")
+    before = files(place.copies)
+    same("a sound copy", sound(place, program), (0, f"life-sound: {copy}: sound: 2 deposits, 0 censuses\n"))
+    same("it is as it was, and nothing is beside it", files(place.copies), before)
+    same("an older copy that is wrong", os.path.exists(wrong_copy(copy, place.copied(7200))), True)
+    same("only the newest one is read", sound(place, program)[0], 0)
+    newest = wrong_copy(copy, place.copied())
+    row = "deposit 2: its row is wrong or missing"
+    same("a wrong row", sound(place, program), (1, f"life-sound: {newest} is not sound: {row}\n"))
+    write(newest, "x" * 8192)
+    same("no database", sound(place, program), (1, f"life-sound: {newest} can't be checked: refused: unavailable\n"))
+    gone = (1, f"life-sound: {newest}.none: No such file or directory\n")
+    same("no program", sound(place, f"{newest}.none"), gone)
+    status, _, err = script("life-sound", program)
+    check("wrong arguments", status == 2 and err.startswith("usage: life-sound"))
+
+
+def files(folder: str) -> dict[str, bytes]:
+    """The files of a folder with their bytes."""
+    return {path.name: path.read_bytes() for path in pathlib.Path(folder).iterdir()}
+
+
+def wrong_copy(copy: str, new: str) -> str:
+    """Makes the archive again from its dump, with a wrong population in the last row."""
+    os.remove(new)
+    with contextlib.closing(sqlite3.connect(copy)) as old, contextlib.closing(sqlite3.connect(new)) as database:
+        database.executescript("\n".join(old.iterdump()))
+        database.execute("UPDATE deposits SET population = population + 1 WHERE id = 2")
+        database.commit()
+    return new
 
 
 # ---- settings and files

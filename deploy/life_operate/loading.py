@@ -13,6 +13,7 @@ UNITS = (
     "life-gateway.service",
     "life-backup.timer",
     "life-age.timer",
+    "life-sound.timer",
     "life-index.timer",
     "life-watch.timer",
 )

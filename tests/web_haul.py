@@ -238,6 +238,16 @@ def more(_gateway: Gateway, browser: Browser, base: str, folder: str) -> None:
     )
     browser.one("main p button").click()
     check("all of them", browser.run(shown) == objects(haul) and not browser.one("main p button").is_displayed())
+    codes = [code for code in haul if code]
+    by_soup = sorted(codes, key=lambda code: haul[code][1])
+    for head, wanted in (
+        ("code", sorted(codes)),
+        ("first", by_soup),
+        ("first", by_soup[::-1]),
+        ("count", objects(haul)),
+    ):
+        browser.one(f'th[data-column="{head}"] button').click()
+        same(f"all of them by {head}", browser.run(shown), wanted)
 
 
 # ---- what is refused

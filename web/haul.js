@@ -1,4 +1,4 @@
-// A haul: you drop or choose a table from `life-haul`, and the page shows its objects, the most frequent first, with the soups that have them.
+// A haul: you drop or choose a table from `life-haul`, and the page shows its objects with the soups that have them, the most frequent first until its heads are pressed.
 
 import { go } from './address.js';
 import { Labels, countNote, objectRow, unresolvedRow } from './census.js';
@@ -6,6 +6,7 @@ import { objectNames } from './code.js';
 import { counted, field, make, many } from './dom.js';
 import { bring, broughtFiles } from './brought.js';
 import { draft, keepDraft } from './kept.js';
+import { Heads, sorted } from './sorts.js';
 import { sumOf } from './sum.js';
 
 /** How many objects are shown at first, and how many more by each press. Each has a drawing. */
@@ -67,27 +68,41 @@ function rowOf(object, most, haul, labels) {
   return row;
 }
 
-/** The table of objects, with a button that shows more. */
+/** @type {import('./sorts.js').Column[]} */
+const COLUMNS = [
+  { id: 'code', head: 'Code', isUp: true, value: ({ code }) => code },
+  { id: 'count', head: 'Count', isNumber: true, value: ({ count }) => count },
+  { id: 'first', head: 'First soup', isNumber: true, isUp: true, value: ({ first }) => first },
+];
+
+/** The table of objects, which its heads sort, with a button that shows more. */
 function objectsOf(haul, labels) {
-  const objects = haul.objects.toSorted((one, other) => other.count - one.count);
-  const most = Math.max(1, haul.unresolved, ...objects.slice(0, 1).map(({ count }) => count));
+  const most = haul.objects.reduce((greatest, { count }) => Math.max(greatest, count), Math.max(1, haul.unresolved));
   const body = make('tbody');
   const more = make('button', { type: 'button' });
+  let objects = [];
   let shown = 0;
-  const showMore = () => {
-    body.append(...objects.slice(shown, shown + SHOWN).map((object) => rowOf(object, most, haul, labels)));
-    shown = Math.min(shown + SHOWN, objects.length);
+  const showUpTo = (end) => {
+    body.append(...objects.slice(shown, end).map((object) => rowOf(object, most, haul, labels)));
+    shown = Math.min(end, objects.length);
     more.hidden = shown === objects.length;
     more.textContent = `Show ${counted(Math.min(SHOWN, objects.length - shown))} more of ${counted(objects.length)}`;
   };
-  more.addEventListener('click', showMore);
-  showMore();
+  const sort = (order) => {
+    const end = Math.max(shown, SHOWN);
+    objects = sorted(haul.objects, COLUMNS, order);
+    body.replaceChildren();
+    shown = 0;
+    showUpTo(end);
+  };
+  more.addEventListener('click', () => showUpTo(shown + SHOWN));
+  const heads = new Heads(COLUMNS, { sort: 'count', isUp: false }, sort);
+  sort(heads.order);
   const last = unresolvedRow(haul.unresolved, most);
   last.append(make('td'));
-  const heads = [['Code', ''], ['Count', 'number'], [null, 'bars'], ['First soup', 'number']];
-  return [make('table', { class: 'census haul' }, make('caption', { class: 'aside' }, 'Objects of the haul, the most frequent first'),
-    make('thead', {}, make('tr', {}, make('td', {}), heads.map(([text, kind]) => (text ? make('th', { scope: 'col', class: kind }, text) : make('td', { class: kind }))))),
-    body, make('tfoot', {}, last)), make('p', {}, more)];
+  const [code, count, first] = heads.cells;
+  return [make('table', { class: 'census haul' }, make('caption', { class: 'aside' }, 'Objects of the haul'),
+    make('thead', {}, make('tr', {}, make('td'), code, count, make('td', { class: 'bars' }), first)), body, make('tfoot', {}, last)), make('p', {}, more)];
 }
 
 function shownHaul(haul, labels) {

@@ -1,9 +1,11 @@
 """The formatters and linters of the repository, as Debian has them, with the files that each looks at: black, flake8, mypy, shfmt, shellcheck and
-tsc. Their settings are in pyproject.toml, .flake8, .editorconfig and tests/types/tsconfig.json. tests/test_lint.py runs them.
+tsc. Their settings are in pyproject.toml, .flake8, .editorconfig and tests/types/tsconfig.json. tests/test_lint.py runs them. A script without
+an ending is known by its first line.
 
     python3 tests/linters.py    formats Python and bash in place
 """
 import os
+import re
 import subprocess
 import sys
 
@@ -42,18 +44,14 @@ def tracked() -> list[str]:
 def tools() -> dict[str, list[str]]:
     """Each tool with its arguments."""
     files = tracked()
-    python = [
-        path
-        for path in files
-        if path.endswith(".py") or first_line(path).startswith((b"#!/usr/bin/env python3", b"#!/usr/bin/python3"))
-    ]
+    python = [path for path in files if path.endswith(".py") or re.match(rb"#!.*\bpython", first_line(path))]
     shell = [
         path for path in files if first_line(path).startswith((b"#!/usr/bin/env bash", b"#!/bin/bash", b"#!/bin/sh"))
     ]
     return {
         "black": ["black", "--quiet", "--check", "--diff", *python],
         "flake8": ["flake8", *python],
-        "mypy": ["mypy"],
+        "mypy": ["mypy", *python],
         "shfmt": [*SHFMT, "-d", *shell],
         "shellcheck": ["shellcheck", *shell],
         "tsc": ["tsc", "-p", "tests/types"],

@@ -1,10 +1,14 @@
 """What the scripts that split a haul share: its arguments, its folder, and the pieces of its range."""
+from __future__ import annotations
+
 import argparse
+import dataclasses
 import json
 import os
 import re
 import subprocess
 import sys
+from typing import NoReturn
 
 # The repository, found from the path under which the script was called.
 TOP = os.path.join(os.path.dirname(os.path.abspath(sys.argv[0])), "..", "..")
@@ -21,23 +25,50 @@ trap 'exit 1' INT TERM
 "$HAUL_PROGRAM" --rule "$HAUL_RULE" --symmetry "$HAUL_SYMMETRY" -- "$HAUL_ROOT" FIRST COUNT "$HAUL_N" "$HAUL_LIMIT" > FIRST.$$ && mv FIRST.$$ FIRST.csv"""
 
 
-def end(why):
+class Haul:
+    """The arguments of a haul, which argparse sets."""
+
+    root: str
+    first: int
+    count: int
+    n: int
+    limit: int
+    folder: str
+    size: int
+    rule: str
+    symmetry: str
+    program: str
+
+
+@dataclasses.dataclass(frozen=True)
+class Piece:
+    """A part of a range: its first soup, and the number of soups."""
+
+    first: int
+    count: int
+
+
+def end(why: str) -> NoReturn:
     sys.exit(f"haul/{os.path.basename(sys.argv[0])}: {why}")
 
 
-def number(text):
+def number(text: str) -> int:
     if not re.fullmatch("[0-9]{1,19}", text):
         raise argparse.ArgumentTypeError(f"{text}: not a number")
     return int(text)
 
 
-def positive(text):
+def positive(text: str) -> int:
     if number(text) == 0:
         raise argparse.ArgumentTypeError("0: not a number from 1 on")
     return number(text)
 
 
-def parser_of(description):
+def absolute(path: str) -> str:
+    return os.path.abspath(path)
+
+
+def parser_of(description: str | None) -> argparse.ArgumentParser:
     """A parser for the arguments that all scripts have."""
     parser = argparse.ArgumentParser(
         description=description, formatter_class=argparse.RawDescriptionHelpFormatter, allow_abbrev=False
@@ -49,27 +80,26 @@ def parser_of(description):
     parser.add_argument("--size", type=positive, default=10_000)
     parser.add_argument("--rule", default="B3/S23")
     parser.add_argument("--symmetry", default="C1")
-    parser.add_argument("--program", type=os.path.abspath, default=os.path.join(TOP, "life-haul"))
+    parser.add_argument("--program", type=absolute, default=os.path.join(TOP, "life-haul"))
     return parser
 
 
-def read_arguments(parser, arguments):
-    haul = parser.parse_args(arguments)
+def read_arguments(parser: argparse.ArgumentParser, arguments: list[str], haul: Haul) -> None:
+    """Sets the arguments of a haul from those of a command line."""
+    parser.parse_args(arguments, haul)
     if haul.size > MOST_SOUPS:
         parser.error(f"a piece has at most {MOST_SOUPS} soups")
     if haul.count > MOST_PIECES * haul.size:
         parser.error(f"more than {MOST_PIECES} pieces: use a larger --size")
-    return haul
 
 
-def pieces_of(haul):
-    """The first soup and the count of each piece."""
-    return [(haul.first + done, min(haul.size, haul.count - done)) for done in range(0, haul.count, haul.size)]
+def pieces_of(haul: Haul) -> list[Piece]:
+    return [Piece(haul.first + done, min(haul.size, haul.count - done)) for done in range(0, haul.count, haul.size)]
 
 
-def validate(haul, pieces):
+def validate(haul: Haul, pieces: list[Piece]) -> None:
     """Ends like the program if that refuses the first soup of the last piece. This also builds the program if necessary."""
-    last = pieces[-1][0] if pieces else haul.first
+    last = pieces[-1].first if pieces else haul.first
     numbers = map(str, (last, min(haul.count, 1), haul.n, haul.limit))
     done = subprocess.run(
         [haul.program, "--rule", haul.rule, "--symmetry", haul.symmetry, "--", haul.root, *numbers],
@@ -80,7 +110,7 @@ def validate(haul, pieces):
         sys.exit(done.returncode)
 
 
-def take_folder(haul):
+def take_folder(haul: Haul) -> None:
     """Makes the folder, or checks that it is this haul's."""
     names = ["root", "first", "count", "n", "limit", "rule", "size"]
     # Like their tables, hauls of C1 do not name their symmetry.
@@ -100,13 +130,13 @@ def take_folder(haul):
     os.makedirs(os.path.join(haul.folder, "pieces"), exist_ok=True)
 
 
-def write_list(haul, pieces):
+def write_list(haul: Haul, pieces: list[Piece]) -> None:
     """Writes a line for each piece, with its first soup and its count."""
     with open(os.path.join(haul.folder, "list"), "w", encoding="utf-8") as file:
-        file.writelines(f"{first} {count}\n" for first, count in pieces)
+        file.writelines(f"{piece.first} {piece.count}\n" for piece in pieces)
 
 
-def environment(haul):
+def environment(haul: Haul) -> dict[str, str]:
     """The environment for the commands that count pieces."""
     return os.environ | {
         "HAUL_PROGRAM": haul.program,
@@ -118,5 +148,5 @@ def environment(haul):
     }
 
 
-def table_names(pieces):
-    return [f"{first}.csv" for first, _ in pieces]
+def table_names(pieces: list[Piece]) -> list[str]:
+    return [f"{piece.first}.csv" for piece in pieces]

@@ -1,4 +1,4 @@
-"""What the tests of the archive's program share: counting results, a server that a test starts, and messages to it.
+"""What the tests of the archive's program share: counting results, a server that a test starts, messages to it, and certificates.
 
 A server is one that a script started, and is ended by its process number alone.
 """
@@ -190,6 +190,12 @@ def is_answered(archive: Archive, messages: Iterable[bytes], back: bytes) -> boo
             return False
         back = back[len(wanted) :]
     return back == b""
+
+
+def certify(certificate: str, key: str, name: str = "localhost") -> None:
+    """Makes a self-signed certificate for a name, valid for two days, and its key."""
+    words = ["openssl", "req", "-x509", "-newkey", "rsa:2048", "-nodes", "-days", "2", "-subj", f"/CN={name}"]
+    subprocess.run([*words, "-out", certificate, "-keyout", key], capture_output=True, check=True, timeout=60)
 
 
 def new_folder() -> str:

@@ -20,7 +20,7 @@ from collections.abc import Callable
 import pytest
 
 import clients
-from clients import check, free_port, note, same
+from clients import certify, check, free_port, note, same
 from gateways import DEPLOY, Gateway
 
 FIRST_PORT = 9900
@@ -43,29 +43,9 @@ class Site:
     def __init__(self, folder: str, name: str, *settings: str) -> None:
         self.context, words = None, []
         if shutil.which("openssl"):
-            paths = [os.path.join(folder, f"{name}.{kind}") for kind in ("cert", "key")]
-            subprocess.run(
-                [
-                    "openssl",
-                    "req",
-                    "-x509",
-                    "-newkey",
-                    "rsa:2048",
-                    "-nodes",
-                    "-days",
-                    "2",
-                    "-subj",
-                    "/CN=localhost",
-                    "-out",
-                    paths[0],
-                    "-keyout",
-                    paths[1],
-                ],
-                check=True,
-                capture_output=True,
-                timeout=60,
-            )
-            words = ["TLS=yes", f"TLS_CERTIFICATE={paths[0]}", f"TLS_KEY={paths[1]}"]
+            cert, key = os.path.join(folder, f"{name}.cert"), os.path.join(folder, f"{name}.key")
+            certify(cert, key)
+            words = ["TLS=yes", f"TLS_CERTIFICATE={cert}", f"TLS_KEY={key}"]
             self.context = ssl._create_unverified_context()
         self.gateway = Gateway(os.path.join(folder, f"{name}.db"), FIRST_PORT, *words, *settings, seconds=600)
         self.url = f"http{'s' if self.context else ''}://127.0.0.1:{self.gateway.port}"

@@ -38,7 +38,7 @@ from booted import (
     text_of,
     until,
 )
-from clients import HERE, check, same
+from clients import HERE, certify, check, same
 from mistakes import AFTER_AN_OLDER_COPY, MISTAKES, OLDER_COPY, Elsewhere, Mistake, is_tried, try_mistake
 
 pytestmark = pytest.mark.full
@@ -601,26 +601,8 @@ def test_renewal(debian: Debian) -> None:
     if not shutil.which("openssl"):
         pytest.skip("openssl is not installed, so no certificate is renewed")
     lineage = "/etc/letsencrypt/live/life.example"
+    cert, key = f"{lineage}/fullchain.pem", f"{lineage}/privkey.pem"
     os.makedirs(debian.path(lineage), exist_ok=True)
-
-    def certify(name: str) -> None:
-        words = [
-            "openssl",
-            "req",
-            "-x509",
-            "-newkey",
-            "rsa:2048",
-            "-nodes",
-            "-days",
-            "2",
-            "-subj",
-            f"/CN={name}",
-            "-out",
-            debian.path(f"{lineage}/fullchain.pem"),
-            "-keyout",
-            debian.path(f"{lineage}/privkey.pem"),
-        ]
-        subprocess.run(words, capture_output=True, check=True, timeout=60)
 
     def given() -> list[str]:
         return re.findall(
@@ -628,13 +610,13 @@ def test_renewal(debian: Debian) -> None:
             debian.run("curl", "-k", "-s", "-o", "/dev/null", "-w", "%{certs}", "https://localhost/").stdout,
         )
 
-    certify("first.example")
+    certify(debian.path(cert), debian.path(key), "first.example")
     plain = {"TLS": "no", "LISTEN": "80", "LISTEN_ALSO": "[::]:80", "REDIRECT": "", "REDIRECT_ALSO": ""}
     secure = {"TLS": "yes", "LISTEN": "443", "LISTEN_ALSO": "[::]:443", "REDIRECT": "80", "REDIRECT_ALSO": "[::]:80"}
-    done = configured(debian, **secure, TLS_CERTIFICATE=f"{lineage}/fullchain.pem", TLS_KEY=f"{lineage}/privkey.pem")
+    done = configured(debian, **secure, TLS_CERTIFICATE=cert, TLS_KEY=key)
     check(f"TLS by settings: {done.stderr}", done.returncode == 0 and until(lambda: given() == ["first.example"]))
     check("plain HTTP is sent on", until(lambda: curl(debian, "/deposits/1")[0] == "301"))
-    certify("second.example")
+    certify(debian.path(cert), debian.path(key), "second.example")
     same("the old certificate without the hook", given(), ["first.example"])
     hook = debian.run(
         "env",

@@ -12,6 +12,7 @@ import sys
 import pytest
 
 from clients import GLIDER, HERE, Server, check, deposit, exchanged, message, same
+from clubs import content, file_of, fill
 
 pytestmark = pytest.mark.full
 
@@ -26,25 +27,10 @@ COPIES = "/var/backups/life"
 # ---- archives and copies
 
 
-def file_of(member: str) -> bytes:
-    return f"#N By {member}\n".encode() + GLIDER
-
-
 def archive(folder: str, name: str, members: list[str], censuses: int = 0) -> str:
     """A new archive with a deposit of each member in turn, and this many censuses of the first deposit."""
     database = os.path.join(folder, name)
-    for ending in ("", "-wal"):
-        if os.path.exists(database + ending):
-            os.remove(database + ending)
-    messages = [deposit(member, "t1", file_of(member)) for member in members]
-    messages += [
-        message("POST", f"/deposits/1/censuses/{number}/4", b"", "x-member: ann", f"x-token: c{number}")
-        for number in range(censuses)
-    ]
-    with Server(database, 1) as server:
-        replies = exchanged(server.port, messages or [message("GET", "/deposits/after/0")])
-        server.ended()
-    same(f"{name} is made", replies.count(b"HTTP/1.1 20"), max(len(messages), 1))
+    fill(database, members, censuses)
     return database
 
 
@@ -72,11 +58,6 @@ def shown(copy: str, number: int) -> bytes:
         )
         server.ended()
     return replies
-
-
-def content(path: str) -> bytes:
-    with open(path, "rb") as file:
-        return file.read()
 
 
 def new_room(folder: str, name: str) -> str:

@@ -27,7 +27,7 @@ import pytest
 
 import clients
 import strangers
-from clients import GLIDER, Server, check, exchanged, free_port, message, same
+from clients import GLIDER, Server, certify, check, exchanged, free_port, message, same
 from gateways import BUSY, DEPLOY, Gateway, missing
 
 # One gateway serves most tests, one after the other.
@@ -817,33 +817,6 @@ def test_members(servers: None, folder: str) -> None:
         gateway.end()
 
 
-def certificate(folder: str) -> tuple[str, str]:
-    """A certificate that this machine gives itself, and its key."""
-    paths = os.path.join(folder, "cert.pem"), os.path.join(folder, "key.pem")
-    subprocess.run(
-        [
-            "openssl",
-            "req",
-            "-x509",
-            "-newkey",
-            "rsa:2048",
-            "-nodes",
-            "-days",
-            "2",
-            "-subj",
-            "/CN=localhost",
-            "-out",
-            paths[0],
-            "-keyout",
-            paths[1],
-        ],
-        check=True,
-        capture_output=True,
-        timeout=60,
-    )
-    return paths
-
-
 def challenges(folder: str) -> str:
     """A folder as certbot fills it while a certificate is asked for."""
     acme = os.path.join(folder, "acme")
@@ -867,7 +840,8 @@ def test_over_tls(servers: None, folder: str) -> None:
     """TLS by IPv4 and IPv6. Plain HTTP is sent on to it, but for what a certificate is given for; each reply says that https is to be asked."""
     if not shutil.which("openssl"):
         pytest.skip("openssl is not installed")
-    cert, key = certificate(folder)
+    cert, key = os.path.join(folder, "cert.pem"), os.path.join(folder, "key.pem")
+    certify(cert, key)
     acme = challenges(folder)
     plain, also, plain_also = free_port(), free_port(), free_port()
     gateway = Gateway(

@@ -20,7 +20,7 @@ from collections.abc import Iterator, Mapping
 import pytest
 
 import clients
-from clients import BLOCKS, GLIDER, HERE, Server, check, same
+from clients import BLOCKS, GLIDER, HERE, Server, certify, check, same
 
 pytestmark = pytest.mark.quick
 TOP = os.path.join(HERE, "..")
@@ -284,21 +284,7 @@ def test_certificate(room: str) -> None:
     needs("openssl")
     folder = new_folder(room, "certificates", {"a.rle": GLIDER})
     key, certificate = os.path.join(room, "key.pem"), os.path.join(room, "certificate.pem")
-    made = said(
-        "openssl",
-        "req",
-        "-x509",
-        "-newkey",
-        "rsa:2048",
-        "-nodes",
-        "-subj",
-        "/CN=127.0.0.1",
-        "-keyout",
-        key,
-        "-out",
-        certificate,
-    )
-    same("a certificate is made", made[0], 0)
+    certify(certificate, key, "127.0.0.1")
     with Pretender(certificate=(certificate, key)) as server:
         secure = url(server).replace("http:", "https:")
         result = script("put-folder", secure, "ann", folder)

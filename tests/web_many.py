@@ -204,7 +204,7 @@ def folders(gateway: Gateway, browser: Browser, base: str, folder: str) -> None:
     same("both are deposited", done(browser), "2 files: 2 deposited.")
     kept = {name: int(outcome.split()[1]) for name, outcome, _ in browser.run(LINES)}
     same(
-        "the file's name is the name if there is none",
+        "a pattern without a name gets the file's",
         told(gateway, f"/deposits/{kept['guns/one.rle']}"),
         b"#N one\n#O Cid\nx = 5, y = 1, rule = B3/S23\n5o!\n",
     )

@@ -55,7 +55,7 @@ def without(gateway: Gateway, browser: Browser, base: str, _: object) -> None:
     )
     browser.open(f"{base}/find?text=glider")
     check(
-        "a search that was cited says that there is none", browser.until(lambda: "no index" in browser.text(".count"))
+        "a search that was cited says that no index exists", browser.until(lambda: "no index" in browser.text(".count"))
     )
     browser.open(f"{base}/c")
     check("the list of censuses says so too", "no index" in browser.text(".empty"))

@@ -155,7 +155,7 @@ function probes(low, high) {
 }
 
 /**
- * The greatest number of a deposit, 0 if there is none. No route gives it, so it is searched for with lists, four at a time, from a number that
+ * The greatest number of a deposit, 0 for an empty archive. No route gives it, so it is searched for with lists, four at a time, from a number that
  * was seen or that the index has.
  */
 export async function lastDeposit(signal) {

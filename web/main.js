@@ -134,7 +134,7 @@ function sayWaiting(page) {
 /** A path without slashes at its end. */
 const bare = (path) => path.replace(/(.)\/+$/, '$1');
 
-/** The page for a path; nothing if there is none. */
+/** The page for a path; nothing if no page has this path. */
 const pageOf = (path) => PAGES.find(([form]) => form.test(bare(path)));
 
 /** The current path. An old address, after `#`, is replaced by its new one, and a slash at the end is dropped. */

@@ -27,7 +27,7 @@ class Content {
   bytes = new Uint8Array();
   fault = null;
   fileName = '';
-  /** What the page made of the file; null if there is none. @type {import('./given.js').Given | null} */
+  /** What the page made of the file; null for an empty one. @type {import('./given.js').Given | null} */
   read = null;
 
   constructor(text, token, preview) {

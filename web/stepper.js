@@ -30,7 +30,7 @@ class Field {
     this.bits[row * this.words + (column >>> 5)] |= 1 << (column & 31);
   }
 
-  /** The first and last row and word with a live cell; null if there is none. */
+  /** The first and last row and word with a live cell; null if no cell is alive. */
   box() {
     const { words, rows, bits } = this;
     let [top, bottom, left, right] = [rows, -1, words, -1];

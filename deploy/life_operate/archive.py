@@ -127,7 +127,7 @@ class Database:
             raise self.refused(fault) from fault
 
     def first_row(self, query: str, *values: object) -> tuple[Any, ...]:
-        """The first row; an empty one if there is none."""
+        """The first row, or an empty tuple if the query finds nothing."""
         try:
             return self.opened.execute(query, values).fetchone() or ()
         except sqlite3.Error as fault:

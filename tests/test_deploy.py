@@ -498,6 +498,23 @@ def test_unread_members(folder: str) -> None:
     )
 
 
+@pytest.mark.parametrize("words", [["READS=x"], ["NOPE=1"], ["--first-port", "70000"]], ids=" ".join)
+def test_refused_try(program: str, folder: str, monkeypatch: pytest.MonkeyPatch, words: list[str]) -> None:
+    """A trial with a wrong setting, or without ports, ends with one line and leaves nothing."""
+    rooms = os.path.join(folder, f"try-{words[-1]}")
+    os.makedirs(rooms)
+    monkeypatch.setenv("TMPDIR", rooms)
+    done = subprocess.run(
+        [os.path.join(TOP, "deploy", "try"), "--program", program, "--seconds", "1", *words],
+        capture_output=True,
+        text=True,
+        timeout=60,
+        check=False,
+    )
+    check(f"its line: {done.stderr}", done.returncode == 1 and done.stderr.count("\n") == 1)
+    same("what it leaves", (done.stdout, os.listdir(rooms)), ("", []))
+
+
 @pytest.mark.parametrize(
     "words, has_numbers, logs",
     [

@@ -43,7 +43,7 @@ API, FORMATS, COMMANDS, OPERATING = "docs/API.md", "docs/FORMATS.md", "docs/COMM
 DECISIONS = "docs/DECISIONS.md"
 # The tables, and what repeats them beside the documents.
 REFUSALS, LIMITS, ROUTES, ADDRESSES, CLAUSES = refusals.PATH, limits.PATH, routes.ROUTES, routes.ADDRESSES, clauses.PATH
-SENTENCES, SCRIPTS, SITE = "web/refusals.js", "examples/scripts/asking.sh", routes.SITE
+SENTENCES, SCRIPTS, SITE = "web/requests/refusals.js", "examples/scripts/asking.sh", routes.SITE
 EXPLAIN, NAMES_OF_REFUSALS, WORDS = (
     "crates/life_words/src/explain.rt",
     "crates/life_words/specs/Explain.antt",
@@ -64,7 +64,7 @@ OTHERS = [
     kit.PATH,
     "web/main.js",
     "web/ahead.js",
-    "web/limits.js",
+    "web/shared/limits.js",
     "docs/life.1",
     "crates/life_core/src/generations.rt",
 ]
@@ -83,8 +83,8 @@ PLANTED = {
     "life": ("proving and building the program", "the program is told"),
     ".ci/run": ("# Runs the parts that need", "# Runs what stands behind the end of"),
     "check": ("does not replace it", "is none"),
-    "web/about.js": ("A square of the plane", "A square that is none, of the plane"),
-    "web/stepper.js": ("A worker that computes", "A worker, for want of memory, that computes"),
+    "web/pages/about.js": ("A square of the plane", "A square that is none, of the plane"),
+    "web/player/stepper.js": ("A worker that computes", "A worker, for want of memory, that computes"),
     "web/index.html": ("<title>", "<title>No page and no archive: "),
     "crates/life_words/src/words.rt": ("Stores the pattern", "Stores so many patterns"),
     "crates/life_core/src/rule.rt": ("/// A rule", "/// It is no rule. A rule"),
@@ -642,7 +642,7 @@ CHANGES = [
     (copies, LIMITS, "GENERATION_LIMIT,2048", "GENERATION_LIMIT,4096"),
     (copies, LIMITS, r"(?m)^LONGEST_TEXT,.*\n", ""),
     (copies, "crates/life_core/src/generations.rt", "GENERATION_LIMIT: u32 = 2048", "GENERATION_LIMIT: u32 = 4096"),
-    (copies, "web/limits.js", "PERIOD_LIMIT = 2048", "PERIOD_LIMIT = 2049"),
+    (copies, "web/shared/limits.js", "PERIOD_LIMIT = 2048", "PERIOD_LIMIT = 2049"),
     (copies, API, "1,000,000 each", "100,000 each"),
     (copies, API, r"(?m)^\| `GET /censuses/\{id\}` .*\n", ""),
     (copies, ROUTES, "/deposits/{id}/at/{n}", "/deposits/{id}/to/{n}"),

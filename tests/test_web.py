@@ -75,7 +75,7 @@ def runs_of(cells: Iterable[tuple[int, int]]) -> list[list[int]]:
 # seen. Each live cell has its left upper pixel of that color, and there are no others.
 SEEN = """
 const canvas = document.querySelector(words[0]);
-const { colors } = await import('/web/draw.js');
+const { colors } = await import('/web/drawing/draw.js');
 await new Promise((resolve) => requestAnimationFrame(() => requestAnimationFrame(resolve)));
 const { width, height } = canvas;
 const pixels = new Uint32Array(canvas.getContext('2d').getImageData(0, 0, width, height).data.buffer);
@@ -182,13 +182,14 @@ def test_headers(gateway: Gateway) -> None:
         "svg": "image/svg+xml",
         "txt": "text/plain; charset=utf-8",
     }
-    for name in sorted(os.listdir(os.path.join(TOP, "web"))):
+    for path in sorted(glob.glob(os.path.join(TOP, "web", "**", "*.*"), recursive=True)):
+        name = os.path.relpath(path, os.path.join(TOP, "web"))
         if name not in ("index.html", "README.md"):
             status, file, lines = asked(gateway.port, f"/web/{name}")
             same(
                 f"the file {name}",
                 (status, file, lines["content-type"]),
-                (200, content(os.path.join(TOP, "web", name)), types[name.rsplit(".")[-1]]),
+                (200, content(path), types[name.rsplit(".")[-1]]),
             )
     check(
         "the notes of web/ are not with the pages",
@@ -344,7 +345,7 @@ def test_too_long(gateway: Gateway, browser: Browser, base: str, folder: str) ->
             out.truncate(size)
     before = told(gateway, "/deposits/after/0")
     browser.open(f"{base}/new")
-    usual = browser.wait_for("const { FAULTS } = await import('/web/refusals.js'); return FAULTS[1][1];")
+    usual = browser.wait_for("const { FAULTS } = await import('/web/requests/refusals.js'); return FAULTS[1][1];")
     browser.run(COUNT_READS)
     browser.drop([longest], ".drop")
     check(
@@ -445,19 +446,19 @@ def test_sentences(browser: Browser, base: str) -> None:
     same("the refusals and faults that are tried", (len(faulty), len(refusals)), (10, 14))
     browser.open(f"{base}/find")
     named = browser.wait_for(
-        "const { FAULTS } = await import('/web/refusals.js'); return FAULTS.map((fault) => fault?.[0]);"
+        "const { FAULTS } = await import('/web/requests/refusals.js'); return FAULTS.map((fault) => fault?.[0]);"
     )
     same("the names of faults", named[1:], [name for _, name in faulty])
     texts = browser.wait_for(
         """
-        const { sentenceOf, refusalOf } = await import('/web/refusals.js');
+        const { sentenceOf, refusalOf } = await import('/web/requests/refusals.js');
         const said = words[0].map((name) => sentenceOf(refusalOf(400, JSON.stringify({ error: name, refusal: 1 }))));
         return said.concat(words[1].map((rle) => sentenceOf(refusalOf(422, JSON.stringify({ error: 'bad-pattern', refusal: 7, rle })))));""",
         refusals + ["too-many-requests", "no-reply"],
         [int(number) for number, _ in faulty],
     )
     unknown = browser.wait_for(
-        "const { sentenceOf, refusalOf } = await import('/web/refusals.js'); return [[418, 'x'], [502, '<html>'], [401, '<html>']].map((reply) => sentenceOf(refusalOf(...reply)));"
+        "const { sentenceOf, refusalOf } = await import('/web/requests/refusals.js'); return [[418, 'x'], [502, '<html>'], [401, '<html>']].map((reply) => sentenceOf(refusalOf(...reply)));"
     )
     check(
         "a sentence for each",
@@ -644,7 +645,7 @@ def test_looked_up(browser: Browser, base: str) -> None:
     with open(os.path.join(TOP, "web", "objects.csv"), encoding="ascii") as table:
         codes = [row["code"] for row in csv.DictReader(line for line in table if not line.startswith("#"))]
     spelled = browser.wait_for(
-        "const { patternOf, limitOf } = await import('/web/code.js'); return words[0].map((code) => [patternOf(code).rows, limitOf(code)]);",
+        "const { patternOf, limitOf } = await import('/web/patterns/code.js'); return words[0].map((code) => [patternOf(code).rows, limitOf(code)]);",
         codes,
     )
     for code, (rows, limit) in zip(codes, spelled):
@@ -891,8 +892,8 @@ def test_screens(browser: Browser, base: str) -> None:
 # The rows of runs that are drawn of a file, at a pixel a cell, or the number of its fault.
 DRAWN = """
 const [encoded] = words;
-const { readFile, Fault } = await import('/web/rle.js');
-const { paint, colors } = await import('/web/draw.js');
+const { readFile, Fault } = await import('/web/patterns/rle.js');
+const { paint, colors } = await import('/web/drawing/draw.js');
 let pattern;
 try {
   pattern = readFile(Uint8Array.from(atob(encoded), (byte) => byte.charCodeAt(0))).pattern;
@@ -972,7 +973,7 @@ def test_sizes(browser: Browser, base: str) -> None:
     browser.open(f"{base}/find")
     found = browser.wait_for(
         """
-        const { paint, colors, SIZES } = await import('/web/draw.js');
+        const { paint, colors, SIZES } = await import('/web/drawing/draw.js');
         const { live } = colors();
         const cells = [];
         for (let cell = 0; cell < 200; cell += 1) cells.push([(cell * 37) % 61, (cell * 11) % 43]);

@@ -37,11 +37,11 @@ def soup(size: int, seed: int) -> bytes:
 
 
 def imported(name: str, found: set[str]) -> set[str]:
-    """The modules that a module imports, directly or not, and itself."""
+    """The modules that a module imports, directly or not, and itself, each with its folder."""
     if name not in found:
         found.add(name)
-        for other in re.findall(r"from '\./([a-z]+)\.js'", content(os.path.join(WEB, f"{name}.js")).decode()):
-            imported(other, found)
+        for other in re.findall(r"from '(\.[a-z./]+)\.js'", content(os.path.join(WEB, f"{name}.js")).decode()):
+            imported(os.path.normpath(os.path.join(os.path.dirname(name), other)), found)
     return found
 
 
@@ -52,20 +52,28 @@ def ahead(_gateway: Gateway, _browser: Browser, _base: str, _folder: str) -> Non
         content(os.path.join(WEB, "ahead.js")).decode(),
         imported("main", set()),
     )
-    same("the modules of each page", set(re.findall(r'"modulepreload" href="/web/([a-z]+)\.js"', page)), own - {"main"})
+    same(
+        "the modules of each page", set(re.findall(r'"modulepreload" href="/web/([a-z/]+)\.js"', page)), own - {"main"}
+    )
     same(
         "the modules of a deposit's page",
-        set(re.findall("[a-z]+", script[script.index("[") : script.index("];")])),
-        imported("deposit", set()) - own,
+        set(re.findall("[a-z/]+", script[script.index("[") : script.index("];")])),
+        imported("pages/deposit", set()) - own,
     )
 
 
 def listed(_gateway: Gateway, _browser: Browser, _base: str, _folder: str) -> None:
-    """The page about the modules names each of them once, and no others."""
+    """The page about the modules names each of them once, in the row of its folder, and no others."""
     page = content(os.path.join(WEB, "README.md")).decode()
-    names = [name for line in page.splitlines() if line.startswith("| ") for name in re.findall(r"`([a-z]+)`", line)]
-    modules = {name[: -len(".js")] for name in os.listdir(WEB) if name.endswith(".js")}
-    same("the modules of the page", sorted(names), sorted(modules - {"main"}))
+    rows = [line.split("|") for line in page.splitlines() if line.startswith("| `")]
+    named = [(folder.strip("` ./"), name) for _, folder, what, _ in rows for name in re.findall(r"`([a-z]+)`", what)]
+    modules = [
+        (os.path.relpath(folder, WEB).strip("."), name[: -len(".js")])
+        for folder, _, names in os.walk(WEB)
+        for name in names
+        if name.endswith(".js")
+    ]
+    same("the modules of the page", sorted(named), sorted(modules))
 
 
 def wheel(browser: Browser, pixels: Any, modifiers: int = 0) -> None:
@@ -132,7 +140,7 @@ def wheeled(gateway: Gateway, browser: Browser, base: str, _folder: str) -> None
     check("the page scrolls", browser.until(lambda: browser.run("return scrollY") > 0))
     check("it is said how to zoom", browser.run("return !document.querySelector('.over').hidden"))
     browser.run("scrollTo(0, 0); document.querySelector('canvas.large').focus()")
-    live = """const canvas = document.querySelector('canvas.large'); const { width, height } = canvas; const { colors } = await import('/web/draw.js');
+    live = """const canvas = document.querySelector('canvas.large'); const { width, height } = canvas; const { colors } = await import('/web/drawing/draw.js');
         await new Promise((resolve) => requestAnimationFrame(() => requestAnimationFrame(resolve)));
         const { live } = colors(); return new Uint32Array(canvas.getContext('2d').getImageData(0, 0, width, height).data.buffer).filter((word) => word === live).length"""
     before = browser.wait_for(live)

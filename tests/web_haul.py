@@ -71,7 +71,7 @@ return [...document.querySelectorAll('main tbody tr')].map((row) => ({ code: row
 """
 # For each row the pixels of its drawing that are of the color of live cells; null if it has none.
 DRAWN = """
-const { colors } = await import('/web/draw.js');
+const { colors } = await import('/web/drawing/draw.js');
 const { live } = colors();
 const pixelsOf = (canvas) => {
   const { width, height } = canvas;
@@ -170,7 +170,7 @@ def dropped(_gateway: Gateway, browser: Browser, base: str, folder: str) -> None
 
 
 SOUP_FILES = """
-const { soupFile } = await import('/web/haul.js');
+const { soupFile } = await import('/web/pages/haul.js');
 return arguments[0].map((symmetry) => soupFile(arguments[1], arguments[2], arguments[3], symmetry));
 """
 

@@ -1,10 +1,10 @@
 // Finds the page for an address, and handles keys. An address names what is shown: `/d/7/at/30`, `/c/3`, `/o/B3-S23/xq4_153`.
 
-import { go, memberAddress } from './address.js';
-import { againButton, isMember, make, refusal } from './dom.js';
-import { keepPlace, keepSetting, place, setting } from './kept.js';
-import { deposits, depositsOf } from './list.js';
-import { Refused } from './refusals.js';
+import { go, memberAddress } from './shared/address.js';
+import { againButton, isMember, make, refusal } from './shared/dom.js';
+import { keepPlace, keepSetting, place, setting } from './shared/kept.js';
+import { deposits, depositsOf } from './pages/list.js';
+import { Refused } from './requests/refusals.js';
 
 /** How often a module failed to load. A browser does not request it again under the same address. */
 const failed = {};
@@ -12,11 +12,11 @@ const failed = {};
 /** The pauses before it is requested again, in milliseconds, as for the archive. */
 const PAUSES = [500, 1000, 2000];
 
-/** A module that only some pages need, loaded with the first of them. */
+/** A module of pages/ that only some pages need, loaded with the first of them. */
 async function load(name) {
   for (let tries = 0; ; tries += 1) {
     try {
-      return await import(`./${name}.js${failed[name] ? `?${failed[name]}` : ''}`);
+      return await import(`./pages/${name}.js${failed[name] ? `?${failed[name]}` : ''}`);
     } catch (error) {
       if (!(error instanceof TypeError)) throw error;
       failed[name] = (failed[name] ?? 0) + 1;

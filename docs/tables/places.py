@@ -72,10 +72,10 @@ def of_pages(facts: Facts) -> List[Place]:
     """The scripts of the web pages."""
     known = facts.limits
     return [
-        marked("web/refusals.js", refusals.PATH, "sentences", refusals.script_sentences(facts.refusals)),
+        marked("web/requests/refusals.js", refusals.PATH, "sentences", refusals.script_sentences(facts.refusals)),
         marked("web/main.js", routes.ADDRESSES, "addresses", routes.script_addresses(facts.addresses, known)),
         marked("web/ahead.js", routes.ADDRESSES, "addresses", routes.script_ahead(facts.addresses, known)),
-        Place("web/limits.js", limits.PATH, lambda _: limits.script_module(known)),
+        Place("web/shared/limits.js", limits.PATH, lambda _: limits.script_module(known)),
     ]
 
 

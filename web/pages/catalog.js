@@ -1,0 +1,240 @@
+// All objects in the censuses of a rule, from the search index: a table to sort and filter, and its CSV.
+
+import { depositAddress, go, objectAddress } from '../shared/address.js';
+import { limitOf, objectNames, patternOf } from '../patterns/code.js';
+import { counted, field, make, many } from '../shared/dom.js';
+import { thumbnail } from '../drawing/draw.js';
+import { indexHead, indexNote, objectsOfRule, rulesWithObjects } from '../requests/index.js';
+import { groupsOf } from '../patterns/parts.js';
+import { save } from '../drawing/picture.js';
+import { Refused } from '../requests/refusals.js';
+import { readRule, ruleAddress, ruleOfAddress, ruleText } from '../patterns/rule.js';
+import { Heads, sorted } from '../shared/sorts.js';
+
+const LIFE = 'B3/S23';
+const SHOWN = 100;
+const SIDE = 48;
+const KINDS = { s: 'still life', p: 'oscillator', q: 'spaceship' };
+
+/**
+ * @typedef {object} Row an object of the table
+ * @property {string} code
+ * @property {ReturnType<typeof patternOf>} pattern what the code spells
+ * @property {string} name its name, or what it is made of; empty if it has neither
+ * @property {string} kind
+ * @property {number} period
+ * @property {number} cells
+ * @property {number} count
+ * @property {number} grouped how many more of it are in groups
+ * @property {boolean} isGroup whether it is several objects side by side
+ * @property {number} deposits
+ * @property {number} first the first deposit that has it
+ * @property {string} day
+ */
+
+/** How often an object occurs: alone or, if groups are split, in groups too. @param {Row} row @param {boolean} isSplit */
+const countOf = (row, isSplit) => (isSplit ? row.count + row.grouped : row.count);
+
+/** The columns. Numbers are first sorted in descending order. @type {import('../shared/sorts.js').Column[]} */
+const COLUMNS = [
+  { id: 'name', head: 'Object', value: (row) => row.name || '\uffff', isUp: true },
+  { id: 'kind', head: 'Kind', value: (row) => row.kind, isUp: true, more: true },
+  { id: 'period', head: 'Period', value: (row) => row.period, isNumber: true, isUp: true, more: true },
+  { id: 'cells', head: 'Cells', value: (row) => row.cells, isNumber: true, isUp: true, more: true },
+  { id: 'count', head: 'Count', value: countOf, isNumber: true },
+  { id: 'deposits', head: 'Deposits', value: (row) => row.deposits, isNumber: true, more: true },
+  { id: 'first', head: 'First in', value: (row) => row.first, isNumber: true, isUp: true, more: true },
+];
+
+/** A row of an object as the index has it. */
+function rowOf(object, names) {
+  const pattern = patternOf(object.code);
+  return { code: object.code, pattern, name: names.get(object.code) ?? '', kind: KINDS[object.code[1]], period: limitOf(object.code), cells: pattern?.population ?? 0, count: object.count,
+    grouped: 0, isGroup: false, deposits: object.deposits.size, first: object.first?.deposit ?? 0, day: object.first?.day ?? '' };
+}
+
+/** A range as it is typed: `3`, `3-8`, `3-` or `-8`. Any other text means all numbers. */
+function rangeOf(text) {
+  const found = /^\s*([0-9]*)\s*(-|–|to|\.\.)?\s*([0-9]*)\s*$/.exec(text);
+  if (!found || (found[1] === '' && found[3] === '')) return () => true;
+  const [least, most] = [Number(found[1] || 0), found[2] ? Number(found[3] || Infinity) : Number(found[1])];
+  return (number) => number >= least && number <= most;
+}
+
+/** The order and the filters in the address. */
+function askedBy(query) {
+  const words = new URLSearchParams(query);
+  const [, isDown, sort] = /^(-?)([a-z]+)$/.exec(words.get('sort') ?? '') ?? [null, '-', 'count'];
+  const column = COLUMNS.find(({ id }) => id === sort) ?? COLUMNS.find(({ id }) => id === 'count');
+  return { sort: column.id, isUp: isDown !== '-', text: words.get('text') ?? '', kind: words.get('kind') ?? '', period: words.get('period') ?? '', cells: words.get('cells') ?? '', groups: words.get('groups') ?? '' };
+}
+
+/** The query of the address for an order and filters. */
+function queryOf({ sort, isUp, ...filters }) {
+  const words = new URLSearchParams(Object.entries(filters).filter(([, value]) => value !== ''));
+  if (sort !== 'count' || isUp) words.set('sort', `${isUp ? '' : '-'}${sort}`);
+  const query = words.toString();
+  return query && `?${query}`;
+}
+
+/**
+ * The matching rows, in the requested order.
+ * @param {Row[]} rows
+ */
+function fitting(rows, asked) {
+  const text = asked.text.trim().toLowerCase();
+  const [period, cells] = [rangeOf(asked.period), rangeOf(asked.cells)];
+  const isSplit = asked.groups === 'split';
+  const found = rows.filter((row) => !(isSplit && row.isGroup) && (row.name.toLowerCase().includes(text) || row.code.includes(text)) && (!asked.kind || row.code[1] === asked.kind) && period(row.period) && cells(row.cells));
+  return sorted(found.sort((one, other) => other.count - one.count), COLUMNS, asked, isSplit);
+}
+
+/** How often an object occurs, and how many of these are in groups. */
+function countCell(row, isSplit) {
+  const more = isSplit ? `${counted(row.count)} alone` : `+ ${counted(row.grouped)} in groups`;
+  return make('td', { class: 'number' }, counted(countOf(row, isSplit)), row.grouped ? make('small', {}, more) : null);
+}
+
+/** @param {Row} row @param {string} rule @param {boolean} isSplit */
+function lineOf(row, rule, isSplit) {
+  const more = `${row.kind}${row.period > 1 ? `, period ${counted(row.period)}` : ''}, ${many(row.cells, 'cell')}`;
+  return make('tr', {}, make('td', { class: 'drawn' }, row.pattern ? thumbnail(row.pattern, SIDE, SIDE) : null),
+    make('th', { scope: 'row' }, make('a', { href: objectAddress(rule, row.code) }, row.name || make('code', {}, row.code)), row.name ? make('small', {}, make('code', {}, row.code)) : null,
+      make('small', { class: 'narrow' }, more)),
+    make('td', { class: 'more' }, row.kind), make('td', { class: 'more number' }, counted(row.period)), make('td', { class: 'more number' }, counted(row.cells)),
+    countCell(row, isSplit), make('td', { class: 'more number' }, counted(row.deposits)),
+    make('td', { class: 'more number' }, row.first ? make('a', { href: depositAddress(row.first) }, `#${counted(row.first)}`) : '', row.first ? make('small', {}, row.day) : null));
+}
+
+/** A cell of a CSV file (RFC 4180). */
+const cellOf = (value) => (/[",\r\n]/.test(value) ? `"${String(value).replaceAll('"', '""')}"` : value);
+
+/** @param {Row[]} rows */
+const csvOf = (rows) => ['code,name,kind,period,cells,count,in_groups,deposits,first_deposit,first_day',
+  ...rows.map((row) => [row.code, row.name, row.kind, row.period, row.cells, row.count, row.grouped, row.deposits, row.first, row.day].map(cellOf).join()), ''].join('\r\n');
+
+/** The choice of a rule. */
+function ruleField(rules, rule) {
+  const choice = make('select', { id: 'objects-rule', change: () => go(`/o/${ruleAddress(choice.value)}`) }, rules.map(([text, count]) => make('option', { value: text, selected: text === rule }, `${text} (${counted(count)})`)));
+  return field('Rule', choice);
+}
+
+/** The table of objects with its filters. */
+class Catalog {
+  /** @type {Row[]} */
+  #fitting = [];
+  #shown = 0;
+
+  /**
+   * @param {object} page
+   * @param {string} rule
+   * @param {Row[]} rows
+   * @param {[string, number][]} rules the rules that can be chosen, each with the number of its objects
+   */
+  constructor(page, rule, rows, rules) {
+    this.page = page;
+    this.rule = rule;
+    this.rows = rows;
+    this.asked = askedBy(location.search);
+    this.count = make('p', { class: 'count', role: 'status' });
+    this.body = make('tbody');
+    this.more = make('button', { type: 'button', class: 'more', click: () => this.#showMore() });
+    this.heads = new Heads(COLUMNS, this.asked, (order) => {
+      this.asked = { ...this.asked, ...order };
+      this.show();
+    });
+    this.form = this.#formOf(rules);
+    this.root = make('div', {}, this.form, this.count, make('table', { class: 'census catalog' }, make('caption', { class: 'aside' }, `Objects of the censuses of deposits under ${rule}`),
+      make('thead', {}, make('tr', {}, make('td', {}), this.heads.cells)), this.body), make('p', {}, this.more));
+    this.show();
+  }
+
+  get #isSplit() {
+    return this.asked.groups === 'split';
+  }
+
+  #formOf(rules) {
+    const input = (name, placeholder) => {
+      const found = make('input', { id: `objects-${name}`, autocapitalize: 'none', autocomplete: 'off', spellcheck: 'false', placeholder, input: () => this.#filter(name, found.value) });
+      found.value = this.asked[name];
+      return found;
+    };
+    const kind = make('select', { id: 'objects-kind', change: () => this.#filter('kind', kind.value) },
+      [['', 'any'], ...Object.entries(KINDS)].map(([value, text]) => make('option', { value, selected: value === this.asked.kind }, text)));
+    const csv = make('button', { type: 'button', id: 'objects-csv', click: () => save(csvOf(this.#fitting), `objects-${this.rule.replace('/', '-')}.csv`, 'text/csv') }, 'Download CSV');
+    return make('form', { class: 'filters', submit: (event) => event.preventDefault() }, rules.length > 1 ? ruleField(rules, this.rule) : null, field('Name or code', input('text', 'loaf, 4 blinkers, xq4')), field('Kind', kind), field('Period', input('period', '2 or 2-8')),
+      field('Cells', input('cells', '4 or 4-10')), make('p', { class: 'row' }, this.#splitOf(), csv));
+  }
+
+  /** Counts each object of a group separately, as a catalogue of separated objects does. Parts are known only in Conway's Life. */
+  #splitOf() {
+    const split = make('input', { id: 'objects-split', type: 'checkbox', checked: this.asked.groups === 'split', change: () => this.#filter('groups', split.checked ? 'split' : '') });
+    return this.rule === LIFE ? make('span', { class: 'check' }, split, make('label', { for: split.id, title: 'Count each object in a group separately' }, 'Split groups')) : null;
+  }
+
+  #filter(name, value) {
+    this.asked = { ...this.asked, [name]: value };
+    this.show();
+  }
+
+  /** Shows the matching rows from the first on. */
+  show() {
+    this.#fitting = fitting(this.rows, this.asked);
+    this.#shown = 0;
+    this.body.replaceChildren();
+    const all = this.#fitting.reduce((sum, row) => sum + countOf(row, this.#isSplit), 0);
+    this.count.replaceChildren(`${many(this.#fitting.length, 'object')}${this.#fitting.length < this.rows.length ? ` of ${counted(this.rows.length)}` : ''}, counted ${many(all, 'time')}`);
+    history.replaceState(history.state, '', location.pathname + queryOf(this.asked));
+    this.#showMore();
+  }
+
+  #showMore() {
+    this.body.append(...this.#fitting.slice(this.#shown, this.#shown + SHOWN).map((row) => lineOf(row, this.rule, this.#isSplit)));
+    this.#shown = Math.min(this.#shown + SHOWN, this.#fitting.length);
+    this.more.hidden = this.#shown >= this.#fitting.length;
+    this.more.textContent = `Show ${counted(Math.min(SHOWN, this.#fitting.length - this.#shown))} more of ${counted(this.#fitting.length)}`;
+  }
+}
+
+/** Finds the groups of other objects, and marks their rows. */
+async function nameGroups(catalog, signal) {
+  const { texts, grouped } = await groupsOf(catalog.rows, catalog.rule, signal);
+  if (texts.size === 0) return;
+  for (const row of catalog.rows) {
+    const text = texts.get(row.code);
+    if (text) Object.assign(row, { name: row.name ? `${row.name} (${text})` : text, isGroup: true });
+    row.grouped = grouped.get(row.code) ?? 0;
+  }
+  catalog.show();
+}
+
+/** The rule in an address. */
+function ruleGiven(given) {
+  const rule = readRule(ruleOfAddress(decodeURIComponent(given)));
+  if (typeof rule === 'string') throw new Refused('bad-rule');
+  return ruleText(rule);
+}
+
+/** The page of all objects of a rule. */
+export async function catalogPage(page, given) {
+  const head = await indexHead();
+  const wanted = given === undefined ? null : ruleGiven(given);
+  page.title(wanted ? `Objects of ${wanted}` : 'Objects');
+  page.root.append(make('h1', { tabindex: -1 }, 'Objects'));
+  if (!head) {
+    page.root.append(make('p', { class: 'empty' }, 'This archive has no search index, so there is no list of objects. ', make('a', { href: '/find' }, 'Look one up by its code'), '.'));
+    return;
+  }
+  const rules = await rulesWithObjects(page.signal);
+  const rule = wanted ?? (rules.some(([text]) => text === LIFE) ? LIFE : rules[0]?.[0] ?? LIFE);
+  const [objects, names] = await Promise.all([objectsOfRule(rule, page.signal), rule === LIFE ? objectNames() : new Map()]);
+  page.root.append(make('p', { class: 'by' }, `All objects that censuses of deposits under ${rule} have found, the most frequent first. `, make('a', { href: '/about#census' }, 'How objects are counted')));
+  if (objects.length === 0) {
+    page.root.append(make('p', { class: 'empty' }, `No census of a deposit under ${rule} has found an object yet. `, rules.length > 0 ? ['There are objects of ', make('a', { href: `/o/${ruleAddress(rules[0][0])}` }, rules[0][0]), '.'] : 'To begin, count the objects of a deposit.'), indexNote(head));
+    return;
+  }
+  const catalog = new Catalog(page, rule, objects.map((object) => rowOf(object, names)), rules);
+  page.root.append(catalog.root, indexNote(head));
+  page.say(`${many(objects.length, 'object')} of ${rule}.`);
+  nameGroups(catalog, page.signal).catch(() => {});
+}

@@ -1,0 +1,130 @@
+// A census: its table, with bars, whether its field is steady, and its CSV.
+
+import { censusAddress, depositAddress, go, objectAddress } from '../shared/address.js';
+import { census, deposit } from '../requests/archive.js';
+import { objectNames, patternOf } from '../patterns/code.js';
+import { copyButton, counted, make, many } from '../shared/dom.js';
+import { thumbnail } from '../drawing/draw.js';
+import { groupsOf } from '../patterns/parts.js';
+import { ruleText } from '../patterns/rule.js';
+import { Heads, sorted } from '../shared/sorts.js';
+
+const SIDE = 48;
+
+/** The bar of a count, relative to the greatest one. */
+function barOf(count, most, more = '') {
+  const bar = make('span', { class: `bar ${more}`, 'aria-hidden': 'true', hidden: count === 0 });
+  bar.style.inlineSize = `${100 * count / most}%`;
+  return make('td', { class: 'bars' }, bar);
+}
+
+/**
+ * What the objects of a table are called: the names of well-known ones, the parts of groups, and how often an object is in groups. Groups are
+ * found after the table is shown.
+ */
+export class Labels {
+  #names;
+  #groups = { texts: new Map(), grouped: new Map() };
+  #lines = new Map();
+
+  /**
+   * @param {string} rule
+   * @param {Map<string, string>} names
+   */
+  constructor(rule, names) {
+    this.rule = rule;
+    this.#names = rule === 'B3/S23' ? names : new Map();
+  }
+
+  /** The line below a code, which is updated when the groups are known. */
+  lineOf(code) {
+    const line = make('small');
+    this.#lines.set(code, line);
+    this.#fill(code);
+    return line;
+  }
+
+  #fill(code) {
+    const [name, parts, grouped] = [this.#names.get(code), this.#groups.texts.get(code), this.#groups.grouped.get(code)];
+    const groups = [parts && `${name ? ': ' : ''}${parts}`, grouped && `${name || parts ? ' · ' : ''}${counted(grouped)} more in groups`].filter(Boolean);
+    this.#lines.get(code)?.replaceChildren(...[name ? make('span', { class: 'name' }, name) : null, groups.length ? make('span', { class: 'groups' }, groups) : null].filter(Boolean));
+  }
+
+  /**
+   * Finds the groups among the rows of a table.
+   * @param {{code: string, count: number}[]} rows
+   * @param {AbortSignal} signal
+   */
+  async findGroups(rows, signal) {
+    this.#groups = await groupsOf(rows, this.rule, signal);
+    for (const code of this.#lines.keys()) this.#fill(code);
+  }
+}
+
+/** The note above a table of objects: its counts differ from those that readers may know from elsewhere. */
+export const countNote = () => make('p', { class: 'hint' }, 'A cluster counts as one object even if its parts never change each other, so these counts differ from apgsearch’s. ', make('a', { href: '/about#census' }, 'How objects are counted'));
+
+/**
+ * A row of a table: an object, its name, its count, and a bar.
+ * @param {{code: string, count: number}} object
+ * @param {number} most
+ * @param {Labels} labels
+ */
+export function objectRow({ code, count }, most, labels) {
+  const pattern = patternOf(code);
+  return make('tr', {}, make('td', { class: 'drawn' }, pattern ? thumbnail(pattern, SIDE, SIDE) : null),
+    make('th', { scope: 'row' }, make('a', { href: objectAddress(labels.rule, code) }, make('code', {}, code)), labels.lineOf(code)),
+    make('td', { class: 'number' }, counted(count)), barOf(count, most));
+}
+
+/** The row of the clusters without a code. */
+export function unresolvedRow(count, most) {
+  return make('tr', {}, make('td', { class: 'drawn' }), make('th', { scope: 'row' }, 'unresolved', make('small', {}, 'no code within the limit')),
+    make('td', { class: 'number' }, counted(count)), barOf(count, most, 'none'));
+}
+
+/** The columns by which the table can be sorted. @type {import('../shared/sorts.js').Column[]} */
+const COLUMNS = [{ id: 'code', head: 'Code', value: (row) => row.code, isUp: true }, { id: 'count', head: 'Count', value: (row) => row.count, isNumber: true }];
+
+/** The table of the objects; the archive sorts by code, and this table by count at first. */
+function objectsTable(number, found, labels) {
+  const most = Math.max(1, found.unresolved, ...found.rows.map((row) => row.count));
+  const lines = new Map(found.rows.map((row) => [row, objectRow(row, most, labels)]));
+  const body = make('tbody');
+  const last = unresolvedRow(found.unresolved, most);
+  const show = (order) => body.replaceChildren(...sorted(found.rows, COLUMNS, order).map((row) => lines.get(row)), last);
+  const heads = new Heads(COLUMNS, { sort: 'count', isUp: false }, show);
+  show(heads.order);
+  return make('table', { class: 'census' }, make('caption', { class: 'aside' }, `Objects of census ${number}`),
+    make('thead', {}, make('tr', {}, make('td', {}), heads.cells, make('td', {}))), body);
+}
+
+function steadyText(found) {
+  return found.steady
+    ? 'Steady: all clusters are still lifes and oscillators that never come near each other, so from now on each of them runs as if it were alone.'
+    : 'Not steady: a cluster moves, does not return within the limit, or comes near another.';
+}
+
+export async function censusPage(page, given) {
+  const number = Number(given);
+  page.title(`Census ${number}`);
+  const found = await census(number, page.signal);
+  const [{ record }, names] = await Promise.all([deposit(found.deposit, page.signal), objectNames()]);
+  const rule = ruleText(record.rule);
+  const { rows } = found;
+  const labels = new Labels(rule, names);
+  const url = location.origin + censusAddress(number);
+  const place = depositAddress(found.deposit, found.generation);
+  page.keys['['] = () => { if (number > 1) go(censusAddress(number - 1)); };
+  page.keys[']'] = () => { go(censusAddress(number + 1)); };
+  page.root.append(make('h1', { tabindex: -1 }, `Census ${counted(number)}`),
+    make('p', { class: 'by' }, 'Of ', make('a', { href: place }, `generation ${counted(found.generation)} of deposit ${found.deposit}`),
+      `${record.name ? `, ${record.name}` : ''}, under ${rule}, with periods up to ${counted(found.limit)}.`),
+    make('dl', { class: 'facts' }, [['Clusters', counted(found.clusters)], ['Objects', many(rows.length, 'code')], ['Unresolved', counted(found.unresolved)]]
+      .map(([term, told]) => make('div', {}, make('dt', {}, term), make('dd', {}, told)))),
+    make('p', { class: found.steady ? 'steady yes' : 'steady' }, steadyText(found)), countNote(),
+    objectsTable(number, found, labels),
+    make('p', { class: 'row' }, make('a', { class: 'button', href: `/censuses/${number}/csv`, download: `census-${number}.csv` }, 'Download CSV'), make('a', { class: 'address', href: url }, url), copyButton('Copy the address', () => url, page.say)));
+  labels.findGroups(rows, page.signal).catch(() => {});
+  page.say(`Census ${number}: ${many(found.clusters, 'cluster')}, ${many(rows.length, 'code')}, ${found.unresolved} unresolved.`);
+}

@@ -1,0 +1,177 @@
+// The deposits: the newest, those after a number, those of a member.
+
+import { afterAddress, depositAddress, go, memberAddress } from '../shared/address.js';
+import { deposit, depositsAfter, lastDeposit } from '../requests/archive.js';
+import { counted, field, isMember, make, many, refusal } from '../shared/dom.js';
+import { thumbnail } from '../drawing/draw.js';
+import { allDeposits, indexHead, indexNote } from '../requests/index.js';
+import { keepPlace, place } from '../shared/kept.js';
+import { LONGEST_LIST, LONGEST_MEMBER } from '../shared/limits.js';
+import { Refused } from '../requests/refusals.js';
+
+const SHOWN = 24;
+const WIDTH = 176;
+const HEIGHT = 120;
+/** How many lists are requested at once when searching for the deposits of a member. */
+const TOGETHER = 4;
+
+/** Draws a deposit on its card once it is near the screen, and adds its name. */
+function drawLater(page) {
+  const watch = new IntersectionObserver((entries) => {
+    for (const { isIntersecting, target } of entries) {
+      if (isIntersecting) {
+        watch.unobserve(target);
+        /** @type {any} */ (target).draw();
+      }
+    }
+  }, { rootMargin: '200px' });
+  page.signal.addEventListener('abort', () => watch.disconnect());
+  return watch;
+}
+
+function card(page, row, watch) {
+  const picture = make('div', { class: 'picture' });
+  const name = make('strong', {}, row.name || `Deposit ${row.id}`);
+  const facts = [`No. ${row.id}`, row.member, many(row.population, 'cell'), row.rule === 'B3/S23' ? null : row.rule].filter(Boolean).join(' · ');
+  const item = make('li', {}, make('a', { href: depositAddress(row.id) }, picture, name, make('span', { class: 'facts' }, facts)));
+  item.draw = async () => {
+    try {
+      const { record } = await deposit(row.id, page.signal);
+      picture.replaceChildren(thumbnail(record.pattern, WIDTH, HEIGHT));
+      if (record.name) name.replaceChildren(record.name);
+    } catch (error) {
+      if (!page.signal.aborted) picture.replaceChildren(error.name === 'unavailable' ? 'unavailable' : 'not drawn');
+    }
+  };
+  watch.observe(item);
+  return item;
+}
+
+export function cards(page, rows) {
+  const watch = drawLater(page);
+  return make('ul', { class: 'cards' }, rows.map((row) => card(page, row, watch)));
+}
+
+/** The forms that choose the deposits: those after a number, and those of a member. */
+function forms(page, after, member) {
+  const number = make('input', { id: 'after', type: 'number', min: 0, inputmode: 'numeric', required: true });
+  number.value = after ?? '';
+  const name = make('input', { id: 'of', maxlength: LONGEST_MEMBER, autocapitalize: 'none', spellcheck: 'false', required: true });
+  name.value = member ?? '';
+  const byNumber = (event) => {
+    event.preventDefault();
+    go(afterAddress(Math.max(0, Math.trunc(Number(number.value)) || 0)));
+  };
+  const byMember = (event) => {
+    event.preventDefault();
+    if (isMember(name.value)) go(memberAddress(name.value));
+    else page.root.querySelector('.forms').after(refusal(new Refused('bad-member')));
+  };
+  return make('div', { class: 'forms' },
+    make('form', { submit: byNumber }, field('After no.', number), make('button', {}, 'Show')),
+    make('form', { submit: byMember }, field('Member', name), make('button', {}, 'Show')));
+}
+
+/** The links to older and newer deposits, which have keys. */
+function pager(page, older, newer) {
+  page.keys['['] = () => { if (older) go(older); };
+  page.keys[']'] = () => { if (newer) go(newer); };
+  return make('nav', { class: 'pager', 'aria-label': 'More deposits' },
+    older ? make('a', { href: older, rel: 'next' }, '← Older') : null, newer ? make('a', { href: newer, rel: 'prev' }, 'Newer →') : null);
+}
+
+/** `j` and `k` go from card to card. */
+export function walk(page) {
+  const by = (step) => () => {
+    const links = [...page.root.querySelectorAll('.cards a')];
+    const at = links.indexOf(document.activeElement);
+    links[Math.min(Math.max(at < 0 ? 0 : at + step, 0), links.length - 1)]?.focus();
+  };
+  page.keys.j = by(1);
+  page.keys.k = by(-1);
+}
+
+/** The first deposits of a list as cards, and a button that shows more. */
+export function shownRows(page, rows) {
+  const list = make('div');
+  const more = make('button', { type: 'button', class: 'more' });
+  let shown = 0;
+  const show = (number) => {
+    list.append(cards(page, rows.slice(shown, shown + number)));
+    shown = Math.min(shown + number, rows.length);
+    more.hidden = shown >= rows.length;
+    more.textContent = `Show ${counted(Math.min(SHOWN, rows.length - shown))} more of ${counted(rows.length)}`;
+  };
+  more.addEventListener('click', () => {
+    show(SHOWN);
+    keepPlace({ shown });
+  });
+  show(place().shown ?? SHOWN);
+  walk(page);
+  return [list, make('p', {}, more)];
+}
+
+const nothing = () => make('p', { class: 'empty' }, 'There is nothing here yet. ', make('a', { href: '/new' }, 'Deposit a file'), ' and be the first.');
+
+/** The deposits after a number, the greatest first; without a number, the newest. */
+export async function deposits(page, given) {
+  page.title('Deposits');
+  // The first page has its own heading, and no forms.
+  const isFirst = page.root.querySelector('h1') !== null;
+  page.root.append(isFirst ? make('h2', {}, 'Newest deposits') : make('h1', { tabindex: -1 }, 'Deposits'));
+  const last = await lastDeposit(page.signal);
+  const after = given === undefined ? Math.max(0, last - SHOWN) : Number(given);
+  const rows = (await depositsAfter(after, page.signal)).slice(0, SHOWN).reverse();
+  if (!isFirst) page.root.append(forms(page, given, null));
+  walk(page);
+  if (rows.length === 0) {
+    page.root.append(last === 0 ? nothing() : make('p', { class: 'empty' }, `There is no deposit after ${counted(after)}; the newest is `, make('a', { href: depositAddress(last) }, counted(last)), '.'));
+    return;
+  }
+  const [first, end] = [rows.at(-1).id, rows[0].id];
+  page.root.append(make('p', { class: 'count' }, `${counted(first)} to ${counted(end)} of ${counted(Math.max(last, end))}`), cards(page, rows),
+    pager(page, after > 0 ? afterAddress(Math.max(0, after - SHOWN)) : null, end < last ? afterAddress(after + SHOWN) : null));
+  page.say(`${many(rows.length, 'deposit')}, ${first} to ${end}.`);
+}
+
+/** The deposits after a number, list by list up to the newest one. */
+async function newer(after, signal) {
+  const found = [];
+  for (;;) {
+    const rows = await depositsAfter(found.at(-1)?.id ?? after, signal);
+    found.push(...rows);
+    if (rows.length < LONGEST_LIST) return found;
+  }
+}
+
+/** All deposits of a member, the newest first: from the index, and newer ones from the archive's lists. */
+async function indexedOf(head, member, said, signal) {
+  const since = await newer(head.counts.deposits, signal);
+  const all = await allDeposits((number, of) => { if (number < of) said.replaceChildren(`Reading the index: ${counted(number)} of ${counted(of)} blocks…`); }, signal);
+  return [...since.reverse(), ...all].filter((row) => row.member === member);
+}
+
+/** The same without an index: searches all lists. */
+async function listedOf(member, said, signal) {
+  const found = [];
+  for (let before = await lastDeposit(signal) + 1; before > 1; before -= TOGETHER * LONGEST_LIST) {
+    said.replaceChildren(`Searching the lists: ${many(found.length, 'deposit')} so far, ${counted(before - 1)} left to search…`);
+    const begins = Array.from({ length: TOGETHER }, (_, at) => before - 1 - (at + 1) * LONGEST_LIST).filter((begin) => begin > -LONGEST_LIST);
+    const lists = await Promise.all(begins.map((begin) => depositsAfter(Math.max(0, begin), signal).then((rows) => rows.filter((row) => row.id <= begin + LONGEST_LIST).reverse())));
+    found.push(...lists.flat().filter((row) => row.member === member));
+  }
+  return found;
+}
+
+/** The deposits of a member, the newest first; with a number, those before it. */
+export async function depositsOf(page, member, before = Infinity) {
+  page.title(`Deposits of ${member}`);
+  const said = make('p', { class: 'count' }, 'Looking…');
+  page.root.append(make('h1', { tabindex: -1 }, `Deposits of ${member}`), forms(page, null, member), said);
+  const head = await indexHead();
+  const all = head ? await indexedOf(head, member, said, page.signal) : await listedOf(member, said, page.signal);
+  const rows = all.filter((row) => row.id < Number(before));
+  said.replaceChildren(rows.length === 0 ? 'None.' : many(rows.length, 'deposit'));
+  page.root.append(...shownRows(page, rows), ...(head ? [indexNote(head)] : []));
+  page.say(`${many(rows.length, 'deposit')} of ${member}.`);
+}

@@ -1,0 +1,284 @@
+// Many files at once: each gets a small drawing or its fault; one press deposits all good ones, one after the other; and a table shows the
+// results, even after a reload.
+
+import { depositAddress, memberAddress } from '../shared/address.js';
+import { depositRows, sendDeposit } from '../requests/archive.js';
+import { counted, field, isMember, make, many, refusal } from '../shared/dom.js';
+import { thumbnail } from '../drawing/draw.js';
+import { cutButton, oldChoice, readGiven, refusedBy } from '../patterns/given.js';
+import { draft, keepDraft } from '../shared/kept.js';
+import { LONGEST_FILE, LONGEST_TEXT } from '../shared/limits.js';
+import { learnMember, memberPart, rememberMember } from '../shared/member.js';
+import { baseName, pathOf, withTexts } from '../patterns/names.js';
+import { Refused, sentenceOf } from '../requests/refusals.js';
+import { ruleText } from '../patterns/rule.js';
+import { sumOf } from '../patterns/sum.js';
+
+const SIDE = 48;
+/** How many milliseconds to wait after "too many requests", if the reply does not say. */
+const REST = 1000;
+const DRAFT = 'many';
+/** The number of the fault of a file that is too long. */
+const TOO_LONG = 1;
+
+/** A file in the table. Its result is `kept` with a number, `refused` with a sentence, or nothing yet. */
+class Row {
+  kept = null;
+  refused = null;
+  /** What the page made of the file; null before it is read. @type {import('../patterns/given.js').Given | null} */
+  read = null;
+  choices = { asOld: true, isCut: false };
+
+  /**
+   * @param {any} file
+   * @param {() => void} changed called when the member chose what to do about the file
+   */
+  constructor(file, changed = () => {}) {
+    this.file = file;
+    this.changed = changed;
+    this.name = pathOf(file);
+    this.picture = make('td', { class: 'drawn' });
+    this.facts = make('small');
+    this.outcome = make('td', { class: 'outcome' });
+    this.line = make('tr', {}, this.picture, make('th', { scope: 'row' }, this.name, this.facts), this.outcome);
+  }
+
+  /** Loads and reads the file. */
+  async load() {
+    this.bytes = new Uint8Array(this.file.size > LONGEST_FILE ? 0 : await this.file.arrayBuffer());
+    if (this.file.size > LONGEST_FILE) this.refuse(new Refused('bad-pattern', 7, TOO_LONG));
+    else this.#read();
+    this.say();
+  }
+
+  /** Reads the file again, as the member chose. @param {Partial<import('../patterns/given.js').Choices>} more */
+  choose(more) {
+    if (!this.read || this.kept !== null) return;
+    Object.assign(this.choices, more);
+    this.#read();
+    this.say();
+  }
+
+  /** Draws the file, or shows its fault. */
+  #read() {
+    this.read = readGiven(this.bytes, this.choices);
+    this.refused = null;
+    const { record, fault, line, notes } = this.read;
+    this.facts.replaceChildren();
+    this.picture.replaceChildren();
+    if (fault) {
+      this.refuse(refusedBy(fault), line ? ` ${line}` : '');
+      return;
+    }
+    const { pattern, name, rule } = record;
+    this.facts.replaceChildren([`${name ? `${name}: ` : ''}${many(pattern.population, 'cell')}, ${pattern.width} by ${pattern.height}, ${ruleText(rule)}`, ...notes].join('. '));
+    this.picture.replaceChildren(thumbnail(pattern, SIDE, SIDE));
+  }
+
+  get record() {
+    return this.read?.record ?? null;
+  }
+
+  refuse(error, more = '') {
+    this.refused = sentenceOf(error) + more;
+  }
+
+  /** The bytes to send: the file's, with a missing name and author added. */
+  content(name, author) {
+    return withTexts(this.read.bytes, this.record, name ? baseName(this.name) : '', author);
+  }
+
+  get isOpen() {
+    return this.record && this.kept === null && this.refused === null;
+  }
+
+  /** Offers to leave out the comments that are too many. */
+  #cut() {
+    return cutButton(() => {
+      this.choose({ isCut: true });
+      this.changed();
+    });
+  }
+
+  say(text = '') {
+    this.line.className = this.refused ? 'bad' : '';
+    if (this.kept !== null) this.outcome.replaceChildren(make('a', { href: depositAddress(this.kept) }, `deposit ${counted(this.kept)}`));
+    else this.outcome.replaceChildren(this.refused ?? text, ...(this.read?.fault?.isTooMany ? [' ', this.#cut()] : []));
+  }
+}
+
+/**
+ * What the window stores of a table: the member, and the name and the result of each file.
+ * @param {Row[]} rows
+ * @param {string} member
+ */
+const keepTable = (rows, member) => keepDraft(DRAFT, JSON.stringify({ member, rows: rows.map(({ name, kept, refused }) => ({ name, kept, refused })) }));
+
+export const forgetTable = () => keepDraft(DRAFT, null);
+
+/** The table from before a reload, with its member; without rows if there was none. */
+export function keptTable() {
+  try {
+    const { member, rows } = JSON.parse(draft(DRAFT));
+    return { member, rows: rows.map((line) => Object.assign(new Row({ name: line.name, size: 0 }), { kept: line.kept, refused: line.refused })) };
+  } catch {
+    return { member: '', rows: [] };
+  }
+}
+
+/** Sends one file, and again as long as the archive only asks to wait. Returns whether it was stored or finally refused. */
+async function sendRow(row, member, name, author, page) {
+  const bytes = row.content(name, author);
+  for (;;) {
+    try {
+      row.say('sending…');
+      row.kept = await sendDeposit(member, sumOf(bytes), bytes, () => row.say('sent again…'), page.signal);
+      row.say();
+      return;
+    } catch (error) {
+      if (!(error instanceof Refused) || ['no-reply', 'unavailable', 'password', 'bad-member', 'full', 'unknown'].includes(error.name)) {
+        row.say();
+        throw error;
+      }
+      if (error.name !== 'too-many-requests') {
+        row.refuse(error);
+        row.say();
+        return;
+      }
+      row.say('waiting, since the archive limits requests…');
+      await new Promise((resolve) => setTimeout(resolve, error.wait || REST));
+      page.signal.throwIfAborted();
+    }
+  }
+}
+
+/** The table of some files, and the form that deposits the good ones. */
+export class Table {
+  rows = [];
+  /** Whose deposits these are. */
+  owner = '';
+
+  /**
+   * @param {object} page
+   * @param {() => void} ended called when the member wants to deposit a text in place of these files
+   */
+  constructor(page, ended) {
+    this.page = page;
+    this.member = memberPart('many-member');
+    this.author = make('input', { id: 'many-author', maxlength: LONGEST_TEXT, autocomplete: 'off' });
+    this.name = make('input', { id: 'many-name', type: 'checkbox' });
+    this.send = make('button', { class: 'main', id: 'send-many' });
+    this.old = oldChoice('many-old', true, 'Read files that are not UTF-8 as windows-1252', (asOld) => this.#choose({ asOld }));
+    this.bar = make('progress', { hidden: true, 'aria-label': 'Files done' });
+    this.count = make('p', { class: 'count', role: 'status' });
+    this.said = make('div');
+    this.seen = make('p');
+    this.instead = make('button', { type: 'button', class: 'quiet', id: 'text-instead', click: ended }, 'Paste a text instead');
+    this.body = make('tbody');
+    this.form = make('form', { submit: (event) => this.#submit(event) }, this.member.part,
+      make('p', { class: 'check' }, this.name, make('label', { for: 'many-name' }, ' Use file names for patterns that have no name')),
+      this.old, field('Author', this.author, 'Added to files without an author. Leave it empty to change nothing.'), make('p', { class: 'row' }, this.send, this.bar));
+    this.root = make('section', { class: 'many' }, this.count, this.seen, this.form, this.said, make('p', {}, this.instead),
+      make('table', { class: 'census files' }, make('caption', { class: 'aside' }, 'The files and their results'),
+        make('thead', {}, make('tr', {}, make('td', {}), make('th', { scope: 'col' }, 'File'), make('th', { scope: 'col' }, 'Result'))), this.body));
+  }
+
+  get open() {
+    return this.rows.filter((row) => row.isOpen);
+  }
+
+  #say() {
+    const [kept, refused] = [this.rows.filter((row) => row.kept !== null).length, this.rows.filter((row) => row.refused).length];
+    const parts = [kept ? `${counted(kept)} deposited` : null, refused ? `${counted(refused)} refused` : null, this.open.length ? `${counted(this.open.length)} to deposit` : null];
+    this.count.replaceChildren(`${many(this.rows.length, 'file')}: ${parts.filter(Boolean).join(', ')}.`);
+    this.send.replaceChildren(`Deposit ${many(this.open.length, 'file')}`);
+    this.form.hidden = this.send.disabled = this.open.length === 0;
+    this.#sayWhose(kept);
+  }
+
+  /** Once all files are done: a link to the deposits of their member. */
+  #sayWhose(kept) {
+    const isDone = kept > 0 && this.open.length === 0 && this.owner;
+    this.seen.replaceChildren(isDone ? make('a', { id: 'see-them', href: memberAddress(this.owner) }, `${counted(kept)} deposited: see them`) : '');
+  }
+
+  /** Shows a table that the window has stored. */
+  showKept({ member, rows }) {
+    this.owner = member;
+    this.rows = rows;
+    this.instead.hidden = true;
+    for (const row of rows) {
+      if (row.kept === null && row.refused === null) row.refused = 'Not sent. Drop the files again: nothing is stored twice.';
+      row.say();
+    }
+    this.body.replaceChildren(...rows.map((row) => row.line));
+    this.#say();
+  }
+
+  /** Replaces the files, and reads the new ones one after the other. */
+  async take(files) {
+    const rows = this.rows = files.map((file) => new Row(file, () => this.#chosen()));
+    this.instead.hidden = false;
+    this.body.replaceChildren(...rows.map((row) => row.line));
+    for (const row of rows) {
+      await row.load();
+      if (this.rows !== rows || this.page.signal.aborted) return;
+    }
+    // Without names, these deposits would be listed by their numbers for ever.
+    this.name.checked = this.open.every((row) => row.record.name === null);
+    this.old.hidden = !rows.some((row) => row.read?.isOld);
+    this.#chosen();
+  }
+
+  /** Reads all files again. */
+  #choose(more) {
+    for (const row of this.rows) row.choose(more);
+    this.#chosen();
+  }
+
+  /** Shows what is to be sent now. */
+  #chosen() {
+    this.#say();
+    keepTable(this.rows, this.owner);
+    this.page.say(this.count.textContent);
+  }
+
+  async #submit(event) {
+    event.preventDefault();
+    this.said.replaceChildren();
+    this.send.disabled = true;
+    try {
+      if (!isMember(this.member.input.value)) throw new Refused('bad-member');
+      rememberMember(this.owner = this.member.input.value);
+      await this.#sendAll();
+      await this.#learnOwner();
+    } catch (error) {
+      if (!this.page.signal.aborted) this.said.replaceChildren(refusal(error, 'Press the button again to continue: nothing is stored twice.'));
+    } finally {
+      this.bar.hidden = true;
+      this.#say();
+      this.page.say(this.count.textContent);
+    }
+  }
+
+  /** Asks the archive whose the last deposit is: with passwords it is the member's who logged in. */
+  async #learnOwner() {
+    const last = this.rows.filter((row) => row.kept !== null).at(-1);
+    const { row } = last ? await depositRows(last.kept, this.page.signal) : { row: null };
+    if (!row) return;
+    const text = learnMember(this.member.typed(), row.member);
+    if (text) this.said.replaceChildren(make('p', { class: 'note' }, text));
+    this.owner = row.member;
+    keepTable(this.rows, this.owner);
+  }
+
+  async #sendAll() {
+    const [open, name, author] = [this.open, this.name.checked, this.author.value];
+    Object.assign(this.bar, { max: open.length, value: 0, hidden: false });
+    for (const row of open) {
+      await sendRow(row, this.member.input.value, name, author, this.page);
+      this.bar.value += 1;
+      keepTable(this.rows, this.owner);
+    }
+  }
+}

@@ -1,0 +1,233 @@
+// Depositing: a file is dropped, chosen or pasted, drawn, and sent under a member's name and a token.
+
+import { depositAddress, go } from '../shared/address.js';
+import { broughtFiles, keepNote } from '../shared/brought.js';
+import { lastDeposit, sendDeposit } from '../requests/archive.js';
+import { field, isMember, make, many, refusal } from '../shared/dom.js';
+import { thumbnail } from '../drawing/draw.js';
+import { cutButton, oldChoice, readGiven, refusedBy } from '../patterns/given.js';
+import { draft, keepDraft } from '../shared/kept.js';
+import { LONGEST_FILE, LONGEST_MEMBER, LONGEST_SIDE, LONGEST_TEXT, LONGEST_TOKEN } from '../shared/limits.js';
+import { Table, forgetTable, keptTable } from './many.js';
+import { memberPart, rememberMember } from '../shared/member.js';
+import { NO_FILES, baseName, patternsOf, withTexts } from '../patterns/names.js';
+import { Refused } from '../requests/refusals.js';
+import { Fault } from '../patterns/rle.js';
+import { ruleText } from '../patterns/rule.js';
+import { sumOf } from '../patterns/sum.js';
+
+const WIDTH = 320;
+const HEIGHT = 200;
+/** The number of the fault of a file that is too long. */
+const TOO_LONG = 1;
+const TOKEN = new RegExp(`^[A-Za-z0-9-]{1,${LONGEST_TOKEN}}$`);
+
+/** What to send: the bytes, and the token computed from them. */
+class Content {
+  bytes = new Uint8Array();
+  fault = null;
+  fileName = '';
+  /** What the page made of the file; null for an empty one. @type {import('../patterns/given.js').Given | null} */
+  read = null;
+
+  constructor(text, token, preview) {
+    this.text = text;
+    this.token = token;
+    this.preview = preview;
+    this.texts = { name: this.#textInput('text-name', 'no name yet'), author: this.#textInput('text-author', 'no author yet') };
+  }
+
+  #textInput(id, placeholder) {
+    return make('input', { id, maxlength: LONGEST_TEXT, autocomplete: 'off', placeholder, input: () => this.#compose() });
+  }
+
+  /** Sets the bytes. */
+  take(bytes, shown) {
+    this.given = bytes;
+    this.choices = { asOld: true, isCut: false };
+    this.#read(shown);
+  }
+
+  /** Reads the bytes, as the member chose. */
+  #read(shown) {
+    this.read = this.given.length > 0 ? readGiven(this.given, this.choices) : null;
+    this.own = this.read?.bytes ?? this.given;
+    this.record = this.read?.record ?? null;
+    this.fault = this.read?.fault ?? null;
+    if (shown) this.text.value = new TextDecoder(this.read?.isOld && this.choices.asOld ? 'windows-1252' : 'utf-8').decode(this.given);
+    this.preview.replaceChildren(...this.#seen());
+    this.#offer(shown);
+    this.#compose();
+  }
+
+  #choose(more) {
+    Object.assign(this.choices, more);
+    this.#read(true);
+  }
+
+  /** Shows fields for a name and an author if the file has none. */
+  #offer(isNew) {
+    for (const [name, input] of Object.entries(this.texts)) {
+      const has = this.record?.[name] ?? null;
+      if (isNew || input.disabled || has !== null) input.value = has ?? '';
+      input.disabled = has !== null || !this.record;
+    }
+    const offered = baseName(this.fileName);
+    this.offer.hidden = !offered || this.texts.name.disabled;
+    this.offer.replaceChildren(`Name it “${offered}”`);
+  }
+
+  /** Offers the file name as a name. */
+  offer = make('button', { type: 'button', id: 'offer', hidden: true, click: () => {
+    this.texts.name.value = baseName(this.fileName);
+    this.#compose();
+  } });
+
+  /** What is sent: the bytes with a missing name and author added. The token is their digest, as in examples/scripts/put-folder. */
+  #compose() {
+    const { name, author } = this.texts;
+    this.bytes = this.record ? withTexts(this.own, this.record, name.value, author.value) : this.own;
+    this.token.value = this.bytes.length === 0 || this.bytes.length > LONGEST_FILE ? '' : sumOf(this.bytes);
+  }
+
+  /** Shows only a fault, for a file that is not read. */
+  takeFault(fault) {
+    this.take(new Uint8Array(), true);
+    this.fault = fault;
+    this.preview.replaceChildren(this.refused(refusedBy(fault)));
+  }
+
+  get isTooLong() {
+    return this.fault?.number === TOO_LONG;
+  }
+
+  /** Shows how this page reads the file, before the archive has it. */
+  #seen() {
+    if (!this.read) return [make('p', { class: 'empty' }, 'Your pattern will be drawn here.')];
+    const { record, notes, isOld, fault } = this.read;
+    const old = isOld ? [oldChoice('as-old', this.choices.asOld, 'This file is not UTF-8: read it as windows-1252', (asOld) => this.#choose({ asOld }))] : [];
+    if (fault) return [this.refused(refusedBy(fault)), ...(fault.isTooMany ? [cutButton(() => this.#choose({ isCut: true }))] : []), ...old];
+    const { name, rule, pattern } = record;
+    const facts = `${name ? `${name}: ` : ''}${many(pattern.population, 'cell')}, ${pattern.width} by ${pattern.height}, ${ruleText(rule)}`;
+    return [thumbnail(pattern, WIDTH, HEIGHT, facts), make('p', {}, facts), ...notes.map((note) => make('p', { class: 'note' }, note)), ...old];
+  }
+
+  refused(error) {
+    if (!error.fault || error.fault !== this.fault?.number) return refusal(error);
+    return refusal(refusedBy(this.fault), this.read?.line);
+  }
+}
+
+/** Accepts a file. It is not read if it is too long, since a large one would block the page. */
+async function takeFile(content, file, page) {
+  const isTooLong = file.size > LONGEST_FILE;
+  content.fileName = file.name ?? '';
+  if (isTooLong) content.takeFault(new Fault(TOO_LONG));
+  else content.take(new Uint8Array(await file.arrayBuffer()), true);
+  page.say(`${file.name ?? 'The pasted text'} is ${isTooLong ? 'too long' : 'loaded'}.`);
+}
+
+/** The area for dropping, choosing or pasting files. */
+function dropPart(content, take, page) {
+  const chooser = make('input', { id: 'file', type: 'file', multiple: true, accept: '.rle,.cells,.lif,.life,.txt,text/plain', change: () => take([...chooser.files]) });
+  const folder = make('input', { id: 'folder', type: 'file', webkitdirectory: true, change: () => {
+    const files = patternsOf([...folder.files]);
+    if (files.length > 0) take(files);
+    else page.sayNothing(NO_FILES);
+  } });
+  content.text.addEventListener('input', () => {
+    content.take(new TextEncoder().encode(content.text.value), false);
+    keepDraft('pattern', content.text.value);
+  });
+  return make('div', { class: 'drop' }, make('p', {}, make('label', { for: 'file' }, 'Drop files or a folder on this page, or choose files: '), chooser),
+    make('p', {}, make('label', { for: 'folder' }, 'A folder: '), folder),
+    field('Or paste a file’s text', content.text, `RLE, as in Golly and on the LifeWiki: at most 1 MiB, and ${LONGEST_SIDE} by ${LONGEST_SIDE} cells. Plaintext and Life 1.05 and 1.06 are sent as RLE.`));
+}
+
+/** Sends the content, and opens the new deposit. */
+async function send(content, { input: name, typed }, said, page) {
+  if (!isMember(name.value)) throw new Refused('bad-member');
+  if (content.isTooLong) throw new Refused('bad-pattern', 7, TOO_LONG);
+  if (!TOKEN.test(content.token.value)) throw new Refused('bad-token');
+  rememberMember(name.value);
+  const waiting = (error) => {
+    said.replaceChildren(make('p', {}, error.name === 'too-many-requests' ? 'The archive is busy; trying again…' : 'No reply yet; sending it again with the same token…'));
+    page.say(said.textContent);
+  };
+  page.say('Sending…');
+  said.replaceChildren(make('p', { class: 'waiting' }, 'Sending…'));
+  const last = await lastDeposit(page.signal).catch(() => 0);
+  const number = await sendDeposit(name.value, content.token.value, content.bytes, waiting, page.signal);
+  page.say(`Stored as deposit ${number}.`);
+  keepDraft('pattern', null);
+  keepNote(number, number > last ? 'Deposited.' : 'You had already deposited this; it keeps its number.', typed());
+  go(depositAddress(number));
+}
+
+/** The fields for one file, and what happens when they are sent. */
+function singlePart(content, token, page) {
+  const member = memberPart('member', `Your name here: 1 to ${LONGEST_MEMBER} characters, a to z, 0 to 9 and "-".`);
+  const said = make('div');
+  const button = make('button', { class: 'main', id: 'send' }, 'Deposit');
+  const submit = async (event) => {
+    event.preventDefault();
+    said.replaceChildren();
+    button.disabled = true;
+    try {
+      await send(content, member, said, page);
+    } catch (error) {
+      if (!page.signal.aborted) {
+        said.replaceChildren(content.refused(error));
+        if (error.name === 'no-reply') button.replaceChildren('Send again');
+      }
+    } finally {
+      button.disabled = false;
+    }
+  };
+  const part = make('div', {}, field('Name', content.texts.name, 'A name and an author are added if the file has none.'), make('p', {}, content.offer),
+    field('Author', content.texts.author), member.part,
+    make('details', {}, make('summary', {}, 'Token'), field('Token', token, 'Made of the file. Sent again under the same token, a file is kept once.')), button, said);
+  return { part, submit };
+}
+
+/** The table of many files, which replaces the fields for one; returns the function that accepts files. */
+function takerOf(form, single, content, page) {
+  const table = new Table(page, () => {
+    forgetTable();
+    showTable(false);
+    content.text.focus();
+  });
+  const showTable = (isMany) => {
+    for (const part of [single, content.preview, content.text.closest('.field')]) part.hidden = isMany;
+    if (isMany) form.after(table.root);
+    else table.root.remove();
+  };
+  content.text.addEventListener('input', () => showTable(false));
+  const kept = keptTable();
+  if (kept.rows.length > 0) {
+    form.after(table.root);
+    table.showKept(kept);
+  }
+  return (files) => {
+    if (files.length === 0) return null;
+    showTable(files.length > 1);
+    if (files.length > 1) return table.take(files);
+    forgetTable();
+    return takeFile(content, files[0], page);
+  };
+}
+
+export function depositForm(page) {
+  page.title('Deposit a file');
+  const text = make('textarea', { id: 'pattern', rows: 10, spellcheck: 'false', autocapitalize: 'none', autocomplete: 'off', placeholder: 'x = 3, y = 3, rule = B3/S23\nbo$2bo$3o!' });
+  const token = make('input', { id: 'token', maxlength: LONGEST_TOKEN, autocapitalize: 'none', autocomplete: 'off', spellcheck: 'false' });
+  const content = new Content(text, token, make('div', { class: 'preview', 'aria-live': 'polite' }));
+  const { part, submit } = singlePart(content, token, page);
+  const form = make('form', { class: 'deposit', submit }, make('div', {}, dropPart(content, (files) => page.taken(files), page), part), content.preview);
+  page.root.append(make('h1', { tabindex: -1 }, 'Deposit a file'), form);
+  page.taken = takerOf(form, part, content, page);
+  const typed = draft('pattern');
+  const brought = broughtFiles();
+  content.take(brought || !typed ? new Uint8Array() : new TextEncoder().encode(typed), true);
+  if (brought) page.taken(brought);
+}

@@ -1,0 +1,86 @@
+// An object's pattern: its phases, played or side by side, its text, and where else to look it up.
+
+import { objectAddress } from '../shared/address.js';
+import { copyButton, make, many } from '../shared/dom.js';
+import { thumbnail } from '../drawing/draw.js';
+import { Maker } from '../player/maker.js';
+import { save } from '../drawing/picture.js';
+import { readRule, ruleText } from '../patterns/rule.js';
+import { fileOf, withOrigin } from '../patterns/writer.js';
+
+const SIDE = 120;
+const MOST_PHASES = 60;
+/** For how many milliseconds a phase is shown. */
+const SHOWN = 250;
+
+/** The phases of a pattern, moved into one box. */
+export async function phasesOf(pattern, rule, period, signal) {
+  const maker = new Maker({ pattern, rule }, MOST_PHASES, signal);
+  try {
+    const made = [];
+    for (let at = 0; at < Math.min(period, MOST_PHASES); at += 1) made.push(await maker.get(at));
+    return boxed(made);
+  } finally {
+    maker.end();
+  }
+}
+
+function boxed(made) {
+  const least = (side) => Math.min(...made.map(({ corner }) => corner[side]));
+  const [left, top] = [least('column'), least('row')];
+  const width = Math.max(...made.map(({ corner, pattern }) => corner.column - left + pattern.width));
+  const height = Math.max(...made.map(({ corner, pattern }) => corner.row - top + pattern.height));
+  return made.map(({ corner, pattern }) => {
+    const rows = Array.from({ length: height }, (_, row) => [...(pattern.rows[row - corner.row + top] ?? [])].map((column) => column + corner.column - left));
+    return { width, height, population: pattern.population, rows };
+  });
+}
+
+/** A button that plays the phases in a loop in place of the picture. */
+function playButton(picture, phases, code, signal) {
+  let [timer, at] = [null, 0];
+  const show = () => {
+    at = (at + 1) % phases.length;
+    picture.replaceChildren(thumbnail(phases[at], 320, 200, `The object ${code}, phase ${at}`));
+  };
+  const stop = () => {
+    clearInterval(timer);
+    timer = null;
+    button.replaceChildren('Play');
+  };
+  const button = make('button', { type: 'button', id: 'play-object', click: () => {
+    if (timer !== null) {
+      stop();
+      return;
+    }
+    timer = setInterval(show, SHOWN);
+    button.replaceChildren('Pause');
+  } }, 'Play');
+  signal.addEventListener('abort', stop);
+  return button;
+}
+
+/** Where else to look up an object by the same code. Groups of objects are not listed there under the code that they have here. */
+function lookUp(code, rule, isGroup) {
+  const place = rule.toLowerCase().replace('/', '');
+  return isGroup ? null : make('p', {}, 'Look it up: ', make('a', { href: `https://catagolue.hatsya.com/object/${code}/${place}`, rel: 'noreferrer' }, 'Catagolue'), ', which has well-known objects under the same code.');
+}
+
+/** An object as a pattern file, with its name and its address. */
+function textOf(pattern, code, rule, title) {
+  const own = new TextEncoder().encode(fileOf(pattern, rule));
+  return new TextDecoder().decode(withOrigin(own, {}, { title, origin: `${code} of ${rule}, ${location.origin}${objectAddress(rule, code)}` }));
+}
+
+/** The parts of an object's page: the play button, its text to copy or download, its phases, and where else to look it up. */
+export async function objectParts(pattern, code, period, ruleWord, picture, page, { title = '', isGroup = false } = {}) {
+  const rule = readRule(ruleWord);
+  const text = () => textOf(pattern, code, ruleText(rule), title);
+  const load = make('button', { type: 'button', id: 'load-object', click: () => save(text(), `${code}.rle`, 'text/plain') }, 'Download');
+  const copy = copyButton('Copy as RLE', text, page.say);
+  const phases = period > 1 ? await phasesOf(pattern, rule, period, page.signal) : [];
+  const play = phases.length > 1 ? playButton(picture, phases, code, page.signal) : null;
+  const said = period > MOST_PHASES ? `The first ${MOST_PHASES} of ${many(period, 'phase')}, computed by your browser` : `${many(period, 'phase')}, computed by your browser`;
+  const drawn = phases.length > 1 ? [make('details', { id: 'phases' }, make('summary', {}, said), make('div', { class: 'phases' }, phases.map((phase, at) => thumbnail(phase, SIDE, SIDE, `Phase ${at}`))))] : [];
+  return [make('section', {}, make('h2', {}, 'As a pattern file'), make('p', { class: 'row' }, ...[play, copy, load].filter(Boolean)), ...drawn, ...[lookUp(code, ruleText(rule), isGroup)].filter(Boolean))];
+}

@@ -1,0 +1,104 @@
+// The generation of a deposit that is shown: its address, its text, and depositing it.
+
+import { depositAddress, go } from '../shared/address.js';
+import { copyButton, counted, make } from '../shared/dom.js';
+import { LONGEST_SIDE } from '../shared/limits.js';
+import { save } from '../drawing/picture.js';
+import { bring } from '../shared/brought.js';
+import { ruleText } from '../patterns/rule.js';
+import { fileOf, withOrigin } from '../patterns/writer.js';
+
+/** What a member can do with the generation that is shown: cite its address, copy its text, take a census. It is updated with each generation. */
+export class Shown {
+  /**
+   * @param {number} number
+   * @param {{ bytes: Uint8Array, record: object }} own the deposit itself
+   * @param {object} page
+   */
+  constructor(number, own, page) {
+    this.number = number;
+    this.own = own;
+    this.first = own.record;
+    this.name = this.first.name ?? `Deposit ${number}`;
+    this.page = page;
+    this.address = make('a', { class: 'address' });
+    this.text = make('textarea', { id: 'text', readonly: true, rows: 8, spellcheck: 'false', wrap: 'off' });
+    this.load = make('a', { class: 'button', click: (event) => this.#save(event) }, 'Download');
+    this.which = make('span');
+    this.details = make('details', { toggle: () => this.#fill() }, make('summary', {}, 'Text'), make('label', { for: 'text', class: 'aside' }, 'Text of the generation'), this.text);
+  }
+
+  get at() {
+    return this.seen?.at;
+  }
+
+  get url() {
+    return location.origin + depositAddress(this.number, this.at);
+  }
+
+  /** Sets the generation that is shown. If the page computed it, it has no bytes, and only its pattern is known. */
+  take(at, bytes, record) {
+    // Only the deposit itself has its texts.
+    this.seen = at === 0 ? { at, ...this.own } : { at, bytes, record: { ...record, rule: this.first.rule } };
+    this.which.replaceChildren(at === 0 ? 'The file' : `Generation ${counted(at)}`);
+    if (bytes === null) return;
+    this.whole = this.seen;
+    this.address.href = this.url;
+    this.address.replaceChildren(this.url);
+    this.load.href = at === 0 ? `/deposits/${this.number}` : `/deposits/${this.number}/at/${at}`;
+    this.load.download = this.fileName;
+    this.#fill();
+  }
+
+  /** What a saved file says: its title, and where it comes from. Only generation 0, the file itself, has the deposit's own name. */
+  get from() {
+    const { at, bytes } = this.seen;
+    const computed = bytes === null ? ', computed by a browser' : '';
+    return { title: at === 0 ? this.first.name : `${this.name}, generation ${at}`,
+      origin: `${at === 0 ? 'Deposit' : `Generation ${at} of deposit`} ${this.number}${computed}, ${this.url}` };
+  }
+
+  get fileName() {
+    return `deposit-${this.number}${this.at === 0 ? '' : `-at-${this.at}`}.rle`;
+  }
+
+  /** The generation that is seen as a file, while it plays too. */
+  get file() {
+    const { bytes, record } = this.seen;
+    return withOrigin(bytes ?? new TextEncoder().encode(fileOf(record.pattern, ruleText(record.rule))), record, this.from);
+  }
+
+  #save(event) {
+    event.preventDefault();
+    save(this.file, this.fileName, 'text/plain');
+  }
+
+  /** Updates the page's address and title. Browsers limit how often they may change, so they stay the same while it plays. */
+  cite() {
+    this.page.title(this.at === 0 ? this.name : `${this.name}, generation ${this.at}`);
+    history.replaceState(history.state, '', depositAddress(this.number, this.at));
+  }
+
+  #fill() {
+    if (this.details.open) this.text.value = new TextDecoder().decode(this.whole.bytes);
+  }
+
+  /** Offers to deposit the generation, so that playing can continue from there. */
+  depositPart() {
+    const { pattern } = this.whole.record;
+    if (Math.max(pattern.width, pattern.height) > LONGEST_SIDE) return make('span', {}, `It is ${counted(pattern.width)} by ${counted(pattern.height)}, and the archive takes patterns of up to ${counted(LONGEST_SIDE)} by ${counted(LONGEST_SIDE)}.`);
+    const click = () => {
+      bring([new File([this.file], this.fileName)]);
+      go('/new');
+    };
+    return make('button', { type: 'button', id: 'deposit-generation', click }, 'Deposit this generation');
+  }
+
+  parts() {
+    const copied = () => new TextDecoder().decode(this.file);
+    return [
+      make('section', {}, make('h2', {}, 'Cite'), make('p', { class: 'row' }, this.address, copyButton('Copy the address', () => this.url, this.page.say))),
+      make('section', {}, make('h2', {}, this.which), make('p', { class: 'row' }, copyButton('Copy as RLE', copied, this.page.say), this.load), this.details),
+    ];
+  }
+}

@@ -1,0 +1,50 @@
+// The files of a folder, and adding a name and an author to a file without them (docs/FORMATS.md, Pattern files): `#N` and `#O` before its
+// first line.
+
+import { LONGEST_TEXT } from '../shared/limits.js';
+
+const bytesOf = (text) => new TextEncoder().encode(text);
+
+/** A text as one line of at most LONGEST_TEXT bytes, never cut inside a character. */
+function oneLine(text) {
+  const plain = text.replace(/[\r\n\t]+/g, ' ').trim();
+  return new TextDecoder().decode(bytesOf(plain).subarray(0, LONGEST_TEXT)).replace(/\ufffd+$/, '').trim();
+}
+
+/** What a page says if a folder has none of these. */
+export const NO_FILES = 'There is no pattern file in this folder: their names end in .rle, .cells, .lif or .life.';
+
+/** The path of a file in the dropped folder, or its name. */
+export const pathOf = (file) => file.webkitRelativePath || file.relativePath || file.name;
+
+/** The pattern files of a folder, ordered by path: those with an ending of a form that formats.js reads. */
+export const patternsOf = (files) => files.filter(({ name }) => /\.(rle|cells|lif|life)$/i.test(name)).sort((one, other) => (pathOf(one) < pathOf(other) ? -1 : 1));
+
+/** The name of a file without folders and extension: `gosper-gun` for `guns/gosper-gun.rle`. */
+export const baseName = (name) => oneLine(name.split('/').at(-1).replace(/\.(rle|cells|lif|life|txt)$/i, ''));
+
+/** A file with a name and an author added, if they are given and its record has none. */
+export function withTexts(bytes, record, name, author) {
+  const lines = [record.name === null && oneLine(name) ? `#N ${oneLine(name)}\n` : '', record.author === null && oneLine(author) ? `#O ${oneLine(author)}\n` : ''].join('');
+  if (lines === '') return bytes;
+  const head = bytesOf(lines);
+  const all = new Uint8Array(head.length + bytes.length);
+  all.set(head);
+  all.set(bytes, head.length);
+  return all;
+}
+
+/** The files of a dropped entry: the file itself, or all files in the folder and its subfolders. */
+export async function filesOf(entry, folder = '') {
+  if (entry.isFile) {
+    const file = await new Promise((resolve, reject) => { entry.file(resolve, reject); });
+    return [Object.assign(file, { relativePath: folder + file.name })];
+  }
+  const reader = entry.createReader();
+  const found = [];
+  for (;;) {
+    const entries = await new Promise((resolve, reject) => { reader.readEntries(resolve, reject); });
+    if (entries.length === 0) return patternsOf((await Promise.all(found.map((one) => filesOf(one, `${folder}${entry.name}/`)))).flat());
+    found.push(...entries);
+  }
+}

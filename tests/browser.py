@@ -188,8 +188,9 @@ class Relay:
 
     def __init__(self, port: int) -> None:
         self.to, self.left, self.away = port, 0, False
-        # The tokens of the deposits whose replies were dropped.
+        # The tokens of the deposits whose replies were dropped, and the targets of the requests that read.
         self.cut: list[str] = []
+        self.asked: list[str] = []
         self.listener = socket.create_server(("127.0.0.1", 0))
         self.port = self.listener.getsockname()[1]
         threading.Thread(target=self.take, daemon=True).start()
@@ -208,6 +209,9 @@ class Relay:
     def send_on(self, client: socket.socket, server: socket.socket, state: dict[str, bool]) -> None:
         try:
             while (piece := client.recv(65536)) and not self.away:
+                # A browser sends a request at once, and the next one after its reply.
+                if piece.startswith(b"GET "):
+                    self.asked.append(piece.split(b" ")[1].decode())
                 if piece.startswith(b"POST /deposits HTTP/1.1\r\n") and self.left:
                     self.left -= 1
                     self.cut.append(

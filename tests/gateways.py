@@ -17,10 +17,10 @@ BUSY = 8
 
 
 def missing() -> list[str]:
-    """The servers of the gateway that are not installed."""
+    """The programs of the gateway that are not installed."""
     return [
         name
-        for name in ("nginx", "haproxy")
+        for name in ("nginx", "haproxy", "esbuild")
         if not shutil.which(name, path=os.environ.get("PATH", "") + ":/usr/sbin:/usr/local/sbin:/sbin")
     ]
 

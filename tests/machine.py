@@ -44,7 +44,9 @@ def missing() -> str:
     if os.geteuid() != 0:
         return "this is not root"
     gone = [
-        name for name in ("mmdebstrap", "unshare", "nsenter", "dpkg-deb", "zstd", "strip") if not shutil.which(name)
+        name
+        for name in ("mmdebstrap", "unshare", "nsenter", "dpkg-deb", "zstd", "strip", "esbuild")
+        if not shutil.which(name)
     ]
     if gone:
         return f"{', '.join(gone)} not installed"

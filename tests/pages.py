@@ -3,15 +3,38 @@
 import http.client
 import json
 import os
+import re
 import subprocess
 from typing import Any
 
 from gateways import DEPLOY, Gateway
 
+WEB = os.path.join(DEPLOY, "..", "web")
+# The name of a file of the pages that never changes.
+DIGESTED = re.compile(r"[a-z]+-[A-Z2-7]{8}\.[a-z]+")
+
 
 def content(path: str) -> bytes:
     with open(path, "rb") as file:
         return file.read()
+
+
+def with_sources(folder: str) -> str:
+    """The setting by which a gateway also serves the files of web/ as they are, below /sources/: tests call what the modules export. The
+    pages load none of them."""
+    place = os.path.join(folder, "site")
+    os.makedirs(place, exist_ok=True)
+    with open(os.path.join(place, "sources.conf"), "w", encoding="ascii") as out:
+        types = "text/javascript js; text/csv csv; image/svg+xml svg;"
+        out.write(f"location ^~ /sources/ {{ alias {os.path.abspath(WEB)}/; types {{ {types} }} }}\n")
+    return f"OWN_SITE={place}"
+
+
+def bundled(gateway: Gateway, name: str) -> str:
+    """The address of a file that the pages load, such as `main.js`, in which it has its digest."""
+    stem, end = name.split(".")
+    found = [one for one in os.listdir(os.path.join(gateway.folder, "pages")) if DIGESTED.fullmatch(one)]
+    return next(f"/web/{one}" for one in found if one.startswith(f"{stem}-") and one.endswith(f".{end}"))
 
 
 def asked(

@@ -113,7 +113,7 @@ def head(path: str, method: str = "GET", *lines: str) -> bytes:
 FLOODS = {
     "paths that don't exist": head(f"/{LONG}") * 20,
     "pages": head(f"/d/5?{LONG}") * 20,
-    "files that don't exist": head(f"/web/none.js?{LONG}") * 20,
+    "files that don't exist": head(f"/web/none-AAAAAAAA.js?{LONG}") * 20,
     "methods that a page has not": head(f"/d/5?{LONG}", "PUT") * 20,
     "reads": head(f"/deposits/1?{LONG}") * 20,
     "numbers that are not given": head(f"/deposits/1234567?{LONG}") * 20,
@@ -135,7 +135,7 @@ def floods(site: Site) -> None:
         for path in (
             f"/{LONG}",
             f"/d/5?{LONG}",
-            f"/web/none.js?{LONG}",
+            f"/web/none-AAAAAAAA.js?{LONG}",
             f"/index/index.json?{LONG}",
             f"/deposits/1?{LONG}",
             f"/objects/B3S23/xs4_33/2?{LONG}",

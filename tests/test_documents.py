@@ -508,6 +508,7 @@ LISTED = [
     ),
     (["web/main.js"], "", "documents lint web"),
     (["tests/web_haul.py"], "", "lint web"),
+    (["deploy/bundle"], "", "boot gateway lint web"),
     (["bench/soup.py"], "", "lint"),
     (["docs/make-tables", "docs/tables/limits.py", "docs/clauses.txt"], "", "documents lint"),
     (["docs/limits.csv"], "", "documents words"),

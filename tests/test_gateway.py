@@ -331,7 +331,7 @@ def test_limits(gateway: Gateway, filled: None) -> None:
     for client, path, at_once, rate, peers in (
         (263, "/deposits/1", 200, 50, 20),
         (264, "/deposits/1/at/1", 200, 50, 4),
-        (265, "/web/main.js", 1000, 100, 20),
+        (265, "/web/robots.txt", 1000, 100, 20),
         (266, "/none", 1000, 100, 20),
     ):
         wanted, begun = 404 if path == "/none" else 200, time.monotonic()
@@ -866,7 +866,7 @@ def test_over_tls(servers: None, folder: str) -> None:
 
         for path, status in (
             ("/", 200),
-            ("/web/none.js", 404),
+            ("/web/none-AAAAAAAA.js", 404),
             ("/nothing", 404),
             ("/deposits/after/0", 200),
             ("/deposits/1", 404),
@@ -896,8 +896,8 @@ def test_over_tls(servers: None, folder: str) -> None:
         context.check_hostname = False
         check(
             "TLS by IPv6",
-            secure("/web/none.js", "::1", also)[0] == 404
-            and secure("/web/main.js", "::1", also)[:2] == secure("/web/main.js")[:2],
+            secure("/web/none-AAAAAAAA.js", "::1", also)[0] == 404
+            and secure("/web/robots.txt", "::1", also)[:2] == secure("/web/robots.txt")[:2],
         )
     finally:
         gateway.end()

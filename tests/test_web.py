@@ -26,7 +26,7 @@ import web_haul
 from browser import Browser, Relay
 from clients import HERE, check, left_out, run, same
 from gateways import BUSY, Gateway
-from pages import asked, content, kept, told
+from pages import DIGESTED, asked, bundled, content, kept, told, with_sources
 import web_addresses
 import web_club
 import web_colors
@@ -37,6 +37,7 @@ import web_members
 import web_pictures
 import web_player
 import web_search
+import web_visits
 import web_waiting
 
 pytestmark = pytest.mark.full
@@ -75,7 +76,7 @@ def runs_of(cells: Iterable[tuple[int, int]]) -> list[list[int]]:
 # seen. Each live cell has its left upper pixel of that color, and there are no others.
 SEEN = """
 const canvas = document.querySelector(words[0]);
-const { colors } = await import('/web/drawing/draw.js');
+const { colors } = await import('/sources/drawing/draw.js');
 await new Promise((resolve) => requestAnimationFrame(() => requestAnimationFrame(resolve)));
 const { width, height } = canvas;
 const pixels = new Uint32Array(canvas.getContext('2d').getImageData(0, 0, width, height).data.buffer);
@@ -111,7 +112,7 @@ def gateway(program: str, folder: str) -> Iterator[Gateway]:
     """The gateway of all pages here."""
     if lacking := gateways.missing() + browsers.missing():
         pytest.skip(f"{' and '.join(lacking)} not installed")
-    own = Gateway(os.path.join(folder, "club.db"), FIRST_PORT, seconds=1800)
+    own = Gateway(os.path.join(folder, "club.db"), FIRST_PORT, with_sources(folder), seconds=1800)
     yield own
     own.end()
 
@@ -182,22 +183,26 @@ def test_headers(gateway: Gateway) -> None:
         "svg": "image/svg+xml",
         "txt": "text/plain; charset=utf-8",
     }
-    for path in sorted(glob.glob(os.path.join(TOP, "web", "**", "*.*"), recursive=True)):
-        name = os.path.relpath(path, os.path.join(TOP, "web"))
-        if name not in ("index.html", "README.md"):
-            status, file, lines = asked(gateway.port, f"/web/{name}")
-            same(
-                f"the file {name}",
-                (status, file, lines["content-type"]),
-                (200, content(path), types[name.rsplit(".")[-1]]),
-            )
-    check(
-        "the notes of web/ are not with the pages",
-        not os.path.exists(os.path.join(gateway.folder, "pages", "README.md")),
+    pages = os.path.join(gateway.folder, "pages")
+    names = sorted(set(os.listdir(pages)) - {"index.html"})
+    for name in names:
+        status, file, lines = asked(gateway.port, f"/web/{name}")
+        keeping = "public, max-age=31536000, immutable" if DIGESTED.fullmatch(name) else "no-cache"
+        same(
+            f"the file {name}",
+            (status, file, lines["content-type"], lines["cache-control"]),
+            (200, content(os.path.join(pages, name)), types[name.rsplit(".")[-1]], keeping),
+        )
+    same(
+        "the files that have the same name in each release",
+        [name for name in names if not DIGESTED.fullmatch(name)],
+        ["favicon.ico", "preview.png", "robots.txt"],
     )
     for path in (
         "/web/",
-        "/web/none.js",
+        "/web/none-AAAAAAAA.js",
+        "/web/main.js",
+        "/web/player/stepper.js",
         "/web/index.html",
         "/web/README.md",
         "/web",
@@ -206,7 +211,7 @@ def test_headers(gateway: Gateway) -> None:
         "/deposit/1",
     ):
         same(f"no page at {path}", asked(gateway.port, path)[:2], (404, b'{"error":"no-such-page","refusal":12}'))
-    for path in ("/", "/d/1", "/web/main.js", "/favicon.ico"):
+    for path in ("/", "/d/1", bundled(gateway, "main.js"), "/favicon.ico"):
         same(
             f"a deposit at {path}",
             asked(gateway.port, path, "POST", b"")[:2],
@@ -233,7 +238,7 @@ def test_headers(gateway: Gateway) -> None:
             and through[2]["x-content-type-options"] == "nosniff"
             and "x-cache" in through[2] | {"x-cache": ""},
         )
-    for path in ("/", "/d/1", "/web/main.js"):
+    for path in ("/", "/d/1", bundled(gateway, "main.js")):
         same(f"the program has no page {path}", asked(gateway.life_port, path)[0], 404)
 
 
@@ -345,7 +350,7 @@ def test_too_long(gateway: Gateway, browser: Browser, base: str, folder: str) ->
             out.truncate(size)
     before = told(gateway, "/deposits/after/0")
     browser.open(f"{base}/new")
-    usual = browser.wait_for("const { FAULTS } = await import('/web/requests/refusals.js'); return FAULTS[1][1];")
+    usual = browser.wait_for("const { FAULTS } = await import('/sources/requests/refusals.js'); return FAULTS[1][1];")
     browser.run(COUNT_READS)
     browser.drop([longest], ".drop")
     check(
@@ -446,19 +451,19 @@ def test_sentences(browser: Browser, base: str) -> None:
     same("the refusals and faults that are tried", (len(faulty), len(refusals)), (10, 14))
     browser.open(f"{base}/find")
     named = browser.wait_for(
-        "const { FAULTS } = await import('/web/requests/refusals.js'); return FAULTS.map((fault) => fault?.[0]);"
+        "const { FAULTS } = await import('/sources/requests/refusals.js'); return FAULTS.map((fault) => fault?.[0]);"
     )
     same("the names of faults", named[1:], [name for _, name in faulty])
     texts = browser.wait_for(
         """
-        const { sentenceOf, refusalOf } = await import('/web/requests/refusals.js');
+        const { sentenceOf, refusalOf } = await import('/sources/requests/refusals.js');
         const said = words[0].map((name) => sentenceOf(refusalOf(400, JSON.stringify({ error: name, refusal: 1 }))));
         return said.concat(words[1].map((rle) => sentenceOf(refusalOf(422, JSON.stringify({ error: 'bad-pattern', refusal: 7, rle })))));""",
         refusals + ["too-many-requests", "no-reply"],
         [int(number) for number, _ in faulty],
     )
     unknown = browser.wait_for(
-        "const { sentenceOf, refusalOf } = await import('/web/requests/refusals.js'); return [[418, 'x'], [502, '<html>'], [401, '<html>']].map((reply) => sentenceOf(refusalOf(...reply)));"
+        "const { sentenceOf, refusalOf } = await import('/sources/requests/refusals.js'); return [[418, 'x'], [502, '<html>'], [401, '<html>']].map((reply) => sentenceOf(refusalOf(...reply)));"
     )
     check(
         "a sentence for each",
@@ -645,7 +650,7 @@ def test_looked_up(browser: Browser, base: str) -> None:
     with open(os.path.join(TOP, "web", "objects.csv"), encoding="ascii") as table:
         codes = [row["code"] for row in csv.DictReader(line for line in table if not line.startswith("#"))]
     spelled = browser.wait_for(
-        "const { patternOf, limitOf } = await import('/web/patterns/code.js'); return words[0].map((code) => [patternOf(code).rows, limitOf(code)]);",
+        "const { patternOf, limitOf } = await import('/sources/patterns/code.js'); return words[0].map((code) => [patternOf(code).rows, limitOf(code)]);",
         codes,
     )
     for code, (rows, limit) in zip(codes, spelled):
@@ -832,6 +837,7 @@ PARTS: list[Callable[..., None]] = [
     *web_search.PARTS,
     *web_club.PARTS,
     *web_members.PARTS,
+    *web_visits.PARTS,
 ]
 
 
@@ -892,8 +898,8 @@ def test_screens(browser: Browser, base: str) -> None:
 # The rows of runs that are drawn of a file, at a pixel a cell, or the number of its fault.
 DRAWN = """
 const [encoded] = words;
-const { readFile, Fault } = await import('/web/patterns/rle.js');
-const { paint, colors } = await import('/web/drawing/draw.js');
+const { readFile, Fault } = await import('/sources/patterns/rle.js');
+const { paint, colors } = await import('/sources/drawing/draw.js');
 let pattern;
 try {
   pattern = readFile(Uint8Array.from(atob(encoded), (byte) => byte.charCodeAt(0))).pattern;
@@ -973,7 +979,7 @@ def test_sizes(browser: Browser, base: str) -> None:
     browser.open(f"{base}/find")
     found = browser.wait_for(
         """
-        const { paint, colors, SIZES } = await import('/web/drawing/draw.js');
+        const { paint, colors, SIZES } = await import('/sources/drawing/draw.js');
         const { live } = colors();
         const cells = [];
         for (let cell = 0; cell < 200; cell += 1) cells.push([(cell * 37) % 61, (cell * 11) % 43]);

@@ -135,7 +135,7 @@ class Previewed(html.parser.HTMLParser):
 
 def page_of(gateway: Gateway, named: str = "") -> bytes:
     """The page as the gateway gives it, while there is no index, at an address that a preview calls so."""
-    page = content(os.path.join(WEB, "index.html")).decode()
+    page = content(os.path.join(gateway.folder, "pages", "index.html")).decode()
     put = {"named": "", "life_title": named, "life_origin": f"http://127.0.0.1:{gateway.port}"}
     page = re.sub(r'<!--# echo var="(\w+)" default="" -->', lambda found: put[found[1]], page)
     return re.sub(r"<!--# .*? -->", "", page).encode()
@@ -194,7 +194,7 @@ def nowhere(gateway: Gateway, browser: Browser, base: str, _folder: str) -> None
         )
     same(
         "a missing file, for a reader",
-        asked(gateway.port, "/web/none.js", headers=accepting(READERS[0]))[:2],
+        asked(gateway.port, "/web/none-AAAAAAAA.js", headers=accepting(READERS[0]))[:2],
         (404, NO_PAGE),
     )
     for path in ("x", "d/x", "deposit/4", "#nothing/1"):

@@ -36,32 +36,6 @@ def soup(size: int, seed: int) -> bytes:
     return life.file_text((None, None, (), life.LIFE, life.normal(cells)))
 
 
-def imported(name: str, found: set[str]) -> set[str]:
-    """The modules that a module imports, directly or not, and itself, each with its folder."""
-    if name not in found:
-        found.add(name)
-        for other in re.findall(r"from '(\.[a-z./]+)\.js'", content(os.path.join(WEB, f"{name}.js")).decode()):
-            imported(os.path.normpath(os.path.join(os.path.dirname(name), other)), found)
-    return found
-
-
-def ahead(_gateway: Gateway, _browser: Browser, _base: str, _folder: str) -> None:
-    """What is asked for ahead is what the pages import."""
-    page, script, own = (
-        content(os.path.join(WEB, "index.html")).decode(),
-        content(os.path.join(WEB, "ahead.js")).decode(),
-        imported("main", set()),
-    )
-    same(
-        "the modules of each page", set(re.findall(r'"modulepreload" href="/web/([a-z/]+)\.js"', page)), own - {"main"}
-    )
-    same(
-        "the modules of a deposit's page",
-        set(re.findall("[a-z/]+", script[script.index("[") : script.index("];")])),
-        imported("pages/deposit", set()) - own,
-    )
-
-
 def listed(_gateway: Gateway, _browser: Browser, _base: str, _folder: str) -> None:
     """The page about the modules names each of them once, in the row of its folder, and no others."""
     page = content(os.path.join(WEB, "README.md")).decode()
@@ -140,7 +114,7 @@ def wheeled(gateway: Gateway, browser: Browser, base: str, _folder: str) -> None
     check("the page scrolls", browser.until(lambda: browser.run("return scrollY") > 0))
     check("it is said how to zoom", browser.run("return !document.querySelector('.over').hidden"))
     browser.run("scrollTo(0, 0); document.querySelector('canvas.large').focus()")
-    live = """const canvas = document.querySelector('canvas.large'); const { width, height } = canvas; const { colors } = await import('/web/drawing/draw.js');
+    live = """const canvas = document.querySelector('canvas.large'); const { width, height } = canvas; const { colors } = await import('/sources/drawing/draw.js');
         await new Promise((resolve) => requestAnimationFrame(() => requestAnimationFrame(resolve)));
         const { live } = colors(); return new Uint32Array(canvas.getContext('2d').getImageData(0, 0, width, height).data.buffer).filter((word) => word === live).length"""
     before = browser.wait_for(live)
@@ -419,7 +393,6 @@ def nothing_found(_gateway: Gateway, browser: Browser, base: str, _folder: str) 
 
 
 PARTS = [
-    ahead,
     listed,
     deposited,
     comments,

@@ -11,7 +11,7 @@ GENERATION = "return Number(document.getElementById('generation').value)"
 ENTER, OLDEST = "\ue007", 32
 # Each cell that the large canvas shows, by its left upper pixel, with its color: what is neither dead nor grid. Between cells is a gap.
 SHOWN = """
-const { colors } = await import('/web/drawing/draw.js');
+const { colors } = await import('/sources/drawing/draw.js');
 await new Promise((resolve) => requestAnimationFrame(() => requestAnimationFrame(resolve)));
 const canvas = document.querySelector('canvas.large');
 const { width, height } = canvas;
@@ -22,7 +22,7 @@ const cells = [];
 for (let at = 0; at < pixels.length; at += 1) if (is(at) && !is(at - 1) && !is(at - width)) cells.push([at % width, Math.floor(at / width), pixels[at]]);
 return cells;
 """
-COLORS = "const { colors } = await import('/web/drawing/draw.js'); return colors();"
+COLORS = "const { colors } = await import('/sources/drawing/draw.js'); return colors();"
 
 
 def channels(word: int) -> list[int]:

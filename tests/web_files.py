@@ -19,7 +19,7 @@ from web_many import written
 GOLLY = "/usr/share/golly/Patterns"
 CONTROL = "\ue009"
 # What the page reads of a text in another form: what it calls the form, and the file that it sends.
-READ = "const { readOther } = await import('/web/patterns/formats.js'); return words[0].map((text) => readOther(text));"
+READ = "const { readOther } = await import('/sources/patterns/formats.js'); return words[0].map((text) => readOther(text));"
 TOKEN = "return document.getElementById('token').value"
 
 

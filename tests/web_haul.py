@@ -4,6 +4,7 @@ Tables and soups are made by haul_reference.py.
 """
 import csv
 import os
+import re
 from typing import Any
 
 import haul_reference
@@ -71,7 +72,7 @@ return [...document.querySelectorAll('main tbody tr')].map((row) => ({ code: row
 """
 # For each row the pixels of its drawing that are of the color of live cells; null if it has none.
 DRAWN = """
-const { colors } = await import('/web/drawing/draw.js');
+const { colors } = await import('/sources/drawing/draw.js');
 const { live } = colors();
 const pixelsOf = (canvas) => {
   const { width, height } = canvas;
@@ -164,13 +165,13 @@ def dropped(_gateway: Gateway, browser: Browser, base: str, folder: str) -> None
     browser.keep_logs()
     check(
         f"the table stays here: {browser.asked[asked:]}",
-        all(url.endswith("/web/objects.csv") or url.startswith("data:") for url in browser.asked[asked:]),
+        all(re.search(r"/web/objects-\w+\.csv$|^data:|/sources/", url) for url in browser.asked[asked:]),
     )
     browser.picture("haul")
 
 
 SOUP_FILES = """
-const { soupFile } = await import('/web/pages/haul.js');
+const { soupFile } = await import('/sources/pages/haul.js');
 return arguments[0].map((symmetry) => soupFile(arguments[1], arguments[2], arguments[3], symmetry));
 """
 

@@ -87,7 +87,7 @@ def names(gateway: Gateway, browser: Browser, base: str, folder: str) -> None:
     )
     found = browser.wait_for(
         """
-        const { withTexts, baseName } = await import('/web/patterns/names.js');
+        const { withTexts, baseName } = await import('/sources/patterns/names.js');
         const text = (...given) => new TextDecoder().decode(withTexts(new TextEncoder().encode('x'), ...given));
         const none = { name: null, author: null };
         return [text(none, 'a\\nb\\r#C', ''), text(none, ' ', '\\t'), text({ name: 'n', author: null }, 'no', 'yes'), new TextEncoder().encode(text(none, 'é'.repeat(150), '')).length,

@@ -38,9 +38,9 @@ return [size, bitmap.height / size, cells];
 
 # The phases of an object as the page has them, cell by cell.
 PHASES = """
-const { phasesOf } = await import('/web/pages/object.js');
-const { readFile } = await import('/web/patterns/rle.js');
-const { cellsOf } = await import('/web/patterns/pattern.js');
+const { phasesOf } = await import('/sources/pages/object.js');
+const { readFile } = await import('/sources/patterns/rle.js');
+const { cellsOf } = await import('/sources/patterns/pattern.js');
 const { pattern, rule } = readFile(new TextEncoder().encode(words[0]));
 return (await phasesOf(pattern, rule, words[1], new AbortController().signal)).map((phase) => [...cellsOf(phase)]);
 """
@@ -176,7 +176,7 @@ def copied(gateway: Gateway, browser: Browser, base: str, _folder: str) -> None:
         "an origin is written once, and not as a comment too many",
         browser.wait_for(
             """
-        const [{ withOrigin }, { readFile }] = [await import('/web/patterns/writer.js'), await import('/web/patterns/rle.js')];
+        const [{ withOrigin }, { readFile }] = [await import('/sources/patterns/writer.js'), await import('/sources/patterns/rle.js')];
         return words[0].map((text) => {
           const bytes = new TextEncoder().encode(text);
           return new TextDecoder().decode(withOrigin(bytes, readFile(bytes), { title: null, origin: words[1] }));

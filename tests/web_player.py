@@ -18,8 +18,8 @@ ASKED = "return performance.getEntriesByType('resource').map((entry) => /[/]at[/
 # Makes generations of a file in the page: for each its corner and its rows of runs.
 MADE = """
 const [encoded, numbers] = words;
-const { readFile } = await import('/web/patterns/rle.js');
-const { Maker } = await import('/web/player/maker.js');
+const { readFile } = await import('/sources/patterns/rle.js');
+const { Maker } = await import('/sources/player/maker.js');
 const end = new AbortController();
 const maker = new Maker(readFile(new TextEncoder().encode(encoded)), 2048, end.signal);
 const found = [];
@@ -32,8 +32,8 @@ return found;
 """
 # How long the page takes for each of some generations, in milliseconds.
 TIMED = """
-const { readFile } = await import('/web/patterns/rle.js');
-const { Maker } = await import('/web/player/maker.js');
+const { readFile } = await import('/sources/patterns/rle.js');
+const { Maker } = await import('/sources/player/maker.js');
 const end = new AbortController();
 const reply = await fetch(words[0]);
 const maker = new Maker(readFile(new Uint8Array(await reply.arrayBuffer())), 2048, end.signal);
@@ -214,8 +214,8 @@ def large(gateway: Gateway, browser: Browser, base: str, _folder: str) -> None:
 
 # The populations of all generations of a file, as the page counts them in the background.
 COUNTED = """
-const { readFile } = await import('/web/patterns/rle.js');
-const { countAll } = await import('/web/player/maker.js');
+const { readFile } = await import('/sources/patterns/rle.js');
+const { countAll } = await import('/sources/player/maker.js');
 const all = [];
 await new Promise((resolve) => {
   let pauses = 3;
@@ -253,7 +253,7 @@ def counted(gateway: Gateway, browser: Browser, base: str, _folder: str) -> None
     check("what dies is known to the end", browser.until(lambda: "0 to 2,048: at most 2." in browser.run(words)))
     found = browser.wait_for(
         """
-        const { Plot } = await import('/web/pages/plot.js');
+        const { Plot } = await import('/sources/pages/plot.js');
         const went = [];
         const plot = new Plot((at) => went.push(at));
         document.querySelector('main').append(plot.figure);

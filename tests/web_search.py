@@ -303,7 +303,7 @@ def folded(text: str) -> str:
 
 # The time of each search is the least of three, as others may be at work. Beside them: how many blocks were on their way at once.
 SEARCH = """
-const { allDeposits, search, NOTHING } = await import('/web/requests/index.js');
+const { allDeposits, search, NOTHING } = await import('/sources/requests/index.js');
 const whole = window.fetch;
 let [going, most] = [0, 0];
 window.fetch = async (...asked) => {

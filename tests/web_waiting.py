@@ -121,7 +121,7 @@ def capitals(_gateway: Gateway, browser: Browser, base: str, _folder: str) -> No
 # Asks for the last number of an archive with this many deposits, which answers slowly, and counts the requests, those at once and the turns. Each try has
 # the module again, which remembers what it found.
 LAST = """
-const { lastDeposit } = await import(`/web/requests/archive.js?${words[0]}-${words[1]}`);
+const { lastDeposit } = await import(`/sources/requests/archive.js?${words[0]}-${words[1]}`);
 const whole = window.fetch;
 const seen = { requests: 0, now: 0, most: 0 };
 window.fetch = async (path, options) => {
@@ -243,7 +243,7 @@ def contrasts(_gateway: Gateway, browser: Browser, base: str, _folder: str) -> N
 
 
 SHADES = """
-const { thumbnail } = await import('/web/drawing/draw.js');
+const { thumbnail } = await import('/sources/drawing/draw.js');
 const rows = Array.from({ length: 640 }, (_, row) => words[0] === 'half' ? Array.from({ length: 640 }, (_, at) => at) : row % 40 === 0 ? [row, row + 1] : []);
 const canvas = thumbnail({ width: 640, height: 640, population: 1, rows }, 176, 120);
 const pixels = canvas.getContext('2d').getImageData(0, 0, canvas.width, canvas.height).data;
@@ -283,9 +283,8 @@ LOADED = """
 return [...performance.getEntriesByType('navigation'), ...performance.getEntriesByType('resource')].map((entry) => [new URL(entry.name).pathname, entry.decodedBodySize])
   .filter(([path]) => path === '/d' || path.startsWith('/web/') || path === '/favicon.ico');
 """
-# The most bytes that the list of deposits may load before it asks the archive. Comments with types are among them. Each page takes drops and
-# pastes, has the style for paper, and can turn single keys off, which together are 2,000.
-MOST_BYTES = 99_000
+# The most bytes that the list of deposits may load before it asks the archive, uncompressed.
+MOST_BYTES = 90_000
 
 
 def light(_gateway: Gateway, browser: Browser, base: str, _folder: str) -> None:

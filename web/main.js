@@ -1,31 +1,15 @@
 // Finds the page for an address, and handles keys. An address names what is shown: `/d/7/at/30`, `/c/3`, `/o/B3-S23/xq4_153`.
 
 import { go, memberAddress } from './shared/address.js';
+import { bring } from './shared/brought.js';
 import { againButton, isMember, make, refusal } from './shared/dom.js';
+import { load } from './shared/groups.js';
 import { keepPlace, keepSetting, place, setting } from './shared/kept.js';
+import { homePage } from './pages/home.js';
 import { deposits, depositsOf } from './pages/list.js';
 import { Refused } from './requests/refusals.js';
 
-/** How often a module failed to load. A browser does not request it again under the same address. */
-const failed = {};
-
-/** The pauses before it is requested again, in milliseconds, as for the archive. */
-const PAUSES = [500, 1000, 2000];
-
-/** A module of pages/ that only some pages need, loaded with the first of them. */
-async function load(name) {
-  for (let tries = 0; ; tries += 1) {
-    try {
-      return await import(`./pages/${name}.js${failed[name] ? `?${failed[name]}` : ''}`);
-    } catch (error) {
-      if (!(error instanceof TypeError)) throw error;
-      failed[name] = (failed[name] ?? 0) + 1;
-      if (tries === PAUSES.length) throw Object.assign(new Refused('no-reply'), { isRead: true });
-    }
-    await new Promise((resolve) => setTimeout(resolve, PAUSES[tries]));
-  }
-}
-
+/** A page of a group. */
 const later = (name, begin) => async (page, ...given) => {
   const module = await load(name);
   if (!page.signal.aborted) await module[begin](page, ...given);
@@ -54,19 +38,19 @@ const ADDRESSES = {
  * @type {[RegExp, string, (page: Page, ...parts: any[]) => unknown][]}
  */
 const PAGES = [
-  [ADDRESSES.home, 'deposits', later('home', 'homePage')],
+  [ADDRESSES.home, 'deposits', homePage],
   [ADDRESSES.deposits, 'deposits', (page) => deposits(page)],
   [ADDRESSES.after, 'deposits', deposits],
   [ADDRESSES.member, 'deposits', (page, member, before) => depositsOf(page, member.toLowerCase(), before)],
   [ADDRESSES.deposit, 'deposits', later('deposit', 'depositPage')],
-  [ADDRESSES.new, 'new', later('new', 'depositForm')],
-  [ADDRESSES.find, 'find', (page) => later('find', 'findPage')(page, location.search.slice(1))],
-  [ADDRESSES.censuses, 'find', later('search', 'censusesPage')],
-  [ADDRESSES.census, 'find', later('census', 'censusPage')],
-  [ADDRESSES.haul, 'find', later('haul', 'haulPage')],
-  [ADDRESSES.objects, 'objects', later('catalog', 'catalogPage')],
-  [ADDRESSES.code, 'objects', later('find', 'codePage')],
-  [ADDRESSES.about, 'about', later('about', 'aboutPage')],
+  [ADDRESSES.new, 'new', later('others', 'depositForm')],
+  [ADDRESSES.find, 'find', (page) => later('others', 'findPage')(page, location.search.slice(1))],
+  [ADDRESSES.censuses, 'find', later('others', 'censusesPage')],
+  [ADDRESSES.census, 'find', later('others', 'censusPage')],
+  [ADDRESSES.haul, 'find', later('others', 'haulPage')],
+  [ADDRESSES.objects, 'objects', later('others', 'catalogPage')],
+  [ADDRESSES.code, 'objects', later('others', 'codePage')],
+  [ADDRESSES.about, 'about', later('others', 'aboutPage')],
 ];
 
 const main = document.getElementById('main');
@@ -142,7 +126,7 @@ async function pathNow(page) {
   const path = bare(location.pathname);
   if (path !== location.pathname) history.replaceState(history.state, '', path + location.search + location.hash);
   if (path !== '/' || location.hash === '') return path;
-  const { newAddress } = await load('old');
+  const { newAddress } = await load('others');
   page.signal.throwIfAborted();
   const address = newAddress(location.hash.slice(1));
   if (address) history.replaceState(history.state, '', address);
@@ -241,7 +225,7 @@ async function take(files) {
       current.taken(files);
       return;
     }
-    (await load('brought')).bring(files);
+    bring(files);
     go(isHaul ? '/haul' : '/new');
   } catch (error) {
     fail(current, error);
@@ -252,7 +236,7 @@ async function take(files) {
 async function dropped({ items, files: own }) {
   const [entries, files] = [[...items].map((item) => item.webkitGetAsEntry?.()), [...own]];
   if (!entries.some((entry) => entry?.isDirectory)) return files;
-  const { NO_FILES, filesOf } = await load('names');
+  const { NO_FILES, filesOf } = await load('others');
   const found = (await Promise.all(entries.filter(Boolean).map((entry) => filesOf(entry)))).flat();
   if (found.length === 0) current.sayNothing(NO_FILES);
   return found;
@@ -283,7 +267,7 @@ document.addEventListener('paste', (event) => {
 
 /** Takes a text if it can be a pattern. */
 async function pasted(text) {
-  const { mayBePattern } = await load('formats');
+  const { mayBePattern } = await load('others');
   if (mayBePattern(text)) await take([new Blob([text])]);
   else current.sayNothing('There is no pattern on the clipboard.');
 }
@@ -309,7 +293,7 @@ for (const kept of [keptTheme, keptLetters]) {
 document.getElementById('search').addEventListener('submit', async (event) => {
   event.preventDefault();
   try {
-    const { addressOf } = await load('box');
+    const { addressOf } = await load('others');
     go(addressOf(box.value));
   } catch (error) {
     fail(current, error);

@@ -16,7 +16,7 @@ import { saveSection } from '../drawing/picture.js';
 import { Player } from '../player/player.js';
 import { Refused } from '../requests/refusals.js';
 import { ruleText } from '../patterns/rule.js';
-import { censusesSection } from './search.js';
+import { censusesSection } from './censuses.js';
 import { Shown } from './shown.js';
 import { View } from '../drawing/view.js';
 

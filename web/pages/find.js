@@ -9,7 +9,8 @@ import { indexHead } from '../requests/index.js';
 import { objectParts } from './object.js';
 import { partsOf, partsText } from '../patterns/parts.js';
 import { rulePart, ruleOfAddress } from '../patterns/rule.js';
-import { formOf, occurrences, results } from './search.js';
+import { occurrences } from './censuses.js';
+import { formOf, results } from './search.js';
 
 function numberForm(id, label, addressOf) {
   const input = make('input', { id, type: 'number', min: 1, required: true, inputmode: 'numeric' });

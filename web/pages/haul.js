@@ -1,4 +1,4 @@
-// A haul: you drop or choose a table from `life-haul`, and the page shows its objects with the soups that have them, the most frequent first until its heads are pressed.
+// A haul: you drop or choose a table from `life-haul`, and the page shows its objects with the soups that have them, most frequent first; press a head to sort.
 
 import { go } from '../shared/address.js';
 import { Labels, countNote, objectRow, unresolvedRow } from './census.js';

@@ -16,7 +16,7 @@ const idle = () => new Promise((resolve) => {
 async function addFrequent(page, place) {
   try {
     await idle();
-    const { frequentParts } = await import('./frequent.js');
+    const { frequentParts } = await import('./others.js');
     const parts = await frequentParts(page.signal);
     if (!page.signal.aborted) place.replaceChildren(...parts);
   } catch {

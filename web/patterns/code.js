@@ -1,5 +1,7 @@
 // Codes (docs/FORMATS.md, Codes): what a code's text spells, the period that it names, and the names of well-known objects.
 
+import { OBJECTS } from '../shared/files.js';
+
 const ROWS = 5;
 const FORM = /^x([spq])([1-9][0-9]{0,5})_([0-9a-z]+)$/;
 
@@ -51,9 +53,9 @@ export function patternOf(code) {
 
 let names = null;
 
-/** The names of objects of Conway's Life by their codes, from the table next to this file. */
+/** The names of objects of Conway's Life by their codes. */
 export function objectNames() {
-  names ??= fetch('/web/objects.csv').then((reply) => (reply.ok ? reply.text() : '')).catch(() => '').then((text) => {
+  names ??= fetch(OBJECTS).then((reply) => (reply.ok ? reply.text() : '')).catch(() => '').then((text) => {
     const lines = text.split('\n').filter((line) => line.includes(',') && !line.startsWith('#')).slice(1);
     return new Map(lines.map((line) => {
       const [name, code] = line.split(',');

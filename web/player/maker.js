@@ -1,12 +1,13 @@
 // Generations that the page computes itself for playing, with the worker in stepper.js: one block at a time, ahead of the generation shown.
 
+import { STEPPER } from '../shared/files.js';
+
 const BLOCK = 16;
 const KEPT = 48;
 /** The number of steps that counts as few. */
 const FEW = 64;
-const PLACE = '/web/player/stepper.js';
 // The site's policy forbids script addresses from plain text (life-site.conf). This one is always the same.
-const policy = globalThis.trustedTypes?.createPolicy('life-stepper', { createScriptURL: () => PLACE });
+const policy = globalThis.trustedTypes?.createPolicy('life-stepper', { createScriptURL: () => STEPPER });
 
 /** A generation in the pages' form: the runs of each row, and the position of its corner relative to generation 0. */
 function generationOf({ list, ends, width, height, population, column, row }) {
@@ -20,7 +21,7 @@ export function isSame(one, other) {
     && one.rows.every((runs, row) => runs.length === other.rows[row].length && runs.every((column, at) => column === other.rows[row][at]));
 }
 
-const newWorker = () => new Worker(policy ? policy.createScriptURL('') : PLACE, { type: 'module' });
+const newWorker = () => new Worker(policy ? policy.createScriptURL('') : STEPPER, { type: 'module' });
 
 /** How long to wait until a page that is hidden or busy may be seen and idle, in milliseconds. */
 const WAIT = 500;

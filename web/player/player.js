@@ -9,6 +9,8 @@ import { nextCorner } from '../patterns/pattern.js';
 const TOGETHER = 3;
 const KEPT = 160;
 const COMPARED_EACH = 100;
+/** How many generations are requested ahead while it rests. */
+const RESTING = 2;
 /** The longest jump whose position is computed by steps, and the most cells that the boxes of these steps may have. */
 const NEAR = 256;
 const FEW_CELLS = 20_000_000;
@@ -65,7 +67,7 @@ export class Player {
   /** Requests the next ones, a few at a time: as many as are shown in a second and a half. */
   #ahead() {
     const direction = this.direction || 1;
-    const many = this.direction === 0 ? 4 : Math.max(8, Math.ceil(this.speed * 1.5));
+    const many = this.direction === 0 ? RESTING : Math.max(8, Math.ceil(this.speed * 1.5));
     for (let step = 1; step <= many && this.#going.size < TOGETHER; step += 1) {
       const at = this.at + step * direction;
       if (at < 0 || at > GENERATION_LIMIT) break;

@@ -234,15 +234,19 @@ def takes_late(port: int) -> bool:
     time.sleep(max(0, peer.begun + 8 - time.monotonic()))
     peer.socket.settimeout(60)
     whole, back = -(-sent // len(ASKED)), b""
-    begun = time.monotonic()
-    while len(back) < len(SHOWN) * (sent // len(ASKED)) and (more := peer.socket.recv(65536)):
-        back += more
-        if len(back) == len(more) and begun - peer.begun > 9.9:
-            raise Late
-    # What was begun is ended, and no more is asked.
-    peer.socket.sendall(ASKED[sent - (whole - 1) * len(ASKED) :] if sent % len(ASKED) else b"")
-    peer.socket.shutdown(socket.SHUT_WR)
-    return back + received(peer.socket) == SHOWN * whole
+    try:
+        while len(back) < len(SHOWN) * (sent // len(ASKED)) and (more := peer.socket.recv(65536)):
+            back += more
+        # What was begun is ended, and no more is asked.
+        peer.socket.sendall(ASKED[sent - (whole - 1) * len(ASKED) :] if sent % len(ASKED) else b"")
+        peer.socket.shutdown(socket.SHUT_WR)
+        if back + received(peer.socket) == SHOWN * whole:
+            return True
+    except ConnectionResetError:
+        pass
+    if time.monotonic() - peer.begun > 9.9:
+        raise Late
+    return False
 
 
 def sends_on_after_the_last_reply(port: int) -> bool:

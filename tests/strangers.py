@@ -20,7 +20,7 @@ from collections.abc import Callable
 import pytest
 
 import clients
-from clients import certify, check, free_port, note, same
+from clients import certify, check, free_port, left_out, note, same
 from gateways import DEPLOY, Gateway
 
 FIRST_PORT = 9900
@@ -30,6 +30,8 @@ LETTERS = "0123456789abcdefghijklmnopqrstuv"
 HONEST = 10
 # How long a request has to take the program to be a dear one here, in seconds, and for how long strangers ask for such.
 DEAR, ASKING = 0.7, 120
+# Above this share of time that the host took away, a bound in seconds that was missed shows nothing.
+MOST_TAKEN_AWAY = 0.1
 # What logs may grow by in an hour, in bytes.
 HOURLY = 10_000_000
 LONG = "a" * 3900
@@ -261,12 +263,25 @@ def watching(site: Site, over: threading.Event, ended: list[int]) -> None:
         time.sleep(1)
 
 
+def processor_times() -> list[int]:
+    """The times of /proc/stat: user, nice, system, idle, iowait, irq, softirq and steal, which a host gave to other machines."""
+    with open("/proc/stat", encoding="ascii") as file:
+        return [int(word) for word in file.readline().split()[1:9]]
+
+
+def taken_away(before: list[int]) -> float:
+    """The share of the processors' time that the host has taken away since then."""
+    spent = [now - then for now, then in zip(processor_times(), before)]
+    return spent[-1] / max(1, sum(spent))
+
+
 def beside_strangers(site: Site) -> None:
     """Ten honest clients beside one that has the program do what takes it longest: they wait for one such request, and are answered."""
     status, answer = site.deposit(202, "soup", soup(600))
     same("a soup that grows", status, 201)
     dear = Dear(site, json.loads(answer)["deposit"])
     before, lives, begun = site.log_bytes(), len(site.gateway.lives), time.monotonic()
+    at_first = processor_times()
     over = threading.Event()
     kept: dict[tuple[int, int], tuple[int, bytes]] = {}
     waits: list[tuple[int, float]] = []
@@ -293,7 +308,13 @@ def beside_strangers(site: Site) -> None:
     check("honest clients are answered", {status for status, _ in waits} <= {200, 201} and len(waits) > 10 * HONEST)
     # A second on a quiet machine. Whoever had to wait for two dear requests waits longer; sixteen of them are there all the time.
     bound = 1 + 2.5 * dear.longest
-    check(f"99 % of them wait at most {bound:.2f} s", seconds[len(seconds) * 99 // 100] < bound)
+    is_within = seconds[len(seconds) * 99 // 100] < bound
+    if not is_within and taken_away(at_first) > MOST_TAKEN_AWAY:
+        left_out(
+            "another machine on the same host took the processors, so honest clients waited longer beside strangers"
+        )
+    else:
+        check(f"99 % of them wait at most {bound:.2f} s", is_within)
     check(
         f"strangers are answered {sorted(set(statuses))}",
         statuses.count(200) + statuses.count(422) > 3 and 429 in statuses,

@@ -13,17 +13,10 @@ import pytest
 
 import clients
 from clients import GLIDER, HERE, check, same
+from tables.refusals import FRONTS
 
 TOP = os.path.join(HERE, "..")
 DRAW = os.path.abspath(os.path.join(TOP, "crates", "life_draw", "out", "life_draw"))
-# How a line begins, by the kind of its refusal.
-FRONTS = {
-    "refusal": "refusal {number}",
-    "file": "fault {number} of a pattern file",
-    "code": "fault {number} of a code",
-    "program": "program",
-    "gateway": "gateway",
-}
 
 pytestmark = [pytest.mark.quick, pytest.mark.usefixtures("program")]
 

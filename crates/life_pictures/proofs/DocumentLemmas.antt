@@ -44,14 +44,15 @@ of_motion : (name : Option (List ℕ)) (rule : RuleSets) (X : Cells) (more : ℕ
 unfolding moving
 of_motion name rule X more = refl
 
-pub moving_document : (name : Option (List ℕ)) (rule : RuleSets) (X Y Z : Cells) (more : ℕ) (cells : List Cell) (at : Cell) (width height : ℕ) (o₀ o₁ o₂ o₃ : List ℕ)
-    → o₀ ≡ [] → o₁ ≡ o₀ ++ front width height name → o₂ ≡ o₁ ++ animated_path rule X at more → o₃ ≡ o₂ ++ codes "</svg>\n"
-    → width ≡ width_of (map coordinates cells) → height ≡ height_of (map coordinates cells) → cells ≡ in_order Z → Z ≡ normal Y → Y ≡ trail rule X (more + 1) → at ≡ corner Y → o₃ ≡ moving name rule X more
-moving_document name rule X Y Z more cells at width height o₀ o₁ o₂ o₃ empty first second third width_is height_is cells_are box all at_is =
-    let listed : cells ≡ in_order (normal (trail rule X (more + 1))) = cells_are ∙ ap (λ (W : Cells). in_order W) (box ∙ ap (λ (W : Cells). normal W) all) in
+pub moving_document : (name : Option (List ℕ)) (rule : RuleSets) (X Y : Cells) (more : ℕ) (at : Cell) (width height : ℕ) (path o₀ o₁ o₂ o₃ : List ℕ)
+    → o₀ ≡ [] → o₁ ≡ o₀ ++ front width height name → o₂ ≡ o₁ ++ path → o₃ ≡ o₂ ++ codes "</svg>\n"
+    → width ≡ width_of (pairs_of (normal Y)) → height ≡ height_of (pairs_of (normal Y)) → Y ≡ trail rule X (more + 1) → at ≡ corner Y → path ≡ animated_path rule X at more → o₃ ≡ moving name rule X more
+moving_document name rule X Y more at width height path o₀ o₁ o₂ o₃ empty first second third width_is height_is all at_is path_is =
+    let wide : width ≡ width_of (pairs_of (normal (trail rule X (more + 1)))) = width_is ∙ ap (λ (W : Cells). width_of (pairs_of (normal W))) all in
+    let high : height ≡ height_of (pairs_of (normal (trail rule X (more + 1)))) = height_is ∙ ap (λ (W : Cells). height_of (pairs_of (normal W))) all in
     third
-    ∙ ap (λ o. o ++ codes "</svg>\n") (second ∙ ap (λ o. o ++ animated_path rule X at more) (first ∙ ap (λ o. o ++ front width height name) empty))
-    ∙ ap (λ w. in_motion name rule X w height at more) (width_is ∙ ap (λ cs. width_of (map coordinates cs)) listed)
-    ∙ ap (λ h. in_motion name rule X (width_of (pairs_of (normal (trail rule X (more + 1))))) h at more) (height_is ∙ ap (λ cs. height_of (map coordinates cs)) listed)
+    ∙ ap (λ o. o ++ codes "</svg>\n") (second ∙ ap (λ o. o ++ path) (first ∙ ap (λ o. o ++ front width height name) empty) ∙ ap (λ text. front width height name ++ text) path_is)
+    ∙ ap (λ w. in_motion name rule X w height at more) wide
+    ∙ ap (λ h. in_motion name rule X (width_of (pairs_of (normal (trail rule X (more + 1))))) h at more) high
     ∙ ap (λ a. in_motion name rule X (width_of (pairs_of (normal (trail rule X (more + 1))))) (height_of (pairs_of (normal (trail rule X (more + 1))))) a more) (at_is ∙ ap (λ (W : Cells). corner W) all)
     ∙ of_motion name rule X more

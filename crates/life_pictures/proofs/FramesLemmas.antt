@@ -1,89 +1,45 @@
--- The corner of a set of cells, sets in a box, and the cells of several generations.
-use Rattle.std.specs.Prelude.{◌≤ℤ◌, ◌+ℤ◌, ◌-ℤ◌, ◌-◌, ℤ, pos, neg_ℤ, FitsSigned}
-use Rattle.std.proofs.Common.{w64, to_z, of_z, ◌≡◌, ◌≤◌, ◌<◌, ℕ, zero, suc, ◌+◌, true, false, ◌||◌, ◌⊎◌, List, [], ◌∷◌, ◌++◌, map, codes, refl, ap, ◌∙◌, sym, subst, inl, inr, ⊎_elim, arith}
+-- Sets in a box, the cells of several generations, and their frames.
+use Rattle.std.specs.Prelude.{◌≤ℤ◌, ◌+ℤ◌, ◌-ℤ◌, ◌-◌, ◌*◌, ℤ, pos, neg_ℤ, Option}
+use Rattle.std.proofs.Common.{w64, to_z, of_z, ◌≡◌, ◌≤◌, ◌<◌, ℕ, zero, suc, ◌+◌, true, ◌||◌, ◌⊎◌, List, [], ◌∷◌, ◌++◌, map, take, length, get_or, codes, refl, ap, ◌∙◌, sym, subst, inl, inr, arith}
 use Rattle.std.specs.List.{All, flat_map, range_with_len}
 use Rattle.std.specs.FinSet as set
 use Rattle.std.proofs.Math.Nat.{eq-or-lt_of_le}
 use Rattle.std.proofs.lemmas.Int.{ints, to_z-of_z}
-use Rattle.std.proofs.lemmas.Bool.{false≢true, or_left, or_right}
-use Rattle.std.proofs.lemmas.List.Folds.{list_any-append}
-use Rattle.std.proofs.lemmas.List.{append_assoc}
+use Rattle.std.proofs.lemmas.Bool.{or_left, or_right}
+use Rattle.std.proofs.lemmas.List.Concat.{flat_map-append}
+use Rattle.std.proofs.lemmas.List.Folds.{flat_map-map, list_any-append}
+use Rattle.std.proofs.lemmas.List.FromFn.{get_or-map-range_with_len, length-map-range_with_len, map-range_with_len_more}
+use Rattle.std.proofs.lemmas.List.{append_assoc, append-nil, take_more}
 use Rattle.std.proofs.lemmas.List.Elements.{All-same}
 use Rattle.std.proofs.lemmas.Map.Views.{All-from_any}
 use Rattle.life_core.specs.declared.cell.Cell.{Cell}
 use Rattle.life_core.specs.declared.cell.TheConstants.{PLANE}
 use Rattle.life_core.specs.declared.orientation.Orientation.TheVariants.{O0}
-use Rattle.life_core.specs.Cell.{cell_cmp, moved_cell, IsCellWithin}
-use Rattle.life_core.specs.Pattern.{Cells, image, in_order, corner, least_in, IsLeast, IsWithin, IsBox}
+use Rattle.life_core.specs.Cell.{moved_cell, IsCellWithin}
+use Rattle.life_core.specs.Pattern.{Cells, image, in_order, corner, IsWithin}
 use Rattle.life_core.specs.Rule.{RuleSets}
 use Rattle.life_core.specs.Generations.{next, generation_of}
-use Rattle.life_core.proofs.CellLemmas.{same_coordinates}
 use Rattle.life_core.proofs.FrameBounds.{near_fits}
 use Rattle.life_core.proofs.GenerationsLaws.{generation_within, within_more}
-use Rattle.life_core.proofs.PatternBoxes.{least_is}
-use Rattle.life_core.proofs.PatternCorners.{Has, cases_cells, least-IsLeast}
-use Rattle.life_core.proofs.PatternMembers.{same_cell, has_cell, same_cell-self, same_cell_laws, contains-items, contains-list, cells_by_members}
-use Rattle.life_core.proofs.PatternOrder.{has_cell-in_order}
+use Rattle.life_core.proofs.PatternCorners.{Has, least-IsLeast}
+use Rattle.life_core.proofs.PatternMembers.{same_cell, has_cell, same_cell_laws, contains-list}
+use Rattle.life_core.proofs.PatternOrder.{has_cell-in_order, from_list-in_order}
 use Rattle.life_core.proofs.Placements.{minus, plus, contains-placed}
 use Rattle.life_rle.specs.Writer.{coordinates, IsQuarterCell}
+use Rattle.life_pictures.specs.declared.corners.Corners.{Corners}
+use Rattle.life_pictures.specs.Corners.{AreTogether, HasCorners}
+use Rattle.life_pictures.specs.Numbers.{with_number}
 use Rattle.life_pictures.specs.Runs.{runs_of, run_path, path}
-use Rattle.life_pictures.specs.Frames.{trail_cells, trail, in_box, frame, next_frames}
-use Rattle.life_pictures.specs.FramesState.{IsCornerOf}
+use Rattle.life_pictures.specs.Frames.{trail_cells, trail, in_box, frame, animated_path}
+use Rattle.life_pictures.specs.FramesState.{IsCornerOf, IsFrame, generations_after, all_cells, path_of_frames}
 use Rattle.life_pictures.specs.Laws.{FramesAreInTheBox}
 use Rattle.life_pictures.proofs.LinesLemmas.{flat_map_range}
 use Rattle.life_pictures.proofs.PartLemmas.{three_parts}
 
 -- ---- corners
 
-pub corner_is : (X : Cells) (left top : ℤ) (width height : ℕ) → IsBox X left top width height → record { row = top; column = left } ≡ corner X
-corner_is X left top width height box = same_coordinates _ _ (sym (least_is (λ c. c.row) X top box.from_row)) (sym (least_is (λ c. c.column) X left box.from_column))
-
-near : (X : Cells) (f : Cell → ℤ) (v : ℤ) → ((c : Cell) → Has X c → (neg_ℤ (pos 4096) ≤ℤ f c) × (f c ≤ℤ pos 4096)) → IsLeast f X v → FitsSigned w64 v
-near X f v within low =
-    let at = within low.reached.0 low.reached.1 in
-    near_fits v (omega (arith, ints, at.0, low.reached.2)) (omega (arith, ints, at.1, low.reached.2))
-
-pub corner_by : (X : Cells) (left top : ℤ) (width height : ℕ) → IsWithin 4096 X → IsBox X left top width height → record { row = to_z w64 (of_z w64 top); column = to_z w64 (of_z w64 left) } ≡ corner X
-corner_by X left top width height within box =
-    same_coordinates _ _
-    (to_z-of_z w64 top (near X (λ c. c.row) top (λ c has. let at = within c has in (at.top, at.bottom)) box.from_row))
-    (to_z-of_z w64 left (near X (λ c. c.column) left (λ c has. let at = within c has in (at.left, at.right)) box.from_column))
-    ∙ corner_is X left top width height box
-
-none_in : (cs : List Cell) → ((c : Cell) → false ≡ has_cell cs c) → cs ≡ []
-none_in [] none = refl
-none_in (c ∷ cs) none = absurd (false≢true (none c ∙ or_left (same_cell c c) (has_cell cs c) (same_cell-self c)))
-
-no_items : (X : Cells) → X ≡ set.empty → set.items X ≡ []
-no_items X is = none_in (set.items X) (λ c. sym (set.contains-empty cell_cmp c) ∙ ap (λ (Y : Cells). set.contains Y c) (sym is) ∙ contains-items X c)
-
-pub corner_of_none : (X : Cells) → X ≡ set.empty → record { row = pos 0; column = pos 0 } ≡ corner X
-corner_of_none X is = same_coordinates _ _ (ap (least_in (λ c. c.row)) (sym (no_items X is))) (ap (least_in (λ c. c.column)) (sym (no_items X is)))
-
 pub corner_first : (X : Cells) → IsCornerOf (corner X) X
 corner_first X c has = ((least-IsLeast (λ c. c.column) X c has).below c has, (least-IsLeast (λ c. c.row) X c has).below c has)
-
-pub corner_within : (X : Cells) (k : ℕ) → IsWithin k X → IsCellWithin k (corner X)
-corner_within X k within = ⊎_elim some none (cases_cells X)
-  where
-    some : ((c : Cell) × Has X c) → IsCellWithin k (corner X)
-    some (c, has) =
-        let row = least-IsLeast (λ c. c.row) X c has in
-        let column = least-IsLeast (λ c. c.column) X c has in
-        let at_row = within row.reached.0 row.reached.1 in
-        let at_column = within column.reached.0 column.reached.1 in
-        record {
-          top = subst (λ v. neg_ℤ (pos k) ≤ℤ v) row.reached.2 at_row.top;
-          bottom = subst (λ v. v ≤ℤ pos k) row.reached.2 at_row.bottom;
-          left = subst (λ v. neg_ℤ (pos k) ≤ℤ v) column.reached.2 at_column.left;
-          right = subst (λ v. v ≤ℤ pos k) column.reached.2 at_column.right;
-        }
-
-    at_origin : IsCellWithin k (record { row = pos 0; column = pos 0 })
-    at_origin = record { top = omega (arith, ints); bottom = omega (arith, ints); left = omega (arith, ints); right = omega (arith, ints) }
-
-    none : ((c : Cell) → set.contains X c ≡ false) → IsCellWithin k (corner X)
-    none h = subst (IsCellWithin k) (corner_of_none X (cells_by_members _ _ (λ c. h c ∙ sym (set.contains-empty cell_cmp c)))) at_origin
 
 -- ---- sets in a box
 
@@ -124,29 +80,20 @@ quarters_in_box at X Y cs here within first is cells =
 
 -- ---- generations in a trail
 
--- one more generation
-pub one_more : (rule : RuleSets) (X Y : Cells) (i : ℕ) (all cs : List Cell) → all ≡ trail_cells rule X i → Y ≡ generation_of rule X i → cs ≡ in_order Y → all ++ cs ≡ trail_cells rule X (i + 1)
-one_more rule X Y i all cs before now is =
-    ap (λ rest. all ++ rest) (is ∙ ap (λ (Z : Cells). in_order Z) now) ∙ ap (λ front. front ++ in_order (generation_of rule X i)) before ∙ sym (flat_map_range (λ k. in_order (generation_of rule X k)) i)
-
-pub one_more_frame : (rule : RuleSets) (X Y : Cells) (at : Cell) (i : ℕ) (o₀ o₁ o₂ o₃ : List ℕ) → o₁ ≡ o₀ ++ next_frames rule X at i → o₂ ≡ o₁ ++ codes ";" → o₃ ≡ o₂ ++ frame at Y → Y ≡ generation_of rule X (i + 1)
-    → o₃ ≡ o₀ ++ next_frames rule X at (i + 1)
-one_more_frame rule X Y at i o₀ o₁ o₂ o₃ first second third is =
-    three_parts o₀ o₁ o₂ o₃ (next_frames rule X at i) (codes ";") (frame at Y) first second third
-    ∙ ap (λ text. o₀ ++ text) (
-    append_assoc (next_frames rule X at i) (codes ";") (frame at Y)
-    ∙ ap (λ (Z : Cells). next_frames rule X at i ++ (codes ";" ++ frame at Z)) is
-    ∙ sym (flat_map_range (λ k. codes ";" ++ frame at (generation_of rule X (k + 1))) i))
-
 -- the generation after one
-pub next_one : (rule : RuleSets) (X Y Z : Cells) (i : ℕ) → Y ≡ generation_of rule X i → Z ≡ generation_of rule Y 1 → Z ≡ generation_of rule X (i + 1)
+pub next_one : (rule : RuleSets) (X Y Z : Cells) (i : ℕ) → Y ≡ generation_of rule X i → Z ≡ next rule Y → Z ≡ generation_of rule X (i + 1)
 next_one rule X Y Z i now is =
     let more : suc i ≡ i + 1 = omega arith in
     is ∙ ap (λ (W : Cells). next rule W) now ∙ ap (generation_of rule X) more
 
--- all of the frames
-pub all_frames : (rule : RuleSets) (X : Cells) (at : Cell) (i count : ℕ) (o₀ o₁ : List ℕ) → i ≡ count → o₁ ≡ o₀ ++ next_frames rule X at i → o₁ ≡ o₀ ++ next_frames rule X at count
-all_frames rule X at i count o₀ o₁ end is = is ∙ ap (λ k. o₀ ++ next_frames rule X at k) end
+one_longer : (rule : RuleSets) (X : Cells) (i : ℕ) → generations_after rule X (i + 1) ≡ generations_after rule X i ++ generation_of rule X (i + 1) ∷ []
+one_longer rule X i = map-range_with_len_more (λ k. generation_of rule X (k + 1)) 0 i i (omega arith)
+
+-- one generation more
+pub one_more_after : (rule : RuleSets) (X Y Z : Cells) (i : ℕ) (Ys Zs : List Cells) → Ys ≡ generations_after rule X i → Y ≡ generation_of rule X (i + 1) → Z ≡ Y → Zs ≡ Ys ++ Z ∷ []
+    → Zs ≡ generations_after rule X (i + 1)
+one_more_after rule X Y Z i Ys Zs before now same is =
+    is ∙ ap (λ (l : List Cells). l ++ Z ∷ []) before ∙ ap (λ (W : Cells). generations_after rule X i ++ W ∷ []) (same ∙ now) ∙ sym (one_longer rule X i)
 
 -- a generation lies near
 pub roomy : (rule : RuleSets) (X Y : Cells) (i : ℕ) → Y ≡ generation_of rule X i → i ≤ 1024 → IsWithin 3072 X → IsWithin 4096 Y
@@ -157,9 +104,70 @@ roomy rule X Y i is few within =
 pub in_plane : (X : Cells) → IsWithin 4096 X → IsWithin (PLANE - 1) X
 in_plane X within = within_more 4096 (PLANE - 1) X (omega arith) within
 
--- the cells of a near set
-pub near_cells : (X : Cells) (cs : List Cell) → cs ≡ in_order X → IsWithin 4096 X → All (IsCellWithin 4096) cs
-near_cells X cs is within = All-same (IsCellWithin 4096) cs (in_order X) is (All-from_any same_cell_laws (IsCellWithin 4096) (in_order X) (λ c m. within c (sym (has_cell-in_order X c) ∙ m)))
+-- ---- all cells of some sets
+
+with_one : (Xs : List Cells) (Y : Cells) → AreTogether (all_cells Xs) Y (all_cells (Xs ++ Y ∷ []))
+with_one Xs Y c =
+    contains-list (flat_map in_order (Xs ++ Y ∷ [])) c
+    ∙ ap (λ cs. has_cell cs c) (flat_map-append in_order Xs (Y ∷ []) ∙ ap (λ cs. flat_map in_order Xs ++ cs) (append-nil (in_order Y)))
+    ∙ list_any-append (same_cell c) (flat_map in_order Xs) (in_order Y)
+    ∙ ap (λ b. b || has_cell (in_order Y) c) (sym (contains-list (flat_map in_order Xs) c))
+    ∙ ap (λ b. set.contains (all_cells Xs) c || b) (has_cell-in_order Y c)
+
+-- one set more
+pub with_next : (X Y : Cells) (Ys : List Cells) (i : ℕ) → i < length Ys → Y ≡ get_or Ys i Y → AreTogether (all_cells (X ∷ take i Ys)) Y (all_cells (X ∷ take (i + 1) Ys))
+with_next X Y Ys i low is =
+    let more : take i Ys ++ Y ∷ [] ≡ take (i + 1) Ys = ap (λ (W : Cells). take i Ys ++ W ∷ []) is ∙ sym (take_more Ys i Y low) in
+    subst (λ (l : List Cells). AreTogether (all_cells (X ∷ take i Ys)) Y (all_cells (X ∷ l))) more (with_one (X ∷ take i Ys) Y)
+
+-- the corners of one set
+pub begun : (X : Cells) (e : Option Corners) → HasCorners X e → HasCorners (all_cells (X ∷ [])) e
+begun X e has =
+    let same : all_cells (X ∷ []) ≡ X = ap (λ cs. set.from_list cs) (append-nil (in_order X)) ∙ from_list-in_order X in
+    subst (λ (Y : Cells). HasCorners Y e) (sym same) has
+
+cells_same : (rule : RuleSets) (X : Cells) (n : ℕ) → flat_map in_order (X ∷ generations_after rule X n) ≡ trail_cells rule X (n + 1)
+cells_same rule X zero = refl
+cells_same rule X (suc n) =
+    let more : suc n ≡ n + 1 = omega arith in
+    ap (λ m. flat_map in_order (X ∷ generations_after rule X m)) more
+    ∙ ap (λ (l : List Cells). flat_map in_order (X ∷ l)) (one_longer rule X n)
+    ∙ flat_map-append in_order (X ∷ generations_after rule X n) (generation_of rule X (n + 1) ∷ [])
+    ∙ ap (λ cs. flat_map in_order (X ∷ generations_after rule X n) ++ cs) (append-nil (in_order (generation_of rule X (n + 1))))
+    ∙ ap (λ cs. cs ++ in_order (generation_of rule X (n + 1))) (cells_same rule X n)
+    ∙ sym (flat_map_range (λ k. in_order (generation_of rule X k)) (n + 1))
+    ∙ ap (λ m. trail_cells rule X (m + 1)) (sym more)
+
+-- all cells of a pattern and of the generations after it
+pub all_are_trail : (rule : RuleSets) (X : Cells) (n : ℕ) (Ys : List Cells) → Ys ≡ generations_after rule X n → all_cells (X ∷ Ys) ≡ trail rule X (n + 1)
+unfolding trail
+all_are_trail rule X n Ys is = ap (λ (l : List Cells). all_cells (X ∷ l)) is ∙ ap (λ cs. set.from_list cs) (cells_same rule X n)
+
+-- as many as are asked for
+pub as_many : (rule : RuleSets) (X : Cells) (n : ℕ) (Ys : List Cells) → Ys ≡ generations_after rule X n → length Ys ≡ n
+as_many rule X n Ys is = ap length is ∙ length-map-range_with_len (λ k. generation_of rule X (k + 1)) 0 n
+
+-- generations lie near
+pub near_after : (rule : RuleSets) (X : Cells) (n : ℕ) (Ys : List Cells) → Ys ≡ generations_after rule X n → n ≤ 1000 → IsWithin 3072 X → All (IsWithin 4096) Ys
+near_after rule X n Ys is few within = subst (All (IsWithin 4096)) (sym is) each
+  where
+    each : All (IsWithin 4096) (generations_after rule X n)
+    each i d low =
+        let long : length (generations_after rule X n) ≡ n = length-map-range_with_len (λ k. generation_of rule X (k + 1)) 0 n in
+        let less : i < n = omega (arith, low, long) in
+        roomy rule X _ (i + 1) (get_or-map-range_with_len (λ k. generation_of rule X (k + 1)) 0 n i i d less (omega arith)) (omega (arith, less, few)) within
+
+-- and are frames in the box
+pub frames_after : (rule : RuleSets) (X : Cells) (n : ℕ) (at : Cell) (Ys : List Cells) → Ys ≡ generations_after rule X n → n ≤ 1000 → IsWithin 3072 X
+    → ((k : ℕ) → k ≤ n → IsCornerOf at (generation_of rule X k)) → All (IsFrame at) Ys
+frames_after rule X n at Ys is few within corner = subst (All (IsFrame at)) (sym is) each
+  where
+    each : All (IsFrame at) (generations_after rule X n)
+    each i d low =
+        let long : length (generations_after rule X n) ≡ n = length-map-range_with_len (λ k. generation_of rule X (k + 1)) 0 n in
+        let less : i < n = omega (arith, low, long) in
+        let one = get_or-map-range_with_len (λ k. generation_of rule X (k + 1)) 0 n i i d less (omega arith) in
+        (roomy rule X _ (i + 1) one (omega (arith, less, few)) within, subst (IsCornerOf at) (sym one) (corner (i + 1) (omega (arith, less))))
 
 -- ---- the frame of a set
 
@@ -185,6 +193,39 @@ framed at X Y cs o₀ o₁ o₂ first second is cells =
     ∙ ap (λ o. o ++ flat_map run_path (runs_of (map coordinates cs))) first
     ∙ append_assoc o₀ (codes "M0 0") (flat_map run_path (runs_of (map coordinates cs)))
     ∙ ap (λ (l : List Cell). o₀ ++ (codes "M0 0" ++ flat_map run_path (runs_of (map coordinates l)))) (cells ∙ ap (λ (Z : Cells). in_order Z) is)
+
+-- ---- the frames of some sets
+
+-- the frames of sets, with a semicolon before each
+abbrev frames_of : Cell → List Cells → List ℕ
+frames_of at Ys = flat_map (λ Y. codes ";" ++ frame at Y) Ys
+
+-- one frame more
+pub one_more_frame : (at : Cell) (Y : Cells) (Ys : List Cells) (i : ℕ) (o₀ o₁ o₂ o₃ : List ℕ) → i < length Ys → Y ≡ get_or Ys i Y → o₁ ≡ o₀ ++ frames_of at (take i Ys) → o₂ ≡ o₁ ++ codes ";"
+    → o₃ ≡ o₂ ++ frame at Y → o₃ ≡ o₀ ++ frames_of at (take (i + 1) Ys)
+one_more_frame at Y Ys i o₀ o₁ o₂ o₃ low is first second third =
+    let more : take i Ys ++ Y ∷ [] ≡ take (i + 1) Ys = ap (λ (W : Cells). take i Ys ++ W ∷ []) is ∙ sym (take_more Ys i Y low) in
+    three_parts o₀ o₁ o₂ o₃ (frames_of at (take i Ys)) (codes ";") (frame at Y) first second third
+    ∙ ap (λ text. o₀ ++ text) (
+    append_assoc (frames_of at (take i Ys)) (codes ";") (frame at Y)
+    ∙ ap (λ text. frames_of at (take i Ys) ++ text) (sym (append-nil (codes ";" ++ frame at Y)))
+    ∙ sym (flat_map-append (λ Y. codes ";" ++ frame at Y) (take i Ys) (Y ∷ []))
+    ∙ ap (frames_of at) more)
+
+-- a path with these frames, of which there are this many after the first
+abbrev path_with : Cell → Cells → ℕ → List ℕ → List ℕ
+path_with at X count frames =
+    codes "<path d=\"" ++ frame at X
+    ++ with_number (codes "\"><animate attributeName=\"d\" calcMode=\"discrete\" dur=\"") (125 * (count + 1))
+    ++ codes "ms\" repeatCount=\"indefinite\" values=\"" ++ frame at X ++ frames ++ codes "\"/></path>\n"
+
+-- the path of a pattern and of the generations after it
+pub path_is_animated : (rule : RuleSets) (X : Cells) (at : Cell) (n : ℕ) (Ys : List Cells) → Ys ≡ generations_after rule X n → path_of_frames at X Ys ≡ animated_path rule X at n
+unfolding animated_path
+path_is_animated rule X at n Ys is =
+    ap (path_of_frames at X) is
+    ∙ ap (λ count. path_with at X count (frames_of at (generations_after rule X n))) (length-map-range_with_len (λ k. generation_of rule X (k + 1)) 0 n)
+    ∙ ap (path_with at X n) (flat_map-map (λ (Y : Cells). codes ";" ++ frame at Y) (λ k. generation_of rule X (k + 1)) (range_with_len 0 n))
 
 in_range : (f : ℕ → List Cell) (k : ℕ) (c : Cell) → has_cell (f k) c ≡ true → (count : ℕ) → k < count → has_cell (flat_map f (range_with_len 0 count)) c ≡ true
 in_range f k c has zero less = absurd (omega (arith, less))

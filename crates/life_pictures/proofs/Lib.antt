@@ -1,3 +1,4 @@
+pub mod CornersLemmas
 pub mod DocumentLemmas
 pub mod ExtentLemmas
 pub mod FramesLemmas

@@ -4,6 +4,7 @@ pub mod Runs
 pub mod RunsState
 pub mod Title
 pub mod Document
+pub mod Corners
 pub mod Frames
 pub mod FramesState
 pub mod Jobs

@@ -1,57 +1,55 @@
 //! Animations as SVG documents: a frame for each generation, all in one box.
-ghost use Rattle.std.specs.Prelude.{◌≡◌, ◌≤◌, ◌<◌, ◌+◌, ◌++◌, ℕ, IfOk, OnOk};
+ghost use Rattle.std.specs.Prelude.{◌≡◌, ◌≤◌, ◌<◌, ◌+◌, ◌∷◌, ◌++◌, IfOk, OnOk, length, codes};
+ghost use Rattle.std.specs.List.{All, flat_map};
 ghost use Rattle.life_core.specs.Cell.{IsCellWithin};
-ghost use Rattle.life_core.specs.Generations.{generation_of};
-ghost use Rattle.life_core.specs.Pattern.{IsWithin, corner};
+ghost use Rattle.life_core.specs.Pattern.{IsWithin};
 ghost use Rattle.life_rle.specs.Record.{IsInside};
-ghost use Rattle.life_pictures.specs.Frames.{trail, frame, animated_path, moving, animation};
-ghost use Rattle.life_pictures.specs.FramesState.{IsCornerOf, AreFrames};
+ghost use Rattle.life_pictures.specs.Corners.{HasCorners};
+ghost use Rattle.life_pictures.specs.Frames.{frame, moving, animation};
+ghost use Rattle.life_pictures.specs.FramesState.{IsCornerOf, AreFrames, IsFrame, generations_after, all_cells, path_of_frames};
 
+use crate::corners::{Corners, corners_of, corners_of_both, extent_of_box, first_cell};
 use crate::document::put_front;
-use crate::extent::extent_of;
 use crate::numbers::put_numbered;
 use crate::runs::put_path;
-use life_core::{Cell, Fault, GENERATION_LIMIT, Pattern, Rule, generation, list_runs};
+use life_core::{Cell, Fault, GENERATION_LIMIT, PackedRows, Pattern, Plane, Rule, generation};
 use life_rle::{Record, Text};
 use std::alloc::Allocator;
 
 /// The most frames of an animation: the whole document is in memory before any of it is written.
 pub const MOST_FRAMES: u32 = 240;
 
-/// The upper left cell of a pattern's box, or the origin if it has no cell.
-fn corner_of<A: Allocator>(pattern: &Pattern<A>) -> Cell
-    requires { IsWithin 4096 pattern.now }
-    ensures corner { result ≡ corner pattern.now }
-    ensures first { IsCornerOf result pattern.now }
-    ensures within { IsCellWithin 4096 result }
-{
-    match pattern.bounds() {
-        None => Cell { row: 0, column: 0 },
-        Some(bounds) => Cell {
-            row: bounds.top,
-            column: bounds.left,
-        },
-    }
-}
-
-/// All cells that are live in a pattern or in one of this many generations after it.
-fn trail<A: Allocator + Copy>(
+/// The generations after a pattern, this many: a near pattern always fits into rows of packed words. A run takes twelve bytes, and its rectangle in
+/// the document more.
+fn generations_after<A: Allocator + Copy>(
     alloc: A,
     rule: &Rule,
     start: &Pattern<A>,
     more: u32,
-) -> Result<Pattern<A>, Fault>
+) -> Result<Vec<Pattern<A>, A>, Fault>
     requires { AreFrames start.now more }
-    ensures trail { IfOk result (λ X. X ≡ trail rule.now start.now (more + 1)) }
-    ensures within { IfOk result (IsWithin 4096) }
+    ensures { IfOk result (λ v. v.items ≡ generations_after rule.now start.now more) }
 {
-    let mut cells = Vec::new(alloc);
-    let mut now = start.copy(alloc)?;
-    for _i in 0..more + 1 {
-        list_runs(&mut cells, now.cells().runs())?;
-        now = generation(alloc, rule, &now, 1)?;
+    let mut later = Vec::new(alloc);
+    let mut plane: PackedRows<A> = Plane::from_pattern(alloc, start)?;
+    for _i in 0..more {
+        plane.step(rule)?;
+        later.push(plane.to_pattern(alloc)?)?;
     }
-    Pattern::from_list(cells)
+    Ok(later)
+}
+
+/// The corners of the box of a pattern and of later ones, all together.
+fn corners_of_all<A: Allocator>(start: &Pattern<A>, later: &[Pattern<A>]) -> Option<Corners>
+    requires start { IsWithin 4096 start.now }
+    requires later { All (IsWithin 4096) later.now }
+    ensures { HasCorners (all_cells (start.now ∷ later.now)) result }
+{
+    let mut corners = corners_of(start);
+    for pattern in later {
+        corners = corners_of_both(corners, corners_of(pattern));
+    }
+    corners
 }
 
 /// Writes the frame of a pattern in a box with this upper left cell.
@@ -72,32 +70,47 @@ fn put_frame<A: Allocator + Copy>(
     Ok(())
 }
 
-/// Writes the path that shows a pattern and this many generations after it.
+/// Writes the frames of patterns, with a semicolon before each.
+fn put_frames<A: Allocator + Copy>(
+    alloc: A,
+    out: &mut Vec<u8, A>,
+    patterns: &[Pattern<A>],
+    at: Cell,
+) -> Result<(), Fault>
+    requires at { IsCellWithin 4096 at }
+    requires frames { All (IsFrame at) patterns.now }
+    ensures { OnOk result (out.new.items ≡ out.old.items ++ flat_map (λ X. codes ";" ++ frame at X) patterns.now) }
+{
+    for pattern in patterns {
+        out.extend_from_slice(b";")?;
+        put_frame(alloc, out, pattern, at)?;
+    }
+    Ok(())
+}
+
+/// Writes the path that shows a pattern and later ones. It has the first frame twice, which is made once.
 fn put_animated_path<A: Allocator + Copy>(
     alloc: A,
     out: &mut Vec<u8, A>,
-    rule: &Rule,
     start: &Pattern<A>,
+    later: &[Pattern<A>],
     at: Cell,
-    more: u32,
 ) -> Result<(), Fault>
-    requires frames { AreFrames start.now more }
+    requires few { length later.now < MOST_FRAMES }
     requires at { IsCellWithin 4096 at }
-    requires first { (k : ℕ) → k ≤ more → IsCornerOf at (generation_of rule.now start.now k) }
-    ensures { OnOk result (out.new.items ≡ out.old.items ++ animated_path rule.now start.now at more) }
+    requires start { IsFrame at start.now }
+    requires later { All (IsFrame at) later.now }
+    ensures { OnOk result (out.new.items ≡ out.old.items ++ path_of_frames at start.now later.now) }
 {
+    let mut first = Vec::new(alloc);
+    put_frame(alloc, &mut first, start, at)?;
     out.extend_from_slice(b"<path d=\"")?;
-    put_frame(alloc, out, start, at)?;
+    out.extend_from_slice(&first)?;
     let opening = b"\"><animate attributeName=\"d\" calcMode=\"discrete\" dur=\"";
-    put_numbered(out, opening, 125 * (u64::from(more) + 1))?;
+    put_numbered(out, opening, 125 * (later.len() as u64 + 1))?;
     out.extend_from_slice(b"ms\" repeatCount=\"indefinite\" values=\"")?;
-    put_frame(alloc, out, start, at)?;
-    let mut now = start.copy(alloc)?;
-    for _i in 0..more {
-        now = generation(alloc, rule, &now, 1)?;
-        out.extend_from_slice(b";")?;
-        put_frame(alloc, out, &now, at)?;
-    }
+    out.extend_from_slice(&first)?;
+    put_frames(alloc, out, later, at)?;
     out.extend_from_slice(b"\"/></path>\n")?;
     Ok(())
 }
@@ -113,13 +126,12 @@ fn moving<A: Allocator + Copy>(
     requires { AreFrames start.now more }
     ensures { IfOk result (λ v. v.items ≡ moving name.now rule.now start.now more) }
 {
-    let all = trail(alloc, rule, start, more)?;
-    let at = corner_of(&all);
-    let all = all.into_normal();
-    let extent = extent_of(all.cells());
+    let later = generations_after(alloc, rule, start, more)?;
+    let corners = corners_of_all(start, &later);
+    let at = first_cell(corners);
     let mut out = Vec::new(alloc);
-    put_front(alloc, &mut out, name, extent)?;
-    put_animated_path(alloc, &mut out, rule, start, at, more)?;
+    put_front(alloc, &mut out, name, extent_of_box(corners))?;
+    put_animated_path(alloc, &mut out, start, &later, at)?;
     out.extend_from_slice(b"</svg>\n")?;
     Ok(out)
 }

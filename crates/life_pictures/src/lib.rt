@@ -1,6 +1,7 @@
 //! Pictures of patterns: lines of half blocks, and SVG documents.
 #![tactic(auto)]
 
+mod corners;
 mod document;
 mod extent;
 mod frames;

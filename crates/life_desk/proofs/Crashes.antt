@@ -12,7 +12,8 @@ use Rattle.life_desk.specs.LookingState.{ForAllRepresented, RepresentsTheSame}
 use Rattle.life_desk.specs.Represents.{LeftRepresents}
 use Rattle.life_desk.specs.Submission.{Adds, Refuses, by_token, stored_after}
 use Rattle.life_desk.proofs.Submissions.{Kind}
-use Rattle.life_desk.specs.Replies.{has_room, with_census, census_by_token, census_of_deposit, census_verdict}
+use Rattle.life_desk.specs.Replies.{has_room, with_census, census_by_token, census_verdict}
+use Rattle.life_desk.proofs.Tokens.{verdict_new}
 
 -- a call that only looks, and then one that adds
 module _ {S : Type 0} (old mid : ArchiveView S) (was : WasHealthy old.tables mid.tables) (same : RepresentsTheSame old mid) (db : Trees) where
@@ -35,12 +36,18 @@ module _ {S : Type 0} (old mid : ArchiveView S) (was : WasHealthy old.tables mid
     pub token_new : (find : Archive → Option (ℕ × X)) → ForAllRepresented old mid (λ A. None ≡ find A) → RepresentChangedIf mid IsThere (after_token None) db → RepresentChangedIf old IsThere (λ A. after_token (find A) A) db
     token_new find tells h = (was h.0, λ A m there. subst (λ o. LeftRepresents db (after_token o A)) (tells A h.0 m) (h.1 A (same A h.0 m) there))
 
-  -- the deposit of the census is there
+  -- the token of the census is new
+  pub token_first : (c : Census) (found : Option (ℕ × Census)) → ForAllRepresented old mid (λ A. found ≡ census_by c.member c.token A.censuses) → found ≡ None
+      → RepresentChangedIf mid (λ A. None ≡ census_by c.member c.token A.censuses) (λ A. with_census A (census_verdict A c)) db → RepresentChanged old (λ A. with_census A (census_verdict A c)) db
+  token_first c found tells is h = (was h.0, λ A m any. h.1 A (same A h.0 m) (sym is ∙ tells A h.0 m))
+
+  -- and its deposit is there
   pub deposit_there : (c : Census) (d : Deposit) (found : Option Deposit) → ForAllRepresented old mid (λ A. found ≡ numbered A.deposits c.deposit) → found ≡ Some d
-      → RepresentChangedIf mid (λ A. numbered A.deposits c.deposit ≡ Some d) (λ A. with_census A (census_by_token A c (census_by c.member c.token A.censuses))) db → RepresentChanged old (λ A. with_census A (census_verdict A c)) db
+      → RepresentChangedIf mid (λ A. numbered A.deposits c.deposit ≡ Some d) (λ A. with_census A (census_by_token A c None)) db
+      → RepresentChangedIf old (λ A. None ≡ census_by c.member c.token A.censuses) (λ A. with_census A (census_verdict A c)) db
   deposit_there c d found tells is h = (
     was h.0,
-    λ A m any.
-        let there : Some d ≡ numbered A.deposits c.deposit = sym is ∙ tells A h.0 m in
-        subst (λ o. LeftRepresents db (with_census A (census_of_deposit A c o))) there (h.1 A (same A h.0 m) (sym there)),
+    λ A m first.
+        let there : numbered A.deposits c.deposit ≡ Some d = sym (tells A h.0 m) ∙ is in
+        subst (λ v. LeftRepresents db (with_census A v)) (verdict_new A c d first there) (h.1 A (same A h.0 m) there),
   )

@@ -8,6 +8,7 @@ pub mod Steps
 pub mod Totals
 pub mod OneReply
 pub mod Looks
+pub mod Tokens
 pub mod Crashes
 pub mod Telling
 pub mod MigratedLemmas

@@ -119,7 +119,7 @@ censuses_stay_lem A B member token deposit generation limit n h later =
     found.1 ∙ ap Some (one_census (census_asked member token deposit generation limit) d.found.0 found.0 d.found.2)
 
 -- it is stored: the number is answered, and nothing changes
-by_deposit : (B : Archive) (c : Census) (n : ℕ) (d : Deposit) (o : Option Deposit) → o ≡ Some d → IsStored censuses B.censuses c n
+pub by_deposit : (B : Archive) (c : Census) (n : ℕ) (d : Deposit) (o : Option Deposit) → o ≡ Some d → IsStored censuses B.censuses c n
     → (says.Counted n ≡ census_reply B (census_of_deposit B c o)) × (with_census B (census_of_deposit B c o) ≡ B)
 by_deposit B c n d o is found =
     subst (λ x. (says.Counted n ≡ census_reply B (census_of_deposit B c x)) × (with_census B (census_of_deposit B c x) ≡ B)) (sym is)

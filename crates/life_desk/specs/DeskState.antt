@@ -1,11 +1,14 @@
 -- What the private functions for each kind of request leave behind.
-use Rattle.std.specs.Prelude.{◌≡◌, ◌⊎◌, true, Result, IfOk, OnOk, IsTrue, MatchResult}
+use Rattle.std.specs.Prelude.{◌≡◌, ◌⊎◌, true, Option, None, Some, Result, IfOk, OnOk, IsTrue, MatchResult}
 use Rattle.sqlite_trees.specs.declared.store.Store.{Ghosts}
 use Rattle.life_store.specs.Crash.{NoMore}
 use Rattle.life_store.specs.Left.{Left}
 use Rattle.life_store.specs.Tables.{ArchiveView, IsTransition, IsHealthyIfClean}
 use Rattle.life_store.specs.declared.fault.Unavailable.{Unavailable}
+use Rattle.life_store.specs.declared.kept.Deposit.{Deposit}
+use Rattle.life_desk.specs.declared.refusal.Refusal.TheVariants as no
 use Rattle.life_desk.specs.declared.request.Reply.{Reply}
+use Rattle.life_desk.specs.declared.request.Reply.TheVariants as says
 use Rattle.life_desk.specs.Archive.{Archive}
 use Rattle.life_desk.specs.Represents.{Represents, LeftRepresents}
 use Rattle.life_desk.specs.Replies.{acknowledges}
@@ -42,6 +45,13 @@ RepresentChanged old change found = RepresentChangedIf old (λ A. Unit {0}) chan
 -- what is acknowledged was done by a database that is healthy, unless its disk has lied
 abbrev pub Promises : {S : Type 0} → Ghosts S → ArchiveView S → Result Reply Unavailable → Type 0
 Promises g new result = IfOk result (λ r. acknowledges r ≡ true → IsHealthyIfClean g new)
+
+-- ---- censuses
+
+-- The refusal of a census whose token is used by another census, by its deposit: a missing one is refused first.
+abbrev pub reused_reply : Option Deposit → Reply
+reused_reply None = says.Refused no.NoSuchDeposit
+reused_reply (Some d) = says.Refused no.TokenReused
 
 -- ---- calls that only show something
 

@@ -13,7 +13,7 @@ ghost use Rattle.life_code.specs.Codes as codes;
 ghost use Rattle.life_code.specs.Period as periods;
 ghost use Rattle.life_desk.specs.Validation.{validated};
 ghost use Rattle.life_desk.specs.ValidationState.{IsGood};
-ghost use Rattle.life_desk.specs.DeskState.{Acts, ActsIf, OnlyShows, RepresentChanged, RepresentChangedIf, Promises, SpeaksIfHealthy};
+ghost use Rattle.life_desk.specs.DeskState.{Acts, ActsIf, OnlyShows, RepresentChanged, RepresentChangedIf, Promises, SpeaksIfHealthy, reused_reply};
 ghost use Rattle.life_desk.specs.Headline.{IsTheArchive, IsTheArchiveOrFaults, IsTheArchiveInMemory};
 ghost use Rattle.life_desk.specs.Run.{Answered, IsIdle, IsCrashSafe};
 ghost use Rattle.life_desk.specs.Archive.{tally_for, tally_at, tally_of_cells, steady_for};
@@ -25,7 +25,7 @@ use crate::bytes::Bytes;
 use crate::headline::law_of_the_archive;
 use crate::looking::{
     add_census, add_deposit, counted_census, counts_of, deposit_of, deposits_after, file_of,
-    find_census, find_file, has_census_room, has_room,
+    find_census, find_file, has_census_room, has_deposit, has_room,
 };
 use crate::refusal::Refusal;
 use crate::request::{Reply, Request, Shown, ValidRequest};
@@ -306,29 +306,37 @@ fn count_new<S: Alter>(
     add_counted(archive, alloc, deposit, census)
 }
 
-/// Answers a census of a deposit that is there.
+/// Answers a census whose token is new. Only now is the deposit read.
 fn keep_census<S: Alter>(
     archive: &mut Archive<S>,
     alloc: Global,
-    deposit: &Deposit,
     census: &Census,
 ) -> Result<Reply, Unavailable>
-    requires small { IsInside 1024 deposit.now.content.cells }
     requires few { census.now.generation ≤ GENERATION_LIMIT }
     requires some { 1 ≤ census.now.limit }
     requires short { census.now.limit ≤ PERIOD_LIMIT }
-    ensures transition { IsTransition S.Store (RepresentChangedIf archive.old (λ A. numbered A.deposits census.now.deposit ≡ Some deposit.now) (λ A. with_census A (census_by_token A census.now (census_by census.now.member census.now.token A.censuses)))) archive.old archive.new }
+    ensures transition { IsTransition S.Store (RepresentChangedIf archive.old (λ A. None ≡ census_by census.now.member census.now.token A.censuses) (λ A. with_census A (census_verdict A census.now))) archive.old archive.new }
     ensures promised { Promises S.Store archive.new result }
     ensures healthy { OnOk result (IsHealthyIfClean S.Store archive.new) }
     ensures effect { ActsIf archive.old archive.new result
-        (λ A. numbered A.deposits census.now.deposit ≡ Some deposit.now)
-        (λ A r. r ≡ census_reply A (census_by_token A census.now (census_by census.now.member census.now.token A.censuses)))
-        (λ A. with_census A (census_by_token A census.now (census_by census.now.member census.now.token A.censuses))) }
+        (λ A. None ≡ census_by census.now.member census.now.token A.censuses)
+        (λ A r. r ≡ census_reply A (census_verdict A census.now))
+        (λ A. with_census A (census_verdict A census.now)) }
 {
-    match find_census(archive, alloc, census)? {
-        Some((id, stored)) => Ok(repeated(is_same_census(&stored, census), Reply::Counted(id))),
-        None => count_new(archive, alloc, deposit, census),
+    match deposit_of(archive, alloc, census.deposit)? {
+        None => Ok(Reply::Refused(Refusal::NoSuchDeposit)),
+        Some(deposit) => count_new(archive, alloc, &deposit, census),
     }
+}
+
+/// Refuses a census whose token is used by another census.
+fn refuse_reused<S: Alter>(archive: &mut Archive<S>, census: &Census) -> Result<Reply, Unavailable>
+    ensures { OnlyShows S.Store archive.old archive.new result (λ A r. r ≡ reused_reply (numbered A.deposits census.now.deposit)) }
+{
+    if has_deposit(archive, census.deposit)? {
+        return Ok(Reply::Refused(Refusal::TokenReused));
+    }
+    Ok(Reply::Refused(Refusal::NoSuchDeposit))
 }
 
 /// Whether two censuses count the same.
@@ -338,7 +346,7 @@ fn is_same_census(a: &Census, b: &Census) -> bool
     a.deposit == b.deposit && a.generation == b.generation && a.limit == b.limit
 }
 
-/// Answers a census.
+/// Answers a census. The token is looked up first: a census that is stored has its deposit, so a repeated one needs no look at it.
 fn take_census<S: Alter>(
     archive: &mut Archive<S>,
     alloc: Global,
@@ -354,9 +362,14 @@ fn take_census<S: Alter>(
         (λ A r. r ≡ census_reply A (census_verdict A census.now))
         (λ A. with_census A (census_verdict A census.now)) }
 {
-    match deposit_of(archive, alloc, census.deposit)? {
-        None => Ok(Reply::Refused(Refusal::NoSuchDeposit)),
-        Some(deposit) => keep_census(archive, alloc, &deposit, census),
+    match find_census(archive, alloc, census)? {
+        None => keep_census(archive, alloc, census),
+        Some((id, stored)) => {
+            if is_same_census(&stored, census) {
+                return Ok(Reply::Counted(id));
+            }
+            refuse_reused(archive, census)
+        }
     }
 }
 

@@ -1,5 +1,5 @@
 //! The desk's queries to the archive.
-ghost use Rattle.std.specs.Prelude.{◌≡◌, ◌+◌, ◌++◌, ◌∷◌, [], ℕ, List, Some, nat_lt, length, option_map, IfOk, IfSome, OnOk, OnErr};
+ghost use Rattle.std.specs.Prelude.{◌≡◌, ◌&&◌, ◌+◌, ◌++◌, ◌∷◌, [], ℕ, List, Some, is_some, nat_le, nat_lt, length, option_map, IfOk, IfSome, OnOk, OnErr};
 ghost use Rattle.life_rle.specs.Record.{IsInside};
 ghost use Rattle.life_rle.specs.Writer.{text};
 ghost use Rattle.life_store.specs.Kept.{numbered, deposit_by, file_of_deposit, census_by, listed_after, kept_census};
@@ -155,6 +155,21 @@ fn count_censuses<S: Alter>(archive: &mut Archive<S>) -> Result<u64, Unavailable
     ensures { LooksUp S.Store archive.old archive.new result (λ A n. n ≡ length A.censuses) }
 {
     archive.count_censuses()
+}
+
+/// Whether a list of this length has an element with the number.
+fn is_number(id: u64, length: u64) -> bool
+    ensures { result ≡ (nat_le 1 id && nat_le id length) }
+{
+    1 <= id && id <= length
+}
+
+/// Whether there is a deposit of the number. None is read.
+pub(crate) fn has_deposit<S: Alter>(archive: &mut Archive<S>, id: u64) -> Result<bool, Unavailable>
+    ensures { LooksUp S.Store archive.old archive.new result (λ A there. there ≡ is_some (numbered A.deposits id)) }
+{
+    let count = count_deposits(archive)?;
+    Ok(is_number(id, count))
 }
 
 /// Whether there is room for one more deposit.

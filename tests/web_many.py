@@ -98,6 +98,17 @@ def names(gateway: Gateway, browser: Browser, base: str, folder: str) -> None:
         found,
         ["#N a b #C\nx", "x", "#O yes\nx", 3 + 200 + 2, "c d", "x", "plain"],
     )
+    commented = browser.wait_for(
+        """
+        const { withTexts, folderOf } = await import('/sources/patterns/names.js');
+        const text = (comments, folder) => new TextDecoder().decode(withTexts(new TextEncoder().encode('x'), { name: 'n', author: 'o', comments }, '', '', folder));
+        return [folderOf('jslife/guns/gun30.rle'), folderOf('glider.rle'), text([], 'a/b'), text([], ''), text(['Folder: a/b'], 'a/b'), text(Array(63).fill('c'), 'a'), text(Array(64).fill('c'), 'a')];"""
+    )
+    same(
+        "a folder is a comment, once, and never one too many",
+        commented,
+        ["jslife/guns", "", "#C Folder: a/b\nx", "x", "x", "#C Folder: a\nx", "x"],
+    )
 
 
 def dropped(gateway: Gateway, browser: Browser, base: str, folder: str) -> None:
@@ -168,7 +179,9 @@ def dropped(gateway: Gateway, browser: Browser, base: str, folder: str) -> None:
 
 
 def folders(gateway: Gateway, browser: Browser, base: str, folder: str) -> None:
-    """A folder, chosen or dropped: its pattern files and those of its folders, by their file's names where they have none."""
+    """A folder, chosen or dropped: its pattern files and those of its folders, by their file's names where they have none. A comment with the
+    folder is added if the member wants it.
+    """
     room = os.path.join(folder, "guns")
     written(
         room,
@@ -198,7 +211,13 @@ def folders(gateway: Gateway, browser: Browser, base: str, folder: str) -> None:
         "if a file has a name, the others are not named by themselves",
         not browser.run("return document.getElementById('many-name').checked"),
     )
+    check(
+        "the folder is offered as a comment, and not added by itself",
+        browser.one("#many-folder").is_displayed()
+        and not browser.run("return document.getElementById('many-folder').checked"),
+    )
     browser.one("#many-name").click()
+    browser.one("#many-folder").click()
     browser.type("#many-author", "Cid")
     browser.one("#send-many").click()
     same("both are deposited", done(browser), "2 files: 2 deposited.")
@@ -206,12 +225,12 @@ def folders(gateway: Gateway, browser: Browser, base: str, folder: str) -> None:
     same(
         "a pattern without a name gets the file's",
         told(gateway, f"/deposits/{kept['guns/one.rle']}"),
-        b"#N one\n#O Cid\nx = 5, y = 1, rule = B3/S23\n5o!\n",
+        b"#N one\n#O Cid\n#C Folder: guns\nx = 5, y = 1, rule = B3/S23\n5o!\n",
     )
     same(
-        "and the author is written, too",
+        "and the author and the folder are written, too",
         told(gateway, f"/deposits/{kept['guns/deep/two.rle']}"),
-        b"#N Two\n#O Cid\nx = 6, y = 2, rule = B3/S23\n6o$o!\n",
+        b"#N Two\n#O Cid\n#C Folder: guns/deep\nx = 6, y = 2, rule = B3/S23\n6o$o!\n",
     )
 
 

@@ -66,7 +66,7 @@ function kindParts(number, record, page, periodic) {
     }
   };
   ask();
-  const form = make('form', { class: 'inline', submit: ask }, make('label', { for: 'limit' }, 'limit'), limit, make('button', {}, 'Ask'));
+  const form = make('form', { class: 'inline', submit: ask }, make('label', { for: 'limit' }, 'limit'), limit, make('button', {}, 'Show'));
   return [['Kind', [said, form]], ['Code', [code]]];
 }
 

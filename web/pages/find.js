@@ -30,7 +30,7 @@ function codeForm(code = '', rule = 'B3/S23') {
     event.preventDefault();
     go(objectAddress(ruleInput.value.trim(), codeInput.value.trim()));
   };
-  return make('form', { class: 'code', submit }, field('Code of an object', codeInput), field('Rule', ruleInput), make('button', { class: 'main' }, 'Look up'));
+  return make('form', { class: 'code', submit }, field('Code of an object', codeInput), field('Rule', ruleInput), make('button', { class: 'main' }, 'Show'));
 }
 
 export async function findPage(page, query) {

@@ -9,7 +9,7 @@ import { cutButton, oldChoice, readGiven, refusedBy } from '../patterns/given.js
 import { draft, keepDraft } from '../shared/kept.js';
 import { LONGEST_FILE, LONGEST_TEXT } from '../shared/limits.js';
 import { learnMember, memberPart, rememberMember } from '../shared/member.js';
-import { baseName, pathOf, withTexts } from '../patterns/names.js';
+import { baseName, folderOf, pathOf, withTexts } from '../patterns/names.js';
 import { Refused, sentenceOf } from '../requests/refusals.js';
 import { ruleText } from '../patterns/rule.js';
 import { sumOf } from '../patterns/sum.js';
@@ -20,6 +20,11 @@ const REST = 1000;
 const DRAFT = 'many';
 /** The number of the fault of a file that is too long. */
 const TOO_LONG = 1;
+
+/**
+ * What is added to files: the name of the file, if a pattern has no name; an author, if it has none; and the folder of the file as a comment.
+ * @typedef {{ isNamed: boolean, author: string, hasFolder: boolean }} Additions
+ */
 
 /** A file in the table. Its result is `kept` with a number, `refused` with a sentence, or nothing yet. */
 class Row {
@@ -83,9 +88,12 @@ class Row {
     this.refused = sentenceOf(error) + more;
   }
 
-  /** The bytes to send: the file's, with a missing name and author added. */
-  content(name, author) {
-    return withTexts(this.read.bytes, this.record, name ? baseName(this.name) : '', author);
+  /**
+   * The bytes to send: the file's, with what the member wants added.
+   * @param {Additions} more
+   */
+  content({ isNamed, author, hasFolder }) {
+    return withTexts(this.read.bytes, this.record, isNamed ? baseName(this.name) : '', author, hasFolder ? folderOf(this.name) : '');
   }
 
   get isOpen() {
@@ -127,8 +135,8 @@ export function keptTable() {
 }
 
 /** Sends one file, and again as long as the archive only asks to wait. Returns whether it was stored or finally refused. */
-async function sendRow(row, member, name, author, page) {
-  const bytes = row.content(name, author);
+async function sendRow(row, member, more, page) {
+  const bytes = row.content(more);
   for (;;) {
     try {
       row.say('sending…');
@@ -167,6 +175,8 @@ export class Table {
     this.member = memberPart('many-member');
     this.author = make('input', { id: 'many-author', maxlength: LONGEST_TEXT, autocomplete: 'off' });
     this.name = make('input', { id: 'many-name', type: 'checkbox' });
+    this.folder = make('input', { id: 'many-folder', type: 'checkbox' });
+    this.folders = make('p', { class: 'check', hidden: true }, this.folder, make('label', { for: 'many-folder' }, ' Add the folder of each file as a comment, which searches find'));
     this.send = make('button', { class: 'main', id: 'send-many' });
     this.old = oldChoice('many-old', true, 'Read files that are not UTF-8 as windows-1252', (asOld) => this.#choose({ asOld }));
     this.bar = make('progress', { hidden: true, 'aria-label': 'Files done' });
@@ -177,7 +187,7 @@ export class Table {
     this.body = make('tbody');
     this.form = make('form', { submit: (event) => this.#submit(event) }, this.member.part,
       make('p', { class: 'check' }, this.name, make('label', { for: 'many-name' }, ' Use file names for patterns that have no name')),
-      this.old, field('Author', this.author, 'Added to files without an author. Leave it empty to change nothing.'), make('p', { class: 'row' }, this.send, this.bar));
+      this.folders, this.old, field('Author', this.author, 'Added to files without an author. Leave it empty to change nothing.'), make('p', { class: 'row' }, this.send, this.bar));
     this.root = make('section', { class: 'many' }, this.count, this.seen, this.form, this.said, make('p', {}, this.instead),
       make('table', { class: 'census files' }, make('caption', { class: 'aside' }, 'The files and their results'),
         make('thead', {}, make('tr', {}, make('td', {}), make('th', { scope: 'col' }, 'File'), make('th', { scope: 'col' }, 'Result'))), this.body));
@@ -227,6 +237,8 @@ export class Table {
     // Without names, these deposits would be listed by their numbers for ever.
     this.name.checked = this.open.every((row) => row.record.name === null);
     this.old.hidden = !rows.some((row) => row.read?.isOld);
+    this.folders.hidden = !rows.some((row) => folderOf(row.name));
+    this.folder.checked = false;
     this.#chosen();
   }
 
@@ -273,10 +285,11 @@ export class Table {
   }
 
   async #sendAll() {
-    const [open, name, author] = [this.open, this.name.checked, this.author.value];
+    const open = this.open;
+    const more = { isNamed: this.name.checked, author: this.author.value, hasFolder: this.folder.checked };
     Object.assign(this.bar, { max: open.length, value: 0, hidden: false });
     for (const row of open) {
-      await sendRow(row, this.member.input.value, name, author, this.page);
+      await sendRow(row, this.member.input.value, more, this.page);
       this.bar.value += 1;
       keepTable(this.rows, this.owner);
     }

@@ -1,7 +1,7 @@
-// The files of a folder, and adding a name and an author to a file without them (docs/FORMATS.md, Pattern files): `#N` and `#O` before its
-// first line.
+// The files of a folder, and adding a name, an author and the folder to a file (docs/FORMATS.md, Pattern files): `#N`, `#O` and `#C` before
+// its first line.
 
-import { LONGEST_TEXT } from '../shared/limits.js';
+import { LONGEST_TEXT, MOST_COMMENTS } from '../shared/limits.js';
 
 const bytesOf = (text) => new TextEncoder().encode(text);
 
@@ -23,9 +23,19 @@ export const patternsOf = (files) => files.filter(({ name }) => /\.(rle|cells|li
 /** The name of a file without folders and extension: `gosper-gun` for `guns/gosper-gun.rle`. */
 export const baseName = (name) => oneLine(name.split('/').at(-1).replace(/\.(rle|cells|lif|life|txt)$/i, ''));
 
-/** A file with a name and an author added, if they are given and its record has none. */
-export function withTexts(bytes, record, name, author) {
-  const lines = [record.name === null && oneLine(name) ? `#N ${oneLine(name)}\n` : '', record.author === null && oneLine(author) ? `#O ${oneLine(author)}\n` : ''].join('');
+/** The folders in the path of a file: `jslife/guns` for `jslife/guns/gun30.rle`, and '' without one. @param {string} path */
+export const folderOf = (path) => path.split('/').slice(0, -1).join('/');
+
+/** A comment with the folders of a path, or '' if it has none, or the file has it or as many comments as the archive takes. */
+function folderComment(comments, folder) {
+  const text = folder ? oneLine(`Folder: ${folder}`) : '';
+  return comments.includes(text) || comments.length >= MOST_COMMENTS ? '' : text;
+}
+
+/** A file with a name and an author added, if they are given and its record has none, and with the folder as a comment, if one is given. */
+export function withTexts(bytes, record, name, author, folder = '') {
+  const added = { '#N': record.name === null ? oneLine(name) : '', '#O': record.author === null ? oneLine(author) : '', '#C': folderComment(record.comments ?? [], folder) };
+  const lines = Object.entries(added).map(([sign, text]) => (text ? `${sign} ${text}\n` : '')).join('');
   if (lines === '') return bytes;
   const head = bytesOf(lines);
   const all = new Uint8Array(head.length + bytes.length);

@@ -30,7 +30,7 @@ _life() {
       census) words='-h --help' ;;
       deposit) words='--db -h --help' ;;
       serve) words='--db --port --connections -h --help' ;;
-      check) words='--db -h --help' ;;
+      check) words='--db --quick -h --help' ;;
       explain) words='bad-code bad-count bad-header bad-member bad-message bad-method bad-pattern bad-rule bad-text bad-token birth-zero full no-end no-header no-port no-reply no-such-census no-such-deposit no-such-page not-canonical not-ours not-sound not-within-limit other-tag out-of-limit password text-limit token-reused too-long too-many-requests too-wide unavailable unknown unreadable -h --help' ;;
       help) [ "$COMP_CWORD" != 2 ] || words='generation kind object census deposit serve check explain' ;;
     esac

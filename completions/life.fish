@@ -24,6 +24,7 @@ complete -c life -n '__fish_seen_subcommand_from serve' -l port -x -d 'The port 
 complete -c life -n '__fish_seen_subcommand_from serve' -l connections -x -d 'How many connections to serve, from 1 to 1000000'
 complete -c life -n '__fish_seen_subcommand_from serve' -s h -l help -d 'Print help'
 complete -c life -n '__fish_seen_subcommand_from check' -l db -r -F -d 'The file of the archive'
+complete -c life -n '__fish_seen_subcommand_from check' -l quick -d 'Leave out the counting of censuses'
 complete -c life -n '__fish_seen_subcommand_from check' -s h -l help -d 'Print help'
 complete -c life -n '__fish_seen_subcommand_from explain' -a 'bad-code bad-count bad-header bad-member bad-message bad-method bad-pattern bad-rule bad-text bad-token birth-zero full no-end no-header no-port no-reply no-such-census no-such-deposit no-such-page not-canonical not-ours not-sound not-within-limit other-tag out-of-limit password text-limit token-reused too-long too-many-requests too-wide unavailable unknown unreadable'
 complete -c life -n '__fish_seen_subcommand_from explain' -s h -l help -d 'Print help'

@@ -13,6 +13,7 @@ import tempfile
 import time
 from collections.abc import Callable, Sequence
 
+import archives
 import clients
 import ledger
 from clients import GLIDER, GLIDER_TEXT, HERE, Server, check, deposit, exchanged, message, same
@@ -244,6 +245,16 @@ def asked(port: int, method: str, path: str, headers: dict[str, str], body: byte
 def deposit_of(member: str) -> ledger.Deposit:
     """What a member of these tests deposits, as an archive has it."""
     return ledger.Deposit(member, "t1", f"#N By {member}\n".encode() + GLIDER_TEXT)
+
+
+def write_wrong_row(database: str) -> None:
+    """Writes an archive of two deposits by sqlite3, without checksums of pages. The first has one cell more than its pattern."""
+    kept = archives.new_archive(database)
+    for number, population in ((1, 6), (2, 5)):
+        row = (number, f"t{number}", population, GLIDER_TEXT)
+        kept.execute("INSERT INTO deposits VALUES (?, 'ann', ?, 'B3/S23', ?, ?)", row)
+    kept.commit()
+    kept.close()
 
 
 def fill(database: str, members: list[str], censuses: int = 0) -> None:

@@ -47,6 +47,8 @@ DAMAGED: list[tuple[str, list[Any], str]] = [
     ("UPDATE layout SET rowid = 2", [], LAYOUT),
     ("INSERT INTO deposits VALUES (0, 'ann', 't3', 'B3/S23', 4, ?)", [BLOCK_TEXT], "deposit 1"),
     ("INSERT INTO deposits VALUES (4, 'ann', 't3', 'B3/S23', 4, ?)", [BLOCK_TEXT], "deposit 3"),
+    ("UPDATE deposits SET member = 'Ann' WHERE id = 1", [], "deposit 1"),
+    ("UPDATE deposits SET token = 't 2' WHERE id = 2", [], "deposit 2"),
     ("UPDATE deposits SET rule = 'B36/S23' WHERE id = 1", [], "deposit 1"),
     ("UPDATE deposits SET population = 6 WHERE id = 2", [], "deposit 2"),
     ("UPDATE deposits SET rle = ? WHERE id = 2", [BLOCK_TEXT + b"\n"], "deposit 2"),
@@ -54,6 +56,8 @@ DAMAGED: list[tuple[str, list[Any], str]] = [
     ("UPDATE deposits SET rle = ? WHERE id = 1", [GLIDER_TEXT.replace(b", rule = B3/S23", b"")], "deposit 1"),
     ("UPDATE deposits SET rle = ? WHERE id = 1", [b""], "deposit 1"),
     ("INSERT INTO censuses VALUES (4, 'eve', 'c1', 1, 4, 4, 1, 0)", [], "census 3"),
+    ("UPDATE censuses SET member = '' WHERE id = 1", [], "census 1"),
+    ("UPDATE censuses SET token = 'c_1' WHERE id = 2", [], "census 2"),
     ("UPDATE censuses SET deposit = 1 WHERE id = 1", [], "census 1"),
     ("UPDATE censuses SET gens = 2049 WHERE id = 1", [], "census 1"),
     ("UPDATE censuses SET gens = -1 WHERE id = 1", [], "census 1"),
@@ -71,9 +75,19 @@ DAMAGED: list[tuple[str, list[Any], str]] = [
     ("UPDATE census_flags SET steady = 1 WHERE census = 2", [], "census 2"),
     ("DELETE FROM census_flags WHERE census = 2", [], "census 2"),
 ]
+# Changes that only counting finds.
+UNCOUNTED = [
+    "UPDATE censuses SET deposit = 1 WHERE id = 1",
+    "UPDATE censuses SET lim = 3 WHERE id = 2",
+    "UPDATE census_rows SET code = 'xs4_3' WHERE census = 1",
+    "UPDATE census_flags SET steady = 0 WHERE census = 1",
+    "UPDATE census_flags SET steady = 1 WHERE census = 2",
+]
+# A change that a quick check finds one census later: the first census then has no clusters with a code.
+LATER = {"UPDATE censuses SET unresolved = 1 WHERE id = 1": "census 2"}
 # A change that an opening refuses, since a census names the deposit.
 REFUSED = "UPDATE deposits SET id = 3 WHERE id = 1"
-# Changes that leave an archive: who deposited something.
+# Changes that leave an archive: who deposited something, if a request can have that member and that token.
 OTHERS = [
     "UPDATE deposits SET member = 'bob' WHERE id = 1",
     "UPDATE deposits SET token = 't9' WHERE id = 1",
@@ -112,10 +126,10 @@ def contents(database: str) -> list[tuple[str, bytes]]:
     return found
 
 
-def checks_as(name: str, database: str, wanted: tuple[int, bytes, bytes]) -> None:
+def checks_as(name: str, database: str, wanted: tuple[int, bytes, bytes], *options: str) -> None:
     """A check has this answer, and leaves every byte."""
     before = contents(database)
-    same(name, run("check", "--db", database), wanted)
+    same(name, run("check", *options, "--db", database), wanted)
     same(f"{name}: the files", contents(database), before)
 
 
@@ -140,6 +154,20 @@ def test_damage(folder: str, statement: str, values: list[Any], wrong: str) -> N
     checks_as(statement, database, (1, line_of(wrong), UNSOUND))
 
 
+def test_quick_check_of_a_sound_archive(folder: str) -> None:
+    sound = (0, b"sound but for counts: 2 deposits, 2 censuses\n", b"")
+    checks_as("an archive of sqlite3", written(folder, "quick.db", []), sound, "--quick")
+
+
+@pytest.mark.parametrize("statement, values, wrong", DAMAGED, ids=[statement for statement, _, _ in DAMAGED])
+def test_quick_check_of_damage(folder: str, statement: str, values: list[Any], wrong: str) -> None:
+    """A quick check finds what the whole one finds, but for the counts."""
+    wanted = (1, line_of(LATER.get(statement, wrong)), UNSOUND)
+    if statement in UNCOUNTED:
+        wanted = (0, b"sound but for counts: 2 deposits, 2 censuses\n", b"")
+    checks_as(statement, written(folder, "quick.db", [(statement, values)]), wanted, "--quick")
+
+
 def test_archives_of_the_program(folder: str) -> None:
     """Archives of the program itself, also while a server has one open, and after it was killed."""
     database = fresh(folder, "made.db")
@@ -154,6 +182,8 @@ def test_archives_of_the_program(folder: str) -> None:
         server.process.kill()
         server.process.wait()
     checks_as("after a kill", database, (0, b"sound: 3 deposits, 1 censuses\n", b""))
+    quick = (0, b"sound but for counts: 3 deposits, 1 censuses\n", b"")
+    checks_as("after a kill, without counting", database, quick, "--quick")
     same("the next deposit", run("deposit", "--db", database, "ann", "t4", data=GLIDER), (0, b"deposit 4\n", b""))
     alone = fresh(folder, "alone.db")
     shutil.copyfile(database, alone)

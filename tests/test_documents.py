@@ -102,7 +102,7 @@ OTHER_LENGTHS = {
     "README.md": 170,
     "bench/README.md": 300,
     "docs/COMMANDS.md": 280,
-    DECISIONS: 700,
+    DECISIONS: 760,
     "docs/OPERATING.md": 340,
 }
 

@@ -29,6 +29,7 @@ from clubs import (
     small_disk,
     until,
     write,
+    write_wrong_row,
 )
 from ledger import Ledger, rows_of
 
@@ -165,6 +166,22 @@ def test_newer_copy(folder: str) -> None:
         f"the newest copy for a damaged archive: {out}",
         status == 0 and "it can't be read" in out and club.serves(FIVE) and content(club.newest()) == whole,
     )
+    club.systemctl("stop")
+
+
+def test_unsound(folder: str) -> None:
+    """A copy with a row that no archive writes is put back only if that is asked for, and its other rows are served then."""
+    club = Club(folder, "unsound")
+    write_wrong_row(club.archive)
+    shutil.copyfile(club.archive, copy := os.path.join(folder, "unsound.db"))
+    wrong = f"{copy} is not sound: deposit 1: its row is wrong or missing"
+    check("a wrong row", is_error("life-restore", club.restore(copy), wrong, "an older copy", "--unsound"))
+    same("nothing was stopped", club.steps(), [])
+    same("the word without a copy", club.restore("--unsound")[0], 2)
+    status, out, err = club.restore("--unsound", copy)
+    check(f"a wrong row that is asked for: {out}{err}", status == 0 and wrong in out)
+    replies = club.ask([("GET", f"/deposits/{number}", {}, b"") for number in (1, 2)])
+    same("the other rows are served", [status for status, _ in replies], [503, 200])
     club.systemctl("stop")
 
 

@@ -909,7 +909,7 @@ def test_censuses_over_a_restart(room: str, program: str) -> None:
 CALLED = ["life", "life-draw", "life-haul"]
 # What is typed, the last word unfinished, and what a shell may put in its place.
 OPTIONS = {
-    "check": ["--db", "--help"],
+    "check": ["--db", "--help", "--quick"],
     "deposit": ["--db", "--help"],
     "serve": ["--connections", "--db", "--help", "--port"],
 }

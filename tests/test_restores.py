@@ -6,6 +6,7 @@ import getpass
 import os
 import shutil
 import signal
+import sqlite3
 import stat
 import subprocess
 import time
@@ -29,6 +30,7 @@ from clubs import (
     shown,
     small_disk,
     write,
+    write_wrong_row,
 )
 
 pytestmark = [pytest.mark.full, pytest.mark.usefixtures("program")]
@@ -141,6 +143,19 @@ def test_looked_at_by_the_program(folder: str) -> None:
         check(f"{name}: no copy", is_error("life-copy", club.copy(), part) and club.files() == [])
     club.set(PROGRAM=program)
     check("the right program: a copy", club.copy()[0] == 0 and len(club.files()) == 1)
+
+
+def test_wrong_row(folder: str) -> None:
+    """A copy with a row that no archive writes does not count, though the program opens it and shows its newest deposit."""
+    club = Club(folder, "wrong")
+    write_wrong_row(club.archive)
+    row_1 = "is not sound: deposit 1: its row is wrong or missing"
+    check("a wrong row: no copy", is_error("life-copy", club.copy(), row_1) and club.files() == [])
+    mended = sqlite3.connect(club.archive)
+    mended.execute("UPDATE deposits SET population = 5")
+    mended.commit()
+    mended.close()
+    check("the row is mended: a copy", club.copy()[0] == 0 and len(club.files()) == 1)
 
 
 def test_room_on_the_disk(folder: str) -> None:

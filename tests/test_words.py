@@ -114,12 +114,21 @@ NAMED = [
     ("life-draw", ["text", "glider.rle"], "life-draw text < glider.rle"),
     ("life-draw", ["animation", "0", "29", "glider.rle"], "life-draw animation 0 29 < glider.rle"),
 ]
+# The same with a file in the place of a number.
+IN_PLACE_OF_A_NUMBER = [
+    ("life", ["generation", "glider.rle"], "life generation ... < glider.rle"),
+    ("life", ["kind", "patterns/glider"], "life kind ... < patterns/glider"),
+    ("life", ["census", "0", "two gliders.rle"], "life census 0 ... < 'two gliders.rle'"),
+    ("life-draw", ["animation", "0", "glider.rle"], "life-draw animation 0 ... < glider.rle"),
+]
 # What is wrong in another way.
 OTHERWISE: list[tuple[str, list[str]]] = [
     ("life", ["generation", "1", "2"]),
     ("life", ["generation", "1", "--glider"]),
     ("life", ["generation", "1", "-g"]),
-    ("life", ["generation", "glider.rle"]),
+    ("life", ["generation", "ten"]),
+    ("life", ["generation", "1.5"]),
+    ("life", ["object", "B3/S23", "xs4_33", "glider.rle"]),
     ("life", ["kind", "4", "glider.rle", "pulsar.rle"]),
     ("life", ["kind", "many", "glider.rle"]),
     ("life", ["object", "B3/S23", "xs4_33", "1", "glider.rle"]),
@@ -133,13 +142,16 @@ OTHERWISE: list[tuple[str, list[str]]] = [
 ]
 
 
-@pytest.mark.parametrize("called, words, wanted", NAMED, ids=[" ".join([called, *words]) for called, words, _ in NAMED])
-def test_file_is_named(called: str, words: list[str], wanted: str) -> None:
+HINTS = [("unexpected argument", *case) for case in NAMED] + [("invalid value", *case) for case in IN_PLACE_OF_A_NUMBER]
+
+
+@pytest.mark.parametrize("error, called, words, wanted", HINTS, ids=[" ".join([case[1], *case[2]]) for case in HINTS])
+def test_file_is_named(error: str, called: str, words: list[str], wanted: str) -> None:
     status, printed, errors = said(called, *words)
     check(
         f"a file is named, {words}: {errors!r}",
         (status, printed) == (2, "")
-        and errors.startswith("error: unexpected argument '")
+        and errors.startswith(f"error: {error} '")
         and errors.endswith(f"For more information, try '--help'.\n{FRONT}{wanted}\n"),
     )
 

@@ -305,11 +305,29 @@ def asked_of_program(program: str, path: str, name: str, route: str, ends: bool 
     raise AssertionError
 
 
-def try_by_program(program: str, path: str, contents: Contents) -> None:
-    """Has the program open a throw-away copy, and reads its newest deposit."""
+def checked_by_program(program: str, *words: str) -> tuple[int, str, str]:
+    """The status of `PROGRAM check` with these arguments, and the first lines of its output and of its errors. It changes no byte."""
+    done = subprocess.run(
+        [program, "check", *words],
+        stdin=subprocess.DEVNULL,
+        capture_output=True,
+        text=True,
+        preexec_fn=die_with_parent,
+        check=False,
+    )
+    said, errors = ((text.splitlines() or [""])[0] for text in (done.stdout, done.stderr))
+    return done.returncode, said, errors
+
+
+def try_by_program(program: str, path: str, contents: Contents) -> str:
+    """Has the program open a throw-away copy, reads its newest deposit, and has the program look at every row, without counting censuses;
+    returns what it says of the first wrong row, or ''. The opening comes first: it migrates an archive of an earlier schema version.
+    """
     route, wanted = contents.newest()
     if asked_of_program(program, path, contents.name, route) != (200, wanted):
         raise contents.refused(f"the program answers {route} with something different")
+    status, said, errors = checked_by_program(program, "--quick", "--db", path)
+    return (said or errors or f"the check ended with {status}") if status else ""
 
 
 def made_by_program(program: str, path: str) -> None:

@@ -5,9 +5,10 @@
     life-copy [--settings FILE] --before VERSION
 
 The second form makes a copy for a club, as its settings (/etc/life/settings) say, with the time in its name: club-2026-11-26T0715.db in
-BACKUP_FOLDER, in UTC. It first checks the room on the disk, and has the program open the copy and read its newest deposit. Then it
-removes surplus copies and sends the newest one to SECOND_PLACE, one file for each day. The third form makes the copy before an upgrade
-from VERSION, before-VERSION.db in the same folder. No rule removes that one. If the archive is missing but should exist, it refuses.
+BACKUP_FOLDER, in UTC. It first checks the room on the disk, and has the program open the copy, read its newest deposit, and look at
+every row with `life check --quick`. Then it removes surplus copies and sends the newest one to SECOND_PLACE, one file for each day. The
+third form makes the copy before an upgrade from VERSION, before-VERSION.db in the same folder. No rule removes that one. If the archive
+is missing but should exist, it refuses.
 
 A copy is made in a folder next to its place, and gets its name only when it is whole and on the disk. It must have everything that the
 copy of that name, or the club's newest copy, has: at least as many deposits and censuses, and the same ones. A copy is not replaced if a
@@ -144,7 +145,7 @@ def look_for_room(archive: str, folder: str) -> None:
 
 
 def judge_by(program: str, before: list[Contents]) -> Judge:
-    """The requirements of a club's new copy: it has no less than these, and the program opens it."""
+    """The requirements of a club's new copy: it has no less than these, and the program opens it and finds every row sound."""
 
     def judge(new: str, found: Contents) -> None:
         for there in before:
@@ -152,7 +153,8 @@ def judge_by(program: str, before: list[Contents]) -> Judge:
                 raise Refused(why)
         trial = new + ".trial"
         shutil.copyfile(new, trial)
-        try_by_program(program, trial, found)
+        if wrong := try_by_program(program, trial, found):
+            raise Refused(f"{found.name} is not sound: {wrong}")
 
     return judge
 

@@ -131,12 +131,12 @@ def gather(archive: str, folder: str, room: str, program: str, new: Contents) ->
     return found
 
 
-def try_copy(program: str, path: str, found: Contents) -> None:
-    """Has the program open a copy of a file: it may write to what it opens."""
+def try_copy(program: str, path: str, found: Contents) -> str:
+    """Has the program try a copy of a file, since it may write to what it opens; returns what it says of the first wrong row, or ''."""
     trial = path + ".trial"
     try:
         shutil.copyfile(path, trial)
-        try_by_program(program, trial, found)
+        return try_by_program(program, trial, found)
     finally:
         remove_files(trial)
 
@@ -186,6 +186,17 @@ def decide(new: Contents, found: Findings, words: argparse.Namespace) -> None:
         )
     if not (words.other or words.older and not others):
         raise Refused(f"{text}; {advice}")
+    say(text)
+
+
+def decide_on_row(wrong: str, words: argparse.Namespace) -> None:
+    """Refuses a copy with a wrong row, unless the command line asked for that: the other rows may be all that is left of them."""
+    if not wrong:
+        return
+    text = f"{words.copy} is not sound: {wrong}"
+    if not words.unsound:
+        advice = shlex.join([RESTORE, "--unsound", words.copy])
+        raise Refused(f"{text}; an older copy may be sound; to put this one back as it is: {advice}")
     say(text)
 
 

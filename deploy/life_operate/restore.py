@@ -1,12 +1,13 @@
 """Replaces a club's archive with a copy. Run it as root; everything with files is done as the archive's user.
 
-    life-restore [--settings FILE] [--older | --other] [--with-log] COPY
+    life-restore [--settings FILE] [--older | --other] [--with-log] [--unsound] COPY
     life-restore [--settings FILE]
 
 COPY is a file that life-copy made, or the file of a pair (with its log) in a folder whose name begins with before-. While the service runs,
 COPY is checked, opened by the program, and compared with the archive and its copies. If something would be lost, the command says what and
 refuses. --older accepts a copy of this archive that has less, --other accepts another archive. If the archive is gone or damaged but its log
-is there, the newest copy may fit that log; --with-log takes COPY together with the log.
+is there, the newest copy may fit that log; --with-log takes COPY together with the log. --unsound accepts a copy with a row that no archive
+writes: such a row stays as it is, and is answered `unavailable`.
 
 Then the service stops, the archive and its log move away together, nginx's cache is emptied, the copy gets the archive's name, and the
 service starts and is asked for the newest deposit. Copies that have more than the archive has now move away too. An error or a signal before
@@ -31,6 +32,7 @@ from life_operate.known import (
     CurrentArchive,
     copies_with_more,
     decide,
+    decide_on_row,
     differences,
     gather,
     join,
@@ -141,7 +143,7 @@ class Restore:
             self.with_log(room)
         else:
             self.found = Contents(self.new, name)
-        try_copy(self.settings["PROGRAM"], self.new, self.found)
+        decide_on_row(try_copy(self.settings["PROGRAM"], self.new, self.found), self.words)
         say(f"the copy {name}: {self.found.text_with_first()}")
         self.findings = gather(self.archive, self.copies, room, self.settings["PROGRAM"], self.found)
         if self.words.with_log and self.findings.there.contents:
@@ -246,9 +248,10 @@ def main() -> None:
     which.add_argument("--older", action="store_true")
     which.add_argument("--other", action="store_true")
     parser.add_argument("--with-log", action="store_true")
+    parser.add_argument("--unsound", action="store_true")
     parser.add_argument("copy", nargs="?", metavar="COPY")
     words = parser.parse_args()
-    if words.copy is None and (words.older or words.other or words.with_log):
+    if words.copy is None and (words.older or words.other or words.with_log or words.unsound):
         parser.error("a copy is missing")
     words.copy = words.copy and os.path.abspath(words.copy)
     commands.run(

@@ -7,11 +7,9 @@ can't be checked, a line on standard error says why, and the status is 1.
 """
 import argparse
 import os
-import subprocess
 import sys
 
-from life_operate.archive import Copies, Refused, line_of
-from life_operate.signals import die_with_parent
+from life_operate.archive import Copies, Refused, checked_by_program, line_of
 
 
 def newest_copy(archive: str, folder: str) -> str:
@@ -24,19 +22,11 @@ def newest_copy(archive: str, folder: str) -> str:
 
 def checked(program: str, copy: str) -> str:
     """What the program says of a sound copy."""
-    done = subprocess.run(
-        [program, "check", "--db", copy],
-        stdin=subprocess.DEVNULL,
-        capture_output=True,
-        text=True,
-        preexec_fn=die_with_parent,
-        check=False,
-    )
-    said, errors = ((text.splitlines() or [""])[0] for text in (done.stdout, done.stderr))
-    if done.returncode and said:
+    status, said, errors = checked_by_program(program, "--db", copy)
+    if status and said:
         raise Refused(f"{copy} is not sound: {said}")
-    if done.returncode:
-        raise Refused(f"{copy} can't be checked: {errors or f'the program ended with {done.returncode}'}")
+    if status:
+        raise Refused(f"{copy} can't be checked: {errors or f'the program ended with {status}'}")
     return f"{copy}: {said}"
 
 

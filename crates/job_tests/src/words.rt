@@ -5,7 +5,7 @@ use std::alloc::Global;
 use std::test::Fail;
 
 /// Command lines, and the job that each names; `None` for a usage error.
-const LINES: [(&str, Option<Job<'static>>); 22] = [
+const LINES: [(&str, Option<Job<'static>>); 23] = [
     ("life", None),
     ("life generation", None),
     ("life generation x", None),
@@ -50,7 +50,20 @@ const LINES: [(&str, Option<Job<'static>>); 22] = [
             connections: 3,
         }),
     ),
-    ("life check --db f", Some(Job::Check { file: "f" })),
+    (
+        "life check --db f",
+        Some(Job::Check {
+            file: "f",
+            quick: false,
+        }),
+    ),
+    (
+        "life check --quick --db f",
+        Some(Job::Check {
+            file: "f",
+            quick: true,
+        }),
+    ),
     ("life explain no-end", Some(Job::Explain("no-end"))),
 ];
 

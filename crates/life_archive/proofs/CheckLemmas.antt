@@ -1,5 +1,5 @@
 -- The job that opens files that were checked.
-use Rattle.std.proofs.Common.{◌≡◌, ℕ, List, length, Option, Some, Result, Ok, Err, refl, sym, subst, subst₂, inl, inr}
+use Rattle.std.proofs.Common.{◌≡◌, ℕ, List, length, true, false, Option, Some, Result, Ok, Err, refl, sym, subst, subst₂, inl, inr}
 use Rattle.sqlite_disk.specs.declared.Disk as disk
 use Rattle.sqlite_disk.specs.declared.Files.{Files}
 use Rattle.sqlite_wal.specs.Files.{outcomes}
@@ -10,7 +10,7 @@ use Rattle.life_store.specs.declared.fault.Unavailable.{Unavailable as Failed}
 use Rattle.life_desk.specs.Archive.{Archive}
 use Rattle.life_desk.proofs.Representing.{each_of}
 use Rattle.life_check.specs.declared.judging.Verdict.{Verdict}
-use Rattle.life_check.specs.declared.judging.Verdict.TheVariants.{Sound, NotSound}
+use Rattle.life_check.specs.declared.judging.Verdict.TheVariants.{Sound, SoundButForCounts, NotSound}
 use Rattle.life_check.specs.Files.{ChecksPath, IsPathCheck}
 use Rattle.life_archive.specs.declared.stop.ArchiveStop.{ArchiveStop}
 use Rattle.life_archive.specs.Path.{PathJob, BecomesBy, LeavesOne}
@@ -22,18 +22,22 @@ use Rattle.life_archive.proofs.PathJobs.{job_leaves}
 done_is_no_stop : {stop : ArchiveStop} {done : Unit {0}} → Ok done ≡ Err stop → ⊥
 done_is_no_stop same = cc
 
+whole_is_not_quick : false ≡ true → ⊥
+whole_is_not_quick same = cc
+
 some_is : {A : Type 0} {x y : A} → Some x ≡ Some y → x ≡ y
 some_is same = cc
 
 module _ {D E : Type 0} (g : disk.Ghosts D) (h : disk.Ghosts E) (image again : Image) (capacity next : ℕ) (before after : Option (List ℕ)) (files : Files D) (left : Result (Files E) (Files E)) (two : PathJob h again next left)
     (clean : AreClean g files.log files.db) (may : outcomes g files.log files.db again) where
   -- the verdict was sound
-  begins : (v : Verdict) → PutsVerdict v before after (Ok tt) → (one : IsPathCheck g image capacity (Ok v) files)
+  begins : (v : Verdict) → PutsVerdict v before after (Ok tt) → (one : IsPathCheck false g image capacity (Ok v) files)
       → (A : Archive) × Gains before after (verdict_line (Sound (length A.deposits) (length A.censuses))) × LeavesOne h (BecomesBy two (under next A)) left
   begins (NotSound w) puts one = elim puts [
     | inl it ↦ absurd (done_is_no_stop it.0)
     | inr others ↦ elim others [ inl it ↦ absurd (done_is_no_stop it.0) | inr it ↦ absurd (done_is_no_stop it) ]
   ]
+  begins (SoundButForCounts d c) puts one = absurd (whole_is_not_quick (one.finds clean).5)
   begins (Sound d c) puts one = elim puts [
     | inl it ↦ let found = one.finds clean in (
       found.0,
@@ -43,12 +47,12 @@ module _ {D E : Type 0} (g : disk.Ghosts D) (h : disk.Ghosts E) (image again : I
     | inr others ↦ elim others [ inl it ↦ absurd (done_is_no_stop it.0) | inr it ↦ absurd (done_is_no_stop it) ]
   ]
 
-  begins_with : (checked : Result Verdict Failed) → ChecksPath g image capacity checked (Some files) → PutsChecked checked before after (Ok tt)
+  begins_with : (checked : Result Verdict Failed) → ChecksPath false g image capacity checked (Some files) → PutsChecked checked before after (Ok tt)
       → (A : Archive) × Gains before after (verdict_line (Sound (length A.deposits) (length A.censuses))) × LeavesOne h (BecomesBy two (under next A)) left
   begins_with (Err e) checks puts = absurd (done_is_no_stop puts)
   begins_with (Ok v) checks puts = elim checks [
     | inl unopened ↦ absurd (let same : Ok v ≡ Err unopened.0 = unopened.1 in cc)
-    | inr one ↦ begins v puts (subst (λ (all : Files D). IsPathCheck g image capacity (Ok v) all) (sym (some_is one.1)) one.2)
+    | inr one ↦ begins v puts (subst (λ (all : Files D). IsPathCheck false g image capacity (Ok v) all) (sym (some_is one.1)) one.2)
   ]
 
 pub checked_files_begin : {D E : Type 0} (g : disk.Ghosts D) (h : disk.Ghosts E) → CheckedFilesBegin g h

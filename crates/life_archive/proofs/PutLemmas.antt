@@ -4,7 +4,7 @@ use Rattle.life_jobs.specs.declared.stop.Stop.{Stop}
 use Rattle.life_jobs.specs.declared.stop.Stop.TheVariants.{OutOfLimit, BadPattern, BadRule, BadCode, Unreadable, Unavailable, Unwritable}
 use Rattle.life_jobs.specs.Streams.{PutsText, PutsOnce}
 use Rattle.life_check.specs.declared.judging.Verdict.{Verdict}
-use Rattle.life_check.specs.declared.judging.Verdict.TheVariants.{Sound, NotSound}
+use Rattle.life_check.specs.declared.judging.Verdict.TheVariants.{Sound, SoundButForCounts, NotSound}
 use Rattle.life_archive.specs.declared.stop.ArchiveStop.{ArchiveStop}
 use Rattle.life_archive.specs.declared.stop.ArchiveStop.TheVariants as stops
 use Rattle.life_archive.specs.Checking.{verdict_line, answer_of, PutsVerdict, by_output}
@@ -25,6 +25,7 @@ put_answer v before after answer is put = inl (is, put)
 
 by_answer : (v : Verdict) → by_output (answer_of v) ≡ Ok tt
 by_answer (Sound d c) = refl
+by_answer (SoundButForCounts d c) = refl
 by_answer (NotSound w) = refl
 
 pub put_once : {O : Type 0} (old new : O) (a b : ℕ) (last : Bool) (v : Verdict) (answer : Result (Unit {0}) ArchiveStop) → answer ≡ answer_of v → PutsOnce old new a b last (Ok tt) → PutsOnce old new a b last (by_output answer)

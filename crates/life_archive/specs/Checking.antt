@@ -1,5 +1,5 @@
 -- What the program prints of a check of the file of a path, and the job that opens the file next.
-use Rattle.std.specs.Prelude.{◌≡◌, ◌⊎◌, ◌∷◌, ◌++◌, [], ℕ, List, length, codes, Option, Some, Result, Ok, Err}
+use Rattle.std.specs.Prelude.{◌≡◌, ◌⊎◌, ◌∷◌, ◌++◌, [], ℕ, Bool, false, List, length, codes, Option, Some, Result, Ok, Err}
 use Rattle.std.specs.Fmt.{decimal}
 use Rattle.life_core.specs.Ascii.{line_feed}
 use Rattle.sqlite_disk.specs.declared.Disk as disk
@@ -15,7 +15,7 @@ use Rattle.life_jobs.specs.Streams.{PutsOnce}
 use Rattle.life_store.specs.declared.fault.Unavailable.{Unavailable as Failed}
 use Rattle.life_desk.specs.Archive.{Archive}
 use Rattle.life_check.specs.declared.judging.Verdict.{Verdict}
-use Rattle.life_check.specs.declared.judging.Verdict.TheVariants.{Sound, NotSound}
+use Rattle.life_check.specs.declared.judging.Verdict.TheVariants.{Sound, SoundButForCounts, NotSound}
 use Rattle.life_check.specs.declared.judging.Wrong.{Wrong}
 use Rattle.life_check.specs.declared.judging.Wrong.TheVariants as wrong
 use Rattle.life_check.specs.Files.{ChecksPath}
@@ -32,11 +32,13 @@ abbrev pub wrong_words : Wrong → List ℕ
 wrong_words wrong.Tables = codes "the tables are not those of an archive"
 wrong_words wrong.Layout = codes "layout: its row is wrong or missing"
 wrong_words (wrong.Deposit id) = codes "deposit " ++ decimal id ++ codes ": its row is wrong or missing"
+wrong_words (wrong.DepositNames id) = codes "deposit " ++ decimal id ++ codes ": its row is wrong or missing"
 wrong_words (wrong.Census id) = codes "census " ++ decimal id ++ codes ": its row, its counts or its flag are wrong or missing"
 
 -- the result of a check
 abbrev pub verdict_words : Verdict → List ℕ
 verdict_words (Sound d c) = codes "sound: " ++ (decimal d ++ (codes " deposits, " ++ (decimal c ++ codes " censuses")))
+verdict_words (SoundButForCounts d c) = codes "sound but for counts: " ++ (decimal d ++ (codes " deposits, " ++ (decimal c ++ codes " censuses")))
 verdict_words (NotSound w) = wrong_words w
 
 -- its line
@@ -46,6 +48,7 @@ verdict_line v = verdict_words v ++ line_feed ∷ []
 -- the answer once its line was put
 abbrev pub answer_of : Verdict → Result (Unit {0}) ArchiveStop
 answer_of (Sound d c) = Ok tt
+answer_of (SoundButForCounts d c) = Ok tt
 answer_of (NotSound w) = Err stops.NotSound
 
 -- What is put and answered for the result: its line; a prefix of it, if a put failed; or nothing, if memory ran out.
@@ -67,24 +70,24 @@ by_output answer = by_streams answer
 -- ---- the files of a path
 
 -- The file could not be opened, and nothing was put; or it was checked, and what was found was put.
-abbrev pub ChecksAt : {D : Type 0} → disk.Ghosts D → Image → ℕ → Option (List ℕ) → Option (List ℕ) → Result (Unit {0}) ArchiveStop → Option (Files D) → Type 0
-ChecksAt g image capacity before after answer left = (checked : Result Verdict Failed) × ChecksPath g image capacity checked left × PutsChecked checked before after answer
+abbrev pub ChecksAt : {D : Type 0} → Bool → disk.Ghosts D → Image → ℕ → Option (List ℕ) → Option (List ℕ) → Result (Unit {0}) ArchiveStop → Option (Files D) → Type 0
+ChecksAt quick g image capacity before after answer left = (checked : Result Verdict Failed) × ChecksPath quick g image capacity checked left × PutsChecked checked before after answer
 
--- Files were checked, with the answer Ok, and `life serve` or `life deposit` opens them next, maybe on another disk, or what a crash left of them. If the disk was
+-- Files were checked, with each census counted again, and the answer Ok, and `life serve` or `life deposit` opens them next, maybe on another disk, or what a crash left of them. If the disk was
 -- honest, there is an archive A with which that job begins: what it leaves it leaves of A, under its own capacity. The line that was put has the numbers of deposits and
 -- censuses of A. Nothing is supposed about who wrote the files.
 abbrev pub CheckedFilesBegin : {D E : Type 0} → disk.Ghosts D → disk.Ghosts E → Type 0
 CheckedFilesBegin {D} {E} g h =
     (image again : Image) (capacity next : ℕ) (before after : Option (List ℕ)) (files : Files D) (left : Result (Files E) (Files E))
-    → ChecksAt g image capacity before after (Ok tt) (Some files) → (two : PathJob h again next left) → AreClean g files.log files.db → outcomes g files.log files.db again
+    → ChecksAt false g image capacity before after (Ok tt) (Some files) → (two : PathJob h again next left) → AreClean g files.log files.db → outcomes g files.log files.db again
     → (A : Archive) × Gains before after (verdict_line (Sound (length A.deposits) (length A.censuses))) × LeavesOne h (BecomesBy two (under next A)) left
 
 -- ---- what the program prints
 
 -- A check, with the line that is printed if it stops.
-pub record AnswersCheck {D O : Type 0} (g : disk.Ghosts D) (o : outlet.Ghosts O) (image : Image) (capacity : ℕ) (output sent : O) (line : Option (List ℕ)) : Type 0 where
+pub record AnswersCheck {D O : Type 0} (quick : Bool) (g : disk.Ghosts D) (o : outlet.Ghosts O) (image : Image) (capacity : ℕ) (output sent : O) (line : Option (List ℕ)) : Type 0 where
   pub answer : Result (Unit {0}) ArchiveStop
   pub left : Option (Files D)
-  pub checks : ChecksAt g image capacity (o.already output) (o.already sent) answer left
+  pub checks : ChecksAt quick g image capacity (o.already output) (o.already sent) answer left
   pub once : PutsOnce output sent (o.failures output) (o.failures sent) (o.last_failed sent) (by_output answer)
   pub printed : line ≡ line_after answer

@@ -22,6 +22,7 @@ fn wrong_words(alloc: Global, wrong: Wrong) -> Result<Vec<u8>, AllocError>
         Wrong::Tables => "the tables are not those of an archive".to_string(alloc)?,
         Wrong::Layout => "layout: its row is wrong or missing".to_string(alloc)?,
         Wrong::Deposit(id) => format!(in alloc; "deposit {id}: its row is wrong or missing")?,
+        Wrong::DepositNames(id) => format!(in alloc; "deposit {id}: its row is wrong or missing")?,
         Wrong::Census(id) => {
             format!(in alloc; "census {id}: its row, its counts or its flag are wrong or missing")?
         }
@@ -36,6 +37,12 @@ fn verdict_words(alloc: Global, verdict: Verdict) -> Result<Vec<u8>, AllocError>
     match verdict {
         Verdict::Sound(deposits, censuses) => {
             let words = format!(in alloc; "sound: {deposits} deposits, {censuses} censuses")?;
+            Ok(words.into_bytes())
+        }
+        Verdict::SoundButForCounts(deposits, censuses) => {
+            let words = format!(in alloc;
+                "sound but for counts: {deposits} deposits, {censuses} censuses"
+            )?;
             Ok(words.into_bytes())
         }
         Verdict::NotSound(wrong) => wrong_words(alloc, wrong),
@@ -57,6 +64,7 @@ fn answer_of(verdict: Verdict) -> Result<(), ArchiveStop>
 {
     match verdict {
         Verdict::Sound(_, _) => Ok(()),
+        Verdict::SoundButForCounts(_, _) => Ok(()),
         Verdict::NotSound(_) => Err(ArchiveStop::NotSound),
     }
 }
@@ -96,17 +104,18 @@ pub fn run_check<T: Start, O: Outlet>(
     path: &str,
     capacity: u64,
     start: T,
+    quick: bool,
     output: &mut O,
 ) -> (Result<(), ArchiveStop>, Option<Files<FileFrom<T>>>)
-    ensures checks { ChecksAt ⟦<FileFrom<T> as Disk>⟧ (image_at T.Start) capacity (O.already output.old) (O.already output.new) result.0 result.1 }
+    ensures checks { ChecksAt quick ⟦<FileFrom<T> as Disk>⟧ (image_at T.Start) capacity (O.already output.old) (O.already output.new) result.0 result.1 }
     ensures once { PutsOnce output.old output.new (O.failures output.old) (O.failures output.new) (O.last_failed output.new) (by_output result.0) }
 {
-    let (checked, left) = check_path(rt, path, capacity, start);
+    let (checked, left) = check_path(rt, path, capacity, start, quick);
     (put_checked(rt.alloc(), checked, output), left)
 }
 
-/// What `life check` calls sound is an archive, whoever wrote it, and the next `life serve` or `life deposit` begins with it. A law: calling
-/// it does nothing.
+/// What `life check` calls sound, without `--quick`, is an archive, whoever wrote it, and the next `life serve` or `life deposit` begins
+/// with it. A law: calling it does nothing.
 pub fn law_of_checked_files<D: Disk, E: Disk>()
     ensures { CheckedFilesBegin D.Disk E.Disk }
 {}

@@ -1,9 +1,10 @@
 -- The walk over censuses, the rows of their tallies, and their flags.
 use Rattle.std.proofs.Common.{◌≡◌, ◌<◌, ◌≤◌, ◌∙◌, ℕ, zero, suc, ◌+◌, ◌==◌, pos, List, [], ◌∷◌, ◌++◌, length, map, filter, take, slice_get, slice_index_or, Bool, true, false, Option, Some, None, Result, Ok, Err, refl, sym, ap, ap₂, subst, arith}
-use Rattle.std.specs.Prelude.{IsSome, IfOk}
+use Rattle.std.specs.Prelude.{IsSome, IsTrue, IfOk}
 use Rattle.std.specs.Ordering.{is_eq}
 use Rattle.std.specs.List.{AllByRecursion}
 use native.Mathlib.Numerals.{add-one}
+use Rattle.std.proofs.lemmas.List.Sums.{sum_by_push}
 use Rattle.sqlite_value.specs.Order.{Row}
 use Rattle.sqlite_value.specs.declared.value.Value.TheVariants.{Int}
 use Rattle.sqlite_value.proofs.OrderLemmas.{value_cmp-Int}
@@ -13,12 +14,12 @@ use Rattle.life_census.specs.Rows.{TallyCounts}
 use Rattle.life_store.specs.declared.kept.Deposit.{Deposit}
 use Rattle.life_store.specs.declared.kept.Census.{Census}
 use Rattle.life_store.specs.Kept.{Tallied, numbered}
-use Rattle.life_store.specs.Stored.{IsFiled, rows_by, census_cells, count_cells, flag_cells, tagged, counts_from}
+use Rattle.life_store.specs.Stored.{IsFiled, rows_by, deposit_cells, census_cells, count_cells, flag_cells, tagged, counts_from}
 use Rattle.life_store.specs.Tables.{HasOrder}
 use Rattle.life_desk.specs.Archive.{tally_for, steady_for}
 use Rattle.life_desk.specs.Represents.{tallied}
-use Rattle.life_check.specs.ReadState.{count_row, census_row, census_row_of, flag_row, flag_row_of}
-use Rattle.life_check.specs.CountState.{IsCounted, AreCounted, AreFiled, Takes, HasCounted, Follows}
+use Rattle.life_check.specs.ReadState.{count_row, census_row, census_row_of, flag_row, flag_row_of, IsAskable}
+use Rattle.life_check.specs.CountState.{AddsUp, IsCounted, AreCounted, AreFiled, Takes, TakesClusters, HasCounted, Follows}
 use Rattle.life_check.proofs.WalkLemmas.{rows_push, append_none, many_push, good_push, some_is}
 
 abbrev Counted : Type 0
@@ -179,8 +180,8 @@ length_tagged : (id : ℕ) (rows : List Counted) → length (tagged id rows) ≡
 length_tagged id [] = refl
 length_tagged id (r ∷ rows) = omega (arith, length_tagged id rows)
 
-pub counted_begins : (ds : List Deposit) (a b c d : View) → b ≡ with_cursor a 0 (a.trees 3) → c ≡ with_cursor b 1 (b.trees 5) → d ≡ with_cursor c 2 (c.trees 7) → HasCounted ds 0 0 a d
-counted_begins ds a b c d first second third =
+pub counted_begins : (quick : Bool) (ds : List Deposit) (a b c d : View) → b ≡ with_cursor a 0 (a.trees 3) → c ≡ with_cursor b 1 (b.trees 5) → d ≡ with_cursor c 2 (c.trees 7) → HasCounted quick ds 0 0 a d
+counted_begins quick ds a b c d first second third =
     let trees_b : b.trees ≡ a.trees = ap (λ (v : View). v.trees) first in
     let trees_c : c.trees ≡ a.trees = ap (λ (v : View). v.trees) second ∙ trees_b in
     record {
@@ -188,7 +189,6 @@ counted_begins ds a b c d first second third =
       done = [];
       many = refl;
       good = tt;
-      ordered = tt;
       reads = refl;
       left = a.trees 3;
       at = ap (λ (v : View). v.cursors 0) third ∙ ap (λ (v : View). v.cursors 0) second ∙ ap (λ (v : View). v.cursors 0) first;
@@ -202,9 +202,9 @@ counted_begins ds a b c d first second third =
     }
 
 -- one census more
-pub counted_more : (ds : List Deposit) (n read more : ℕ) (old now then last : View) (row : Row) → HasCounted ds n read old now → Advances now then 0 row true → Follows ds (n + 1) read more row then last
-    → HasCounted ds (n + 1) more old last
-counted_more ds n read more old now then last row before goes it =
+pub counted_more : (quick : Bool) (ds : List Deposit) (n read more : ℕ) (old now then last : View) (row : Row) → HasCounted quick ds n read old now → Advances now then 0 row true → Follows quick ds (n + 1) read more row then last
+    → HasCounted quick ds (n + 1) more old last
+counted_more quick ds n read more old now then last row before goes it =
     let t = it.census in
     let number : n + 1 ≡ 1 + length before.done = omega (arith, before.many) in
     let left : before.left ≡ row ∷ goes.0 = some_is _ _ (sym before.at ∙ goes.1) in
@@ -218,8 +218,7 @@ counted_more ds n read more old now then last row before goes it =
       trees = it.flag.trees ∙ it.counts.trees ∙ ap (λ (v : View). v.trees) goes.2 ∙ before.trees;
       done = before.done ++ t ∷ [];
       many = many_push before.done t ∙ ap (λ k. k + 1) before.many;
-      good = good_push (IsCounted ds) before.done t before.good it.good;
-      ordered = good_push (λ (x : Tallied). HasOrder x.tally) before.done t before.ordered it.ordered;
+      good = good_push (IsCounted quick ds) before.done t before.good it.good;
       reads = ap length counts ∙ length_append (counts_from 1 before.done) (tagged (n + 1) t.tally.rows) ∙ ap₂ ◌+◌ before.reads (length_tagged (n + 1) t.tally.rows) ∙ sym it.more_is;
       left = goes.0;
       at = it.flag.others 0 refl ∙ it.counts.others 0 refl ∙ ap (λ (v : View). v.cursors 0) goes.2;
@@ -235,8 +234,8 @@ counted_more ds n read more old now then last row before goes it =
     }
 
 -- there is no other
-pub counted_all : (ds : List Deposit) (n read : ℕ) (old now then : View) (row : Row) → HasCounted ds n read old now → Advances now then 0 row false → then.cursors 1 ≡ Some [] → then.cursors 2 ≡ Some [] → AreCounted old.trees ds n
-counted_all ds n read old now then row before goes no_counts no_flags =
+pub counted_all : (quick : Bool) (ds : List Deposit) (n read : ℕ) (old now then : View) (row : Row) → HasCounted quick ds n read old now → Advances now then 0 row false → then.cursors 1 ≡ Some [] → then.cursors 2 ≡ Some [] → AreCounted quick old.trees ds n
+counted_all quick ds n read old now then row before goes no_counts no_flags =
     let left : before.left ≡ [] = some_is _ _ (sym before.at ∙ goes.0) in
     let left_counts : before.left_counts ≡ [] = some_is _ _ (sym before.at_counts ∙ sym (ap (λ (v : View). v.cursors 1) goes.1) ∙ no_counts) in
     let left_flags : before.left_flags ≡ [] = some_is _ _ (sym before.at_flags ∙ sym (ap (λ (v : View). v.cursors 2) goes.1) ∙ no_flags) in
@@ -244,11 +243,73 @@ counted_all ds n read old now then row before goes no_counts no_flags =
       censuses = before.done;
       many = before.many;
       good = before.good;
-      ordered = before.ordered;
       rows = before.rows ∙ ap (λ l. rows_by census_cells 1 before.done ++ l) left ∙ append_none (rows_by census_cells 1 before.done);
       counts = before.counts ∙ ap (λ l. rows_by count_cells 1 (counts_from 1 before.done) ++ l) left_counts ∙ append_none (rows_by count_cells 1 (counts_from 1 before.done));
       flags = before.flags ∙ ap (λ l. rows_by flag_cells 1 before.done ++ l) left_flags ∙ append_none (rows_by flag_cells 1 before.done);
     }
+
+-- ---- a census that is not counted
+
+tagged_push : (id : ℕ) (rows : List Counted) (r : Counted) → tagged id (rows ++ r ∷ []) ≡ tagged id rows ++ (id, r) ∷ []
+tagged_push id [] r = refl
+tagged_push id (x ∷ rows) r = ap (λ all. (id, x) ∷ all) (tagged_push id rows r)
+
+pub clusters_none : (id before : ℕ) (v : View) → IsSome (v.cursors 1) → TakesClusters id 0 before before v v
+clusters_none id before v live = record { rows = []; are = refl; more_is = omega arith; takes = takes_none 1 v live }
+
+-- one row of a tally more
+pub clusters_more : (id taken before at n : ℕ) (code : List ℕ) (a b c : View) → TakesClusters id taken before at a b → Takes 1 (count_row (at + 1) (id, (code, n)) ∷ []) b c → TakesClusters id (taken + n) before (at + 1) a c
+clusters_more id taken before at n code a b c so_far one =
+    let rows = so_far.rows in
+    let number : at + 1 ≡ (before + 1) + length (tagged id rows) = omega (arith, so_far.more_is, length_tagged id rows) in
+    let all : rows_by count_cells (before + 1) (tagged id rows) ++ count_row (at + 1) (id, (code, n)) ∷ [] ≡ rows_by count_cells (before + 1) (tagged id (rows ++ (code, n) ∷ [])) =
+    ap (λ k. rows_by count_cells (before + 1) (tagged id rows) ++ count_row k (id, (code, n)) ∷ []) number
+    ∙ rows_push count_cells (tagged id rows) (before + 1) (id, (code, n)) []
+    ∙ append_none (rows_by count_cells (before + 1) (tagged id rows ++ (id, (code, n)) ∷ []))
+    ∙ ap (rows_by count_cells (before + 1)) (sym (tagged_push id rows (code, n))) in
+    record {
+      rows = rows ++ (code, n) ∷ [];
+      are = sum_by_push (λ (row : Counted). row.1) rows (code, n) ∙ ap (λ k. k + n) so_far.are;
+      more_is = omega (arith, so_far.more_is, many_push rows (code, n));
+      takes = subst (λ l. Takes 1 l a c) all (takes_then 1 (rows_by count_cells (before + 1) (tagged id rows)) (count_row (at + 1) (id, (code, n)) ∷ []) a b c so_far.takes one);
+    }
+
+some_of : {X : Type 0} (o : Option X) → IsSome o → (x : X) × (o ≡ Some x)
+some_of None there = absurd cc
+some_of (Some x) there = (x, refl)
+
+-- a census that has some tally and some flag, whose row, rows and flag were met
+pub follows_uncounted : (ds : List Deposit) (id before more : ℕ) (row : Row) (a b m z : View) (C : Census) (total unresolved clusters : ℕ) (s : Bool) → IsAskable C → IsSome (numbered ds C.deposit) → clusters + unresolved ≡ total
+    → row ≡ census_row_of id C total unresolved → b ≡ a → TakesClusters id clusters before more b m → Takes 2 (flag_row_of id s ∷ []) m z → Follows true ds id before more row a z
+follows_uncounted ds id before more row a b m z C total unresolved clusters s askable there whole row_is same taken last =
+    let t : Tallied = record { census = C; tally = record { rows = taken.rows; unresolved = unresolved; total = total }; steady = s } in
+    let found = some_of (numbered ds C.deposit) there in
+    let is_quick : true ≡ false → ⊥ = λ e. cc in
+    record {
+      census = t;
+      good = record {
+        askable = askable;
+        deposit = found.0;
+        there = found.1;
+        adds_up = ap (λ n. n + unresolved) taken.are ∙ whole;
+        is = λ e. absurd (is_quick e);
+        ordered = λ e. absurd (is_quick e);
+      };
+      row_is = row_is;
+      more_is = taken.more_is;
+      middle = m;
+      counts = subst (λ (v : View). Takes 1 (rows_by count_cells (before + 1) (tagged id taken.rows)) v m) same taken.takes;
+      flag = last;
+    }
+
+no_truth : IsTrue false → ⊥
+no_truth it = cc
+
+-- a deposit that was found is there
+pub there_if : {E P : Type 0} (trees : Trees) (id : ℕ) (r : Result Bool E) (row : Row) → P → IfOk r (λ found. P → Finds (trees 1) (pos id) row found) → IfOk r (λ b. IsTrue b → (ds : List Deposit) → AreFiled trees ds → IsSome (numbered ds id))
+there_if trees id (Ok true) row here finds = λ it_is ds filed. let it = found_row deposit_cells id (trees 1) row ds filed.0 (finds here) in subst IsSome (sym it.1) refl
+there_if trees id (Ok false) row here finds = λ it_is ds filed. absurd (no_truth it_is)
+there_if trees id (Err e) row here finds = tt
 
 -- what is so for each list of deposits is so of the answer
 pub each_ok : {E : Type 0} (trees : Trees) (id : ℕ) (r : Result (Option Deposit) E) → ((ds : List Deposit) → AreFiled trees ds → IfOk r (λ o. o ≡ numbered ds id)) → IfOk r (λ o. (ds : List Deposit) → AreFiled trees ds → o ≡ numbered ds id)
@@ -261,15 +322,14 @@ length_mapped f (x ∷ xs) = omega (arith, length_mapped f xs)
 
 -- a census that was counted anew, whose row, rows and flag were met
 pub follows : {R : Type 0} (seen : R → Counted) (ds : List Deposit) (id before more : ℕ) (row : Row) (a b m z : View) (C : Census) (d : Deposit) (T : TallyCounts) (s : Bool) (rs : List R)
-    → Some d ≡ numbered ds C.deposit → T ≡ tally_for C (Some d) → s ≡ steady_for C (Some d) → HasOrder T → row ≡ census_row_of id C T → b ≡ a → map seen rs ≡ T.rows
-    → (more ≡ before + length rs) × Takes 1 (rows_by count_cells (before + 1) (tagged id (map seen rs))) b m → Takes 2 (flag_row_of id s ∷ []) m z → Follows ds id before more row a z
-follows seen ds id before more row a b m z C d T s rs there tally flag ordered row_is same rows taken last =
+    → IsAskable C → Some d ≡ numbered ds C.deposit → T ≡ tally_for C (Some d) → s ≡ steady_for C (Some d) → HasOrder T → AddsUp T → row ≡ census_row_of id C T.total T.unresolved → b ≡ a → map seen rs ≡ T.rows
+    → (more ≡ before + length rs) × Takes 1 (rows_by count_cells (before + 1) (tagged id (map seen rs))) b m → Takes 2 (flag_row_of id s ∷ []) m z → Follows false ds id before more row a z
+follows seen ds id before more row a b m z C d T s rs askable there tally flag ordered adds_up row_is same rows taken last =
     let t : Tallied = record { census = C; tally = T; steady = s } in
     let counted : t ≡ tallied ds C = ap₂ (λ (x : TallyCounts) (y : Bool). let it : Tallied = record { census = C; tally = x; steady = y } in it) (tally ∙ ap (tally_for C) there) (flag ∙ ap (steady_for C) there) in
     record {
       census = t;
-      good = record { deposit = d; there = sym there; is = counted };
-      ordered = ordered;
+      good = record { askable = askable; deposit = d; there = sym there; adds_up = adds_up; is = λ whole. counted; ordered = λ whole. ordered };
       row_is = row_is;
       more_is = taken.0 ∙ ap (λ n. before + n) (sym (length_mapped seen rs) ∙ ap length rows);
       middle = m;
@@ -278,5 +338,5 @@ follows seen ds id before more row a b m z C d T s rs there tally flag ordered r
     }
 
 -- the trees are still those of these deposits
-pub filed_then : (ds : List Deposit) (n read : ℕ) (old now then : View) (row : Row) → HasCounted ds n read old now → Advances now then 0 row true → AreFiled old.trees ds → AreFiled then.trees ds
-filed_then ds n read old now then row before goes filed = subst (λ (trees : Trees). AreFiled trees ds) (sym (ap (λ (v : View). v.trees) goes.2 ∙ before.trees)) filed
+pub filed_then : (quick : Bool) (ds : List Deposit) (n read : ℕ) (old now then : View) (row : Row) → HasCounted quick ds n read old now → Advances now then 0 row true → AreFiled old.trees ds → AreFiled then.trees ds
+filed_then quick ds n read old now then row before goes filed = subst (λ (trees : Trees). AreFiled trees ds) (sym (ap (λ (v : View). v.trees) goes.2 ∙ before.trees)) filed

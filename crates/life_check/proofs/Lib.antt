@@ -2,3 +2,4 @@ pub mod WalkLemmas
 pub mod CountLemmas
 pub mod SoundLemmas
 pub mod FileLemmas
+pub mod NameLemmas

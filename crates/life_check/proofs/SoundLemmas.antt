@@ -1,68 +1,121 @@
 -- Tables whose rows were read and judged represent an archive.
-use Rattle.std.proofs.Common.{◌≡◌, ◌<◌, ◌∙◌, ℕ, ◌^◌, List, [], ◌∷◌, length, map, Result, Ok, Err, refl, sym, ap₂, subst, arith}
+use Rattle.std.proofs.Common.{◌≡◌, ◌<◌, ◌∙◌, ℕ, ◌^◌, List, [], ◌∷◌, length, map, Bool, true, false, Result, Ok, Err, refl, sym, ap₂, subst, arith}
 use Rattle.std.specs.Prelude.{IsSome, IfOk, OnOk}
 use Rattle.std.specs.List.{AllByRecursion}
 use Rattle.sqlite_trees.specs.Tree.{Trees}
 use Rattle.life_store.specs.declared.kept.Deposit.{Deposit}
-use Rattle.life_store.specs.Kept.{Kept, Tallied}
-use Rattle.life_store.specs.Stored.{IsFiled, deposit_cells}
-use Rattle.life_store.specs.Tables.{ArchiveView, Holds, version_2}
+use Rattle.life_store.specs.Kept.{Tallied}
+use Rattle.life_store.specs.Stored.{IsFiled}
+use Rattle.life_store.specs.Tables.{ArchiveView, HasOrder, Holds}
 use Rattle.life_desk.specs.Archive.{Archive}
 use Rattle.life_desk.specs.Represents.{tallied, Represents, EachHasDeposit}
-use Rattle.life_check.specs.ReadState.{AreOf}
-use Rattle.life_check.specs.CountState.{IsCounted, AreCounted, AreFiled}
+use Rattle.life_check.specs.ReadState.{AreNames, IsAskable, IsNamed}
+use Rattle.life_check.specs.CountState.{AddsUp, IsCounted, AreCounted}
 use Rattle.life_store.specs.Layout.{archive_schema}
 use Rattle.life_store.specs.TreesOf.{AreTreesOf}
 use Rattle.life_check.specs.declared.judging.Verdict.{Verdict}
-use Rattle.life_check.specs.declared.judging.Verdict.TheVariants.{Sound, NotSound}
-use Rattle.life_check.specs.Sound.{FindsSound, FindsWrong, RepresentsSome, RepresentsNone}
+use Rattle.life_check.specs.declared.judging.Verdict.TheVariants.{Sound, SoundButForCounts, NotSound}
+use Rattle.life_check.specs.Sound.{AreSound, FindsSound, FindsWrong, IsAskedFor, RepresentsButForCounts, RepresentsSome, RepresentsNone}
 use Rattle.life_check.specs.declared.judging.Wrong.{Wrong}
 use Rattle.life_check.specs.declared.judging.Wrong.TheVariants as wrong
 
 -- what is counted anew is what was counted
-same_tallied : (ds : List Deposit) (ts : List Tallied) → AllByRecursion (IsCounted ds) ts → map (tallied ds) (map (λ (t : Tallied). t.census) ts) ≡ ts
+same_tallied : (ds : List Deposit) (ts : List Tallied) → AllByRecursion (IsCounted false ds) ts → map (tallied ds) (map (λ (t : Tallied). t.census) ts) ≡ ts
 same_tallied ds [] all = refl
-same_tallied ds (t ∷ ts) all = ap₂ (λ x xs. x ∷ xs) (sym all.0.is) (same_tallied ds ts all.1)
+same_tallied ds (t ∷ ts) all = ap₂ (λ x xs. x ∷ xs) (sym (all.0.is refl)) (same_tallied ds ts all.1)
 
-each_there : (ds : List Deposit) (ts : List Tallied) → AllByRecursion (IsCounted ds) ts → EachHasDeposit ds (map (λ (t : Tallied). t.census) ts)
-each_there ds [] all = tt
-each_there ds (t ∷ ts) all = (subst IsSome (sym all.0.there) refl, each_there ds ts all.1)
+each_there : (quick : Bool) (ds : List Deposit) (ts : List Tallied) → AllByRecursion (IsCounted quick ds) ts → EachHasDeposit ds (map (λ (t : Tallied). t.census) ts)
+each_there quick ds [] all = tt
+each_there quick ds (t ∷ ts) all = (subst IsSome (sym all.0.there) refl, each_there quick ds ts all.1)
+
+all_askable : (quick : Bool) (ds : List Deposit) (ts : List Tallied) → AllByRecursion (IsCounted quick ds) ts → AllByRecursion IsAskable (map (λ (t : Tallied). t.census) ts)
+all_askable quick ds [] all = tt
+all_askable quick ds (t ∷ ts) all = (all.0.askable, all_askable quick ds ts all.1)
 
 many_mapped : {A B : Type 0} (f : A → B) (xs : List A) → length (map f xs) ≡ length xs
 many_mapped f [] = refl
 many_mapped f (x ∷ xs) = omega (arith, many_mapped f xs)
 
-pub represented : {S : Type 0} (a : ArchiveView S) (trees : Trees) (d c : ℕ) → a.tables.schema ≡ archive_schema → AreTreesOf a.tables trees → trees 0 ≡ version_2 → AreOf deposit_cells IsFiled (trees 1) d → d < 2 ^ 63 → c < 2 ^ 63
-    → ((ds : List Deposit) → AreFiled trees ds → AreCounted trees ds c) → (A : Archive) × Represents a A × (length A.deposits ≡ d) × (length A.censuses ≡ c)
+all_more : {X : Type 0} (P Q : X → Type 0) → ((x : X) → P x → Q x) → (xs : List X) → AllByRecursion P xs → AllByRecursion Q xs
+all_more P Q more [] all = tt
+all_more P Q more (x ∷ xs) all = (more x all.0, all_more P Q more xs all.1)
+
+-- the archive of what was read, which requests can ask for
+module _ {S : Type 0} (a : ArchiveView S) (trees : Trees) (quick : Bool) (d c : ℕ) (schema : a.tables.schema ≡ archive_schema) (has : AreTreesOf a.tables trees) (sound : AreSound quick trees d c) where
+  filed : AllByRecursion IsFiled sound.filed.0
+  filed = all_more IsNamed IsFiled (λ x named. named.filed) sound.filed.0 sound.filed.2
+
+  abbrev read : AreCounted quick trees sound.filed.0 c
+  read = sound.counted sound.filed.0 (sound.filed.1, filed)
+
+  holds_read : AllByRecursion (λ (t : Tallied). HasOrder t.tally) read.censuses → Holds a.tables (record { deposits = sound.filed.0; censuses = read.censuses })
+  holds_read ordered = record {
+    schema = schema;
+    committed = has.committed;
+    layout = has.layout ∙ sound.version;
+    deposits = has.deposits ∙ sound.filed.1;
+    censuses = has.censuses ∙ read.rows;
+    census_rows = has.census_rows ∙ read.counts;
+    census_flags = has.census_flags ∙ read.flags;
+    filed = filed;
+    ordered = ordered;
+    few_deposits = subst (λ n. n < 2 ^ 63) (sym sound.filed.3) sound.few_deposits;
+    few_censuses = subst (λ n. n < 2 ^ 63) (sym read.many) sound.few_censuses;
+  }
+
+  abbrev archive : Archive
+  archive = record { deposits = sound.filed.0; censuses = map (λ (t : Tallied). t.census) read.censuses; capacity = a.capacity }
+
+  asked_for : IsAskedFor archive
+  asked_for = record {
+    deposits = all_more IsNamed (λ (x : Deposit). AreNames x.member x.token) (λ x named. named.named) sound.filed.0 sound.filed.2;
+    censuses = all_askable quick sound.filed.0 read.censuses read.good;
+  }
+
+  many_censuses : length archive.censuses ≡ c
+  many_censuses = many_mapped (λ (t : Tallied). t.census) read.censuses ∙ read.many
+
+pub represented : {S : Type 0} (a : ArchiveView S) (trees : Trees) (d c : ℕ) → a.tables.schema ≡ archive_schema → AreTreesOf a.tables trees → AreSound false trees d c
+    → (A : Archive) × Represents a A × (length A.deposits ≡ d) × (length A.censuses ≡ c) × IsAskedFor A
 unfolding Represents
-represented a trees d c schema has version filed few_d few_c counts =
-    let ds = filed.0 in
-    let it = counts ds (filed.1, filed.2) in
-    let ts = it.censuses in
-    let k : Kept = record { deposits = ds; censuses = ts } in
-    let holds : Holds a.tables k = record {
-      schema = schema;
-      committed = has.committed;
-      layout = has.layout ∙ version;
-      deposits = has.deposits ∙ filed.1;
-      censuses = has.censuses ∙ it.rows;
-      census_rows = has.census_rows ∙ it.counts;
-      census_flags = has.census_flags ∙ it.flags;
-      filed = filed.2;
-      ordered = it.ordered;
-      few_deposits = subst (λ n. n < 2 ^ 63) (sym filed.3) few_d;
-      few_censuses = subst (λ n. n < 2 ^ 63) (sym it.many) few_c;
-    } in
-    let A : Archive = record { deposits = ds; censuses = map (λ (t : Tallied). t.census) ts; capacity = a.capacity } in (
-      A,
+represented a trees d c schema has sound =
+    let ds = sound.filed.0 in
+    let it = read a trees false d c schema has sound in
+    let ordered = all_more (IsCounted false ds) (λ (t : Tallied). HasOrder t.tally) (λ t counted. counted.ordered refl) it.censuses it.good in (
+      archive a trees false d c schema has sound,
       record {
         capacity = refl;
-        each = each_there ds ts it.good;
-        holds = subst (λ (all : List Tallied). Holds a.tables (record { deposits = ds; censuses = all })) (sym (same_tallied ds ts it.good)) holds;
+        each = each_there false ds it.censuses it.good;
+        holds = subst (λ (all : List Tallied). Holds a.tables (record { deposits = ds; censuses = all })) (sym (same_tallied ds it.censuses it.good)) (holds_read a trees false d c schema has sound ordered);
       },
-      filed.3,
-      many_mapped (λ (t : Tallied). t.census) ts ∙ it.many,
+      sound.filed.3,
+      many_censuses a trees false d c schema has sound,
+      asked_for a trees false d c schema has sound,
     )
+
+pub represented_uncounted : {S : Type 0} (a : ArchiveView S) (trees : Trees) (d c : ℕ) → a.tables.schema ≡ archive_schema → AreTreesOf a.tables trees → AreSound true trees d c
+    → (A : Archive) × RepresentsButForCounts a A × (length A.deposits ≡ d) × (length A.censuses ≡ c) × IsAskedFor A
+represented_uncounted a trees d c schema has sound =
+    let ds = sound.filed.0 in
+    let it = read a trees true d c schema has sound in (
+      archive a trees true d c schema has sound,
+      record {
+        capacity = refl;
+        each = each_there true ds it.censuses it.good;
+        counts = it.censuses;
+        are = refl;
+        add_up = all_more (IsCounted true ds) (λ (t : Tallied). AddsUp t.tally) (λ t counted. counted.adds_up) it.censuses it.good;
+        holds = holds_read a trees true d c schema has sound;
+      },
+      sound.filed.3,
+      many_censuses a trees true d c schema has sound,
+      asked_for a trees true d c schema has sound,
+    )
+
+-- the deposits of an archive, with what a table keeps of them
+all_named : (ds : List Deposit) → AllByRecursion IsFiled ds → AllByRecursion (λ (d : Deposit). AreNames d.member d.token) ds → AllByRecursion IsNamed ds
+all_named [] kept names = tt
+all_named (d ∷ ds) kept names = (record { filed = kept.0; named = names.0 }, all_named ds kept.1 names.1)
 
 -- what is wrong with the trees is wrong with every archive
 none_is : {S : Type 0} (a : ArchiveView S) (trees : Trees) (w : Wrong) → AreTreesOf a.tables trees → FindsWrong trees w → RepresentsNone a w
@@ -70,16 +123,18 @@ unfolding Represents
 none_is a trees wrong.Tables has bad = tt
 none_is a trees wrong.Layout has bad = λ A m. bad (sym has.layout ∙ m.holds.layout)
 none_is a trees (wrong.Deposit id) has bad = λ A m. bad A.deposits (sym has.deposits ∙ m.holds.deposits) m.holds.filed
+none_is a trees (wrong.DepositNames id) has bad = λ A asked m. bad A.deposits (sym has.deposits ∙ m.holds.deposits) (all_named A.deposits m.holds.filed asked.deposits)
 none_is a trees (wrong.Census id) has bad = tt
 
 -- what was found of the trees, said of the archive
-pub sound_is : {S : Type 0} (a : ArchiveView S) (trees : Trees) (v : Verdict) → a.tables.schema ≡ archive_schema → AreTreesOf a.tables trees → FindsSound trees v → RepresentsSome a v
-sound_is a trees (Sound d c) schema has it = represented a trees d c schema has it.version it.filed it.few_deposits it.few_censuses it.counted
-sound_is a trees (NotSound w) schema has it = none_is a trees w has it
+pub sound_is : {S : Type 0} (quick : Bool) (a : ArchiveView S) (trees : Trees) (v : Verdict) → a.tables.schema ≡ archive_schema → AreTreesOf a.tables trees → FindsSound quick trees v → RepresentsSome quick a v
+sound_is quick a trees (Sound d c) schema has it = let found = represented a trees d c schema has (subst (λ q. AreSound q trees d c) it.1 it.0) in (found.0, found.1, found.2, found.3, found.4, it.1)
+sound_is quick a trees (SoundButForCounts d c) schema has it = let found = represented_uncounted a trees d c schema has (subst (λ q. AreSound q trees d c) it.1 it.0) in (found.0, found.1, found.2, found.3, found.4, it.1)
+sound_is quick a trees (NotSound w) schema has it = none_is a trees w has it
 
-pub ok_sound : {S E : Type 0} (a : ArchiveView S) (trees : Trees) (r : Result Verdict E) → a.tables.schema ≡ archive_schema → OnOk r (AreTreesOf a.tables trees) → IfOk r (FindsSound trees) → IfOk r (RepresentsSome a)
-ok_sound a trees (Ok v) schema has it = sound_is a trees v schema has it
-ok_sound a trees (Err e) schema has it = tt
+pub ok_sound : {S E : Type 0} (quick : Bool) (a : ArchiveView S) (trees : Trees) (r : Result Verdict E) → a.tables.schema ≡ archive_schema → OnOk r (AreTreesOf a.tables trees) → IfOk r (FindsSound quick trees) → IfOk r (RepresentsSome quick a)
+ok_sound quick a trees (Ok v) schema has it = sound_is quick a trees v schema has it
+ok_sound quick a trees (Err e) schema has it = tt
 
 pub on_ok_then : {A E P Q : Type 0} (r : Result A E) → OnOk r P → (P → Q) → OnOk r Q
 on_ok_then (Ok x) here says = says here

@@ -1,5 +1,5 @@
 -- A walk over the rows of a table, row by row.
-use Rattle.std.proofs.Common.{◌≡◌, ◌∙◌, ℕ, ◌+◌, pos, List, [], ◌∷◌, ◌++◌, length, true, false, Some, refl, sym, ap, subst, arith}
+use Rattle.std.proofs.Common.{◌≡◌, ◌∙◌, ℕ, ◌+◌, pos, List, [], ◌∷◌, ◌++◌, length, Bool, true, false, IsTrue, Some, refl, sym, ap, subst, arith}
 use Rattle.std.specs.List.{AllByRecursion}
 use Rattle.sqlite_value.specs.Order.{Row}
 use Rattle.sqlite_value.specs.declared.value.Value.TheVariants.{Int}
@@ -75,9 +75,9 @@ at_place f P from (d ∷ done) (x ∷ xs) row more e all =
     (it.0, it.1, it.2 ∙ ap (λ n. Int (pos n) ∷ f it.0) (omega arith))
 
 -- one that is not as it should be
-pub read_none : {X : Type 0} (f : X → Row) (P : X → Type 0) (n : ℕ) (rows more : List Row) (row : Row) → IsReadUpTo f P n rows (row ∷ more) → ((x : X) × P x × (row ≡ Int (pos (n + 1)) ∷ f x) → ⊥) → AreNone f P rows
-read_none f P n rows more row before bad xs is all =
-    let it = at_place f P 1 before.done xs row more (sym before.are ∙ is) all in
+pub read_none : {X : Type 0} (f : X → Row) (P Q : X → Type 0) (n : ℕ) (rows more : List Row) (row : Row) → IsReadUpTo f P n rows (row ∷ more) → ((x : X) × Q x × (row ≡ Int (pos (n + 1)) ∷ f x) → ⊥) → AreNone f Q rows
+read_none f P Q n rows more row before bad xs is all =
+    let it = at_place f Q 1 before.done xs row more (sym before.are ∙ is) all in
     let number : 1 + length before.done ≡ n + 1 = omega (arith, before.many) in
     bad (it.0, it.1, it.2 ∙ ap (λ k. Int (pos k) ∷ f it.0) number)
 
@@ -112,6 +112,9 @@ walk_row f P cursor table n old now then row before goes =
     here : (cursor : ℕ) (rows : List Row) (v : View) → (with_cursor v cursor rows).cursors cursor ≡ Some rows
     here cursor rows v = grind arith
 
+pub no_both : (b : Bool) → IsTrue b → b ≡ false → ⊥
+no_both b it other = cc
+
 -- it is the next element's
 pub walk_more : {X : Type 0} (f : X → Row) (P : X → Type 0) (cursor table n : ℕ) (old now then : View) (row : Row) (x : X) → HasWalked f P cursor table n old now → Advances now then cursor row true
     → P x → row ≡ Int (pos (n + 1)) ∷ f x → HasWalked f P cursor table (n + 1) old then
@@ -120,11 +123,11 @@ walk_more f P cursor table n old now then row x before goes good is =
     record { kept = it.0; left = it.1; at = it.2; read = read_more f P n (old.trees table) it.1 row x it.3 good is }
 
 -- it is none's
-pub walk_wrong : {X : Type 0} (f : X → Row) (P : X → Type 0) (cursor table n : ℕ) (old now then : View) (row : Row) → HasWalked f P cursor table n old now → Advances now then cursor row true
-    → ((x : X) × P x × (row ≡ Int (pos (n + 1)) ∷ f x) → ⊥) → AreNone f P (old.trees table) × KeepsTrees old then
-walk_wrong f P cursor table n old now then row before goes bad =
+pub walk_wrong : {X : Type 0} (f : X → Row) (P Q : X → Type 0) (cursor table n : ℕ) (old now then : View) (row : Row) → HasWalked f P cursor table n old now → Advances now then cursor row true
+    → ((x : X) × Q x × (row ≡ Int (pos (n + 1)) ∷ f x) → ⊥) → AreNone f Q (old.trees table) × KeepsTrees old then
+walk_wrong f P Q cursor table n old now then row before goes bad =
     let it = walk_row f P cursor table n old now then row before goes in
-    (read_none f P n (old.trees table) it.1 row it.3 bad, it.0)
+    (read_none f P Q n (old.trees table) it.1 row it.3 bad, it.0)
 
 -- there was no row
 pub walk_ends : {X : Type 0} (f : X → Row) (P : X → Type 0) (cursor table n : ℕ) (old now then : View) (row : Row) → HasWalked f P cursor table n old now → Advances now then cursor row false

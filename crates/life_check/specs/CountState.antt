@@ -1,30 +1,38 @@
 -- The state while the censuses of an archive are read, with the rows of their tallies and their flags, and the results.
-use Rattle.std.specs.Prelude.{◌≡◌, ◌<◌, ◌+◌, ◌^◌, ◌==◌, ⊤, ℕ, false, List, [], ◌∷◌, ◌++◌, length, Some}
+use Rattle.std.specs.Prelude.{◌≡◌, ◌<◌, ◌+◌, ◌^◌, ◌==◌, ⊤, ℕ, Bool, false, List, [], ◌∷◌, ◌++◌, length, sum_by, Some}
 use Rattle.std.specs.List.{AllByRecursion}
 use Rattle.sqlite_value.specs.Order.{Row}
 use Rattle.sqlite_trees.specs.Tree.{Trees}
 use Rattle.sqlite_trees.specs.View.{View}
+use Rattle.life_census.specs.Rows.{TallyCounts}
 use Rattle.life_store.specs.declared.kept.Deposit.{Deposit}
 use Rattle.life_store.specs.Kept.{Tallied, numbered}
 use Rattle.life_store.specs.Stored.{IsFiled, rows_by, deposit_cells, census_cells, count_cells, flag_cells, tagged, counts_from}
 use Rattle.life_store.specs.Tables.{HasOrder}
 use Rattle.life_desk.specs.Represents.{tallied}
 use Rattle.life_check.specs.declared.walk.Found.{Found}
-use Rattle.life_check.specs.declared.walk.Found.TheVariants.{All, Wrong}
-use Rattle.life_check.specs.ReadState.{census_row, flag_row}
+use Rattle.life_check.specs.declared.walk.Found.TheVariants.{All}
+use Rattle.life_check.specs.ReadState.{census_row, flag_row, IsAskable}
 
--- The census's deposit exists, and its tally and its flag are those of its generation.
-pub record IsCounted (ds : List Deposit) (t : Tallied) : Type 0 where
+-- The counts of a tally and its clusters without a code are all its clusters.
+abbrev pub AddsUp : TallyCounts → Type 0
+AddsUp t = sum_by (λ (row : List ℕ × ℕ). row.1) t.rows + t.unresolved ≡ t.total
+
+-- A request can ask for the census, its deposit exists, and its tally adds up. Unless the check is quick, its tally and its flag are those of its generation,
+-- and the rows of the tally are in order.
+pub record IsCounted (quick : Bool) (ds : List Deposit) (t : Tallied) : Type 0 where
+  pub askable : IsAskable t.census
   pub deposit : Deposit
   pub there : numbered ds t.census.deposit ≡ Some deposit
-  pub is : t ≡ tallied ds t.census
+  pub adds_up : AddsUp t.tally
+  pub is : quick ≡ false → t ≡ tallied ds t.census
+  pub ordered : quick ≡ false → HasOrder t.tally
 
--- all rows of the three tables are those of n censuses of these deposits, counted
-pub record AreCounted (trees : Trees) (ds : List Deposit) (n : ℕ) : Type 0 where
+-- all rows of the three tables are those of n censuses of these deposits
+pub record AreCounted (quick : Bool) (trees : Trees) (ds : List Deposit) (n : ℕ) : Type 0 where
   pub censuses : List Tallied
   pub many : length censuses ≡ n
-  pub good : AllByRecursion (IsCounted ds) censuses
-  pub ordered : AllByRecursion (λ t. HasOrder t.tally) censuses
+  pub good : AllByRecursion (IsCounted quick ds) censuses
   pub rows : trees 3 ≡ rows_by census_cells 1 censuses
   pub counts : trees 5 ≡ rows_by count_cells 1 (counts_from 1 censuses)
   pub flags : trees 7 ≡ rows_by flag_cells 1 censuses
@@ -34,9 +42,9 @@ abbrev pub AreFiled : Trees → List Deposit → Type 0
 AreFiled trees ds = (trees 1 ≡ rows_by deposit_cells 1 ds) × AllByRecursion IsFiled ds
 
 -- the result for the three tables
-abbrev pub FindsCounted : Trees → Found → Type 0
-FindsCounted trees (All n) = ((ds : List Deposit) → AreFiled trees ds → AreCounted trees ds n) × (n < 2 ^ 63)
-FindsCounted trees (Wrong n) = ⊤
+abbrev pub FindsCounted : Bool → Trees → Found → Type 0
+FindsCounted quick trees (All n) = ((ds : List Deposit) → AreFiled trees ds → AreCounted quick trees ds n) × (n < 2 ^ 63)
+FindsCounted quick trees other = ⊤
 
 -- The cursor has given these rows. The other cursors have not moved.
 pub record Takes (cursor : ℕ) (rows : List Row) (old now : View) : Type 0 where
@@ -46,13 +54,19 @@ pub record Takes (cursor : ℕ) (rows : List Row) (old now : View) : Type 0 wher
   pub others : (d : ℕ) → (d == cursor) ≡ false → now.cursors d ≡ old.cursors d
   pub trees : now.trees ≡ old.trees
 
+-- The cursor of the tallies' rows has given rows that have the number of the census, and this many clusters in all.
+pub record TakesClusters (id clusters before more : ℕ) (old now : View) : Type 0 where
+  pub rows : List (List ℕ × ℕ)
+  pub are : sum_by (λ (row : List ℕ × ℕ). row.1) rows ≡ clusters
+  pub more_is : more ≡ before + length rows
+  pub takes : Takes 1 (rows_by count_cells (before + 1) (tagged id rows)) old now
+
 -- The first n censuses are read, with this many rows of tallies.
-pub record HasCounted (ds : List Deposit) (n read : ℕ) (old now : View) : Type 0 where
+pub record HasCounted (quick : Bool) (ds : List Deposit) (n read : ℕ) (old now : View) : Type 0 where
   pub trees : now.trees ≡ old.trees
   pub done : List Tallied
   pub many : length done ≡ n
-  pub good : AllByRecursion (IsCounted ds) done
-  pub ordered : AllByRecursion (λ t. HasOrder t.tally) done
+  pub good : AllByRecursion (IsCounted quick ds) done
   pub reads : length (counts_from 1 done) ≡ read
   pub left : List Row
   pub at : now.cursors 0 ≡ Some left
@@ -64,11 +78,10 @@ pub record HasCounted (ds : List Deposit) (n read : ℕ) (old now : View) : Type
   pub at_flags : now.cursors 2 ≡ Some left_flags
   pub flags : old.trees 7 ≡ rows_by flag_cells 1 done ++ left_flags
 
--- The row is that of a census under this number, correctly counted, and the other two cursors gave its rows and its flag.
-pub record Follows (ds : List Deposit) (id before more : ℕ) (row : Row) (old now : View) : Type 0 where
+-- The row is that of such a census under this number, and the other two cursors gave its rows and its flag.
+pub record Follows (quick : Bool) (ds : List Deposit) (id before more : ℕ) (row : Row) (old now : View) : Type 0 where
   pub census : Tallied
-  pub good : IsCounted ds census
-  pub ordered : HasOrder census.tally
+  pub good : IsCounted quick ds census
   pub row_is : row ≡ census_row id census
   pub more_is : more ≡ before + length census.tally.rows
   pub middle : View

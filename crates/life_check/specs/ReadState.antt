@@ -1,13 +1,13 @@
 -- The state while the rows of a table are read, and the results.
-use Rattle.std.specs.Prelude.{◌≡◌, ◌≤◌, ℕ, pos, Bool, false, List, [], ◌∷◌, ◌++◌, length}
+use Rattle.std.specs.Prelude.{◌≡◌, ◌≤◌, ℕ, pos, Bool, false, List, [], ◌∷◌, ◌++◌, length, IsTrue}
 use Rattle.std.specs.List.{AllByRecursion}
 use Rattle.sqlite_value.specs.Order.{Row}
 use Rattle.sqlite_value.specs.declared.value.Value.TheVariants.{Null, Int}
 use Rattle.life_store.specs.declared.kept.Deposit.{Deposit}
 use Rattle.life_store.specs.declared.kept.Census.{Census}
-use Rattle.life_census.specs.Rows.{TallyCounts}
 use Rattle.life_store.specs.Kept.{Tallied}
 use Rattle.life_store.specs.Stored.{IsFiled, rows_by, deposit_cells, census_cells, count_cells, flag_cells, flag_number}
+use Rattle.life_desk.specs.Validation.{is_member, is_token}
 
 -- The first n rows are those of n elements, under the ids from 1 on, and P holds for each element. The other rows are left.
 pub record IsReadUpTo {X : Type 0} (f : X → Row) (P : X → Type 0) (n : ℕ) (rows left : List Row) : Type 0 where
@@ -28,6 +28,15 @@ AreNone {X} f P rows = (xs : List X) → rows ≡ rows_by f 1 xs → AllByRecurs
 abbrev pub deposit_row : ℕ → Deposit → Row
 deposit_row id d = Int (pos id) ∷ deposit_cells d
 
+-- a member and a token that a request may have
+abbrev pub AreNames : List ℕ → List ℕ → Type 0
+AreNames member token = IsTrue (is_member member) × IsTrue (is_token token)
+
+-- a deposit that a request can ask for, with what a table keeps of it
+pub record IsNamed (d : Deposit) : Type 0 where
+  pub filed : IsFiled d
+  pub named : AreNames d.member d.token
+
 -- the row is that of a deposit under this number
 abbrev pub IsDepositRow : ℕ → Row → Type 0
 IsDepositRow id row = (d : Deposit) × IsFiled d × (row ≡ deposit_row id d)
@@ -40,9 +49,9 @@ census_row id t = Int (pos id) ∷ census_cells t
 abbrev pub count_row : ℕ → ℕ × (List ℕ × ℕ) → Row
 count_row at r = Int (pos at) ∷ count_cells r
 
--- the same, by a census and its tally
-abbrev pub census_row_of : ℕ → Census → TallyCounts → Row
-census_row_of id c tally = census_row id (record { census = c; tally = tally; steady = false })
+-- the same, by a census and how many clusters there are, and how many of them have no code
+abbrev pub census_row_of : ℕ → Census → ℕ → ℕ → Row
+census_row_of id c total unresolved = census_row id (record { census = c; tally = record { rows = []; unresolved = unresolved; total = total }; steady = false })
 
 -- the row of the flag of a census under its number
 abbrev pub flag_row : ℕ → Tallied → Row
@@ -52,8 +61,9 @@ flag_row id t = Int (pos id) ∷ flag_cells t
 abbrev pub flag_row_of : ℕ → Bool → Row
 flag_row_of id steady = Int (pos id) ∷ Null ∷ Int (pos (flag_number steady)) ∷ []
 
--- a request can ask for it: its generation and its limit are in range
+-- a request can ask for it: its member and its token are valid, its generation and its limit in range
 pub record IsAskable (c : Census) : Type 0 where
+  pub named : AreNames c.member c.token
   pub few : c.generation ≤ 2048
   pub some : 1 ≤ c.limit
   pub short : c.limit ≤ 2048

@@ -1,45 +1,66 @@
 -- When a check finds the tables of an archive sound.
-use Rattle.std.specs.Prelude.{◌≡◌, ◌≢◌, ◌<◌, ◌^◌, ⊤, ℕ, List, length}
+use Rattle.std.specs.Prelude.{◌≡◌, ◌≢◌, ◌<◌, ◌^◌, ⊤, ℕ, Bool, true, false, List, length, map}
+use Rattle.std.specs.List.{AllByRecursion}
 use Rattle.sqlite_trees.specs.Tree.{Trees}
 use Rattle.life_store.specs.declared.kept.Deposit.{Deposit}
+use Rattle.life_store.specs.Kept.{Tallied}
 use Rattle.life_store.specs.Stored.{IsFiled, deposit_cells}
-use Rattle.life_store.specs.Tables.{ArchiveView, version_2}
+use Rattle.life_store.specs.Tables.{ArchiveView, HasOrder, Holds, version_2}
 use Rattle.life_desk.specs.Archive.{Archive}
-use Rattle.life_desk.specs.Represents.{Represents}
+use Rattle.life_desk.specs.Represents.{Represents, EachHasDeposit}
 use Rattle.life_check.specs.declared.judging.Verdict.{Verdict}
-use Rattle.life_check.specs.declared.judging.Verdict.TheVariants.{Sound, NotSound}
+use Rattle.life_check.specs.declared.judging.Verdict.TheVariants.{Sound, SoundButForCounts, NotSound}
 use Rattle.life_check.specs.declared.judging.Wrong.{Wrong}
 use Rattle.life_check.specs.declared.judging.Wrong.TheVariants as wrong
-use Rattle.life_check.specs.ReadState.{AreOf, AreNone}
-use Rattle.life_check.specs.CountState.{AreFiled, AreCounted}
+use Rattle.life_check.specs.ReadState.{AreOf, AreNone, AreNames, IsAskable, IsNamed}
+use Rattle.life_check.specs.CountState.{AddsUp, AreFiled, AreCounted}
 
--- The result for the trees: they are those of this many deposits and this many censuses, correctly counted.
-pub record AreSound (trees : Trees) (deposits censuses : ℕ) : Type 0 where
+-- The result for the trees: they are those of this many deposits and this many censuses, correctly counted unless the check is quick.
+pub record AreSound (quick : Bool) (trees : Trees) (deposits censuses : ℕ) : Type 0 where
   pub version : trees 0 ≡ version_2
-  pub filed : AreOf deposit_cells IsFiled (trees 1) deposits
+  pub filed : AreOf deposit_cells IsNamed (trees 1) deposits
   pub few_deposits : deposits < 2 ^ 63
   pub few_censuses : censuses < 2 ^ 63
-  pub counted : (ds : List Deposit) → AreFiled trees ds → AreCounted trees ds censuses
+  pub counted : (ds : List Deposit) → AreFiled trees ds → AreCounted quick trees ds censuses
 
 -- The error in them. The contract says nothing about errors in censuses and in the tables' columns.
 abbrev pub FindsWrong : Trees → Wrong → Type 0
 FindsWrong trees wrong.Tables = ⊤
 FindsWrong trees wrong.Layout = trees 0 ≢ version_2
 FindsWrong trees (wrong.Deposit id) = AreNone deposit_cells IsFiled (trees 1)
+FindsWrong trees (wrong.DepositNames id) = AreNone deposit_cells IsNamed (trees 1)
 FindsWrong trees (wrong.Census id) = ⊤
 
-abbrev pub FindsSound : Trees → Verdict → Type 0
-FindsSound trees (Sound d c) = AreSound trees d c
-FindsSound trees (NotSound w) = FindsWrong trees w
+abbrev pub FindsSound : Bool → Trees → Verdict → Type 0
+FindsSound quick trees (Sound d c) = AreSound quick trees d c × (quick ≡ false)
+FindsSound quick trees (SoundButForCounts d c) = AreSound quick trees d c × (quick ≡ true)
+FindsSound quick trees (NotSound w) = FindsWrong trees w
 
--- no archive is represented, if the contract covers the error
+-- requests can ask for each deposit and each census
+pub record IsAskedFor (A : Archive) : Type 0 where
+  pub deposits : AllByRecursion (λ d. AreNames d.member d.token) A.deposits
+  pub censuses : AllByRecursion IsAskable A.censuses
+
+-- The tables represent the archive but for the counts of its censuses: each has some tally that adds up, and some flag. The order of a tally's rows is not
+-- looked at.
+pub record RepresentsButForCounts {S : Type 0} (a : ArchiveView S) (A : Archive) : Type 0 where
+  pub capacity : a.capacity ≡ A.capacity
+  pub each : EachHasDeposit A.deposits A.censuses
+  pub counts : List Tallied
+  pub are : map (λ (t : Tallied). t.census) counts ≡ A.censuses
+  pub add_up : AllByRecursion (λ t. AddsUp t.tally) counts
+  pub holds : AllByRecursion (λ t. HasOrder t.tally) counts → Holds a.tables (record { deposits = A.deposits; censuses = counts })
+
+-- No archive is represented, or none of what requests can ask for. Other columns may be the same ones written in another way, so the contract says nothing of them.
 abbrev pub RepresentsNone : {S : Type 0} → ArchiveView S → Wrong → Type 0
 RepresentsNone a wrong.Tables = ⊤
 RepresentsNone a wrong.Layout = (A : Archive) → Represents a A → ⊥
 RepresentsNone a (wrong.Deposit id) = (A : Archive) → Represents a A → ⊥
+RepresentsNone a (wrong.DepositNames id) = (A : Archive) → IsAskedFor A → Represents a A → ⊥
 RepresentsNone a (wrong.Census id) = ⊤
 
--- the tables represent an archive with this many deposits and censuses, or no archive
-abbrev pub RepresentsSome : {S : Type 0} → ArchiveView S → Verdict → Type 0
-RepresentsSome a (Sound d c) = (A : Archive) × Represents a A × (length A.deposits ≡ d) × (length A.censuses ≡ c)
-RepresentsSome a (NotSound w) = RepresentsNone a w
+-- the tables represent an archive with this many deposits and censuses, but for its counts if the check is quick; or no archive
+abbrev pub RepresentsSome : {S : Type 0} → Bool → ArchiveView S → Verdict → Type 0
+RepresentsSome quick a (Sound d c) = (A : Archive) × Represents a A × (length A.deposits ≡ d) × (length A.censuses ≡ c) × IsAskedFor A × (quick ≡ false)
+RepresentsSome quick a (SoundButForCounts d c) = (A : Archive) × RepresentsButForCounts a A × (length A.deposits ≡ d) × (length A.censuses ≡ c) × IsAskedFor A × (quick ≡ true)
+RepresentsSome quick a (NotSound w) = RepresentsNone a w

@@ -5,8 +5,9 @@ use Rattle.sqlite_trees.specs.declared.store.Store.{Ghosts}
 use Rattle.sqlite_trees.specs.Tree.{Trees}
 use Rattle.sqlite_trees.specs.View.{View, doubt}
 use Rattle.life_check.specs.declared.walk.Found.{Found}
-use Rattle.life_check.specs.declared.walk.Found.TheVariants.{All, Wrong}
-use Rattle.life_check.specs.ReadState.{IsReadUpTo, AreOf, AreNone}
+use Rattle.life_check.specs.declared.walk.Found.TheVariants.{All, Wrong, Misnamed}
+use Rattle.life_store.specs.Stored.{IsFiled, deposit_cells}
+use Rattle.life_check.specs.ReadState.{IsReadUpTo, AreOf, AreNone, IsNamed}
 
 -- If the disk has returned what was written until now, it had done so before; a crash leaves nothing that it could not leave before.
 pub record IsCalm {S : Type 0} (g : Ghosts S) (old new : S) : Type 0 where
@@ -19,10 +20,11 @@ pub record KeepsTrees (old new : View) : Type 0 where
   pub trees : new.trees ≡ old.trees
   pub unbroken : old.is_broken ≡ false
 
--- the elements of all rows of a table, whose number is an SQL integer; or that no archive has these rows
-abbrev pub Finds : {X : Type 0} → (X → Row) → (X → Type 0) → List Row → Found → Type 0
-Finds f P rows (All n) = AreOf f P rows n × (n < 2 ^ 63)
-Finds f P rows (Wrong n) = AreNone f P rows
+-- the deposits of all rows of the table, whose number is an SQL integer; or that no archive has these rows, or none of what requests can ask for
+abbrev pub FindsDeposits : List Row → Found → Type 0
+FindsDeposits rows (All n) = AreOf deposit_cells IsNamed rows n × (n < 2 ^ 63)
+FindsDeposits rows (Wrong n) = AreNone deposit_cells IsFiled rows
+FindsDeposits rows (Misnamed n) = AreNone deposit_cells IsNamed rows
 
 -- The cursor is after the first n rows of the table, which are those of n elements.
 pub record HasWalked {X : Type 0} (f : X → Row) (P : X → Type 0) (cursor table n : ℕ) (old now : View) : Type 0 where

@@ -1,24 +1,25 @@
 //! Reading the tables of censuses, of the rows of their tallies, and of their flags side by side.
 
-ghost use Rattle.std.specs.Prelude.{◌≡◌, ◌<◌, ◌^◌, ◌+◌, List, [], ◌∷◌, length, map, IsSome, Some, IfOk, IfSome, OnOk, IsTrue};
+ghost use Rattle.std.specs.Prelude.{◌≡◌, ◌<◌, ◌≤◌, ◌^◌, ◌+◌, ℕ, Bool, List, [], ◌∷◌, length, map, true, false, IsSome, Some, IfOk, IfSome, OnOk, IsTrue};
 ghost use Rattle.sqlite_trees.specs.View.{IsClean, StayLive};
 ghost use Rattle.life_rle.specs.Record.{IsInside};
 ghost use Rattle.life_census.specs.Rows.{row_seen};
 ghost use Rattle.life_store.specs.declared.kept.Deposit.{Deposit as Given};
 ghost use Rattle.life_store.specs.Kept.{numbered};
 ghost use Rattle.life_store.specs.Stored.{rows_by, count_cells, tagged};
-ghost use Rattle.life_check.specs.ReadState.{flag_row_of};
+ghost use Rattle.life_check.specs.ReadState.{count_row, flag_row_of, IsAskable};
 ghost use Rattle.life_check.specs.WalkState.{IsCalm};
-ghost use Rattle.life_check.specs.CountState.{AreFiled, Takes, HasCounted, Follows, FindsCounted};
+ghost use Rattle.life_check.specs.CountState.{AreFiled, Takes, TakesClusters, HasCounted, Follows, FindsCounted};
 
 use crate::counting::counted;
 use crate::deposits::{DEPOSITS, LAST};
-use crate::rows::{census_in, deposit_of_row, is_of_census, is_of_count, is_of_flag};
+use crate::rows::{
+    census_in, deposit_of_row, is_askable, is_of_census, is_of_count, is_of_flag, number_at,
+    text_at,
+};
 use crate::walk::{Found, begin, get, next};
 use life_census::Row as Counted;
-use life_code::PERIOD_LIMIT;
-use life_core::GENERATION_LIMIT;
-use life_store::{Deposit, Unavailable};
+use life_store::{Census, Deposit, Unavailable};
 use sqlite::Alter;
 use sqlite_value::row::Row;
 use std::alloc::Global;
@@ -52,6 +53,20 @@ fn deposit_at<S: Alter>(
     deposit_of_row(alloc, &row, id)
 }
 
+/// Whether there is a deposit with the number.
+fn has_deposit<S: Alter>(store: &mut S, alloc: Global, id: u64) -> Result<bool, Unavailable>
+    ensures there { IsClean (S.Store.view store.new) → IfOk result (λ b. IsTrue b → (ds : List Given) → AreFiled (S.Store.view store.old).trees ds → IsSome (numbered ds id)) }
+    ensures same { OnOk result (IsClean (S.Store.view store.new) → S.Store.view store.new ≡ S.Store.view store.old) }
+    ensures stay { OnOk result (StayLive (S.Store.view store.old) (S.Store.view store.new)) }
+    ensures calm { IsCalm S.Store store.old store.new }
+{
+    let Ok(rowid) = i64::try_from(id) else {
+        return Err(Unavailable);
+    };
+    let mut row = Row::new(alloc);
+    get(store, DEPOSITS, rowid, &mut row)
+}
+
 /// Whether the next rows of tallies, after this many, are those of the census with the number; returns how many rows were read then.
 fn rows_follow<S: Alter>(
     store: &mut S,
@@ -75,7 +90,7 @@ fn rows_follow<S: Alter>(
         if !next(store, 1, &mut row)? {
             return Ok(None);
         }
-        if !is_of_count(alloc, &row, at, id, counted)? {
+        if !is_of_count(alloc, &row, at, id, counted.code.as_bytes(), counted.count)? {
             return Ok(None);
         }
     }
@@ -101,32 +116,110 @@ fn flag_follows<S: Alter>(
     is_of_flag(alloc, &row, id, steady)
 }
 
-/// Whether the row is that of a census under the number, counted from its deposit, and its rows and its flag are next; returns how many
+/// The count in the next row of tallies, if it is the row at this place of a tally of the census with the number, with one cluster or
+/// more.
+fn count_follows<S: Alter>(
+    store: &mut S,
+    alloc: Global,
+    id: u64,
+    at: u64,
+) -> Result<Option<u64>, Unavailable>
+    requires { IsSome ((S.Store.view store.old).cursors 1) }
+    ensures follow { IsClean (S.Store.view store.new) → IfOk result (λ o. IfSome o (λ n. (code : List ℕ) × Takes 1 (count_row at (id, (code, n)) ∷ []) (S.Store.view store.old) (S.Store.view store.new))) }
+    ensures some { IfOk result (λ o. IfSome o (λ n. 1 ≤ n)) }
+    ensures stay { OnOk result (StayLive (S.Store.view store.old) (S.Store.view store.new)) }
+    ensures calm { IsCalm S.Store store.old store.new }
+{
+    let mut row = Row::new(alloc);
+    if !next(store, 1, &mut row)? {
+        return Ok(None);
+    }
+    let Some(code) = text_at(alloc, &row, 2)? else {
+        return Ok(None);
+    };
+    let Some(count) = number_at(&row, 3) else {
+        return Ok(None);
+    };
+    if count == 0 {
+        return Ok(None);
+    }
+    if !is_of_count(alloc, &row, at, id, code.as_bytes(), count)? {
+        return Ok(None);
+    }
+    Ok(Some(count))
+}
+
+/// Whether the next rows of tallies, after this many, have the number of the census and these clusters in all; returns how many rows
+/// were read then.
+fn clusters_follow<S: Alter>(
+    store: &mut S,
+    alloc: Global,
+    id: u64,
+    clusters: u64,
+    before: u64,
+) -> Result<Option<u64>, Unavailable>
+    requires { IsSome ((S.Store.view store.old).cursors 1) }
+    ensures follow { IsClean (S.Store.view store.new) → IfOk result (λ o. IfSome o (λ more. TakesClusters id clusters before more (S.Store.view store.old) (S.Store.view store.new))) }
+    ensures stay { OnOk result (StayLive (S.Store.view store.old) (S.Store.view store.new)) }
+    ensures calm { IsCalm S.Store store.old store.new }
+{
+    let mut at = before;
+    let mut left = clusters;
+    while left > 0 {
+        let Some(next_at) = at.checked_add(1) else {
+            return Err(Unavailable);
+        };
+        at = next_at;
+        let Some(count) = count_follows(store, alloc, id, at)? else {
+            return Ok(None);
+        };
+        if count > left {
+            return Ok(None);
+        }
+        left -= count;
+    }
+    Ok(Some(at))
+}
+
+/// Whether the next flag is one of the census with the number.
+fn some_flag_follows<S: Alter>(store: &mut S, alloc: Global, id: u64) -> Result<bool, Unavailable>
+    requires { IsSome ((S.Store.view store.old).cursors 2) }
+    ensures follow { IsClean (S.Store.view store.new) → IfOk result (λ b. IsTrue b → (steady : Bool) × Takes 2 (flag_row_of id steady ∷ []) (S.Store.view store.old) (S.Store.view store.new)) }
+    ensures stay { OnOk result (StayLive (S.Store.view store.old) (S.Store.view store.new)) }
+    ensures calm { IsCalm S.Store store.old store.new }
+{
+    let mut row = Row::new(alloc);
+    if !next(store, 2, &mut row)? {
+        return Ok(false);
+    }
+    if is_of_flag(alloc, &row, id, true)? {
+        return Ok(true);
+    }
+    is_of_flag(alloc, &row, id, false)
+}
+
+/// Whether the row is that of the census under the number, counted from its deposit, and its rows and its flag are next; returns how many
 /// rows of tallies were read then.
-fn census_follows<S: Alter>(
+fn counted_follows<S: Alter>(
     store: &mut S,
     alloc: Global,
     row: &Row,
     id: u64,
+    census: &Census,
     before: u64,
 ) -> Result<Option<u64>, Unavailable>
     requires rows { IsSome ((S.Store.view store.old).cursors 1) }
     requires flags { IsSome ((S.Store.view store.old).cursors 2) }
-    ensures follow { IsClean (S.Store.view store.new) → IfOk result (λ o. IfSome o (λ more. (ds : List Given) → AreFiled (S.Store.view store.old).trees ds → Follows ds id before more row.now (S.Store.view store.old) (S.Store.view store.new))) }
+    requires askable { IsAskable census.now }
+    ensures follow { IsClean (S.Store.view store.new) → IfOk result (λ o. IfSome o (λ more. (ds : List Given) → AreFiled (S.Store.view store.old).trees ds → Follows false ds id before more row.now (S.Store.view store.old) (S.Store.view store.new))) }
     ensures stay { OnOk result (StayLive (S.Store.view store.old) (S.Store.view store.new)) }
     ensures calm { IsCalm S.Store store.old store.new }
 {
-    let Some(census) = census_in(alloc, row)? else {
-        return Ok(None);
-    };
-    if census.generation > GENERATION_LIMIT || census.limit < 1 || census.limit > PERIOD_LIMIT {
-        return Ok(None);
-    }
     let Some(deposit) = deposit_at(store, alloc, census.deposit)? else {
         return Ok(None);
     };
-    let (tally, steady) = counted(alloc, &deposit, &census)?;
-    if !is_of_census(alloc, row, id, &census, &tally)? {
+    let (tally, steady) = counted(alloc, &deposit, census)?;
+    if !is_of_census(alloc, row, id, census, tally.total, tally.unresolved)? {
         return Ok(None);
     }
     let Some(more) = rows_follow(store, alloc, id, tally.rows.as_slice(), before)? else {
@@ -136,6 +229,71 @@ fn census_follows<S: Alter>(
         return Ok(None);
     }
     Ok(Some(more))
+}
+
+/// The same, without counting: the rows and the flag may be those of another tally.
+fn uncounted_follows<S: Alter>(
+    store: &mut S,
+    alloc: Global,
+    row: &Row,
+    id: u64,
+    census: &Census,
+    before: u64,
+) -> Result<Option<u64>, Unavailable>
+    requires rows { IsSome ((S.Store.view store.old).cursors 1) }
+    requires flags { IsSome ((S.Store.view store.old).cursors 2) }
+    requires askable { IsAskable census.now }
+    ensures follow { IsClean (S.Store.view store.new) → IfOk result (λ o. IfSome o (λ more. (ds : List Given) → AreFiled (S.Store.view store.old).trees ds → Follows true ds id before more row.now (S.Store.view store.old) (S.Store.view store.new))) }
+    ensures stay { OnOk result (StayLive (S.Store.view store.old) (S.Store.view store.new)) }
+    ensures calm { IsCalm S.Store store.old store.new }
+{
+    let (Some(total), Some(unresolved)) = (number_at(row, 7), number_at(row, 8)) else {
+        return Ok(None);
+    };
+    let Some(clusters) = total.checked_sub(unresolved) else {
+        return Ok(None);
+    };
+    if !is_of_census(alloc, row, id, census, total, unresolved)? {
+        return Ok(None);
+    }
+    if !has_deposit(store, alloc, census.deposit)? {
+        return Ok(None);
+    }
+    let Some(more) = clusters_follow(store, alloc, id, clusters, before)? else {
+        return Ok(None);
+    };
+    if !some_flag_follows(store, alloc, id)? {
+        return Ok(None);
+    }
+    Ok(Some(more))
+}
+
+/// Whether the row is that of a census under the number, and its rows and its flag are next; returns how many rows of tallies were read
+/// then. The census is counted from its deposit, unless the check is quick.
+fn census_follows<S: Alter>(
+    store: &mut S,
+    alloc: Global,
+    quick: bool,
+    row: &Row,
+    id: u64,
+    before: u64,
+) -> Result<Option<u64>, Unavailable>
+    requires rows { IsSome ((S.Store.view store.old).cursors 1) }
+    requires flags { IsSome ((S.Store.view store.old).cursors 2) }
+    ensures follow { IsClean (S.Store.view store.new) → IfOk result (λ o. IfSome o (λ more. (ds : List Given) → AreFiled (S.Store.view store.old).trees ds → Follows quick ds id before more row.now (S.Store.view store.old) (S.Store.view store.new))) }
+    ensures stay { OnOk result (StayLive (S.Store.view store.old) (S.Store.view store.new)) }
+    ensures calm { IsCalm S.Store store.old store.new }
+{
+    let Some(census) = census_in(alloc, row)? else {
+        return Ok(None);
+    };
+    if !is_askable(&census) {
+        return Ok(None);
+    }
+    if quick {
+        return uncounted_follows(store, alloc, row, id, &census, before);
+    }
+    counted_follows(store, alloc, row, id, &census, before)
 }
 
 /// Whether no rows of tallies and no flags are left.
@@ -158,7 +316,7 @@ fn none_left<S: Alter>(store: &mut S, alloc: Global) -> Result<bool, Unavailable
 /// Places a cursor before the first row of each of the three tables.
 fn begin_all<S: Alter>(store: &mut S, alloc: Global) -> Result<(), Unavailable>
     ensures live { OnOk result (IsSome ((S.Store.view store.new).cursors 0) × IsSome ((S.Store.view store.new).cursors 1) × IsSome ((S.Store.view store.new).cursors 2)) }
-    ensures begun { IsClean (S.Store.view store.new) → OnOk result ((ds : List Given) → HasCounted ds 0 0 (S.Store.view store.old) (S.Store.view store.new)) }
+    ensures begun { IsClean (S.Store.view store.new) → OnOk result ((quick : Bool) (ds : List Given) → HasCounted quick ds 0 0 (S.Store.view store.old) (S.Store.view store.new)) }
     ensures calm { IsCalm S.Store store.old store.new }
 {
     begin(store, alloc, 0, CENSUSES)?;
@@ -166,9 +324,13 @@ fn begin_all<S: Alter>(store: &mut S, alloc: Global) -> Result<(), Unavailable>
     begin(store, alloc, 2, CENSUS_FLAGS)
 }
 
-/// Reads all rows of the three tables.
-pub(crate) fn censuses<S: Alter>(store: &mut S, alloc: Global) -> Result<Found, Unavailable>
-    ensures finds { IsClean (S.Store.view store.new) → IfOk result (FindsCounted (S.Store.view store.old).trees) }
+/// Reads all rows of the three tables. A quick check counts nothing.
+pub(crate) fn censuses<S: Alter>(
+    store: &mut S,
+    alloc: Global,
+    quick: bool,
+) -> Result<Found, Unavailable>
+    ensures finds { IsClean (S.Store.view store.new) → IfOk result (FindsCounted quick (S.Store.view store.old).trees) }
     ensures calm { IsCalm S.Store store.old store.new }
 {
     begin_all(store, alloc)?;
@@ -181,7 +343,7 @@ pub(crate) fn censuses<S: Alter>(store: &mut S, alloc: Global) -> Result<Found, 
             }
             return Ok(Found::Wrong(count + 1));
         }
-        match census_follows(store, alloc, &row, count + 1, read)? {
+        match census_follows(store, alloc, quick, &row, count + 1, read)? {
             Some(more) => read = more,
             None => return Ok(Found::Wrong(count + 1)),
         }

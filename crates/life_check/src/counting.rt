@@ -6,6 +6,7 @@ ghost use Rattle.life_rle.specs.Record.{IsInside};
 ghost use Rattle.life_census.specs.Steady.{is_steady};
 ghost use Rattle.life_store.specs.Tables.{HasOrder};
 ghost use Rattle.life_desk.specs.Archive.{tally_for, tally_of_cells, steady_for};
+ghost use Rattle.life_check.specs.CountState.{AddsUp};
 
 use life_census::{Tally, laws_of_tallies, tally_and_steady};
 use life_code::PERIOD_LIMIT;
@@ -26,6 +27,7 @@ fn count(
     ensures is { IfOk result (λ p. p.0 ≡ tally_of_cells rule.now cells.now limit) }
     ensures flag { IfOk result (λ p. p.1 ≡ is_steady rule.now cells.now limit) }
     ensures ordered { IfOk result (λ p. HasOrder p.0) }
+    ensures adds_up { IfOk result (λ p. AddsUp p.0) }
 {
     laws_of_tallies();
     Ok(tally_and_steady(alloc, rule, cells, limit)?)
@@ -44,6 +46,7 @@ pub(crate) fn counted(
     ensures is { IfOk result (λ p. p.0 ≡ tally_for census.now (Some deposit.now)) }
     ensures flag { IfOk result (λ p. p.1 ≡ steady_for census.now (Some deposit.now)) }
     ensures ordered { IfOk result (λ p. HasOrder p.0) }
+    ensures adds_up { IfOk result (λ p. AddsUp p.0) }
 {
     let rule = deposit.content.rule;
     let later = generation(alloc, &rule, &deposit.content.cells, census.generation)?;

@@ -2,10 +2,9 @@
 
 ghost use Rattle.std.specs.Prelude.{◌≡◌, IfOk, OnOk};
 ghost use Rattle.sqlite_trees.specs.View.{IsClean};
-ghost use Rattle.life_store.specs.Stored.{IsFiled, deposit_cells};
-ghost use Rattle.life_check.specs.WalkState.{IsCalm, KeepsTrees, Finds};
+ghost use Rattle.life_check.specs.WalkState.{IsCalm, KeepsTrees, FindsDeposits};
 
-use crate::rows::deposit_of_row;
+use crate::rows::{are_names, deposit_of_row};
 use crate::walk::{Found, begin, next};
 use life_store::Unavailable;
 use sqlite::Alter;
@@ -20,7 +19,7 @@ pub(crate) const LAST: u64 = 0x7fff_ffff_ffff_ffff;
 
 /// Reads all rows.
 pub(crate) fn deposits<S: Alter>(store: &mut S, alloc: Global) -> Result<Found, Unavailable>
-    ensures finds { IsClean (S.Store.view store.new) → IfOk result (Finds deposit_cells IsFiled ((S.Store.view store.old).trees 1)) }
+    ensures finds { IsClean (S.Store.view store.new) → IfOk result (FindsDeposits ((S.Store.view store.old).trees 1)) }
     ensures keeps { IsClean (S.Store.view store.new) → OnOk result (KeepsTrees (S.Store.view store.old) (S.Store.view store.new)) }
     ensures calm { IsCalm S.Store store.old store.new }
 {
@@ -30,9 +29,11 @@ pub(crate) fn deposits<S: Alter>(store: &mut S, alloc: Global) -> Result<Found, 
         if !next(store, 0, &mut row)? {
             return Ok(Found::All(count));
         }
-        match deposit_of_row(alloc, &row, count + 1)? {
-            Some(_) => {}
-            None => return Ok(Found::Wrong(count + 1)),
+        let Some(deposit) = deposit_of_row(alloc, &row, count + 1)? else {
+            return Ok(Found::Wrong(count + 1));
+        };
+        if !are_names(&deposit.member, &deposit.token) {
+            return Ok(Found::Misnamed(count + 1));
         }
     }
     Err(Unavailable)

@@ -1,6 +1,6 @@
 //! Rows as an archive writes them, and reading the values of a row. A value that an archive never writes gives `None`.
 
-ghost use Rattle.std.specs.Prelude.{◌≡◌, ◌<◌, ◌^◌, ◌↔◌, ℕ, pos, List, Ok, None, Some, false, IfOk, IfSome, OnOk, IsTrue};
+ghost use Rattle.std.specs.Prelude.{◌≡◌, ◌<◌, ◌≤◌, ◌^◌, ◌↔◌, ℕ, pos, List, Ok, None, Some, false, IfOk, IfSome, OnOk, IsTrue};
 ghost use Rattle.sqlite_value.specs.declared.value.Value.TheVariants.{Int, Text as Words, Blob};
 ghost use Rattle.sqlite_value.specs.Order.{column};
 ghost use Rattle.life_rle.specs.Record.{IsInside, Contents};
@@ -8,18 +8,19 @@ ghost use Rattle.life_rle.specs.Writer.{text};
 ghost use Rattle.life_rle.specs.File.{kept};
 ghost use Rattle.life_store.specs.declared.kept.Deposit.{Deposit as Given};
 ghost use Rattle.life_store.specs.Stored.{IsFiled};
-ghost use Rattle.life_census.specs.Rows.{row_seen};
 ghost use Rattle.life_store.specs.Kept.{Tallied};
-ghost use Rattle.life_check.specs.ReadState.{deposit_row, IsDepositRow, census_row, census_row_of, count_row, flag_row_of, IsAskable};
+ghost use Rattle.life_check.specs.ReadState.{deposit_row, IsDepositRow, census_row, census_row_of, count_row, flag_row_of, AreNames, IsAskable};
 
-use life_census::{Row as Counted, Tally};
+use life_code::PERIOD_LIMIT;
+use life_core::GENERATION_LIMIT;
+use life_desk::check_deposit;
 use life_rle::{Record, RleFault, Text, read_kept, write};
 use life_store::{Census, Deposit, Unavailable};
 use sqlite_value::row::Row;
 use sqlite_value::value::ValueRef;
 use std::alloc::Global;
 
-fn text_at(alloc: Global, row: &Row, at: usize) -> Result<Option<Text>, Unavailable>
+pub(crate) fn text_at(alloc: Global, row: &Row, at: usize) -> Result<Option<Text>, Unavailable>
     ensures { (t : List ℕ) → column row.now at ≡ Words t → IfOk result (λ o. o ≡ Some t) }
 {
     match row.get(at) {
@@ -112,8 +113,25 @@ pub(crate) fn deposit_of_row(
     }
 }
 
+/// Whether a request can have this member and this token.
+pub(crate) fn are_names(member: &Text, token: &Text) -> bool
+    ensures { IsTrue result ↔ AreNames member.now token.now }
+{
+    check_deposit(member.as_bytes(), token.as_bytes()).is_ok()
+}
+
+/// Whether a request can ask for the census.
+pub(crate) fn is_askable(census: &Census) -> bool
+    ensures { IsTrue result ↔ IsAskable census.now }
+{
+    are_names(&census.member, &census.token)
+        && census.generation <= GENERATION_LIMIT
+        && 1 <= census.limit
+        && census.limit <= PERIOD_LIMIT
+}
+
 /// A number of the row.
-fn number_at(row: &Row, at: usize) -> Option<u64>
+pub(crate) fn number_at(row: &Row, at: usize) -> Option<u64>
     ensures { (n : ℕ) → column row.now at ≡ Int (pos n) → result ≡ Some n }
 {
     match row.get(at) {
@@ -161,13 +179,19 @@ pub(crate) fn census_in(alloc: Global, row: &Row) -> Result<Option<Census>, Unav
 }
 
 /// The row of the census under the number.
-fn row_of_census(alloc: Global, id: i64, census: &Census, tally: &Tally) -> Result<Row, Unavailable>
-    ensures { IfOk result (λ r. (n : ℕ) → id ≡ pos n → r ≡ census_row_of n census.now tally.now) }
+fn row_of_census(
+    alloc: Global,
+    id: i64,
+    census: &Census,
+    total: u64,
+    unresolved: u64,
+) -> Result<Row, Unavailable>
+    ensures { IfOk result (λ r. (n : ℕ) → id ≡ pos n → r ≡ census_row_of n census.now total unresolved) }
 {
     let (Ok(deposit), Ok(total), Ok(unresolved)) = (
         i64::try_from(census.deposit),
-        i64::try_from(tally.total),
-        i64::try_from(tally.unresolved),
+        i64::try_from(total),
+        i64::try_from(unresolved),
     ) else {
         return Err(Unavailable);
     };
@@ -184,20 +208,21 @@ fn row_of_census(alloc: Global, id: i64, census: &Census, tally: &Tally) -> Resu
     Ok(row)
 }
 
-/// Whether the row is that of the census under the number, with the numbers of the tally.
+/// Whether the row is that of the census under the number, with this many clusters.
 pub(crate) fn is_of_census(
     alloc: Global,
     row: &Row,
     id: u64,
     census: &Census,
-    tally: &Tally,
+    total: u64,
+    unresolved: u64,
 ) -> Result<bool, Unavailable>
-    ensures { IfOk result (λ b. IsTrue b ↔ (row.now ≡ census_row_of id census.now tally.now)) }
+    ensures { IfOk result (λ b. IsTrue b ↔ (row.now ≡ census_row_of id census.now total unresolved)) }
 {
     let Ok(number) = i64::try_from(id) else {
         return Err(Unavailable);
     };
-    let written = row_of_census(alloc, number, census, tally)?;
+    let written = row_of_census(alloc, number, census, total, unresolved)?;
     Ok(row.is_same(&written))
 }
 
@@ -207,21 +232,19 @@ pub(crate) fn is_of_count(
     row: &Row,
     at: u64,
     id: u64,
-    counted: &Counted,
+    code: &[u8],
+    count: u64,
 ) -> Result<bool, Unavailable>
-    ensures { IfOk result (λ b. IsTrue b ↔ (row.now ≡ count_row at (id, row_seen counted.now))) }
+    ensures { IfOk result (λ b. IsTrue b ↔ (row.now ≡ count_row at (id, (code.now, count)))) }
 {
-    let (Ok(at), Ok(id), Ok(count)) = (
-        i64::try_from(at),
-        i64::try_from(id),
-        i64::try_from(counted.count),
-    ) else {
+    let (Ok(at), Ok(id), Ok(count)) = (i64::try_from(at), i64::try_from(id), i64::try_from(count))
+    else {
         return Err(Unavailable);
     };
     let mut written = Row::new(alloc);
     written.push(ValueRef::Int(at))?;
     written.push(ValueRef::Int(id))?;
-    written.push(ValueRef::Text(counted.code.as_bytes()))?;
+    written.push(ValueRef::Text(code))?;
     written.push(ValueRef::Int(count))?;
     Ok(row.is_same(&written))
 }

@@ -23,7 +23,7 @@ const SOUND: [&str; 14] = [
 ];
 
 /// Changes of the tables, and the expected results.
-const DAMAGED: [(&str, Wrong); 26] = [
+const DAMAGED: [(&str, Wrong); 30] = [
     ("UPDATE layout SET version = 3", Wrong::Layout),
     ("INSERT INTO layout (version) VALUES (2)", Wrong::Layout),
     ("DELETE FROM layout", Wrong::Layout),
@@ -59,6 +59,22 @@ const DAMAGED: [(&str, Wrong); 26] = [
     (
         "INSERT INTO deposits VALUES (4, 'ann', 't3', 'B3/S23', 4, x'78203d20322c2079203d20322c2072756c65203d2042332f5332330a326f24326f210a')",
         Wrong::Deposit(3),
+    ),
+    (
+        "UPDATE deposits SET member = 'Ann' WHERE id = 1",
+        Wrong::DepositNames(1),
+    ),
+    (
+        "UPDATE deposits SET token = 't 2' WHERE id = 2",
+        Wrong::DepositNames(2),
+    ),
+    (
+        "UPDATE censuses SET member = '' WHERE id = 1",
+        Wrong::Census(1),
+    ),
+    (
+        "UPDATE censuses SET token = 'c_1' WHERE id = 2",
+        Wrong::Census(2),
     ),
     (
         "UPDATE censuses SET deposit = 1 WHERE id = 1",
@@ -115,6 +131,50 @@ const OTHERS: [&str; 2] = [
     "UPDATE censuses SET member = 'eve', token = 't9' WHERE id = 1",
 ];
 
+/// Changes that only counting finds.
+const UNCOUNTED: [&str; 5] = [
+    "UPDATE censuses SET deposit = 1 WHERE id = 1",
+    "UPDATE censuses SET gens = 5 WHERE id = 1",
+    "UPDATE censuses SET lim = 3 WHERE id = 2",
+    "UPDATE census_rows SET code = 'xs4_3' WHERE census = 1",
+    "UPDATE census_flags SET steady = 0 WHERE census = 1",
+];
+
+/// Changes that a quick check finds, with the expected results.
+const FOUND_QUICKLY: [(&str, Wrong); 10] = [
+    ("DELETE FROM layout", Wrong::Layout),
+    (
+        "UPDATE deposits SET population = 6 WHERE id = 2",
+        Wrong::Deposit(2),
+    ),
+    (
+        "UPDATE deposits SET member = 'Ann' WHERE id = 1",
+        Wrong::DepositNames(1),
+    ),
+    ("UPDATE censuses SET lim = 0 WHERE id = 1", Wrong::Census(1)),
+    (
+        "UPDATE censuses SET clusters = 2 WHERE id = 2",
+        Wrong::Census(2),
+    ),
+    (
+        "UPDATE censuses SET unresolved = 2 WHERE id = 1",
+        Wrong::Census(1),
+    ),
+    (
+        "UPDATE census_rows SET n = 2 WHERE census = 2",
+        Wrong::Census(2),
+    ),
+    ("DELETE FROM census_rows WHERE census = 1", Wrong::Census(1)),
+    (
+        "INSERT INTO census_rows VALUES (2, 'xs4_33', 1)",
+        Wrong::Census(3),
+    ),
+    (
+        "DELETE FROM census_flags WHERE census = 2",
+        Wrong::Census(2),
+    ),
+];
+
 fn store_with(alloc: Global, last: Option<&str>) -> Result<MemStore, Error> {
     let mut conn = Connection::open_in_memory(alloc)?;
     for statement in SOUND {
@@ -127,9 +187,9 @@ fn store_with(alloc: Global, last: Option<&str>) -> Result<MemStore, Error> {
 }
 
 /// The result, or the statement that was refused.
-fn found(alloc: Global, last: Option<&str>) -> Result<Verdict, Error> {
+fn found(alloc: Global, last: Option<&str>, quick: bool) -> Result<Verdict, Error> {
     let mut store = store_with(alloc, last)?;
-    match check_trees(&mut store, alloc) {
+    match check_trees(&mut store, alloc, quick) {
         Ok(verdict) => Ok(verdict),
         Err(_) => Err(Error::QueryReturnedNoRows),
     }
@@ -137,10 +197,14 @@ fn found(alloc: Global, last: Option<&str>) -> Result<Verdict, Error> {
 
 #[test]
 fn an_archive_is_sound(rt: HostRuntime) -> Result<(), Fail> {
-    assert_eq!(rt; found(rt.alloc(), None), Ok(Verdict::Sound(2, 2)));
+    assert_eq!(rt; found(rt.alloc(), None, false), Ok(Verdict::Sound(2, 2)));
+    assert_eq!(rt;
+        found(rt.alloc(), None, true),
+        Ok(Verdict::SoundButForCounts(2, 2))
+    );
     for statement in OTHERS {
         assert_eq!(rt;
-            found(rt.alloc(), Some(statement)),
+            found(rt.alloc(), Some(statement), false),
             Ok(Verdict::Sound(2, 2)),
             "{statement}"
         );
@@ -152,7 +216,26 @@ fn an_archive_is_sound(rt: HostRuntime) -> Result<(), Fail> {
 fn each_damage_is_found(rt: HostRuntime) -> Result<(), Fail> {
     for (statement, wrong) in DAMAGED {
         assert_eq!(rt;
-            found(rt.alloc(), Some(statement)),
+            found(rt.alloc(), Some(statement), false),
+            Ok(Verdict::NotSound(wrong)),
+            "{statement}"
+        );
+    }
+    Ok(())
+}
+
+#[test]
+fn a_quick_check_counts_nothing(rt: HostRuntime) -> Result<(), Fail> {
+    for statement in UNCOUNTED {
+        assert_eq!(rt;
+            found(rt.alloc(), Some(statement), true),
+            Ok(Verdict::SoundButForCounts(2, 2)),
+            "{statement}"
+        );
+    }
+    for (statement, wrong) in FOUND_QUICKLY {
+        assert_eq!(rt;
+            found(rt.alloc(), Some(statement), true),
             Ok(Verdict::NotSound(wrong)),
             "{statement}"
         );

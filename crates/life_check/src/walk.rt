@@ -16,6 +16,8 @@ pub(crate) enum Found {
     All(u64),
     /// The row that should have this number is not one that an archive writes.
     Wrong(u64),
+    /// No request can ask for the member and the token of the row with this number.
+    Misnamed(u64),
 }
 
 /// Places the cursor before the first row of the table.

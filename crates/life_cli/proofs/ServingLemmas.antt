@@ -1,5 +1,5 @@
 -- What a deposit and a check return; and what serving returns if no connection failed before.
-use Rattle.std.proofs.Common.{◌≡◌, ℕ, List, Option, None, Some, Result, Ok, Err, MatchResult, sym, refl, subst, inl, inr}
+use Rattle.std.proofs.Common.{◌≡◌, ℕ, Bool, List, Option, None, Some, Result, Ok, Err, MatchResult, sym, refl, subst, inl, inr}
 use Rattle.std.specs.Prelude.{OnOk, IfErr}
 use Rattle.sqlite_disk.specs.declared.Disk as disk
 use Rattle.sqlite_disk.specs.declared.Files.{Files}
@@ -33,10 +33,10 @@ module _ {D I O L : Type 0} (g : disk.Ghosts D) (i : inlet.Ghosts I) (o : outlet
   deposit_answers (Ok u) is = record { answer = answer; left = left; deposits = deposits; takes = takes; once = once; printed = sym is }
   deposit_answers (Err line) is = record { answer = answer; left = left; deposits = deposits; takes = takes; once = once; printed = sym is }
 
-module _ {D O L : Type 0} (g : disk.Ghosts D) (o : outlet.Ghosts O) (image : Image) (capacity : ℕ) (output sent : O) (answer : Result (Unit {0}) ArchiveStop) (left : Option (Files D))
-    (checks : ChecksAt g image capacity (o.already output) (o.already sent) answer left) (once : PutsOnce output sent (o.failures output) (o.failures sent) (o.last_failed sent) (by_output answer)) (text : L → List ℕ) where
+module _ {D O L : Type 0} (quick : Bool) (g : disk.Ghosts D) (o : outlet.Ghosts O) (image : Image) (capacity : ℕ) (output sent : O) (answer : Result (Unit {0}) ArchiveStop) (left : Option (Files D))
+    (checks : ChecksAt quick g image capacity (o.already output) (o.already sent) answer left) (once : PutsOnce output sent (o.failures output) (o.failures sent) (o.last_failed sent) (by_output answer)) (text : L → List ℕ) where
   -- a check, with the line of its stop
   pub check_answers : (r : Result (Unit {0}) L) → MatchResult r (λ u. line_after answer ≡ None) (λ line. line_after answer ≡ Some (text line))
-      → MatchResult r (λ u. AnswersCheck g o image capacity output sent None) (λ line. AnswersCheck g o image capacity output sent (Some (text line)))
+      → MatchResult r (λ u. AnswersCheck quick g o image capacity output sent None) (λ line. AnswersCheck quick g o image capacity output sent (Some (text line)))
   check_answers (Ok u) is = record { answer = answer; left = left; checks = checks; once = once; printed = sym is }
   check_answers (Err line) is = record { answer = answer; left = left; checks = checks; once = once; printed = sym is }

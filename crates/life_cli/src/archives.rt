@@ -24,7 +24,7 @@ fn or_line(done: Result<(), ArchiveStop>) -> Result<(), &'static str>
     }
 }
 
-/// Archives in files on this machine. `start` stands for their initial content: what a job does is proved for any content.
+/// Archives in files on this machine. `start` is their initial content: what a job does is proved for any content.
 #[derive(Drop)]
 pub struct InFiles<T> {
     pub start: T,
@@ -36,7 +36,7 @@ impl<T: Start> ArchiveJobs for InFiles<T> {
 
     ghost serves = { λ file port connections line. AnswersServing ⟦<FileFrom<T> as Disk>⟧ (image_at T.Start) 1000000 connections line };
 
-    ghost checks = { λ O o file output sent line. AnswersCheck ⟦<FileFrom<T> as Disk>⟧ o (image_at T.Start) 1000000 output sent line };
+    ghost checks = { λ O o file quick output sent line. AnswersCheck quick ⟦<FileFrom<T> as Disk>⟧ o (image_at T.Start) 1000000 output sent line };
 
     fn deposit<I: Inlet, O: Outlet>(
         self,
@@ -69,9 +69,10 @@ impl<T: Start> ArchiveJobs for InFiles<T> {
         self,
         rt: &HostRuntime,
         file: &str,
+        quick: bool,
         output: &mut O,
     ) -> Result<(), &'static str> {
-        let (done, _left) = run_check(rt, file, CAPACITY, self.start, output);
+        let (done, _left) = run_check(rt, file, CAPACITY, self.start, quick, output);
         or_line(done)
     }
 }

@@ -51,7 +51,7 @@ fn fault_line(fault: IoFault) -> &'static str {
     }
 }
 
-/// Serves the next connection. Without a listener there is none, which counts as a failed read.
+/// Serves the next connection. Without a listener no connection comes, which counts as a failed read.
 fn serve_next<S: Alter>(
     rt: &HostRuntime,
     alloc: Global,

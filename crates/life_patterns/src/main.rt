@@ -19,7 +19,7 @@ impl ArchiveJobs for NoArchive {
 
     ghost serves = { λ file port connections line. line ≡ Some (codes "refused: unavailable") };
 
-    ghost checks = { λ O o file output sent line. line ≡ Some (codes "refused: unavailable") };
+    ghost checks = { λ O o file quick output sent line. line ≡ Some (codes "refused: unavailable") };
 
     fn deposit<I: Inlet, O: Outlet>(
         self,
@@ -47,6 +47,7 @@ impl ArchiveJobs for NoArchive {
         self,
         _rt: &HostRuntime,
         _file: &str,
+        _quick: bool,
         _output: &mut O,
     ) -> Result<(), &'static str> {
         Err(Stop::Unavailable.line())

@@ -1,6 +1,6 @@
 -- What the job that the arguments name does: the text that it writes, and the line that is printed if it stops. `Answers` of life_words says which job the
 -- arguments name.
-use Rattle.std.specs.Prelude.{◌≡◌, ◌↔◌, ◌<◌, ◌≤◌, ℕ, List, Option, None, Some, Result, Ok, Err, IfErr}
+use Rattle.std.specs.Prelude.{◌≡◌, ◌↔◌, ◌<◌, ◌≤◌, ℕ, Bool, List, Option, None, Some, Result, Ok, Err, IfErr}
 use Rattle.life_rle.specs.declared.stream.Inlet as inlet
 use Rattle.life_rle.specs.declared.stream.Outlet as outlet
 use Rattle.std.specs.Process.{exit_status}
@@ -67,16 +67,16 @@ Depositing = (I O : Type 0) → inlet.Ghosts I → outlet.Ghosts O → List ℕ 
 abbrev pub Serving : Type 1
 Serving = List ℕ → ℕ → ℕ → Option (List ℕ) → Type 0
 
--- What a check does: a relation of its file, the output before and after, and the line.
+-- What a check does: a relation of its file, whether it is quick, the output before and after, and the line.
 abbrev pub Checking : Type 1
-Checking = (O : Type 0) → outlet.Ghosts O → List ℕ → O → O → Option (List ℕ) → Type 0
+Checking = (O : Type 0) → outlet.Ghosts O → List ℕ → Bool → O → O → Option (List ℕ) → Type 0
 
 -- what a job does, and the line that is printed if it stops: the program's archive decides about a deposit, given its file, member and token, about
--- serving, given its file, port and number of connections, and about a check, given its file; serving uses neither of these streams, and a check no input
+-- serving, given its file, port and number of connections, and about a check, given its file and whether it is quick; serving uses neither of these streams, and a check no input
 abbrev pub DoesJob : {I O : Type 0} → inlet.Ghosts I → outlet.Ghosts O → Depositing → Serving → Checking → Asked → I → I → O → O → Option (List ℕ) → Type 0
 DoesJob {I} {O} i o deposits serves checks (AsksDeposit file member token) input rest output sent line = deposits I O i o file member token input rest output sent line
 DoesJob i o deposits serves checks (AsksServe file port connections) input rest output sent line = serves file port connections line × (rest ≡ input) × (sent ≡ output)
-DoesJob {I} {O} i o deposits serves checks (AsksCheck file) input rest output sent line = checks O o file output sent line × (rest ≡ input)
+DoesJob {I} {O} i o deposits serves checks (AsksCheck file quick) input rest output sent line = checks O o file quick output sent line × (rest ≡ input)
 DoesJob i o deposits serves checks asked input rest output sent line = AnswersFileJob i o asked input rest output sent line
 
 -- ---- from the arguments to the status

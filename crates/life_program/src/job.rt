@@ -1,5 +1,5 @@
 //! Running the job that the arguments name, on any streams.
-ghost use Rattle.std.specs.Prelude.{◌≡◌, ℕ, List, Option, None, Some, Err, MatchResult};
+ghost use Rattle.std.specs.Prelude.{◌≡◌, ℕ, Bool, List, Option, None, Some, Err, MatchResult};
 ghost use Rattle.life_jobs.specs.Stop.{line_of};
 ghost use Rattle.life_jobs.specs.declared.stop.Stop.{Stop as StopValue};
 ghost use Rattle.life_words.specs.Words.{asked_by};
@@ -20,8 +20,8 @@ pub trait ArchiveJobs: Drop {
     ghost deposits: { (I O : Type 0) → inlet.Ghosts I → outlet.Ghosts O → List ℕ → List ℕ → List ℕ → I → I → O → O → Option (List ℕ) → Type 0 };
     // What serving does: a relation of its file, port, number of connections, and the line.
     ghost serves: { List ℕ → ℕ → ℕ → Option (List ℕ) → Type 0 };
-    // What a check does: a relation of its file, the output before and after, and the line.
-    ghost checks: { (O : Type 0) → outlet.Ghosts O → List ℕ → O → O → Option (List ℕ) → Type 0 };
+    // What a check does: a relation of its file, whether it is quick, the output before and after, and the line.
+    ghost checks: { (O : Type 0) → outlet.Ghosts O → List ℕ → Bool → O → O → Option (List ℕ) → Type 0 };
 
     /// Deposits the pattern on the input under the member and the token.
     fn deposit<I: Inlet, O: Outlet>(
@@ -47,16 +47,17 @@ pub trait ArchiveJobs: Drop {
     ) -> Result<(), &'static str>
         ensures { MatchResult result (λ _. serves file.now port connections None) (λ line. serves file.now port connections (Some line.now)) };
 
-    /// Checks the archive in the file, and writes the result.
+    /// Checks the archive in the file, and writes the result. A quick check counts no census.
     fn check<O: Outlet>(
         self,
         rt: &HostRuntime,
         file: &str,
+        quick: bool,
         output: &mut O,
     ) -> Result<(), &'static str>
         ensures { MatchResult result
-            (λ _. checks O O.Outlet file.now output.old output.new None)
-            (λ line. checks O O.Outlet file.now output.old output.new (Some line.now)) };
+            (λ _. checks O O.Outlet file.now quick output.old output.new None)
+            (λ line. checks O O.Outlet file.now quick output.old output.new (Some line.now)) };
 }
 
 /// Turns a stop into its line.
@@ -114,7 +115,7 @@ pub fn do_job<J: ArchiveJobs, I: Inlet, O: Outlet>(
             port,
             connections,
         } => archives.serve(rt, file, port, connections),
-        Job::Check { file } => archives.check(rt, file, output),
+        Job::Check { file, quick } => archives.check(rt, file, quick, output),
         _ => or_line(do_file_job(rt.alloc(), job, input, output)),
     }
 }

@@ -29,14 +29,19 @@ fn push_word(line: &mut String, word: &str) -> Result<(), AllocError> {
     line.push('\'')
 }
 
-/// The line for these arguments, whose pattern is in the file.
-fn line_of(alloc: Global, words: &[String], file: &str) -> Result<String, AllocError> {
+/// The line for these arguments, whose pattern is in the file. `...` is for arguments that are still missing.
+fn line_of(
+    alloc: Global,
+    words: &[String],
+    are_all: bool,
+    file: &str,
+) -> Result<String, AllocError> {
     let mut line = "The pattern comes on standard input:".to_string(alloc)?;
     for word in words {
         line.push(' ')?;
         push_word(&mut line, word.as_str())?;
     }
-    line.push_str(" < ")?;
+    line.push_str(if are_all { " < " } else { " ... < " })?;
     push_word(&mut line, file)?;
     Ok(line)
 }
@@ -46,20 +51,40 @@ fn may_be_file(word: &str) -> bool {
     !word.starts_with('-') && word.parse::<u64>().is_err()
 }
 
-/// The last argument, if `clap` found it to be one too many and it may be a file, and the arguments before it.
-fn one_too_many<'a>(fault: &WordFault, words: &'a [String]) -> Option<(&'a str, &'a [String])> {
+/// Whether an argument looks like the name of a file: it has a letter, and a dot or a slash.
+fn looks_like_file(word: &str) -> bool {
+    may_be_file(word) && word.contains(['.', '/']) && word.chars().any(|c| c.is_ascii_alphabetic())
+}
+
+/// These arguments with a number after them.
+fn with_number(alloc: Global, words: &[String]) -> Result<Vec<String>, AllocError> {
+    let mut all = Vec::new(alloc);
+    for word in words {
+        all.push(word.as_str().to_string(alloc)?)?;
+    }
+    all.push("1".to_string(alloc)?)?;
+    Ok(all)
+}
+
+/// The last argument, if it may be a file that `clap` refused, the arguments before it, and whether these are all: then it is one too many,
+/// and otherwise it has the place of a number.
+fn refused_file<'a>(
+    fault: &WordFault,
+    words: &'a [String],
+) -> Option<(&'a str, &'a [String], bool)> {
     let WordFault::BadWords(Some(error)) = fault else {
         return None;
     };
     let (last, before) = words.split_last()?;
-    if error.kind() == ErrorKind::UnknownArgument && may_be_file(last.as_str()) {
-        Some((last.as_str(), before))
-    } else {
-        None
+    let file = last.as_str();
+    match error.kind() {
+        ErrorKind::UnknownArgument if may_be_file(file) => Some((file, before, true)),
+        ErrorKind::ValueValidation if looks_like_file(file) => Some((file, before, false)),
+        _ => None,
     }
 }
 
-/// The line for arguments with this fault, if they are one too many for a job that reads a pattern.
+/// The line for arguments with this fault, if the last one counts as the file of a job that reads a pattern.
 fn line_for<F>(
     alloc: Global,
     fault: &WordFault,
@@ -70,16 +95,21 @@ where
     F: FnOnce(&[String]) -> bool,
     requires { F.IsAlwaysCallable reads_pattern }
 {
-    let (file, before) = one_too_many(fault, words)?;
-    if reads_pattern(before) {
-        line_of(alloc, before, file).ok()
+    let (file, before, are_all) = refused_file(fault, words)?;
+    let reads = if are_all {
+        reads_pattern(before)
+    } else {
+        reads_pattern(with_number(alloc, before).ok()?.as_slice())
+    };
+    if reads {
+        line_of(alloc, before, are_all, file).ok()
     } else {
         None
     }
 }
 
-/// Like [`print_fault`], for the arguments with the fault. If they are one too many for a job that reads a pattern, the last one counts as its
-/// file, and a line shows the command with `<`.
+/// Like [`print_fault`], for the arguments with the fault. If the last one counts as the file of a job that reads a pattern, a line shows the
+/// command with `<`.
 pub fn print_fault_of<F>(
     rt: &HostRuntime,
     fault: WordFault,

@@ -1,7 +1,7 @@
 -- The arguments of `life` and the job that they name.
 -- The kit's `clap` defines what a command is, which arguments it takes and what it reads in them; the names of the
 -- subcommands and of their arguments are the program's own.
-use Rattle.std.specs.Prelude.{◌≡◌, ℕ, ◌^◌, ◌-◌, true, if◌then◌else◌, List, [], ◌∷◌, fold, Option, None, Some}
+use Rattle.std.specs.Prelude.{◌≡◌, ℕ, ◌^◌, ◌-◌, Bool, true, if◌then◌else◌, List, [], ◌∷◌, fold, Option, None, Some}
 use Rattle.std.specs.Prelude.{option_map, option_and_then, codes, bytes_eq, false, IfOk, Result, Ok, Err}
 use Rattle.std.specs.Str.Parse.{digits_value, without_leading_plus}
 use Rattle.clap.specs.Words.{App, Row, Rule, Text, Kinds, app_of, new_app, new_rule, with_rule, with_subcommand}
@@ -10,6 +10,7 @@ use Rattle.clap.specs.Simple.{on_top}
 use Rattle.clap.specs.ValueTests.{is_unsigned_in}
 use Rattle.clap.specs.declared.builder.command.Command.{Command}
 use Rattle.clap.specs.declared.builder.command.Command.TheViews.{out-Command as fields_of}
+use Rattle.clap.specs.declared.builder.action.ArgAction.TheVariants.{SetTrue}
 use Rattle.clap.specs.declared.builder.value_parser.ValueParser.TheVariants as vp
 use Rattle.clap.specs.declared.parser.matches.ArgMatches.{ArgMatches}
 use Rattle.life_words.specs.Explain.{is_refusal}
@@ -84,6 +85,10 @@ file_rule = record (text_rule (codes "F")) { long = Some (codes "db") }
 abbrev pub number_rule_in : Text → Text → ℕ → Rule
 number_rule_in id long most = record (new_rule id) { long = Some long; parser = Some (vp.Unsigned 1 most); required = true }
 
+-- the option `--quick`, which takes no value: `clap` gives it the value `true` if it is there, and else `false`
+abbrev pub quick_rule : Rule
+quick_rule = record (new_rule (codes "quick")) { long = Some (codes "quick"); action = Some SetTrue }
+
 -- `generation N`
 abbrev pub generation : App
 generation = with_rule (new_app (codes "generation")) (number_rule (codes "N"))
@@ -108,9 +113,9 @@ deposit = with_rule (with_rule (with_rule (new_app (codes "deposit")) file_rule)
 abbrev pub serve : App
 serve = with_rule (with_rule (with_rule (new_app (codes "serve")) file_rule) (number_rule_in (codes "P") (codes "port") 65535)) (number_rule_in (codes "N") (codes "connections") 1000000)
 
--- `check --db F`
+-- `check --db F [--quick]`
 abbrev pub check : App
-check = with_rule (new_app (codes "check")) file_rule
+check = with_rule (with_rule (new_app (codes "check")) file_rule) quick_rule
 
 -- `explain NAME`
 abbrev pub explain : App
@@ -142,7 +147,7 @@ pub data Asked : Type 0 where
   AsksCensus : (n limit : ℕ) → Asked
   AsksDeposit : (file member token : Text) → Asked
   AsksServe : (file : Text) (port connections : ℕ) → Asked
-  AsksCheck : (file : Text) → Asked
+  AsksCheck : (file : Text) (quick : Bool) → Asked
   AsksExplain : (name : Text) → Asked
 
 -- what a job asks for
@@ -153,7 +158,7 @@ asked_by (Object rule code limit) = AsksObject rule.now code.now limit
 asked_by (Census n limit) = AsksCensus n limit
 asked_by (Deposit file member token) = AsksDeposit file.now member.now token.now
 asked_by (Serve file port connections) = AsksServe file.now port connections
-asked_by (Check file) = AsksCheck file.now
+asked_by (Check file quick) = AsksCheck file.now quick
 asked_by (Explain name) = AsksExplain name.now
 
 -- the number that a text writes in decimal digits, with an optional `+` in front
@@ -167,6 +172,14 @@ number_at id rows = option_and_then number_text (one_of id rows)
 -- the text of the argument with this id
 abbrev pub text_at : Text → List Row → Option Text
 text_at id rows = first_of id rows
+
+-- whether an option without a value is there
+abbrev pub is_true_text : Option Text → Bool
+is_true_text (Some text) = bytes_eq text (codes "true")
+is_true_text None = false
+
+abbrev pub is_given : Text → List Row → Bool
+is_given id rows = is_true_text (text_at id rows)
 
 -- the job that explains this name, if it is given and a refusal has it
 abbrev pub explain_of : Option Text → Option Asked
@@ -182,7 +195,7 @@ job_named name rows =
     else if bytes_eq name (codes "census") then if_both AsksCensus (number_at (codes "N") rows) (number_at (codes "LIMIT") rows)
     else if bytes_eq name (codes "deposit") then if_all AsksDeposit (text_at (codes "F") rows) (text_at (codes "MEMBER") rows) (text_at (codes "TOKEN") rows)
     else if bytes_eq name (codes "serve") then if_all AsksServe (text_at (codes "F") rows) (number_at (codes "P") rows) (number_at (codes "N") rows)
-    else if bytes_eq name (codes "check") then option_map AsksCheck (text_at (codes "F") rows)
+    else if bytes_eq name (codes "check") then option_map (λ file. AsksCheck file (is_given (codes "quick") rows)) (text_at (codes "F") rows)
     else if bytes_eq name (codes "explain") then explain_of (text_at (codes "NAME") rows)
     else None
 

@@ -2,8 +2,8 @@
 ghost use Rattle.std.specs.Prelude.{◌≡◌, codes, map, option_map, IfOk, false};
 ghost use Rattle.clap.specs.Words.{app_of, rule_of, rows_of, found_of, subcommand_rows_of};
 ghost use Rattle.clap.specs.declared.builder.command.Command.TheViews.{out-Command as fields_of};
-ghost use Rattle.life_words.specs.Words.{number_rule_in, text_rule, file_rule, MakesCommand, object, census, deposit, serve, check, explain, life_alone, life_app};
-ghost use Rattle.life_words.specs.Words.{number_at, text_at, asked_by, explain_of, job_named, by_subcommand, words_job, Answers};
+ghost use Rattle.life_words.specs.Words.{number_rule_in, text_rule, file_rule, quick_rule, MakesCommand, object, census, deposit, serve, check, explain, life_alone, life_app};
+ghost use Rattle.life_words.specs.Words.{number_at, text_at, is_given, asked_by, explain_of, job_named, by_subcommand, words_job, Answers};
 
 use crate::commands::{
     generation_arg, limit_arg, named_command, program_command, read_matches, text_arg, with_arg,
@@ -12,7 +12,7 @@ use crate::commands::{
 use crate::explain::{explanation, refusal_names};
 use crate::fault::WordFault;
 use clap::builder::ValueParser;
-use clap::{Arg, ArgMatches, Command};
+use clap::{Arg, ArgAction, ArgMatches, Command};
 use std::alloc::{AllocError, Global};
 use std::convert::AsStr;
 
@@ -73,9 +73,10 @@ Example: life serve --db club.db --port 8080 --connections 100";
 const CHECK_ABOUT: &str = "Checks that the file of an archive is one, row by row";
 
 const CHECK_HELP: &str = "\
-Reads:   every row of the archive F, and counts each census again; it adds nothing to F
-Prints:  'sound: N deposits, M censuses'; otherwise the first error, such as 'deposit 17: ...',
-         and then it refuses
+Reads:   every row of the archive F, and counts each census again, unless --quick is given;
+         it adds nothing to F
+Prints:  'sound: N deposits, M censuses', or 'sound but for counts: N deposits, M censuses' with
+         --quick; otherwise the first error, such as 'deposit 17: ...', and then it refuses
 Refuses: not-sound, not-ours, unavailable
 Example: life check --db club.db";
 
@@ -132,9 +133,10 @@ pub enum Job<'a> {
         port: u64,
         connections: u64,
     },
-    /// Check the archive in this file.
+    /// Check the archive in this file. A quick check counts no census.
     Check {
         file: &'a str,
+        quick: bool,
     },
     /// Explain the refusals with this name.
     Explain(&'a str),
@@ -217,11 +219,23 @@ fn serve_command<'a>(alloc: Global) -> Result<Command<'a>, AllocError>
     with_arg(command, connections_arg(alloc))
 }
 
+// The option `--quick`.
+fn quick_arg<'a>(alloc: Global) -> Arg<'a>
+    ensures rule { rule_of result ≡ quick_rule }
+    ensures local { result.global ≡ false }
+{
+    Arg::new(alloc, "quick")
+        .action(ArgAction::SetTrue)
+        .help("Leave out the counting of censuses")
+        .long("quick")
+}
+
 fn check_command<'a>(alloc: Global) -> Result<Command<'a>, AllocError>
     ensures { MakesCommand check result }
 {
     let command = Ok(named_command(alloc, "check", CHECK_ABOUT, CHECK_HELP));
-    with_arg(command, file_arg(alloc))
+    let command = with_arg(command, file_arg(alloc));
+    with_arg(command, quick_arg(alloc))
 }
 
 // The name of a refusal or a fault.
@@ -285,6 +299,16 @@ pub fn text_in<'a>(found: &ArgMatches<'a>, id: &str) -> Option<&'a str>
     found.get_str(id)
 }
 
+// Whether the option with this id, which takes no value, was given.
+fn is_given(found: &ArgMatches<'_>, id: &str) -> bool
+    ensures { result ≡ is_given id.now (rows_of (found_of found.now)) }
+{
+    match text_in(found, id) {
+        Some(text) => text == "true",
+        None => false,
+    }
+}
+
 // The limit on the period.
 fn limit_in(found: &ArgMatches<'_>) -> Option<u64>
     ensures { result ≡ number_at (codes "LIMIT") (rows_of (found_of found.now)) }
@@ -333,6 +357,7 @@ fn job_in<'a>(matches: &ArgMatches<'a>) -> Option<Job<'a>>
         }),
         "check" => Some(Job::Check {
             file: text_in(found, "F")?,
+            quick: is_given(found, "quick"),
         }),
         "explain" => explain_in(found),
         _ => None,

@@ -28,7 +28,7 @@ const PRIME: u128 = 18_446_744_073_709_551_557;
 /// How far outside its first box a set can get, and a bit more.
 const MARGIN: i64 = 72;
 
-/// The element at an index, modulo the length; 1 if there is none.
+/// The element at an index, modulo the length; 1 for an empty list.
 fn round(list: &[u64], index: u64) -> u64 {
     let len = list.len() as u64;
     let index = if len == 0 { 0 } else { index % len };

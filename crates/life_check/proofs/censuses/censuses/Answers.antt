@@ -8,7 +8,7 @@ use Rattle.life_check.proofs.CountLemmas.{counted_more, filed_then}
 use Rattle.life_check.proofs.censuses.censuses.Goals as goal
 
 pub loop-count-init : goal.loop-count-init
-loop-count-init g c = (c.in_ok-begin_all.ensures.live.0, c.in_ok-begin_all.ensures.live.1, c.in_ok-begin_all.ensures.live.2, c.begin_all.ensures.calm, λ clean ds filed. c.in_ok-begin_all.ensures.begun clean ds)
+loop-count-init g c = (c.in_ok-begin_all.ensures.live.0, c.in_ok-begin_all.ensures.live.1, c.in_ok-begin_all.ensures.live.2, c.begin_all.ensures.calm, λ clean ds filed. c.in_ok-begin_all.ensures.begun clean c.args.quick ds)
 
 pub loop-count-preserved : goal.loop-count-preserved
 loop-count-preserved g c =
@@ -25,8 +25,8 @@ loop-count-preserved g c =
           let found : c.in_ok-next.field-0 ≡ true = search rules in
           let goes = subst (Advances v1 v2 0 c.next.new.row) found (c.in_ok-next.ensures.ok clean_2) in
           let before = c.loop-count.invariant.4 clean_1 ds filed in
-          let told : IfSome (Some c.in-Some.more) (λ more. (ds : List Deposit) → AreFiled v2.trees ds → Follows ds (c.loop-count.count + 1) c.loop-count.read more c.next.new.row v2 v3) =
-          subst (λ o. IfSome o (λ more. (ds : List Deposit) → AreFiled v2.trees ds → Follows ds (c.loop-count.count + 1) c.loop-count.read more c.next.new.row v2 v3)) c.in-Some.is (c.in_ok-more.ensures.follow clean) in
-          let it = told ds (filed_then ds c.loop-count.count c.loop-count.read (g.S.Store.view c.args.store.now) v1 v2 c.next.new.row before goes filed) in
-          counted_more ds c.loop-count.count c.loop-count.read c.in-Some.more (g.S.Store.view c.args.store.now) v1 v2 v3 c.next.new.row before goes it,
+          let told : IfSome (Some c.in-Some.more) (λ more. (ds : List Deposit) → AreFiled v2.trees ds → Follows c.args.quick ds (c.loop-count.count + 1) c.loop-count.read more c.next.new.row v2 v3) =
+          subst (λ o. IfSome o (λ more. (ds : List Deposit) → AreFiled v2.trees ds → Follows c.args.quick ds (c.loop-count.count + 1) c.loop-count.read more c.next.new.row v2 v3)) c.in-Some.is (c.in_ok-more.ensures.follow clean) in
+          let it = told ds (filed_then c.args.quick ds c.loop-count.count c.loop-count.read (g.S.Store.view c.args.store.now) v1 v2 c.next.new.row before goes filed) in
+          counted_more c.args.quick ds c.loop-count.count c.loop-count.read c.in-Some.more (g.S.Store.view c.args.store.now) v1 v2 v3 c.next.new.row before goes it,
     )

@@ -9,5 +9,5 @@ returns-in-Ok g c =
     inr (
       end.result.1,
       refl,
-      is_path_check c.in-Ok.archive end.result.0 end.result.1 end.ensures _ c.args.capacity (record { capacity = it.capacity; healthy = it.healthy; found = it.found }),
+      is_path_check c.args.quick c.in-Ok.archive end.result.0 end.result.1 end.ensures _ c.args.capacity (record { capacity = it.capacity; healthy = it.healthy; found = it.found }),
     )

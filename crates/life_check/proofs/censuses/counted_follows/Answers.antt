@@ -6,7 +6,7 @@ use Rattle.life_store.specs.Stored.{rows_by, count_cells, tagged}
 use Rattle.life_check.specs.ReadState.{census_row_of, flag_row_of}
 use Rattle.life_check.specs.CountState.{Takes}
 use Rattle.life_check.proofs.CountLemmas.{follows}
-use Rattle.life_check.proofs.censuses.census_follows.Goals as goal
+use Rattle.life_check.proofs.censuses.counted_follows.Goals as goal
 
 pub returns-clause-follow : goal.returns-clause-follow
 returns-clause-follow g c clean ds filed =
@@ -16,10 +16,10 @@ returns-clause-follow g c clean ds filed =
     let v3 = g.S.Store.view c.flag_follows.new.store in
     let clean_2 : IsClean v2 = omega (arith, c.flag_follows.ensures.calm.clean, clean) in
     let clean_1 : IsClean v1 = omega (arith, c.rows_follow.ensures.calm.clean, clean_2) in
-    let there : Some c.in-Some-2.deposit ≡ numbered ds c.in-Some.census.deposit = sym c.in-Some-2.is ∙ c.in_ok-deposit.ensures.found clean_1 ds filed in
+    let there : Some c.in-Some.deposit ≡ numbered ds c.args.census.now.deposit = sym c.in-Some.is ∙ c.in_ok-deposit.ensures.found clean_1 ds filed in
     let rows : map row_seen c.as_slice.result.now ≡ c.in_ok-tally.tally.rows = search rules in
-    let row_is : c.args.row.now ≡ census_row_of c.args.id c.in-Some.census c.in_ok-tally.tally = search rules in
-    let taken : (c.in-Some-3.more ≡ c.args.before + length c.as_slice.result.now) × Takes 1 (rows_by count_cells (c.args.before + 1) (tagged c.args.id (map row_seen c.as_slice.result.now))) v1 v2 = search rules in
+    let row_is : c.args.row.now ≡ census_row_of c.args.id c.args.census.now c.in_ok-tally.tally.total c.in_ok-tally.tally.unresolved = search rules in
+    let taken : (c.in-Some-2.more ≡ c.args.before + length c.as_slice.result.now) × Takes 1 (rows_by count_cells (c.args.before + 1) (tagged c.args.id (map row_seen c.as_slice.result.now))) v1 v2 = search rules in
     let last : Takes 2 (flag_row_of c.args.id c.in_ok-tally.steady ∷ []) v2 v3 = search rules in
-    follows row_seen ds c.args.id c.args.before c.in-Some-3.more c.args.row.now v0 v1 v2 v3 c.in-Some.census c.in-Some-2.deposit c.in_ok-tally.tally c.in_ok-tally.steady c.as_slice.result.now
-    there c.in_ok-tally.ensures.is c.in_ok-tally.ensures.flag c.in_ok-tally.ensures.ordered row_is (c.in_ok-deposit.ensures.same clean_1) rows taken last
+    follows row_seen ds c.args.id c.args.before c.in-Some-2.more c.args.row.now v0 v1 v2 v3 c.args.census.now c.in-Some.deposit c.in_ok-tally.tally c.in_ok-tally.steady c.as_slice.result.now
+    c.requires.askable there c.in_ok-tally.ensures.is c.in_ok-tally.ensures.flag c.in_ok-tally.ensures.ordered c.in_ok-tally.ensures.adds_up row_is (c.in_ok-deposit.ensures.same clean_1) rows taken last

@@ -244,3 +244,35 @@ def test_signals_in_configurations(folder: str) -> None:
 
 def is_beside(path: str) -> bool:
     return path.endswith((".dpkg-dist", ".dpkg-old", ".dpkg-new", ".dpkg-tmp"))
+
+
+# ---- programs
+
+
+# A command that gets a signal while a program of its is being started, and says which processes it leaves.
+STARTING = """
+import os, pathlib, signal, sys, time
+sys.path.insert(0, sys.argv[1])
+from life_operate import signals
+
+def begin_late():
+    os.kill(os.getppid(), signal.SIGTERM)
+    time.sleep(0.3)
+    begin_program()
+
+own = signals.Signals()
+begin_program, signals.begin_program = signals.begin_program, begin_late
+try:
+    with signals.started(["sleep", "600"]) as process:
+        process.wait()
+except signals.Interrupted as end:
+    print(end, pathlib.Path(f"/proc/self/task/{os.getpid()}/children").read_text().split())
+"""
+
+
+def test_signal_while_starting() -> None:
+    """A signal that comes while a program is being started ends the program, too."""
+    done = subprocess.run(
+        [sys.executable, "-c", STARTING, DEPLOY], stdin=subprocess.DEVNULL, capture_output=True, text=True, timeout=60
+    )
+    same("a program that was being started", (done.stdout, done.stderr), ("ended by SIGTERM []\n", ""))

@@ -323,7 +323,7 @@ def reset(port: int) -> None:
 
 # A sender that is faster than the server takes: a byte a call, and what comes back is dropped, also while there is no room to send: else the
 # server would wait for a peer that waits for it. If the system allows it, it goes before other work, so that no silence of a second ends
-# the stream on a busy machine.
+# the stream on a busy machine. Within a message a silence may be longer, so messages have bodies.
 SENDER = r"""
 #include <arpa/inet.h>
 #include <errno.h>
@@ -331,18 +331,21 @@ SENDER = r"""
 #include <poll.h>
 #include <sched.h>
 #include <stdlib.h>
+#include <string.h>
 #include <sys/socket.h>
 
 int main(int count, char **words) {
-  static const char message[] = "GET /x HTTP/1.1\r\n\r\n";
-  static char dropped[65536];
+  static const char head[] = "GET /x HTTP/1.1\r\ncontent-length: 1000\r\n\r\n";
+  static char message[sizeof head - 1 + 1000], dropped[65536];
+  memset(message, 'x', sizeof message);
+  memcpy(message, head, sizeof head - 1);
   struct sockaddr_in to = {.sin_family = AF_INET, .sin_port = htons(atoi(words[1])), .sin_addr.s_addr = htonl(INADDR_LOOPBACK)};
   sched_setscheduler(0, SCHED_RR, &(struct sched_param) {.sched_priority = 1});
   int on = 1, peer = socket(AF_INET, SOCK_STREAM, 0);
   setsockopt(peer, IPPROTO_TCP, TCP_NODELAY, &on, sizeof on);
   if (connect(peer, (struct sockaddr *) &to, sizeof to)) return 1;
   for (long sent = 0;;) {
-    int is_sent = send(peer, message + sent % (sizeof message - 1), 1, MSG_NOSIGNAL | MSG_DONTWAIT) == 1;
+    int is_sent = send(peer, message + sent % sizeof message, 1, MSG_NOSIGNAL | MSG_DONTWAIT) == 1;
     if (!is_sent && errno != EAGAIN) return 0;
     sent += is_sent;
     if (!is_sent || sent % 64 == 0) while (recv(peer, dropped, sizeof dropped, MSG_DONTWAIT) > 0) {}

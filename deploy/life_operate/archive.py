@@ -5,6 +5,7 @@ the file and the head of its log do not change, the program only appends to the 
 have left. SQLite then merges the log into the file. It must not change any other byte: `.backup`, VACUUM INTO or another journal mode
 would leave wrong checksums in the pages.
 """
+import contextlib
 import datetime
 import fcntl
 import http.client
@@ -17,10 +18,10 @@ import socket
 import sqlite3
 import subprocess
 import time
-from collections.abc import Iterable
+from collections.abc import Iterable, Iterator
 from typing import Any, BinaryIO
 
-from life_operate.signals import die_with_parent
+from life_operate.signals import started
 
 TRIES = 40
 # A log's head, a frame's head and the smallest page of SQLite: a shorter log has no commit.
@@ -257,22 +258,10 @@ def answered(port: int, path: str, timeout: float = 60) -> tuple[int, bytes]:
 
 
 class Opened:
-    """The program, serving a file for one connection on 127.0.0.1. It ends after that by itself, or is killed."""
+    """The program, serving a file for one connection on 127.0.0.1. It ends after that by itself."""
 
-    def __init__(self, program: str, path: str) -> None:
-        self.path, self.port = path, free_port()
-        words = [program, "serve", "--db", path, "--port", str(self.port), "--connections", "1"]
-        self.process = subprocess.Popen(
-            words, stdin=subprocess.DEVNULL, stdout=subprocess.PIPE, stderr=subprocess.PIPE, preexec_fn=die_with_parent
-        )
-
-    def __enter__(self) -> "Opened":
-        return self
-
-    def __exit__(self, *_: object) -> None:
-        if self.process.poll() is None:
-            self.process.kill()
-        self.process.communicate()
+    def __init__(self, process: subprocess.Popen[bytes], port: int) -> None:
+        self.process, self.port = process, port
 
     def asked(self, name: str, route: str) -> tuple[int, bytes]:
         """The reply for a route, or why the program doesn't serve the file. Messages call the file by this name."""
@@ -288,11 +277,19 @@ class Opened:
         return self.process.wait(60) == 0
 
 
+@contextlib.contextmanager
+def opened_by_program(program: str, path: str) -> Iterator[Opened]:
+    """Has the program serve a file. At the end of the block it is killed if it still runs."""
+    port = free_port()
+    with started([program, "serve", "--db", path, "--port", str(port), "--connections", "1"]) as process:
+        yield Opened(process, port)
+
+
 def asked_of_program(program: str, path: str, name: str, route: str, ends: bool = False) -> tuple[int, bytes]:
     """What the program answers with a file open; with `ends` it also has to succeed after that. Anybody on the machine may use up its one
     connection, so a question without an answer is asked once more."""
     for last in (False, True):
-        with Opened(program, path) as opened:
+        with opened_by_program(program, path) as opened:
             try:
                 reply = opened.asked(name, route)
             except NoAnswer:
@@ -307,16 +304,10 @@ def asked_of_program(program: str, path: str, name: str, route: str, ends: bool 
 
 def checked_by_program(program: str, *words: str) -> tuple[int, str, str]:
     """The status of `PROGRAM check` with these arguments, and the first lines of its output and of its errors. It changes no byte."""
-    done = subprocess.run(
-        [program, "check", *words],
-        stdin=subprocess.DEVNULL,
-        capture_output=True,
-        text=True,
-        preexec_fn=die_with_parent,
-        check=False,
-    )
-    said, errors = ((text.splitlines() or [""])[0] for text in (done.stdout, done.stderr))
-    return done.returncode, said, errors
+    with started([program, "check", *words]) as process:
+        texts = process.communicate()
+    said, errors = ((text.decode().splitlines() or [""])[0] for text in texts)
+    return process.returncode, said, errors
 
 
 def try_by_program(program: str, path: str, contents: Contents) -> str:

@@ -26,7 +26,6 @@ import os
 import pwd
 import re
 import shutil
-import subprocess
 import sys
 import tempfile
 import time
@@ -52,7 +51,7 @@ from life_operate.archive import (
 )
 from life_operate.exchange import COPY_WITHIN, folder_lock, new_room, remove_old_rooms, say
 from life_operate.identity import Helper
-from life_operate.signals import ENDING, Interrupted, Signals, end_by
+from life_operate.signals import ENDING, Interrupted, Signals, end_by, started
 
 # How many characters of a time name its day, and its month.
 DAY, MONTH = len("2026-11-26"), len("2026-11")
@@ -173,18 +172,9 @@ def send(copy: str, place: str) -> None:
 def run_politely(words: list[str]) -> tuple[int, str]:
     """The status of a program and what it wrote to standard error. If a signal ends this command, the program gets SIGTERM and some time, so that
     it removes what it has begun."""
-    with subprocess.Popen(
-        words, stdin=subprocess.DEVNULL, stdout=subprocess.DEVNULL, stderr=subprocess.PIPE, text=True
-    ) as process:
-        try:
-            _, errors = process.communicate()
-            return process.returncode, errors
-        except BaseException:
-            process.terminate()
-            with contextlib.suppress(subprocess.TimeoutExpired):
-                process.wait(ENDS_WITHIN)
-            process.kill()
-            raise
+    with started(words, ENDS_WITHIN) as process:
+        errors = process.communicate()[1].decode(errors="replace")
+    return process.returncode, errors
 
 
 METRICS = """# HELP life_copy_time_seconds When the newest good copy was made.

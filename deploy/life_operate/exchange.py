@@ -90,9 +90,10 @@ def remove_old_rooms(folder: str, prefix: str | tuple[str, ...] = ROOMS) -> None
 @contextlib.contextmanager
 def new_room(folder: str, prefix: str, signals: Signals) -> Iterator[str]:
     """A folder for a command's own files, removed at the end, whatever that end is."""
-    with signals.held_back():
-        room = tempfile.mkdtemp(prefix=prefix, dir=folder)
+    room = ""
     try:
+        with signals.held_back():
+            room = tempfile.mkdtemp(prefix=prefix, dir=folder)
         signals.check()
         yield room
     finally:

@@ -3,6 +3,7 @@ import contextlib
 import ctypes
 import os
 import signal
+import subprocess
 from collections.abc import Iterator
 from types import FrameType
 
@@ -14,6 +15,61 @@ PR_SET_PDEATHSIG = 1
 def die_with_parent() -> None:
     """Has the system kill this process when its parent ends, however that ends, so that half a command does not keep working."""
     ctypes.CDLL(None).prctl(PR_SET_PDEATHSIG, signal.SIGKILL, 0, 0, 0)
+
+
+def begin_program() -> None:
+    """What the process of a program does before the program begins: it ends with its parent, and signals end it."""
+    die_with_parent()
+    for number in ENDING:
+        signal.signal(number, signal.SIG_DFL)
+    signal.pthread_sigmask(signal.SIG_UNBLOCK, ENDING)
+
+
+@contextlib.contextmanager
+def blocked() -> Iterator[None]:
+    """In this block signals wait for its end."""
+    before = signal.pthread_sigmask(signal.SIG_BLOCK, ENDING)
+    try:
+        yield
+    finally:
+        signal.pthread_sigmask(signal.SIG_SETMASK, before)
+
+
+@contextlib.contextmanager
+def started(words: list[str], ends_within: float = 0) -> Iterator[subprocess.Popen[bytes]]:
+    """Runs a program for the time of a block. It has no input; its output and its errors are pipes. If it still runs at the end of the block, it
+    gets SIGTERM, and is killed `ends_within` seconds later. A signal waits until the program has started: otherwise nobody would know that it
+    runs.
+    """
+    process = None
+    try:
+        with blocked():
+            process = subprocess.Popen(
+                words,
+                stdin=subprocess.DEVNULL,
+                stdout=subprocess.PIPE,
+                stderr=subprocess.PIPE,
+                preexec_fn=begin_program,
+            )
+        yield process
+    finally:
+        if process:
+            try:
+                end(process, ends_within)
+            except BaseException:
+                # A signal came in between. Later ones do nothing.
+                end(process, 0)
+                raise
+
+
+def end(process: subprocess.Popen[bytes], within: float) -> None:
+    """Ends a process, closes its pipes and waits until it has ended."""
+    with process:
+        if within and process.poll() is None:
+            process.terminate()
+            with contextlib.suppress(subprocess.TimeoutExpired):
+                process.wait(within)
+        process.kill()
 
 
 class Interrupted(BaseException):

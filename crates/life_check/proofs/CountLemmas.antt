@@ -27,7 +27,7 @@ Counted = List ℕ × ℕ
 
 -- ---- what a cursor gives
 
-append_assoc : {A : Type 0} (xs ys zs : List A) → (xs ++ ys) ++ zs ≡ xs ++ (ys ++ zs)
+pub append_assoc : {A : Type 0} (xs ys zs : List A) → (xs ++ ys) ++ zs ≡ xs ++ (ys ++ zs)
 append_assoc [] ys zs = refl
 append_assoc (x ∷ xs) ys zs = ap (λ all. x ∷ all) (append_assoc xs ys zs)
 
@@ -161,7 +161,7 @@ filed_at ds (suc i) d all there = all_at IsFiled ds i d all there
 
 -- ---- the three tables
 
-rows_append : {X : Type 0} (f : X → Row) (from : ℕ) (xs ys : List X) → rows_by f from (xs ++ ys) ≡ rows_by f from xs ++ rows_by f (from + length xs) ys
+pub rows_append : {X : Type 0} (f : X → Row) (from : ℕ) (xs ys : List X) → rows_by f from (xs ++ ys) ≡ rows_by f from xs ++ rows_by f (from + length xs) ys
 rows_append f from [] ys = ap (λ n. rows_by f n ys) (omega arith)
 rows_append f from (x ∷ xs) ys = ap (λ rows. (Int (pos from) ∷ f x) ∷ rows) (rows_append f (from + 1) xs ys ∙ ap (λ n. rows_by f (from + 1) xs ++ rows_by f n ys) (omega arith))
 
@@ -176,7 +176,7 @@ length_append : {A : Type 0} (xs ys : List A) → length (xs ++ ys) ≡ length x
 length_append [] ys = omega arith
 length_append (x ∷ xs) ys = omega (arith, length_append xs ys)
 
-length_tagged : (id : ℕ) (rows : List Counted) → length (tagged id rows) ≡ length rows
+pub length_tagged : (id : ℕ) (rows : List Counted) → length (tagged id rows) ≡ length rows
 length_tagged id [] = refl
 length_tagged id (r ∷ rows) = omega (arith, length_tagged id rows)
 
@@ -310,6 +310,16 @@ pub there_if : {E P : Type 0} (trees : Trees) (id : ℕ) (r : Result Bool E) (ro
 there_if trees id (Ok true) row here finds = λ it_is ds filed. let it = found_row deposit_cells id (trees 1) row ds filed.0 (finds here) in subst IsSome (sym it.1) refl
 there_if trees id (Ok false) row here finds = λ it_is ds filed. absurd (no_truth it_is)
 there_if trees id (Err e) row here finds = tt
+
+pub none_is_not_some : {X : Type 0} (o : Option X) → o ≡ None → IsSome o → ⊥
+none_is_not_some None none some = cc
+none_is_not_some (Some x) none some = cc
+
+-- a deposit that was not found is not there
+pub gone_if : {E P : Type 0} (trees : Trees) (id : ℕ) (r : Result Bool E) (row : Row) → P → IfOk r (λ found. P → Finds (trees 1) (pos id) row found) → IfOk r (λ b. b ≡ false → (ds : List Deposit) → AreFiled trees ds → IsSome (numbered ds id) → ⊥)
+gone_if trees id (Ok true) row here finds = λ is ds filed some. absurd (no_truth (subst IsTrue is refl))
+gone_if trees id (Ok false) row here finds = λ is ds filed some. none_is_not_some (numbered ds id) (found_none deposit_cells id (trees 1) row ds filed.0 (finds here)) some
+gone_if trees id (Err e) row here finds = tt
 
 -- what is so for each list of deposits is so of the answer
 pub each_ok : {E : Type 0} (trees : Trees) (id : ℕ) (r : Result (Option Deposit) E) → ((ds : List Deposit) → AreFiled trees ds → IfOk r (λ o. o ≡ numbered ds id)) → IfOk r (λ o. (ds : List Deposit) → AreFiled trees ds → o ≡ numbered ds id)

@@ -1,5 +1,6 @@
 pub mod WalkLemmas
 pub mod CountLemmas
+pub mod AwaitLemmas
 pub mod SoundLemmas
 pub mod FileLemmas
 pub mod NameLemmas

@@ -1,16 +1,23 @@
 -- Tables whose rows were read and judged represent an archive.
-use Rattle.std.proofs.Common.{◌≡◌, ◌<◌, ◌∙◌, ℕ, ◌^◌, List, [], ◌∷◌, length, map, Bool, true, false, Result, Ok, Err, refl, sym, ap₂, subst, arith}
+use Rattle.std.proofs.Common.{◌≡◌, ◌<◌, ◌≤◌, ◌∙◌, ℕ, suc, ◌^◌, List, [], ◌∷◌, length, map, Bool, true, false, Option, None, Some, Result, Ok, Err, refl, sym, ap₂, subst, arith}
 use Rattle.std.specs.Prelude.{IsSome, IfOk, OnOk}
-use Rattle.std.specs.List.{AllByRecursion}
+use Rattle.std.specs.List.{AllByRecursion, Contains, filter_map}
 use Rattle.sqlite_trees.specs.Tree.{Trees}
+use Rattle.life_core.specs.Generations.{generation_of}
+use Rattle.life_code.specs.Codes.{code_of}
+use Rattle.life_census.specs.Cluster.{clusters_of}
+use Rattle.life_census.specs.Counting.{occurrences_of}
+use Rattle.life_census.proofs.CountingRows.{rows_are_counts}
+use Rattle.life_census.proofs.CountingTotals.{adds_up}
 use Rattle.life_store.specs.declared.kept.Deposit.{Deposit}
-use Rattle.life_store.specs.Kept.{Tallied}
+use Rattle.life_store.specs.declared.kept.Census.{Census}
+use Rattle.life_store.specs.Kept.{Tallied, numbered}
 use Rattle.life_store.specs.Stored.{IsFiled}
 use Rattle.life_store.specs.Tables.{ArchiveView, HasOrder, Holds}
-use Rattle.life_desk.specs.Archive.{Archive}
+use Rattle.life_desk.specs.Archive.{Archive, tally_for}
 use Rattle.life_desk.specs.Represents.{tallied, Represents, EachHasDeposit}
 use Rattle.life_check.specs.ReadState.{AreNames, IsAskable, IsNamed}
-use Rattle.life_check.specs.CountState.{AddsUp, IsCounted, AreCounted}
+use Rattle.life_check.specs.CountState.{AddsUp, AreSome, IsTallied, IsCounted, AreCounted}
 use Rattle.life_store.specs.Layout.{archive_schema}
 use Rattle.life_store.specs.TreesOf.{AreTreesOf}
 use Rattle.life_check.specs.declared.judging.Verdict.{Verdict}
@@ -117,6 +124,30 @@ all_named : (ds : List Deposit) → AllByRecursion IsFiled ds → AllByRecursion
 all_named [] kept names = tt
 all_named (d ∷ ds) kept names = (record { filed = kept.0; named = names.0 }, all_named ds kept.1 names.1)
 
+-- ---- the censuses of an archive
+
+all_some : (xs : List (List ℕ × ℕ)) → ((code : List ℕ) (n : ℕ) → Contains xs (code, n) → 1 ≤ n) → AreSome xs
+all_some [] some = tt
+all_some (x ∷ xs) some = (some x.0 x.1 (0, omega arith, refl), all_some xs (λ code n it. some code n (suc it.0, omega (arith, it.1), it.2)))
+
+tally_adds_up : (c : Census) (o : Option Deposit) → AddsUp (tally_for c o)
+tally_adds_up c None = refl
+tally_adds_up c (Some d) =
+    adds_up (λ P. code_of d.content.rule P c.limit) (clusters_of (generation_of d.content.rule d.content.cells c.generation)) (tally_for c (Some d)) (record { rows = refl; unresolved = refl; total = refl })
+
+tally_is_some : (c : Census) (o : Option Deposit) → AreSome (tally_for c o).rows
+tally_is_some c None = tt
+tally_is_some c (Some d) =
+    let codes = filter_map (λ P. code_of d.content.rule P c.limit) (clusters_of (generation_of d.content.rule d.content.cells c.generation)) in
+    all_some (occurrences_of codes) (λ code n it. ((rows_are_counts codes code n).0 it).1)
+
+all_tallied : (ds : List Deposit) (cs : List Census) → EachHasDeposit ds cs → AllByRecursion IsAskable cs → AllByRecursion (IsTallied ds) (map (tallied ds) cs)
+all_tallied ds [] each askable = tt
+all_tallied ds (c ∷ cs) each askable = (
+  record { askable = askable.0; there = each.0; is = refl; adds_up = tally_adds_up c (numbered ds c.deposit); some = tally_is_some c (numbered ds c.deposit) },
+  all_tallied ds cs each.1 askable.1,
+)
+
 -- what is wrong with the trees is wrong with every archive
 none_is : {S : Type 0} (a : ArchiveView S) (trees : Trees) (w : Wrong) → AreTreesOf a.tables trees → FindsWrong trees w → RepresentsNone a w
 unfolding Represents
@@ -124,7 +155,14 @@ none_is a trees wrong.Tables has bad = tt
 none_is a trees wrong.Layout has bad = λ A m. bad (sym has.layout ∙ m.holds.layout)
 none_is a trees (wrong.Deposit id) has bad = λ A m. bad A.deposits (sym has.deposits ∙ m.holds.deposits) m.holds.filed
 none_is a trees (wrong.DepositNames id) has bad = λ A asked m. bad A.deposits (sym has.deposits ∙ m.holds.deposits) (all_named A.deposits m.holds.filed asked.deposits)
-none_is a trees (wrong.Census id) has bad = tt
+none_is a trees (wrong.Census id) has bad = λ A asked m.
+    bad A.deposits (sym has.deposits ∙ m.holds.deposits, m.holds.filed) (record {
+      censuses = map (tallied A.deposits) A.censuses;
+      good = all_tallied A.deposits A.censuses m.each asked.censuses;
+      rows = sym has.censuses ∙ m.holds.censuses;
+      counts = sym has.census_rows ∙ m.holds.census_rows;
+      flags = sym has.census_flags ∙ m.holds.census_flags;
+    })
 
 -- what was found of the trees, said of the archive
 pub sound_is : {S : Type 0} (quick : Bool) (a : ArchiveView S) (trees : Trees) (v : Verdict) → a.tables.schema ≡ archive_schema → AreTreesOf a.tables trees → FindsSound quick trees v → RepresentsSome quick a v

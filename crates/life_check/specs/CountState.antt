@@ -1,5 +1,5 @@
 -- The state while the censuses of an archive are read, with the rows of their tallies and their flags, and the results.
-use Rattle.std.specs.Prelude.{◌≡◌, ◌<◌, ◌+◌, ◌^◌, ◌==◌, ⊤, ℕ, Bool, false, List, [], ◌∷◌, ◌++◌, length, sum_by, Some}
+use Rattle.std.specs.Prelude.{◌≡◌, ◌<◌, ◌≤◌, ◌+◌, ◌^◌, ◌==◌, ℕ, Bool, false, List, [], ◌∷◌, ◌++◌, length, sum_by, Some, IsSome}
 use Rattle.std.specs.List.{AllByRecursion}
 use Rattle.sqlite_value.specs.Order.{Row}
 use Rattle.sqlite_trees.specs.Tree.{Trees}
@@ -10,8 +10,8 @@ use Rattle.life_store.specs.Kept.{Tallied, numbered}
 use Rattle.life_store.specs.Stored.{IsFiled, rows_by, deposit_cells, census_cells, count_cells, flag_cells, tagged, counts_from}
 use Rattle.life_store.specs.Tables.{HasOrder}
 use Rattle.life_desk.specs.Represents.{tallied}
-use Rattle.life_check.specs.declared.walk.Found.{Found}
-use Rattle.life_check.specs.declared.walk.Found.TheVariants.{All}
+use Rattle.life_check.specs.declared.walk.FoundCensuses.{FoundCensuses}
+use Rattle.life_check.specs.declared.walk.FoundCensuses.TheVariants.{All, Wrong}
 use Rattle.life_check.specs.ReadState.{census_row, flag_row, IsAskable}
 
 -- The counts of a tally and its clusters without a code are all its clusters.
@@ -37,14 +37,39 @@ pub record AreCounted (quick : Bool) (trees : Trees) (ds : List Deposit) (n : �
   pub counts : trees 5 ≡ rows_by count_cells 1 (counts_from 1 censuses)
   pub flags : trees 7 ≡ rows_by flag_cells 1 censuses
 
+-- each row of a tally counts one cluster or more
+abbrev pub AreSome : List (List ℕ × ℕ) → Type 0
+AreSome rows = AllByRecursion (λ row. 1 ≤ row.1) rows
+
+-- A request can ask for the census, its deposit exists, and its tally and its flag are those of its generation. Such a tally adds up.
+pub record IsTallied (ds : List Deposit) (t : Tallied) : Type 0 where
+  pub askable : IsAskable t.census
+  pub there : IsSome (numbered ds t.census.deposit)
+  pub is : t ≡ tallied ds t.census
+  pub adds_up : AddsUp t.tally
+  pub some : AreSome t.tally.rows
+
+-- all rows of the three tables are those of such censuses of these deposits
+pub record AreTallied (trees : Trees) (ds : List Deposit) : Type 0 where
+  pub censuses : List Tallied
+  pub good : AllByRecursion (IsTallied ds) censuses
+  pub rows : trees 3 ≡ rows_by census_cells 1 censuses
+  pub counts : trees 5 ≡ rows_by count_cells 1 (counts_from 1 censuses)
+  pub flags : trees 7 ≡ rows_by flag_cells 1 censuses
+
 -- the table of deposits has the rows of these; reading each file gives its record again
 abbrev pub AreFiled : Trees → List Deposit → Type 0
 AreFiled trees ds = (trees 1 ≡ rows_by deposit_cells 1 ds) × AllByRecursion IsFiled ds
 
--- the result for the three tables
-abbrev pub FindsCounted : Bool → Trees → Found → Type 0
+-- the result for the three tables: the censuses of all rows; or that no censuses that requests can ask for have these rows
+abbrev pub FindsCounted : Bool → Trees → FoundCensuses → Type 0
 FindsCounted quick trees (All n) = ((ds : List Deposit) → AreFiled trees ds → AreCounted quick trees ds n) × (n < 2 ^ 63)
-FindsCounted quick trees other = ⊤
+FindsCounted quick trees (Wrong n) = (ds : List Deposit) → AreFiled trees ds → AreTallied trees ds → ⊥
+
+-- The cursor is going to give these rows next.
+pub record IsBefore (cursor : ℕ) (rows : List Row) (v : View) : Type 0 where
+  pub left : List Row
+  pub at : v.cursors cursor ≡ Some (rows ++ left)
 
 -- The cursor has given these rows. The other cursors have not moved.
 pub record Takes (cursor : ℕ) (rows : List Row) (old now : View) : Type 0 where
@@ -60,6 +85,21 @@ pub record TakesClusters (id clusters before more : ℕ) (old now : View) : Type
   pub are : sum_by (λ (row : List ℕ × ℕ). row.1) rows ≡ clusters
   pub more_is : more ≡ before + length rows
   pub takes : Takes 1 (rows_by count_cells (before + 1) (tagged id rows)) old now
+
+-- The row is that of this census under this number, and the other two cursors are before its rows and its flag.
+pub record AwaitsCensus (ds : List Deposit) (id before : ℕ) (row : Row) (t : Tallied) (v : View) : Type 0 where
+  pub good : IsTallied ds t
+  pub row_is : row ≡ census_row id t
+  pub counts : IsBefore 1 (rows_by count_cells (before + 1) (tagged id t.tally.rows)) v
+  pub flag : IsBefore 2 (flag_row id t ∷ []) v
+
+-- The cursors are before the rows of the censuses after the first n, whose tallies have this many rows.
+pub record AwaitsRest (ds : List Deposit) (n read : ℕ) (v : View) : Type 0 where
+  pub rest : List Tallied
+  pub good : AllByRecursion (IsTallied ds) rest
+  pub at : v.cursors 0 ≡ Some (rows_by census_cells (n + 1) rest)
+  pub at_counts : v.cursors 1 ≡ Some (rows_by count_cells (read + 1) (counts_from (n + 1) rest))
+  pub at_flags : v.cursors 2 ≡ Some (rows_by flag_cells (n + 1) rest)
 
 -- The first n censuses are read, with this many rows of tallies.
 pub record HasCounted (quick : Bool) (ds : List Deposit) (n read : ℕ) (old now : View) : Type 0 where

@@ -13,7 +13,7 @@ use Rattle.life_check.specs.declared.judging.Verdict.TheVariants.{Sound, SoundBu
 use Rattle.life_check.specs.declared.judging.Wrong.{Wrong}
 use Rattle.life_check.specs.declared.judging.Wrong.TheVariants as wrong
 use Rattle.life_check.specs.ReadState.{AreOf, AreNone, AreNames, IsAskable, IsNamed}
-use Rattle.life_check.specs.CountState.{AddsUp, AreFiled, AreCounted}
+use Rattle.life_check.specs.CountState.{AddsUp, AreFiled, AreCounted, AreTallied}
 
 -- The result for the trees: they are those of this many deposits and this many censuses, correctly counted unless the check is quick.
 pub record AreSound (quick : Bool) (trees : Trees) (deposits censuses : ℕ) : Type 0 where
@@ -23,13 +23,13 @@ pub record AreSound (quick : Bool) (trees : Trees) (deposits censuses : ℕ) : T
   pub few_censuses : censuses < 2 ^ 63
   pub counted : (ds : List Deposit) → AreFiled trees ds → AreCounted quick trees ds censuses
 
--- The error in them. The contract says nothing about errors in censuses and in the tables' columns.
+-- The error in them. The contract says nothing about errors in the tables' columns.
 abbrev pub FindsWrong : Trees → Wrong → Type 0
 FindsWrong trees wrong.Tables = ⊤
 FindsWrong trees wrong.Layout = trees 0 ≢ version_2
 FindsWrong trees (wrong.Deposit id) = AreNone deposit_cells IsFiled (trees 1)
 FindsWrong trees (wrong.DepositNames id) = AreNone deposit_cells IsNamed (trees 1)
-FindsWrong trees (wrong.Census id) = ⊤
+FindsWrong trees (wrong.Census id) = (ds : List Deposit) → AreFiled trees ds → AreTallied trees ds → ⊥
 
 abbrev pub FindsSound : Bool → Trees → Verdict → Type 0
 FindsSound quick trees (Sound d c) = AreSound quick trees d c × (quick ≡ false)
@@ -57,7 +57,7 @@ RepresentsNone a wrong.Tables = ⊤
 RepresentsNone a wrong.Layout = (A : Archive) → Represents a A → ⊥
 RepresentsNone a (wrong.Deposit id) = (A : Archive) → Represents a A → ⊥
 RepresentsNone a (wrong.DepositNames id) = (A : Archive) → IsAskedFor A → Represents a A → ⊥
-RepresentsNone a (wrong.Census id) = ⊤
+RepresentsNone a (wrong.Census id) = (A : Archive) → IsAskedFor A → Represents a A → ⊥
 
 -- the tables represent an archive with this many deposits and censuses, but for its counts if the check is quick; or no archive
 abbrev pub RepresentsSome : {S : Type 0} → Bool → ArchiveView S → Verdict → Type 0

@@ -1,15 +1,15 @@
 //! Reading the tables of censuses, of the rows of their tallies, and of their flags side by side.
 
-ghost use Rattle.std.specs.Prelude.{◌≡◌, ◌<◌, ◌≤◌, ◌^◌, ◌+◌, ℕ, Bool, List, [], ◌∷◌, length, map, true, false, IsSome, Some, IfOk, IfSome, OnOk, IsTrue};
+ghost use Rattle.std.specs.Prelude.{◌≡◌, ◌<◌, ◌≤◌, ◌^◌, ◌+◌, ℕ, Bool, List, [], ◌∷◌, length, map, sum_by, true, false, IsSome, None, Some, IfOk, IfSome, OnOk, IsTrue};
 ghost use Rattle.sqlite_trees.specs.View.{IsClean, StayLive};
 ghost use Rattle.life_rle.specs.Record.{IsInside};
 ghost use Rattle.life_census.specs.Rows.{row_seen};
 ghost use Rattle.life_store.specs.declared.kept.Deposit.{Deposit as Given};
-ghost use Rattle.life_store.specs.Kept.{numbered};
+ghost use Rattle.life_store.specs.Kept.{Tallied, numbered};
 ghost use Rattle.life_store.specs.Stored.{rows_by, count_cells, tagged};
 ghost use Rattle.life_check.specs.ReadState.{count_row, flag_row_of, IsAskable};
 ghost use Rattle.life_check.specs.WalkState.{IsCalm};
-ghost use Rattle.life_check.specs.CountState.{AreFiled, Takes, TakesClusters, HasCounted, Follows, FindsCounted};
+ghost use Rattle.life_check.specs.CountState.{AreFiled, AreSome, AreTallied, Takes, TakesClusters, IsBefore, AwaitsCensus, AwaitsRest, HasCounted, Follows, FindsCounted};
 
 use crate::counting::counted;
 use crate::deposits::{DEPOSITS, LAST};
@@ -17,7 +17,7 @@ use crate::rows::{
     census_in, deposit_of_row, is_askable, is_of_census, is_of_count, is_of_flag, number_at,
     text_at,
 };
-use crate::walk::{Found, begin, get, next};
+use crate::walk::{FoundCensuses, begin, get, next};
 use life_census::Row as Counted;
 use life_store::{Census, Deposit, Unavailable};
 use sqlite::Alter;
@@ -56,6 +56,7 @@ fn deposit_at<S: Alter>(
 /// Whether there is a deposit with the number.
 fn has_deposit<S: Alter>(store: &mut S, alloc: Global, id: u64) -> Result<bool, Unavailable>
     ensures there { IsClean (S.Store.view store.new) → IfOk result (λ b. IsTrue b → (ds : List Given) → AreFiled (S.Store.view store.old).trees ds → IsSome (numbered ds id)) }
+    ensures other { IsClean (S.Store.view store.new) → IfOk result (λ b. b ≡ false → (ds : List Given) → AreFiled (S.Store.view store.old).trees ds → IsSome (numbered ds id) → ⊥) }
     ensures same { OnOk result (IsClean (S.Store.view store.new) → S.Store.view store.new ≡ S.Store.view store.old) }
     ensures stay { OnOk result (StayLive (S.Store.view store.old) (S.Store.view store.new)) }
     ensures calm { IsCalm S.Store store.old store.new }
@@ -77,6 +78,7 @@ fn rows_follow<S: Alter>(
 ) -> Result<Option<u64>, Unavailable>
     requires { IsSome ((S.Store.view store.old).cursors 1) }
     ensures follow { IsClean (S.Store.view store.new) → IfOk result (λ o. IfSome o (λ more. (more ≡ before + length rows.now) × Takes 1 (rows_by count_cells (before + 1) (tagged id (map row_seen rows.now))) (S.Store.view store.old) (S.Store.view store.new))) }
+    ensures none { IsClean (S.Store.view store.new) → IfOk result (λ o. o ≡ None → IsBefore 1 (rows_by count_cells (before + 1) (tagged id (map row_seen rows.now))) (S.Store.view store.old) → ⊥) }
     ensures stay { OnOk result (StayLive (S.Store.view store.old) (S.Store.view store.new)) }
     ensures calm { IsCalm S.Store store.old store.new }
 {
@@ -106,6 +108,7 @@ fn flag_follows<S: Alter>(
 ) -> Result<bool, Unavailable>
     requires { IsSome ((S.Store.view store.old).cursors 2) }
     ensures follow { IsClean (S.Store.view store.new) → IfOk result (λ b. IsTrue b → Takes 2 (flag_row_of id steady ∷ []) (S.Store.view store.old) (S.Store.view store.new)) }
+    ensures other { IsClean (S.Store.view store.new) → IfOk result (λ b. b ≡ false → IsBefore 2 (flag_row_of id steady ∷ []) (S.Store.view store.old) → ⊥) }
     ensures stay { OnOk result (StayLive (S.Store.view store.old) (S.Store.view store.new)) }
     ensures calm { IsCalm S.Store store.old store.new }
 {
@@ -126,6 +129,7 @@ fn count_follows<S: Alter>(
 ) -> Result<Option<u64>, Unavailable>
     requires { IsSome ((S.Store.view store.old).cursors 1) }
     ensures follow { IsClean (S.Store.view store.new) → IfOk result (λ o. IfSome o (λ n. (code : List ℕ) × Takes 1 (count_row at (id, (code, n)) ∷ []) (S.Store.view store.old) (S.Store.view store.new))) }
+    ensures none { IsClean (S.Store.view store.new) → IfOk result (λ o. o ≡ None → (code : List ℕ) (n : ℕ) → 1 ≤ n → IsBefore 1 (count_row at (id, (code, n)) ∷ []) (S.Store.view store.old) → ⊥) }
     ensures some { IfOk result (λ o. IfSome o (λ n. 1 ≤ n)) }
     ensures stay { OnOk result (StayLive (S.Store.view store.old) (S.Store.view store.new)) }
     ensures calm { IsCalm S.Store store.old store.new }
@@ -160,6 +164,7 @@ fn clusters_follow<S: Alter>(
 ) -> Result<Option<u64>, Unavailable>
     requires { IsSome ((S.Store.view store.old).cursors 1) }
     ensures follow { IsClean (S.Store.view store.new) → IfOk result (λ o. IfSome o (λ more. TakesClusters id clusters before more (S.Store.view store.old) (S.Store.view store.new))) }
+    ensures none { IsClean (S.Store.view store.new) → IfOk result (λ o. o ≡ None → (rows : List (List ℕ × ℕ)) → AreSome rows → sum_by (λ (row : List ℕ × ℕ). row.1) rows ≡ clusters → IsBefore 1 (rows_by count_cells (before + 1) (tagged id rows)) (S.Store.view store.old) → ⊥) }
     ensures stay { OnOk result (StayLive (S.Store.view store.old) (S.Store.view store.new)) }
     ensures calm { IsCalm S.Store store.old store.new }
 {
@@ -185,6 +190,7 @@ fn clusters_follow<S: Alter>(
 fn some_flag_follows<S: Alter>(store: &mut S, alloc: Global, id: u64) -> Result<bool, Unavailable>
     requires { IsSome ((S.Store.view store.old).cursors 2) }
     ensures follow { IsClean (S.Store.view store.new) → IfOk result (λ b. IsTrue b → (steady : Bool) × Takes 2 (flag_row_of id steady ∷ []) (S.Store.view store.old) (S.Store.view store.new)) }
+    ensures other { IsClean (S.Store.view store.new) → IfOk result (λ b. b ≡ false → (steady : Bool) → IsBefore 2 (flag_row_of id steady ∷ []) (S.Store.view store.old) → ⊥) }
     ensures stay { OnOk result (StayLive (S.Store.view store.old) (S.Store.view store.new)) }
     ensures calm { IsCalm S.Store store.old store.new }
 {
@@ -212,6 +218,7 @@ fn counted_follows<S: Alter>(
     requires flags { IsSome ((S.Store.view store.old).cursors 2) }
     requires askable { IsAskable census.now }
     ensures follow { IsClean (S.Store.view store.new) → IfOk result (λ o. IfSome o (λ more. (ds : List Given) → AreFiled (S.Store.view store.old).trees ds → Follows false ds id before more row.now (S.Store.view store.old) (S.Store.view store.new))) }
+    ensures none { IsClean (S.Store.view store.new) → IfOk result (λ o. o ≡ None → (ds : List Given) → AreFiled (S.Store.view store.old).trees ds → (t : Tallied) → t.census ≡ census.now → AwaitsCensus ds id before row.now t (S.Store.view store.old) → ⊥) }
     ensures stay { OnOk result (StayLive (S.Store.view store.old) (S.Store.view store.new)) }
     ensures calm { IsCalm S.Store store.old store.new }
 {
@@ -244,6 +251,7 @@ fn uncounted_follows<S: Alter>(
     requires flags { IsSome ((S.Store.view store.old).cursors 2) }
     requires askable { IsAskable census.now }
     ensures follow { IsClean (S.Store.view store.new) → IfOk result (λ o. IfSome o (λ more. (ds : List Given) → AreFiled (S.Store.view store.old).trees ds → Follows true ds id before more row.now (S.Store.view store.old) (S.Store.view store.new))) }
+    ensures none { IsClean (S.Store.view store.new) → IfOk result (λ o. o ≡ None → (ds : List Given) → AreFiled (S.Store.view store.old).trees ds → (t : Tallied) → t.census ≡ census.now → AwaitsCensus ds id before row.now t (S.Store.view store.old) → ⊥) }
     ensures stay { OnOk result (StayLive (S.Store.view store.old) (S.Store.view store.new)) }
     ensures calm { IsCalm S.Store store.old store.new }
 {
@@ -281,6 +289,7 @@ fn census_follows<S: Alter>(
     requires rows { IsSome ((S.Store.view store.old).cursors 1) }
     requires flags { IsSome ((S.Store.view store.old).cursors 2) }
     ensures follow { IsClean (S.Store.view store.new) → IfOk result (λ o. IfSome o (λ more. (ds : List Given) → AreFiled (S.Store.view store.old).trees ds → Follows quick ds id before more row.now (S.Store.view store.old) (S.Store.view store.new))) }
+    ensures none { IsClean (S.Store.view store.new) → IfOk result (λ o. o ≡ None → (ds : List Given) → AreFiled (S.Store.view store.old).trees ds → (t : Tallied) → AwaitsCensus ds id before row.now t (S.Store.view store.old) → ⊥) }
     ensures stay { OnOk result (StayLive (S.Store.view store.old) (S.Store.view store.new)) }
     ensures calm { IsCalm S.Store store.old store.new }
 {
@@ -301,6 +310,7 @@ fn none_left<S: Alter>(store: &mut S, alloc: Global) -> Result<bool, Unavailable
     requires rows { IsSome ((S.Store.view store.old).cursors 1) }
     requires flags { IsSome ((S.Store.view store.old).cursors 2) }
     ensures none { IsClean (S.Store.view store.new) → IfOk result (λ b. IsTrue b → ((S.Store.view store.old).cursors 1 ≡ Some []) × ((S.Store.view store.old).cursors 2 ≡ Some []) × (S.Store.view store.new ≡ S.Store.view store.old)) }
+    ensures some { IsClean (S.Store.view store.new) → IfOk result (λ b. b ≡ false → (S.Store.view store.old).cursors 1 ≡ Some [] → (S.Store.view store.old).cursors 2 ≡ Some [] → ⊥) }
     ensures calm { IsCalm S.Store store.old store.new }
 {
     let mut row = Row::new(alloc);
@@ -317,6 +327,7 @@ fn none_left<S: Alter>(store: &mut S, alloc: Global) -> Result<bool, Unavailable
 fn begin_all<S: Alter>(store: &mut S, alloc: Global) -> Result<(), Unavailable>
     ensures live { OnOk result (IsSome ((S.Store.view store.new).cursors 0) × IsSome ((S.Store.view store.new).cursors 1) × IsSome ((S.Store.view store.new).cursors 2)) }
     ensures begun { IsClean (S.Store.view store.new) → OnOk result ((quick : Bool) (ds : List Given) → HasCounted quick ds 0 0 (S.Store.view store.old) (S.Store.view store.new)) }
+    ensures awaits { IsClean (S.Store.view store.new) → OnOk result ((ds : List Given) → AreTallied (S.Store.view store.old).trees ds → AwaitsRest ds 0 0 (S.Store.view store.new)) }
     ensures calm { IsCalm S.Store store.old store.new }
 {
     begin(store, alloc, 0, CENSUSES)?;
@@ -329,7 +340,7 @@ pub(crate) fn censuses<S: Alter>(
     store: &mut S,
     alloc: Global,
     quick: bool,
-) -> Result<Found, Unavailable>
+) -> Result<FoundCensuses, Unavailable>
     ensures finds { IsClean (S.Store.view store.new) → IfOk result (FindsCounted quick (S.Store.view store.old).trees) }
     ensures calm { IsCalm S.Store store.old store.new }
 {
@@ -339,13 +350,13 @@ pub(crate) fn censuses<S: Alter>(
     for count in 0..LAST {
         if !next(store, 0, &mut row)? {
             if none_left(store, alloc)? {
-                return Ok(Found::All(count));
+                return Ok(FoundCensuses::All(count));
             }
-            return Ok(Found::Wrong(count + 1));
+            return Ok(FoundCensuses::Wrong(count + 1));
         }
         match census_follows(store, alloc, quick, &row, count + 1, read)? {
             Some(more) => read = more,
-            None => return Ok(Found::Wrong(count + 1)),
+            None => return Ok(FoundCensuses::Wrong(count + 1)),
         }
     }
     Err(Unavailable)

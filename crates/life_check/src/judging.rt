@@ -12,7 +12,7 @@ ghost use Rattle.life_check.specs.Sound.{FindsSound, RepresentsSome};
 use crate::censuses::censuses;
 use crate::deposits::deposits;
 use crate::schemas::is_same_schema;
-use crate::walk::{Found, begin, next};
+use crate::walk::{Found, FoundCensuses, begin, next};
 use life_store::{Archive, Unavailable};
 use sqlite::Alter;
 use sqlite_value::row::Row;
@@ -95,9 +95,8 @@ pub fn check_trees<S: Alter>(
         Found::Misnamed(id) => return Ok(Verdict::NotSound(Wrong::DepositNames(id))),
     };
     let censuses = match censuses(store, alloc, quick)? {
-        Found::All(count) => count,
-        Found::Wrong(id) => return Ok(Verdict::NotSound(Wrong::Census(id))),
-        Found::Misnamed(id) => return Ok(Verdict::NotSound(Wrong::Census(id))),
+        FoundCensuses::All(count) => count,
+        FoundCensuses::Wrong(id) => return Ok(Verdict::NotSound(Wrong::Census(id))),
     };
     if quick {
         return Ok(Verdict::SoundButForCounts(deposits, censuses));

@@ -20,6 +20,14 @@ pub(crate) enum Found {
     Misnamed(u64),
 }
 
+/// The result for the rows of the censuses.
+pub(crate) enum FoundCensuses {
+    /// There are this many, each with the rows of its tally and its flag.
+    All(u64),
+    /// The row that should be the census with this number, a row of its tally, or its flag is not one that an archive writes.
+    Wrong(u64),
+}
+
 /// Places the cursor before the first row of the table.
 pub(crate) fn begin<S: Alter>(
     store: &mut S,

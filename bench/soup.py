@@ -124,4 +124,5 @@ def main() -> None:
     sys.stdout.write("x = %d, y = %d\n" % (max(len(row) for row in rows), len(rows)) + body_of(rows))
 
 
-main()
+if __name__ == "__main__":
+    main()

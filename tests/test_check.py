@@ -1,15 +1,19 @@
 """`life check` on sound archives, on archives that sqlite3 damaged in one place, and on files that are no archives.
 """
 import os
+import pty
+import random
 import shutil
 import sqlite3
+import subprocess
+import time
 from typing import Any
 
 import pytest
 
 import archives
 from archives import BLANK
-from clients import BLOCKS, GLIDER, GLIDER_TEXT, Server, check, deposit, exchanged, fresh, message, run, same
+from clients import BLOCKS, GLIDER, GLIDER_TEXT, PROGRAM, Server, check, deposit, exchanged, fresh, message, run, same
 
 pytestmark = [pytest.mark.full, pytest.mark.usefixtures("program")]
 
@@ -33,7 +37,7 @@ ROWS: list[Change] = [
     ("INSERT INTO census_flags VALUES (2, 0)", []),
 ]
 
-# Changes, and what is damaged then. Those of the schema come first.
+# Changes, and what is wrong then: a census whose deposit is wrong can't be counted. Those of the schema come first.
 DAMAGED: list[tuple[str, list[Any], str]] = [
     ("ALTER TABLE deposits ADD COLUMN note TEXT", [], NO_TABLES),
     ("ALTER TABLE censuses RENAME COLUMN lim TO most", [], NO_TABLES),
@@ -49,13 +53,13 @@ DAMAGED: list[tuple[str, list[Any], str]] = [
     ("INSERT INTO deposits VALUES (4, 'ann', 't3', 'B3/S23', 4, ?)", [BLOCK_TEXT], "deposit 3"),
     ("UPDATE deposits SET member = 'Ann' WHERE id = 1", [], "deposit 1"),
     ("UPDATE deposits SET token = 't 2' WHERE id = 2", [], "deposit 2"),
-    ("UPDATE deposits SET rule = 'B36/S23' WHERE id = 1", [], "deposit 1"),
-    ("UPDATE deposits SET population = 6 WHERE id = 2", [], "deposit 2"),
-    ("UPDATE deposits SET rle = ? WHERE id = 2", [BLOCK_TEXT + b"\n"], "deposit 2"),
-    ("UPDATE deposits SET rle = ? WHERE id = 1", [OTHER_TEXT], "deposit 1"),
-    ("UPDATE deposits SET rle = ? WHERE id = 1", [GLIDER_TEXT.replace(b", rule = B3/S23", b"")], "deposit 1"),
-    ("UPDATE deposits SET rle = ? WHERE id = 1", [b""], "deposit 1"),
-    ("INSERT INTO censuses VALUES (4, 'eve', 'c1', 1, 4, 4, 1, 0)", [], "census 3"),
+    ("UPDATE deposits SET rule = 'B36/S23' WHERE id = 1", [], "deposit 1, census 2"),
+    ("UPDATE deposits SET population = 6 WHERE id = 2", [], "deposit 2, census 1"),
+    ("UPDATE deposits SET rle = ? WHERE id = 2", [BLOCK_TEXT + b"\n"], "deposit 2, census 1"),
+    ("UPDATE deposits SET rle = ? WHERE id = 1", [OTHER_TEXT], "deposit 1, census 2"),
+    ("UPDATE deposits SET rle = ? WHERE id = 1", [GLIDER_TEXT.replace(b", rule = B3/S23", b"")], "deposit 1, census 2"),
+    ("UPDATE deposits SET rle = ? WHERE id = 1", [b""], "deposit 1, census 2"),
+    ("INSERT INTO censuses VALUES (4, 'eve', 'c1', 1, 4, 4, 1, 0)", [], "census 3, census 4"),
     ("UPDATE censuses SET member = '' WHERE id = 1", [], "census 1"),
     ("UPDATE censuses SET token = 'c_1' WHERE id = 2", [], "census 2"),
     ("UPDATE censuses SET deposit = 1 WHERE id = 1", [], "census 1"),
@@ -107,13 +111,21 @@ def written(folder: str, name: str, changes: list[Change]) -> str:
     return database
 
 
-def line_of(wrong: str) -> bytes:
-    """The line for what is wrong."""
-    ends = {
-        "deposit": ": its row is wrong or missing",
-        "census": ": its row, its counts or its flag are wrong or missing",
-    }
-    return f"{wrong}{ends.get(wrong.split()[0], '')}\n".encode()
+ENDS = {
+    "deposit": ": its row is wrong or missing",
+    "census": ": its row, its counts or its flag are wrong or missing",
+}
+
+
+def lines_of(wrong: list[str]) -> bytes:
+    """The lines for what is wrong."""
+    return "".join(f"{one}{ENDS.get(one.split()[0], '')}\n" for one in wrong).encode()
+
+
+def found_quickly(statement: str, wrong: str) -> list[str]:
+    """What a quick check finds of what the whole one finds. It doesn't count the censuses of a wrong deposit."""
+    parts = LATER.get(statement, wrong).split(", ")
+    return [one for one in parts if not (parts[0].startswith("deposit") and one.startswith("census"))]
 
 
 def contents(database: str) -> list[tuple[str, bytes]]:
@@ -151,7 +163,7 @@ def test_refused_change(folder: str) -> None:
 @pytest.mark.parametrize("statement, values, wrong", DAMAGED, ids=[statement for statement, _, _ in DAMAGED])
 def test_damage(folder: str, statement: str, values: list[Any], wrong: str) -> None:
     database = written(folder, "damaged.db", [(statement, values)])
-    checks_as(statement, database, (1, line_of(wrong), UNSOUND))
+    checks_as(statement, database, (1, lines_of(wrong.split(", ")), UNSOUND))
 
 
 def test_quick_check_of_a_sound_archive(folder: str) -> None:
@@ -162,7 +174,7 @@ def test_quick_check_of_a_sound_archive(folder: str) -> None:
 @pytest.mark.parametrize("statement, values, wrong", DAMAGED, ids=[statement for statement, _, _ in DAMAGED])
 def test_quick_check_of_damage(folder: str, statement: str, values: list[Any], wrong: str) -> None:
     """A quick check finds what the whole one finds, but for the counts."""
-    wanted = (1, line_of(LATER.get(statement, wrong)), UNSOUND)
+    wanted = (1, lines_of(found_quickly(statement, wrong)), UNSOUND)
     if statement in UNCOUNTED:
         wanted = (0, b"sound but for counts: 2 deposits, 2 censuses\n", b"")
     checks_as(statement, written(folder, "quick.db", [(statement, values)]), wanted, "--quick")
@@ -204,8 +216,182 @@ def test_other_files(folder: str) -> None:
     kept.execute("CREATE TABLE songs (name TEXT)")
     kept.commit()
     kept.close()
-    checks_as("another program's database", other, (1, line_of(NO_TABLES), UNSOUND))
+    checks_as("another program's database", other, (1, lines_of([NO_TABLES]), UNSOUND))
     text = fresh(folder, "text.db")
     with open(text, "wb") as file:
         file.write(b"no database\n" * 1000)
     checks_as("a text", text, (1, b"", b"refused: unavailable\n"))
+
+
+# ---- several errors
+
+DEPOSITS, CENSUSES, SEEDS = 6, 8, 100
+# Changes of a row, with {} for its number: of a deposit, so that its censuses can't be counted; of its member or token; of a census.
+OF_DEPOSIT = [
+    "UPDATE deposits SET rule = 'B36/S23' WHERE id = {}",
+    "UPDATE deposits SET population = population + 1 WHERE id = {}",
+    "UPDATE deposits SET rle = CAST(rle || x'0a' AS BLOB) WHERE id = {}",
+]
+OF_NAMES = ["UPDATE deposits SET member = 'Ann' WHERE id = {}", "UPDATE deposits SET token = 't ' || id WHERE id = {}"]
+OF_CENSUS = [
+    "UPDATE censuses SET member = '' WHERE id = {}",
+    "UPDATE censuses SET gens = 2049 WHERE id = {}",
+    "UPDATE censuses SET lim = 0 WHERE id = {}",
+    "UPDATE censuses SET clusters = 2 WHERE id = {}",
+    "UPDATE census_rows SET n = 2 WHERE census = {}",
+    "UPDATE census_rows SET code = 'xs4_3' WHERE census = {}",
+    "DELETE FROM census_rows WHERE census = {}",
+    "UPDATE census_flags SET steady = 1 - steady WHERE census = {}",
+    "DELETE FROM census_flags WHERE census = {}",
+]
+
+
+def deposit_of(census: int) -> int:
+    return (census - 1) % DEPOSITS + 1
+
+
+def several(folder: str, changes: list[str]) -> str:
+    """An archive of gliders and blocks in turn, after these changes."""
+    database = fresh(folder, "several.db")
+    kept = archives.new_archive(database)
+    for number in range(1, DEPOSITS + 1):
+        population, text = (5, GLIDER_TEXT) if number % 2 else (4, BLOCK_TEXT)
+        row = [number, "ann", f"t{number}", "B3/S23", population, text]
+        kept.execute("INSERT INTO deposits VALUES (?, ?, ?, ?, ?, ?)", row)
+    for number in range(1, CENSUSES + 1):
+        code, steady = ("xq4_153", 0) if deposit_of(number) % 2 else ("xs4_33", 1)
+        kept.execute(
+            "INSERT INTO censuses VALUES (?, 'bob', ?, ?, 4, 4, 1, 0)", [number, f"c{number}", deposit_of(number)]
+        )
+        kept.execute("INSERT INTO census_rows VALUES (?, ?, 1)", [number, code])
+        kept.execute("INSERT INTO census_flags VALUES (?, ?)", [number, steady])
+    for statement in changes:
+        kept.execute(statement)
+    kept.commit()
+    kept.close()
+    return database
+
+
+def seeded_changes(chance: random.Random) -> tuple[list[str], list[str]]:
+    """Changes of one to six rows, and what is wrong then."""
+    rows = [("deposit", number) for number in range(1, DEPOSITS + 1)]
+    rows += [("census", number) for number in range(1, CENSUSES + 1)]
+    statements = []
+    deposits: set[int] = set()
+    censuses: set[int] = set()
+    for table, number in chance.sample(rows, chance.randint(1, 6)):
+        kinds = OF_CENSUS if table == "census" else chance.choice([OF_DEPOSIT, OF_NAMES])
+        statements.append(chance.choice(kinds).format(number))
+        (censuses if table == "census" else deposits).add(number)
+        if kinds is OF_DEPOSIT:
+            censuses |= {one for one in range(1, CENSUSES + 1) if deposit_of(one) == number}
+    wrong = [f"deposit {one}" for one in sorted(deposits)] + [f"census {one}" for one in sorted(censuses)]
+    return statements, wrong
+
+
+@pytest.mark.parametrize("seed", range(SEEDS))
+def test_several_errors(folder: str, seed: int) -> None:
+    statements, wrong = seeded_changes(random.Random(seed))
+    checks_as("; ".join(statements), several(folder, statements), (1, lines_of(wrong), UNSOUND))
+
+
+def test_a_hundred_errors(folder: str) -> None:
+    """Of many errors the first hundred are listed, as numbers that are missing are here."""
+    far = "INSERT INTO deposits SELECT 1000000000, member, 'far', rule, population, rle FROM deposits WHERE id = 1"
+    wrong = [f"deposit {number}" for number in range(DEPOSITS + 1, DEPOSITS + 101)]
+    checks_as("a gap", several(folder, [far]), (1, lines_of(wrong), UNSOUND))
+
+
+# ---- single bytes, kills, progress
+
+
+def rows_in(database: str) -> list[Any] | None:
+    """All rows without members and tokens, which a byte may change into others; None if sqlite3 can't read them."""
+    try:
+        kept = sqlite3.connect(database)
+        found = [
+            kept.execute(f"SELECT {columns} FROM {table} ORDER BY rowid").fetchall()
+            for table, columns in (
+                ("layout", "*"),
+                ("deposits", "id, rule, population, rle"),
+                ("censuses", "id, deposit, gens, lim, clusters, unresolved"),
+                ("census_rows", "*"),
+                ("census_flags", "*"),
+            )
+        ]
+        kept.close()
+    except sqlite3.Error:
+        return None
+    return found
+
+
+def test_single_bytes(folder: str) -> None:
+    """A file of sqlite3 has no checksums. With one byte changed it is sound only if its rows are what they were."""
+    database = several(folder, [])
+    with open(database, "rb") as file:
+        good = file.read()
+    before, found = rows_in(database), set()
+    for seed in range(SEEDS):
+        chance = random.Random(seed)
+        # Most of a page is empty, so bytes that are not 0 are changed.
+        place = chance.choice([at for at, byte in enumerate(good) if byte])
+        changed = bytearray(good)
+        changed[place] ^= 1 << chance.randrange(8)
+        with open(database, "wb") as file:
+            file.write(changed)
+        status, output, errors = run("check", "--db", database)
+        found.add(errors)
+        if status == 0:
+            same(f"byte {place}: the rows", rows_in(database), before)
+        else:
+            check(f"byte {place}: it is refused", status == 1 and errors in (UNSOUND, b"refused: unavailable\n"))
+            same(f"byte {place}: an error is named", bool(output), errors == UNSOUND)
+    same("all three results came", len(found), 3)
+
+
+def many(folder: str, count: int) -> str:
+    """An archive of many gliders."""
+    database = fresh(folder, "many.db")
+    kept = archives.new_archive(database)
+    kept.execute(
+        "WITH RECURSIVE n(i) AS (SELECT 1 UNION ALL SELECT i + 1 FROM n WHERE i < ?)"
+        " INSERT INTO deposits SELECT i, 'ann', 't' || i, 'B3/S23', 5, ? FROM n",
+        [count, GLIDER_TEXT],
+    )
+    kept.commit()
+    kept.close()
+    return database
+
+
+def test_killed_checks(folder: str) -> None:
+    database, chance = many(folder, 20000), random.Random(1)
+    before = contents(database)
+    for number in range(20):
+        with subprocess.Popen([PROGRAM, "check", "--db", database], stdout=subprocess.DEVNULL) as process:
+            time.sleep(chance.uniform(0, 0.3))
+            process.kill()
+        same(f"kill {number}: the files", contents(database), before)
+    checks_as("after the kills", database, (0, b"sound: 20000 deposits, 0 censuses\n", b""))
+
+
+def test_progress(folder: str) -> None:
+    """On a terminal a line says how far the check is, and goes at the end."""
+    database, (ours, its) = many(folder, 150000), pty.openpty()
+    with subprocess.Popen([PROGRAM, "check", "--db", database], stdout=subprocess.PIPE, stderr=its) as process:
+        os.close(its)
+        shown = b""
+        while process.poll() is None or not shown.endswith(b"\x1b[K"):
+            try:
+                shown += os.read(ours, 4096)
+            except OSError:
+                break
+        assert process.stdout is not None
+        said = process.stdout.read()
+    os.close(ours)
+    same("the result", (process.returncode, said), (0, b"sound: 150000 deposits, 0 censuses\n"))
+    lines = shown.split(b"\r\x1b[K")
+    check(
+        "it shows how far it is",
+        all(b" deposits and 0 censuses read, " in line for line in lines[1:-1]) and len(lines) > 2,
+    )
+    same("the line is removed", (lines[0], lines[-1]), (b"", b""))

@@ -7,21 +7,22 @@ use Rattle.life_check.specs.declared.judging.Verdict.{Verdict}
 use Rattle.life_check.specs.declared.judging.Verdict.TheVariants.{Sound, SoundButForCounts, NotSound}
 use Rattle.life_archive.specs.declared.stop.ArchiveStop.{ArchiveStop}
 use Rattle.life_archive.specs.declared.stop.ArchiveStop.TheVariants as stops
-use Rattle.life_archive.specs.Checking.{verdict_line, answer_of, PutsVerdict, by_output}
+use Rattle.life_check.specs.declared.judging.Wrong.{Wrong}
+use Rattle.life_archive.specs.Checking.{checked_lines, answer_of, PutsVerdict, by_output}
 
--- the line was not put
-pub stopped_verdict : (v : Verdict) (before after : Option (List ℕ)) (stop : Stop) → PutsText before after (verdict_line v) (Err stop) → PutsVerdict v before after (Err (stops.Job stop))
-stopped_verdict v before after Unwritable put = inr (inl (refl, put))
-stopped_verdict v before after Unavailable put = inr (inr refl)
-stopped_verdict v before after OutOfLimit put = absurd put
-stopped_verdict v before after (BadPattern fault) put = absurd put
-stopped_verdict v before after BadRule put = absurd put
-stopped_verdict v before after (BadCode fault) put = absurd put
-stopped_verdict v before after Unreadable put = absurd put
+-- the lines were not put
+pub stopped_verdict : (v : Verdict) (further : List Wrong) (before after : Option (List ℕ)) (stop : Stop) → PutsText before after (checked_lines v further) (Err stop) → PutsVerdict v further before after (Err (stops.Job stop))
+stopped_verdict v further before after Unwritable put = inr (inl (refl, put))
+stopped_verdict v further before after Unavailable put = inr (inr refl)
+stopped_verdict v further before after OutOfLimit put = absurd put
+stopped_verdict v further before after (BadPattern fault) put = absurd put
+stopped_verdict v further before after BadRule put = absurd put
+stopped_verdict v further before after (BadCode fault) put = absurd put
+stopped_verdict v further before after Unreadable put = absurd put
 
--- it was
-pub put_answer : (v : Verdict) (before after : Option (List ℕ)) (answer : Result (Unit {0}) ArchiveStop) → answer ≡ answer_of v → PutsText before after (verdict_line v) (Ok tt) → PutsVerdict v before after answer
-put_answer v before after answer is put = inl (is, put)
+-- they were
+pub put_answer : (v : Verdict) (further : List Wrong) (before after : Option (List ℕ)) (answer : Result (Unit {0}) ArchiveStop) → answer ≡ answer_of v → PutsText before after (checked_lines v further) (Ok tt) → PutsVerdict v further before after answer
+put_answer v further before after answer is put = inl (is, put)
 
 by_answer : (v : Verdict) → by_output (answer_of v) ≡ Ok tt
 by_answer (Sound d c) = refl

@@ -1,6 +1,7 @@
 -- What the program prints of a check of the file of a path, and the job that opens the file next.
 use Rattle.std.specs.Prelude.{◌≡◌, ◌⊎◌, ◌∷◌, ◌++◌, [], ℕ, Bool, false, List, length, codes, Option, Some, Result, Ok, Err}
 use Rattle.std.specs.Fmt.{decimal}
+use Rattle.std.specs.List.{flat_map}
 use Rattle.life_core.specs.Ascii.{line_feed}
 use Rattle.sqlite_disk.specs.declared.Disk as disk
 use Rattle.sqlite_disk.specs.declared.Files.{Files}
@@ -19,6 +20,7 @@ use Rattle.life_check.specs.declared.judging.Verdict.TheVariants.{Sound, SoundBu
 use Rattle.life_check.specs.declared.judging.Wrong.{Wrong}
 use Rattle.life_check.specs.declared.judging.Wrong.TheVariants as wrong
 use Rattle.life_check.specs.Files.{ChecksPath}
+use Rattle.life_check.specs.Listed.{AreFurther}
 use Rattle.life_archive.specs.declared.stop.ArchiveStop.{ArchiveStop}
 use Rattle.life_archive.specs.declared.stop.ArchiveStop.TheVariants as stops
 use Rattle.life_archive.specs.Deposit.{by_streams}
@@ -27,13 +29,17 @@ use Rattle.life_archive.specs.Session.{under}
 
 -- ---- what is printed
 
--- the first error of a check
+-- an error
 abbrev pub wrong_words : Wrong → List ℕ
 wrong_words wrong.Tables = codes "the tables are not those of an archive"
 wrong_words wrong.Layout = codes "layout: its row is wrong or missing"
 wrong_words (wrong.Deposit id) = codes "deposit " ++ decimal id ++ codes ": its row is wrong or missing"
 wrong_words (wrong.DepositNames id) = codes "deposit " ++ decimal id ++ codes ": its row is wrong or missing"
 wrong_words (wrong.Census id) = codes "census " ++ decimal id ++ codes ": its row, its counts or its flag are wrong or missing"
+
+-- its line
+abbrev pub error_line : Wrong → List ℕ
+error_line w = wrong_words w ++ line_feed ∷ []
 
 -- the result of a check
 abbrev pub verdict_words : Verdict → List ℕ
@@ -45,22 +51,26 @@ verdict_words (NotSound w) = wrong_words w
 abbrev pub verdict_line : Verdict → List ℕ
 verdict_line v = verdict_words v ++ line_feed ∷ []
 
--- the answer once its line was put
+-- its line, and those of the errors after the first
+abbrev pub checked_lines : Verdict → List Wrong → List ℕ
+checked_lines v further = verdict_line v ++ flat_map error_line further
+
+-- the answer once these were put
 abbrev pub answer_of : Verdict → Result (Unit {0}) ArchiveStop
 answer_of (Sound d c) = Ok tt
 answer_of (SoundButForCounts d c) = Ok tt
 answer_of (NotSound w) = Err stops.NotSound
 
--- What is put and answered for the result: its line; a prefix of it, if a put failed; or nothing, if memory ran out.
-abbrev pub PutsVerdict : Verdict → Option (List ℕ) → Option (List ℕ) → Result (Unit {0}) ArchiveStop → Type 0
-PutsVerdict v before after answer =
-    ((answer ≡ answer_of v) × Gains before after (verdict_line v))
-    ⊎ (((answer ≡ Err (stops.Job Unwritable)) × GainsSome before after (verdict_line v)) ⊎ (answer ≡ Err (stops.Job Unavailable)))
+-- What is put and answered for the result and the errors after the first: their lines; a prefix of them, if a put failed; or nothing, if memory ran out.
+abbrev pub PutsVerdict : Verdict → List Wrong → Option (List ℕ) → Option (List ℕ) → Result (Unit {0}) ArchiveStop → Type 0
+PutsVerdict v further before after answer =
+    ((answer ≡ answer_of v) × Gains before after (checked_lines v further))
+    ⊎ (((answer ≡ Err (stops.Job Unwritable)) × GainsSome before after (checked_lines v further)) ⊎ (answer ≡ Err (stops.Job Unavailable)))
 
 -- The same of a check that gave no result.
-abbrev pub PutsChecked : Result Verdict Failed → Option (List ℕ) → Option (List ℕ) → Result (Unit {0}) ArchiveStop → Type 0
-PutsChecked (Ok v) before after answer = PutsVerdict v before after answer
-PutsChecked (Err e) before after answer = answer ≡ Err (stops.Job Unavailable)
+abbrev pub PutsChecked : Result Verdict Failed → List Wrong → Option (List ℕ) → Option (List ℕ) → Result (Unit {0}) ArchiveStop → Type 0
+PutsChecked (Ok v) further before after answer = PutsVerdict v further before after answer
+PutsChecked (Err e) further before after answer = answer ≡ Err (stops.Job Unavailable)
 
 -- the answer as the output sees it: the line of an unsound file was put
 abbrev pub by_output : Result (Unit {0}) ArchiveStop → Result (Unit {0}) Stop
@@ -71,7 +81,8 @@ by_output answer = by_streams answer
 
 -- The file could not be opened, and nothing was put; or it was checked, and what was found was put.
 abbrev pub ChecksAt : {D : Type 0} → Bool → disk.Ghosts D → Image → ℕ → Option (List ℕ) → Option (List ℕ) → Result (Unit {0}) ArchiveStop → Option (Files D) → Type 0
-ChecksAt quick g image capacity before after answer left = (checked : Result Verdict Failed) × ChecksPath quick g image capacity checked left × PutsChecked checked before after answer
+ChecksAt quick g image capacity before after answer left =
+    (checked : Result Verdict Failed) × (further : List Wrong) × ChecksPath quick g image capacity checked left × AreFurther checked further × PutsChecked checked further before after answer
 
 -- Files were checked, with each census counted again, and the answer Ok, and `life serve` or `life deposit` opens them next, maybe on another disk, or what a crash left of them. If the disk was
 -- honest, there is an archive A with which that job begins: what it leaves it leaves of A, under its own capacity. The line that was put has the numbers of deposits and

@@ -1,12 +1,13 @@
 //! Printing what a check of the file of a path finds.
-ghost use Rattle.std.specs.Prelude.{◌≡◌, ◌∷◌, ◌++◌, [], Err, IfOk, IfErr};
+ghost use Rattle.std.specs.Prelude.{◌≡◌, ◌∷◌, ◌++◌, [], Err, IfOk, IfErr, OnOk};
+ghost use Rattle.std.specs.List.{flat_map};
 ghost use Rattle.life_core.specs.Ascii.{line_feed};
 ghost use Rattle.sqlite_wal.specs.Files.{image_at};
 ghost use Rattle.life_jobs.specs.Streams.{PutsText, PutsOnce};
-ghost use Rattle.life_archive.specs.Checking.{wrong_words, verdict_words, verdict_line, answer_of, PutsChecked, by_output, ChecksAt, CheckedFilesBegin};
+ghost use Rattle.life_archive.specs.Checking.{wrong_words, error_line, verdict_words, verdict_line, checked_lines, answer_of, PutsChecked, by_output, ChecksAt, CheckedFilesBegin};
 
 use crate::stop::ArchiveStop;
-use life_check::{Verdict, Wrong, check_path};
+use life_check::{Verdict, Watch, Wrong, check_path};
 use life_jobs::{Stop, put_text};
 use life_rle::Outlet;
 use life_store::Unavailable;
@@ -14,7 +15,7 @@ use sqlite::{FileFrom, Start};
 use sqlite_disk::{Disk, Files};
 use std::alloc::{AllocError, Global};
 
-/// The first error of a check, in words.
+/// An error, in words.
 fn wrong_words(alloc: Global, wrong: Wrong) -> Result<Vec<u8>, AllocError>
     ensures { IfOk result (λ v. v.items ≡ wrong_words wrong) }
 {
@@ -28,6 +29,26 @@ fn wrong_words(alloc: Global, wrong: Wrong) -> Result<Vec<u8>, AllocError>
         }
     };
     Ok(words.into_bytes())
+}
+
+/// The line of an error.
+fn error_line(alloc: Global, wrong: Wrong) -> Result<Vec<u8>, AllocError>
+    ensures { IfOk result (λ v. v.items ≡ error_line wrong) }
+{
+    let mut line = wrong_words(alloc, wrong)?;
+    line.extend_from_slice(b"\n")?;
+    Ok(line)
+}
+
+/// Appends the lines of errors.
+fn push_errors(alloc: Global, errors: &[Wrong], lines: &mut Vec<u8>) -> Result<(), AllocError>
+    ensures { OnOk result (lines.new.items ≡ lines.old.items ++ flat_map error_line errors.now) }
+{
+    for wrong in errors {
+        let line = error_line(alloc, *wrong)?;
+        lines.extend_from_slice(line.as_slice())?;
+    }
+    Ok(())
 }
 
 /// The result of a check, in words.
@@ -58,7 +79,16 @@ fn verdict_line(alloc: Global, verdict: Verdict) -> Result<Vec<u8>, AllocError>
     Ok(line)
 }
 
-/// The answer once the line of the result was put.
+/// The line of the result, and those of the errors after the first.
+fn checked_lines(alloc: Global, verdict: Verdict, further: &[Wrong]) -> Result<Vec<u8>, AllocError>
+    ensures { IfOk result (λ v. v.items ≡ checked_lines verdict further.now) }
+{
+    let mut lines = verdict_line(alloc, verdict)?;
+    push_errors(alloc, further, &mut lines)?;
+    Ok(lines)
+}
+
+/// The answer once the lines of the result were put.
 fn answer_of(verdict: Verdict) -> Result<(), ArchiveStop>
     ensures { result ≡ answer_of verdict }
 {
@@ -69,49 +99,57 @@ fn answer_of(verdict: Verdict) -> Result<(), ArchiveStop>
     }
 }
 
-/// Writes the line of the result.
-fn put_verdict<O: Outlet>(alloc: Global, verdict: Verdict, output: &mut O) -> Result<(), Stop>
-    ensures puts { PutsText (O.already output.old) (O.already output.new) (verdict_line verdict) result }
+/// Writes the line of the result, and those of the errors after the first.
+fn put_verdict<O: Outlet>(
+    alloc: Global,
+    verdict: Verdict,
+    further: &[Wrong],
+    output: &mut O,
+) -> Result<(), Stop>
+    ensures puts { PutsText (O.already output.old) (O.already output.new) (checked_lines verdict further.now) result }
     ensures once { PutsOnce output.old output.new (O.failures output.old) (O.failures output.new) (O.last_failed output.new) result }
 {
-    match verdict_line(alloc, verdict) {
-        Ok(line) => put_text(output, line.as_slice()),
+    match checked_lines(alloc, verdict, further) {
+        Ok(lines) => put_text(output, lines.as_slice()),
         Err(_) => Err(Stop::Unavailable),
     }
 }
 
-/// Writes the line of a check, if it gave a result, and returns what the job answers.
+/// Writes the lines of a check, if it gave a result, and returns what the job answers.
 fn put_checked<O: Outlet>(
     alloc: Global,
     checked: Result<Verdict, Unavailable>,
+    further: &[Wrong],
     output: &mut O,
 ) -> Result<(), ArchiveStop>
-    ensures puts { PutsChecked checked (O.already output.old) (O.already output.new) result }
+    ensures puts { PutsChecked checked further.now (O.already output.old) (O.already output.new) result }
     ensures once { PutsOnce output.old output.new (O.failures output.old) (O.failures output.new) (O.last_failed output.new) (by_output result) }
 {
     let Ok(verdict) = checked else {
         return Err(ArchiveStop::Job(Stop::Unavailable));
     };
-    match put_verdict(alloc, verdict, output) {
+    match put_verdict(alloc, verdict, further, output) {
         Ok(()) => answer_of(verdict),
         Err(stop) => Err(ArchiveStop::Job(stop)),
     }
 }
 
-/// Checks the file of the path as [`check_path`] does, and writes the result as one line.
-pub fn run_check<T: Start, O: Outlet>(
+/// Checks the file of the path as [`check_path`] does, and writes the result: a line, or a line for each error, at most 100.
+pub fn run_check<T: Start, W: Watch, O: Outlet>(
     rt: &HostRuntime,
     path: &str,
     capacity: u64,
     start: T,
     quick: bool,
+    watch: &mut W,
     output: &mut O,
 ) -> (Result<(), ArchiveStop>, Option<Files<FileFrom<T>>>)
     ensures checks { ChecksAt quick ⟦<FileFrom<T> as Disk>⟧ (image_at T.Start) capacity (O.already output.old) (O.already output.new) result.0 result.1 }
     ensures once { PutsOnce output.old output.new (O.failures output.old) (O.failures output.new) (O.last_failed output.new) (by_output result.0) }
 {
-    let (checked, left) = check_path(rt, path, capacity, start, quick);
-    (put_checked(rt.alloc(), checked, output), left)
+    let (checked, further, left) = check_path(rt, path, capacity, start, quick, watch);
+    let done = put_checked(rt.alloc(), checked, further.as_slice(), output);
+    (done, left)
 }
 
 /// What `life check` calls sound, without `--quick`, is an archive, whoever wrote it, and the next `life serve` or `life deposit` begins

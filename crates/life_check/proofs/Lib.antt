@@ -4,3 +4,4 @@ pub mod AwaitLemmas
 pub mod SoundLemmas
 pub mod FileLemmas
 pub mod NameLemmas
+pub mod ListedLemmas

@@ -151,7 +151,7 @@ all_tallied ds (c ∷ cs) each askable = (
 -- what is wrong with the trees is wrong with every archive
 none_is : {S : Type 0} (a : ArchiveView S) (trees : Trees) (w : Wrong) → AreTreesOf a.tables trees → FindsWrong trees w → RepresentsNone a w
 unfolding Represents
-none_is a trees wrong.Tables has bad = tt
+none_is a trees wrong.Tables has bad = absurd bad
 none_is a trees wrong.Layout has bad = λ A m. bad (sym has.layout ∙ m.holds.layout)
 none_is a trees (wrong.Deposit id) has bad = λ A m. bad A.deposits (sym has.deposits ∙ m.holds.deposits) m.holds.filed
 none_is a trees (wrong.DepositNames id) has bad = λ A asked m. bad A.deposits (sym has.deposits ∙ m.holds.deposits) (all_named A.deposits m.holds.filed asked.deposits)
@@ -163,6 +163,11 @@ none_is a trees (wrong.Census id) has bad = λ A asked m.
       counts = sym has.census_rows ∙ m.holds.census_rows;
       flags = sym has.census_flags ∙ m.holds.census_flags;
     })
+
+-- other tables are not those of an archive
+pub other_tables : {S : Type 0} (a : ArchiveView S) → (a.tables.schema ≡ archive_schema → ⊥) → RepresentsNone a wrong.Tables
+unfolding Represents
+other_tables a other = λ A m. other m.holds.schema
 
 -- what was found of the trees, said of the archive
 pub sound_is : {S : Type 0} (quick : Bool) (a : ArchiveView S) (trees : Trees) (v : Verdict) → a.tables.schema ≡ archive_schema → AreTreesOf a.tables trees → FindsSound quick trees v → RepresentsSome quick a v

@@ -32,7 +32,7 @@ pub record IsFoundAt {D : Type 0} {g : disk.Ghosts D} (image : Image) (most : �
   pub found : (k : Kept) → IsTrue a.tables.is_healthy → FilesHold image k → Holds a.tables k
 
 -- Sound: an archive with this many deposits and this many censuses, which each image that a crash may leave of the files holds; or, of a quick check, an archive
--- but for its counts. Otherwise: no archive, if the contract of `check` covers the error.
+-- but for its counts. Otherwise: no archive, or none that requests can ask for.
 abbrev pub FindsIn : {D : Type 0} {g : disk.Ghosts D} → Bool → Files D → ArchiveView (FileStore D g) → Verdict → Type 0
 FindsIn {D} {g} quick files a (Sound d c) = (A : Archive) × Represents a A × (length A.deposits ≡ d) × (length A.censuses ≡ c) × LeftHold g files (kept_of A) × IsAskedFor A × (quick ≡ false)
 FindsIn quick files a (SoundButForCounts d c) = RepresentsSome quick a (SoundButForCounts d c)

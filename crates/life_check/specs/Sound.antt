@@ -1,5 +1,5 @@
 -- When a check finds the tables of an archive sound.
-use Rattle.std.specs.Prelude.{◌≡◌, ◌≢◌, ◌<◌, ◌^◌, ⊤, ℕ, Bool, true, false, List, length, map}
+use Rattle.std.specs.Prelude.{◌≡◌, ◌≢◌, ◌<◌, ◌^◌, ℕ, Bool, true, false, List, length, map}
 use Rattle.std.specs.List.{AllByRecursion}
 use Rattle.sqlite_trees.specs.Tree.{Trees}
 use Rattle.life_store.specs.declared.kept.Deposit.{Deposit}
@@ -23,9 +23,9 @@ pub record AreSound (quick : Bool) (trees : Trees) (deposits censuses : ℕ) : T
   pub few_censuses : censuses < 2 ^ 63
   pub counted : (ds : List Deposit) → AreFiled trees ds → AreCounted quick trees ds censuses
 
--- The error in them. The contract says nothing about errors in the tables' columns.
+-- The error in them. Trees have no columns, so it is none of the tables'.
 abbrev pub FindsWrong : Trees → Wrong → Type 0
-FindsWrong trees wrong.Tables = ⊤
+FindsWrong trees wrong.Tables = ⊥
 FindsWrong trees wrong.Layout = trees 0 ≢ version_2
 FindsWrong trees (wrong.Deposit id) = AreNone deposit_cells IsFiled (trees 1)
 FindsWrong trees (wrong.DepositNames id) = AreNone deposit_cells IsNamed (trees 1)
@@ -51,9 +51,9 @@ pub record RepresentsButForCounts {S : Type 0} (a : ArchiveView S) (A : Archive)
   pub add_up : AllByRecursion (λ t. AddsUp t.tally) counts
   pub holds : AllByRecursion (λ t. HasOrder t.tally) counts → Holds a.tables (record { deposits = A.deposits; censuses = counts })
 
--- No archive is represented, or none of what requests can ask for. Other columns may be the same ones written in another way, so the contract says nothing of them.
+-- No archive is represented, or none of what requests can ask for.
 abbrev pub RepresentsNone : {S : Type 0} → ArchiveView S → Wrong → Type 0
-RepresentsNone a wrong.Tables = ⊤
+RepresentsNone a wrong.Tables = (A : Archive) → Represents a A → ⊥
 RepresentsNone a wrong.Layout = (A : Archive) → Represents a A → ⊥
 RepresentsNone a (wrong.Deposit id) = (A : Archive) → Represents a A → ⊥
 RepresentsNone a (wrong.DepositNames id) = (A : Archive) → IsAskedFor A → Represents a A → ⊥

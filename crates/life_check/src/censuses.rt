@@ -18,6 +18,7 @@ use crate::rows::{
     text_at,
 };
 use crate::walk::{FoundCensuses, begin, get, next};
+use crate::watch::Watch;
 use life_census::Row as Counted;
 use life_store::{Census, Deposit, Unavailable};
 use sqlite::Alter;
@@ -25,11 +26,11 @@ use sqlite_value::row::Row;
 use std::alloc::Global;
 
 /// The numbers of the tables' trees; the numbers between them belong to their indexes.
-const CENSUSES: u32 = 3;
+pub(crate) const CENSUSES: u32 = 3;
 
-const CENSUS_ROWS: u32 = 5;
+pub(crate) const CENSUS_ROWS: u32 = 5;
 
-const CENSUS_FLAGS: u32 = 7;
+pub(crate) const CENSUS_FLAGS: u32 = 7;
 
 /// The deposit with the number, or `None`.
 fn deposit_at<S: Alter>(
@@ -278,7 +279,7 @@ fn uncounted_follows<S: Alter>(
 
 /// Whether the row is that of a census under the number, and its rows and its flag are next; returns how many rows of tallies were read
 /// then. The census is counted from its deposit, unless the check is quick.
-fn census_follows<S: Alter>(
+pub(crate) fn census_follows<S: Alter>(
     store: &mut S,
     alloc: Global,
     quick: bool,
@@ -306,7 +307,7 @@ fn census_follows<S: Alter>(
 }
 
 /// Whether no rows of tallies and no flags are left.
-fn none_left<S: Alter>(store: &mut S, alloc: Global) -> Result<bool, Unavailable>
+pub(crate) fn none_left<S: Alter>(store: &mut S, alloc: Global) -> Result<bool, Unavailable>
     requires rows { IsSome ((S.Store.view store.old).cursors 1) }
     requires flags { IsSome ((S.Store.view store.old).cursors 2) }
     ensures none { IsClean (S.Store.view store.new) → IfOk result (λ b. IsTrue b → ((S.Store.view store.old).cursors 1 ≡ Some []) × ((S.Store.view store.old).cursors 2 ≡ Some []) × (S.Store.view store.new ≡ S.Store.view store.old)) }
@@ -336,10 +337,11 @@ fn begin_all<S: Alter>(store: &mut S, alloc: Global) -> Result<(), Unavailable>
 }
 
 /// Reads all rows of the three tables. A quick check counts nothing.
-pub(crate) fn censuses<S: Alter>(
+pub(crate) fn censuses<S: Alter, W: Watch>(
     store: &mut S,
     alloc: Global,
     quick: bool,
+    watch: &mut W,
 ) -> Result<FoundCensuses, Unavailable>
     ensures finds { IsClean (S.Store.view store.new) → IfOk result (FindsCounted quick (S.Store.view store.old).trees) }
     ensures calm { IsCalm S.Store store.old store.new }
@@ -348,6 +350,7 @@ pub(crate) fn censuses<S: Alter>(
     let mut row = Row::new(alloc);
     let mut read = 0u64;
     for count in 0..LAST {
+        watch.censuses_read(count);
         if !next(store, 0, &mut row)? {
             if none_left(store, alloc)? {
                 return Ok(FoundCensuses::All(count));

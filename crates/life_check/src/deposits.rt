@@ -6,6 +6,7 @@ ghost use Rattle.life_check.specs.WalkState.{IsCalm, KeepsTrees, FindsDeposits};
 
 use crate::rows::{are_names, deposit_of_row};
 use crate::walk::{Found, begin, next};
+use crate::watch::Watch;
 use life_store::Unavailable;
 use sqlite::Alter;
 use sqlite_value::row::Row;
@@ -18,7 +19,11 @@ pub(crate) const DEPOSITS: u32 = 1;
 pub(crate) const LAST: u64 = 0x7fff_ffff_ffff_ffff;
 
 /// Reads all rows.
-pub(crate) fn deposits<S: Alter>(store: &mut S, alloc: Global) -> Result<Found, Unavailable>
+pub(crate) fn deposits<S: Alter, W: Watch>(
+    store: &mut S,
+    alloc: Global,
+    watch: &mut W,
+) -> Result<Found, Unavailable>
     ensures finds { IsClean (S.Store.view store.new) → IfOk result (FindsDeposits ((S.Store.view store.old).trees 1)) }
     ensures keeps { IsClean (S.Store.view store.new) → OnOk result (KeepsTrees (S.Store.view store.old) (S.Store.view store.new)) }
     ensures calm { IsCalm S.Store store.old store.new }
@@ -26,6 +31,7 @@ pub(crate) fn deposits<S: Alter>(store: &mut S, alloc: Global) -> Result<Found, 
     begin(store, alloc, 0, DEPOSITS)?;
     let mut row = Row::new(alloc);
     for count in 0..LAST {
+        watch.deposits_read(count);
         if !next(store, 0, &mut row)? {
             return Ok(Found::All(count));
         }

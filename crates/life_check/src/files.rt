@@ -1,45 +1,120 @@
 //! Checking the file of a path.
 
+ghost use Rattle.std.specs.Prelude.{◌≤◌, length, IfOk, IsTrue};
+ghost use Rattle.sqlite_trees.specs.View.{IsClean};
 ghost use Rattle.sqlite_wal.specs.Files.{image_at};
+ghost use Rattle.sqlite.specs.Held.{AreDatabases};
+ghost use Rattle.life_check.specs.WalkState.{IsCalm};
 ghost use Rattle.life_check.specs.Files.{EndsCheck, ChecksPath};
+ghost use Rattle.life_check.specs.Listed.{AreFurther};
+ghost use Rattle.life_check.specs.Sound.{RepresentsSome};
 
-use crate::judging::{Verdict, check};
+use crate::judging::{Verdict, Wrong, check};
+use crate::listing::further_errors;
+use crate::watch::Watch;
 use life_store::{Archive, Unavailable};
-use sqlite::{FileFrom, FileStore, Start};
+use sqlite::{Alter, FileFrom, FileStore, Start};
 use sqlite_disk::{Disk, Files};
 use std::alloc::Global;
 
+/// The errors after the first. They are left out if they can't be read.
+fn errors_after<S: Alter, W: Watch>(
+    store: &mut S,
+    alloc: Global,
+    quick: bool,
+    first: Wrong,
+    watch: &mut W,
+) -> Vec<Wrong>
+    ensures few { length result.items ≤ 99 }
+    ensures calm { IsCalm S.Store store.old store.new }
+{
+    match further_errors(store, alloc, quick, first, watch) {
+        Ok(errors) => errors,
+        Err(_) => Vec::new(alloc),
+    }
+}
+
+/// The errors after the first of a check, if it found one.
+fn errors_of<S: Alter, W: Watch>(
+    store: &mut S,
+    alloc: Global,
+    quick: bool,
+    checked: &Result<Verdict, Unavailable>,
+    watch: &mut W,
+) -> Vec<Wrong>
+    ensures few { AreFurther checked.now result.items }
+    ensures calm { IsCalm S.Store store.old store.new }
+{
+    let verdict = match checked {
+        Ok(verdict) => *verdict,
+        Err(_) => return Vec::new(alloc),
+    };
+    match verdict {
+        Verdict::Sound(_, _) => Vec::new(alloc),
+        Verdict::SoundButForCounts(_, _) => Vec::new(alloc),
+        Verdict::NotSound(first) => errors_after(store, alloc, quick, first, watch),
+    }
+}
+
+/// Checks an archive, and returns the result, the errors after the first, and its store.
+fn check_and_list<S: Alter + Drop, W: Watch>(
+    alloc: Global,
+    archive: Archive<S>,
+    quick: bool,
+    watch: &mut W,
+) -> (Result<Verdict, Unavailable>, Vec<Wrong>, S)
+    ensures sound { IsClean (S.Store.view result.2) → IfOk result.0 (RepresentsSome quick archive) }
+    ensures further { AreFurther result.0 result.1.items }
+    ensures calm { IsCalm S.Store archive.store result.2 }
+    ensures numbered { IsClean (S.Store.view result.2) → IsTrue (S.Store.view result.2).is_numbered }
+    ensures databases { IsClean (S.Store.view result.2) → AreDatabases (S.Store.recovers result.2) }
+{
+    let (checked, mut store) = check(archive, alloc, quick, watch);
+    let further = errors_of(&mut store, alloc, quick, &checked, watch);
+    (checked, further, store)
+}
+
 /// Checks an archive over files and lets it go. Nothing is written, and the log is not copied into the database file.
-fn check_opened<D: Disk + Drop>(
+fn check_opened<D: Disk + Drop, W: Watch>(
     alloc: Global,
     archive: Archive<FileStore<D>>,
     quick: bool,
-) -> (Result<Verdict, Unavailable>, Files<D>)
-    ensures { EndsCheck quick D.Disk archive result.0 result.1 }
+    watch: &mut W,
+) -> (Result<Verdict, Unavailable>, Vec<Wrong>, Files<D>)
+    ensures check { EndsCheck quick D.Disk archive result.0 result.2 }
+    ensures further { AreFurther result.0 result.1.items }
 {
     archive.law_of_crashes();
     archive.law_of_open_stores();
-    let (checked, store) = check(archive, alloc, quick);
-    (checked, store.close())
+    let (checked, further, store) = check_and_list(alloc, archive, quick, watch);
+    watch.ended();
+    (checked, further, store.close())
 }
 
-/// Checks the file of the path, with the log beside it. Nothing in them is changed; a log that was not there before is removed again. `start`
-/// says what the files are taken to hold, as for `Archive::open_path`. A quick check counts no census. The files are given back, if they were opened.
-pub fn check_path<T: Start>(
+/// Checks the file of the path, with the log beside it; returns the result, the errors after the first, and the files, if they were opened. Nothing
+/// in them is changed; a log that was not there before is removed again. `start` says what the files are taken to hold, as for
+/// `Archive::open_path`. A quick check counts no census.
+pub fn check_path<T: Start, W: Watch>(
     rt: &HostRuntime,
     path: &str,
     capacity: u64,
     start: T,
     quick: bool,
-) -> (Result<Verdict, Unavailable>, Option<Files<FileFrom<T>>>)
-    ensures { ChecksPath quick ⟦<FileFrom<T> as Disk>⟧ (image_at T.Start) capacity result.0 result.1 }
+    watch: &mut W,
+) -> (
+    Result<Verdict, Unavailable>,
+    Vec<Wrong>,
+    Option<Files<FileFrom<T>>>,
+)
+    ensures check { ChecksPath quick ⟦<FileFrom<T> as Disk>⟧ (image_at T.Start) capacity result.0 result.2 }
+    ensures further { AreFurther result.0 result.1.items }
 {
     match Archive::open_unprepared(rt, path, capacity, start) {
         Ok((archive, made)) => {
-            let (checked, files) = check_opened(rt.alloc(), archive, quick);
+            let (checked, further, files) = check_opened(rt.alloc(), archive, quick, watch);
             made.remove(rt);
-            (checked, Some(files))
+            (checked, further, Some(files))
         }
-        Err(files) => (Err(Unavailable), files),
+        Err(files) => (Err(Unavailable), Vec::new(rt.alloc()), files),
     }
 }

@@ -13,6 +13,7 @@ use crate::censuses::censuses;
 use crate::deposits::deposits;
 use crate::schemas::is_same_schema;
 use crate::walk::{Found, FoundCensuses, begin, next};
+use crate::watch::Watch;
 use life_store::{Archive, Unavailable};
 use sqlite::Alter;
 use sqlite_value::row::Row;
@@ -41,7 +42,7 @@ pub enum Verdict {
     Sound(u64, u64),
     /// The same but for the tallies and the flags of the censuses, which a quick check doesn't count.
     SoundButForCounts(u64, u64),
-    /// The first error is here.
+    /// The first error is here. [`further_errors`](crate::further_errors) lists those after it.
     NotSound(Wrong),
 }
 
@@ -77,10 +78,11 @@ fn is_layout<S: Alter>(store: &mut S, alloc: Global) -> Result<bool, Unavailable
 }
 
 /// Reads all trees of an archive's tables once: one row after another, and one tally at a time. A quick check counts no census.
-pub fn check_trees<S: Alter>(
+pub fn check_trees<S: Alter, W: Watch>(
     store: &mut S,
     alloc: Global,
     quick: bool,
+    watch: &mut W,
 ) -> Result<Verdict, Unavailable>
     ensures sound { IsClean (S.Store.view store.new) → IfOk result (FindsSound quick (S.Store.view store.old).trees) }
     ensures unbroken { IsClean (S.Store.view store.new) → OnOk result ((S.Store.view store.old).is_broken ≡ false) }
@@ -89,12 +91,12 @@ pub fn check_trees<S: Alter>(
     if !is_layout(store, alloc)? {
         return Ok(Verdict::NotSound(Wrong::Layout));
     }
-    let deposits = match deposits(store, alloc)? {
+    let deposits = match deposits(store, alloc, watch)? {
         Found::All(count) => count,
         Found::Wrong(id) => return Ok(Verdict::NotSound(Wrong::Deposit(id))),
         Found::Misnamed(id) => return Ok(Verdict::NotSound(Wrong::DepositNames(id))),
     };
-    let censuses = match censuses(store, alloc, quick)? {
+    let censuses = match censuses(store, alloc, quick, watch)? {
         FoundCensuses::All(count) => count,
         FoundCensuses::Wrong(id) => return Ok(Verdict::NotSound(Wrong::Census(id))),
     };
@@ -106,7 +108,7 @@ pub fn check_trees<S: Alter>(
 
 /// Whether the tables are those of a new archive, with the same columns, checks and indexes.
 fn has_schema<S: Alter>(archive: &Archive<S>, alloc: Global) -> Result<bool, Unavailable>
-    ensures { IfOk result (λ known. IsTrue known → archive.now.tables.schema ≡ archive_schema) }
+    ensures { IfOk result (λ known. IsTrue known ↔ (archive.now.tables.schema ≡ archive_schema)) }
 {
     match Archive::open_in_memory(alloc, 1) {
         Ok(made) => Ok(is_same_schema(archive.schema(), made.schema())),
@@ -115,10 +117,11 @@ fn has_schema<S: Alter>(archive: &Archive<S>, alloc: Global) -> Result<bool, Una
 }
 
 /// Checks every row of an archive whose tables are known to be its own, and returns its store.
-fn check_rows<S: Alter + Drop>(
+fn check_rows<S: Alter + Drop, W: Watch>(
     archive: Archive<S>,
     alloc: Global,
     quick: bool,
+    watch: &mut W,
 ) -> (Result<Verdict, Unavailable>, S)
     ensures sound { IsClean (S.Store.view result.1) → archive.tables.schema ≡ archive_schema → IfOk result.0 (RepresentsSome quick archive) }
     ensures calm { IsCalm S.Store archive.store result.1 }
@@ -129,7 +132,7 @@ fn check_rows<S: Alter + Drop>(
     if !is_settled {
         return (Err(Unavailable), store);
     }
-    let verdict = check_trees(&mut store, alloc, quick);
+    let verdict = check_trees(&mut store, alloc, quick, watch);
     (verdict, store)
 }
 
@@ -144,10 +147,11 @@ fn store_of<S: Alter + Drop>(archive: Archive<S>) -> S
 
 /// Checks the tables and every row of an archive, and returns its store. It changes nothing. Sound tables are an archive, whoever wrote
 /// them. A quick check counts no census, and takes about as long as one reading of the deposits.
-pub fn check<S: Alter + Drop>(
+pub fn check<S: Alter + Drop, W: Watch>(
     archive: Archive<S>,
     alloc: Global,
     quick: bool,
+    watch: &mut W,
 ) -> (Result<Verdict, Unavailable>, S)
     ensures sound { IsClean (S.Store.view result.1) → IfOk result.0 (RepresentsSome quick archive) }
     ensures calm { IsCalm S.Store archive.store result.1 }
@@ -155,7 +159,7 @@ pub fn check<S: Alter + Drop>(
     ensures databases { IsClean (S.Store.view result.1) → AreDatabases (S.Store.recovers result.1) }
 {
     match has_schema(&archive, alloc) {
-        Ok(true) => check_rows(archive, alloc, quick),
+        Ok(true) => check_rows(archive, alloc, quick, watch),
         Ok(false) => (Ok(Verdict::NotSound(Wrong::Tables)), store_of(archive)),
         Err(_) => (Err(Unavailable), store_of(archive)),
     }

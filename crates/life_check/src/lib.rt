@@ -7,11 +7,15 @@ mod counting;
 mod deposits;
 mod files;
 mod judging;
+mod listing;
 mod rows;
 mod schemas;
 #[cfg(test)]
 mod tests;
 mod walk;
+mod watch;
 
 pub use files::check_path;
 pub use judging::{Verdict, Wrong, check, check_trees};
+pub use listing::further_errors;
+pub use watch::{Unwatched, Watch};

@@ -1,24 +1,27 @@
 //! Comparing the tables of two databases: their columns, keys, checks, references and indexes, and the numbers of their trees.
 
-ghost use Rattle.std.specs.Prelude.{◌≡◌, IsTrue};
+ghost use Rattle.std.specs.Prelude.{◌≡◌, ◌⊎◌, ◌<◌, ◌↔◌, [], map, IsTrue};
+ghost use Rattle.sqlite_schema.specs.Code.{IsLoanOf, term_to, term_in};
+ghost use Rattle.sqlite_sql.specs.Syntax.{node_term};
 ghost use Rattle.life_check.specs.Schemas.{HaveSameColumns, HaveSameRules};
 
 use sqlite_items::Items;
 use sqlite_schema::code::{Op, Terms, lend_value};
 use sqlite_schema::schema::{Column, Index, Reference, Schema, Stamps, Table};
+use sqlite_sql::expr::Node;
 use sqlite_value::keys::Order;
 use sqlite_value::order;
-use sqlite_value::value::{Bytes, Value};
+use sqlite_value::value::{Bytes, Value, ValueRef};
 
 /// The parts of a schema, which have no `==` of their own.
 trait Same {
-    /// Whether the two were found to be equal. If they are written in different ways, it may be false of equal ones.
+    /// Whether the two are equal. This is exact: if the answer is false, they differ.
     fn is_same(&self, other: &Self) -> bool
-        ensures { IsTrue result → self.now ≡ other.now };
+        ensures { IsTrue result ↔ (self.now ≡ other.now) };
 }
 
 fn all_same<T: Same>(mut left: &[T], mut right: &[T]) -> bool
-    ensures { IsTrue result → left.entry.now ≡ right.entry.now }
+    ensures { IsTrue result ↔ (left.entry.now ≡ right.entry.now) }
 {
     while let [first, more @ ..] = left {
         let [other, others @ ..] = right else {
@@ -63,21 +66,85 @@ impl Same for Value {
     }
 }
 
-impl Same for Op {
-    fn is_same(&self, other: &Op) -> bool {
-        match (self, other) {
-            (Op::Literal(a), Op::Literal(b)) => a.is_same(b),
-            (Op::Column(a, at), Op::Column(b, place)) => *a == *b && *at == *place,
-            (Op::Unary(a, at), Op::Unary(b, place)) => *a == *b && *at == *place,
-            (Op::Binary(a, x, y), Op::Binary(b, z, w)) => *a == *b && *x == *z && *y == *w,
-            _ => false,
-        }
+/// A node whose literal is borrowed.
+fn lend_node(op: &Op) -> Node<'_>
+    ensures { IsLoanOf op.now result }
+{
+    match op {
+        Op::Literal(value) => Node::Literal(lend_value(value)),
+        Op::Column(slot, at) => Node::Column(*slot, *at),
+        Op::Unary(op, a) => Node::Unary(*op, *a),
+        Op::Binary(op, a, b) => Node::Binary(*op, *a, *b),
+        Op::Case(test, a, b) => Node::Case(*test, *a, *b),
     }
+}
+
+/// The node at a place, and the depth to which its operands are read. At depth 0, and at a place without a node, it is NULL.
+fn node_at(ops: &[Op], depth: usize, at: usize) -> (Node<'_>, usize)
+    ensures term { term_to ops.now depth at ≡ node_term (term_to ops.now result.1) result.0 }
+    ensures falls { (result.1 < depth) ⊎ (result.0 ≡ Node.Literal ValueRef.Null) }
+{
+    if depth == 0 || at >= ops.len() {
+        return (Node::Literal(ValueRef::Null), 0);
+    }
+    (lend_node(&ops[at]), depth - 1)
+}
+
+/// Compares the expression at the place `x` on the left with the one at `y` on the right. The same expression may be
+/// stored in other nodes, or in another order, so places are never compared.
+fn is_same_term(
+    left: &[Op],
+    left_depth: usize,
+    x: usize,
+    right: &[Op],
+    right_depth: usize,
+    y: usize,
+) -> bool
+    ensures { IsTrue result ↔ (term_to left.now left_depth x ≡ term_to right.now right_depth y) }
+{
+    let (node, d) = node_at(left, left_depth, x);
+    let (other, e) = node_at(right, right_depth, y);
+    match (node, other) {
+        (Node::Literal(a), Node::Literal(b)) => order::is_same(a, b),
+        (Node::Column(slot, at), Node::Column(from, place)) => slot == from && at == place,
+        (Node::Unary(op, a), Node::Unary(by, b)) => op == by
+            && is_same_term(left, d, a, right, e, b),
+        (Node::Binary(op, a, b), Node::Binary(by, u, v)) => op == by
+            && is_same_term(left, d, a, right, e, u)
+            && is_same_term(left, d, b, right, e, v),
+        (Node::Case(p, a, b), Node::Case(q, u, v)) => is_same_term(left, d, p, right, e, q)
+            && is_same_term(left, d, a, right, e, u)
+            && is_same_term(left, d, b, right, e, v),
+        _ => false,
+    }
+}
+
+/// Compares lists of expressions, each by the nodes and the places of its roots.
+fn has_same_terms(left: &[Op], mut roots: &[usize], right: &[Op], mut places: &[usize]) -> bool
+    ensures { IsTrue result
+        ↔ (map (term_in left.now) roots.entry.now ≡ map (term_in right.now) places.entry.now) }
+{
+    while let [x, more @ ..] = roots {
+        let [y, others @ ..] = places else {
+            return false;
+        };
+        if !is_same_term(left, left.len(), *x, right, right.len(), *y) {
+            return false;
+        }
+        roots = more;
+        places = others;
+    }
+    places.is_empty()
 }
 
 impl Same for Terms {
     fn is_same(&self, other: &Terms) -> bool {
-        self.nodes.is_same(&other.nodes) && self.roots.is_same(&other.roots)
+        has_same_terms(
+            self.nodes.as_slice(),
+            self.roots.as_slice(),
+            other.nodes.as_slice(),
+            other.roots.as_slice(),
+        )
     }
 }
 
@@ -113,7 +180,7 @@ impl Same for Stamps {
 
 /// Compares the columns of two tables, and their keys.
 fn has_same_columns(left: &Table, right: &Table) -> bool
-    ensures { IsTrue result → HaveSameColumns left.now right.now }
+    ensures { IsTrue result ↔ HaveSameColumns left.now right.now }
 {
     left.name.is_same(&right.name)
         && left.tree == right.tree
@@ -125,7 +192,7 @@ fn has_same_columns(left: &Table, right: &Table) -> bool
 
 /// Compares what the two tables ask of their rows.
 fn has_same_rules(left: &Table, right: &Table) -> bool
-    ensures { IsTrue result → HaveSameRules left.now right.now }
+    ensures { IsTrue result ↔ HaveSameRules left.now right.now }
 {
     left.uniques.is_same(&right.uniques)
         && left.orders.is_same(&right.orders)
@@ -152,9 +219,10 @@ impl Same for Index {
     }
 }
 
-/// Whether the two schemas were found to be equal. Neither has views, triggers, or tables that the kit does not understand.
+/// Whether the two schemas are equal, and without views. The kit stores triggers, and tables that it does not understand,
+/// among the views. This is exact: if the answer is false, the schemas differ or have views.
 pub fn is_same_schema(left: &Schema, right: &Schema) -> bool
-    ensures { IsTrue result → left.now ≡ right.now }
+    ensures { IsTrue result ↔ ((left.now ≡ right.now) × (left.now.views ≡ [])) }
 {
     left.tables.is_same(&right.tables)
         && left.indexes.is_same(&right.indexes)

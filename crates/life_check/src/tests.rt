@@ -1,5 +1,7 @@
 //! A sound archive and, for each table and column, one that is damaged there, by SQL that all constraints of the tables allow.
 use crate::judging::{Verdict, Wrong, check_trees};
+use crate::listing::further_errors;
+use crate::watch::Unwatched;
 use sqlite::{Connection, Error, MemStore};
 use std::alloc::Global;
 use std::test::Fail;
@@ -175,36 +177,48 @@ const FOUND_QUICKLY: [(&str, Wrong); 10] = [
     ),
 ];
 
-fn store_with(alloc: Global, last: Option<&str>) -> Result<MemStore, Error> {
+fn store_with(alloc: Global, changes: &[&str]) -> Result<MemStore, Error> {
     let mut conn = Connection::open_in_memory(alloc)?;
     for statement in SOUND {
         conn.execute(statement, &[])?;
     }
-    if let Some(statement) = last {
+    for statement in changes {
         conn.execute(statement, &[])?;
     }
     Ok(conn.into_store())
 }
 
 /// The result, or the statement that was refused.
-fn found(alloc: Global, last: Option<&str>, quick: bool) -> Result<Verdict, Error> {
-    let mut store = store_with(alloc, last)?;
-    match check_trees(&mut store, alloc, quick) {
+fn found(alloc: Global, changes: &[&str], quick: bool) -> Result<Verdict, Error> {
+    let mut store = store_with(alloc, changes)?;
+    match check_trees(&mut store, alloc, quick, &mut Unwatched) {
         Ok(verdict) => Ok(verdict),
+        Err(_) => Err(Error::QueryReturnedNoRows),
+    }
+}
+
+/// The first error, and those after it.
+fn listed(alloc: Global, changes: &[&str], quick: bool) -> Result<(Wrong, Vec<Wrong>), Error> {
+    let mut store = store_with(alloc, changes)?;
+    let Ok(Verdict::NotSound(first)) = check_trees(&mut store, alloc, quick, &mut Unwatched) else {
+        return Err(Error::QueryReturnedNoRows);
+    };
+    match further_errors(&mut store, alloc, quick, first, &mut Unwatched) {
+        Ok(further) => Ok((first, further)),
         Err(_) => Err(Error::QueryReturnedNoRows),
     }
 }
 
 #[test]
 fn an_archive_is_sound(rt: HostRuntime) -> Result<(), Fail> {
-    assert_eq!(rt; found(rt.alloc(), None, false), Ok(Verdict::Sound(2, 2)));
+    assert_eq!(rt; found(rt.alloc(), &[], false), Ok(Verdict::Sound(2, 2)));
     assert_eq!(rt;
-        found(rt.alloc(), None, true),
+        found(rt.alloc(), &[], true),
         Ok(Verdict::SoundButForCounts(2, 2))
     );
     for statement in OTHERS {
         assert_eq!(rt;
-            found(rt.alloc(), Some(statement), false),
+            found(rt.alloc(), &[statement], false),
             Ok(Verdict::Sound(2, 2)),
             "{statement}"
         );
@@ -216,7 +230,7 @@ fn an_archive_is_sound(rt: HostRuntime) -> Result<(), Fail> {
 fn each_damage_is_found(rt: HostRuntime) -> Result<(), Fail> {
     for (statement, wrong) in DAMAGED {
         assert_eq!(rt;
-            found(rt.alloc(), Some(statement), false),
+            found(rt.alloc(), &[statement], false),
             Ok(Verdict::NotSound(wrong)),
             "{statement}"
         );
@@ -228,17 +242,110 @@ fn each_damage_is_found(rt: HostRuntime) -> Result<(), Fail> {
 fn a_quick_check_counts_nothing(rt: HostRuntime) -> Result<(), Fail> {
     for statement in UNCOUNTED {
         assert_eq!(rt;
-            found(rt.alloc(), Some(statement), true),
+            found(rt.alloc(), &[statement], true),
             Ok(Verdict::SoundButForCounts(2, 2)),
             "{statement}"
         );
     }
     for (statement, wrong) in FOUND_QUICKLY {
         assert_eq!(rt;
-            found(rt.alloc(), Some(statement), true),
+            found(rt.alloc(), &[statement], true),
             Ok(Verdict::NotSound(wrong)),
             "{statement}"
         );
     }
+    Ok(())
+}
+
+const MORE_DEPOSITS: [&str; 2] = [
+    "INSERT INTO deposits VALUES (5, 'ann', 't5', 'B3/S23', 4, x'78203d20322c2079203d20322c2072756c65203d2042332f5332330a326f24326f210a')",
+    "INSERT INTO deposits VALUES (7, 'ann', 't7', 'B3/S23', 4, x'78203d20322c2079203d20322c2072756c65203d2042332f5332330a326f24326f210a')",
+];
+
+const FAR_DEPOSIT: &str =
+    "INSERT INTO deposits VALUES (1000000000, 'ann', 't5', 'B3/S23', 4, x'78203d20322c2079203d20322c2072756c65203d2042332f5332330a326f24326f210a')";
+
+/// Changes, the first error, and those after it.
+const LISTED: [(&[&str], Wrong, &[Wrong]); 9] = [
+    (
+        &["UPDATE deposits SET population = 6 WHERE id = 1"],
+        Wrong::Deposit(1),
+        // Its census can't be counted.
+        &[Wrong::Census(2)],
+    ),
+    (
+        &[
+            "UPDATE deposits SET member = 'Ann' WHERE id = 2",
+            "UPDATE deposits SET token = 't 1' WHERE id = 1",
+        ],
+        Wrong::DepositNames(1),
+        &[Wrong::DepositNames(2)],
+    ),
+    (
+        &MORE_DEPOSITS,
+        Wrong::Deposit(3),
+        &[Wrong::Deposit(4), Wrong::Deposit(6)],
+    ),
+    (
+        &["UPDATE census_flags SET steady = 1 - steady"],
+        Wrong::Census(1),
+        &[Wrong::Census(2)],
+    ),
+    (
+        &["DELETE FROM census_rows WHERE census = 1"],
+        Wrong::Census(1),
+        &[],
+    ),
+    (
+        &["INSERT INTO census_rows VALUES (2, 'xs4_33', 1)"],
+        Wrong::Census(3),
+        &[],
+    ),
+    (
+        &[
+            "INSERT INTO census_rows VALUES (2, 'xs4_33', 1)",
+            "UPDATE census_flags SET steady = 0 WHERE census = 1",
+        ],
+        Wrong::Census(1),
+        &[Wrong::Census(3)],
+    ),
+    (
+        &[
+            "UPDATE layout SET version = 3",
+            "UPDATE deposits SET member = 'Ann' WHERE id = 1",
+            "UPDATE censuses SET lim = 0 WHERE id = 2",
+        ],
+        Wrong::Layout,
+        &[Wrong::DepositNames(1), Wrong::Census(2)],
+    ),
+    (
+        &["INSERT INTO censuses VALUES (4, 'eve', 'c1', 1, 4, 4, 1, 0)"],
+        Wrong::Census(3),
+        &[Wrong::Census(4)],
+    ),
+];
+
+#[test]
+fn each_error_is_listed(rt: HostRuntime) -> Result<(), Fail> {
+    for (changes, first, further) in LISTED {
+        let Ok(found) = listed(rt.alloc(), changes, false) else {
+            assert!(rt; false, "{first:?} was not found");
+            return Ok(());
+        };
+        assert_eq!(rt; found.0, first);
+        assert_eq!(rt; found.1.as_slice(), further);
+    }
+    Ok(())
+}
+
+#[test]
+fn at_most_a_hundred_are_listed(rt: HostRuntime) -> Result<(), Fail> {
+    let Ok((first, further)) = listed(rt.alloc(), &[FAR_DEPOSIT], true) else {
+        assert!(rt; false, "no error was found");
+        return Ok(());
+    };
+    assert_eq!(rt; first, Wrong::Deposit(3));
+    assert_eq!(rt; further.len(), 99);
+    assert_eq!(rt; further.as_slice()[98], Wrong::Deposit(102));
     Ok(())
 }

@@ -5,6 +5,7 @@ ghost use Rattle.life_archive.specs.Path.{AnswersDeposit, AnswersServing, line_a
 ghost use Rattle.life_archive.specs.Checking.{AnswersCheck};
 
 use crate::net::Port;
+use crate::progress::CheckProgress;
 use life_archive::{ArchiveStop, deposit_path, run_check, serve_path};
 use life_program::ArchiveJobs;
 use life_rle::{Inlet, Outlet};
@@ -72,7 +73,8 @@ impl<T: Start> ArchiveJobs for InFiles<T> {
         quick: bool,
         output: &mut O,
     ) -> Result<(), &'static str> {
-        let (done, _left) = run_check(rt, file, CAPACITY, self.start, quick, output);
+        let mut progress = CheckProgress::begin(rt);
+        let (done, _left) = run_check(rt, file, CAPACITY, self.start, quick, &mut progress, output);
         or_line(done)
     }
 }

@@ -4,6 +4,7 @@
 mod archives;
 mod net;
 mod peer;
+mod progress;
 
 use archives::InFiles;
 use life_program::run_program;

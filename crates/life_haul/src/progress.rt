@@ -1,52 +1,36 @@
-//! The progress line of a haul on a terminal.
+//! The progress line of a haul.
 
 use life_hauls::Watch;
-use std::io::IsTerminal;
-use std::time::Instant;
+use life_program::ProgressLine;
+use std::alloc::{AllocError, Global};
 
-/// The progress of a haul, as a line on standard error that is updated at most once a second. Nothing is written if standard error is not a
-/// terminal, if there is no clock, or if a write fails.
+/// Shows how far a haul is, how fast, and how long it may take.
 #[derive(Drop)]
 pub struct Progress<'a> {
-    rt: &'a HostRuntime,
-    /// When the haul began, if the line is shown.
-    began: Option<Instant>,
-    /// How many whole seconds had passed when the line was last written; 0 if there is no line.
-    shown: u64,
+    alloc: Global,
+    line: ProgressLine<'a>,
+}
+
+/// What the line says after this many seconds, 1 or more. The estimate assumes that the remaining soups take as long each as those done.
+fn text(alloc: Global, done: u64, count: u64, seconds: u64) -> Result<String, AllocError> {
+    let speed = done.checked_div(seconds).unwrap_or(0);
+    let spent = count.saturating_sub(done).saturating_mul(seconds);
+    let left = spent.checked_div(done).unwrap_or(0);
+    format!(in alloc; "{done} of {count} soups, {speed} a second, {left} seconds left")
 }
 
 impl<'a> Progress<'a> {
     /// The progress of a haul that starts now.
     pub fn begin(rt: &'a HostRuntime) -> Progress<'a> {
-        let began = if rt.stderr().is_terminal() {
-            Instant::now(rt).ok()
-        } else {
-            None
-        };
         Progress {
-            rt,
-            began,
-            shown: 0,
+            alloc: rt.alloc(),
+            line: ProgressLine::begin(rt),
         }
     }
 
     /// Removes the line, if there is one.
     pub fn clear(&mut self) {
-        if self.shown != 0 {
-            self.shown = 0;
-            let _written = eprint!(self.rt; "\r\x1b[K");
-        }
-    }
-
-    /// Replaces the line. The estimate assumes that the remaining soups take as long each as those done.
-    fn write(&mut self, done: u64, count: u64, seconds: u64) {
-        let spent = count.saturating_sub(done).saturating_mul(seconds);
-        if let (Some(speed), Some(left)) = (done.checked_div(seconds), spent.checked_div(done)) {
-            self.shown = seconds;
-            let _written = eprint!(self.rt;
-                "\r\x1b[K{done} of {count} soups, {speed} a second, {left} seconds left"
-            );
-        }
+        self.line.clear();
     }
 }
 
@@ -55,15 +39,11 @@ impl Watch for Progress<'_> {
         if done == count {
             return self.clear();
         }
-        let Some(began) = self.began else {
+        let Some(seconds) = self.line.due() else {
             return;
         };
-        let Ok(elapsed) = began.elapsed(self.rt) else {
-            return;
-        };
-        let seconds = elapsed.as_secs();
-        if seconds != self.shown {
-            self.write(done, count, seconds);
+        if let Ok(text) = text(self.alloc, done, count, seconds) {
+            self.line.write(seconds, text.as_str());
         }
     }
 }

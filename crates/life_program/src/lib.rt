@@ -1,4 +1,4 @@
-//! What the programs share: the line that is printed if a job stops, and the status of the process; and, for those that take the
+//! What the programs share: the line that is printed if a job stops, the status of the process, and a line of progress; and, for those that take the
 //! arguments of `life`, running the job.
 #![tactic(auto)]
 
@@ -6,10 +6,12 @@ mod explain;
 mod job;
 mod printing;
 mod program;
+mod progress;
 mod tip;
 
 pub use explain::run_explain;
 pub use job::{ArchiveJobs, do_job};
 pub use printing::{print_fault, print_stop};
 pub use program::{run_program, run_words};
+pub use progress::ProgressLine;
 pub use tip::print_fault_of;

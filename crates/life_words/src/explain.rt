@@ -93,7 +93,7 @@ static EXPLANATIONS: [(&str, &str); 34] = [
     ),
     (
         "not-sound",
-        "program: The file is not an archive as life writes it; standard output names the first error. Keep the file, and go back to the newest copy that life check calls sound.\n",
+        "program: The file is not an archive as life writes it; standard output lists the errors. Keep the file, and go back to the newest copy that life check calls sound.\n",
     ),
     (
         "not-within-limit",

@@ -76,8 +76,8 @@ const CHECK_HELP: &str = "\
 Reads:   every row of the archive F, and counts each census again, unless --quick is given;
          it adds nothing to F
 Prints:  'sound: N deposits, M censuses', or 'sound but for counts: N deposits, M censuses' with
-         --quick; otherwise the first error, such as 'deposit 17: ...', and then it refuses
-Refuses: not-sound, not-ours, unavailable
+         --quick; otherwise the errors, at most 100, such as 'deposit 17: ...', and then it refuses
+Refuses: not-sound, unavailable
 Example: life check --db club.db";
 
 const EXPLAIN_ABOUT: &str = "Prints what a refusal means and what to do";

@@ -2,12 +2,12 @@ use Rattle.std.proofs.Common.{refl, arith}
 use Rattle.life_store.proofs.LeftLemmas.{left_honest, left_allowed, left_held}
 use Rattle.life_check.proofs.files.check_opened.Goals as goal
 
-pub returns : goal.returns
-returns g c =
+pub returns-clause-check : goal.returns-clause-check
+returns-clause-check g c =
     let was = c.args.archive.store in
-    let last = c.check-checked.result.1 in
+    let last = c.check_and_list-checked.result.2 in
     let files = c.close.result in
-    let end = c.check-checked.ensures in
+    let end = c.check_and_list-checked.ensures in
     record {
       honest = left_honest was was last files c.close.ensures refl end.calm.clean;
       finds = λ clean. end.sound (left_honest last last last files c.close.ensures refl (omega arith) clean);

@@ -21,7 +21,7 @@ from collections.abc import Callable, Iterator, Mapping
 import pytest
 
 import phrases
-from clients import HERE, check
+from clients import HERE, check, same
 from tables import clauses, kit, limits, places, refusals, routes, sources, texts
 
 pytestmark = pytest.mark.quick
@@ -49,6 +49,15 @@ EXPLAIN, NAMES_OF_REFUSALS, WORDS = (
     "crates/life_words/specs/Explain.antt",
     "crates/life_words/src/words.rt",
 )
+# The sources that have a case for each route.
+ROUTER, ASKED = "crates/life_pages/src/route.rt", "crates/life_pages/src/asked.rt"
+ROUTE_SPECS, ROUTER_SPECS, ASKED_SPECS = (
+    f"crates/life_pages/specs/{name}.antt" for name in ("Route", "RouteState", "Asked")
+)
+ROUTE_FINDING, ROUTE_EXAMPLES, ROUTES_ADDED = (
+    f"crates/life_pages/proofs/{name}.antt"
+    for name in ("RouteFinding", "RouteExamples", "route/add_deposit_routes/Answers")
+)
 OTHERS = [
     REFUSALS,
     LIMITS,
@@ -61,6 +70,14 @@ OTHERS = [
     EXPLAIN,
     NAMES_OF_REFUSALS,
     WORDS,
+    ROUTER,
+    ASKED,
+    ROUTE_SPECS,
+    ROUTER_SPECS,
+    ASKED_SPECS,
+    ROUTE_FINDING,
+    ROUTE_EXAMPLES,
+    ROUTES_ADDED,
     kit.PATH,
     "web/main.js",
     "web/ahead.js",
@@ -647,6 +664,22 @@ CHANGES = [
     (copies, API, "1,000,000 each", "100,000 each"),
     (copies, API, r"(?m)^\| `GET /censuses/\{id\}` .*\n", ""),
     (copies, ROUTES, "/deposits/{id}/at/{n}", "/deposits/{id}/to/{n}"),
+    (copies, ROUTES, "/at/{n}", "/at/{step}"),
+    (copies, ROUTES, "KindOf id limit", "KindOf id bound"),
+    (copies, ROUTER, r"(?m)^        id: u64,\n        limit: u64,\n", "        id: u64,\n"),
+    (copies, ROUTER, r"(?m)^    CensusCsv,\n", ""),
+    (copies, ROUTER, r'"/censuses/\{id\}/csv"', '"/censuses/{id}/table"'),
+    (copies, ROUTER, r"(?m)^            rule: next_text\(params\)\?,\n", ""),
+    (copies, ASKED, r" \| Route::Censuses \{ \.\. \}", ""),
+    (copies, ASKED, r"Request::ShowCensus \{ id: \*id \}", "Request::CensusCsv { id: *id }"),
+    (copies, ROUTE_SPECS, r"names \(Kind id limit\)", "names (Kind limit id)"),
+    (copies, ROUTE_SPECS, "the nine templates", "the eight templates"),
+    (copies, ROUTER_SPECS, r'"/objects/\{rule\}/\{code\}', '"/objects/{code}/{rule}'),
+    (copies, ROUTER_SPECS, r"(?m)^reading_of After .*\n", ""),
+    (copies, ASKED_SPECS, r"ask\.At id n", "ask.At n id"),
+    (copies, ROUTE_FINDING, r"\(\(refl, refl, refl, refl, refl, refl\), tt\)", "tt"),
+    (copies, ROUTE_EXAMPLES, "Some \\(At 7 8\\)", "Some (At 8 7)"),
+    (copies, ROUTES_ADDED, "c.in_ok-insert-4", "c.in_ok-insert-5"),
     (copies, ROUTES, "(?m)^(GET,/censuses/.*),fixed$", r"\1,moving"),
     (copies, ADDRESSES, "/d/after/", "/d/before/"),
     (copies, "web/main.js", r"\{1,15\}", "{1,16}"),
@@ -676,6 +709,26 @@ def test_pages(problems: Callable[[Pages], Problems]) -> None:
     """Each thing that a check looks at is right."""
     for problem in problems(PAGES):
         check(problem or problems.__name__, not problem)
+
+
+ROUTE_MORE = "GET,/deposits/{id}/cells/{n}/{code},Cells,CellsOf id n code,some cells,their text,\n"
+
+
+def test_route_more() -> None:
+    """With one route more in the table, each file that has the routes is written, and what is written needs no change."""
+    pages = {**PAGES, ROUTES: PAGES[ROUTES] + ROUTE_MORE}
+    written, problems = places.written(lambda path: pages[path] if path in pages else read(path))
+    same("problems of one route more", problems, [])
+    for path, name in [(ROUTER, "Cells"), (ASKED, "Route::Cells"), (ROUTE_SPECS, "Cells"), (ROUTER_SPECS, "Cells")] + [
+        (ASKED_SPECS, "routes.Cells"),
+        (ROUTE_EXAMPLES, "Some (Cells 7 8 "),
+        (ROUTES_ADDED, "Cells _ _"),
+        (API, "/cells/"),
+    ]:
+        check(f"{path} has the route", name in written[path] and name not in read(path))
+    pages |= written
+    again = places.compare(lambda path: pages[path] if path in pages else read(path))
+    same("what is written again", [problem for problem in again if problem], [])
 
 
 @pytest.mark.parametrize("problems, path, before, after", CHANGES)

@@ -5,7 +5,7 @@ import os
 from functools import partial
 from typing import Callable, Dict, Iterator, List, NamedTuple, Optional, Tuple
 
-from . import clauses, kit, limits, refusals, routes, sources, version
+from . import clauses, kit, limits, refusals, route_sources, routes, sources, version
 from .texts import Fault, Read, with_lines, with_marked
 
 # The text of a file, and that text with one part written again.
@@ -50,9 +50,9 @@ def marked(path: str, source: str, name: str, lines: List[str]) -> Place:
     return Place(path, source, lambda text: with_marked(text, name, lines))
 
 
-def bounded(path: str, source: str, first: str, last: str, lines: List[str]) -> Place:
+def bounded(path: str, source: str, first: str, last: str, lines: List[str], after: str = "") -> Place:
     """A range of lines in a crate's source, which has no comments that mark it."""
-    return Place(path, source, lambda text: with_lines(text, first, last, lines))
+    return Place(path, source, lambda text: with_lines(text, first, last, lines, after))
 
 
 def of_crates(facts: Facts) -> List[Place]:
@@ -66,6 +66,67 @@ def of_crates(facts: Facts) -> List[Place]:
             f"{folder}/src/words.rt", source, "Names:   ", "\nRefuses: unavailable", [*names, "Refuses: unavailable"]
         ),
     ]
+
+
+def of_routes(facts: Facts) -> List[Place]:
+    """The sources, the definitions and the proofs that have each route."""
+    return [*of_route_sources(facts.routes), *of_route_definitions(facts.routes), *of_route_proofs(facts.routes)]
+
+
+def of_route_sources(known: List[routes.Route]) -> List[Place]:
+    folder, source = f"{route_sources.FOLDER}/src", routes.ROUTES
+    route, asked = partial(bounded, f"{folder}/route.rt", source), partial(bounded, f"{folder}/asked.rt", source)
+    return [
+        route("pub(crate) enum Route<'p> {", "\n}", route_sources.routes_declared(known)),
+        route("pub(crate) enum Template {", "\n}", route_sources.templates_declared(known)),
+        *(
+            route("    router.insert(", ")\n}", route_sources.insertions(known, name), f"fn add_{name}_routes(")
+            for name in route_sources.GROUPS
+        ),
+        route("    match template {", "\n    }", route_sources.parameters_read(known)),
+        asked("    match route {", "\n    }", route_sources.methods(known), "fn method_of("),
+        asked("    match route {", "\n    }", route_sources.requests(known), "fn request_of("),
+    ]
+
+
+def of_route_definitions(known: List[routes.Route]) -> List[Place]:
+    folder, source = f"{route_sources.FOLDER}/specs", routes.ROUTES
+    route, state = partial(bounded, f"{folder}/Route.antt", source), partial(
+        bounded, f"{folder}/RouteState.antt", source
+    )
+    asked = partial(bounded, f"{folder}/Asked.antt", source)
+    count = partial(version.with_name, before="-- the ", after=" templates, and", form="[a-z]+")
+    return [
+        route(*route_sources.imported("Route", known)),
+        Place(f"{folder}/Route.antt", source, partial(count, name=route_sources.count(known))),
+        route("templates =", "∷ []", route_sources.templates(known)),
+        state(*route_sources.imported("Template", known)),
+        *(
+            state(f"with_{name}_routes rows =", "\n", route_sources.rows_with(known, name))
+            for name in route_sources.GROUPS
+        ),
+        state("abbrev pub reading_of :", "\n", route_sources.readings(known)),
+        asked("abbrev pub method_of :", "\n", route_sources.specified_methods(known)),
+        asked("abbrev pub request_of :", "\n", route_sources.specified_requests(known)),
+    ]
+
+
+def of_route_proofs(known: List[routes.Route]) -> List[Place]:
+    folder, source = f"{route_sources.FOLDER}/proofs", routes.ROUTES
+    found = bounded(f"{folder}/RouteFinding.antt", source, "rows_are =", "\n", route_sources.rows_proved(known))
+    examples = partial(bounded, f"{folder}/RouteExamples.antt", source)
+    proofs = [
+        found,
+        examples(*route_sources.imported("Route", known)),
+        examples("deposits : route_of", "-- ---- no route", route_sources.examples(known)),
+    ]
+    for name in route_sources.GROUPS:
+        answers = partial(bounded, f"{folder}/route/add_{name}_routes/Answers.antt", source)
+        proofs += [
+            answers(*route_sources.imported("Template", route_sources.group(known, name))),
+            answers("returns c =", ".ensures", route_sources.insertions_proved(known, name)),
+        ]
+    return proofs
 
 
 def of_pages(facts: Facts) -> List[Place]:
@@ -136,7 +197,7 @@ def of_names(facts: Facts) -> List[Place]:
 
 
 def places(facts: Facts) -> List[Place]:
-    parts = (of_crates, of_pages, of_scripts, of_gateway, of_documents, of_proofs, of_names)
+    parts = (of_crates, of_routes, of_pages, of_scripts, of_gateway, of_documents, of_proofs, of_names)
     return [place for part in parts for place in part(facts)]
 
 
@@ -154,10 +215,11 @@ def compare(read: Read) -> Iterator[Optional[str]]:
     """The problems of each place and each fact."""
     try:
         facts = read_facts(read)
+        known = places(facts)
     except Fault as fault:
         yield str(fault)
         return
-    for place in places(facts):
+    for place in known:
         text = read(place.path)
         try:
             found = difference(text, place.write(text))

@@ -11,10 +11,10 @@ from .limits import Limits
 from .texts import Fault, Read, markdown, rows_of
 
 ROUTES, ADDRESSES = "docs/routes.csv", "docs/addresses.csv"
-# The definition of the routes.
-SPECIFIED = "crates/life_pages/specs/Route.antt"
-# `cache` says how long the gateway caches a reply: a `fixed` one never changes, a `moving` one may grow.
-ROUTE_COLUMNS = ["method", "path", "request", "reply", "cache"]
+# `route` is the name of a route in the sources, and `asks` the request with its arguments: parameters of the path, or what
+# else the message has. `cache` says how long the gateway caches a reply: a `fixed` one never changes, a `moving` one may
+# grow.
+ROUTE_COLUMNS = ["method", "path", "route", "asks", "request", "reply", "cache"]
 # An address may lack what is in brackets. `title` is what a preview of a link says: with brackets for both forms of the
 # address, without them for the short one.
 ADDRESS_COLUMNS = ["name", "path", "title"]
@@ -34,6 +34,8 @@ Patterns = Dict[str, str]
 class Route(NamedTuple):
     method: str
     path: str
+    name: str
+    asks: str
     request: str
     reply: str
     cache: str
@@ -51,7 +53,7 @@ def read_routes(read: Read, limits: Limits) -> List[Route]:
         if row["method"] not in ("GET", "POST") or row["cache"] not in ("", "fixed", "moving"):
             raise Fault(f"{ROUTES}: {row['path']}: the method is GET or POST, the cache is fixed or moving or empty")
         request, reply = limits.put_into(row["request"]), limits.put_into(row["reply"])
-        routes.append(Route(row["method"], row["path"], request, reply, row["cache"]))
+        routes.append(Route(row["method"], row["path"], row["route"], row["asks"], request, reply, row["cache"]))
     return routes
 
 
@@ -71,15 +73,7 @@ def kept_as(site: str, path: str) -> str:
 
 
 def compare(routes: List[Route], read: Read) -> Iterator[Optional[str]]:
-    """For each route, the problem if only the program or only the table has it, or if the gateway caches its replies
-    in another way."""
-    specified = set(re.findall(r'\(codes "(/[^"]*)"', read(SPECIFIED)))
-    listed = {route.path for route in routes}
-    for path in sorted(specified | listed):
-        if path in specified and path in listed:
-            yield None
-        else:
-            yield f"{ROUTES if path in specified else SPECIFIED}: no route {path}"
+    """For each route, the problem if the gateway caches its replies in another way than the table says."""
     for route in routes:
         found = kept_as(read(SITE), expression(route.path, EXAMPLES))
         kept = f"{SITE}: replies of {route.path} are kept as '{found}', and as '{route.cache}' in {ROUTES}"

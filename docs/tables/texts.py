@@ -66,10 +66,12 @@ def with_marked(text: str, name: str, lines: List[str]) -> str:
     return text[: begins[0].end()] + "".join(line + "\n" for line in lines) + text[ends[0].start() :]
 
 
-def with_lines(text: str, first: str, last: str, lines: List[str]) -> str:
+def with_lines(text: str, first: str, last: str, lines: List[str], after: str = "") -> str:
     """The text with these lines in place of those from the one that begins with `first` to the next that ends with
-    `last`. This is for files that may have no such comments."""
-    found = re.search(rf"(?ms)^{re.escape(first)}.*?{re.escape(last)}$", text)
+    `last`. If `after` is given, they come after a line that begins with it. This is for files that may have no such
+    comments."""
+    begin = f"^{re.escape(after)}.*?" if after else ""
+    found = re.search(rf"(?ms){begin}^({re.escape(first)}.*?{re.escape(last)})$", text)
     if not found:
-        raise Fault(f"no lines from '{first}' to '{last}'")
-    return text[: found.start()] + "\n".join(lines) + text[found.end() :]
+        raise Fault(f"no lines from '{first}' to '{last}'" + (f" after '{after}'" if after else ""))
+    return text[: found.start(1)] + "\n".join(lines) + text[found.end(1) :]

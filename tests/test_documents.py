@@ -43,7 +43,8 @@ API, FORMATS, COMMANDS, OPERATING = "docs/API.md", "docs/FORMATS.md", "docs/COMM
 DECISIONS = "docs/DECISIONS.md"
 # The tables, and what repeats them beside the documents.
 REFUSALS, LIMITS, ROUTES, ADDRESSES, CLAUSES = refusals.PATH, limits.PATH, routes.ROUTES, routes.ADDRESSES, clauses.PATH
-SENTENCES, SCRIPTS, SITE = "web/requests/refusals.js", "examples/scripts/asking.sh", routes.SITE
+SENTENCES, SCRIPTS = "web/requests/refusals.js", "examples/scripts/asking.sh"
+SITE, PROXY = routes.SITE, routes.PROXY
 EXPLAIN, NAMES_OF_REFUSALS, WORDS = (
     "crates/life_words/src/explain.rt",
     "crates/life_words/specs/Explain.antt",
@@ -67,6 +68,7 @@ OTHERS = [
     SENTENCES,
     SCRIPTS,
     SITE,
+    PROXY,
     EXPLAIN,
     NAMES_OF_REFUSALS,
     WORDS,
@@ -680,7 +682,18 @@ CHANGES = [
     (copies, ROUTE_FINDING, r"\(\(refl, refl, refl, refl, refl, refl\), tt\)", "tt"),
     (copies, ROUTE_EXAMPLES, "Some \\(At 7 8\\)", "Some (At 8 7)"),
     (copies, ROUTES_ADDED, "c.in_ok-insert-4", "c.in_ok-insert-5"),
-    (copies, ROUTES, "(?m)^(GET,/censuses/.*),fixed$", r"\1,moving"),
+    (copies, ROUTES, "(?m)^(GET,/censuses/.*),fixed,cheap$", r"\1,moving,cheap"),
+    (copies, ROUTES, "(?m)^(GET,/censuses/.*),cheap$", r"\1,dear"),
+    (copies, ROUTES, "(?m)^(POST,/deposits/.*),dear$", r"\1,cheap"),
+    (copies, SITE, r"censuses/\[1-9\]\[0-9\]\*/csv", "censuses/csv"),
+    (copies, SITE, r"/kind\|objects/", "|objects/"),
+    (
+        copies,
+        SITE,
+        r"(?m)^( *set \$life_page fixed;\n) *limit_conn life_client_all_at_once .*\n *limit_conn .*\n",
+        r"\1",
+    ),
+    (copies, PROXY, "path_sub /at/ /kind/", "path_sub /at/"),
     (copies, ADDRESSES, "/d/after/", "/d/before/"),
     (copies, "web/main.js", r"\{1,15\}", "{1,16}"),
     (copies, "web/ahead.js", r"\\/at", r"\\/to"),
@@ -711,7 +724,7 @@ def test_pages(problems: Callable[[Pages], Problems]) -> None:
         check(problem or problems.__name__, not problem)
 
 
-ROUTE_MORE = "GET,/deposits/{id}/cells/{n}/{code},Cells,CellsOf id n code,some cells,their text,\n"
+ROUTE_MORE = "GET,/deposits/{id}/cells/{n}/{code},Cells,CellsOf id n code,some cells,their text,fixed,dear\n"
 
 
 def test_route_more() -> None:
@@ -724,6 +737,8 @@ def test_route_more() -> None:
         (ROUTE_EXAMPLES, "Some (Cells 7 8 "),
         (ROUTES_ADDED, "Cells _ _"),
         (API, "/cells/"),
+        (SITE, "/cells/[0-9]+/[0-9a-z_]+)$"),
+        (PROXY, " /cells/"),
     ]:
         check(f"{path} has the route", name in written[path] and name not in read(path))
     pages |= written

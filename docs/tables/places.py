@@ -151,9 +151,15 @@ def of_scripts(facts: Facts) -> List[Place]:
 
 
 def of_gateway(facts: Facts) -> List[Place]:
-    """The site of nginx."""
-    site = partial(marked, routes.SITE, routes.ADDRESSES)
+    """The site of nginx, and HAProxy's configuration."""
+    site, known = partial(marked, routes.SITE, routes.ADDRESSES), partial(marked, routes.SITE, routes.ROUTES)
     return [
+        *(
+            known(f"{cache} {cost} routes", routes.site_location(facts.routes, cache, cost))
+            for cache, cost in routes.CLASSES
+        ),
+        known("long searches", routes.site_realm(facts.routes)),
+        marked(routes.PROXY, routes.ROUTES, "dear routes", routes.proxy_dear(facts.routes)),
         site(
             "titles",
             routes.site_titles(facts.addresses, facts.limits) + routes.site_deposit(facts.addresses, facts.limits),
@@ -241,11 +247,12 @@ def written(read: Read) -> Tuple[Dict[str, str], List[str]]:
     """The text of each file with all its places written, and what could not be written."""
     facts = read_facts(read)
     texts: Dict[str, str] = {}
-    problems = [problem for problem in compare_with_sources(facts, read) if problem]
+    problems = []
     for place in places(facts):
         text = texts.get(place.path, read(place.path))
         try:
             texts[place.path] = place.write(text)
         except Fault as fault:
             problems.append(f"{place.path}: {fault}")
+    problems += filter(None, compare_with_sources(facts, lambda path: texts.get(path) or read(path)))
     return texts, problems

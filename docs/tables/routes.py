@@ -13,15 +13,23 @@ from .texts import Fault, Read, markdown, rows_of
 ROUTES, ADDRESSES = "docs/routes.csv", "docs/addresses.csv"
 # `route` is the name of a route in the sources, and `asks` the request with its arguments: parameters of the path, or what
 # else the message has. `cache` says how long the gateway caches a reply: a `fixed` one never changes, a `moving` one may
-# grow.
-ROUTE_COLUMNS = ["method", "path", "route", "asks", "request", "reply", "cache"]
+# grow. `cost` says how long a reply may take: a `dear` one up to a minute, a `cheap` one milliseconds.
+ROUTE_COLUMNS = ["method", "path", "route", "asks", "request", "reply", "cache", "cost"]
 # An address may lack what is in brackets. `title` is what a preview of a link says: with brackets for both forms of the
 # address, without them for the short one.
 ADDRESS_COLUMNS = ["name", "path", "title"]
 # A path of each route, to ask which location of the gateway has it.
 EXAMPLES = {"id": "7", "n": "8", "limit": "9", "rule": "B3S23", "code": "xq4_153"}
-SITE = "deploy/templates/gateway/life-site.conf"
-NUMBER, PART = "[0-9]{1,15}", "[^/]+"
+SITE, PROXY = "deploy/templates/gateway/life-site.conf", "deploy/templates/gateway/haproxy.cfg"
+NUMBER, PART, DIGITS = "[0-9]{1,15}", "[^/]+", "[0-9]+"
+# What a parameter of a route may be in the gateway. A reply that never changes is cached only under the number of a deposit
+# or a census without leading zeros.
+IN_ROUTES = {"id": DIGITS, "n": DIGITS, "limit": DIGITS, "rule": PART, "code": "[0-9a-z_]+"}
+IN_FIXED = {**IN_ROUTES, "id": "[1-9][0-9]*"}
+# The classes of routes that only read: each has a location of the site.
+CLASSES = [("fixed", "cheap"), ("moving", "cheap"), ("fixed", "dear"), ("moving", "dear")]
+# A limit above 256, with zeros before it.
+LONG = "0*(25[7-9]|2[6-9][0-9]|[3-9][0-9][0-9]|[1-9][0-9]{3,})"
 # A title is put into HTML, so it has no character that HTML would read.
 IN_TITLES = {"code": "[a-z0-9_]+"}
 # The page whose files web/ahead.js asks for.
@@ -39,6 +47,7 @@ class Route(NamedTuple):
     request: str
     reply: str
     cache: str
+    cost: str
 
 
 class Address(NamedTuple):
@@ -50,10 +59,13 @@ class Address(NamedTuple):
 def read_routes(read: Read, limits: Limits) -> List[Route]:
     routes = []
     for row in rows_of(read, ROUTES, ROUTE_COLUMNS):
-        if row["method"] not in ("GET", "POST") or row["cache"] not in ("", "fixed", "moving"):
-            raise Fault(f"{ROUTES}: {row['path']}: the method is GET or POST, the cache is fixed or moving or empty")
+        kept = ("fixed", "moving") if row["method"] == "GET" else ("",)
+        if row["method"] not in ("GET", "POST") or row["cache"] not in kept or row["cost"] not in ("cheap", "dear"):
+            raise Fault(f"{ROUTES}: {row['path']}: GET with fixed or moving, or POST; and cheap or dear")
         request, reply = limits.put_into(row["request"]), limits.put_into(row["reply"])
-        routes.append(Route(row["method"], row["path"], row["route"], row["asks"], request, reply, row["cache"]))
+        routes.append(
+            Route(row["method"], row["path"], row["route"], row["asks"], request, reply, row["cache"], row["cost"])
+        )
     return routes
 
 
@@ -61,23 +73,28 @@ def read_addresses(read: Read) -> List[Address]:
     return [Address(row["name"], row["path"], row["title"]) for row in rows_of(read, ADDRESSES, ADDRESS_COLUMNS)]
 
 
-def kept_as(site: str, path: str) -> str:
-    """How the gateway caches the reply at a path, from the location that nginx chooses: an exact one, or else the first match."""
+def location_of(site: str, path: str) -> str:
+    """The location that nginx chooses for a path: an exact one, or else the first match."""
     locations = re.findall(r"(?ms)^(?:@[A-Z_]+\?@)* {4}location (=|~) (\S+) \{$(.*?)^(?:@[A-Z_]+\?@)* {4}\}$", site)
     # Python writes named groups differently.
     forms = [(re.sub(r"\(\?<(\w)", r"(?P<\1", form), body) for kind, form, body in locations if kind == "~"]
-    fitting = [body for kind, form, body in locations if kind == "=" and form == path]
+    fitting: List[str] = [body for kind, form, body in locations if kind == "=" and form == path]
     fitting += [body for form, body in forms if re.search(form, path)]
-    page = re.search(r"set \$life_page (\w+);", fitting[0]) if fitting else None
-    return page[1] if page else ""
+    return fitting[0] if fitting else ""
 
 
 def compare(routes: List[Route], read: Read) -> Iterator[Optional[str]]:
-    """For each route, the problem if the gateway caches its replies in another way than the table says."""
+    """For each route, the problem if the gateway caches its replies in another way than the table says, or has other
+    limits for it."""
     for route in routes:
-        found = kept_as(read(SITE), expression(route.path, EXAMPLES))
+        location = location_of(read(SITE), expression(route.path, EXAMPLES))
+        page = re.search(r"set \$life_page (\w+);", location)
+        found = page[1] if page else ""
         kept = f"{SITE}: replies of {route.path} are kept as '{found}', and as '{route.cache}' in {ROUTES}"
         yield None if found == route.cache else kept
+        cost = "dear" if "life_client_dear_at_once" in location else "cheap"
+        limited = f"{SITE}: {route.path} has the limits of {cost} routes, and is {route.cost} in {ROUTES}"
+        yield None if cost == route.cost else limited
 
 
 def in_addresses(limits: Limits) -> Patterns:
@@ -128,6 +145,45 @@ def script_ahead(addresses: List[Address], limits: Limits) -> List[str]:
 
 
 # ---- the gateway
+
+
+def reading(routes: List[Route], cost: str) -> List[Route]:
+    """The routes of a cost that only read."""
+    return [route for route in routes if route.method == "GET" and route.cost == cost]
+
+
+def site_location(routes: List[Route], cache: str, cost: str) -> List[str]:
+    """The first line of the location of a class of routes."""
+    patterns = IN_FIXED if cache == "fixed" else IN_ROUTES
+    paths = [expression(route.path[1:], patterns) for route in reading(routes, cost) if route.cache == cache]
+    if not paths:
+        raise Fault(f"{ROUTES}: no route is {cache} and {cost}, so {SITE} needs no location for such")
+    return [f"    location ~ ^/({'|'.join(paths)})$ {{"]
+
+
+def site_realm(routes: List[Route]) -> List[str]:
+    """The map that has the routes on which a long search needs a password. They end in the limit."""
+    known = reading(routes, "dear")
+    paths = [re.sub(r"/\{limit\}$", "", route.path[1:]) for route in known if route.path.endswith("/{limit}")]
+    forms = "|".join(expression(path, {**IN_ROUTES, "code": PART}) for path in paths)
+    return [f'@MEMBERS_FILE?@map $life_path $life_realm {{ default off; "~^/({forms})/{LONG}$" club; }}']
+
+
+def proxy_dear(routes: List[Route]) -> List[str]:
+    """How HAProxy tells the dear routes that only read: by a part of their path or, if no cheap route begins so, by its
+    beginning."""
+    cheap = [expression(route.path, EXAMPLES) for route in routes if route.cost == "cheap"]
+    inside, begins = [], []
+    for route in reading(routes, "dear"):
+        begin = "/".join(route.path.split("/")[:2]) + "/"
+        if not any(path.startswith(begin) for path in cheap):
+            begins.append(begin)
+            continue
+        inside.append(re.split(r"\{\w+\}", route.path)[1])
+        if any(inside[-1] in path for path in cheap):
+            raise Fault(f"{ROUTES}: '{inside[-1]}' does not tell {route.path} from a cheap route")
+    words = [("path_sub", inside), ("path_beg", begins)]
+    return [f"    acl is_read_dear {word} {' '.join(dict.fromkeys(parts))}" for word, parts in words if parts]
 
 
 def site_pages(addresses: List[Address], limits: Limits) -> List[str]:

@@ -15,6 +15,7 @@ import pytest
 
 import clients
 import life
+import paths
 import reference
 from archives import BLANK
 from clients import (
@@ -344,14 +345,9 @@ FILES = [
     b"",
     b"x = 1, y = 1, rule = B9/S\no!\n",
 ]
+# Each route that only reads, other spellings, and what is refused.
 TARGETS = [
-    "/deposits/{0}",
-    "/deposits/{0}/at/{1}",
-    "/deposits/{0}/kind/{2}",
-    "/deposits/after/{0}",
-    "/censuses/{0}",
-    "/censuses/{0}/csv",
-    "/objects/B3S23/xs4_33/{2}",
+    *paths.reading(id="{0}", n="{1}", limit="{2}", rule="B3S23", code="xs4_33"),
     "/objects/b3s23/xp2_7/{2}",
     "/objects/B3S23/xs4_330/1",
     "/objects/B36S23/xs4_33/1",

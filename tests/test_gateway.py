@@ -26,6 +26,7 @@ from typing import Any
 import pytest
 
 import clients
+import paths
 import strangers
 from clients import GLIDER, Server, certify, check, exchanged, free_port, message, same
 from gateways import BUSY, DEPLOY, Gateway, missing
@@ -253,15 +254,8 @@ def test_kept_pages(gateway: Gateway, filled: None) -> None:
     same("a census", made[:2], (201, b'{"census":1}'))
     again = asked(gateway.port, 252, "POST", "/deposits/1/censuses/0/4", headers={"x-member": "ann", "x-token": "c1"})
     same("the same census again", again[:2], (201, b'{"census":1}'))
-    for path in [
-        "/deposits/1",
-        "/deposits/2/at/0",
-        "/deposits/2/at/2000",
-        "/deposits/3/kind/4",
-        "/deposits/3/kind/1",
-        "/censuses/1",
-        "/censuses/1/csv",
-    ]:
+    fixed = [path for n, limit in ((0, 4), (2000, 1)) for path in paths.reading("fixed", id=1, n=n, limit=limit)]
+    for path in dict.fromkeys(fixed):
         own = asked(gateway.life_port, 252, "GET", path)
         first = asked(gateway.port, 252, "GET", path)
         second = asked(gateway.port, 252, "GET", path + "?again")

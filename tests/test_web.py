@@ -21,6 +21,7 @@ import pytest
 import browser as browsers
 import gateways
 import life
+import paths
 import reference
 import web_haul
 from browser import Browser, Relay
@@ -219,14 +220,8 @@ def test_headers(gateway: Gateway) -> None:
         )
     kept(gateway, "glider", content(os.path.join(TOP, "examples", "glider.rle")))
     for path in (
-        "/deposits/1",
-        "/deposits/after/1",
-        "/deposits/1/at/7",
-        "/deposits/1/kind/4",
+        *paths.reading(id=1, n=7, limit=4, rule="B3S23", code="xq4_153"),
         "/deposits/2",
-        "/censuses/1",
-        "/censuses/1/csv",
-        "/objects/B3S23/xq4_153/4",
         "/deposits",
         "/deposits/1/at",
         "/objects/B3S23/xq4_154/4",

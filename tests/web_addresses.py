@@ -6,6 +6,7 @@ import os
 import re
 from typing import Any
 
+import paths
 from browser import Browser
 from clients import HERE, check, same
 from gateways import Gateway
@@ -74,13 +75,8 @@ NOWHERE = [
 ]
 # Routes of the archive, some with a reply that refuses.
 ROUTES = [
-    "/deposits/1",
-    "/deposits/1/at/7",
-    "/deposits/1/kind/4",
+    *paths.reading(id=1, n=7, limit=4, rule="B3S23", code="xq4_153"),
     "/deposits/after/1000000",
-    "/censuses/1",
-    "/censuses/1/csv",
-    "/objects/B3S23/xq4_153/4",
     "/deposits",
     "/deposits/x",
     "/deposits/900",

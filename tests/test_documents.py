@@ -22,7 +22,7 @@ import pytest
 
 import phrases
 from clients import HERE, check, same
-from tables import clauses, kit, limits, places, refusals, routes, sources, texts
+from tables import clauses, kit, limits, places, refusals, replies, routes, sources, texts
 
 pytestmark = pytest.mark.quick
 TOP = os.path.dirname(HERE)
@@ -59,6 +59,10 @@ ROUTE_FINDING, ROUTE_EXAMPLES, ROUTES_ADDED = (
     f"crates/life_pages/proofs/{name}.antt"
     for name in ("RouteFinding", "RouteExamples", "route/add_deposit_routes/Answers")
 )
+STEPS, RUNS = "crates/life_desk/proofs/Steps.antt", "crates/life_desk/proofs/Runs.antt"
+# The replies, and the proofs that have a case for each.
+DECLARED, REPLIES = replies.DECLARED, replies.PATH
+APART, STATUSES = "crates/life_pages/proofs/RepliesApart.antt", "crates/life_pages/proofs/ReplyStatuses.antt"
 OTHERS = [
     REFUSALS,
     LIMITS,
@@ -80,6 +84,12 @@ OTHERS = [
     ROUTE_FINDING,
     ROUTE_EXAMPLES,
     ROUTES_ADDED,
+    STEPS,
+    RUNS,
+    DECLARED,
+    REPLIES,
+    APART,
+    STATUSES,
     kit.PATH,
     "web/main.js",
     "web/ahead.js",
@@ -682,6 +692,13 @@ CHANGES = [
     (copies, ROUTE_FINDING, r"\(\(refl, refl, refl, refl, refl, refl\), tt\)", "tt"),
     (copies, ROUTE_EXAMPLES, "Some \\(At 7 8\\)", "Some (At 8 7)"),
     (copies, ROUTES_ADDED, "c.in_ok-insert-4", "c.in_ok-insert-5"),
+    (copies, STEPS, r"(?m)^after_case .*good\.KindOf .*\n", ""),
+    (copies, RUNS, r"(?m)^shown_keeps .*good\.Show id.*\n", ""),
+    (copies, APART, r"(?m)^reply_type .*Kinded .*\n", ""),
+    (copies, STATUSES, "Shown shown", "Shown census"),
+    (copies, REPLIES, "says.Csv bytes\\) = bytes", "says.Csv text) = text"),
+    (copies, REPLIES, r"(?m)^reply_body \(says\.Kinded .*\n", ""),
+    (copies, DECLARED, r"(?m)^    Csv\(Bytes\),\n", ""),
     (copies, ROUTES, "(?m)^(GET,/censuses/.*),fixed,cheap$", r"\1,moving,cheap"),
     (copies, ROUTES, "(?m)^(GET,/censuses/.*),cheap$", r"\1,dear"),
     (copies, ROUTES, "(?m)^(POST,/deposits/.*),dear$", r"\1,cheap"),
@@ -739,11 +756,28 @@ def test_route_more() -> None:
         (API, "/cells/"),
         (SITE, "/cells/[0-9]+/[0-9a-z_]+)$"),
         (PROXY, " /cells/"),
+        (STEPS, "(good.CellsOf id n code)) none"),
+        (RUNS, "(good.CellsOf id n code) r is"),
     ]:
         check(f"{path} has the route", name in written[path] and name not in read(path))
     pages |= written
     again = places.compare(lambda path: pages[path] if path in pages else read(path))
     same("what is written again", [problem for problem in again if problem], [])
+
+
+def test_reply_more() -> None:
+    """With one reply more in its definition, each proof with a case for each reply has it."""
+    pages = {
+        **PAGES,
+        DECLARED: PAGES[DECLARED].replace("    /// A total", "    /// Some cells.\n    Cells(Bytes),\n    /// A total"),
+        REPLIES: PAGES[REPLIES].replace(
+            "reply_body (says.Csv", "reply_body (says.Cells text) = text\nreply_body (says.Csv"
+        ),
+    }
+    written, problems = places.written(lambda path: pages[path] if path in pages else read(path))
+    same("problems of one reply more", problems, [])
+    for path, cases in ((APART, 2), (STATUSES, 1)):
+        same(f"cases of it in {path}", written[path].count("(replies.Cells text) = refl"), cases)
 
 
 @pytest.mark.parametrize("problems, path, before, after", CHANGES)

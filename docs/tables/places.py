@@ -5,8 +5,8 @@ import os
 from functools import partial
 from typing import Callable, Dict, Iterator, List, NamedTuple, Optional, Tuple
 
-from . import clauses, kit, limits, refusals, route_sources, routes, sources, version
-from .texts import Fault, Read, with_lines, with_marked
+from . import clauses, kit, limits, refusals, replies, route_sources, routes, sources, version
+from .texts import Fault, Read, with_cases, with_lines, with_marked
 
 # The text of a file, and that text with one part written again.
 Write = Callable[[str], str]
@@ -24,6 +24,7 @@ class Facts(NamedTuple):
     limits: limits.Limits
     refusals: List[refusals.Refusal]
     routes: List[routes.Route]
+    replies: List[str]
     addresses: List[routes.Address]
     version: str
     kit: str
@@ -37,6 +38,7 @@ def read_facts(read: Read) -> Facts:
         known,
         refusals.read_refusals(read, known),
         routes.read_routes(read, known),
+        replies.read_replies(read),
         routes.read_addresses(read),
         version.read_version(read),
         kit.read_kit(read),
@@ -53,6 +55,11 @@ def marked(path: str, source: str, name: str, lines: List[str]) -> Place:
 def bounded(path: str, source: str, first: str, last: str, lines: List[str], after: str = "") -> Place:
     """A range of lines in a crate's source, which has no comments that mark it."""
     return Place(path, source, lambda text: with_lines(text, first, last, lines, after))
+
+
+def proved(path: str, source: str, begin: str, end: str, cases: List[List[str]]) -> Place:
+    """The cases of a proof that have the same line but for the case."""
+    return Place(path, source, lambda text: with_cases(text, begin, end, cases))
 
 
 def of_crates(facts: Facts) -> List[Place]:
@@ -126,7 +133,23 @@ def of_route_proofs(known: List[routes.Route]) -> List[Place]:
             answers(*route_sources.imported("Template", route_sources.group(known, name))),
             answers("returns c =", ".ensures", route_sources.insertions_proved(known, name)),
         ]
-    return proofs
+    desk, read = "crates/life_desk/proofs", route_sources.requests_read(known)
+    return [
+        *proofs,
+        proved(f"{desk}/Steps.antt", source, "after_case P A (Ok (good.", ")) none deposit census = none", read),
+        proved(f"{desk}/Runs.antt", source, "shown_keeps A (good.", ") r is shown = refl", read),
+    ]
+
+
+def of_replies(facts: Facts) -> List[Place]:
+    """The proofs that have a case for each reply."""
+    apart, statuses = "crates/life_pages/proofs/RepliesApart.antt", "crates/life_pages/proofs/ReplyStatuses.antt"
+    known, shown = facts.replies, replies.without_refusals(facts.replies)
+    return [
+        proved(apart, replies.PATH, "reply_line (replies.", ") = refl", [shown]),
+        proved(apart, replies.PATH, "reply_type (replies.", ") = refl", [known]),
+        proved(statuses, replies.PATH, "known (replies.", ") = refl", [shown]),
+    ]
 
 
 def of_pages(facts: Facts) -> List[Place]:
@@ -203,7 +226,7 @@ def of_names(facts: Facts) -> List[Place]:
 
 
 def places(facts: Facts) -> List[Place]:
-    parts = (of_crates, of_routes, of_pages, of_scripts, of_gateway, of_documents, of_proofs, of_names)
+    parts = (of_crates, of_routes, of_replies, of_pages, of_scripts, of_gateway, of_documents, of_proofs, of_names)
     return [place for part in parts for place in part(facts)]
 
 

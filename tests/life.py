@@ -1,9 +1,12 @@
 """The game for all tests and benches: rules, sets of cells and their generations, pattern files and codes, from docs/FORMATS.md. It shares
-no code with the program. Only tests/test_planes.py has a stepper of its own, which steps large fields as one number.
+no code with the program. The limits are those of docs/limits.csv. Only tests/test_planes.py has a stepper of its own, which steps large
+fields as one number.
 
 A set of cells is a frozenset of pairs (column, row).
 """
 import collections
+import csv
+import os
 import re
 from typing import Any, Callable, Iterable
 
@@ -14,8 +17,11 @@ Cells = frozenset[Cell]
 Record = tuple[bytes | None, bytes | None, tuple[bytes, ...], Rule, Cells]
 Kind = tuple[Any, ...]
 
-LONGEST_FILE = 1_048_576
-WIDEST_FILE = 1024
+with open(
+    os.path.join(os.path.dirname(os.path.abspath(__file__)), "..", "docs", "limits.csv"), newline="", encoding="ascii"
+) as table:
+    LIMITS = {row["name"]: int(row["value"]) for row in csv.DictReader(table)}
+LONGEST_FILE, LARGEST_BOX = LIMITS["LONGEST_FILE"], LIMITS["LARGEST_BOX"]
 BLANKS = b" \t\r"
 # A count, if there is one, and a tag.
 ITEM = re.compile(rb"([0-9]*)([^0-9])", re.DOTALL)
@@ -156,7 +162,9 @@ def read_file(data: bytes, is_limited: bool = True) -> Record:
         raise Fault(1)
     lines = data.split(b"\n")
     name, author, comments, noted, at = texts_before(lines)
-    if len(comments) > 64 or any(len(text) > 200 for text in (*comments, name or b"", author or b"")):
+    if len(comments) > LIMITS["MOST_COMMENTS"] or any(
+        len(text) > LIMITS["LONGEST_TEXT"] for text in (*comments, name or b"", author or b"")
+    ):
         raise Fault(2)
     if at == len(lines):
         raise Fault(3)
@@ -169,7 +177,13 @@ def read_file(data: bytes, is_limited: bool = True) -> Record:
     given = match.group(1) if match.group(1) is not None else noted
     rule = LIFE if given is None else read_rule(given)
     body = b"".join(line for line in lines[at + 1 :] if not line.lstrip(BLANKS).startswith(b"#"))
-    return name, author, tuple(comments), rule, normal(placed(compact(body), WIDEST_FILE if is_limited else ROW // 2))
+    return (
+        name,
+        author,
+        tuple(comments),
+        rule,
+        normal(placed(compact(body), LIMITS["LONGEST_SIDE"] if is_limited else ROW // 2)),
+    )
 
 
 def placed(body: bytes, widest: int) -> set[Cell]:
@@ -184,7 +198,7 @@ def placed(body: bytes, widest: int) -> set[Cell]:
         at = item.end()
         # More digits than the greatest count has say no more.
         count = int(digits.lstrip(b"0")[:8] or b"0") if digits else 1
-        if digits and not 1 <= count <= 1_000_000:
+        if digits and not 1 <= count <= LIMITS["GREATEST_COUNT"]:
             raise Fault(8)
         if tag == b"!":
             if digits:
@@ -239,7 +253,7 @@ def file_text(record: Record) -> bytes:
     out += f"x = {width}, y = {height}, rule = {rule_text(rule)}\n".encode()
     line = ""
     for item in body_items(cells):
-        if len(line) + len(item) > 70:
+        if len(line) + len(item) > LIMITS["LONGEST_LINE"]:
             out += line.encode() + b"\n"
             line = ""
         line += item
@@ -300,7 +314,7 @@ def wechsler(cells: Cells) -> str:
 
 
 def code_of(rule: Rule, cells: Cells, limit: int) -> str | None:
-    """The code of a pattern that comes back within the limit and has a phase of at most 40 by 40; otherwise None."""
+    """The code of a pattern that comes back within the limit and has a phase of at most LARGEST_BOX columns and rows; otherwise None."""
     kind = kind_of(rule, cells, limit)
     if kind[0] in ("empty", "unresolved"):
         return None
@@ -309,7 +323,7 @@ def code_of(rule: Rule, cells: Cells, limit: int) -> str | None:
     for _ in range(period):
         for turn in TURNS:
             image = normal(frozenset(turn(x, y) for x, y in phase))
-            if max(box(image)) <= 40:
+            if max(box(image)) <= LARGEST_BOX:
                 texts.append(wechsler(image))
         phase = following(rule, phase)
     if not texts:
@@ -350,6 +364,6 @@ def is_code(rule: Rule, text: str, limit: int) -> bool:
     if not match:
         return False
     cells = spelled(match.group(1))
-    if not cells or normal(cells) != cells or max(box(cells)) > 40 or wechsler(cells) != match.group(1):
+    if not cells or normal(cells) != cells or max(box(cells)) > LARGEST_BOX or wechsler(cells) != match.group(1):
         return False
     return code_of(rule, cells, limit) == text

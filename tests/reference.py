@@ -1,5 +1,5 @@
 """A second implementation of the archive for the tests, from docs/API.md and docs/FORMATS.md. It shares no code with the program.
-Numbers, names and statuses of refusals and faults are those of docs/refusals.csv.
+Numbers, names and statuses of refusals and faults are those of docs/refusals.csv, and limits those of docs/limits.csv.
 
 `Archive.replies(stream)` gives the bytes that a stream of messages is answered with. Nothing here is fast.
 """
@@ -17,8 +17,6 @@ Tally = tuple[list[tuple[str, int]], int, int]
 # What a census is of: the number of a deposit, a generation and a limit.
 Asked = tuple[int, int, int]
 Content = TypeVar("Content")
-
-GREATEST = 2048
 
 
 def of_kind(kind: str) -> list[dict[str, str]]:
@@ -116,14 +114,23 @@ def refusal(number: int, rle: int | None = None) -> bytes:
     return json_reply(status, {"error": name, "refusal": number, **({"rle": rle} if rle is not None else {})})
 
 
-def limited(number: int, least: int) -> int:
-    if not least <= number <= GREATEST:
+def judge_generation(n: int) -> None:
+    if n > life.LIMITS["GENERATION_LIMIT"]:
         raise Refused(6)
-    return number
+
+
+def judge_limit(limit: int) -> None:
+    if not 1 <= limit <= life.LIMITS["PERIOD_LIMIT"]:
+        raise Refused(6)
+
+
+def has_form(characters: bytes, longest: str, text: bytes) -> bool:
+    """Whether a text has only these characters, at least one, and at most as many as this limit says."""
+    return re.fullmatch(b"[%s]{1,%d}" % (characters, life.LIMITS[longest]), text) is not None
 
 
 class Archive:
-    def __init__(self, capacity: int = 1_000_000) -> None:
+    def __init__(self, capacity: int = life.LIMITS["CAPACITY"]) -> None:
         self.capacity = capacity
         # The member, the token and the content of each.
         self.deposits: list[tuple[bytes, bytes, life.Record]] = []
@@ -144,9 +151,9 @@ class Archive:
         return len(rows)
 
     def names(self, member: bytes, token: bytes) -> None:
-        if not re.fullmatch(rb"[a-z0-9-]{1,32}", member):
+        if not has_form(b"a-z0-9-", "LONGEST_MEMBER", member):
             raise Refused(3)
-        if not re.fullmatch(rb"[A-Za-z0-9-]{1,64}", token):
+        if not has_form(b"A-Za-z0-9-", "LONGEST_TOKEN", token):
             raise Refused(4)
 
     def deposit(self, member: bytes, token: bytes, data: bytes) -> bytes:
@@ -176,17 +183,17 @@ class Archive:
             for place, row in enumerate(self.deposits)
             if place + 1 > number
         ]
-        return json_reply(200, {"deposits": rows[:100]})
+        return json_reply(200, {"deposits": rows[: life.LIMITS["LONGEST_LIST"]]})
 
     def at(self, number: int, n: int) -> bytes:
-        limited(n, 0)
+        judge_generation(n)
         _, _, _, rule, cells = self.record(number)
         return reply(
             200, "text/plain", life.file_text((None, None, (), rule, life.normal(life.generation(rule, cells, n))))
         )
 
     def kind(self, number: int, limit: int) -> bytes:
-        limited(limit, 1)
+        judge_limit(limit)
         _, _, _, rule, cells = self.record(number)
         kind, code = life.kind_of(rule, cells, limit), life.code_of(rule, cells, limit)
         value = {"kind": kind[0], **({"code": code} if code is not None else {})}
@@ -198,8 +205,8 @@ class Archive:
 
     def census(self, member: bytes, token: bytes, number: int, n: int, limit: int) -> bytes:
         self.names(member, token)
-        limited(n, 0)
-        limited(limit, 1)
+        judge_generation(n)
+        judge_limit(limit)
         self.record(number)
         return json_reply(201, {"census": self.kept(self.censuses, member, token, (number, n, limit))})
 
@@ -233,7 +240,7 @@ class Archive:
         return reply(200, "text/csv", "".join(line + "\n" for line in lines).encode())
 
     def total(self, text: bytes, code: bytes, limit: int) -> bytes:
-        limited(limit, 1)
+        judge_limit(limit)
         try:
             rule = life.read_rule(text)
         except life.Fault:
@@ -293,7 +300,8 @@ class Archive:
             if not stream.strip(b"\r\n"):
                 return out
             match = re.match(
-                rb"(?:[\r\n]*)([A-Za-z]+) ([!-~]+) HTTP/1\.([01])\r?\n((?:[a-z-]+:[^\r\n]*\r?\n)*)\r?\n", stream[:8192]
+                rb"(?:[\r\n]*)([A-Za-z]+) ([!-~]+) HTTP/1\.([01])\r?\n((?:[a-z-]+:[^\r\n]*\r?\n)*)\r?\n",
+                stream[: life.LIMITS["HEAD_LIMIT"]],
             )
             if not match:
                 return out + refusal(14)
@@ -312,10 +320,10 @@ class Archive:
                 if name == b"connection" and b"close" in [part.strip(b" \t").lower() for part in value.split(b",")]:
                     closes = True
             if (
-                count > 32
+                count > life.LIMITS["HEAD_LINES"]
                 or coded
                 or len(lengths) > 1
-                or not all(length.isdigit() and int(length) <= life.LONGEST_FILE for length in lengths)
+                or not all(length.isdigit() and int(length) <= life.LIMITS["BODY_LIMIT"] for length in lengths)
             ):
                 return out + refusal(14)
             length = int(lengths[0]) if lengths else 0

@@ -3,6 +3,7 @@ if it is installed, raw sockets and sqlite3. It kills the program and continues.
 """
 import os
 import random
+import re
 import shutil
 import socket
 import sqlite3
@@ -183,8 +184,11 @@ def test_sums(folder: str) -> None:
 
 # ---- help
 
-SUBCOMMANDS = ["generation", "kind", "object", "census", "deposit", "serve"]
+with open(os.path.join(HERE, "..", "crates", "life_words", "src", "words.rt"), encoding="utf-8") as words:
+    SUBCOMMANDS = re.findall(r'named_command\(alloc, "([a-z]+)"', words.read())
 PARTS = ["Reads: ", "Prints: ", "Refuses: ", "Example: "]
+# What has to be there before an example is run.
+BEFORE = {"check": "life deposit --db club.db ann t1 < glider.rle; "}
 
 
 @pytest.fixture(scope="module")
@@ -210,7 +214,8 @@ def test_help(examples: str, subcommand: str) -> None:
     example = next((line for line in lines if line.startswith("Example: ")), "Example: false")[len("Example: ") :]
     if subcommand != "serve":
         here = {**os.environ, "PATH": examples + ":" + os.environ["PATH"]}
-        done = subprocess.run(["sh", "-c", example], cwd=examples, env=here, capture_output=True, timeout=60)
+        shell = BEFORE.get(subcommand, "") + example
+        done = subprocess.run(["sh", "-c", shell], cwd=examples, env=here, capture_output=True, timeout=60)
         check(f"example of {subcommand}: {done}", done.returncode == 0 and done.stdout != b"")
 
 

@@ -983,8 +983,8 @@ def test_fish(room: str) -> None:
 
 ZSH_TRIAL = """
 zmodload zsh/zpty
-zpty -b shell "TERM=dumb ZDOTDIR=$PWD/start zsh -d -i"
-heard() { until zpty -r -m shell got "*$1*"; do :; done }
+zpty shell "TERM=dumb ZDOTDIR=$PWD/start zsh -d -i"
+heard() { zpty -r -m shell got "*$1*" }
 heard READY
 zpty -w -n shell "$1"$'\\t'
 heard "$2"
@@ -1014,7 +1014,7 @@ def test_zsh(room: str) -> None:
         ("life-haul soup ann 17 --r", "life-haul soup ann 17 --rule "),
     ):
         try:
-            heard = said("timeout", "20", "zsh", "-f", "-c", ZSH_TRIAL, "zsh", line, ended, cwd=where)[0] == 0
+            heard = said("timeout", "50", "zsh", "-f", "-c", ZSH_TRIAL, "zsh", line, ended, cwd=where)[0] == 0
         except subprocess.TimeoutExpired:
             heard = False
         check(f"zsh completes {line!r}", heard)

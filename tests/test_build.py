@@ -1,6 +1,7 @@
 """The script `life`, with a stand-in for `rt` that takes a moment and leaves the same files: each crate is built after its dependencies, two
 at a time, failures are reported, nothing is built twice, a trial is shown, a stop has its status, and --clean leaves the programs.
 """
+import contextlib
 import json
 import os
 import shutil
@@ -30,11 +31,14 @@ if sys.argv[1] == "try":
         time.sleep(600)
     print(f"{name}: {os.environ.get('TRIAL') or ' '.join(sys.argv[3:])}")
     print("checked: ended status=0\nrun=ended status=0 runners=1 proved=no", file=sys.stderr)
+    open(os.path.join(room, "answered"), "w").close()
     sys.exit()
 def log(what):
     with open(os.path.join(room, "log"), "a") as lines:
         lines.write(f"{what} {name} {os.getcwd()} {' '.join(sys.argv[1:])}\n")
 def is_logged(start):
+    if start == "a trial":
+        return os.path.exists(os.path.join(room, "answered"))
     with open(os.path.join(room, "log")) as lines:
         return any(line.startswith(start + " ") for line in lines)
 log("begin")
@@ -45,6 +49,9 @@ time.sleep(0.3)
 awaited, until = json.loads(os.environ["AWAITED"]).get(name), time.monotonic() + 60
 while awaited and not is_logged(awaited) and time.monotonic() < until:
     time.sleep(0.02)
+if awaited == "a trial":
+    # The script takes the answer of a trial once that has ended.
+    time.sleep(2)
 if name == os.environ.get("FAILS"):
     print("error: this crate is wrong")
     sys.exit(1)
@@ -101,7 +108,8 @@ class Tree:
         stdin: int | None = None,
     ) -> "subprocess.CompletedProcess[str]":
         """Runs the script on this text, or on what the descriptor `stdin` reads. A crate in `awaited` is not built before the log has the line
-        that it names there. A trial answers as the program does, or what `trial` says."""
+        that it names there, or before a trial has answered. A trial answers as the program does, or what `trial` says.
+        """
         return subprocess.run(
             [os.path.join(self.top, "life"), *words],
             env=self.environment(fails, awaited, trial),
@@ -257,13 +265,15 @@ def test_trial(tree: Tree) -> None:
     tree.has("life_patterns")
 
     def built_again(
-        *words: str, data: str = "a file", trial: str = "", stdin: int | None = None
+        *words: str, data: str = "a file", trial: str = "", stdin: int | None = None, awaited: str = ""
     ) -> "subprocess.CompletedProcess[str]":
         tree.edit("life_patterns", "main.rt")
-        return tree.life(*words, data=data, trial=trial, stdin=stdin)
+        with contextlib.suppress(FileNotFoundError):
+            os.remove(os.path.join(tree.room, "answered"))
+        return tree.life(*words, data=data, trial=trial, stdin=stdin, awaited={"life_patterns": awaited})
 
     tree.tries()
-    answer = built_again("kind", "4")
+    answer = built_again("kind", "4", awaited="a trial")
     check(f"a trial is shown, marked: {answer}", mark + "life_patterns: kind 4" in answer.stderr.splitlines())
     same("the answer is the program's", answer_of(answer), (0, "life_patterns: kind 4\n"))
     check(
@@ -271,7 +281,7 @@ def test_trial(tree: Tree) -> None:
         "run=" not in answer.stderr and "checked:" not in answer.stderr,
     )
     same("a trial reads what the program reads", tree.tries(), "a file")
-    other = built_again("kind", "4", trial="another answer")
+    other = built_again("kind", "4", trial="another answer", awaited="a trial")
     check(
         f"a trial that differs is an error: {other}",
         answer_of(other) == (1, "life_patterns: kind 4\n") and "life: the trial had another answer" in other.stderr,

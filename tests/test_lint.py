@@ -1,4 +1,4 @@
-"""All Python, bash and JavaScript of the repository passes its formatters and linters."""
+"""Python, bash and JavaScript pass their formatters and linters, and no line of JavaScript or CSS is too wide."""
 import os
 import shutil
 import subprocess
@@ -8,6 +8,8 @@ import pytest
 import linters
 
 pytestmark = pytest.mark.quick
+# The width of lines in .editorconfig. No linter looks at that of JavaScript and CSS.
+MOST_COLUMNS = 120
 
 
 @pytest.mark.parametrize("name", linters.tools())
@@ -20,3 +22,20 @@ def test_lint(name: str) -> None:
     environment = {**os.environ, "MYPY_CACHE_DIR": os.devnull, "BLACK_CACHE_DIR": os.devnull}
     done = subprocess.run(words, cwd=linters.TOP, env=environment, capture_output=True, text=True, check=False)
     assert done.returncode == 0, (done.stdout + done.stderr)[:6000]
+
+
+def lines_of(path: str) -> list[str]:
+    with open(os.path.join(linters.TOP, path), encoding="utf-8") as file:
+        return file.read().split("\n")
+
+
+def test_width() -> None:
+    """No line of JavaScript or CSS has more columns than .editorconfig allows."""
+    wide = [
+        f"{path}:{number}: {len(line)} columns, and at most {MOST_COLUMNS} are allowed"
+        for path in linters.tracked()
+        if path.endswith((".js", ".css"))
+        for number, line in enumerate(lines_of(path), 1)
+        if len(line) > MOST_COLUMNS
+    ]
+    assert not wide, "\n".join(wide)[:6000]

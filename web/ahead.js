@@ -1,5 +1,5 @@
-// What can't wait for the modules: the theme, before anything is drawn, and loading early what a deposit's page needs. This is a plain script,
-// so that it runs first.
+// What can't wait for the modules: the theme, before anything is drawn, and loading early what a deposit's page needs.
+// This is a plain script, so that it runs first.
 
 // The theme: light, dark, or that of the system.
 {
@@ -12,7 +12,9 @@
     }
   };
   const set = (wanted) => {
-    document.documentElement.dataset.theme = wanted === 'light' || wanted === 'dark' ? wanted : dark.matches ? 'dark' : 'light';
+    document.documentElement.dataset.theme = wanted === 'light' || wanted === 'dark'
+      ? wanted
+      : dark.matches ? 'dark' : 'light';
     dispatchEvent(new Event('recolored'));
   };
   dark.addEventListener('change', () => set(kept()));
@@ -22,8 +24,8 @@
   set(kept());
 }
 
-// Preloads the deposit's file, and the modules of its page, which imports would discover only one after the other. deploy/bundle lists them in
-// index.html.
+// Preloads the deposit's file, and the modules of its page, which imports would discover only one after the other.
+// deploy/bundle lists them in index.html.
 {
   const ask = (attributes) => document.head.append(Object.assign(document.createElement('link'), attributes));
   // addresses: written by docs/make-tables from docs/addresses.csv
@@ -32,6 +34,8 @@
   const number = ADDRESS.exec(location.pathname)?.[1];
   if (number) {
     ask({ rel: 'preload', as: 'fetch', crossOrigin: 'anonymous', href: `/deposits/${Number(number)}` });
-    for (const href of document.currentScript.dataset.deposit.split(' ').filter(Boolean)) ask({ rel: 'modulepreload', href });
+    for (const href of document.currentScript.dataset.deposit.split(' ').filter(Boolean)) {
+      ask({ rel: 'modulepreload', href });
+    }
   }
 }

@@ -1,4 +1,5 @@
-// Finds the page for an address, and handles keys. An address names what is shown: `/d/7/at/30`, `/c/3`, `/o/B3-S23/xq4_153`.
+// Finds the page for an address, and handles keys. An address names what is shown: `/d/7/at/30`, `/c/3`,
+// `/o/B3-S23/xq4_153`.
 
 import { go, memberAddress } from './shared/address.js';
 import { bring } from './shared/brought.js';
@@ -101,7 +102,10 @@ function fail(page, error) {
     page.title(heading);
     page.root.append(make('h1', { tabindex: -1 }, heading));
   }
-  page.root.append(...[refusal(refused), againButton(refused, show)].filter(Boolean), make('p', {}, make('a', { href: '/' }, 'The newest deposits')));
+  page.root.append(
+    ...[refusal(refused), againButton(refused, show)].filter(Boolean),
+    make('p', {}, make('a', { href: '/' }, 'The newest deposits')),
+  );
 }
 
 /** After how many milliseconds with nothing to show a page says that it is waiting. */
@@ -112,7 +116,9 @@ let scrolled = null;
 
 /** Tells screen readers that a page is waiting; the style sheet shows it to others. */
 function sayWaiting(page) {
-  setTimeout(() => { if (current === page && main.hasAttribute('aria-busy')) page.say('Waiting for the archive…'); }, WAITING);
+  setTimeout(() => {
+    if (current === page && main.hasAttribute('aria-busy')) page.say('Waiting for the archive…');
+  }, WAITING);
 }
 
 /** A path without slashes at its end. */
@@ -194,7 +200,9 @@ const GLOBAL = {
 /** Whether letters, digits and signs are commands: who dictates, or types by mistake, can turn them off. */
 const areCommands = () => setting('letters') !== 'off';
 
-/** Whether the focused element handles a key itself: a field handles every key, a button or link those that press it. */
+/**
+ * Whether the focused element handles a key itself: a field handles every key, a button or link those that press it.
+ */
 function isTaken(event) {
   const at = event.target;
   if (event.ctrlKey || event.metaKey || event.altKey || keysDialog.open) return true;
@@ -232,7 +240,10 @@ async function take(files) {
   }
 }
 
-/** The files of a drop, and the pattern files of its folders. A drop's data exist only during its event, so they are read before any await. */
+/**
+ * The files of a drop, and the pattern files of its folders. A drop's data exist only during its event, so they are
+ * read before any await.
+ */
 async function dropped({ items, files: own }) {
   const [entries, files] = [[...items].map((item) => item.webkitGetAsEntry?.()), [...own]];
   if (!entries.some((entry) => entry?.isDirectory)) return files;
@@ -253,9 +264,15 @@ function takesDrag(event) {
 // If the page changes during a drag, only `dragenter` comes before the drop.
 document.addEventListener('dragenter', takesDrag);
 document.addEventListener('dragover', takesDrag);
-document.addEventListener('dragleave', (event) => { if (!event.relatedTarget) document.body.classList.remove('dragging'); });
+document.addEventListener('dragleave', (event) => {
+  if (!event.relatedTarget) document.body.classList.remove('dragging');
+});
 document.addEventListener('drop', (event) => {
-  if (takesDrag(event)) dropped(event.dataTransfer).then((files) => { if (files.length > 0) take(files); }, (error) => fail(current, error));
+  if (takesDrag(event)) {
+    dropped(event.dataTransfer).then((files) => {
+      if (files.length > 0) take(files);
+    }, (error) => fail(current, error));
+  }
 });
 document.addEventListener('paste', (event) => {
   if (event.target instanceof Element && event.target.matches('input, textarea')) return;
@@ -311,7 +328,8 @@ addEventListener('popstate', show);
 // Links to pages are handled here, unless they open in another tab or window.
 document.addEventListener('click', (event) => {
   const link = event.target instanceof Element && event.target.closest('a');
-  if (!link?.href || event.defaultPrevented || event.button !== 0 || event.ctrlKey || event.metaKey || event.shiftKey || event.altKey) return;
+  if (!link?.href || event.defaultPrevented || event.button !== 0
+    || event.ctrlKey || event.metaKey || event.shiftKey || event.altKey) return;
   if (link.origin !== location.origin || link.hasAttribute('download') || !pageOf(link.pathname)) return;
   event.preventDefault();
   go(link.pathname + link.search + link.hash);

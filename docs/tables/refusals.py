@@ -24,6 +24,8 @@ FRONTS = {
 WITH_FAULT = {"bad-pattern", "bad-code"}
 # The most columns of the lines of names in the help. Their first line has 101.
 HELP_COLUMNS = 104
+# The most columns of the lines of the web pages.
+PAGE_COLUMNS = 120
 # The definitions of the crates that give numbers and names, by kind, and those that give a status.
 LABELS = {
     "refusal": ["crates/life_desk/specs/Refusals.antt", "crates/life_pages/specs/Fault.antt"],
@@ -133,13 +135,32 @@ def help_names(refusals: List[Refusal]) -> List[str]:
 # ---- the web pages and the members' scripts
 
 
+def script_sentence(before: str, sentence: str, after: str) -> List[str]:
+    """The lines of a sentence of refusals.js, between two texts. One that is too long for a line is in pieces."""
+    *lines, last = textwrap.wrap(
+        sentence,
+        PAGE_COLUMNS - len(f"'{after}"),
+        initial_indent=f"{before}'",
+        subsequent_indent="    + '",
+        break_on_hyphens=False,
+    )
+    return [*(f"{line} '" for line in lines), f"{last}'{after}"]
+
+
 def script_sentences(refusals: List[Refusal]) -> List[str]:
     """The constants of refusals.js. A fault's number is its index in the list, so place 0 is empty."""
     keys = {row.name: f"'{row.name}'" if "-" in row.name else row.name for row in refusals}
     archive, gateway = (
-        [f"  {keys[row.name]}: '{row.sentence}'," for row in of_kind(refusals, kind)] for kind in ("refusal", "gateway")
+        [
+            line
+            for row in of_kind(refusals, kind)
+            for line in script_sentence(f"  {keys[row.name]}: ", row.sentence, ",")
+        ]
+        for kind in ("refusal", "gateway")
     )
-    faults = [f"  ['{row.name}', '{row.sentence}']," for row in of_kind(refusals, "file")]
+    faults = [
+        line for row in of_kind(refusals, "file") for line in script_sentence(f"  ['{row.name}', ", row.sentence, "],")
+    ]
     return [
         "export const REFUSALS = {",
         *archive,

@@ -1,9 +1,13 @@
-// Drawing patterns. Pictures are filled run by run in a byte buffer, so that the cost depends on the runs and not on the size of the field.
+// Drawing patterns. Pictures are filled run by run in a byte buffer, so that the cost depends on the runs and not on
+// the size of the field.
 
 import { shadesOfAges, wordOf } from './shades.js';
 import { paintShares } from './shares.js';
 
-/** The sizes of a cell, from one pixel on. Smaller cells may have any size, since a pixel then shows its share of live cells. */
+/**
+ * The sizes of a cell, from one pixel on. Smaller cells may have any size, since a pixel then shows its share of live
+ * cells.
+ */
 export const SIZES = [1, 2, 3, 4, 6, 8, 12, 16, 24, 32, 48];
 /** The smallest size: even after the last generation, the widest pattern still fits on a phone. */
 export const LEAST_SIZE = 1 / 16;
@@ -17,14 +21,22 @@ const GRID_FROM = 8;
 export function colors() {
   const style = getComputedStyle(document.documentElement);
   const named = (name) => wordOf(style.getPropertyValue(name).trim());
-  return { live: named('--live'), dead: named('--dead'), grid: named('--grid'), young: named('--young'), old: named('--old') };
+  return {
+    live: named('--live'),
+    dead: named('--dead'),
+    grid: named('--grid'),
+    young: named('--young'),
+    old: named('--old'),
+  };
 }
 
 /**
  * The size at a zoom step: steps from 0 on are the sizes of SIZES, steps below 0 continuous smaller sizes.
  * @param {number} step
  */
-export const sizeAt = (step) => (step < 0 ? 2 ** (step / STEPS_A_HALF) : SIZES[Math.min(Math.round(step), SIZES.length - 1)]);
+export const sizeAt = (step) => (
+  step < 0 ? 2 ** (step / STEPS_A_HALF) : SIZES[Math.min(Math.round(step), SIZES.length - 1)]
+);
 
 /**
  * The zoom step of a size; the greatest step if the size is larger.
@@ -87,13 +99,16 @@ function paintGrid(words, width, height, view, word) {
 /** Puts the cells of a row into the lines of a picture, each in the color of its age; `ages` are those of the row. */
 function paintAges(words, width, runs, top, bottom, view, ages, shades) {
   for (let at = 0; at < runs.length; at += 2) {
-    for (let column = runs[at]; column < runs[at + 1]; column += 1) paintRow(words, width, [column, column + 1], top, bottom, view, shades[ages[column]]);
+    for (let column = runs[at]; column < runs[at + 1]; column += 1) {
+      paintRow(words, width, [column, column + 1], top, bottom, view, shades[ages[column]]);
+    }
   }
 }
 
 /**
- * Draws a pattern on a canvas. A view has the column and row of the plane at the left and top edge, the size of a cell in pixels, the
- * place of the pattern's corner, and the ages of its cells if they are shown; only then are the shades of young and old cells needed.
+ * Draws a pattern on a canvas. A view has the column and row of the plane at the left and top edge, the size of a cell
+ * in pixels, the place of the pattern's corner, and the ages of its cells if they are shown; only then are the shades
+ * of young and old cells needed.
  * @param {{ live: number, dead: number, grid: number, young?: number, old?: number }} [shades]
  */
 export function paint(canvas, pattern, view, shades = colors()) {

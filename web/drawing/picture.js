@@ -1,5 +1,5 @@
-// Pictures to save, made in the page: the same SVG documents as from `life-draw svg` and `life-draw animation` (docs/FORMATS.md, Pictures), with
-// a line that says where they come from, and a PNG.
+// Pictures to save, made in the page: the same SVG documents as from `life-draw svg` and `life-draw animation`
+// (docs/FORMATS.md, Pictures), with a line that says where they come from, and a PNG.
 
 import { generation } from '../requests/archive.js';
 import { make, refusal } from '../shared/dom.js';
@@ -17,13 +17,20 @@ const LARGEST_CELL = 16;
 const FRAME_TIME = 125;
 
 /** A text in a document: characters that XML forbids become U+FFFD. */
-const escaped = (text) => text.replace(/[\u0000-\u0008\u000b\u000c\u000e-\u001f\ufffe\uffff]|\p{Cs}/gu, '\ufffd').replaceAll('&', '&amp;').replaceAll('<', '&lt;').replaceAll('>', '&gt;').replaceAll('\r', '&#13;');
+const escaped = (text) => text
+  .replace(/[\u0000-\u0008\u000b\u000c\u000e-\u001f\ufffe\uffff]|\p{Cs}/gu, '\ufffd')
+  .replaceAll('&', '&amp;')
+  .replaceAll('<', '&lt;')
+  .replaceAll('>', '&gt;')
+  .replaceAll('\r', '&#13;');
 
 /** The rectangles for the runs of a pattern whose corner is at this position. */
 function pathOf(pattern, left = 0, top = 0) {
   const parts = [];
   for (const [row, runs] of pattern.rows.entries()) {
-    for (let at = 0; at < runs.length; at += 2) parts.push(`M${runs[at] + left} ${row + top}h${runs[at + 1] - runs[at]}v1h-${runs[at + 1] - runs[at]}z`);
+    for (let at = 0; at < runs.length; at += 2) {
+      parts.push(`M${runs[at] + left} ${row + top}h${runs[at + 1] - runs[at]}v1h-${runs[at + 1] - runs[at]}z`);
+    }
   }
   return parts.join('');
 }
@@ -31,14 +38,20 @@ function pathOf(pattern, left = 0, top = 0) {
 /** A document for a box with these columns and rows, and a border of one cell. */
 function documentOf(width, height, { title, origin }, inside) {
   const [wide, high] = [width + 2, height + 2];
-  return `<svg xmlns="http://www.w3.org/2000/svg" viewBox="-1 -1 ${wide} ${high}" shape-rendering="crispEdges">\n${title ? `<title>${escaped(title)}</title>\n` : ''}`
-    + `<desc>${escaped(origin)}</desc>\n<rect x="-1" y="-1" width="${wide}" height="${high}" fill="white"/>\n${inside}</svg>\n`;
+  return `<svg xmlns="http://www.w3.org/2000/svg" viewBox="-1 -1 ${wide} ${high}" shape-rendering="crispEdges">\n`
+    + (title ? `<title>${escaped(title)}</title>\n` : '')
+    + `<desc>${escaped(origin)}</desc>\n`
+    + `<rect x="-1" y="-1" width="${wide}" height="${high}" fill="white"/>\n${inside}</svg>\n`;
 }
 
-export const svgOf = (pattern, from) => documentOf(pattern.width, pattern.height, from, `<path d="${pathOf(pattern)}"/>\n`);
+export const svgOf = (pattern, from) => (
+  documentOf(pattern.width, pattern.height, from, `<path d="${pathOf(pattern)}"/>\n`)
+);
 
 /** The pixels of a cell: the largest whole number that keeps the picture within its limit. */
-const cellSize = (width, height, longest) => Math.max(1, Math.min(LARGEST_CELL, Math.floor(longest / (Math.max(width, height) + 2))));
+const cellSize = (width, height, longest) => (
+  Math.max(1, Math.min(LARGEST_CELL, Math.floor(longest / (Math.max(width, height) + 2))))
+);
 
 /** What a PNG says, by the keywords of its specification. */
 const textsOf = ({ title, origin }) => ({ Title: title, Description: origin });
@@ -46,7 +59,9 @@ const textsOf = ({ title, origin }) => ({ Title: title, Description: origin });
 /** The box of frames: the least column and row that one of them reaches, and its width and height. */
 function boxOf(frames) {
   const boxes = frames.filter(({ pattern }) => pattern.width > 0);
-  const [left, top] = ['column', 'row'].map((side) => (boxes.length ? Math.min(...boxes.map(({ corner }) => corner[side])) : 0));
+  const [left, top] = ['column', 'row'].map((side) => (
+    boxes.length ? Math.min(...boxes.map(({ corner }) => corner[side])) : 0
+  ));
   const right = Math.max(left, ...boxes.map(({ corner, pattern }) => corner.column + pattern.width));
   const bottom = Math.max(top, ...boxes.map(({ corner, pattern }) => corner.row + pattern.height));
   return { left, top, width: right - left, height: bottom - top };
@@ -56,15 +71,29 @@ function boxOf(frames) {
 export function animationOf(frames, from) {
   const { left, top, width, height } = boxOf(frames);
   const data = frames.map(({ corner, pattern }) => `M0 0${pathOf(pattern, corner.column - left, corner.row - top)}`);
-  return documentOf(width, height, from, `<path d="${data[0]}"><animate attributeName="d" calcMode="discrete" dur="${frames.length * FRAME_TIME}ms" `
-    + `repeatCount="indefinite" values="${data.join(';')}"/></path>\n`);
+  return documentOf(
+    width,
+    height,
+    from,
+    `<path d="${data[0]}"><animate attributeName="d" calcMode="discrete" dur="${frames.length * FRAME_TIME}ms" `
+      + `repeatCount="indefinite" values="${data.join(';')}"/></path>\n`,
+  );
 }
 
 /** The same as an animated PNG. */
 function movingPng(frames, from, signal) {
   const { left, top, width, height } = boxOf(frames);
-  const placed = frames.map(({ corner, pattern }) => ({ pattern, place: { column: corner.column - left, row: corner.row - top } }));
-  return apngOf(placed, { width, height, size: cellSize(width, height, LONGEST_MOVING) }, FRAME_TIME, textsOf(from), signal);
+  const placed = frames.map(({ corner, pattern }) => ({
+    pattern,
+    place: { column: corner.column - left, row: corner.row - top },
+  }));
+  return apngOf(
+    placed,
+    { width, height, size: cellSize(width, height, LONGEST_MOVING) },
+    FRAME_TIME,
+    textsOf(from),
+    signal,
+  );
 }
 
 /** This many generations of a deposit, from the archive, with positions that the page computes. */
@@ -90,32 +119,69 @@ export function save(content, name, type) {
   setTimeout(() => URL.revokeObjectURL(url), 10_000);
 }
 
-/** The buttons that save pictures of the generation that is seen, or of some from there on. @param {import('../pages/shown.js').Shown} shown */
+/**
+ * The buttons that save pictures of the generation that is seen, or of some from there on.
+ * @param {import('../pages/shown.js').Shown} shown
+ */
 export function saveSection(shown, page) {
   const { number, first } = shown;
-  const count = make('input', { id: 'frames', type: 'number', min: 1, max: MOST_FRAMES, inputmode: 'numeric', 'aria-label': 'Generations of the animation' });
+  const count = make('input', {
+    id: 'frames',
+    type: 'number',
+    min: 1,
+    max: MOST_FRAMES,
+    inputmode: 'numeric',
+    'aria-label': 'Generations of the animation',
+  });
   count.value = 60;
   const said = make('div');
   const nameOf = (ending) => shown.fileName.replace(/rle$/, ending);
-  const button = (id, label, act) => make('button', { type: 'button', id, click: () => act().catch((error) => { if (!page.signal.aborted) said.replaceChildren(refusal(error)); }) }, label);
-  const svg = button('save-svg', 'SVG', async () => save(svgOf(shown.seen.record.pattern, shown.from), nameOf('svg'), 'image/svg+xml'));
+  const button = (id, label, act) => make('button', {
+    type: 'button',
+    id,
+    click: () => act().catch((error) => {
+      if (!page.signal.aborted) said.replaceChildren(refusal(error));
+    }),
+  }, label);
+  const svg = button('save-svg', 'SVG', async () => {
+    save(svgOf(shown.seen.record.pattern, shown.from), nameOf('svg'), 'image/svg+xml');
+  });
   const png = button('save-png', 'PNG', async () => {
     const [{ record: { pattern } }, name, from] = [shown.seen, nameOf('png'), shown.from];
-    save(await pngOf(pattern, { ...pattern, size: cellSize(pattern.width, pattern.height, LONGEST_SIDE) }, textsOf(from)), name, 'image/png');
+    save(
+      await pngOf(pattern, { ...pattern, size: cellSize(pattern.width, pattern.height, LONGEST_SIDE) }, textsOf(from)),
+      name,
+      'image/png',
+    );
   });
   /** Requests the generations, and saves what `form` makes of them. */
   const saveMoving = async (ending, type, form) => {
     const { at, url } = shown;
     said.replaceChildren('Requesting the generations…');
-    const frames = await framesOf(number, first, at, Math.min(Math.max(1, Math.trunc(Number(count.value)) || 1), MOST_FRAMES), page.signal);
+    const frames = await framesOf(
+      number,
+      first,
+      at,
+      Math.min(Math.max(1, Math.trunc(Number(count.value)) || 1), MOST_FRAMES),
+      page.signal,
+    );
     const origin = `Generations ${at} to ${at + frames.length - 1} of deposit ${number}, ${url}`;
-    save(await form(frames, { title: first.name, origin }, page.signal), `deposit-${number}-from-${at}.${ending}`, type);
+    save(
+      await form(frames, { title: first.name, origin }, page.signal),
+      `deposit-${number}-from-${at}.${ending}`,
+      type,
+    );
     said.replaceChildren();
   };
   const animation = button('save-animation', 'SVG', () => saveMoving('svg', 'image/svg+xml', animationOf));
   const moving = button('save-moving', 'PNG', () => saveMoving('png', 'image/png', movingPng));
   animation.ariaLabel = 'SVG animation';
   moving.ariaLabel = 'PNG animation';
-  return make('section', {}, make('h2', {}, 'Save a picture'), make('p', { class: 'row' }, svg, png),
-    make('p', {}, 'Or the generations from here on, in one box:'), make('p', { class: 'row' }, count, 'as', animation, moving), said);
+  return make('section', {},
+    make('h2', {}, 'Save a picture'),
+    make('p', { class: 'row' }, svg, png),
+    make('p', {}, 'Or the generations from here on, in one box:'),
+    make('p', { class: 'row' }, count, 'as', animation, moving),
+    said,
+  );
 }

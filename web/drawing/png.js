@@ -1,5 +1,5 @@
-// PNG pictures and animations of patterns (PNG Specification, third edition, with APNG): one bit a pixel, compressed by the browser, with texts
-// about the origin.
+// PNG pictures and animations of patterns (PNG Specification, third edition, with APNG): one bit a pixel, compressed by
+// the browser, with texts about the origin.
 
 const SIGNATURE = Uint8Array.of(137, 80, 78, 71, 13, 10, 26, 10);
 /** From this size on there is a gap of a pixel between cells. */
@@ -55,7 +55,9 @@ const textChunk = (name, text) => chunk('iTXt', new TextEncoder().encode(`${name
 
 /** Bytes in zlib's format. @param {Uint8Array} bytes @returns {Promise<Uint8Array>} */
 export async function compressed(bytes) {
-  const stream = new Blob([bytes]).stream().pipeThrough(new /** @type {any} */ (globalThis).CompressionStream('deflate'));
+  const stream = new Blob([bytes])
+    .stream()
+    .pipeThrough(new /** @type {any} */ (globalThis).CompressionStream('deflate'));
   return new Uint8Array(await new Response(stream).arrayBuffer());
 }
 
@@ -91,7 +93,9 @@ export function linesOf(pattern, place, { width, height, size }) {
 }
 
 /** The head of a picture of one bit a pixel. */
-export const headChunk = ({ width, height, size }) => chunk('IHDR', words((width + 2) * size, (height + 2) * size), Uint8Array.of(1, 0, 0, 0, 0));
+export const headChunk = ({ width, height, size }) => (
+  chunk('IHDR', words((width + 2) * size, (height + 2) * size), Uint8Array.of(1, 0, 0, 0, 0))
+);
 
 /**
  * A file with a head, texts, and the chunks of its pictures.
@@ -106,7 +110,11 @@ export function fileWith(head, texts, pictures) {
 
 /** A pattern as a file. */
 export async function pngOf(pattern, box, texts) {
-  return fileWith(headChunk(box), texts, [chunk('IDAT', await compressed(linesOf(pattern, { column: 0, row: 0 }, box)))]);
+  return fileWith(
+    headChunk(box),
+    texts,
+    [chunk('IDAT', await compressed(linesOf(pattern, { column: 0, row: 0 }, box)))],
+  );
 }
 
 /** A half word of two bytes. @param {number} number */
@@ -114,7 +122,13 @@ const half = (number) => Uint8Array.of(number >> 8, number & 255);
 
 /** The chunk before a frame: the whole picture, for some milliseconds. It takes the place of the frame before. */
 function frameChunk(place, { width, height, size }, time) {
-  return chunk('fcTL', words(place, (width + 2) * size, (height + 2) * size, 0, 0), half(time), half(1000), Uint8Array.of(0, 0));
+  return chunk(
+    'fcTL',
+    words(place, (width + 2) * size, (height + 2) * size, 0, 0),
+    half(time),
+    half(1000),
+    Uint8Array.of(0, 0),
+  );
 }
 
 /**

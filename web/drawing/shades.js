@@ -11,14 +11,18 @@ export function wordOf(color) {
 
 /** A color between two; `share` is that of the second. */
 export function between(one, other, share) {
-  const part = (shift) => Math.round(((one >>> shift) & 255) * (1 - share) + ((other >>> shift) & 255) * share) << shift;
+  const part = (shift) => (
+    Math.round(((one >>> shift) & 255) * (1 - share) + ((other >>> shift) & 255) * share) << shift
+  );
   return (0xff000000 | part(16) | part(8) | part(0)) >>> 0;
 }
 
 // ---- colors by age: between two colors in OKLCH (B. Ottosson, 2020), which avoids dull colors in between
 
 const linear = (part) => (part <= 0.04045 ? part / 12.92 : ((part + 0.055) / 1.055) ** 2.4);
-const encoded = (part) => Math.round(255 * Math.min(1, Math.max(0, part <= 0.0031308 ? part * 12.92 : 1.055 * part ** (1 / 2.4) - 0.055)));
+const encoded = (part) => (
+  Math.round(255 * Math.min(1, Math.max(0, part <= 0.0031308 ? part * 12.92 : 1.055 * part ** (1 / 2.4) - 0.055)))
+);
 
 /**
  * Lightness, chroma and hue of a 32-bit word of an image.
@@ -31,7 +35,11 @@ function oklchOf(word) {
   const s = Math.cbrt(0.0883024619 * r + 0.2817188376 * g + 0.6299787005 * b);
   const one = 1.9779984951 * l - 2.428592205 * m + 0.4505937099 * s;
   const two = 0.0259040371 * l + 0.7827717662 * m - 0.808675766 * s;
-  return { lightness: 0.2104542553 * l + 0.793617785 * m - 0.0040720468 * s, chroma: Math.hypot(one, two), hue: Math.atan2(two, one) };
+  return {
+    lightness: 0.2104542553 * l + 0.793617785 * m - 0.0040720468 * s,
+    chroma: Math.hypot(one, two),
+    hue: Math.atan2(two, one),
+  };
 }
 
 /**
@@ -66,4 +74,7 @@ function betweenHues(one, other, share) {
  * The color of each age, from young to old; it changes fast at first.
  * @param {{ young?: number, old?: number }} shades the two ends
  */
-export const shadesOfAges = ({ young, old }) => Array.from({ length: OLDEST + 1 }, (_, age) => betweenHues(young, old, Math.log2(Math.max(1, age)) / Math.log2(OLDEST)));
+export const shadesOfAges = ({ young, old }) => Array.from(
+  { length: OLDEST + 1 },
+  (_, age) => betweenHues(young, old, Math.log2(Math.max(1, age)) / Math.log2(OLDEST)),
+);

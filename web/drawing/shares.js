@@ -27,7 +27,8 @@ function addSpan(covered, line, begin, end, weight) {
 }
 
 /**
- * How much of each pixel is covered by live cells smaller than a pixel; `weights` has a weight for each cell of the box, if they have weights.
+ * How much of each pixel is covered by live cells smaller than a pixel; `weights` has a weight for each cell of the
+ * box, if they have weights.
  * @returns {Float32Array}
  */
 function coverOf(width, height, pattern, view, weights) {
@@ -39,7 +40,17 @@ function coverOf(width, height, pattern, view, weights) {
     // A row is less than a pixel high, so it covers one line or two.
     const below = Math.max(0, top + size - line - 1);
     for (const [at, share] of [[line, size - below], [line + 1, below]]) {
-      if (at >= 0 && at < height && share > 1e-9) coverLine(covered, at * width, width, pattern.rows[row], share, view, weights && weights.subarray(row * pattern.width));
+      if (at >= 0 && at < height && share > 1e-9) {
+        coverLine(
+          covered,
+          at * width,
+          width,
+          pattern.rows[row],
+          share,
+          view,
+          weights && weights.subarray(row * pattern.width),
+        );
+      }
     }
   }
   return covered;
@@ -59,11 +70,16 @@ function coverLine(covered, line, width, runs, share, view, weights) {
   }
 }
 
-/** Draws a pattern with cells smaller than a pixel: each pixel gets the color of its share of live cells, and a lone cell stays visible. */
+/**
+ * Draws a pattern with cells smaller than a pixel: each pixel gets the color of its share of live cells, and a lone
+ * cell stays visible.
+ */
 export function paintShares(words, width, height, pattern, view, shades) {
   const covered = coverOf(width, height, pattern, view, null);
   const ages = view.ages ? coverOf(width, height, pattern, view, view.ages) : null;
-  const colors = (ages ? shadesOfAges(shades) : [shades.live]).map((live) => Array.from({ length: SHARES + 1 }, (_, share) => between(shades.dead, live, share / SHARES)));
+  const colors = (ages ? shadesOfAges(shades) : [shades.live]).map((live) => (
+    Array.from({ length: SHARES + 1 }, (_, share) => between(shades.dead, live, share / SHARES))
+  ));
   const lone = FAINTEST / view.size ** 2;
   for (let at = 0; at < covered.length; at += 1) {
     const share = covered[at];

@@ -37,7 +37,13 @@ export class View {
     canvas.addEventListener('wheel', (event) => this.#wheel(event), { ...options, passive: false });
     canvas.addEventListener('pointerdown', (event) => this.#down(event), options);
     canvas.addEventListener('pointermove', (event) => this.#move(event), options);
-    for (const name of ['pointerup', 'pointercancel']) canvas.addEventListener(name, (/** @type {PointerEvent} */ event) => this.#pointers.delete(event.pointerId), options);
+    for (const name of ['pointerup', 'pointercancel']) {
+      canvas.addEventListener(
+        name,
+        (/** @type {PointerEvent} */ event) => this.#pointers.delete(event.pointerId),
+        options,
+      );
+    }
     const watch = new ResizeObserver(() => this.#resize());
     watch.observe(canvas);
     signal.addEventListener('abort', () => watch.disconnect());
@@ -62,7 +68,10 @@ export class View {
 
   /** The column and row of the plane in the middle. */
   #middle() {
-    return { column: this.#left + this.canvas.width / this.#size / 2, row: this.#top + this.canvas.height / this.#size / 2 };
+    return {
+      column: this.#left + this.canvas.width / this.#size / 2,
+      row: this.#top + this.canvas.height / this.#size / 2,
+    };
   }
 
   #look({ column, row }) {
@@ -75,7 +84,14 @@ export class View {
     this.#asked = true;
     requestAnimationFrame(() => {
       this.#asked = false;
-      paint(this.canvas, this.#pattern, { left: this.#left, top: this.#top, size: this.#size, place: this.#place, grid: this.#grid, ages: this.#ages });
+      paint(this.canvas, this.#pattern, {
+        left: this.#left,
+        top: this.#top,
+        size: this.#size,
+        place: this.#place,
+        grid: this.#grid,
+        ages: this.#ages,
+      });
     });
   }
 
@@ -84,7 +100,10 @@ export class View {
     const middle = this.#middle();
     this.#pattern = pattern;
     this.#ages = null;
-    this.#place = place ?? { column: Math.round(middle.column - pattern.width / 2), row: Math.round(middle.row - pattern.height / 2) };
+    this.#place = place ?? {
+      column: Math.round(middle.column - pattern.width / 2),
+      row: Math.round(middle.row - pattern.height / 2),
+    };
     if (this.following) this.#follow();
     this.#draw();
     return this.#place;
@@ -95,9 +114,12 @@ export class View {
     const { width, height } = this.#pattern;
     const { column, row } = this.#place;
     const [wide, high] = [this.canvas.width / this.#size, this.canvas.height / this.#size];
-    const inside = column >= this.#left && row >= this.#top && column + width <= this.#left + wide && row + height <= this.#top + high;
+    const inside = column >= this.#left && row >= this.#top
+      && column + width <= this.#left + wide && row + height <= this.#top + high;
     if (width === 0 || inside) return;
-    if (width + 2 > wide || height + 2 > high) this.#setSize(sizeFor(width + 2, height + 2, this.canvas.width, this.canvas.height, this.#size));
+    if (width + 2 > wide || height + 2 > high) {
+      this.#setSize(sizeFor(width + 2, height + 2, this.canvas.width, this.canvas.height, this.#size));
+    }
     this.#look({ column: column + width / 2, row: row + height / 2 });
   }
 
@@ -117,7 +139,13 @@ export class View {
   fit() {
     this.following = true;
     const { width, height } = this.#pattern;
-    this.#setSize(sizeFor(width * ROOM + 1, height * ROOM + 1, this.canvas.width, this.canvas.height, LARGEST_AT_FIRST * this.#scale));
+    this.#setSize(sizeFor(
+      width * ROOM + 1,
+      height * ROOM + 1,
+      this.canvas.width,
+      this.canvas.height,
+      LARGEST_AT_FIRST * this.#scale,
+    ));
     this.#look({ column: this.#place.column + width / 2, row: this.#place.row + height / 2 });
     this.#draw();
   }
@@ -128,7 +156,8 @@ export class View {
   }
 
   /**
-   * Makes cells larger or smaller by some steps, around a point of the canvas or its middle. Fractions of a step add up.
+   * Makes cells larger or smaller by some steps, around a point of the canvas or its middle. Fractions of a step add
+   * up.
    * @param {number} steps
    * @param {{x: number, y: number}} at
    */

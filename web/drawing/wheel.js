@@ -1,4 +1,5 @@
-// The wheel and the trackpad over the canvas. As with a map in a page, the page scrolls until the canvas has the focus or Ctrl is held.
+// The wheel and the trackpad over the canvas. As with a map in a page, the page scrolls until the canvas has the focus
+// or Ctrl is held.
 
 /** The pixels of a wheel's notch, and of a pinch on a trackpad, for one zoom step. */
 const NOTCH = 100;

@@ -17,10 +17,37 @@ const MOST_OBJECTS = 8;
 
 /** Well-known rules by their names (LifeWiki, List of Life-like rules). */
 const RULES = new Map(Object.entries({
-  life: 'B3/S23', 'conway’s life': 'B3/S23', highlife: 'B36/S23', 'day & night': 'B3678/S34678', 'day and night': 'B3678/S34678', seeds: 'B2/S', morley: 'B368/S245', move: 'B368/S245',
-  replicator: 'B1357/S1357', '2x2': 'B36/S125', '34 life': 'B34/S34', diamoeba: 'B35678/S5678', anneal: 'B4678/S35678', maze: 'B3/S12345', mazectric: 'B3/S1234', coral: 'B3/S45678',
-  'life without death': 'B3/S012345678', flakes: 'B3/S012345678', drylife: 'B37/S23', 'pedestrian life': 'B38/S23', flock: 'B3/S12', amoeba: 'B357/S1358', 'long life': 'B345/S5', gnarl: 'B1/S1',
-  stains: 'B3678/S235678', 'walled cities': 'B45678/S2345', serviettes: 'B234/S', 'live free or die': 'B2/S0', 'pseudo life': 'B357/S238', assimilation: 'B345/S4567', coagulations: 'B378/S235678',
+  life: 'B3/S23',
+  'conway’s life': 'B3/S23',
+  highlife: 'B36/S23',
+  'day & night': 'B3678/S34678',
+  'day and night': 'B3678/S34678',
+  seeds: 'B2/S',
+  morley: 'B368/S245',
+  move: 'B368/S245',
+  replicator: 'B1357/S1357',
+  '2x2': 'B36/S125',
+  '34 life': 'B34/S34',
+  diamoeba: 'B35678/S5678',
+  anneal: 'B4678/S35678',
+  maze: 'B3/S12345',
+  mazectric: 'B3/S1234',
+  coral: 'B3/S45678',
+  'life without death': 'B3/S012345678',
+  flakes: 'B3/S012345678',
+  drylife: 'B37/S23',
+  'pedestrian life': 'B38/S23',
+  flock: 'B3/S12',
+  amoeba: 'B357/S1358',
+  'long life': 'B345/S5',
+  gnarl: 'B1/S1',
+  stains: 'B3678/S235678',
+  'walled cities': 'B45678/S2345',
+  serviettes: 'B234/S',
+  'live free or die': 'B2/S0',
+  'pseudo life': 'B357/S238',
+  assimilation: 'B345/S4567',
+  coagulations: 'B378/S235678',
 }));
 
 /** The canonical text of a rule; nothing if the text is not a rule. */
@@ -30,7 +57,8 @@ function ruleOf(text) {
 }
 
 /**
- * The address that a text leads to: an object by its code, a deposit or a census by its number, the deposits of a rule, or a search.
+ * The address that a text leads to: an object by its code, a deposit or a census by its number, the deposits of a rule,
+ * or a search.
  * @param {string} given
  */
 export function addressOf(given) {
@@ -49,7 +77,9 @@ export function addressOf(given) {
 /** Whether an address is a search for words. @param {string} address */
 export const isSearch = (address) => address.startsWith('/find?text=');
 
-/** How well a name fits a text: 3 for the name itself, 2 for its beginning, 1 for the beginning of a word of it, else 0. */
+/**
+ * How well a name fits a text: 3 for the name itself, 2 for its beginning, 1 for the beginning of a word of it, else 0.
+ */
 function fitOf(name, text) {
   if (name === text || name === text.replace(/s$/, '') || name === text.replace(/ves$/, 'f')) return 3;
   if (name.startsWith(text)) return 2;
@@ -72,8 +102,13 @@ async function namedObjects(text) {
  */
 export function objectLink({ code, name, rule = 'B3/S23', more }) {
   const pattern = patternOf(code);
-  return make('a', { class: 'object-link', href: objectAddress(rule, code) }, pattern ? thumbnail(pattern, SIDE, SIDE) : null,
-    make('span', {}, make('strong', {}, name ?? make('code', {}, code)), make('small', {}, more ?? (name ? make('code', {}, code) : ''))));
+  return make('a', { class: 'object-link', href: objectAddress(rule, code) },
+    pattern ? thumbnail(pattern, SIDE, SIDE) : null,
+    make('span', {},
+      make('strong', {}, name ?? make('code', {}, code)),
+      make('small', {}, more ?? (name ? make('code', {}, code) : '')),
+    ),
+  );
 }
 
 /**
@@ -87,8 +122,22 @@ export async function namedLines(given, members) {
   const objects = await namedObjects(text);
   const rule = RULES.get(text);
   const lines = [];
-  if (objects.length > 0) lines.push(make('section', { class: 'named', id: 'named-objects' }, make('h2', {}, 'Objects'), make('div', { class: 'object-links' }, objects.map((object) => objectLink(object)))));
-  if (rule) lines.push(make('p', { class: 'named' }, 'Rule: ', make('a', { href: `/find?${new URLSearchParams({ rule })}` }, `${given.trim()}, ${rule}`), ' · ', make('a', { href: `/o/${rule.replace('/', '-')}` }, 'its objects')));
-  if (members.includes(text)) lines.push(make('p', { class: 'named' }, 'Member: ', make('a', { href: memberAddress(text) }, text)));
+  if (objects.length > 0) {
+    lines.push(make('section', { class: 'named', id: 'named-objects' },
+      make('h2', {}, 'Objects'),
+      make('div', { class: 'object-links' }, objects.map((object) => objectLink(object))),
+    ));
+  }
+  if (rule) {
+    lines.push(make('p', { class: 'named' },
+      'Rule: ',
+      make('a', { href: `/find?${new URLSearchParams({ rule })}` }, `${given.trim()}, ${rule}`),
+      ' · ',
+      make('a', { href: `/o/${rule.replace('/', '-')}` }, 'its objects'),
+    ));
+  }
+  if (members.includes(text)) {
+    lines.push(make('p', { class: 'named' }, 'Member: ', make('a', { href: memberAddress(text) }, text)));
+  }
   return lines;
 }

@@ -32,7 +32,11 @@ const KINDS = { s: 'still life', p: 'oscillator', q: 'spaceship' };
  * @property {string} day
  */
 
-/** How often an object occurs: alone or, if groups are split, in groups too. @param {Row} row @param {boolean} isSplit */
+/**
+ * How often an object occurs: alone or, if groups are split, in groups too.
+ * @param {Row} row
+ * @param {boolean} isSplit
+ */
 const countOf = (row, isSplit) => (isSplit ? row.count + row.grouped : row.count);
 
 /** The columns. Numbers are first sorted in descending order. @type {import('../shared/sorts.js').Column[]} */
@@ -49,8 +53,20 @@ const COLUMNS = [
 /** A row of an object as the index has it. */
 function rowOf(object, names) {
   const pattern = patternOf(object.code);
-  return { code: object.code, pattern, name: names.get(object.code) ?? '', kind: KINDS[object.code[1]], period: limitOf(object.code), cells: pattern?.population ?? 0, count: object.count,
-    grouped: 0, isGroup: false, deposits: object.deposits.size, first: object.first?.deposit ?? 0, day: object.first?.day ?? '' };
+  return {
+    code: object.code,
+    pattern,
+    name: names.get(object.code) ?? '',
+    kind: KINDS[object.code[1]],
+    period: limitOf(object.code),
+    cells: pattern?.population ?? 0,
+    count: object.count,
+    grouped: 0,
+    isGroup: false,
+    deposits: object.deposits.size,
+    first: object.first?.deposit ?? 0,
+    day: object.first?.day ?? '',
+  };
 }
 
 /** A range as it is typed: `3`, `3-8`, `3-` or `-8`. Any other text means all numbers. */
@@ -66,7 +82,15 @@ function askedBy(query) {
   const words = new URLSearchParams(query);
   const [, isDown, sort] = /^(-?)([a-z]+)$/.exec(words.get('sort') ?? '') ?? [null, '-', 'count'];
   const column = COLUMNS.find(({ id }) => id === sort) ?? COLUMNS.find(({ id }) => id === 'count');
-  return { sort: column.id, isUp: isDown !== '-', text: words.get('text') ?? '', kind: words.get('kind') ?? '', period: words.get('period') ?? '', cells: words.get('cells') ?? '', groups: words.get('groups') ?? '' };
+  return {
+    sort: column.id,
+    isUp: isDown !== '-',
+    text: words.get('text') ?? '',
+    kind: words.get('kind') ?? '',
+    period: words.get('period') ?? '',
+    cells: words.get('cells') ?? '',
+    groups: words.get('groups') ?? '',
+  };
 }
 
 /** The query of the address for an order and filters. */
@@ -85,7 +109,13 @@ function fitting(rows, asked) {
   const text = asked.text.trim().toLowerCase();
   const [period, cells] = [rangeOf(asked.period), rangeOf(asked.cells)];
   const isSplit = asked.groups === 'split';
-  const found = rows.filter((row) => !(isSplit && row.isGroup) && (row.name.toLowerCase().includes(text) || row.code.includes(text)) && (!asked.kind || row.code[1] === asked.kind) && period(row.period) && cells(row.cells));
+  const found = rows.filter((row) => (
+    !(isSplit && row.isGroup)
+    && (row.name.toLowerCase().includes(text) || row.code.includes(text))
+    && (!asked.kind || row.code[1] === asked.kind)
+    && period(row.period)
+    && cells(row.cells)
+  ));
   return sorted(found.sort((one, other) => other.count - one.count), COLUMNS, asked, isSplit);
 }
 
@@ -98,24 +128,46 @@ function countCell(row, isSplit) {
 /** @param {Row} row @param {string} rule @param {boolean} isSplit */
 function lineOf(row, rule, isSplit) {
   const more = `${row.kind}${row.period > 1 ? `, period ${counted(row.period)}` : ''}, ${many(row.cells, 'cell')}`;
-  return make('tr', {}, make('td', { class: 'drawn' }, row.pattern ? thumbnail(row.pattern, SIDE, SIDE) : null),
-    make('th', { scope: 'row' }, make('a', { href: objectAddress(rule, row.code) }, row.name || make('code', {}, row.code)), row.name ? make('small', {}, make('code', {}, row.code)) : null,
-      make('small', { class: 'narrow' }, more)),
-    make('td', { class: 'more' }, row.kind), make('td', { class: 'more number' }, counted(row.period)), make('td', { class: 'more number' }, counted(row.cells)),
-    countCell(row, isSplit), make('td', { class: 'more number' }, counted(row.deposits)),
-    make('td', { class: 'more number' }, row.first ? make('a', { href: depositAddress(row.first) }, `#${counted(row.first)}`) : '', row.first ? make('small', {}, row.day) : null));
+  return make('tr', {},
+    make('td', { class: 'drawn' }, row.pattern ? thumbnail(row.pattern, SIDE, SIDE) : null),
+    make('th', { scope: 'row' },
+      make('a', { href: objectAddress(rule, row.code) }, row.name || make('code', {}, row.code)),
+      row.name ? make('small', {}, make('code', {}, row.code)) : null,
+      make('small', { class: 'narrow' }, more),
+    ),
+    make('td', { class: 'more' }, row.kind),
+    make('td', { class: 'more number' }, counted(row.period)),
+    make('td', { class: 'more number' }, counted(row.cells)),
+    countCell(row, isSplit),
+    make('td', { class: 'more number' }, counted(row.deposits)),
+    make('td', { class: 'more number' },
+      row.first ? make('a', { href: depositAddress(row.first) }, `#${counted(row.first)}`) : '',
+      row.first ? make('small', {}, row.day) : null,
+    ),
+  );
 }
 
 /** A cell of a CSV file (RFC 4180). */
 const cellOf = (value) => (/[",\r\n]/.test(value) ? `"${String(value).replaceAll('"', '""')}"` : value);
 
 /** @param {Row[]} rows */
-const csvOf = (rows) => ['code,name,kind,period,cells,count,in_groups,deposits,first_deposit,first_day',
-  ...rows.map((row) => [row.code, row.name, row.kind, row.period, row.cells, row.count, row.grouped, row.deposits, row.first, row.day].map(cellOf).join()), ''].join('\r\n');
+const csvOf = (rows) => [
+  'code,name,kind,period,cells,count,in_groups,deposits,first_deposit,first_day',
+  ...rows.map((row) => (
+    [row.code, row.name, row.kind, row.period, row.cells, row.count, row.grouped, row.deposits, row.first, row.day]
+      .map(cellOf)
+      .join()
+  )),
+  '',
+].join('\r\n');
 
 /** The choice of a rule. */
 function ruleField(rules, rule) {
-  const choice = make('select', { id: 'objects-rule', change: () => go(`/o/${ruleAddress(choice.value)}`) }, rules.map(([text, count]) => make('option', { value: text, selected: text === rule }, `${text} (${counted(count)})`)));
+  const choice = make('select', { id: 'objects-rule', change: () => go(`/o/${ruleAddress(choice.value)}`) },
+    rules.map(([text, count]) => (
+      make('option', { value: text, selected: text === rule }, `${text} (${counted(count)})`)
+    )),
+  );
   return field('Rule', choice);
 }
 
@@ -144,8 +196,16 @@ class Catalog {
       this.show();
     });
     this.form = this.#formOf(rules);
-    this.root = make('div', {}, this.form, this.count, make('table', { class: 'census catalog' }, make('caption', { class: 'aside' }, `Objects of the censuses of deposits under ${rule}`),
-      make('thead', {}, make('tr', {}, make('td', {}), this.heads.cells)), this.body), make('p', {}, this.more));
+    this.root = make('div', {},
+      this.form,
+      this.count,
+      make('table', { class: 'census catalog' },
+        make('caption', { class: 'aside' }, `Objects of the censuses of deposits under ${rule}`),
+        make('thead', {}, make('tr', {}, make('td', {}), this.heads.cells)),
+        this.body,
+      ),
+      make('p', {}, this.more),
+    );
     this.show();
   }
 
@@ -155,21 +215,54 @@ class Catalog {
 
   #formOf(rules) {
     const input = (name, placeholder) => {
-      const found = make('input', { id: `objects-${name}`, autocapitalize: 'none', autocomplete: 'off', spellcheck: 'false', placeholder, input: () => this.#filter(name, found.value) });
+      const found = make('input', {
+        id: `objects-${name}`,
+        autocapitalize: 'none',
+        autocomplete: 'off',
+        spellcheck: 'false',
+        placeholder,
+        input: () => this.#filter(name, found.value),
+      });
       found.value = this.asked[name];
       return found;
     };
     const kind = make('select', { id: 'objects-kind', change: () => this.#filter('kind', kind.value) },
-      [['', 'any'], ...Object.entries(KINDS)].map(([value, text]) => make('option', { value, selected: value === this.asked.kind }, text)));
-    const csv = make('button', { type: 'button', id: 'objects-csv', click: () => save(csvOf(this.#fitting), `objects-${this.rule.replace('/', '-')}.csv`, 'text/csv') }, 'Download CSV');
-    return make('form', { class: 'filters', submit: (event) => event.preventDefault() }, rules.length > 1 ? ruleField(rules, this.rule) : null, field('Name or code', input('text', 'loaf, 4 blinkers, xq4')), field('Kind', kind), field('Period', input('period', '2 or 2-8')),
-      field('Cells', input('cells', '4 or 4-10')), make('p', { class: 'row' }, this.#splitOf(), csv));
+      [['', 'any'], ...Object.entries(KINDS)].map(([value, text]) => (
+        make('option', { value, selected: value === this.asked.kind }, text)
+      )),
+    );
+    const csv = make('button', {
+      type: 'button',
+      id: 'objects-csv',
+      click: () => save(csvOf(this.#fitting), `objects-${this.rule.replace('/', '-')}.csv`, 'text/csv'),
+    }, 'Download CSV');
+    return make('form', { class: 'filters', submit: (event) => event.preventDefault() },
+      rules.length > 1 ? ruleField(rules, this.rule) : null,
+      field('Name or code', input('text', 'loaf, 4 blinkers, xq4')),
+      field('Kind', kind),
+      field('Period', input('period', '2 or 2-8')),
+      field('Cells', input('cells', '4 or 4-10')),
+      make('p', { class: 'row' }, this.#splitOf(), csv),
+    );
   }
 
-  /** Counts each object of a group separately, as a catalogue of separated objects does. Parts are known only in Conway's Life. */
+  /**
+   * Counts each object of a group separately, as a catalogue of separated objects does. Parts are known only in
+   * Conway's Life.
+   */
   #splitOf() {
-    const split = make('input', { id: 'objects-split', type: 'checkbox', checked: this.asked.groups === 'split', change: () => this.#filter('groups', split.checked ? 'split' : '') });
-    return this.rule === LIFE ? make('span', { class: 'check' }, split, make('label', { for: split.id, title: 'Count each object in a group separately' }, 'Split groups')) : null;
+    const split = make('input', {
+      id: 'objects-split',
+      type: 'checkbox',
+      checked: this.asked.groups === 'split',
+      change: () => this.#filter('groups', split.checked ? 'split' : ''),
+    });
+    return this.rule === LIFE
+      ? make('span', { class: 'check' },
+        split,
+        make('label', { for: split.id, title: 'Count each object in a group separately' }, 'Split groups'),
+      )
+      : null;
   }
 
   #filter(name, value) {
@@ -183,16 +276,23 @@ class Catalog {
     this.#shown = 0;
     this.body.replaceChildren();
     const all = this.#fitting.reduce((sum, row) => sum + countOf(row, this.#isSplit), 0);
-    this.count.replaceChildren(`${many(this.#fitting.length, 'object')}${this.#fitting.length < this.rows.length ? ` of ${counted(this.rows.length)}` : ''}, counted ${many(all, 'time')}`);
+    this.count.replaceChildren(
+      many(this.#fitting.length, 'object')
+        + (this.#fitting.length < this.rows.length ? ` of ${counted(this.rows.length)}` : '')
+        + `, counted ${many(all, 'time')}`,
+    );
     history.replaceState(history.state, '', location.pathname + queryOf(this.asked));
     this.#showMore();
   }
 
   #showMore() {
-    this.body.append(...this.#fitting.slice(this.#shown, this.#shown + SHOWN).map((row) => lineOf(row, this.rule, this.#isSplit)));
+    this.body.append(...this.#fitting
+      .slice(this.#shown, this.#shown + SHOWN)
+      .map((row) => lineOf(row, this.rule, this.#isSplit)));
     this.#shown = Math.min(this.#shown + SHOWN, this.#fitting.length);
     this.more.hidden = this.#shown >= this.#fitting.length;
-    this.more.textContent = `Show ${counted(Math.min(SHOWN, this.#fitting.length - this.#shown))} more of ${counted(this.#fitting.length)}`;
+    this.more.textContent = `Show ${counted(Math.min(SHOWN, this.#fitting.length - this.#shown))} more `
+      + `of ${counted(this.#fitting.length)}`;
   }
 }
 
@@ -222,15 +322,33 @@ export async function catalogPage(page, given) {
   page.title(wanted ? `Objects of ${wanted}` : 'Objects');
   page.root.append(make('h1', { tabindex: -1 }, 'Objects'));
   if (!head) {
-    page.root.append(make('p', { class: 'empty' }, 'This archive has no search index, so there is no list of objects. ', make('a', { href: '/find' }, 'Look one up by its code'), '.'));
+    page.root.append(make('p', { class: 'empty' },
+      'This archive has no search index, so there is no list of objects. ',
+      make('a', { href: '/find' }, 'Look one up by its code'),
+      '.',
+    ));
     return;
   }
   const rules = await rulesWithObjects(page.signal);
   const rule = wanted ?? (rules.some(([text]) => text === LIFE) ? LIFE : rules[0]?.[0] ?? LIFE);
-  const [objects, names] = await Promise.all([objectsOfRule(rule, page.signal), rule === LIFE ? objectNames() : new Map()]);
-  page.root.append(make('p', { class: 'by' }, `All objects that censuses of deposits under ${rule} have found, the most frequent first. `, make('a', { href: '/about#census' }, 'How objects are counted')));
+  const [objects, names] = await Promise.all([
+    objectsOfRule(rule, page.signal),
+    rule === LIFE ? objectNames() : new Map(),
+  ]);
+  page.root.append(make('p', { class: 'by' },
+    `All objects that censuses of deposits under ${rule} have found, the most frequent first. `,
+    make('a', { href: '/about#census' }, 'How objects are counted'),
+  ));
   if (objects.length === 0) {
-    page.root.append(make('p', { class: 'empty' }, `No census of a deposit under ${rule} has found an object yet. `, rules.length > 0 ? ['There are objects of ', make('a', { href: `/o/${ruleAddress(rules[0][0])}` }, rules[0][0]), '.'] : 'To begin, count the objects of a deposit.'), indexNote(head));
+    page.root.append(
+      make('p', { class: 'empty' },
+        `No census of a deposit under ${rule} has found an object yet. `,
+        rules.length > 0
+          ? ['There are objects of ', make('a', { href: `/o/${ruleAddress(rules[0][0])}` }, rules[0][0]), '.']
+          : 'To begin, count the objects of a deposit.',
+      ),
+      indexNote(head),
+    );
     return;
   }
   const catalog = new Catalog(page, rule, objects.map((object) => rowOf(object, names)), rules);

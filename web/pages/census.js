@@ -19,8 +19,8 @@ function barOf(count, most, more = '') {
 }
 
 /**
- * What the objects of a table are called: the names of well-known ones, the parts of groups, and how often an object is in groups. Groups are
- * found after the table is shown.
+ * What the objects of a table are called: the names of well-known ones, the parts of groups, and how often an object is
+ * in groups. Groups are found after the table is shown.
  */
 export class Labels {
   #names;
@@ -45,9 +45,19 @@ export class Labels {
   }
 
   #fill(code) {
-    const [name, parts, grouped] = [this.#names.get(code), this.#groups.texts.get(code), this.#groups.grouped.get(code)];
-    const groups = [parts && `${name ? ': ' : ''}${parts}`, grouped && `${name || parts ? ' · ' : ''}${counted(grouped)} more in groups`].filter(Boolean);
-    this.#lines.get(code)?.replaceChildren(...[name ? make('span', { class: 'name' }, name) : null, groups.length ? make('span', { class: 'groups' }, groups) : null].filter(Boolean));
+    const [name, parts, grouped] = [
+      this.#names.get(code),
+      this.#groups.texts.get(code),
+      this.#groups.grouped.get(code),
+    ];
+    const groups = [
+      parts && `${name ? ': ' : ''}${parts}`,
+      grouped && `${name || parts ? ' · ' : ''}${counted(grouped)} more in groups`,
+    ].filter(Boolean);
+    this.#lines.get(code)?.replaceChildren(...[
+      name ? make('span', { class: 'name' }, name) : null,
+      groups.length ? make('span', { class: 'groups' }, groups) : null,
+    ].filter(Boolean));
   }
 
   /**
@@ -62,7 +72,11 @@ export class Labels {
 }
 
 /** The note above a table of objects: its counts differ from those that readers may know from elsewhere. */
-export const countNote = () => make('p', { class: 'hint' }, 'A cluster counts as one object even if its parts never change each other, so these counts differ from apgsearch’s. ', make('a', { href: '/about#census' }, 'How objects are counted'));
+export const countNote = () => make('p', { class: 'hint' },
+  'A cluster counts as one object even if its parts never change each other, '
+    + 'so these counts differ from apgsearch’s. ',
+  make('a', { href: '/about#census' }, 'How objects are counted'),
+);
 
 /**
  * A row of a table: an object, its name, its count, and a bar.
@@ -72,19 +86,32 @@ export const countNote = () => make('p', { class: 'hint' }, 'A cluster counts as
  */
 export function objectRow({ code, count }, most, labels) {
   const pattern = patternOf(code);
-  return make('tr', {}, make('td', { class: 'drawn' }, pattern ? thumbnail(pattern, SIDE, SIDE) : null),
-    make('th', { scope: 'row' }, make('a', { href: objectAddress(labels.rule, code) }, make('code', {}, code)), labels.lineOf(code)),
-    make('td', { class: 'number' }, counted(count)), barOf(count, most));
+  return make('tr', {},
+    make('td', { class: 'drawn' }, pattern ? thumbnail(pattern, SIDE, SIDE) : null),
+    make('th', { scope: 'row' },
+      make('a', { href: objectAddress(labels.rule, code) }, make('code', {}, code)),
+      labels.lineOf(code),
+    ),
+    make('td', { class: 'number' }, counted(count)),
+    barOf(count, most),
+  );
 }
 
 /** The row of the clusters without a code. */
 export function unresolvedRow(count, most) {
-  return make('tr', {}, make('td', { class: 'drawn' }), make('th', { scope: 'row' }, 'unresolved', make('small', {}, 'no code within the limit')),
-    make('td', { class: 'number' }, counted(count)), barOf(count, most, 'none'));
+  return make('tr', {},
+    make('td', { class: 'drawn' }),
+    make('th', { scope: 'row' }, 'unresolved', make('small', {}, 'no code within the limit')),
+    make('td', { class: 'number' }, counted(count)),
+    barOf(count, most, 'none'),
+  );
 }
 
 /** The columns by which the table can be sorted. @type {import('../shared/sorts.js').Column[]} */
-const COLUMNS = [{ id: 'code', head: 'Code', value: (row) => row.code, isUp: true }, { id: 'count', head: 'Count', value: (row) => row.count, isNumber: true }];
+const COLUMNS = [
+  { id: 'code', head: 'Code', value: (row) => row.code, isUp: true },
+  { id: 'count', head: 'Count', value: (row) => row.count, isNumber: true },
+];
 
 /** The table of the objects; the archive sorts by code, and this table by count at first. */
 function objectsTable(number, found, labels) {
@@ -92,7 +119,10 @@ function objectsTable(number, found, labels) {
   const lines = new Map(found.rows.map((row) => [row, objectRow(row, most, labels)]));
   const body = make('tbody');
   const last = unresolvedRow(found.unresolved, most);
-  const show = (order) => body.replaceChildren(...sorted(found.rows, COLUMNS, order).map((row) => lines.get(row)), last);
+  const show = (order) => body.replaceChildren(
+    ...sorted(found.rows, COLUMNS, order).map((row) => lines.get(row)),
+    last,
+  );
   const heads = new Heads(COLUMNS, { sort: 'count', isUp: false }, show);
   show(heads.order);
   return make('table', { class: 'census' }, make('caption', { class: 'aside' }, `Objects of census ${number}`),
@@ -101,7 +131,8 @@ function objectsTable(number, found, labels) {
 
 function steadyText(found) {
   return found.steady
-    ? 'Steady: all clusters are still lifes and oscillators that never come near each other, so from now on each of them runs as if it were alone.'
+    ? 'Steady: all clusters are still lifes and oscillators that never come near each other, '
+      + 'so from now on each of them runs as if it were alone.'
     : 'Not steady: a cluster moves, does not return within the limit, or comes near another.';
 }
 
@@ -117,14 +148,28 @@ export async function censusPage(page, given) {
   const place = depositAddress(found.deposit, found.generation);
   page.keys['['] = () => { if (number > 1) go(censusAddress(number - 1)); };
   page.keys[']'] = () => { go(censusAddress(number + 1)); };
-  page.root.append(make('h1', { tabindex: -1 }, `Census ${counted(number)}`),
-    make('p', { class: 'by' }, 'Of ', make('a', { href: place }, `generation ${counted(found.generation)} of deposit ${found.deposit}`),
-      `${record.name ? `, ${record.name}` : ''}, under ${rule}, with periods up to ${counted(found.limit)}.`),
-    make('dl', { class: 'facts' }, [['Clusters', counted(found.clusters)], ['Objects', many(rows.length, 'code')], ['Unresolved', counted(found.unresolved)]]
-      .map(([term, told]) => make('div', {}, make('dt', {}, term), make('dd', {}, told)))),
-    make('p', { class: found.steady ? 'steady yes' : 'steady' }, steadyText(found)), countNote(),
+  page.root.append(
+    make('h1', { tabindex: -1 }, `Census ${counted(number)}`),
+    make('p', { class: 'by' },
+      'Of ',
+      make('a', { href: place }, `generation ${counted(found.generation)} of deposit ${found.deposit}`),
+      `${record.name ? `, ${record.name}` : ''}, under ${rule}, with periods up to ${counted(found.limit)}.`,
+    ),
+    make('dl', { class: 'facts' }, [
+      ['Clusters', counted(found.clusters)],
+      ['Objects', many(rows.length, 'code')],
+      ['Unresolved', counted(found.unresolved)],
+    ].map(([term, told]) => make('div', {}, make('dt', {}, term), make('dd', {}, told)))),
+    make('p', { class: found.steady ? 'steady yes' : 'steady' }, steadyText(found)),
+    countNote(),
     objectsTable(number, found, labels),
-    make('p', { class: 'row' }, make('a', { class: 'button', href: `/censuses/${number}/csv`, download: `census-${number}.csv` }, 'Download CSV'), make('a', { class: 'address', href: url }, url), copyButton('Copy the address', () => url, page.say)));
+    make('p', { class: 'row' },
+      make('a', { class: 'button', href: `/censuses/${number}/csv`, download: `census-${number}.csv` }, 'Download CSV'),
+      make('a', { class: 'address', href: url }, url),
+      copyButton('Copy the address', () => url, page.say),
+    ),
+  );
   labels.findGroups(rows, page.signal).catch(() => {});
-  page.say(`Census ${number}: ${many(found.clusters, 'cluster')}, ${many(rows.length, 'code')}, ${found.unresolved} unresolved.`);
+  page.say(`Census ${number}: ${many(found.clusters, 'cluster')}, ${many(rows.length, 'code')}, `
+    + `${found.unresolved} unresolved.`);
 }

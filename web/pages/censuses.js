@@ -2,7 +2,14 @@
 
 import { censusAddress, depositAddress } from '../shared/address.js';
 import { counted, make, many } from '../shared/dom.js';
-import { censusesOfObject, censusesWith, indexHead, indexNote, indexedCensus, indexedDeposit } from '../requests/index.js';
+import {
+  censusesOfObject,
+  censusesWith,
+  indexHead,
+  indexNote,
+  indexedCensus,
+  indexedDeposit,
+} from '../requests/index.js';
 import { Heads, sorted } from '../shared/sorts.js';
 
 /** How many lines a table shows at first, and adds with each press. */
@@ -14,17 +21,30 @@ const nameOf = async (id) => (await indexedDeposit(id))?.name || null;
 async function censusLine(row, count) {
   const place = depositAddress(row.deposit, row.generation);
   const name = await nameOf(row.deposit);
-  return make('tr', {}, make('th', { scope: 'row' }, make('a', { href: censusAddress(row.id) }, counted(row.id))),
-    make('td', {}, make('a', { href: place }, `${name ?? `Deposit ${row.deposit}`}`), make('small', {}, `deposit ${counted(row.deposit)}, generation ${counted(row.generation)}`),
-      make('small', { class: 'narrow' }, `${row.steady ? 'steady' : 'not steady'}, ${row.day}`)),
-    count === undefined ? null : make('td', { class: 'number' }, counted(count)), make('td', { class: 'number' }, counted(row.clusters)),
-    make('td', {}, row.steady ? 'steady' : 'not steady', make('small', {}, row.day)));
+  return make('tr', {},
+    make('th', { scope: 'row' }, make('a', { href: censusAddress(row.id) }, counted(row.id))),
+    make('td', {},
+      make('a', { href: place }, `${name ?? `Deposit ${row.deposit}`}`),
+      make('small', {}, `deposit ${counted(row.deposit)}, generation ${counted(row.generation)}`),
+      make('small', { class: 'narrow' }, `${row.steady ? 'steady' : 'not steady'}, ${row.day}`),
+    ),
+    count === undefined ? null : make('td', { class: 'number' }, counted(count)),
+    make('td', { class: 'number' }, counted(row.clusters)),
+    make('td', {}, row.steady ? 'steady' : 'not steady', make('small', {}, row.day)),
+  );
 }
 
-/** The columns of a table of censuses; `counts` says how often each has an object. @type {import('../shared/sorts.js').Column[]} */
-const COLUMNS = [{ id: 'census', head: 'Census', value: (row) => row.id }, { id: 'of', head: 'Of', value: (row) => row.deposit * 10_000 + row.generation, isUp: true },
-  { id: 'count', head: 'Of it', value: (row, counts) => counts.get(row.id), isNumber: true }, { id: 'clusters', head: 'Clusters', value: (row) => row.clusters, isNumber: true },
-  { id: 'field', head: 'Field', value: (row) => `${row.steady ? 'a' : 'b'}${row.day}`, isUp: true }];
+/**
+ * The columns of a table of censuses; `counts` says how often each has an object.
+ * @type {import('../shared/sorts.js').Column[]}
+ */
+const COLUMNS = [
+  { id: 'census', head: 'Census', value: (row) => row.id },
+  { id: 'of', head: 'Of', value: (row) => row.deposit * 10_000 + row.generation, isUp: true },
+  { id: 'count', head: 'Of it', value: (row, counts) => counts.get(row.id), isNumber: true },
+  { id: 'clusters', head: 'Clusters', value: (row) => row.clusters, isNumber: true },
+  { id: 'field', head: 'Field', value: (row) => `${row.steady ? 'a' : 'b'}${row.day}`, isUp: true },
+];
 
 /** A table of censuses, the newest first until it is sorted, with a button that shows more. */
 async function censusTable(page, rows, caption, counts) {
@@ -40,7 +60,8 @@ async function censusTable(page, rows, caption, counts) {
     if (own !== shown || body.childElementCount !== from) return;
     body.append(...lines);
     more.hidden = body.childElementCount >= rows.length;
-    more.textContent = `Show ${counted(Math.min(LINES, rows.length - body.childElementCount))} more of ${counted(rows.length)}`;
+    more.textContent = `Show ${counted(Math.min(LINES, rows.length - body.childElementCount))} more `
+      + `of ${counted(rows.length)}`;
   };
   const heads = new Heads(columns, { sort: 'census', isUp: false }, (order) => {
     shown = sorted(rows, columns, order, counts);
@@ -49,7 +70,14 @@ async function censusTable(page, rows, caption, counts) {
   });
   more.addEventListener('click', show);
   await show();
-  return [make('table', { class: 'census censuses' }, make('caption', { class: 'aside' }, caption), make('thead', {}, make('tr', {}, heads.cells)), body), make('p', {}, more)];
+  return [
+    make('table', { class: 'census censuses' },
+      make('caption', { class: 'aside' }, caption),
+      make('thead', {}, make('tr', {}, heads.cells)),
+      body,
+    ),
+    make('p', {}, more),
+  ];
 }
 
 /** The censuses of a deposit, as a section of its page; nothing if there is no index or no census. */
@@ -57,7 +85,11 @@ export async function censusesSection(page, number) {
   const head = await indexHead();
   const rows = head ? await censusesWith((row) => row.deposit === number, page.signal) : [];
   if (rows.length === 0) return [];
-  return [make('section', { id: 'censuses' }, make('h2', {}, many(rows.length, 'census', 'censuses')), ...await censusTable(page, rows, `Censuses of deposit ${number}`), indexNote(head))];
+  return [make('section', { id: 'censuses' },
+    make('h2', {}, many(rows.length, 'census', 'censuses')),
+    ...await censusTable(page, rows, `Censuses of deposit ${number}`),
+    indexNote(head),
+  )];
 }
 
 /** Where an object occurs: the censuses that contain it, and the number of their deposits. */
@@ -67,9 +99,21 @@ export async function occurrences(page, rule, code) {
   const found = await censusesOfObject(rule, code, page.signal);
   const rows = (await Promise.all(found.map(({ id }) => indexedCensus(id)))).filter(Boolean);
   const deposits = new Set(rows.map((row) => row.deposit));
-  const said = rows.length === 0 ? 'No census in the index contains it.' : `In ${many(rows.length, 'census', 'censuses')} of ${many(deposits.size, 'deposit')}, the newest first.`;
-  const table = rows.length === 0 ? [] : await censusTable(page, rows, `Censuses that contain ${code}`, new Map(found.map(({ id, count }) => [id, count])));
-  return [make('section', { id: 'occurrences' }, make('h2', {}, 'Where it occurs'), make('p', {}, said), ...table, indexNote(head))];
+  const said = rows.length === 0
+    ? 'No census in the index contains it.'
+    : `In ${many(rows.length, 'census', 'censuses')} of ${many(deposits.size, 'deposit')}, the newest first.`;
+  const table = rows.length === 0 ? [] : await censusTable(
+    page,
+    rows,
+    `Censuses that contain ${code}`,
+    new Map(found.map(({ id, count }) => [id, count])),
+  );
+  return [make('section', { id: 'occurrences' },
+    make('h2', {}, 'Where it occurs'),
+    make('p', {}, said),
+    ...table,
+    indexNote(head),
+  )];
 }
 
 /** The list of censuses, the newest first. */
@@ -78,12 +122,24 @@ export async function censusesPage(page) {
   page.root.append(make('h1', { tabindex: -1 }, 'Censuses'));
   const head = await indexHead();
   if (!head) {
-    page.root.append(make('p', { class: 'empty' }, 'This archive has no index, so you can only open a census by its number: ', make('a', { href: '/find' }, 'find one'), '.'));
+    page.root.append(make('p', { class: 'empty' },
+      'This archive has no index, so you can only open a census by its number: ',
+      make('a', { href: '/find' }, 'find one'),
+      '.',
+    ));
     return;
   }
   const rows = await censusesWith(() => true, page.signal);
-  if (rows.length === 0) page.root.append(make('p', { class: 'empty' }, 'There is no census yet. You can take one on the page of a deposit.'));
-  else page.root.append(make('p', { class: 'count' }, many(rows.length, 'census', 'censuses')), ...await censusTable(page, rows, 'Censuses, the newest first'));
+  if (rows.length === 0) {
+    page.root.append(
+      make('p', { class: 'empty' }, 'There is no census yet. You can take one on the page of a deposit.'),
+    );
+  } else {
+    page.root.append(
+      make('p', { class: 'count' }, many(rows.length, 'census', 'censuses')),
+      ...await censusTable(page, rows, 'Censuses, the newest first'),
+    );
+  }
   page.root.append(indexNote(head));
   page.say(`${many(rows.length, 'census', 'censuses')}.`);
 }

@@ -11,7 +11,10 @@ const FIRST = 3;
 export function withoutScripts(comments) {
   // A script may go over several lines. What it leaves is marked by a character that no line has.
   const rest = comments.join('\n').replace(/\[\[[^]*?\]\]/g, (script) => script.replace(/[^\n]+/g, '\r'));
-  return rest.split('\n').filter((line) => !/^[ \r]*\r[ \r]*$/.test(line)).map((line) => line.replaceAll('\r', '').trim());
+  return rest
+    .split('\n')
+    .filter((line) => !/^[ \r]*\r[ \r]*$/.test(line))
+    .map((line) => line.replaceAll('\r', '').trim());
 }
 
 /**
@@ -30,7 +33,13 @@ export function commentsPart(given) {
     show(comments);
     return part;
   }
-  const button = make('button', { type: 'button', class: 'quiet', id: 'all-comments', 'aria-expanded': 'false', 'aria-controls': text.id });
+  const button = make('button', {
+    type: 'button',
+    class: 'quiet',
+    id: 'all-comments',
+    'aria-expanded': 'false',
+    'aria-controls': text.id,
+  });
   const fold = (isOpen) => {
     show(isOpen ? comments : comments.slice(0, FIRST));
     button.setAttribute('aria-expanded', String(isOpen));

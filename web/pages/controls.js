@@ -10,7 +10,9 @@ const SPEEDS = [1, 2, 5, 10, 20, 40, 60, 120, 240, 480, 960, 1920];
 const STEPS = [1, 10, 100];
 const FIRST_GOAL = 100;
 
-const button = (label, text, click, more = {}) => make('button', { type: 'button', 'aria-label': label, title: label, click, ...more }, text);
+const button = (label, text, click, more = {}) => (
+  make('button', { type: 'button', 'aria-label': label, title: label, click, ...more }, text)
+);
 const pair = (...inside) => make('span', { class: 'pair' }, inside);
 const labelled = (label, input) => pair(make('label', { for: input.id }, label), input);
 
@@ -25,9 +27,24 @@ function speedPart(player) {
 
 /** Running to a generation. */
 function runPart(player) {
-  const goal = make('input', { id: 'run-to', type: 'number', min: 0, max: GENERATION_LIMIT, inputmode: 'numeric', 'aria-label': 'Run to generation' });
+  const goal = make('input', {
+    id: 'run-to',
+    type: 'number',
+    min: 0,
+    max: GENERATION_LIMIT,
+    inputmode: 'numeric',
+    'aria-label': 'Run to generation',
+  });
   goal.value = FIRST_GOAL;
-  return pair(button('Run to this generation, forward or back', 'Run to', () => player.runTo(Math.trunc(Number(goal.value))), { id: 'run' }), goal);
+  return pair(
+    button(
+      'Run to this generation, forward or back',
+      'Run to',
+      () => player.runTo(Math.trunc(Number(goal.value))),
+      { id: 'run' },
+    ),
+    goal,
+  );
 }
 
 function viewParts(view, ages) {
@@ -36,10 +53,25 @@ function viewParts(view, ages) {
     ages.turn(aged.checked);
   } });
   ages.isOn = aged.checked = setting('ages') === 'yes';
-  const grid = make('input', { id: 'grid', type: 'checkbox', checked: true, change: () => view.showGrid(grid.checked) });
-  const zooms = pair(button('Zoom out', '−', () => view.zoomStep(-1), { id: 'zoom-out' }), button('Zoom in', '+', () => view.zoomStep(1), { id: 'zoom-in' }));
+  const grid = make('input', {
+    id: 'grid',
+    type: 'checkbox',
+    checked: true,
+    change: () => view.showGrid(grid.checked),
+  });
+  const zooms = pair(
+    button('Zoom out', '−', () => view.zoomStep(-1), { id: 'zoom-out' }),
+    button('Zoom in', '+', () => view.zoomStep(1), { id: 'zoom-in' }),
+  );
   const fit = button('Fit: show all of the pattern', 'Fit', () => view.fit(), { id: 'fit' });
-  return { zooms, fit, marks: [pair(grid, make('label', { for: 'grid' }, 'Grid')), pair(aged, make('label', { for: 'ages', title: 'Young cells are orange, old ones blue' }, 'Color by age'))] };
+  return {
+    zooms,
+    fit,
+    marks: [
+      pair(grid, make('label', { for: 'grid' }, 'Grid')),
+      pair(aged, make('label', { for: 'ages', title: 'Young cells are orange, old ones blue' }, 'Color by age')),
+    ],
+  };
 }
 
 /** On a phone, the less important controls are behind a button. */
@@ -61,18 +93,46 @@ function backPart(player) {
     part.hidden = period === null;
     if (period === null) return;
     ticks.replaceChildren(make('option', { value: period }));
-    part.replaceChildren(loop, make('label', { for: 'loop' }, 'Loop'), button(`back at ${counted(period)}, the generation that equals generation 0`, `back at ${counted(period)}`, () => player.go(period), { id: 'back-at' }));
+    part.replaceChildren(
+      loop,
+      make('label', { for: 'loop' }, 'Loop'),
+      button(
+        `back at ${counted(period)}, the generation that equals generation 0`,
+        `back at ${counted(period)}`,
+        () => player.go(period),
+        { id: 'back-at' },
+      ),
+    );
   };
   return { parts: [part, ticks], take };
 }
 
-/** All controls: the bar, and the functions to call for playing and pausing, for a period, for a shown generation, and when playing changes. */
+/**
+ * All controls: the bar, and the functions to call for playing and pausing, for a period, for a shown generation, and
+ * when playing changes.
+ */
 export function controls(player, view, ages, turnFull) {
   const play = button('Play', icon('play'), () => toggle(1), { class: 'main', id: 'play' });
   const back = button('Play back', icon('back'), () => toggle(-1), { id: 'back' });
   const toggle = (direction) => (player.direction === direction ? player.pause() : player.play(direction));
-  const number = make('input', { id: 'generation', type: 'number', min: 0, max: GENERATION_LIMIT, inputmode: 'numeric', change: () => player.go(Number(number.value)) });
-  const slider = make('input', { id: 'slider', type: 'range', min: 0, max: GENERATION_LIMIT, list: 'ticks', 'aria-label': 'Generation', change: () => player.go(Number(slider.value)), input: () => { number.value = slider.value; } });
+  const number = make('input', {
+    id: 'generation',
+    type: 'number',
+    min: 0,
+    max: GENERATION_LIMIT,
+    inputmode: 'numeric',
+    change: () => player.go(Number(number.value)),
+  });
+  const slider = make('input', {
+    id: 'slider',
+    type: 'range',
+    min: 0,
+    max: GENERATION_LIMIT,
+    list: 'ticks',
+    'aria-label': 'Generation',
+    change: () => player.go(Number(slider.value)),
+    input: () => { number.value = slider.value; },
+  });
   const step = make('select', { id: 'step-size' }, STEPS.map((size) => make('option', { value: size }, size)));
   const { parts, take } = backPart(player);
   const { zooms, fit, marks } = viewParts(view, ages);
@@ -80,9 +140,20 @@ export function controls(player, view, ages, turnFull) {
   const full = document.fullscreenEnabled ? button('Full screen', icon('full'), turnFull, { id: 'full' }) : null;
   const row = (...inside) => make('div', { class: 'controls-row' }, ...inside);
   const bar = make('div', { class: 'controls', role: 'group', 'aria-label': 'Generations' },
-    row(make('span', { class: 'transport' }, button('Generation 0', icon('first'), () => player.go(0), { id: 'first' }), back, button('One step back', icon('less'), () => player.step(-Number(step.value)), { id: 'step-back' }), play,
-      button('One step forward', icon('more'), () => player.step(Number(step.value)), { id: 'step' })), labelled('Generation', number), slider, make('span', { class: 'at-right' }, fit)),
-    row(speedPart(player), labelled('Step', step), runPart(player), parts, foldedPart([...marks, zooms, full])));
+    row(
+      make('span', { class: 'transport' },
+        button('Generation 0', icon('first'), () => player.go(0), { id: 'first' }),
+        back,
+        button('One step back', icon('less'), () => player.step(-Number(step.value)), { id: 'step-back' }),
+        play,
+        button('One step forward', icon('more'), () => player.step(Number(step.value)), { id: 'step' }),
+      ),
+      labelled('Generation', number),
+      slider,
+      make('span', { class: 'at-right' }, fit),
+    ),
+    row(speedPart(player), labelled('Step', step), runPart(player), parts, foldedPart([...marks, zooms, full])),
+  );
   const changed = () => {
     for (const [element, direction, label, name] of [[play, 1, 'Play', 'play'], [back, -1, 'Play back', 'back']]) {
       const playing = player.direction === direction;
@@ -96,9 +167,20 @@ export function controls(player, view, ages, turnFull) {
 /** The keys of a deposit's page; `next()` returns the row of the next deposit, if there is one. */
 export function keysOf(page, player, view, toggle, next) {
   Object.assign(page.keys, {
-    ' ': () => (player.direction === 0 ? toggle(1) : player.pause()), b: () => toggle(-1), ArrowRight: () => player.step(1), ArrowLeft: () => player.step(-1),
-    Home: () => player.go(0), End: () => player.go(GENERATION_LIMIT), '+': () => view.zoomStep(1), '=': () => view.zoomStep(1), '-': () => view.zoomStep(-1), 0: () => view.fit(),
-    'shift ArrowLeft': () => view.pan(-0.1, 0), 'shift ArrowRight': () => view.pan(0.1, 0), 'shift ArrowUp': () => view.pan(0, -0.1), 'shift ArrowDown': () => view.pan(0, 0.1),
+    ' ': () => (player.direction === 0 ? toggle(1) : player.pause()),
+    b: () => toggle(-1),
+    ArrowRight: () => player.step(1),
+    ArrowLeft: () => player.step(-1),
+    Home: () => player.go(0),
+    End: () => player.go(GENERATION_LIMIT),
+    '+': () => view.zoomStep(1),
+    '=': () => view.zoomStep(1),
+    '-': () => view.zoomStep(-1),
+    0: () => view.fit(),
+    'shift ArrowLeft': () => view.pan(-0.1, 0),
+    'shift ArrowRight': () => view.pan(0.1, 0),
+    'shift ArrowUp': () => view.pan(0, -0.1),
+    'shift ArrowDown': () => view.pan(0, 0.1),
     ']': () => { if (next()) go(depositAddress(next().id)); },
   });
 }

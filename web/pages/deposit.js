@@ -1,4 +1,5 @@
-// One deposit: its generations on a large canvas, played forward and back, its kind and code, its file, and a census of it.
+// One deposit: its generations on a large canvas, played forward and back, its kind and code, its file, and a census of
+// it.
 
 import { censusAddress, depositAddress, go, memberAddress, objectAddress } from '../shared/address.js';
 import { Ages } from '../player/ages.js';
@@ -27,8 +28,10 @@ const LATER = 300;
 /** The limit that finds the objects of ash: a multiple of the common periods. */
 const USUAL_LIMIT = 60;
 
-const across = (columns, rows) => [columns === 0 ? null : `${many(Math.abs(columns), 'column')} to the ${columns < 0 ? 'left' : 'right'}`,
-  rows === 0 ? null : `${many(Math.abs(rows), 'row')} ${rows < 0 ? 'up' : 'down'}`].filter(Boolean).join(' and ');
+const across = (columns, rows) => [
+  columns === 0 ? null : `${many(Math.abs(columns), 'column')} to the ${columns < 0 ? 'left' : 'right'}`,
+  rows === 0 ? null : `${many(Math.abs(rows), 'row')} ${rows < 0 ? 'up' : 'down'}`,
+].filter(Boolean).join(' and ');
 
 function kindText(found, limit) {
   switch (found.kind) {
@@ -44,7 +47,14 @@ function kindText(found, limit) {
 function kindParts(number, record, page, periodic) {
   const said = make('span', {}, '…');
   const code = make('span', {}, '…');
-  const limit = make('input', { id: 'limit', type: 'number', min: 1, max: PERIOD_LIMIT, required: true, inputmode: 'numeric' });
+  const limit = make('input', {
+    id: 'limit',
+    type: 'number',
+    min: 1,
+    max: PERIOD_LIMIT,
+    required: true,
+    inputmode: 'numeric',
+  });
   limit.value = USUAL_LIMIT;
   const ask = async (event) => {
     event?.preventDefault();
@@ -57,7 +67,11 @@ function kindParts(number, record, page, periodic) {
       const rule = ruleText(record.rule);
       const name = found.code && rule === 'B3/S23' ? (await objectNames()).get(found.code) : null;
       code.replaceChildren(...(found.code
-        ? [make('a', { href: objectAddress(rule, found.code) }, make('code', {}, found.code)), name ? ` ${name} ` : ' ', copyButton('Copy', () => found.code, page.say)]
+        ? [
+          make('a', { href: objectAddress(rule, found.code) }, make('code', {}, found.code)),
+          name ? ` ${name} ` : ' ',
+          copyButton('Copy', () => found.code, page.say),
+        ]
         : [isPeriodic ? 'none: no phase fits into 40 by 40 cells' : 'none']));
     } catch (error) {
       if (page.signal.aborted) return;
@@ -66,14 +80,28 @@ function kindParts(number, record, page, periodic) {
     }
   };
   ask();
-  const form = make('form', { class: 'inline', submit: ask }, make('label', { for: 'limit' }, 'limit'), limit, make('button', {}, 'Show'));
+  const form = make('form', { class: 'inline', submit: ask },
+    make('label', { for: 'limit' }, 'limit'),
+    limit,
+    make('button', {}, 'Show'),
+  );
   return [['Kind', [said, form]], ['Code', [code]]];
 }
 
-/** Takes a census of the generation that is shown. Its token consists of the arguments, like that of examples/scripts/census-all. */
+/**
+ * Takes a census of the generation that is shown. Its token consists of the arguments, like that of
+ * examples/scripts/census-all.
+ */
 function censusPart(shown, page) {
   const { part: member, input: name } = memberPart('census-member');
-  const limit = make('input', { id: 'census-limit', type: 'number', min: 1, max: PERIOD_LIMIT, required: true, inputmode: 'numeric' });
+  const limit = make('input', {
+    id: 'census-limit',
+    type: 'number',
+    min: 1,
+    max: PERIOD_LIMIT,
+    required: true,
+    inputmode: 'numeric',
+  });
   limit.value = USUAL_LIMIT;
   const said = make('div');
   const send = make('button', { id: 'count' }, 'Count the objects');
@@ -86,7 +114,14 @@ function censusPart(shown, page) {
       rememberMember(name.value);
       page.say('Counting…');
       const [at, within] = [shown.at, Math.trunc(Number(limit.value))];
-      const number = await sendCensus(name.value, `g${at}-l${within}-d${shown.number}`, shown.number, at, within, page.signal);
+      const number = await sendCensus(
+        name.value,
+        `g${at}-l${within}-d${shown.number}`,
+        shown.number,
+        at,
+        within,
+        page.signal,
+      );
       go(censusAddress(number));
     } catch (error) {
       if (!page.signal.aborted) said.replaceChildren(refusal(error));
@@ -94,9 +129,19 @@ function censusPart(shown, page) {
       send.disabled = false;
     }
   };
-  return make('section', {}, make('h2', {}, 'Census'),
-    make('p', {}, 'Count the objects in this generation. The archive stores the count under a number. ', make('a', { href: '/about#census' }, 'What is a census?')),
-    make('form', { submit: ask }, member, field('Longest period', limit, '60 finds all common objects. A larger one can take long on a large field.'), send), said);
+  return make('section', {},
+    make('h2', {}, 'Census'),
+    make('p', {},
+      'Count the objects in this generation. The archive stores the count under a number. ',
+      make('a', { href: '/about#census' }, 'What is a census?'),
+    ),
+    make('form', { submit: ask },
+      member,
+      field('Longest period', limit, '60 finds all common objects. A larger one can take long on a large field.'),
+      send,
+    ),
+    said,
+  );
 }
 
 /** The title, the author, and the member, who is added once the row of the deposit has arrived. */
@@ -109,13 +154,24 @@ function heading(number, record, rows) {
     const said = typed === undefined ? null : learnMember(typed, row.member);
     if (said) line.append(` ${said}`);
   }, () => {});
-  return make('div', { class: 'title' }, make('h1', { tabindex: -1 }, record.name ?? `Deposit ${number}`, record.name ? make('small', {}, ` deposit ${counted(number)}`) : null), by, line);
+  return make('div', { class: 'title' },
+    make('h1', { tabindex: -1 },
+      record.name ?? `Deposit ${number}`,
+      record.name ? make('small', {}, ` deposit ${counted(number)}`) : null,
+    ),
+    by,
+    line,
+  );
 }
 
 /** The links to the deposits before and after this one. */
 function neighbours(number, rows) {
-  const nav = make('nav', { class: 'pager', 'aria-label': 'Other deposits' }, number > 1 ? make('a', { href: depositAddress(number - 1) }, `← ${counted(number - 1)}`) : null);
-  rows.then(({ next }) => { if (next) nav.append(make('a', { href: depositAddress(next.id) }, `${counted(next.id)} →`)); }, () => {});
+  const nav = make('nav', { class: 'pager', 'aria-label': 'Other deposits' },
+    number > 1 ? make('a', { href: depositAddress(number - 1) }, `← ${counted(number - 1)}`) : null,
+  );
+  rows.then(({ next }) => {
+    if (next) nav.append(make('a', { href: depositAddress(next.id) }, `${counted(next.id)} →`));
+  }, () => {});
   return nav;
 }
 
@@ -138,7 +194,10 @@ class Stage {
     this.player = new Player(number, page.signal, this);
     this.ages = new Ages((at) => this.player.made(at), (found) => this.view.showAges(found));
     this.bar = controls(this.player, this.view, this.ages, () => this.turnFull());
-    this.stage = make('div', { class: 'stage' }, make('div', { class: 'seen' }, this.canvas, this.hint, this.end), this.bar.bar);
+    this.stage = make('div', { class: 'stage' },
+      make('div', { class: 'seen' }, this.canvas, this.hint, this.end),
+      this.bar.bar,
+    );
   }
 
   /** Shows the canvas and its controls on the whole screen, or no longer. */
@@ -157,10 +216,15 @@ class Stage {
     this.end.replaceChildren();
     this.facts.population.replaceChildren(counted(pattern.population));
     this.facts.box.replaceChildren(`${counted(pattern.width)} by ${counted(pattern.height)}`);
-    this.canvas.setAttribute('aria-label', `Generation ${at}: ${many(pattern.population, 'live cell')} in ${pattern.width} by ${pattern.height}`);
+    this.canvas.setAttribute(
+      'aria-label',
+      `Generation ${at}: ${many(pattern.population, 'live cell')} in ${pattern.width} by ${pattern.height}`,
+    );
     this.text.take(at, bytes, record);
     this.plot.add(at, pattern.population);
-    this.source.replaceChildren(bytes === null ? 'Computed by your browser, and compared with the archive later.' : 'The archive’s own answer.');
+    this.source.replaceChildren(bytes === null
+      ? 'Computed by your browser, and compared with the archive later.'
+      : 'The archive’s own answer.');
     if (bytes !== null) this.said.replaceChildren();
     this.#settle();
     return put;
@@ -172,15 +236,24 @@ class Stage {
   }
 
   compared(at, isSame) {
-    if (isSame) this.equal.replaceChildren(`At generation ${counted(at)} it matched the archive’s answer.`);
-    else this.doubt.replaceChildren(make('p', { class: 'refusal', role: 'alert' }, `The page’s generation ${counted(at)} differs from the archive’s. From here on, every generation comes from the archive.`));
+    if (isSame) {
+      this.equal.replaceChildren(`At generation ${counted(at)} it matched the archive’s answer.`);
+    } else {
+      this.doubt.replaceChildren(make('p', { class: 'refusal', role: 'alert' },
+        `The page’s generation ${counted(at)} differs from the archive’s. `
+          + 'From here on, every generation comes from the archive.',
+      ));
+    }
   }
 
   /** Shown at the last generation, even if playing continues from there. */
   async ended() {
     await this.player.show(this.player.at);
     if (this.player.at < GENERATION_LIMIT) return;
-    this.end.replaceChildren(`${counted(GENERATION_LIMIT)} is the last generation here. To play on: `, this.text.depositPart());
+    this.end.replaceChildren(
+      `${counted(GENERATION_LIMIT)} is the last generation here. To play on: `,
+      this.text.depositPart(),
+    );
   }
 
   #saidScrolled = false;
@@ -194,7 +267,10 @@ class Stage {
   }
 
   failed(error) {
-    this.said.replaceChildren(...[refusal(error), againButton(error, () => this.player.go(this.player.wanted))].filter(Boolean));
+    this.said.replaceChildren(...[
+      refusal(error),
+      againButton(error, () => this.player.go(this.player.wanted)),
+    ].filter(Boolean));
   }
 
   #settle() {
@@ -209,11 +285,20 @@ class Stage {
   }
 }
 
-/** Counts the cells of all generations for the plot, once the page is there. Without a worker the plot has only what was shown. */
+/**
+ * Counts the cells of all generations for the plot, once the page is there. Without a worker the plot has only what was
+ * shown.
+ */
 function countLater({ plot, player }, record, page) {
   const begin = () => {
     try {
-      countAll(record, GENERATION_LIMIT, (from, populations) => plot.fill(from, populations), () => player.direction !== 0, page.signal);
+      countAll(
+        record,
+        GENERATION_LIMIT,
+        (from, populations) => plot.fill(from, populations),
+        () => player.direction !== 0,
+        page.signal,
+      );
     } catch {
       // As above.
     }
@@ -234,12 +319,24 @@ export async function depositPage(page, given, at = '0') {
   const { player, view, bar, text, facts } = stage;
   keysOf(page, player, view, bar.toggle, () => next);
   page.keys.w = () => stage.turnFull();
-  const list = [['Cells', [facts.population]], ['Box', [facts.box]], ['Rule', [ruleText(record.rule)]], ...kindParts(number, record, page, bar.periodic)];
+  const list = [
+    ['Cells', [facts.population]],
+    ['Box', [facts.box]],
+    ['Rule', [ruleText(record.rule)]],
+    ...kindParts(number, record, page, bar.periodic),
+  ];
   const censuses = make('div');
-  page.root.append(...[make('div', { class: 'screen' }, heading(number, record, rows), stage.stage), ...stage.parts, commentsPart(record.comments),
-    make('dl', { class: 'facts' }, list.map(([term, told]) => make('div', {}, make('dt', {}, term), make('dd', {}, told)))),
+  page.root.append(...[
+    make('div', { class: 'screen' }, heading(number, record, rows), stage.stage),
+    ...stage.parts,
+    commentsPart(record.comments),
+    make('dl', { class: 'facts' }, list.map(([term, told]) => (
+      make('div', {}, make('dt', {}, term), make('dd', {}, told))
+    ))),
     make('div', { class: 'columns' }, ...text.parts(), saveSection(text, page), censusPart(text, page)),
-    censuses, neighbours(number, rows)].filter(Boolean));
+    censuses,
+    neighbours(number, rows),
+  ].filter(Boolean));
   await player.show(Math.min(Number(at), GENERATION_LIMIT));
   view.fit();
   player.preload();

@@ -22,37 +22,91 @@ function numberForm(id, label, addressOf) {
 }
 
 function codeForm(code = '', rule = 'B3/S23') {
-  const codeInput = make('input', { id: 'code', required: true, autocapitalize: 'none', autocomplete: 'off', spellcheck: 'false', placeholder: 'xq4_153' });
-  const ruleInput = make('input', { id: 'rule', required: true, autocapitalize: 'none', autocomplete: 'off', spellcheck: 'false' });
+  const codeInput = make('input', {
+    id: 'code',
+    required: true,
+    autocapitalize: 'none',
+    autocomplete: 'off',
+    spellcheck: 'false',
+    placeholder: 'xq4_153',
+  });
+  const ruleInput = make('input', {
+    id: 'rule',
+    required: true,
+    autocapitalize: 'none',
+    autocomplete: 'off',
+    spellcheck: 'false',
+  });
   codeInput.value = code;
   ruleInput.value = rule;
   const submit = (event) => {
     event.preventDefault();
     go(objectAddress(ruleInput.value.trim(), codeInput.value.trim()));
   };
-  return make('form', { class: 'code', submit }, field('Code of an object', codeInput), field('Rule', ruleInput), make('button', { class: 'main' }, 'Show'));
+  return make('form', { class: 'code', submit },
+    field('Code of an object', codeInput),
+    field('Rule', ruleInput),
+    make('button', { class: 'main' }, 'Show'),
+  );
 }
 
 export async function findPage(page, query) {
   page.title(query ? 'Found' : 'Find');
   const head = await indexHead();
-  page.root.append(make('h1', { tabindex: -1 }, query ? 'Found' : 'Find'), ...(head ? [formOf(query)] : [make('p', { class: 'empty' }, 'This archive has no search index, so deposits can’t be searched by name. Codes, numbers and rules work without one.')]));
+  page.root.append(
+    make('h1', { tabindex: -1 }, query ? 'Found' : 'Find'),
+    ...(head ? [formOf(query)] : [make('p', { class: 'empty' },
+      'This archive has no search index, so deposits can’t be searched by name. '
+        + 'Codes, numbers and rules work without one.',
+    )]),
+  );
   if (query) {
     await results(page, query);
     return;
   }
-  page.root.append(make('h2', {}, 'By number'), make('div', { class: 'forms' }, numberForm('deposit-number', 'Deposit', depositAddress), numberForm('census-number', 'Census', censusAddress)),
-    make('h2', {}, 'An object'), codeForm(),
-    make('p', { class: 'hint' }, 'A code names one object of a rule: a still life (xs), an oscillator (xp) or a spaceship (xq), wherever it is and however it is rotated or reflected.'),
-    make('h2', {}, 'A haul'), make('p', {}, 'The objects in random soups, as counted by ', make('code', {}, 'life-haul'), ': ', make('a', { href: '/haul' }, 'show a table'), '.'));
-  if (head) page.root.append(make('h2', {}, 'Lists'), make('p', { class: 'row' }, make('a', { href: '/c' }, 'All censuses'), make('a', { href: '/index/feed.xml' }, 'New deposits as a feed')));
+  page.root.append(
+    make('h2', {}, 'By number'),
+    make('div', { class: 'forms' },
+      numberForm('deposit-number', 'Deposit', depositAddress),
+      numberForm('census-number', 'Census', censusAddress),
+    ),
+    make('h2', {}, 'An object'),
+    codeForm(),
+    make('p', { class: 'hint' },
+      'A code names one object of a rule: a still life (xs), an oscillator (xp) or a spaceship (xq), '
+        + 'wherever it is and however it is rotated or reflected.',
+    ),
+    make('h2', {}, 'A haul'),
+    make('p', {},
+      'The objects in random soups, as counted by ',
+      make('code', {}, 'life-haul'),
+      ': ',
+      make('a', { href: '/haul' }, 'show a table'),
+      '.',
+    ),
+  );
+  if (head) {
+    page.root.append(
+      make('h2', {}, 'Lists'),
+      make('p', { class: 'row' },
+        make('a', { href: '/c' }, 'All censuses'),
+        make('a', { href: '/index/feed.xml' }, 'New deposits as a feed'),
+      ),
+    );
+  }
 }
 
 /** The parts of a group, each with a link to its page. */
 function groupPart(parts) {
-  const one = (part) => (part.code ? make('a', { href: objectAddress('B3/S23', part.code) }, partsText([part])) : partsText([part]));
-  return make('p', { class: 'group' }, 'A group of objects that do not change each other: ', ...parts.flatMap((part, at) => [at === 0 ? '' : ' + ', one(part)]),
-    '. The archive counts it as one object. ', make('a', { href: '/about#census' }, 'Why?'));
+  const one = (part) => (
+    part.code ? make('a', { href: objectAddress('B3/S23', part.code) }, partsText([part])) : partsText([part])
+  );
+  return make('p', { class: 'group' },
+    'A group of objects that do not change each other: ',
+    ...parts.flatMap((part, at) => [at === 0 ? '' : ' + ', one(part)]),
+    '. The archive counts it as one object. ',
+    make('a', { href: '/about#census' }, 'Why?'),
+  );
 }
 
 /**
@@ -64,7 +118,9 @@ async function confirmedParts(parts, signal) {
   const coded = parts.filter(({ code }) => code);
   const counts = await Promise.all(coded.map(({ code }) => total('B3/S23', code, limitOf(code), signal)));
   const texts = coded.map(({ name }, at) => `${name} ${many(counts[at], 'time')}`);
-  return texts.length === 0 ? [] : [make('p', { class: 'hint', id: 'parts' }, `On their own, the archive has counted: ${texts.join(', ')}.`)];
+  return texts.length === 0
+    ? []
+    : [make('p', { class: 'hint', id: 'parts' }, `On their own, the archive has counted: ${texts.join(', ')}.`)];
 }
 
 /** An object by its code: the archive gives the total of a code that it can open, and refuses any other text. */
@@ -86,13 +142,40 @@ export async function codePage(page, givenRule, givenCode) {
   const picture = make('div', { class: 'picture' }, thumbnail(pattern, 320, 200, `The object ${code}`));
   const parts = make('div');
   const alone = make('div');
-  page.root.append(picture, ...(group ? [groupPart(group), alone] : []),
-    make('p', { class: 'total' }, make('strong', {}, many(count, 'time')), ` in all censuses of deposits under ${plain}.`),
-    make('section', {}, make('h2', {}, 'Cite'), make('p', { class: 'row' }, make('a', { class: 'address', href: url }, url), copyButton('Copy the address', () => url, page.say))),
-    parts, make('section', {}, make('h2', {}, 'In a shell'), make('p', {}, 'The program prints the object that the code names:'),
-      make('p', { class: 'row' }, make('code', { class: 'command' }, command), copyButton('Copy', () => command, page.say))));
+  page.root.append(
+    picture,
+    ...(group ? [groupPart(group), alone] : []),
+    make('p', { class: 'total' },
+      make('strong', {}, many(count, 'time')),
+      ` in all censuses of deposits under ${plain}.`,
+    ),
+    make('section', {},
+      make('h2', {}, 'Cite'),
+      make('p', { class: 'row' },
+        make('a', { class: 'address', href: url }, url),
+        copyButton('Copy the address', () => url, page.say),
+      ),
+    ),
+    parts,
+    make('section', {},
+      make('h2', {}, 'In a shell'),
+      make('p', {}, 'The program prints the object that the code names:'),
+      make('p', { class: 'row' },
+        make('code', { class: 'command' }, command),
+        copyButton('Copy', () => command, page.say),
+      ),
+    ),
+  );
   page.say(`${code}: ${many(count, 'time')} in all censuses.`);
-  addLater(page, parts, objectParts(pattern, code, code.startsWith('xs') ? 1 : limit, plain, picture, page, { title: called, isGroup: group !== null }));
+  addLater(page, parts, objectParts(
+    pattern,
+    code,
+    code.startsWith('xs') ? 1 : limit,
+    plain,
+    picture,
+    page,
+    { title: called, isGroup: group !== null },
+  ));
   if (group) addLater(page, alone, confirmedParts(group, page.signal));
   const occurs = make('div');
   page.root.append(occurs, make('section', {}, make('h2', {}, 'Another object'), codeForm('', plain)));

@@ -22,6 +22,9 @@ export async function frequentParts(signal) {
     const parts = names.has(code) ? null : await partsOf(code);
     return objectLink({ code, name: names.get(code) ?? (parts ? partsText(parts) : null), more: counted(count) });
   }));
-  return [make('section', { id: 'frequent' }, make('h2', {}, 'Most frequent objects'), make('div', { class: 'object-links' }, links),
-    make('p', {}, make('a', { href: '/o' }, `All ${many(objects.length, 'object')}`)))];
+  return [make('section', { id: 'frequent' },
+    make('h2', {}, 'Most frequent objects'),
+    make('div', { class: 'object-links' }, links),
+    make('p', {}, make('a', { href: '/o' }, `All ${many(objects.length, 'object')}`)),
+  )];
 }

@@ -1,4 +1,5 @@
-// A haul: you drop or choose a table from `life-haul`, and the page shows its objects with the soups that have them, most frequent first; press a head to sort.
+// A haul: you drop or choose a table from `life-haul`, and the page shows its objects with the soups that have them,
+// most frequent first; press a head to sort.
 
 import { go } from '../shared/address.js';
 import { Labels, countNote, objectRow, unresolvedRow } from './census.js';
@@ -16,15 +17,29 @@ const LONGEST_TABLE = 16_777_216;
 const HEADINGS = ['root', 'rule', 'generation', 'limit'];
 const HEAD = 'code,count,first';
 /** The symmetries of soups by name: how many cells a row has, and which row is the mirror image of row 0, if any. */
-const SYMMETRIES = { C1: [16], '8x32': [32], '4x64': [64], '2x128': [128], '1x256': [256], 'D2_+1': [16, 0], 'D2_+2': [16, -1] };
+const SYMMETRIES = {
+  C1: [16],
+  '8x32': [32],
+  '4x64': [64],
+  '2x128': [128],
+  '1x256': [256],
+  'D2_+1': [16, 0],
+  'D2_+2': [16, -1],
+};
 const NAMED = /^# symmetry (.*)$/;
 const ROW = /^(x[spq][1-9][0-9]*_[0-9a-z]+),([1-9][0-9]{0,15}),([0-9]{1,16})$/;
-const ENDS = [/^unresolved,([0-9]{1,16}),[0-9]{0,16}$/, /^clusters,([0-9]{1,16}),$/, /^soups,([0-9]{1,16}),([0-9]{1,16})$/];
+const ENDS = [
+  /^unresolved,([0-9]{1,16}),[0-9]{0,16}$/,
+  /^clusters,([0-9]{1,16}),$/,
+  /^soups,([0-9]{1,16}),([0-9]{1,16})$/,
+];
 
 /** The content of a table; null if the text is not a table or its counts do not add up. */
 export function readTable(text) {
   const lines = text.split('\n');
-  const said = HEADINGS.map((name, at) => (lines[at]?.startsWith(`# ${name} `) ? lines[at].slice(name.length + 3) : null));
+  const said = HEADINGS.map((name, at) => (
+    lines[at]?.startsWith(`# ${name} `) ? lines[at].slice(name.length + 3) : null
+  ));
   // A table with symmetry C1 does not name it.
   const named = NAMED.exec(lines[HEADINGS.length]);
   const symmetry = named ? named[1] : 'C1';
@@ -37,20 +52,38 @@ export function readTable(text) {
   const [unresolved, clusters, soups, first] = [ends[0][1], ends[1][1], ends[2][1], ends[2][2]].map(Number);
   const objects = rows.map(([, code, count, seen]) => ({ code, count: Number(count), first: Number(seen) }));
   if (objects.reduce((sum, { count }) => sum + count, unresolved) !== clusters) return null;
-  return { root, rule, symmetry, generation: Number(generation), limit: Number(limit), unresolved, clusters, soups, first, objects };
+  return {
+    root,
+    rule,
+    symmetry,
+    generation: Number(generation),
+    limit: Number(limit),
+    unresolved,
+    clusters,
+    soups,
+    first,
+    objects,
+  };
 }
 
 /** The symmetry as words that follow the root; nothing for C1. */
 const symmetryWords = (symmetry) => (symmetry === 'C1' ? '' : ` (${symmetry})`);
 
-/** A soup as a pattern file: the bits of the SHA-256 digest of its root and its number, row by row, with their mirror image before them. */
+/**
+ * A soup as a pattern file: the bits of the SHA-256 digest of its root and its number, row by row, with their mirror
+ * image before them.
+ */
 export function soupFile(root, rule, number, symmetry = 'C1') {
   const digest = sumOf(new TextEncoder().encode(`${root}${number}`));
-  const cells = [...digest].map((digit) => parseInt(digit, 16).toString(2).padStart(4, '0').replaceAll('0', 'b').replaceAll('1', 'o')).join('');
+  const cells = [...digest]
+    .map((digit) => parseInt(digit, 16).toString(2).padStart(4, '0').replaceAll('0', 'b').replaceAll('1', 'o'))
+    .join('');
   const [width, image] = SYMMETRIES[symmetry];
   const rows = cells.match(new RegExp(`.{${width}}`, 'g'));
   const images = image === undefined ? [] : rows.slice(image + 1).reverse();
-  return `#N soup ${number} of ${root}${symmetryWords(symmetry)}\nx = ${width}, y = ${images.length + rows.length}, rule = ${rule}\n${[...images, ...rows].join('$\n')}!\n`;
+  return `#N soup ${number} of ${root}${symmetryWords(symmetry)}\n`
+    + `x = ${width}, y = ${images.length + rows.length}, rule = ${rule}\n`
+    + `${[...images, ...rows].join('$\n')}!\n`;
 }
 
 /** A button that opens a soup on the page for depositing files. */
@@ -101,16 +134,41 @@ function objectsOf(haul, labels) {
   const last = unresolvedRow(haul.unresolved, most);
   last.append(make('td'));
   const [code, count, first] = heads.cells;
-  return [make('table', { class: 'census haul' }, make('caption', { class: 'aside' }, 'Objects of the haul'),
-    make('thead', {}, make('tr', {}, make('td'), code, count, make('td', { class: 'bars' }), first)), body, make('tfoot', {}, last)), make('p', {}, more)];
+  return [
+    make('table', { class: 'census haul' },
+      make('caption', { class: 'aside' }, 'Objects of the haul'),
+      make('thead', {}, make('tr', {}, make('td'), code, count, make('td', { class: 'bars' }), first)),
+      body,
+      make('tfoot', {}, last),
+    ),
+    make('p', {}, more),
+  ];
 }
 
 function shownHaul(haul, labels) {
-  const facts = [['Soups', counted(haul.soups)], ['Clusters', counted(haul.clusters)], ['Objects', many(haul.objects.length, 'code')], ['Unresolved', counted(haul.unresolved)]];
-  return [make('p', { class: 'by' }, `Soups ${counted(haul.first)} to ${counted(haul.first + Math.max(haul.soups, 1) - 1)} of `, make('code', {}, haul.root),
-    `${symmetryWords(haul.symmetry)}, at generation ${counted(haul.generation)} under ${haul.rule}, with periods up to ${counted(haul.limit)}.`),
-  make('dl', { class: 'facts' }, facts.map(([term, told]) => make('div', {}, make('dt', {}, term), make('dd', {}, told)))), countNote(), ...objectsOf(haul, labels),
-  make('p', { class: 'hint' }, 'This page shows the file’s table, which the archive has not checked. If you deposit a soup, the archive counts it itself.')];
+  const facts = [
+    ['Soups', counted(haul.soups)],
+    ['Clusters', counted(haul.clusters)],
+    ['Objects', many(haul.objects.length, 'code')],
+    ['Unresolved', counted(haul.unresolved)],
+  ];
+  return [
+    make('p', { class: 'by' },
+      `Soups ${counted(haul.first)} to ${counted(haul.first + Math.max(haul.soups, 1) - 1)} of `,
+      make('code', {}, haul.root),
+      `${symmetryWords(haul.symmetry)}, at generation ${counted(haul.generation)} under ${haul.rule}, `
+        + `with periods up to ${counted(haul.limit)}.`,
+    ),
+    make('dl', { class: 'facts' }, facts.map(([term, told]) => (
+      make('div', {}, make('dt', {}, term), make('dd', {}, told))
+    ))),
+    countNote(),
+    ...objectsOf(haul, labels),
+    make('p', { class: 'hint' },
+      'This page shows the file’s table, which the archive has not checked. '
+        + 'If you deposit a soup, the archive counts it itself.',
+    ),
+  ];
 }
 
 /** The name under which the window keeps the table, if it is not too large for that. */
@@ -126,7 +184,9 @@ export async function haulPage(page) {
     const labels = haul ? new Labels(haul.rule, names) : null;
     place.replaceChildren(...(haul ? shownHaul(haul, labels) : [refused]));
     labels?.findGroups(haul.objects, page.signal).catch(() => {});
-    page.say(haul ? `${many(haul.soups, 'soup')}, ${many(haul.objects.length, 'code')}.` : 'That is not a table of a haul.');
+    page.say(haul
+      ? `${many(haul.soups, 'soup')}, ${many(haul.objects.length, 'code')}.`
+      : 'That is not a table of a haul.');
     if (!haul) return;
     // If this one is too large to be kept, an earlier one must not come back in its place.
     keepDraft(DRAFT, null);
@@ -136,10 +196,23 @@ export async function haulPage(page) {
     const file = files[0];
     if (file) await show(file.size > LONGEST_TABLE ? null : await file.text(), file.name ?? 'The text');
   };
-  const input = make('input', { id: 'haul-file', type: 'file', accept: '.csv,text/csv', change: () => take([...input.files]) });
+  const input = make('input', {
+    id: 'haul-file',
+    type: 'file',
+    accept: '.csv,text/csv',
+    change: () => take([...input.files]),
+  });
   page.taken = take;
-  page.root.append(make('h1', { tabindex: -1 }, 'A haul'),
-    field('A table of life-haul', input, 'Choose it, or drop it anywhere on the page. It never leaves this computer, and this window keeps it until you close it.'), place);
+  page.root.append(
+    make('h1', { tabindex: -1 }, 'A haul'),
+    field(
+      'A table of life-haul',
+      input,
+      'Choose it, or drop it anywhere on the page. '
+        + 'It never leaves this computer, and this window keeps it until you close it.',
+    ),
+    place,
+  );
   const [brought, kept] = [broughtFiles(), draft(DRAFT)];
   if (brought) await take(brought);
   else if (kept) await show(kept, 'The table');

@@ -4,7 +4,12 @@ import { make } from '../shared/dom.js';
 import { deposits } from './list.js';
 
 /** Examples for the search box, one of each kind, and where they lead. */
-const EXAMPLES = [['loaf', '/find?text=loaf'], ['xq4_153', '/o/B3-S23/xq4_153'], ['B36/S23', '/find?rule=B36%2FS23'], ['#1', '/d/1']];
+const EXAMPLES = [
+  ['loaf', '/find?text=loaf'],
+  ['xq4_153', '/o/B3-S23/xq4_153'],
+  ['B36/S23', '/find?rule=B36%2FS23'],
+  ['#1', '/d/1'],
+];
 
 /** Waits until the page is idle, so that the deposits are drawn first. Browsers that can't tell get a short pause. */
 const idle = () => new Promise((resolve) => {
@@ -29,10 +34,16 @@ async function addFrequent(page, place) {
 export async function homePage(page) {
   const examples = EXAMPLES.flatMap(([text, href]) => [' ', make('a', { class: 'example', href }, text)]);
   const frequent = make('div', { class: 'frequent coming' });
-  page.root.append(make('h1', { tabindex: -1 }, 'A club’s archive of Game of Life patterns'),
-    make('p', { class: 'lead' }, 'Play a pattern, count its objects, and cite any generation by an address that never changes. Whenever you stop, the generation shown comes from a program that is proved correct. ',
-      make('a', { href: '/about' }, 'About this archive')),
-    make('p', { class: 'examples' }, 'Try the search box:', examples), frequent);
+  page.root.append(
+    make('h1', { tabindex: -1 }, 'A club’s archive of Game of Life patterns'),
+    make('p', { class: 'lead' },
+      'Play a pattern, count its objects, and cite any generation by an address that never changes. '
+        + 'Whenever you stop, the generation shown comes from a program that is proved correct. ',
+      make('a', { href: '/about' }, 'About this archive'),
+    ),
+    make('p', { class: 'examples' }, 'Try the search box:', examples),
+    frequent,
+  );
   await deposits(page);
   addFrequent(page, frequent);
 }

@@ -32,8 +32,15 @@ function drawLater(page) {
 function card(page, row, watch) {
   const picture = make('div', { class: 'picture' });
   const name = make('strong', {}, row.name || `Deposit ${row.id}`);
-  const facts = [`No. ${row.id}`, row.member, many(row.population, 'cell'), row.rule === 'B3/S23' ? null : row.rule].filter(Boolean).join(' · ');
-  const item = make('li', {}, make('a', { href: depositAddress(row.id) }, picture, name, make('span', { class: 'facts' }, facts)));
+  const facts = [
+    `No. ${row.id}`,
+    row.member,
+    many(row.population, 'cell'),
+    row.rule === 'B3/S23' ? null : row.rule,
+  ].filter(Boolean).join(' · ');
+  const item = make('li', {},
+    make('a', { href: depositAddress(row.id) }, picture, name, make('span', { class: 'facts' }, facts)),
+  );
   item.draw = async () => {
     try {
       const { record } = await deposit(row.id, page.signal);
@@ -56,7 +63,13 @@ export function cards(page, rows) {
 function forms(page, after, member) {
   const number = make('input', { id: 'after', type: 'number', min: 0, inputmode: 'numeric', required: true });
   number.value = after ?? '';
-  const name = make('input', { id: 'of', maxlength: LONGEST_MEMBER, autocapitalize: 'none', spellcheck: 'false', required: true });
+  const name = make('input', {
+    id: 'of',
+    maxlength: LONGEST_MEMBER,
+    autocapitalize: 'none',
+    spellcheck: 'false',
+    required: true,
+  });
   name.value = member ?? '';
   const byNumber = (event) => {
     event.preventDefault();
@@ -77,7 +90,9 @@ function pager(page, older, newer) {
   page.keys['['] = () => { if (older) go(older); };
   page.keys[']'] = () => { if (newer) go(newer); };
   return make('nav', { class: 'pager', 'aria-label': 'More deposits' },
-    older ? make('a', { href: older, rel: 'next' }, '← Older') : null, newer ? make('a', { href: newer, rel: 'prev' }, 'Newer →') : null);
+    older ? make('a', { href: older, rel: 'next' }, '← Older') : null,
+    newer ? make('a', { href: newer, rel: 'prev' }, 'Newer →') : null,
+  );
 }
 
 /** `j` and `k` go from card to card. */
@@ -111,7 +126,11 @@ export function shownRows(page, rows) {
   return [list, make('p', {}, more)];
 }
 
-const nothing = () => make('p', { class: 'empty' }, 'There is nothing here yet. ', make('a', { href: '/new' }, 'Deposit a file'), ' and be the first.');
+const nothing = () => make('p', { class: 'empty' },
+  'There is nothing here yet. ',
+  make('a', { href: '/new' }, 'Deposit a file'),
+  ' and be the first.',
+);
 
 /** The deposits after a number, the greatest first; without a number, the newest. */
 export async function deposits(page, given) {
@@ -125,12 +144,23 @@ export async function deposits(page, given) {
   if (!isFirst) page.root.append(forms(page, given, null));
   walk(page);
   if (rows.length === 0) {
-    page.root.append(last === 0 ? nothing() : make('p', { class: 'empty' }, `There is no deposit after ${counted(after)}; the newest is `, make('a', { href: depositAddress(last) }, counted(last)), '.'));
+    page.root.append(last === 0 ? nothing() : make('p', { class: 'empty' },
+      `There is no deposit after ${counted(after)}; the newest is `,
+      make('a', { href: depositAddress(last) }, counted(last)),
+      '.',
+    ));
     return;
   }
   const [first, end] = [rows.at(-1).id, rows[0].id];
-  page.root.append(make('p', { class: 'count' }, `${counted(first)} to ${counted(end)} of ${counted(Math.max(last, end))}`), cards(page, rows),
-    pager(page, after > 0 ? afterAddress(Math.max(0, after - SHOWN)) : null, end < last ? afterAddress(after + SHOWN) : null));
+  page.root.append(
+    make('p', { class: 'count' }, `${counted(first)} to ${counted(end)} of ${counted(Math.max(last, end))}`),
+    cards(page, rows),
+    pager(
+      page,
+      after > 0 ? afterAddress(Math.max(0, after - SHOWN)) : null,
+      end < last ? afterAddress(after + SHOWN) : null,
+    ),
+  );
   page.say(`${many(rows.length, 'deposit')}, ${first} to ${end}.`);
 }
 
@@ -147,7 +177,9 @@ async function newer(after, signal) {
 /** All deposits of a member, the newest first: from the index, and newer ones from the archive's lists. */
 async function indexedOf(head, member, said, signal) {
   const since = await newer(head.counts.deposits, signal);
-  const all = await allDeposits((number, of) => { if (number < of) said.replaceChildren(`Reading the index: ${counted(number)} of ${counted(of)} blocks…`); }, signal);
+  const all = await allDeposits((number, of) => {
+    if (number < of) said.replaceChildren(`Reading the index: ${counted(number)} of ${counted(of)} blocks…`);
+  }, signal);
   return [...since.reverse(), ...all].filter((row) => row.member === member);
 }
 
@@ -155,9 +187,15 @@ async function indexedOf(head, member, said, signal) {
 async function listedOf(member, said, signal) {
   const found = [];
   for (let before = await lastDeposit(signal) + 1; before > 1; before -= TOGETHER * LONGEST_LIST) {
-    said.replaceChildren(`Searching the lists: ${many(found.length, 'deposit')} so far, ${counted(before - 1)} left to search…`);
-    const begins = Array.from({ length: TOGETHER }, (_, at) => before - 1 - (at + 1) * LONGEST_LIST).filter((begin) => begin > -LONGEST_LIST);
-    const lists = await Promise.all(begins.map((begin) => depositsAfter(Math.max(0, begin), signal).then((rows) => rows.filter((row) => row.id <= begin + LONGEST_LIST).reverse())));
+    said.replaceChildren(
+      `Searching the lists: ${many(found.length, 'deposit')} so far, ${counted(before - 1)} left to search…`,
+    );
+    const begins = Array.from({ length: TOGETHER }, (_, at) => before - 1 - (at + 1) * LONGEST_LIST)
+      .filter((begin) => begin > -LONGEST_LIST);
+    const lists = await Promise.all(begins.map((begin) => (
+      depositsAfter(Math.max(0, begin), signal)
+        .then((rows) => rows.filter((row) => row.id <= begin + LONGEST_LIST).reverse())
+    )));
     found.push(...lists.flat().filter((row) => row.member === member));
   }
   return found;

@@ -1,5 +1,5 @@
-// Many files at once: each gets a small drawing or its fault; one press deposits all good ones, one after the other; and a table shows the
-// results, even after a reload.
+// Many files at once: each gets a small drawing or its fault; one press deposits all good ones, one after the other;
+// and a table shows the results, even after a reload.
 
 import { depositAddress, memberAddress } from '../shared/address.js';
 import { depositRows, sendDeposit } from '../requests/archive.js';
@@ -22,7 +22,8 @@ const DRAFT = 'many';
 const TOO_LONG = 1;
 
 /**
- * What is added to files: the name of the file, if a pattern has no name; an author, if it has none; and the folder of the file as a comment.
+ * What is added to files: the name of the file, if a pattern has no name; an author, if it has none; and the folder of
+ * the file as a comment.
  * @typedef {{ isNamed: boolean, author: string, hasFolder: boolean }} Additions
  */
 
@@ -76,7 +77,11 @@ class Row {
       return;
     }
     const { pattern, name, rule } = record;
-    this.facts.replaceChildren([`${name ? `${name}: ` : ''}${many(pattern.population, 'cell')}, ${pattern.width} by ${pattern.height}, ${ruleText(rule)}`, ...notes].join('. '));
+    this.facts.replaceChildren([
+      `${name ? `${name}: ` : ''}${many(pattern.population, 'cell')}, `
+        + `${pattern.width} by ${pattern.height}, ${ruleText(rule)}`,
+      ...notes,
+    ].join('. '));
     this.picture.replaceChildren(thumbnail(pattern, SIDE, SIDE));
   }
 
@@ -93,7 +98,13 @@ class Row {
    * @param {Additions} more
    */
   content({ isNamed, author, hasFolder }) {
-    return withTexts(this.read.bytes, this.record, isNamed ? baseName(this.name) : '', author, hasFolder ? folderOf(this.name) : '');
+    return withTexts(
+      this.read.bytes,
+      this.record,
+      isNamed ? baseName(this.name) : '',
+      author,
+      hasFolder ? folderOf(this.name) : '',
+    );
   }
 
   get isOpen() {
@@ -110,8 +121,11 @@ class Row {
 
   say(text = '') {
     this.line.className = this.refused ? 'bad' : '';
-    if (this.kept !== null) this.outcome.replaceChildren(make('a', { href: depositAddress(this.kept) }, `deposit ${counted(this.kept)}`));
-    else this.outcome.replaceChildren(this.refused ?? text, ...(this.read?.fault?.isTooMany ? [' ', this.#cut()] : []));
+    if (this.kept !== null) {
+      this.outcome.replaceChildren(make('a', { href: depositAddress(this.kept) }, `deposit ${counted(this.kept)}`));
+    } else {
+      this.outcome.replaceChildren(this.refused ?? text, ...(this.read?.fault?.isTooMany ? [' ', this.#cut()] : []));
+    }
   }
 }
 
@@ -120,7 +134,10 @@ class Row {
  * @param {Row[]} rows
  * @param {string} member
  */
-const keepTable = (rows, member) => keepDraft(DRAFT, JSON.stringify({ member, rows: rows.map(({ name, kept, refused }) => ({ name, kept, refused })) }));
+const keepTable = (rows, member) => keepDraft(DRAFT, JSON.stringify({
+  member,
+  rows: rows.map(({ name, kept, refused }) => ({ name, kept, refused })),
+}));
 
 export const forgetTable = () => keepDraft(DRAFT, null);
 
@@ -128,13 +145,20 @@ export const forgetTable = () => keepDraft(DRAFT, null);
 export function keptTable() {
   try {
     const { member, rows } = JSON.parse(draft(DRAFT));
-    return { member, rows: rows.map((line) => Object.assign(new Row({ name: line.name, size: 0 }), { kept: line.kept, refused: line.refused })) };
+    return {
+      member,
+      rows: rows.map((line) => (
+        Object.assign(new Row({ name: line.name, size: 0 }), { kept: line.kept, refused: line.refused })
+      )),
+    };
   } catch {
     return { member: '', rows: [] };
   }
 }
 
-/** Sends one file, and again as long as the archive only asks to wait. Returns whether it was stored or finally refused. */
+/**
+ * Sends one file, and again as long as the archive only asks to wait. Returns whether it was stored or finally refused.
+ */
 async function sendRow(row, member, more, page) {
   const bytes = row.content(more);
   for (;;) {
@@ -144,7 +168,8 @@ async function sendRow(row, member, more, page) {
       row.say();
       return;
     } catch (error) {
-      if (!(error instanceof Refused) || ['no-reply', 'unavailable', 'password', 'bad-member', 'full', 'unknown'].includes(error.name)) {
+      if (!(error instanceof Refused)
+        || ['no-reply', 'unavailable', 'password', 'bad-member', 'full', 'unknown'].includes(error.name)) {
         row.say();
         throw error;
       }
@@ -176,21 +201,57 @@ export class Table {
     this.author = make('input', { id: 'many-author', maxlength: LONGEST_TEXT, autocomplete: 'off' });
     this.name = make('input', { id: 'many-name', type: 'checkbox' });
     this.folder = make('input', { id: 'many-folder', type: 'checkbox' });
-    this.folders = make('p', { class: 'check', hidden: true }, this.folder, make('label', { for: 'many-folder' }, ' Add the folder of each file as a comment, which searches find'));
+    this.folders = make('p', { class: 'check', hidden: true },
+      this.folder,
+      make('label', { for: 'many-folder' }, ' Add the folder of each file as a comment, which searches find'),
+    );
     this.send = make('button', { class: 'main', id: 'send-many' });
-    this.old = oldChoice('many-old', true, 'Read files that are not UTF-8 as windows-1252', (asOld) => this.#choose({ asOld }));
+    this.old = oldChoice(
+      'many-old',
+      true,
+      'Read files that are not UTF-8 as windows-1252',
+      (asOld) => this.#choose({ asOld }),
+    );
     this.bar = make('progress', { hidden: true, 'aria-label': 'Files done' });
     this.count = make('p', { class: 'count', role: 'status' });
     this.said = make('div');
     this.seen = make('p');
-    this.instead = make('button', { type: 'button', class: 'quiet', id: 'text-instead', click: ended }, 'Paste a text instead');
+    this.instead = make('button', {
+      type: 'button',
+      class: 'quiet',
+      id: 'text-instead',
+      click: ended,
+    }, 'Paste a text instead');
     this.body = make('tbody');
-    this.form = make('form', { submit: (event) => this.#submit(event) }, this.member.part,
-      make('p', { class: 'check' }, this.name, make('label', { for: 'many-name' }, ' Use file names for patterns that have no name')),
-      this.folders, this.old, field('Author', this.author, 'Added to files without an author. Leave it empty to change nothing.'), make('p', { class: 'row' }, this.send, this.bar));
-    this.root = make('section', { class: 'many' }, this.count, this.seen, this.form, this.said, make('p', {}, this.instead),
-      make('table', { class: 'census files' }, make('caption', { class: 'aside' }, 'The files and their results'),
-        make('thead', {}, make('tr', {}, make('td', {}), make('th', { scope: 'col' }, 'File'), make('th', { scope: 'col' }, 'Result'))), this.body));
+    this.form = make('form', { submit: (event) => this.#submit(event) },
+      this.member.part,
+      make('p', { class: 'check' },
+        this.name,
+        make('label', { for: 'many-name' }, ' Use file names for patterns that have no name'),
+      ),
+      this.folders,
+      this.old,
+      field('Author', this.author, 'Added to files without an author. Leave it empty to change nothing.'),
+      make('p', { class: 'row' }, this.send, this.bar),
+    );
+    this.root = make('section', { class: 'many' },
+      this.count,
+      this.seen,
+      this.form,
+      this.said,
+      make('p', {}, this.instead),
+      make('table', { class: 'census files' },
+        make('caption', { class: 'aside' }, 'The files and their results'),
+        make('thead', {},
+          make('tr', {},
+            make('td', {}),
+            make('th', { scope: 'col' }, 'File'),
+            make('th', { scope: 'col' }, 'Result'),
+          ),
+        ),
+        this.body,
+      ),
+    );
   }
 
   get open() {
@@ -198,8 +259,15 @@ export class Table {
   }
 
   #say() {
-    const [kept, refused] = [this.rows.filter((row) => row.kept !== null).length, this.rows.filter((row) => row.refused).length];
-    const parts = [kept ? `${counted(kept)} deposited` : null, refused ? `${counted(refused)} refused` : null, this.open.length ? `${counted(this.open.length)} to deposit` : null];
+    const [kept, refused] = [
+      this.rows.filter((row) => row.kept !== null).length,
+      this.rows.filter((row) => row.refused).length,
+    ];
+    const parts = [
+      kept ? `${counted(kept)} deposited` : null,
+      refused ? `${counted(refused)} refused` : null,
+      this.open.length ? `${counted(this.open.length)} to deposit` : null,
+    ];
     this.count.replaceChildren(`${many(this.rows.length, 'file')}: ${parts.filter(Boolean).join(', ')}.`);
     this.send.replaceChildren(`Deposit ${many(this.open.length, 'file')}`);
     this.form.hidden = this.send.disabled = this.open.length === 0;
@@ -209,7 +277,9 @@ export class Table {
   /** Once all files are done: a link to the deposits of their member. */
   #sayWhose(kept) {
     const isDone = kept > 0 && this.open.length === 0 && this.owner;
-    this.seen.replaceChildren(isDone ? make('a', { id: 'see-them', href: memberAddress(this.owner) }, `${counted(kept)} deposited: see them`) : '');
+    this.seen.replaceChildren(isDone
+      ? make('a', { id: 'see-them', href: memberAddress(this.owner) }, `${counted(kept)} deposited: see them`)
+      : '');
   }
 
   /** Shows a table that the window has stored. */
@@ -218,7 +288,9 @@ export class Table {
     this.rows = rows;
     this.instead.hidden = true;
     for (const row of rows) {
-      if (row.kept === null && row.refused === null) row.refused = 'Not sent. Drop the files again: nothing is stored twice.';
+      if (row.kept === null && row.refused === null) {
+        row.refused = 'Not sent. Drop the files again: nothing is stored twice.';
+      }
       row.say();
     }
     this.body.replaceChildren(...rows.map((row) => row.line));
@@ -265,7 +337,9 @@ export class Table {
       await this.#sendAll();
       await this.#learnOwner();
     } catch (error) {
-      if (!this.page.signal.aborted) this.said.replaceChildren(refusal(error, 'Press the button again to continue: nothing is stored twice.'));
+      if (!this.page.signal.aborted) {
+        this.said.replaceChildren(refusal(error, 'Press the button again to continue: nothing is stored twice.'));
+      }
     } finally {
       this.bar.hidden = true;
       this.#say();

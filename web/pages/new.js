@@ -34,11 +34,20 @@ class Content {
     this.text = text;
     this.token = token;
     this.preview = preview;
-    this.texts = { name: this.#textInput('text-name', 'no name yet'), author: this.#textInput('text-author', 'no author yet') };
+    this.texts = {
+      name: this.#textInput('text-name', 'no name yet'),
+      author: this.#textInput('text-author', 'no author yet'),
+    };
   }
 
   #textInput(id, placeholder) {
-    return make('input', { id, maxlength: LONGEST_TEXT, autocomplete: 'off', placeholder, input: () => this.#compose() });
+    return make('input', {
+      id,
+      maxlength: LONGEST_TEXT,
+      autocomplete: 'off',
+      placeholder,
+      input: () => this.#compose(),
+    });
   }
 
   /** Sets the bytes. */
@@ -54,7 +63,10 @@ class Content {
     this.own = this.read?.bytes ?? this.given;
     this.record = this.read?.record ?? null;
     this.fault = this.read?.fault ?? null;
-    if (shown) this.text.value = new TextDecoder(this.read?.isOld && this.choices.asOld ? 'windows-1252' : 'utf-8').decode(this.given);
+    if (shown) {
+      this.text.value = new TextDecoder(this.read?.isOld && this.choices.asOld ? 'windows-1252' : 'utf-8')
+        .decode(this.given);
+    }
     this.preview.replaceChildren(...this.#seen());
     this.#offer(shown);
     this.#compose();
@@ -83,7 +95,10 @@ class Content {
     this.#compose();
   } });
 
-  /** What is sent: the bytes with a missing name and author added. The token is their digest, as in examples/scripts/put-folder. */
+  /**
+   * What is sent: the bytes with a missing name and author added. The token is their digest, as in
+   * examples/scripts/put-folder.
+   */
   #compose() {
     const { name, author } = this.texts;
     this.bytes = this.record ? withTexts(this.own, this.record, name.value, author.value) : this.own;
@@ -105,11 +120,30 @@ class Content {
   #seen() {
     if (!this.read) return [make('p', { class: 'empty' }, 'Your pattern will be drawn here.')];
     const { record, notes, isOld, fault } = this.read;
-    const old = isOld ? [oldChoice('as-old', this.choices.asOld, 'This file is not UTF-8: read it as windows-1252', (asOld) => this.#choose({ asOld }))] : [];
-    if (fault) return [this.refused(refusedBy(fault)), ...(fault.isTooMany ? [cutButton(() => this.#choose({ isCut: true }))] : []), ...old];
+    const old = isOld
+      ? [oldChoice(
+        'as-old',
+        this.choices.asOld,
+        'This file is not UTF-8: read it as windows-1252',
+        (asOld) => this.#choose({ asOld }),
+      )]
+      : [];
+    if (fault) {
+      return [
+        this.refused(refusedBy(fault)),
+        ...(fault.isTooMany ? [cutButton(() => this.#choose({ isCut: true }))] : []),
+        ...old,
+      ];
+    }
     const { name, rule, pattern } = record;
-    const facts = `${name ? `${name}: ` : ''}${many(pattern.population, 'cell')}, ${pattern.width} by ${pattern.height}, ${ruleText(rule)}`;
-    return [thumbnail(pattern, WIDTH, HEIGHT, facts), make('p', {}, facts), ...notes.map((note) => make('p', { class: 'note' }, note)), ...old];
+    const facts = `${name ? `${name}: ` : ''}${many(pattern.population, 'cell')}, `
+      + `${pattern.width} by ${pattern.height}, ${ruleText(rule)}`;
+    return [
+      thumbnail(pattern, WIDTH, HEIGHT, facts),
+      make('p', {}, facts),
+      ...notes.map((note) => make('p', { class: 'note' }, note)),
+      ...old,
+    ];
   }
 
   refused(error) {
@@ -129,7 +163,13 @@ async function takeFile(content, file, page) {
 
 /** The area for dropping, choosing or pasting files. */
 function dropPart(content, take, page) {
-  const chooser = make('input', { id: 'file', type: 'file', multiple: true, accept: '.rle,.cells,.lif,.life,.txt,text/plain', change: () => take([...chooser.files]) });
+  const chooser = make('input', {
+    id: 'file',
+    type: 'file',
+    multiple: true,
+    accept: '.rle,.cells,.lif,.life,.txt,text/plain',
+    change: () => take([...chooser.files]),
+  });
   const folder = make('input', { id: 'folder', type: 'file', webkitdirectory: true, change: () => {
     const files = patternsOf([...folder.files]);
     if (files.length > 0) take(files);
@@ -139,9 +179,19 @@ function dropPart(content, take, page) {
     content.take(new TextEncoder().encode(content.text.value), false);
     keepDraft('pattern', content.text.value);
   });
-  return make('div', { class: 'drop' }, make('p', {}, make('label', { for: 'file' }, 'Drop files or a folder on this page, or choose files: '), chooser),
+  return make('div', { class: 'drop' },
+    make('p', {},
+      make('label', { for: 'file' }, 'Drop files or a folder on this page, or choose files: '),
+      chooser,
+    ),
     make('p', {}, make('label', { for: 'folder' }, 'A folder: '), folder),
-    field('Or paste a file’s text', content.text, `RLE, as in Golly and on the LifeWiki: at most 1 MiB, and ${LONGEST_SIDE} by ${LONGEST_SIDE} cells. Plaintext and Life 1.05 and 1.06 are sent as RLE.`));
+    field(
+      'Or paste a file’s text',
+      content.text,
+      `RLE, as in Golly and on the LifeWiki: at most 1 MiB, and ${LONGEST_SIDE} by ${LONGEST_SIDE} cells. `
+        + 'Plaintext and Life 1.05 and 1.06 are sent as RLE.',
+    ),
+  );
 }
 
 /** Sends the content, and opens the new deposit. */
@@ -151,7 +201,9 @@ async function send(content, { input: name, typed }, said, page) {
   if (!TOKEN.test(content.token.value)) throw new Refused('bad-token');
   rememberMember(name.value);
   const waiting = (error) => {
-    said.replaceChildren(make('p', {}, error.name === 'too-many-requests' ? 'The archive is busy; trying again…' : 'No reply yet; sending it again with the same token…'));
+    said.replaceChildren(make('p', {}, error.name === 'too-many-requests'
+      ? 'The archive is busy; trying again…'
+      : 'No reply yet; sending it again with the same token…'));
     page.say(said.textContent);
   };
   page.say('Sending…');
@@ -184,9 +236,18 @@ function singlePart(content, token, page) {
       button.disabled = false;
     }
   };
-  const part = make('div', {}, field('Name', content.texts.name, 'A name and an author are added if the file has none.'), make('p', {}, content.offer),
-    field('Author', content.texts.author), member.part,
-    make('details', {}, make('summary', {}, 'Token'), field('Token', token, 'Made of the file. Sent again under the same token, a file is kept once.')), button, said);
+  const part = make('div', {},
+    field('Name', content.texts.name, 'A name and an author are added if the file has none.'),
+    make('p', {}, content.offer),
+    field('Author', content.texts.author),
+    member.part,
+    make('details', {},
+      make('summary', {}, 'Token'),
+      field('Token', token, 'Made of the file. Sent again under the same token, a file is kept once.'),
+    ),
+    button,
+    said,
+  );
   return { part, submit };
 }
 
@@ -219,11 +280,27 @@ function takerOf(form, single, content, page) {
 
 export function depositForm(page) {
   page.title('Deposit a file');
-  const text = make('textarea', { id: 'pattern', rows: 10, spellcheck: 'false', autocapitalize: 'none', autocomplete: 'off', placeholder: 'x = 3, y = 3, rule = B3/S23\nbo$2bo$3o!' });
-  const token = make('input', { id: 'token', maxlength: LONGEST_TOKEN, autocapitalize: 'none', autocomplete: 'off', spellcheck: 'false' });
+  const text = make('textarea', {
+    id: 'pattern',
+    rows: 10,
+    spellcheck: 'false',
+    autocapitalize: 'none',
+    autocomplete: 'off',
+    placeholder: 'x = 3, y = 3, rule = B3/S23\nbo$2bo$3o!',
+  });
+  const token = make('input', {
+    id: 'token',
+    maxlength: LONGEST_TOKEN,
+    autocapitalize: 'none',
+    autocomplete: 'off',
+    spellcheck: 'false',
+  });
   const content = new Content(text, token, make('div', { class: 'preview', 'aria-live': 'polite' }));
   const { part, submit } = singlePart(content, token, page);
-  const form = make('form', { class: 'deposit', submit }, make('div', {}, dropPart(content, (files) => page.taken(files), page), part), content.preview);
+  const form = make('form', { class: 'deposit', submit },
+    make('div', {}, dropPart(content, (files) => page.taken(files), page), part),
+    content.preview,
+  );
   page.root.append(make('h1', { tabindex: -1 }, 'Deposit a file'), form);
   page.taken = takerOf(form, part, content, page);
   const typed = draft('pattern');

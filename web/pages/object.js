@@ -31,7 +31,9 @@ function boxed(made) {
   const width = Math.max(...made.map(({ corner, pattern }) => corner.column - left + pattern.width));
   const height = Math.max(...made.map(({ corner, pattern }) => corner.row - top + pattern.height));
   return made.map(({ corner, pattern }) => {
-    const rows = Array.from({ length: height }, (_, row) => [...(pattern.rows[row - corner.row + top] ?? [])].map((column) => column + corner.column - left));
+    const rows = Array.from({ length: height }, (_, row) => (
+      [...(pattern.rows[row - corner.row + top] ?? [])].map((column) => column + corner.column - left)
+    ));
     return { width, height, population: pattern.population, rows };
   });
 }
@@ -60,27 +62,65 @@ function playButton(picture, phases, code, signal) {
   return button;
 }
 
-/** Where else to look up an object by the same code. Groups of objects are not listed there under the code that they have here. */
+/**
+ * Where else to look up an object by the same code. Groups of objects are not listed there under the code that they
+ * have here.
+ */
 function lookUp(code, rule, isGroup) {
   const place = rule.toLowerCase().replace('/', '');
-  return isGroup ? null : make('p', {}, 'Look it up: ', make('a', { href: `https://catagolue.hatsya.com/object/${code}/${place}`, rel: 'noreferrer' }, 'Catagolue'), ', which has well-known objects under the same code.');
+  return isGroup ? null : make('p', {},
+    'Look it up: ',
+    make('a', { href: `https://catagolue.hatsya.com/object/${code}/${place}`, rel: 'noreferrer' }, 'Catagolue'),
+    ', which has well-known objects under the same code.',
+  );
 }
 
 /** An object as a pattern file, with its name and its address. */
 function textOf(pattern, code, rule, title) {
   const own = new TextEncoder().encode(fileOf(pattern, rule));
-  return new TextDecoder().decode(withOrigin(own, {}, { title, origin: `${code} of ${rule}, ${location.origin}${objectAddress(rule, code)}` }));
+  return new TextDecoder().decode(withOrigin(
+    own,
+    {},
+    { title, origin: `${code} of ${rule}, ${location.origin}${objectAddress(rule, code)}` },
+  ));
 }
 
-/** The parts of an object's page: the play button, its text to copy or download, its phases, and where else to look it up. */
-export async function objectParts(pattern, code, period, ruleWord, picture, page, { title = '', isGroup = false } = {}) {
+/**
+ * The parts of an object's page: the play button, its text to copy or download, its phases, and where else to look it
+ * up.
+ */
+export async function objectParts(
+  pattern,
+  code,
+  period,
+  ruleWord,
+  picture,
+  page,
+  { title = '', isGroup = false } = {},
+) {
   const rule = readRule(ruleWord);
   const text = () => textOf(pattern, code, ruleText(rule), title);
-  const load = make('button', { type: 'button', id: 'load-object', click: () => save(text(), `${code}.rle`, 'text/plain') }, 'Download');
+  const load = make('button', {
+    type: 'button',
+    id: 'load-object',
+    click: () => save(text(), `${code}.rle`, 'text/plain'),
+  }, 'Download');
   const copy = copyButton('Copy as RLE', text, page.say);
   const phases = period > 1 ? await phasesOf(pattern, rule, period, page.signal) : [];
   const play = phases.length > 1 ? playButton(picture, phases, code, page.signal) : null;
-  const said = period > MOST_PHASES ? `The first ${MOST_PHASES} of ${many(period, 'phase')}, computed by your browser` : `${many(period, 'phase')}, computed by your browser`;
-  const drawn = phases.length > 1 ? [make('details', { id: 'phases' }, make('summary', {}, said), make('div', { class: 'phases' }, phases.map((phase, at) => thumbnail(phase, SIDE, SIDE, `Phase ${at}`))))] : [];
-  return [make('section', {}, make('h2', {}, 'As a pattern file'), make('p', { class: 'row' }, ...[play, copy, load].filter(Boolean)), ...drawn, ...[lookUp(code, ruleText(rule), isGroup)].filter(Boolean))];
+  const said = period > MOST_PHASES
+    ? `The first ${MOST_PHASES} of ${many(period, 'phase')}, computed by your browser`
+    : `${many(period, 'phase')}, computed by your browser`;
+  const drawn = phases.length > 1
+    ? [make('details', { id: 'phases' },
+      make('summary', {}, said),
+      make('div', { class: 'phases' }, phases.map((phase, at) => thumbnail(phase, SIDE, SIDE, `Phase ${at}`))),
+    )]
+    : [];
+  return [make('section', {},
+    make('h2', {}, 'As a pattern file'),
+    make('p', { class: 'row' }, ...[play, copy, load].filter(Boolean)),
+    ...drawn,
+    ...[lookUp(code, ruleText(rule), isGroup)].filter(Boolean),
+  )];
 }

@@ -1,4 +1,5 @@
-// The group of all pages but the lists and a deposit's, with what drops, pastes, the first page and the search box need of them.
+// The group of all pages but the lists and a deposit's, with what drops, pastes, the first page and the search box need
+// of them.
 
 export { aboutPage } from './about.js';
 export { addressOf } from './box.js';

@@ -1,4 +1,5 @@
-// A plot of the population over time: of the generations that were shown and, in the background, of all from the first on. A click opens one.
+// A plot of the population over time: of the generations that were shown and, in the background, of all from the first
+// on. A click opens one.
 
 import { counted, make } from '../shared/dom.js';
 import { GENERATION_LIMIT } from '../shared/limits.js';
@@ -37,9 +38,15 @@ export class Plot {
     this.#draw();
   }
 
-  /** Takes the populations of generations that are not shown. A population that is known stays. @param {number} from @param {number[]} populations */
+  /**
+   * Takes the populations of generations that are not shown. A population that is known stays.
+   * @param {number} from
+   * @param {number[]} populations
+   */
   fill(from, populations) {
-    for (const [step, population] of populations.entries()) if (this.#populations[from + step] < 0) this.#put(from + step, population);
+    for (const [step, population] of populations.entries()) {
+      if (this.#populations[from + step] < 0) this.#put(from + step, population);
+    }
     this.#draw();
   }
 
@@ -67,7 +74,14 @@ export class Plot {
     context.fillStyle = style.getPropertyValue('--quiet');
     for (let at = 0; at <= this.#last; at += 1) {
       const population = this.#populations[at];
-      if (population >= 0) context.fillRect(x(at), HEIGHT - population / this.#most * (HEIGHT - 2), 1, Math.max(1, population / this.#most * (HEIGHT - 2)));
+      if (population >= 0) {
+        context.fillRect(
+          x(at),
+          HEIGHT - population / this.#most * (HEIGHT - 2),
+          1,
+          Math.max(1, population / this.#most * (HEIGHT - 2)),
+        );
+      }
     }
     context.fillStyle = style.getPropertyValue('--accent');
     context.fillRect(x(this.#at), 0, 1, HEIGHT);

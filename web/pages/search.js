@@ -17,8 +17,15 @@ function askedBy(query) {
   const one = (name) => words.get(name) ?? '';
   const two = (name) => [0, 1].map((at) => one(name).split('..')[at] ?? '');
   const rule = readRule(one('rule'));
-  return { text: one('text'), member: one('member').toLowerCase(), author: one('author'), rule: typeof rule === 'string' ? one('rule') : ruleText(rule),
-    cells: two('cells'), side: two('side'), day: two('day') };
+  return {
+    text: one('text'),
+    member: one('member').toLowerCase(),
+    author: one('author'),
+    rule: typeof rule === 'string' ? one('rule') : ruleText(rule),
+    cells: two('cells'),
+    side: two('side'),
+    day: two('day'),
+  };
 }
 
 /** The address of a search. */
@@ -32,7 +39,14 @@ export function searchAddress(asked) {
 }
 
 function input(id, type, value) {
-  const found = make('input', { id, type, autocapitalize: 'none', autocomplete: 'off', spellcheck: 'false', ...(type === 'number' ? { min: 0, inputmode: 'numeric' } : {}) });
+  const found = make('input', {
+    id,
+    type,
+    autocapitalize: 'none',
+    autocomplete: 'off',
+    spellcheck: 'false',
+    ...(type === 'number' ? { min: 0, inputmode: 'numeric' } : {}),
+  });
   found.value = value;
   return found;
 }
@@ -42,7 +56,11 @@ function rangeField([name, label, type], [least, greatest]) {
   const [from, to] = [input(`search-${name}`, type, least), input(`search-${name}-to`, type, greatest)];
   from.setAttribute('aria-label', `${label}, from`);
   to.setAttribute('aria-label', `${label}, to`);
-  return { name, value: () => [from.value, to.value], part: make('fieldset', { class: 'range' }, make('legend', {}, label), from, make('span', {}, 'to'), to) };
+  return {
+    name,
+    value: () => [from.value, to.value],
+    part: make('fieldset', { class: 'range' }, make('legend', {}, label), from, make('span', {}, 'to'), to),
+  };
 }
 
 /** The form of a search. */
@@ -56,13 +74,22 @@ export function searchForm(asked = NOTHING) {
   const submit = (event) => {
     event.preventDefault();
     const [words, more] = [text.value.trim(), Object.fromEntries(all.map(({ name, value }) => [name, value()]))];
-    // As in the search box of other pages, a code, a number or a rule leads to its page. Other words are searched for, with the fields.
+    // As in the search box of other pages, a code, a number or a rule leads to its page. Other words are searched for,
+    // with the fields.
     const address = addressOf(words);
     go(words === '' || isSearch(address) ? searchAddress({ text: words, ...more }) : address);
   };
   const open = all.some(({ value }) => [value()].flat().some(Boolean));
-  return make('form', { class: 'search', role: 'search', submit }, make('div', { class: 'row' }, field('Name, code, rule or comment', text), make('button', { class: 'main' }, 'Search')),
-    make('details', { open }, make('summary', {}, 'Rule, size, day'), make('div', { class: 'fields' }, all.map(({ part }) => part))));
+  return make('form', { class: 'search', role: 'search', submit },
+    make('div', { class: 'row' },
+      field('Name, code, rule or comment', text),
+      make('button', { class: 'main' }, 'Search'),
+    ),
+    make('details', { open },
+      make('summary', {}, 'Rule, size, day'),
+      make('div', { class: 'fields' }, all.map(({ part }) => part)),
+    ),
+  );
 }
 
 /** The deposits that match the query in an address. */
@@ -75,12 +102,16 @@ export async function results(page, query) {
     said.before(...await namedLines(askedBy(query).text, []));
     return;
   }
-  const all = await allDeposits((number, of) => { if (number < of) said.replaceChildren(`Reading the index: ${counted(number)} of ${counted(of)} blocks…`); }, page.signal);
+  const all = await allDeposits((number, of) => {
+    if (number < of) said.replaceChildren(`Reading the index: ${counted(number)} of ${counted(of)} blocks…`);
+  }, page.signal);
   const asked = askedBy(query);
   if (asked.text) await addComments(all, page.signal);
   const rows = search(all, asked);
   said.before(...await namedLines(asked.text, [...new Set(all.map(({ member }) => member))]));
-  said.replaceChildren(rows.length === 0 ? `None of ${many(all.length, 'deposit')} matches.` : `${many(rows.length, 'deposit')} of ${counted(all.length)}, best matches first.`);
+  said.replaceChildren(rows.length === 0
+    ? `None of ${many(all.length, 'deposit')} matches.`
+    : `${many(rows.length, 'deposit')} of ${counted(all.length)}, best matches first.`);
   page.root.append(...shownRows(page, rows), indexNote(head));
 }
 

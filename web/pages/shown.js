@@ -8,7 +8,10 @@ import { bring } from '../shared/brought.js';
 import { ruleText } from '../patterns/rule.js';
 import { fileOf, withOrigin } from '../patterns/writer.js';
 
-/** What a member can do with the generation that is shown: cite its address, copy its text, take a census. It is updated with each generation. */
+/**
+ * What a member can do with the generation that is shown: cite its address, copy its text, take a census. It is updated
+ * with each generation.
+ */
 export class Shown {
   /**
    * @param {number} number
@@ -25,7 +28,11 @@ export class Shown {
     this.text = make('textarea', { id: 'text', readonly: true, rows: 8, spellcheck: 'false', wrap: 'off' });
     this.load = make('a', { class: 'button', click: (event) => this.#save(event) }, 'Download');
     this.which = make('span');
-    this.details = make('details', { toggle: () => this.#fill() }, make('summary', {}, 'Text'), make('label', { for: 'text', class: 'aside' }, 'Text of the generation'), this.text);
+    this.details = make('details', { toggle: () => this.#fill() },
+      make('summary', {}, 'Text'),
+      make('label', { for: 'text', class: 'aside' }, 'Text of the generation'),
+      this.text,
+    );
   }
 
   get at() {
@@ -50,7 +57,10 @@ export class Shown {
     this.#fill();
   }
 
-  /** What a saved file says: its title, and where it comes from. Only generation 0, the file itself, has the deposit's own name. */
+  /**
+   * What a saved file says: its title, and where it comes from. Only generation 0, the file itself, has the deposit's
+   * own name.
+   */
   get from() {
     const { at, bytes } = this.seen;
     const computed = bytes === null ? ', computed by a browser' : '';
@@ -65,7 +75,11 @@ export class Shown {
   /** The generation that is seen as a file, while it plays too. */
   get file() {
     const { bytes, record } = this.seen;
-    return withOrigin(bytes ?? new TextEncoder().encode(fileOf(record.pattern, ruleText(record.rule))), record, this.from);
+    return withOrigin(
+      bytes ?? new TextEncoder().encode(fileOf(record.pattern, ruleText(record.rule))),
+      record,
+      this.from,
+    );
   }
 
   #save(event) {
@@ -73,7 +87,10 @@ export class Shown {
     save(this.file, this.fileName, 'text/plain');
   }
 
-  /** Updates the page's address and title. Browsers limit how often they may change, so they stay the same while it plays. */
+  /**
+   * Updates the page's address and title. Browsers limit how often they may change, so they stay the same while it
+   * plays.
+   */
   cite() {
     this.page.title(this.at === 0 ? this.name : `${this.name}, generation ${this.at}`);
     history.replaceState(history.state, '', depositAddress(this.number, this.at));
@@ -86,7 +103,12 @@ export class Shown {
   /** Offers to deposit the generation, so that playing can continue from there. */
   depositPart() {
     const { pattern } = this.whole.record;
-    if (Math.max(pattern.width, pattern.height) > LONGEST_SIDE) return make('span', {}, `It is ${counted(pattern.width)} by ${counted(pattern.height)}, and the archive takes patterns of up to ${counted(LONGEST_SIDE)} by ${counted(LONGEST_SIDE)}.`);
+    if (Math.max(pattern.width, pattern.height) > LONGEST_SIDE) {
+      return make('span', {},
+        `It is ${counted(pattern.width)} by ${counted(pattern.height)}, `
+          + `and the archive takes patterns of up to ${counted(LONGEST_SIDE)} by ${counted(LONGEST_SIDE)}.`,
+      );
+    }
     const click = () => {
       bring([new File([this.file], this.fileName)]);
       go('/new');
@@ -97,8 +119,18 @@ export class Shown {
   parts() {
     const copied = () => new TextDecoder().decode(this.file);
     return [
-      make('section', {}, make('h2', {}, 'Cite'), make('p', { class: 'row' }, this.address, copyButton('Copy the address', () => this.url, this.page.say))),
-      make('section', {}, make('h2', {}, this.which), make('p', { class: 'row' }, copyButton('Copy as RLE', copied, this.page.say), this.load), this.details),
+      make('section', {},
+        make('h2', {}, 'Cite'),
+        make('p', { class: 'row' },
+          this.address,
+          copyButton('Copy the address', () => this.url, this.page.say),
+        ),
+      ),
+      make('section', {},
+        make('h2', {}, this.which),
+        make('p', { class: 'row' }, copyButton('Copy as RLE', copied, this.page.say), this.load),
+        this.details,
+      ),
     ];
   }
 }

@@ -1,4 +1,5 @@
-// Codes (docs/FORMATS.md, Codes): what a code's text spells, the period that it names, and the names of well-known objects.
+// Codes (docs/FORMATS.md, Codes): what a code's text spells, the period that it names, and the names of well-known
+// objects.
 
 import { OBJECTS } from '../shared/files.js';
 
@@ -21,7 +22,10 @@ function runsOf(columns) {
   return runs;
 }
 
-/** The pattern that the text of a code spells; null if it spells none. Only the archive says whether it is an object's code. */
+/**
+ * The pattern that the text of a code spells; null if it spells none. Only the archive says whether it is an object's
+ * code.
+ */
 export function patternOf(code) {
   const text = FORM.exec(code)?.[3];
   if (!text) return null;

@@ -1,5 +1,5 @@
-// Other forms of pattern files, which the pages send as RLE: plaintext (`.cells`), Life 1.05 and 1.06 (`.lif`), and bodies of RLE without a
-// header. And texts that are not UTF-8.
+// Other forms of pattern files, which the pages send as RLE: plaintext (`.cells`), Life 1.05 and 1.06 (`.lif`), and
+// bodies of RLE without a header. And texts that are not UTF-8.
 
 import { LONGEST_SIDE, LONGEST_TEXT, MOST_COMMENTS } from '../shared/limits.js';
 import { fileOf } from './writer.js';
@@ -15,8 +15,8 @@ import { fileOf } from './writer.js';
  */
 
 /**
- * A pattern of cells, whose places may be negative and in any order. A cell that is too far from the corner stays too far, but no farther than
- * needed: so a file of two cells needs little memory.
+ * A pattern of cells, whose places may be negative and in any order. A cell that is too far from the corner stays too
+ * far, but no farther than needed: so a file of two cells needs little memory.
  * @param {Cell[]} cells
  */
 function patternOf(cells) {
@@ -34,8 +34,17 @@ function patternOf(cells) {
   return found;
 }
 
-/** The cells of rows in which `*` and `O` are live, from a place on. @param {string[]} rows @param {Cell} place @returns {Cell[]} */
-const cellsOf = (rows, [left, top] = [0, 0]) => rows.flatMap((line, row) => [...line].flatMap((cell, column) => (/[*Oo]/.test(cell) ? [/** @type {Cell} */ ([left + column, top + row])] : [])));
+/**
+ * The cells of rows in which `*` and `O` are live, from a place on.
+ * @param {string[]} rows
+ * @param {Cell} place
+ * @returns {Cell[]}
+ */
+const cellsOf = (rows, [left, top] = [0, 0]) => rows.flatMap((line, row) => (
+  [...line].flatMap((cell, column) => (
+    /[*Oo]/.test(cell) ? [/** @type {Cell} */ ([left + column, top + row])] : []
+  ))
+));
 
 /** A text in pieces that are short enough for a comment. @param {string} text */
 function piecesOf(text) {
@@ -55,14 +64,24 @@ function commentLines(comments) {
   return lines.slice(0, MOST_COMMENTS).map((line) => `#C ${line}`.trim());
 }
 
-/** The `#` lines of the comments of plaintext, which may begin with `Name:` and `Author:`. @param {string[]} comments */
+/**
+ * The `#` lines of the comments of plaintext, which may begin with `Name:` and `Author:`.
+ * @param {string[]} comments
+ */
 function notesOf(comments) {
   const named = comments.map((comment) => /^(name|author)\s*:\s*(.*)$/i.exec(comment));
-  const one = (key, mark) => named.filter((found) => found?.[1].toLowerCase() === key && found[2]).slice(0, 1).map((found) => `${mark} ${found[2]}`);
+  const one = (key, mark) => named
+    .filter((found) => found?.[1].toLowerCase() === key && found[2])
+    .slice(0, 1)
+    .map((found) => `${mark} ${found[2]}`);
   return [...one('name', '#N'), ...one('author', '#O'), ...commentLines(comments.filter((_, at) => !named[at]))];
 }
 
-/** Plaintext: comments after `!`, and rows of `.` and `O` (LifeWiki, Plaintext). @param {string[]} lines @returns {Read | null} */
+/**
+ * Plaintext: comments after `!`, and rows of `.` and `O` (LifeWiki, Plaintext).
+ * @param {string[]} lines
+ * @returns {Read | null}
+ */
 function plaintext(lines) {
   const body = lines.filter((line) => !line.startsWith('!'));
   if (!body.every((line) => /^[.*Oo \t]*$/.test(line)) || !body.some((line) => /[.*O]/.test(line))) return null;
@@ -70,7 +89,11 @@ function plaintext(lines) {
   return { form: 'plaintext', text: [...notes, fileOf(patternOf(cellsOf(body)), 'B3/S23')].join('\n') };
 }
 
-/** Life 1.05: blocks of rows, each after its place, and a rule with the survivals first. @param {string[]} lines @returns {Read | null} */
+/**
+ * Life 1.05: blocks of rows, each after its place, and a rule with the survivals first.
+ * @param {string[]} lines
+ * @returns {Read | null}
+ */
 function lifeBlocks(lines) {
   if (!/^#Life 1\.05\s*$/i.test(lines[0])) return null;
   const marked = (mark) => lines.filter((line) => line.startsWith(mark)).map((line) => line.slice(2).trim());
@@ -88,7 +111,10 @@ function lifeBlocks(lines) {
     }
   }
   const comments = commentLines([...marked('#D'), ...marked('#C')]);
-  return { form: 'Life 1.05', text: [...comments, fileOf(patternOf(cells), /^B[0-8]*$/i.test(rule) ? `${rule}/S` : rule)].join('\n') };
+  return {
+    form: 'Life 1.05',
+    text: [...comments, fileOf(patternOf(cells), /^B[0-8]*$/i.test(rule) ? `${rule}/S` : rule)].join('\n'),
+  };
 }
 
 /** Life 1.06: a line for each cell with its column and row. @param {string[]} lines @returns {Read | null} */
@@ -96,7 +122,10 @@ function lifeList(lines) {
   if (!/^#Life 1\.06\s*$/i.test(lines[0])) return null;
   const places = lines.slice(1).map((line) => line.trim()).filter((line) => line !== '' && !line.startsWith('#'));
   if (!places.every((line) => /^[+-]?[0-9]{1,9}\s+[+-]?[0-9]{1,9}$/.test(line))) return null;
-  return { form: 'Life 1.06', text: fileOf(patternOf(places.map((line) => /** @type {Cell} */ (line.split(/\s+/).map(Number)))), 'B3/S23') };
+  return {
+    form: 'Life 1.06',
+    text: fileOf(patternOf(places.map((line) => /** @type {Cell} */ (line.split(/\s+/).map(Number)))), 'B3/S23'),
+  };
 }
 
 /** A body of RLE whose header is missing. @param {string[]} lines @returns {Read | null} */
@@ -118,11 +147,14 @@ export function readOther(text) {
 }
 
 /**
- * Whether a text is a rule of a kind that the archive doesn't take: Generations (`23/3/8`, `B2/S/C3`), isotropic (`B2-a/S12`), of larger
- * neighbourhoods (`R5,..`), or with states of its own, such as LifeHistory.
+ * Whether a text is a rule of a kind that the archive doesn't take: Generations (`23/3/8`, `B2/S/C3`), isotropic
+ * (`B2-a/S12`), of larger neighbourhoods (`R5,..`), or with states of its own, such as LifeHistory.
  * @param {string} text
  */
-export const isOtherRule = (text) => /^[^/]*\/[^/]*\/|[cg][0-9]+$|[0-8]-?[aceijknqrtwyz]|^r[0-9]+,|history|super|wireworld/i.test(text.replace(/[ \t\r]/g, '').replace(/:.*/, ''));
+export const isOtherRule = (text) => (
+  /^[^/]*\/[^/]*\/|[cg][0-9]+$|[0-8]-?[aceijknqrtwyz]|^r[0-9]+,|history|super|wireworld/i
+    .test(text.replace(/[ \t\r]/g, '').replace(/:.*/, ''))
+);
 
 /** Whether a text can be a pattern: what is pasted on a page may be anything. @param {string} text */
 export const mayBePattern = (text) => /^\s*(#|x\s*=)/i.test(text) || readOther(text) !== null;

@@ -1,4 +1,5 @@
-// A file as a member gives it: what the page reads of it, what it changes so that the archive takes it, and what it says about that.
+// A file as a member gives it: what the page reads of it, what it changes so that the archive takes it, and what it
+// says about that.
 
 import { make } from '../shared/dom.js';
 import { isOtherRule, readOld, readOther } from './formats.js';
@@ -48,7 +49,11 @@ function readOwn(bytes, { isCut }) {
   const record = readFile(bytes, { isCut });
   if (record.left.length === 0) return { bytes, record, notes: [] };
   const all = record.left.length + MOST_COMMENTS;
-  return { bytes: without(bytes, record.left), record, notes: [`Of its ${all} comments the first ${MOST_COMMENTS} are sent.`] };
+  return {
+    bytes: without(bytes, record.left),
+    record,
+    notes: [`Of its ${all} comments the first ${MOST_COMMENTS} are sent.`],
+  };
 }
 
 /** Reads a file of any form. */
@@ -56,7 +61,9 @@ function readAny(bytes, choices) {
   try {
     return readOwn(bytes, choices);
   } catch (error) {
-    const other = error instanceof Fault && error.number === NO_HEADER ? readOther(new TextDecoder().decode(bytes)) : null;
+    const other = error instanceof Fault && error.number === NO_HEADER
+      ? readOther(new TextDecoder().decode(bytes))
+      : null;
     if (!other) throw error;
     return readConverted(other, choices);
   }
@@ -95,13 +102,19 @@ export function readGiven(bytes, choices) {
 }
 
 /** What a file with a rule of another kind says: its digits would not help. */
-const OTHER_RULE = 'Generations, isotropic and LifeHistory rules are not taken: the archive takes rules of two states that only count the live neighbours of a cell, like B3/S23.';
+const OTHER_RULE = 'Generations, isotropic and LifeHistory rules are not taken: '
+  + 'the archive takes rules of two states that only count the live neighbours of a cell, like B3/S23.';
 
 /** The refusal that the archive would give for a fault. @param {Fault} fault */
-export const refusedBy = (fault) => Object.assign(new Refused('bad-pattern', 7, fault.number), { sentence: isOtherRule(fault.rule) ? OTHER_RULE : '' });
+export const refusedBy = (fault) => Object.assign(
+  new Refused('bad-pattern', 7, fault.number),
+  { sentence: isOtherRule(fault.rule) ? OTHER_RULE : '' },
+);
 
 /** A button that leaves out the comments beyond those that the archive takes. @param {() => void} act */
-export const cutButton = (act) => make('button', { type: 'button', class: 'cut', click: act }, `Send the first ${MOST_COMMENTS} comments`);
+export const cutButton = (act) => (
+  make('button', { type: 'button', class: 'cut', click: act }, `Send the first ${MOST_COMMENTS} comments`)
+);
 
 /**
  * The question how to read a file that is not UTF-8.

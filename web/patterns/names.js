@@ -1,5 +1,5 @@
-// The files of a folder, and adding a name, an author and the folder to a file (docs/FORMATS.md, Pattern files): `#N`, `#O` and `#C` before
-// its first line.
+// The files of a folder, and adding a name, an author and the folder to a file (docs/FORMATS.md, Pattern files): `#N`,
+// `#O` and `#C` before its first line.
 
 import { LONGEST_TEXT, MOST_COMMENTS } from '../shared/limits.js';
 
@@ -18,23 +18,38 @@ export const NO_FILES = 'There is no pattern file in this folder: their names en
 export const pathOf = (file) => file.webkitRelativePath || file.relativePath || file.name;
 
 /** The pattern files of a folder, ordered by path: those with an ending of a form that formats.js reads. */
-export const patternsOf = (files) => files.filter(({ name }) => /\.(rle|cells|lif|life)$/i.test(name)).sort((one, other) => (pathOf(one) < pathOf(other) ? -1 : 1));
+export const patternsOf = (files) => files
+  .filter(({ name }) => /\.(rle|cells|lif|life)$/i.test(name))
+  .sort((one, other) => (pathOf(one) < pathOf(other) ? -1 : 1));
 
 /** The name of a file without folders and extension: `gosper-gun` for `guns/gosper-gun.rle`. */
 export const baseName = (name) => oneLine(name.split('/').at(-1).replace(/\.(rle|cells|lif|life|txt)$/i, ''));
 
-/** The folders in the path of a file: `jslife/guns` for `jslife/guns/gun30.rle`, and '' without one. @param {string} path */
+/**
+ * The folders in the path of a file: `jslife/guns` for `jslife/guns/gun30.rle`, and '' without one.
+ * @param {string} path
+ */
 export const folderOf = (path) => path.split('/').slice(0, -1).join('/');
 
-/** A comment with the folders of a path, or '' if it has none, or the file has it or as many comments as the archive takes. */
+/**
+ * A comment with the folders of a path, or '' if it has none, or the file has it or as many comments as the archive
+ * takes.
+ */
 function folderComment(comments, folder) {
   const text = folder ? oneLine(`Folder: ${folder}`) : '';
   return comments.includes(text) || comments.length >= MOST_COMMENTS ? '' : text;
 }
 
-/** A file with a name and an author added, if they are given and its record has none, and with the folder as a comment, if one is given. */
+/**
+ * A file with a name and an author added, if they are given and its record has none, and with the folder as a comment,
+ * if one is given.
+ */
 export function withTexts(bytes, record, name, author, folder = '') {
-  const added = { '#N': record.name === null ? oneLine(name) : '', '#O': record.author === null ? oneLine(author) : '', '#C': folderComment(record.comments ?? [], folder) };
+  const added = {
+    '#N': record.name === null ? oneLine(name) : '',
+    '#O': record.author === null ? oneLine(author) : '',
+    '#C': folderComment(record.comments ?? [], folder),
+  };
   const lines = Object.entries(added).map(([sign, text]) => (text ? `${sign} ${text}\n` : '')).join('');
   if (lines === '') return bytes;
   const head = bytesOf(lines);
@@ -54,7 +69,9 @@ export async function filesOf(entry, folder = '') {
   const found = [];
   for (;;) {
     const entries = await new Promise((resolve, reject) => { reader.readEntries(resolve, reject); });
-    if (entries.length === 0) return patternsOf((await Promise.all(found.map((one) => filesOf(one, `${folder}${entry.name}/`)))).flat());
+    if (entries.length === 0) {
+      return patternsOf((await Promise.all(found.map((one) => filesOf(one, `${folder}${entry.name}/`)))).flat());
+    }
     found.push(...entries);
   }
 }

@@ -1,5 +1,6 @@
-// Constellations: a cluster of a census may be several objects that do not change each other. This module separates such a cluster and names
-// its parts. The page does this itself: it steps the whole and each part through all phases, and compares them.
+// Constellations: a cluster of a census may be several objects that do not change each other. This module separates
+// such a cluster and names its parts. The page does this itself: it steps the whole and each part through all phases,
+// and compares them.
 
 import { limitOf, objectNames, patternOf } from './code.js';
 import { cellsOf } from './pattern.js';
@@ -18,13 +19,18 @@ const FIRST = 1000;
 const ROUND = [-WIDTH - 1, -WIDTH, -WIDTH + 1, -1, 1, WIDTH - 1, WIDTH, WIDTH + 1];
 
 /** @typedef {Set<number>} Cells */
-/** @typedef {{code: string | null, name: string | null, cells: number, count: number}} Part objects that are equal, and how many of them there are */
+/**
+ * @typedef {{code: string | null, name: string | null, cells: number, count: number}} Part objects that are equal, and
+ *   how many of them there are
+ */
 
 /**
  * @param {object} pattern
  * @returns {Cells}
  */
-const setOf = (pattern) => new Set([...cellsOf(pattern)].map(([column, row]) => (row + FIRST) * WIDTH + column + FIRST));
+const setOf = (pattern) => (
+  new Set([...cellsOf(pattern)].map(([column, row]) => (row + FIRST) * WIDTH + column + FIRST))
+);
 
 /**
  * The next generation of Conway's Life.
@@ -77,7 +83,9 @@ function changes(one, other) {
   let both = new Set([...one[0], ...other[0]]);
   for (let at = 1; at < one.length; at += 1) {
     both = following(both);
-    if (both.size !== one[at].size + other[at].size || [...one[at], ...other[at]].some((cell) => !both.has(cell))) return true;
+    if (both.size !== one[at].size + other[at].size || [...one[at], ...other[at]].some((cell) => !both.has(cell))) {
+      return true;
+    }
   }
   return false;
 }
@@ -85,7 +93,9 @@ function changes(one, other) {
 /** Two pieces that change each other; nothing if there are none. */
 function changing(phases) {
   for (let one = 0; one < phases.length; one += 1) {
-    for (let other = one + 1; other < phases.length; other += 1) if (changes(phases[one], phases[other])) return [one, other];
+    for (let other = one + 1; other < phases.length; other += 1) {
+      if (changes(phases[one], phases[other])) return [one, other];
+    }
   }
   return null;
 }
@@ -128,7 +138,16 @@ function textOf(cells) {
 const placesOf = (cells) => [...cells].map((cell) => [cell % WIDTH, Math.floor(cell / WIDTH)]);
 
 /** @type {((cell: [number, number]) => [number, number])[]} */
-const TURNS = [([x, y]) => [x, y], ([x, y]) => [-x, y], ([x, y]) => [x, -y], ([x, y]) => [-x, -y], ([x, y]) => [y, x], ([x, y]) => [-y, x], ([x, y]) => [y, -x], ([x, y]) => [-y, -x]];
+const TURNS = [
+  ([x, y]) => [x, y],
+  ([x, y]) => [-x, y],
+  ([x, y]) => [x, -y],
+  ([x, y]) => [-x, -y],
+  ([x, y]) => [y, x],
+  ([x, y]) => [-y, x],
+  ([x, y]) => [y, -x],
+  ([x, y]) => [-y, -x],
+];
 
 /** Whether a code names a still life or oscillator that is small enough to separate. */
 function isParted(code) {
@@ -154,7 +173,9 @@ function knownObjects() {
       const cells = isParted(code) ? setOf(patternOf(code)) : null;
       const period = limitOf(code);
       if (!cells || objectsOf(cells, period)) continue;
-      for (const phase of phasesOf(cells, period)) for (const turn of TURNS) found.set(textOf(placesOf(phase).map(turn)), code);
+      for (const phase of phasesOf(cells, period)) {
+        for (const turn of TURNS) found.set(textOf(placesOf(phase).map(turn)), code);
+      }
       begun = await rested(begun);
     }
     return found;
@@ -163,7 +184,8 @@ function knownObjects() {
 }
 
 /**
- * The objects in a code's pattern in Conway's Life, the most frequent first; null if it is one object or was not separated.
+ * The objects in a code's pattern in Conway's Life, the most frequent first; null if it is one object or was not
+ * separated.
  * @param {string} code
  * @returns {Promise<Part[] | null>}
  */
@@ -176,7 +198,12 @@ export async function partsOf(code) {
   for (const object of objects) {
     const text = textOf(placesOf(object));
     const own = byText.get(text) ?? null;
-    const part = parts.get(own ?? text) ?? { code: own, name: own ? names.get(own) : null, cells: object.size, count: 0 };
+    const part = parts.get(own ?? text) ?? {
+      code: own,
+      name: own ? names.get(own) : null,
+      cells: object.size,
+      count: 0,
+    };
     part.count += 1;
     parts.set(own ?? text, part);
   }
@@ -214,7 +241,9 @@ export async function groupsOf(rows, rule, signal) {
   let begun = performance.now();
   for (const { code, count } of rows) {
     const parts = await partsOf(code);
-    for (const part of parts ?? []) if (part.code) grouped.set(part.code, (grouped.get(part.code) ?? 0) + count * part.count);
+    for (const part of parts ?? []) {
+      if (part.code) grouped.set(part.code, (grouped.get(part.code) ?? 0) + count * part.count);
+    }
     if (parts) texts.set(code, partsText(parts));
     begun = await rested(begun);
     signal.throwIfAborted();

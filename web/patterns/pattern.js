@@ -1,5 +1,6 @@
-// A pattern is a set of live cells whose least column and row are 0, as `rle.js` reads it: width, height, population, and for each
-// row its runs `[begin, end, begin, end, ..]`. The archive gives each generation that way, so this module computes how far its corner has moved.
+// A pattern is a set of live cells whose least column and row are 0, as `rle.js` reads it: width, height, population,
+// and for each row its runs `[begin, end, begin, end, ..]`. The archive gives each generation that way, so this module
+// computes how far its corner has moved.
 
 const EMPTY = [];
 
@@ -8,18 +9,26 @@ function put(line, runs, value) {
   for (let at = 0; at < runs.length; at += 2) line.fill(value, runs[at] + 2, runs[at + 1] + 2);
 }
 
-/** The first live column of the next generation of the middle row among those before `limit`, or `limit`; columns may be -1. */
+/**
+ * The first live column of the next generation of the middle row among those before `limit`, or `limit`; columns may be
+ * -1.
+ */
 function firstLive(lines, rule, limit) {
   const [above, row, below] = lines;
   for (let column = -1; column < limit; column += 1) {
     const at = column + 2;
-    const round = above[at - 1] + above[at] + above[at + 1] + row[at - 1] + row[at + 1] + below[at - 1] + below[at] + below[at + 1];
+    const round = above[at - 1] + above[at] + above[at + 1]
+      + row[at - 1] + row[at + 1]
+      + below[at - 1] + below[at] + below[at + 1];
     if (row[at] ? rule.survivals[round] : rule.births[round]) return column;
   }
   return limit;
 }
 
-/** How far the corner of the next generation is from that of the pattern, in columns and rows; null if the next one is empty. */
+/**
+ * How far the corner of the next generation is from that of the pattern, in columns and rows; null if the next one is
+ * empty.
+ */
 export function nextCorner(pattern, rule) {
   const { width, height, rows } = pattern;
   const runsOf = (row) => rows[row] ?? EMPTY;
@@ -47,6 +56,8 @@ export function nextCorner(pattern, rule) {
 export function* cellsOf(pattern) {
   for (let row = 0; row < pattern.height; row += 1) {
     const runs = pattern.rows[row];
-    for (let at = 0; at < runs.length; at += 2) for (let column = runs[at]; column < runs[at + 1]; column += 1) yield [column, row];
+    for (let at = 0; at < runs.length; at += 2) {
+      for (let column = runs[at]; column < runs[at + 1]; column += 1) yield [column, row];
+    }
   }
 }

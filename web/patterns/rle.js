@@ -1,5 +1,5 @@
-// Pattern files (docs/FORMATS.md, Pattern files): the record of a file, or its first fault and the line that has it. The archive
-// checks what is deposited; the pages use this to draw a file before, and to draw the archive's answers.
+// Pattern files (docs/FORMATS.md, Pattern files): the record of a file, or its first fault and the line that has it.
+// The archive checks what is deposited; the pages use this to draw a file before, and to draw the archive's answers.
 
 import { GREATEST_COUNT, LONGEST_FILE, LONGEST_SIDE, LONGEST_TEXT, MOST_COMMENTS } from '../shared/limits.js';
 import { LIFE, readRule } from './rule.js';
@@ -38,7 +38,9 @@ function textOf(bytes, line) {
   const [before] = /^[ \t\r]*/.exec(rest);
   const length = rest.replace(/[ \t\r]+$/, '').length - before.length;
   const begin = line.begin + blanks.length + 2 + before.length;
-  return length <= 0 ? { length: 0, text: '' } : { length, text: new TextDecoder().decode(bytes.subarray(begin, begin + length)) };
+  return length <= 0
+    ? { length: 0, text: '' }
+    : { length, text: new TextDecoder().decode(bytes.subarray(begin, begin + length)) };
 }
 
 /** The content of the `#` lines before the header. */
@@ -158,8 +160,9 @@ function normal(rows) {
 }
 
 /**
- * The record of a file: its texts, its rule and its pattern. With `ours`, for a file from the archive itself, it may be longer and wider. With
- * `isCut`, the comments after the last one that the archive takes are left out, and `left` has their lines.
+ * The record of a file: its texts, its rule and its pattern. With `ours`, for a file from the archive itself, it may be
+ * longer and wider. With `isCut`, the comments after the last one that the archive takes are left out, and `left` has
+ * their lines.
  */
 export function readFile(bytes, { ours = false, isCut = false } = {}) {
   if (!ours && bytes.length > LONGEST_FILE) throw new Fault(1);
@@ -186,5 +189,12 @@ export function readFile(bytes, { ours = false, isCut = false } = {}) {
   }
   if (rule === null) throw new Fault(3, 0);
   if (!body.ended) throw new Fault(body.counted ? 8 : 10, last);
-  return { name: notes.name, author: notes.author, comments: notes.comments, left: notes.left, rule, pattern: normal(body.rows) };
+  return {
+    name: notes.name,
+    author: notes.author,
+    comments: notes.comments,
+    left: notes.left,
+    rule,
+    pattern: normal(body.rows),
+  };
 }

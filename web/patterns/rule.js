@@ -30,7 +30,10 @@ export const ruleText = (rule) => `B${digitsOf(rule.births)}/S${digitsOf(rule.su
 /** The rule of Conway's Life. */
 export const LIFE = /** @type {{ births: boolean[], survivals: boolean[] }} */ (readRule('B3/S23'));
 
-/** The form for paths of the archive: the canonical text without its slash. A text that is not a rule stays as it is, so that the archive refuses it. */
+/**
+ * The form for paths of the archive: the canonical text without its slash. A text that is not a rule stays as it is, so
+ * that the archive refuses it.
+ */
 export function rulePart(text) {
   const rule = readRule(text);
   return typeof rule === 'string' ? encodeURIComponent(text.replaceAll('/', '')) : ruleText(rule).replace('/', '');

@@ -1,4 +1,5 @@
-// The SHA-256 sum of bytes (FIPS 180-4) as 64 digits. Browsers offer it only on pages with TLS, which a club's may not have.
+// The SHA-256 sum of bytes (FIPS 180-4) as 64 digits. Browsers offer it only on pages with TLS, which a club's may not
+// have.
 
 const rotated = (word, by) => (word >>> by) | (word << (32 - by));
 
@@ -44,7 +45,9 @@ export function sumOf(bytes) {
     schedule(words, view, begin);
     let [a, b, c, d, e, f, g, h] = state;
     for (let at = 0; at < 64; at += 1) {
-      const first = (h + (rotated(e, 6) ^ rotated(e, 11) ^ rotated(e, 25)) + ((e & f) ^ (~e & g)) + ROUNDS[at] + words[at]) | 0;
+      const first = (
+        h + (rotated(e, 6) ^ rotated(e, 11) ^ rotated(e, 25)) + ((e & f) ^ (~e & g)) + ROUNDS[at] + words[at]
+      ) | 0;
       const second = ((rotated(a, 2) ^ rotated(a, 13) ^ rotated(a, 22)) + ((a & b) ^ (a & c) ^ (b & c))) | 0;
       [h, g, f, e, d, c, b, a] = [g, f, e, (d + first) | 0, c, b, a, (first + second) | 0];
     }

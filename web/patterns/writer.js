@@ -37,8 +37,8 @@ export function fileOf(pattern, rule) {
 }
 
 /**
- * A file with a `#C` line about its origin in front of its header, and with a name if it has none. The line is left out if the archive would
- * refuse it.
+ * A file with a `#C` line about its origin in front of its header, and with a name if it has none. The line is left out
+ * if the archive would refuse it.
  * @param {Uint8Array} bytes a file from the archive, or one that `fileOf` wrote
  * @param {{ name?: string | null, author?: string | null, comments?: string[] }} record what the file says
  * @param {{ title: string | null, origin: string }} from

@@ -1,9 +1,11 @@
-// The age of each live cell: for how many generations it has been live without a break, including the one shown. Ages have a maximum, so only a
-// few earlier generations, which the page computes, are needed.
+// The age of each live cell: for how many generations it has been live without a break, including the one shown. Ages
+// have a maximum, so only a few earlier generations, which the page computes, are needed.
 
 import { OLDEST } from '../drawing/shades.js';
 
-/** The ages of a generation's cells, row by row in its box; if the generation before is unknown, every cell has age 1. */
+/**
+ * The ages of a generation's cells, row by row in its box; if the generation before is unknown, every cell has age 1.
+ */
 function agesOf({ pattern: { width, height, rows }, corner }, before) {
   const ages = new Uint8Array(width * height);
   const right = before ? corner.column - before.corner.column : 0;

@@ -1,4 +1,5 @@
-// Generations that the page computes itself for playing, with the worker in stepper.js: one block at a time, ahead of the generation shown.
+// Generations that the page computes itself for playing, with the worker in stepper.js: one block at a time, ahead of
+// the generation shown.
 
 import { STEPPER } from '../shared/files.js';
 
@@ -18,7 +19,9 @@ function generationOf({ list, ends, width, height, population, column, row }) {
 /** Whether two patterns have the same cells. */
 export function isSame(one, other) {
   return one.width === other.width && one.height === other.height && one.population === other.population
-    && one.rows.every((runs, row) => runs.length === other.rows[row].length && runs.every((column, at) => column === other.rows[row][at]));
+    && one.rows.every((runs, row) => (
+      runs.length === other.rows[row].length && runs.every((column, at) => column === other.rows[row][at])
+    ));
 }
 
 const newWorker = () => new Worker(policy ? policy.createScriptURL('') : STEPPER, { type: 'module' });
@@ -30,7 +33,8 @@ const WAIT = 500;
  * Counts the cells of all generations in a worker of its own, while the page is seen and `isBusy` is false.
  * @param {{pattern: object, rule: object}} record
  * @param {number} last
- * @param {(from: number, populations: number[]) => void} found called with the populations of some generations after another
+ * @param {(from: number, populations: number[]) => void} found called with the populations of some generations after
+ *   another
  * @param {() => boolean} isBusy
  * @param {AbortSignal} signal
  */
@@ -144,8 +148,11 @@ export class Maker {
   get(at, direction = 1, by = 1) {
     for (const kept of this.#made.keys()) if (Math.abs(kept - at) > KEPT * by) this.#made.delete(kept);
     const next = at + direction * Math.ceil(BLOCK / 2) * by;
-    if (!this.#going && !this.#made.has(at)) this.#ask(at, direction, by);
-    else if (!this.#going && next >= this.#first && next <= this.last && !this.#made.has(next)) this.#ask(next, direction, by);
+    if (!this.#going && !this.#made.has(at)) {
+      this.#ask(at, direction, by);
+    } else if (!this.#going && next >= this.#first && next <= this.last && !this.#made.has(next)) {
+      this.#ask(next, direction, by);
+    }
     if (this.#made.has(at)) return Promise.resolve(this.#made.get(at));
     if (this.ended) return Promise.reject(new Error('the stepper has ended'));
     if (!this.#waiting.has(at)) {

@@ -1,5 +1,5 @@
-// Playing a deposit. When stopped, it shows the archive's own answer. While it plays, the page computes the generations itself (maker.js), and
-// compares every hundredth one, and the one at which it stops, with the archive's.
+// Playing a deposit. When stopped, it shows the archive's own answer. While it plays, the page computes the generations
+// itself (maker.js), and compares every hundredth one, and the one at which it stops, with the archive's.
 
 import { generation } from '../requests/archive.js';
 import { GENERATION_LIMIT } from '../shared/limits.js';
@@ -40,9 +40,10 @@ export class Player {
   #isDoubted = false;
 
   /**
-   ** Calls the functions of `told`. `shown(at, record, bytes, place)` is called for each generation that is shown, and returns its position; `place` is
-   * null if the position isn't known, and `bytes` if the page computed the generation. `changed()` is called when playing begins and ends,
-   * `failed(error)` if a generation did not arrive, `compared(at, isSame)` after a comparison, `ended()` at the last generation.
+   * Calls the functions of `told`. `shown(at, record, bytes, place)` is called for each generation that is shown, and
+   * returns its position; `place` is null if the position isn't known, and `bytes` if the page computed the generation.
+   * `changed()` is called when playing begins and ends, `failed(error)` if a generation did not arrive,
+   * `compared(at, isSame)` after a comparison, `ended()` at the last generation.
    */
   constructor(deposit, signal, told) {
     this.deposit = deposit;
@@ -73,22 +74,32 @@ export class Player {
       if (at < 0 || at > GENERATION_LIMIT) break;
       if (!this.#known.has(at) && !this.#going.has(at)) this.#fetch(at).then(() => this.#ahead(), () => {});
     }
-    for (const at of this.#known.keys()) if (this.#known.size > KEPT && Math.abs(at - this.at) > KEPT / 2) this.#known.delete(at);
+    for (const at of this.#known.keys()) {
+      if (this.#known.size > KEPT && Math.abs(at - this.at) > KEPT / 2) this.#known.delete(at);
+    }
   }
 
-  /** The position of a generation. The archive moves each one to the corner, so it is computed from the generation before. */
+  /**
+   * The position of a generation. The archive moves each one to the corner, so it is computed from the generation
+   * before.
+   */
   #placeOf(at) {
     const [before, after] = [at - 1, at + 1];
     if (!this.#places.has(at)) {
       const corner = (from) => nextCorner(this.#known.get(from).record.pattern, this.#known.get(from).record.rule);
-      if (this.#places.has(before) && this.#known.has(before)) this.#put(at, this.#places.get(before), corner(before), 1);
-      else if (this.#places.has(after) && this.#known.has(at)) this.#put(at, this.#places.get(after), corner(at), -1);
+      if (this.#places.has(before) && this.#known.has(before)) {
+        this.#put(at, this.#places.get(before), corner(before), 1);
+      } else if (this.#places.has(after) && this.#known.has(at)) {
+        this.#put(at, this.#places.get(after), corner(at), -1);
+      }
     }
     return this.#places.get(at) ?? null;
   }
 
   #put(at, place, corner, sign) {
-    if (corner) this.#places.set(at, { column: place.column + sign * corner.column, row: place.row + sign * corner.row });
+    if (corner) {
+      this.#places.set(at, { column: place.column + sign * corner.column, row: place.row + sign * corner.row });
+    }
   }
 
   /** Shows a generation once it has arrived; returns whether it did. */
@@ -114,7 +125,9 @@ export class Player {
     }
   }
 
-  /** Loads the module that computes generations, so that playing starts at once, even if the connection is lost by then. */
+  /**
+   * Loads the module that computes generations, so that playing starts at once, even if the connection is lost by then.
+   */
   preload() {
     this.#worker();
   }
@@ -131,8 +144,8 @@ export class Player {
   }
 
   /**
-   ** The module that computes generations, started so that a generation is only a few steps away; null if it can't run or was found to be wrong.
-   * It starts from the archive's answer for that generation, not from the deposit.
+   * The module that computes generations, started so that a generation is only a few steps away; null if it can't run
+   * or was found to be wrong. It starts from the archive's answer for that generation, not from the deposit.
    * @param {number} at
    */
   async #making(at) {
@@ -157,7 +170,10 @@ export class Player {
     return Math.max(0, at + 1 - Math.max(BACK, Math.floor(FEW_CELLS / (width * height + 1))));
   }
 
-  /** Two generations with positions from the same start. When playing back, the page starts some generations before them. */
+  /**
+   * Two generations with positions from the same start. When playing back, the page starts some generations before
+   * them.
+   */
   async #pair(from, at) {
     const maker = this.#worker();
     if (!maker) return null;
@@ -206,7 +222,14 @@ export class Player {
       const place = this.#places.get(from);
       this.at = at;
       this.#shownMade = { at, pattern };
-      const put = this.told.shown(at, { pattern }, null, place ? { column: place.column + corner.column - before.column, row: place.row + corner.row - before.row } : null);
+      const put = this.told.shown(
+        at,
+        { pattern },
+        null,
+        place
+          ? { column: place.column + corner.column - before.column, row: place.row + corner.row - before.row }
+          : null,
+      );
       this.#places.clear();
       this.#places.set(at, put);
       // At a higher speed, the generation to compare may be skipped; then the next one is compared.

@@ -1,10 +1,12 @@
-// A worker that computes generations for playing. Rows are words of 32 cells, and bitwise sums step a word at a time. The results are the page's
-// own; the player compares them with the archive's answers.
+// A worker that computes generations for playing. Rows are words of 32 cells, and bitwise sums step a word at a time.
+// The results are the page's own; the player compares them with the archive's answers.
 
 /** Dead words and rows around the live cells, so that a pattern can grow for some time before it needs more room. */
 const MARGIN_WORDS = 2;
 const MARGIN_ROWS = 48;
-/** The distance between stored generations, so that playing back need not start over; more are stored near the last one. */
+/**
+ * The distance between stored generations, so that playing back need not start over; more are stored near the last one.
+ */
 const KEPT_EACH = 64;
 const KEPT_NEAR = 16;
 const NEAR = 128;
@@ -55,7 +57,10 @@ class Field {
       this.column + (box.left - MARGIN_WORDS) * 32, this.row + box.top - MARGIN_ROWS);
     for (let row = box.top; row <= box.bottom; row += 1) {
       const from = row * this.words;
-      other.bits.set(this.bits.subarray(from + box.left, from + box.right + 1), (row - box.top + MARGIN_ROWS) * other.words + MARGIN_WORDS);
+      other.bits.set(
+        this.bits.subarray(from + box.left, from + box.right + 1),
+        (row - box.top + MARGIN_ROWS) * other.words + MARGIN_WORDS,
+      );
     }
     return other;
   }
@@ -65,7 +70,9 @@ class Field {
 function fieldOf(pattern) {
   const field = new Field(Math.ceil(Math.max(1, pattern.width) / 32), Math.max(1, pattern.height), 0, 0);
   for (const [row, runs] of pattern.rows.entries()) {
-    for (let at = 0; at < runs.length; at += 2) for (let column = runs[at]; column < runs[at + 1]; column += 1) field.set(column, row);
+    for (let at = 0; at < runs.length; at += 2) {
+      for (let column = runs[at]; column < runs[at + 1]; column += 1) field.set(column, row);
+    }
   }
   return field;
 }
@@ -82,12 +89,18 @@ function sumRow(bits, from, words, ones, twos) {
 }
 
 /** The counts of nine cells, including the middle one, that make a live cell, for a dead and for a live middle. */
-const countsOf = ({ births, survivals }) => ({ dead: [...births.keys()].filter((count) => births[count]), live: [...survivals.keys()].filter((count) => survivals[count]).map((count) => count + 1) });
+const countsOf = ({ births, survivals }) => ({
+  dead: [...births.keys()].filter((count) => births[count]),
+  live: [...survivals.keys()].filter((count) => survivals[count]).map((count) => count + 1),
+});
 
 /** The cells whose count, given by four words of bits, is one of some numbers. */
 function isOneOf(numbers, one, two, four, eight) {
   let found = 0;
-  for (const number of numbers) found |= (number & 1 ? one : ~one) & (number & 2 ? two : ~two) & (number & 4 ? four : ~four) & (number & 8 ? eight : ~eight);
+  for (const number of numbers) {
+    found |= (number & 1 ? one : ~one) & (number & 2 ? two : ~two)
+      & (number & 4 ? four : ~four) & (number & 8 ? eight : ~eight);
+  }
   return found;
 }
 
@@ -107,7 +120,8 @@ function stepRow(field, next, row, sums, counts) {
     const four = lowCarry ^ highCarry ^ carried;
     const eight = (lowCarry & highCarry) | (carried & (lowCarry ^ highCarry));
     const here = field.bits[at];
-    next.bits[at] = (here & isOneOf(counts.live, one, two, four, eight)) | (~here & isOneOf(counts.dead, one, two, four, eight));
+    next.bits[at] = (here & isOneOf(counts.live, one, two, four, eight))
+      | (~here & isOneOf(counts.dead, one, two, four, eight));
   }
 }
 
@@ -126,7 +140,10 @@ export function following(given, counts) {
   return next;
 }
 
-/** Writes the columns at which a row changes from dead to live and back into a list, from an index on; returns the index after them. */
+/**
+ * Writes the columns at which a row changes from dead to live and back into a list, from an index on; returns the index
+ * after them.
+ */
 function edgesOf(bits, from, words, list, place) {
   let last = 0;
   for (let word = 0; word < words; word += 1) {
@@ -149,7 +166,10 @@ function edgesOf(bits, from, words, list, place) {
 
 let room = new Int32Array(0);
 
-/** A field as a pattern whose least column and row are 0: its size, its population, and its runs row by row in one list; and its corner. */
+/**
+ * A field as a pattern whose least column and row are 0: its size, its population, and its runs row by row in one list;
+ * and its corner.
+ */
 export function patternOf(field) {
   const longest = field.rows * (field.words * 32 + 1);
   if (room.length < longest) room = new Int32Array(longest);
@@ -167,8 +187,15 @@ export function patternOf(field) {
   }
   while (ends.length > 1 && ends[ends.length - 1] === ends[ends.length - 2]) ends.pop();
   const list = room.slice(0, place);
-  return { ...counted(list, left), width: place === 0 ? 0 : right - left, height: ends.length, column: field.column + (place === 0 ? 0 : left), row: field.row + Math.max(top, 0), list,
-    ends: Uint32Array.from(ends) };
+  return {
+    ...counted(list, left),
+    width: place === 0 ? 0 : right - left,
+    height: ends.length,
+    column: field.column + (place === 0 ? 0 : left),
+    row: field.row + Math.max(top, 0),
+    list,
+    ends: Uint32Array.from(ends),
+  };
 }
 
 /** Moves runs to the left edge, and counts their cells. */
@@ -198,7 +225,9 @@ function begin({ pattern, rule, first, turn }) {
 function keep(at, field) {
   if (at % KEPT_NEAR !== 0 || state.kept.has(at)) return;
   state.kept.set(at, field);
-  for (const other of state.kept.keys()) if (other !== state.first && other % KEPT_EACH !== 0 && Math.abs(other - at) > NEAR) state.kept.delete(other);
+  for (const other of state.kept.keys()) {
+    if (other !== state.first && other % KEPT_EACH !== 0 && Math.abs(other - at) > NEAR) state.kept.delete(other);
+  }
 }
 
 /** Sends every `by`-th generation from one to another, each as a message. */

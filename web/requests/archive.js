@@ -118,8 +118,9 @@ const LIST_KEPT = 1100;
 const ROW_TRIES = 3;
 
 /**
- * The row of a deposit and that of the next one, if there is one. The gateway caches a list for up to two seconds, so a list that was requested
- * just before the deposit lacks it. Therefore the list begins one deposit earlier than the search for the last one does, and is requested again.
+ * The row of a deposit and that of the next one, if there is one. The gateway caches a list for up to two seconds, so a
+ * list that was requested just before the deposit lacks it. Therefore the list begins one deposit earlier than the
+ * search for the last one does, and is requested again.
  * @param {number} number
  * @param {AbortSignal} signal
  */
@@ -148,15 +149,17 @@ export async function total(rule, code, limit, signal) {
 // The greatest number of a deposit seen so far: numbers only grow.
 let seen = 0;
 
-/** The numbers at which to request lists to find the last deposit: at first far apart, then between the known bounds. */
+/**
+ * The numbers at which to request lists to find the last deposit: at first far apart, then between the known bounds.
+ */
 function probes(low, high) {
   if (high === Infinity) return [10, 100, 1000, 10_000].map((lists) => low + lists * LONGEST_LIST);
   return [1, 2, 3, 4].map((part) => Math.floor(low + (high - low) * part / 5));
 }
 
 /**
- * The greatest number of a deposit, 0 for an empty archive. No route gives it, so it is searched for with lists, four at a time, from a number that
- * was seen or that the index has.
+ * The greatest number of a deposit, 0 for an empty archive. No route gives it, so it is searched for with lists, four
+ * at a time, from a number that was seen or that the index has.
  */
 export async function lastDeposit(signal) {
   let low = Math.max(seen, (await indexHead())?.counts.deposits ?? 0);
@@ -173,16 +176,30 @@ export async function lastDeposit(signal) {
   return low;
 }
 
-const sent = (member, token, body, signal) => ({ method: 'POST', headers: { 'x-member': member, 'x-token': token }, body, signal });
+const sent = (member, token, body, signal) => ({
+  method: 'POST',
+  headers: { 'x-member': member, 'x-token': token },
+  body,
+  signal,
+});
 
-/** Deposits a file, and returns its number. If no reply comes, it is sent again with the same token, and `said` is called. */
+/**
+ * Deposits a file, and returns its number. If no reply comes, it is sent again with the same token, and `said` is
+ * called.
+ */
 export async function sendDeposit(member, token, bytes, said, signal) {
-  const number = parsed(await askAgain('/deposits', sent(member, token, bytes, signal), SEND_PAUSES, said), 'deposit').deposit;
+  const number = parsed(
+    await askAgain('/deposits', sent(member, token, bytes, signal), SEND_PAUSES, said),
+    'deposit',
+  ).deposit;
   seen = Math.max(seen, number);
   return number;
 }
 
 /** Requests a census once, and returns its number. */
 export async function sendCensus(member, token, number, at, limit, signal) {
-  return parsed(await askAgain(`/deposits/${number}/censuses/${at}/${limit}`, sent(member, token, null, signal), []), 'census').census;
+  return parsed(
+    await askAgain(`/deposits/${number}/censuses/${at}/${limit}`, sent(member, token, null, signal), []),
+    'census',
+  ).census;
 }

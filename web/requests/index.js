@@ -1,5 +1,5 @@
-// The search index (docs/FORMATS.md, The search index). It may be 15 minutes old, and nothing about it is proved. If the club has no
-// index, the pages work without it.
+// The search index (docs/FORMATS.md, The search index). It may be 15 minutes old, and nothing about it is proved. If
+// the club has no index, the pages work without it.
 
 import { make } from '../shared/dom.js';
 import { Refused } from './refusals.js';
@@ -7,7 +7,10 @@ import { Refused } from './refusals.js';
 const PLACE = '/index/';
 /** For how many milliseconds a list of blocks is reused. */
 const FRESH = 60_000;
-/** How many blocks are requested at once. Over HTTP/2 each counts as a connection, and the gateway allows a client a hundred. */
+/**
+ * How many blocks are requested at once. Over HTTP/2 each counts as a connection, and the gateway allows a client a
+ * hundred.
+ */
 const TOGETHER = 8;
 export const BLOCK = 1000;
 const NONE = { counts: { deposits: 0, censuses: 0 }, blocks: { deposits: [], censuses: [], objects: [] } };
@@ -36,8 +39,11 @@ export function indexHead() {
 
 /** The note about the index, shown wherever it is used. */
 export function indexNote(head) {
-  return make('p', { class: 'hint' }, `From the search index of ${head.made.slice(0, 10)}, ${head.made.slice(11, 16)} UTC. It may be 15 minutes old, and nothing about it is proved. `
-    + 'The pages that it links to show the archive’s own answers.');
+  return make('p', { class: 'hint' },
+    `From the search index of ${head.made.slice(0, 10)}, ${head.made.slice(11, 16)} UTC. `
+      + 'It may be 15 minutes old, and nothing about it is proved. '
+      + 'The pages that it links to show the archive’s own answers.',
+  );
 }
 
 /** The day of each row of a block. */
@@ -54,15 +60,26 @@ function daysOf(block, count) {
 const PLAIN = { ß: 'ss', ø: 'o', ł: 'l', đ: 'd', æ: 'ae', œ: 'oe', ð: 'd', þ: 'th', ı: 'i' };
 
 /** A text in lower case and without accents, for searching. */
-export const folded = (text) => text.normalize('NFKD').replace(/\p{M}/gu, '').toLowerCase().replace(/[ßøłđæœðþı]/g, (letter) => PLAIN[letter]);
+export const folded = (text) => text
+  .normalize('NFKD')
+  .replace(/\p{M}/gu, '')
+  .toLowerCase()
+  .replace(/[ßøłđæœðþı]/g, (letter) => PLAIN[letter]);
 
 /** The deposits of a block, each with the texts to search. */
 function depositsOf(block) {
   const days = daysOf(block, block.name.length);
   const [authors, members] = [block.author, block.member].map((column) => column.of.map(folded));
   return block.name.map((name, at) => ({
-    id: block.first + at, name, author: block.author.of[block.author.at[at]], member: block.member.of[block.member.at[at]], rule: block.rule.of[block.rule.at[at]],
-    population: block.cells[at], width: block.width[at], height: block.height[at], day: days[at],
+    id: block.first + at,
+    name,
+    author: block.author.of[block.author.at[at]],
+    member: block.member.of[block.member.at[at]],
+    rule: block.rule.of[block.rule.at[at]],
+    population: block.cells[at],
+    width: block.width[at],
+    height: block.height[at],
+    day: days[at],
     search: { name: folded(name), author: authors[block.author.at[at]], member: members[block.member.at[at]] },
   }));
 }
@@ -70,12 +87,23 @@ function depositsOf(block) {
 function censusesOf(block) {
   const days = daysOf(block, block.deposit.length);
   return block.deposit.map((deposit, at) => ({
-    id: block.first + at, deposit, generation: block.generation[at], limit: block.limit[at], clusters: block.clusters[at], unresolved: block.unresolved[at],
-    steady: block.steady[at] === 1, day: days[at],
+    id: block.first + at,
+    deposit,
+    generation: block.generation[at],
+    limit: block.limit[at],
+    clusters: block.clusters[at],
+    unresolved: block.unresolved[at],
+    steady: block.steady[at] === 1,
+    day: days[at],
   }));
 }
 
-const READ = { deposits: depositsOf, censuses: censusesOf, objects: (block) => block, comments: ({ first, text }) => ({ first, text: text.map(folded) }) };
+const READ = {
+  deposits: depositsOf,
+  censuses: censusesOf,
+  objects: (block) => block,
+  comments: ({ first, text }) => ({ first, text: text.map(folded) }),
+};
 const blocks = new Map();
 
 /** A parsed block, requested once. If it did not arrive, it is requested again the next time. */
@@ -135,12 +163,15 @@ export async function allDeposits(came, signal) {
  */
 export async function addComments(rows, signal) {
   const texts = new Map();
-  await eachBlock('comments', ({ first, text }) => text.forEach((one, at) => { if (one) texts.set(first + at, one); }), signal);
+  await eachBlock('comments', ({ first, text }) => text.forEach((one, at) => {
+    if (one) texts.set(first + at, one);
+  }), signal);
   for (const row of rows) row.search.comment = texts.get(row.id) ?? '';
 }
 
 /**
- * All objects in the censuses of a rule, the most frequent first: the count of each, its deposits, and its first census.
+ * All objects in the censuses of a rule, the most frequent first: the count of each, its deposits, and its first
+ * census.
  * @param {string} rule
  * @param {AbortSignal} signal
  */
@@ -151,7 +182,9 @@ export async function objectsOfRule(rule, signal) {
   await eachBlock('objects', (block) => {
     for (const [code, places] of Object.entries(block.rules[rule] ?? {})) {
       const object = found.get(code) ?? { code, count: 0, censuses: 0, deposits: new Set(), first: null };
-      for (let at = 0; at < places.length; at += 2) addPlace(object, censuses.get(block.first + places[at]), places[at + 1]);
+      for (let at = 0; at < places.length; at += 2) {
+        addPlace(object, censuses.get(block.first + places[at]), places[at + 1]);
+      }
       found.set(code, object);
     }
   }, signal);
@@ -176,7 +209,9 @@ export async function rulesWithObjects(signal) {
   /** @type {Map<string, Set<string>>} */
   const codes = new Map();
   await eachBlock('objects', (block) => {
-    for (const [rule, objects] of Object.entries(block.rules)) codes.set(rule, new Set([...codes.get(rule) ?? [], ...Object.keys(objects)]));
+    for (const [rule, objects] of Object.entries(block.rules)) {
+      codes.set(rule, new Set([...codes.get(rule) ?? [], ...Object.keys(objects)]));
+    }
   }, signal);
   const sizes = /** @type {[string, number][]} */ ([...codes].map(([rule, own]) => [rule, own.size]));
   return sizes.sort((one, other) => other[1] - one[1]);
@@ -194,14 +229,19 @@ export async function censusesOfObject(rule, code, signal) {
   const found = [];
   await eachBlock('objects', (block) => {
     const places = block.rules[rule]?.[code] ?? [];
-    for (let at = places.length - 2; at >= 0; at -= 2) found.push({ id: block.first + places[at], count: places[at + 1] });
+    for (let at = places.length - 2; at >= 0; at -= 2) {
+      found.push({ id: block.first + places[at], count: places[at + 1] });
+    }
   }, signal);
   return found;
 }
 
 // ---- searching
 
-/** A query: words, a member, an author, a rule, and ranges `[least, greatest]` of cells, of the longer side, and of days. */
+/**
+ * A query: words, a member, an author, a rule, and ranges `[least, greatest]` of cells, of the longer side, and of
+ * days.
+ */
 export const NOTHING = { text: '', member: '', author: '', rule: '', cells: ['', ''], side: ['', ''], day: ['', ''] };
 
 /** How well a word matches a deposit; 0 if it does not. */
@@ -222,7 +262,8 @@ function rank(row, asked) {
   if (asked.member && row.member !== asked.member) return 0;
   if (asked.author && !row.search.author.includes(asked.author)) return 0;
   if (asked.rule && row.rule !== asked.rule) return 0;
-  if (!within(row.population, asked.cells) || !within(Math.max(row.width, row.height), asked.side) || !within(row.day, asked.day)) return 0;
+  if (!within(row.population, asked.cells) || !within(Math.max(row.width, row.height), asked.side)
+    || !within(row.day, asked.day)) return 0;
   let sum = 1;
   for (const word of asked.words) {
     const found = fit(word, row);
@@ -238,7 +279,14 @@ function rank(row, asked) {
 export function search(rows, given) {
   const text = folded(given.text.trim());
   const number = (part) => (part === '' ? '' : Number(part));
-  const asked = { ...given, text, words: text.split(/\s+/).filter(Boolean), author: folded(given.author.trim()), cells: given.cells.map(number), side: given.side.map(number) };
+  const asked = {
+    ...given,
+    text,
+    words: text.split(/\s+/).filter(Boolean),
+    author: folded(given.author.trim()),
+    cells: given.cells.map(number),
+    side: given.side.map(number),
+  };
   const found = [];
   for (const row of rows) {
     const sum = rank(row, asked);

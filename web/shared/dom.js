@@ -7,15 +7,23 @@ import { nameOf, Refused, sentenceOf } from '../requests/refusals.js';
 export function make(tag, attributes = {}, ...inside) {
   const element = document.createElement(tag);
   for (const [name, value] of Object.entries(attributes)) {
-    if (typeof value === 'function') element.addEventListener(name, value);
-    else if (value !== false && value !== null && value !== undefined) element.setAttribute(name, value === true ? '' : value);
+    if (typeof value === 'function') {
+      element.addEventListener(name, value);
+    } else if (value !== false && value !== null && value !== undefined) {
+      element.setAttribute(name, value === true ? '' : value);
+    }
   }
   element.append(...inside.flat().filter((part) => part !== null && part !== undefined && part !== false));
   return element;
 }
 
 const ICONS = {
-  first: 'M3 3h2v10H3zM13 3v10L6 8z', back: 'M12 2v12L3 8z', less: 'M10 3 5 8l5 5', play: 'M4 2v12l9-6z', more: 'm6 3 5 5-5 5', pause: 'M4 3h3v10H4zM9 3h3v10H9z',
+  first: 'M3 3h2v10H3zM13 3v10L6 8z',
+  back: 'M12 2v12L3 8z',
+  less: 'M10 3 5 8l5 5',
+  play: 'M4 2v12l9-6z',
+  more: 'm6 3 5 5-5 5',
+  pause: 'M4 3h3v10H4zM9 3h3v10H9z',
   full: 'M2 6V2h4M10 2h4v4M14 10v4h-4M6 14H2v-4',
 };
 
@@ -47,8 +55,11 @@ export function field(label, input, hint) {
 /** Why something was refused, and what to do; with the line of the file, if it is known. */
 export function refusal(error, more) {
   if (!(error instanceof Refused)) throw error;
-  return make('div', { class: 'refusal', role: 'alert' }, make('p', {}, sentenceOf(error)), more ? make('p', {}, more) : null,
-    make('p', { class: 'name' }, make('code', {}, nameOf(error))));
+  return make('div', { class: 'refusal', role: 'alert' },
+    make('p', {}, sentenceOf(error)),
+    more ? make('p', {}, more) : null,
+    make('p', { class: 'name' }, make('code', {}, nameOf(error))),
+  );
 }
 
 /** A button that copies a text, even on pages without TLS, where browsers have no clipboard. */

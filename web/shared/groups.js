@@ -18,7 +18,10 @@ const LOADED_AGAIN = 'loaded-again';
 /** Whether the site answers. */
 const isThere = () => fetch('/', { method: 'HEAD', cache: 'no-store' }).then(({ ok }) => ok, () => false);
 
-/** Loads the whole page again, once for a group. A browser that remembers nothing would do so without end, so it doesn't. */
+/**
+ * Loads the whole page again, once for a group. A browser that remembers nothing would do so without end, so it
+ * doesn't.
+ */
 async function loadAgain(name) {
   if (draft(LOADED_AGAIN) === name) return;
   keepDraft(LOADED_AGAIN, name);
@@ -28,8 +31,8 @@ async function loadAgain(name) {
 }
 
 /**
- * The module of a group. If the site answers but has no such file, it was upgraded since the page was loaded, or the browser remembers
- * that the file once failed (Firefox does). Then only loading the page again helps.
+ * The module of a group. If the site answers but has no such file, it was upgraded since the page was loaded, or the
+ * browser remembers that the file once failed (Firefox does). Then only loading the page again helps.
  * @param {keyof typeof GROUPS} name
  * @returns {Promise<any>}
  */

@@ -1,4 +1,5 @@
-// What this browser stores, if it may: settings permanently; unfinished work until the window is closed; and the scroll position of each page.
+// What this browser stores, if it may: settings permanently; unfinished work until the window is closed; and the scroll
+// position of each page.
 
 function read(store, name) {
   try {

@@ -1,5 +1,5 @@
-// The member under whose name the pages deposit: a field or, if the club checks passwords, the name that logs in. A page learns of passwords
-// from a refusal, or from a deposit that is another member's than the one that was typed.
+// The member under whose name the pages deposit: a field or, if the club checks passwords, the name that logs in. A
+// page learns of passwords from a refusal, or from a deposit that is another member's than the one that was typed.
 
 import { field, isMember, make } from './dom.js';
 import { keepSetting, setting } from './kept.js';
@@ -14,8 +14,12 @@ export const rememberMember = (name) => keepSetting('member', name);
 
 /** Says in place of the field whose deposits these will be. */
 function loginPart(login, another) {
-  return make('p', { class: 'login' }, 'This club checks passwords. What you send is stored for the member that you log in as', login ? [', last time ', make('strong', {}, login)] : '', '. ',
-    make('button', { type: 'button', class: 'quiet', click: another }, 'Type a name'));
+  return make('p', { class: 'login' },
+    'This club checks passwords. What you send is stored for the member that you log in as',
+    login ? [', last time ', make('strong', {}, login)] : '',
+    '. ',
+    make('button', { type: 'button', class: 'quiet', click: another }, 'Type a name'),
+  );
 }
 
 /**
@@ -25,7 +29,16 @@ function loginPart(login, another) {
  */
 export function memberPart(id, hint) {
   const lower = () => { if (input.value !== input.value.toLowerCase()) input.value = input.value.toLowerCase(); };
-  const input = make('input', { id, name: 'member', required: true, maxlength: LONGEST_MEMBER, autocomplete: 'username', autocapitalize: 'none', spellcheck: 'false', input: lower });
+  const input = make('input', {
+    id,
+    name: 'member',
+    required: true,
+    maxlength: LONGEST_MEMBER,
+    autocomplete: 'username',
+    autocapitalize: 'none',
+    spellcheck: 'false',
+    input: lower,
+  });
   const [kept, login] = [setting('member') ?? '', setting(LOGIN)];
   const part = make('div');
   let isTyped = login === null;
@@ -51,5 +64,7 @@ export function learnMember(typed, owner) {
   if (owner === typed && setting(LOGIN) === null) return null;
   keepSetting(LOGIN, owner);
   rememberMember(owner);
-  return typed === null || owner === typed ? null : `This club checks passwords: it is stored for ${owner}, who logged in, not for ${typed}.`;
+  return typed === null || owner === typed
+    ? null
+    : `This club checks passwords: it is stored for ${owner}, who logged in, not for ${typed}.`;
 }

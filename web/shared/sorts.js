@@ -30,7 +30,9 @@ export function sorted(rows, columns, { sort, isUp }, ...more) {
   const { value } = columns.find(({ id }) => id === sort);
   const sign = isUp ? 1 : -1;
   const values = new Map(rows.map((row) => [row, value(row, ...more)]));
-  return [...rows].sort((one, other) => (values.get(one) < values.get(other) ? -sign : values.get(one) > values.get(other) ? sign : 0));
+  return [...rows].sort((one, other) => (
+    values.get(one) < values.get(other) ? -sign : values.get(one) > values.get(other) ? sign : 0
+  ));
 }
 
 /** The heads of a table. */
@@ -47,7 +49,11 @@ export class Heads {
         this.mark({ sort: id, isUp: this.order.sort === id ? !this.order.isUp : Boolean(isUp) });
         changed(this.order);
       };
-      return make('th', { scope: 'col', class: [isNumber ? 'number' : '', more ? 'more' : ''].join(' ').trim(), 'data-column': id }, make('button', { type: 'button', class: 'sort', click: press }, head));
+      return make('th', {
+        scope: 'col',
+        class: [isNumber ? 'number' : '', more ? 'more' : ''].join(' ').trim(),
+        'data-column': id,
+      }, make('button', { type: 'button', class: 'sort', click: press }, head));
     });
     this.mark(order);
   }

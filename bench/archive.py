@@ -1,11 +1,12 @@
 #!/usr/bin/env python3
-"""Times the archive's calls, and Python's sqlite3 module with the same statements on the same tables, and prints a table.
+"""Times the archive's calls, and Python's sqlite3 module with the same statements on the same tables, and prints a
+table.
 
     bench/archive.py
 
-The program is bench/archive.rattle. It is not a crate of the repository, so that the gate does not prove it each time: it is
-built here in a folder of its own, over the crates as they are (which are proved on the way, if they are not yet), and
-runs there beside python's. Both files lie in that folder; both write a log and wait for the disk at each commit.
+The program is bench/archive.rattle. It is not a crate of the repository, so that the gate does not prove it each time:
+it is built here in a folder of its own, over the crates as they are (which are proved on the way, if they are not yet),
+and runs there beside python's. Both files lie in that folder; both write a log and wait for the disk at each commit.
 """
 import os
 import shutil
@@ -33,7 +34,11 @@ RLE = b"x = 3, y = 3, rule = B3/S23\nbo$2bo$3o!\n"
 
 TABLES = [
     "CREATE TABLE layout (version INTEGER NOT NULL) STRICT",
-    "CREATE TABLE deposits (id INTEGER PRIMARY KEY, member TEXT NOT NULL, token TEXT NOT NULL, rule TEXT NOT NULL, population INTEGER NOT NULL CHECK (population >= 0), rle BLOB NOT NULL, UNIQUE (member, token)) STRICT",
+    (
+        "CREATE TABLE deposits (id INTEGER PRIMARY KEY, member TEXT NOT NULL, token TEXT NOT NULL, "
+        "rule TEXT NOT NULL, population INTEGER NOT NULL CHECK (population >= 0), "
+        "rle BLOB NOT NULL, UNIQUE (member, token)) STRICT"
+    ),
 ]
 NEWEST = "SELECT id FROM deposits ORDER BY id DESC LIMIT 1"
 SHOW = "SELECT id, member, token, rle FROM deposits WHERE id = ?1 ORDER BY id"
@@ -134,7 +139,8 @@ def main() -> None:
     print(f"python {sys.version.split()[0]}, SQLite {sqlite3.sqlite_version}, load {os.getloadavg()[0]:.1f}")
     print()
     print(
-        "| calls | kept | life, memory, a second | python | life / python, time | life, file, a second | python | life / python, time |"
+        "| calls | kept | life, memory, a second | python | life / python, time |"
+        " life, file, a second | python | life / python, time |"
     )
     print("| --- | --- | --- | --- | --- | --- | --- | --- |")
     for name, words in CALLS:
@@ -150,7 +156,8 @@ def main() -> None:
             f"{words} {ours[store, SIZES[-1], name] / ours[store, SIZES[0], name]:.1f}" for name, words in CALLS
         )
         print(
-            f"At 100,000 kept a call takes, beside one at 100, in {'memory' if store == 'memory' else 'a file'}: {grown} times as long."
+            f"At 100,000 kept a call takes, beside one at 100, in {'memory' if store == 'memory' else 'a file'}: "
+            f"{grown} times as long."
         )
 
 

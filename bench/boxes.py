@@ -1,10 +1,12 @@
 #!/usr/bin/env python3
-"""Times 1,024 generations of soups of boxes of several sizes, the largest of them larger than a file can be, and prints a table.
+"""Times 1,024 generations of soups of boxes of several sizes, the largest of them larger than a file can be, and prints
+a table.
 
     bench/boxes.py
 
-The program is bench/boxes.rattle. It is not a crate of the repository, so that the gate does not prove it each time: it is built
-here in a folder of its own, over a copy of life_core, which is proved on the way. Only the call of `generation` is timed.
+The program is bench/boxes.rattle. It is not a crate of the repository, so that the gate does not prove it each time: it
+is built here in a folder of its own, over a copy of life_core, which is proved on the way. Only the call of
+`generation` is timed.
 """
 import os
 import shutil
@@ -35,7 +37,8 @@ def built(folder: str) -> str:
 
 def main() -> None:
     print(
-        "| soup | cells at the start | at generation 1,024 | ms a generation | ns a cell of the box | ns a live cell | peak memory, MB |"
+        "| soup | cells at the start | at generation 1,024 | ms a generation |"
+        " ns a cell of the box | ns a live cell | peak memory, MB |"
     )
     print("| --- | --- | --- | --- | --- | --- | --- |")
     with tempfile.TemporaryDirectory() as folder:
@@ -49,7 +52,8 @@ def main() -> None:
             each = took / GENERATIONS
             live = (first + last) / 2
             print(
-                f"| {side:,} by {side:,} | {first:,} | {last:,} | {each / 1e6:.3f} | {each / side / side:.3f} | {each / live:.2f} | {used.ru_maxrss / 1000:,.0f} |"
+                f"| {side:,} by {side:,} | {first:,} | {last:,} | {each / 1e6:.3f} |"
+                f" {each / side / side:.3f} | {each / live:.2f} | {used.ru_maxrss / 1000:,.0f} |"
             )
 
 

@@ -1,4 +1,5 @@
-"""Messages to a server at a port of this machine, and the client that sends them. `bench/serve` and `bench/compare` ask with these."""
+"""Messages to a server at a port of this machine, and the client that sends them. `bench/serve` and `bench/compare` ask
+with these."""
 import socket
 
 
@@ -28,13 +29,16 @@ def get(target: str) -> bytes:
 
 def deposit(token: str, body: bytes) -> bytes:
     return (
-        f"POST /deposits HTTP/1.1\r\nhost: a\r\nx-member: ann\r\nx-token: {token}\r\ncontent-length: {len(body)}\r\n\r\n".encode()
-        + body
-    )
+        "POST /deposits HTTP/1.1\r\nhost: a\r\nx-member: ann\r\n"
+        f"x-token: {token}\r\ncontent-length: {len(body)}\r\n\r\n"
+    ).encode() + body
 
 
 def census(token: str, number: int, generation: int, limit: int) -> bytes:
-    return f"POST /deposits/{number}/censuses/{generation}/{limit} HTTP/1.1\r\nhost: a\r\nx-member: ann\r\nx-token: {token}\r\ncontent-length: 0\r\n\r\n".encode()
+    return (
+        f"POST /deposits/{number}/censuses/{generation}/{limit} HTTP/1.1\r\nhost: a\r\nx-member: ann\r\n"
+        f"x-token: {token}\r\ncontent-length: 0\r\n\r\n"
+    ).encode()
 
 
 def number_of(body: bytes) -> int:

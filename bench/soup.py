@@ -6,8 +6,10 @@ file on every machine: the numbers come from a generator of our own (Marsaglia's
 
 soup.py --long BYTES writes a file of exactly that many bytes with as many items as fit.
 soup.py --sparse SIDE PERCENT SEED writes a square of that side in which PERCENT % of the cells are live.
-soup.py --grid SIDE SOUP SQUARE SEED writes a square of that side parted into squares, with a soup of SOUP by SOUP, half live, in each.
-soup.py --field OBJECTS SEED writes a field of scattered blocks, blinkers and gliders, each in a square of 6 by 6 of its own.
+soup.py --grid SIDE SOUP SQUARE SEED writes a square of that side parted into squares, with a soup of SOUP by SOUP, half
+    live, in each.
+soup.py --field OBJECTS SEED writes a field of scattered blocks, blinkers and gliders, each in a square of 6 by 6 of its
+    own.
 """
 import sys
 from collections.abc import Iterator

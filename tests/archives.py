@@ -10,7 +10,10 @@ from collections.abc import Iterable
 HERE = os.path.dirname(os.path.abspath(__file__))
 # The greatest length of a log that has no commit.
 BLANK = 41
-WORDS = "glider gun pulsar puffer rake eater block ship still oscillator synthesis tagalong breeder soup field fuse agar conduit reflector lane".split()
+WORDS = (
+    "glider gun pulsar puffer rake eater block ship still oscillator "
+    "synthesis tagalong breeder soup field fuse agar conduit reflector lane"
+).split()
 
 
 def tables() -> list[str]:

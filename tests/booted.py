@@ -1,4 +1,5 @@
-"""A Debian of tests/machine.py with the packages of life: what is asked of it, what it says, and a ledger of what it has acknowledged.
+"""A Debian of tests/machine.py with the packages of life: what is asked of it, what it says, and a ledger of what it
+has acknowledged.
 """
 import json
 import os
@@ -43,7 +44,8 @@ for method, path, headers, body in json.load(sys.stdin):
     connection.close()
 print(json.dumps(replies))
 """
-# Deposits through nginx from an address of its own, until it is killed; a line for each number that comes back. What gets no number is sent again.
+# Deposits through nginx from an address of its own, until it is killed; a line for each number that comes back. What
+# gets no number is sent again.
 DEPOSITING = """
 import http.client, json, sys, time
 name, address, first, most = sys.argv[1], sys.argv[2], sys.argv[3], int(sys.argv[4])

@@ -1,4 +1,5 @@
-"""A headless Chromium, from Debian's packages chromium, chromium-driver and python3-selenium, and a relay that drops replies.
+"""A headless Chromium, from Debian's packages chromium, chromium-driver and python3-selenium, and a relay that drops
+replies.
 """
 import json
 import os
@@ -169,7 +170,8 @@ class Browser:
     def drop(self, paths: list[str], selector: str) -> None:
         """Drops files on an element, as the system does."""
         box = self.run(
-            "const box = document.querySelector(arguments[0]).getBoundingClientRect(); return [box.x + box.width / 2, box.y + box.height / 2]",
+            "const box = document.querySelector(arguments[0]).getBoundingClientRect(); "
+            "return [box.x + box.width / 2, box.y + box.height / 2]",
             selector,
         )
         data = {"items": [], "files": paths, "dragOperationsMask": 1}
@@ -183,8 +185,8 @@ class Browser:
 
 
 class Relay:
-    """A relay in front of a server that drops the replies to some deposits: these are stored, but the client doesn't learn of it.
-    While `away` is set it passes nothing on, so that no request gets a reply."""
+    """A relay in front of a server that drops the replies to some deposits: these are stored, but the client doesn't
+    learn of it. While `away` is set it passes nothing on, so that no request gets a reply."""
 
     def __init__(self, port: int) -> None:
         self.to, self.left, self.away = port, 0, False

@@ -1,4 +1,5 @@
-"""What the tests of the archive's program share: counting results, a server that a test starts, messages to it, and certificates.
+"""What the tests of the archive's program share: counting results, a server that a test starts, messages to it, and
+certificates.
 
 A server is one that a script started, and is ended by its process number alone.
 """
@@ -65,7 +66,8 @@ PROGRAM = os.path.join(HERE, "..", "crates", "life_cli", "out", "life_cli")
 # Parallel processes of a test start their servers at separate ports, below those that the system gives to clients.
 FIRST_PORT = 12000
 PORTS = {"first": FIRST_PORT, "many": 4000, "last": 0}
-# A name of the system for each of the last ports, by which no other test here takes them, of another gate neither. It goes with the process.
+# A name of the system for each of the last ports, by which no other test here takes them, of another gate neither. It
+# goes with the process.
 TAKEN: collections.deque[socket.socket] = collections.deque()
 MOST_TAKEN = 200
 
@@ -180,7 +182,8 @@ def run(*words: str, data: bytes = b"") -> tuple[int, bytes, bytes]:
 
 
 def is_answered(archive: Archive, messages: Iterable[bytes], back: bytes) -> bool:
-    """Whether each reply is that of this reference archive, or unavailable. The archive then includes the messages that were answered."""
+    """Whether each reply is that of this reference archive, or unavailable. The archive then includes the messages that
+    were answered."""
     for one in messages:
         if back.startswith(UNAVAILABLE):
             back = back[len(UNAVAILABLE) :]
@@ -199,7 +202,8 @@ def certify(certificate: str, key: str, name: str = "localhost") -> None:
 
 
 def new_folder() -> str:
-    """A folder in memory, if the system has room for one: programs wait for a disk at each commit, and tests kill only the program, not the system."""
+    """A folder in memory, if the system has room for one: programs wait for a disk at each commit, and tests kill only
+    the program, not the system."""
     memory = "/dev/shm"
     fits = (
         os.access(memory, os.W_OK)

@@ -1,5 +1,5 @@
-"""A club in a folder, for tests: its archive, copies and settings, and the commands of deploy/ over them. systemd is a stand-in here, which
-starts and kills the program for real.
+"""A club in a folder, for tests: its archive, copies and settings, and the commands of deploy/ over them. systemd is a
+stand-in here, which starts and kills the program for real.
 """
 import getpass
 import http.client
@@ -24,12 +24,13 @@ DEPLOY = os.path.join(HERE, "..", "deploy")
 Answer = tuple[int, str, str]
 STAMPED = re.compile(r"club-(\d{4}-\d\d-\d\dT\d{4})\.db")
 MEMBERS = ["ann", "bob", "cid", "dan", "eve"]
-# A stand-in for systemctl: it records its arguments, kills the program as a power cut would, and starts it. After a failure it refuses
-# every start until the failure is reset.
+# A stand-in for systemctl: it records its arguments, kills the program as a power cut would, and starts it. After a
+# failure it refuses every start until the failure is reset.
 SYSTEMCTL = r"""#!/bin/bash
 room=$(dirname "$(dirname "$0")")
 echo "$*" >> "$room/called"
-runs() { [ -e "$room/pid" ] && grep -Eq "^State:[[:space:]]+[^ZX[:space:]]" "/proc/$(cat "$room/pid")/status" 2> /dev/null; }
+runs() { [ -e "$room/pid" ] &&
+  grep -Eq "^State:[[:space:]]+[^ZX[:space:]]" "/proc/$(cat "$room/pid")/status" 2> /dev/null; }
 case $1 in
   is-active) if runs; then echo active; else echo inactive; exit 3; fi ;;
   reset-failed) rm -f "$room/failed" ;;
@@ -78,7 +79,8 @@ def write(path: str, text: str, mode: int = 0o644) -> None:
 
 
 class Club:
-    """The folders of a club, its settings, and a ledger of what was acknowledged. USER owns the archive, and WEB the cache."""
+    """The folders of a club, its settings, and a ledger of what was acknowledged. USER owns the archive, and WEB the
+    cache."""
 
     def __init__(
         self, folder: str, name: str, user: str | None = None, web: str | None = None, **changes: str | int
@@ -248,7 +250,8 @@ def deposit_of(member: str) -> ledger.Deposit:
 
 
 def write_wrong_row(database: str) -> None:
-    """Writes an archive of two deposits by sqlite3, without checksums of pages. The first has one cell more than its pattern."""
+    """Writes an archive of two deposits by sqlite3, without checksums of pages. The first has one cell more than its
+    pattern."""
     kept = archives.new_archive(database)
     for number, population in ((1, 6), (2, 5)):
         row = (number, f"t{number}", population, GLIDER_TEXT)
@@ -323,10 +326,15 @@ import os, runpy, sys
 counts, wanted, number, below = sys.argv[1], int(sys.argv[2]), int(sys.argv[3]), tuple(sys.argv[4].split(":"))
 sys.argv = sys.argv[5:]
 steps, own = 0, os.getpid()
-MORE = ("os.rename", "os.remove", "os.mkdir", "os.rmdir", "os.chdir", "os.chmod", "subprocess.Popen", "fcntl.flock", "fcntl.lockf", "sqlite3.connect", "socket.connect")
+MORE = (
+    "os.rename", "os.remove", "os.mkdir", "os.rmdir", "os.chdir", "os.chmod", "subprocess.Popen",
+    "fcntl.flock", "fcntl.lockf", "sqlite3.connect", "socket.connect"
+)
 def step(event, words):
     global steps
-    if os.getpid() == own and (event in MORE or event in ("open", "os.listdir", "os.scandir") and str(words[0]).startswith(below)):
+    if os.getpid() == own and (
+        event in MORE or event in ("open", "os.listdir", "os.scandir") and str(words[0]).startswith(below)
+    ):
         steps += 1
         if steps == wanted:
             os.kill(own, number)

@@ -1,7 +1,8 @@
 """What pytest needs to run every part: the program that is tested, folders, and checks after which a test continues.
 
-A test makes many checks, with `check` and `same` of clients.py. It runs to its end, and fails if one of them failed, with what came and what
-was wanted for each. The last line of a run is 'N passed, M failed, K skipped': it counts checks, and a test without checks as one.
+A test makes many checks, with `check` and `same` of clients.py. It runs to its end, and fails if one of them failed,
+with what came and what was wanted for each. The last line of a run is 'N passed, M failed, K skipped': it counts
+checks, and a test without checks as one.
 """
 import os
 import shutil

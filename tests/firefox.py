@@ -1,5 +1,5 @@
-"""A headless Firefox, as in Debian's package firefox-esr, driven over Marionette: Firefox's own protocol, which geckodriver speaks too. Debian
-has no geckodriver.
+"""A headless Firefox, as in Debian's package firefox-esr, driven over Marionette: Firefox's own protocol, which
+geckodriver speaks too. Debian has no geckodriver.
 """
 import json
 import os

@@ -1,7 +1,7 @@
 """Hauls computed for the tests by an implementation that shares no code with `life-haul`.
 
-Soups come from hashlib. Generations and clusters are sets of cells. The program `life` is asked for the code of each shape once.
-A cell is one number, as in life.py.
+Soups come from hashlib. Generations and clusters are sets of cells. The program `life` is asked for the code of each
+shape once. A cell is one number, as in life.py.
 """
 import hashlib
 import subprocess
@@ -24,7 +24,8 @@ MIRRORS = {"D2_+1": 0, "D2_+2": -1}
 
 
 def soup(root: str, number: int, symmetry: str = "C1") -> life.Cells:
-    """The live cells of a soup: the bits of its digest that are 1, row by row, each byte's highest bit first; and their mirror images."""
+    """The live cells of a soup: the bits of its digest that are 1, row by row, each byte's highest bit first; and their
+    mirror images."""
     digest = int.from_bytes(hashlib.sha256(f"{root}{number}".encode()).digest(), "big")
     places = [divmod(bit, WIDTHS[symmetry]) for bit in range(256) if digest >> 255 - bit & 1]
     places += [(MIRRORS[symmetry] - row, column) for row, column in places] if symmetry in MIRRORS else []
@@ -54,7 +55,8 @@ class Names:
         self.known: dict[life.Cells, str | None] = {}
 
     def ask(self, cells: life.Cells) -> str | None:
-        """The code of a shape or None. The program prints `still CODE`, `oscillator P CODE`, `ship P DX DY CODE` or `unresolved`."""
+        """The code of a shape or None. The program prints `still CODE`, `oscillator P CODE`, `ship P DX DY CODE` or
+        `unresolved`."""
         ended = subprocess.run(
             ["life", "kind", str(self.limit)],
             executable=self.program,
@@ -104,7 +106,8 @@ def read_table(text: str) -> Table:
 def table_text(
     table: Written, root: str, first: int, count: int, n: int, limit: int, rule: str, symmetry: str = "C1"
 ) -> str:
-    """The text of the table of a haul: its heading, rows in byte order of their codes, the clusters without a code, and the sums. C1 is not named."""
+    """The text of the table of a haul: its heading, rows in byte order of their codes, the clusters without a code, and
+    the sums. C1 is not named."""
     heading = f"# root {root}\n# rule {rule}\n# generation {n}\n# limit {limit}\n"
     heading += ("" if symmetry == "C1" else f"# symmetry {symmetry}\n") + "code,count,first\n"
     rows = [

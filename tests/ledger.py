@@ -1,5 +1,5 @@
-"""A ledger of deposits outside the archive: each number that was acknowledged, with its content. At the end of a case it is compared with what
-the archive serves, or with what a file has.
+"""A ledger of deposits outside the archive: each number that was acknowledged, with its content. At the end of a case
+it is compared with what the archive serves, or with what a file has.
 """
 import json
 import os
@@ -34,8 +34,8 @@ def beginning(ledger: Ledger, count: int) -> Ledger:
 
 
 def faults(ledger: Ledger, ask: Ask, tokens: bool = True) -> list[str]:
-    """What an archive that is served has otherwise than the ledger, which has all of its numbers: a text, a member, a number too many, or a
-    token, which has to lead to its number again. Without tokens nothing but reads is asked."""
+    """What an archive that is served has otherwise than the ledger, which has all of its numbers: a text, a member, a
+    number too many, or a token, which has to lead to its number again. Without tokens nothing but reads is asked."""
     count = len(ledger)
     reads: list[Request] = [("GET", f"/deposits/{number}", {}, b"") for number in range(1, count + 2)]
     lists: list[Request] = [

@@ -1,6 +1,6 @@
-"""The game for all tests and benches: rules, sets of cells and their generations, pattern files and codes, from docs/FORMATS.md. It shares
-no code with the program. The limits are those of docs/limits.csv. Only tests/test_planes.py has a stepper of its own, which steps large
-fields as one number.
+"""The game for all tests and benches: rules, sets of cells and their generations, pattern files and codes, from
+docs/FORMATS.md. It shares no code with the program. The limits are those of docs/limits.csv. Only tests/test_planes.py
+has a stepper of its own, which steps large fields as one number.
 
 A set of cells is a frozenset of pairs (column, row).
 """
@@ -157,7 +157,8 @@ def texts_before(lines: list[bytes]) -> tuple[bytes | None, bytes | None, list[b
 
 
 def read_file(data: bytes, is_limited: bool = True) -> Record:
-    """The record of a file, its cells normal; or its fault. The text of a generation may be longer and wider than a file that is deposited."""
+    """The record of a file, its cells normal; or its fault. The text of a generation may be longer and wider than a
+    file that is deposited."""
     if is_limited and len(data) > LONGEST_FILE:
         raise Fault(1)
     lines = data.split(b"\n")
@@ -314,7 +315,8 @@ def wechsler(cells: Cells) -> str:
 
 
 def code_of(rule: Rule, cells: Cells, limit: int) -> str | None:
-    """The code of a pattern that comes back within the limit and has a phase of at most LARGEST_BOX columns and rows; otherwise None."""
+    """The code of a pattern that comes back within the limit and has a phase of at most LARGEST_BOX columns and rows;
+    otherwise None."""
     kind = kind_of(rule, cells, limit)
     if kind[0] in ("empty", "unresolved"):
         return None

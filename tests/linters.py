@@ -1,6 +1,6 @@
-"""The formatters and linters of the repository, as Debian has them, with the files that each looks at: black, flake8, mypy, shfmt, shellcheck and
-tsc. Their settings are in pyproject.toml, .flake8, .editorconfig and tests/types/tsconfig.json. tests/test_lint.py runs them. A script without
-an ending is known by its first line.
+"""The formatters and linters of the repository, as Debian has them, with the files that each looks at: black, flake8,
+mypy, shfmt, shellcheck and tsc. Their settings are in pyproject.toml, .flake8, .editorconfig and
+tests/types/tsconfig.json. tests/test_lint.py runs them. A script without an ending is known by its first line.
 
     python3 tests/linters.py    formats Python and bash in place
 """

@@ -9,8 +9,8 @@ import signal
 import subprocess
 import time
 
-# What systemd finds as its machine, whose folder is the first argument: what belongs to the host's kernel is read-only, its devices are
-# not there.
+# What systemd finds as its machine, whose folder is the first argument: what belongs to the host's kernel is read-only,
+# its devices are not there.
 BOOT = """set -eu
 mount --bind "$1" "$1"
 cd "$1"
@@ -60,7 +60,8 @@ def cgroups() -> str:
 
 
 def make(tar: str) -> str:
-    """Makes a fresh Debian as a tar file, with the packages' dependencies: the machine has no network to fetch them. Why it can't, or nothing."""
+    """Makes a fresh Debian as a tar file, with the packages' dependencies: the machine has no network to fetch them.
+    Why it can't, or nothing."""
     words = ["mmdebstrap", "--quiet", "--variant=minbase", f"--include={PACKAGES}", "bookworm", tar]
     done = subprocess.run(words, stdin=subprocess.DEVNULL, capture_output=True, text=True, timeout=900, check=False)
     return "" if done.returncode == 0 else (done.stderr.strip().splitlines() or ["no word"])[-1]

@@ -1,5 +1,6 @@
-"""The mistakes of an administrator, and what must hold after each: nothing that was acknowledged is lost, it is said what is wrong, and the
-archive is served again once that was done which the documents say. tests/test_boot.py makes them.
+"""The mistakes of an administrator, and what must hold after each: nothing that was acknowledged is lost, it is said
+what is wrong, and the archive is served again once that was done which the documents say. tests/test_boot.py makes
+them.
 """
 import ast
 import json
@@ -40,7 +41,8 @@ SEED = 20261130
 OLDER_COPY = f"{COPIES}/club-2020-01-01T0000.db"
 # Puts the archive aside, and a copy whose pages are empty but for the first in its place.
 DAMAGES = (
-    f"life-copy {ARCHIVE} /srv/damaged.db; size=$(stat -c %s /srv/damaged.db); truncate -s 4096 /srv/damaged.db; truncate -s $size /srv/damaged.db; "
+    f"life-copy {ARCHIVE} /srv/damaged.db; size=$(stat -c %s /srv/damaged.db); "
+    "truncate -s 4096 /srv/damaged.db; truncate -s $size /srv/damaged.db; "
     f"mkdir -p /srv/aside; mv {ARCHIVE}* /srv/aside; install -o life -g life -m 600 /srv/damaged.db {ARCHIVE}"
 )
 # What a monitor asks for, as docs/OPERATING.md has it.
@@ -59,8 +61,8 @@ class Elsewhere(NamedTuple):
 
 
 class Mistake(NamedTuple):
-    """What is done, by commands of root, by a function, or elsewhere; what is said then, as a regular expression; and what an administrator does
-    about it, after which all is served."""
+    """What is done, by commands of root, by a function, or elsewhere; what is said then, as a regular expression; and
+    what an administrator does about it, after which all is served."""
 
     name: str
     done: str | Callable[[Debian], None] | Elsewhere
@@ -72,23 +74,27 @@ class Mistake(NamedTuple):
 
 
 def puts_the_archive_on_a_disk(debian: Debian) -> None:
-    """The archive is on a disk of its own by /etc/fstab, and an older one is below its folder. The disk is a folder of the machine here."""
+    """The archive is on a disk of its own by /etc/fstab, and an older one is below its folder. The disk is a folder of
+    the machine here."""
     debian.shell(
-        f"{COPY}; systemctl stop life.service; mkdir /srv/media; install -d -o life -m 700 /srv/media/disk; mv /var/lib/life/* /srv/media/disk; "
-        f"install -o life -g life -m 600 {OLDER_COPY} {ARCHIVE}; echo '/srv/media/disk /var/lib/life none bind,nofail 0 0' >> /etc/fstab; "
+        f"{COPY}; systemctl stop life.service; mkdir /srv/media; "
+        "install -d -o life -m 700 /srv/media/disk; mv /var/lib/life/* /srv/media/disk; "
+        f"install -o life -g life -m 600 {OLDER_COPY} {ARCHIVE}; "
+        "echo '/srv/media/disk /var/lib/life none bind,nofail 0 0' >> /etc/fstab; "
         "systemctl daemon-reload; mount /var/lib/life; systemctl start life.service"
     )
 
 
 TAKES_OFF_THE_DISK = (
-    f"systemctl stop life.service; sed -i '/srv.media/d' /etc/fstab; systemctl daemon-reload; umount -q /var/lib/life || true; rm -r /var/lib/life/*; mv /srv/media/disk/* /var/lib/life; "
+    "systemctl stop life.service; sed -i '/srv.media/d' /etc/fstab; systemctl daemon-reload; "
+    "umount -q /var/lib/life || true; rm -r /var/lib/life/*; mv /srv/media/disk/* /var/lib/life; "
     f"rm -r /srv/media; {AGAIN}"
 )
 
 
 def boots_without_its_disk(debian: Debian) -> None:
-    """The disk is in /etc/fstab, with nofail, and is away: all else starts, and an older archive below the mount point is not served. Once the
-    disk is back a start is enough."""
+    """The disk is in /etc/fstab, with nofail, and is away: all else starts, and an older archive below the mount point
+    is not served. Once the disk is back a start is enough."""
     puts_the_archive_on_a_disk(debian)
     told = alarms(debian, "life.service")
     check("switched off", debian.switch_off())
@@ -114,10 +120,12 @@ def boots_without_its_disk(debian: Debian) -> None:
 
 
 def forgets_the_line_of_fstab(debian: Debian) -> None:
-    """The disk is no longer mounted, and an older archive below its folder is served: the next copy refuses, and is an alarm."""
+    """The disk is no longer mounted, and an older archive below its folder is served: the next copy refuses, and is an
+    alarm."""
     puts_the_archive_on_a_disk(debian)
     debian.shell(
-        f"sed -i '/srv.media/d' /etc/fstab; systemctl daemon-reload; systemctl stop life.service; umount /var/lib/life; {AGAIN}"
+        "sed -i '/srv.media/d' /etc/fstab; systemctl daemon-reload; systemctl stop life.service; "
+        f"umount /var/lib/life; {AGAIN}"
     )
     check("the older archive is served", debian.has_all(beginning(debian.ledger, 3)))
     check("the next copy refuses", debian.run("systemctl", "start", "life-backup.service").returncode != 0)
@@ -129,7 +137,8 @@ def fills_the_disk(debian: Debian) -> None:
     debian.shell(
         "systemctl stop life-age.timer life.service; mkdir /srv/kept; cp -p /var/lib/life/club.db* /srv/kept; "
         + DISK.format(size="1m", folder="/var/lib/life")
-        + "; cp -p /srv/kept/club.db* /var/lib/life; systemctl start life.service; dd if=/dev/zero of=/var/lib/life/filler bs=4k 2> /dev/null || true"
+        + "; cp -p /srv/kept/club.db* /var/lib/life; systemctl start life.service; "
+        "dd if=/dev/zero of=/var/lib/life/filler bs=4k 2> /dev/null || true"
     )
     answer = deposited(debian, len(debian.ledger) + 1)
     same(f"a deposit on a full disk: {answer}", answer, ("503", '{"error":"unavailable","refusal":11}'))
@@ -148,7 +157,8 @@ def fills_the_disk(debian: Debian) -> None:
     debian.run("rm", "/var/lib/life/filler")
     check("the same deposit once there is room", until(debian.deposit) and debian.has_all())
     debian.shell(
-        "systemctl stop life.service; cp -p /var/lib/life/club.db* /srv/kept; umount /var/lib/life; cp -p /srv/kept/club.db* /var/lib/life; rm -r /srv/kept; "
+        "systemctl stop life.service; cp -p /var/lib/life/club.db* /srv/kept; umount /var/lib/life; "
+        "cp -p /srv/kept/club.db* /var/lib/life; rm -r /srv/kept; "
         "systemctl start life.service life-age.timer; systemctl reset-failed"
     )
 
@@ -157,7 +167,8 @@ def fills_the_disk(debian: Debian) -> None:
 
 
 def exchanges_the_file(debian: Debian, harm: str) -> None:
-    """Harms the file while it is served, deposits on, and does what is said: the newest copy with the log that is there has all."""
+    """Harms the file while it is served, deposits on, and does what is said: the newest copy with the log that is there
+    has all."""
     debian.shell(COPY)
     check("a deposit after the copy", debian.deposit())
     debian.shell(harm)
@@ -196,7 +207,8 @@ def copies_over_the_stopped_file(debian: Debian) -> None:
 def loses_the_file(debian: Debian) -> None:
     """The archive is gone, and systemd has given up: a restore starts the service at once."""
     debian.shell(
-        f"{COPY}; systemctl stop life.service; mkdir -p /srv/aside; mv {ARCHIVE}* /srv/aside; systemctl start life.service || true"
+        f"{COPY}; systemctl stop life.service; mkdir -p /srv/aside; "
+        f"mv {ARCHIVE}* /srv/aside; systemctl start life.service || true"
     )
     check("the unit has failed", until(lambda: state(debian) == "failed"))
     done = debian.run("bash", "-c", f"life-restore {NEWEST}")
@@ -205,8 +217,8 @@ def loses_the_file(debian: Debian) -> None:
 
 
 def breaks_the_file(debian: Debian) -> None:
-    """Another owner, damage, a file that is missing: `systemctl status` says what is wrong, an alarm is sent, and nothing is made again.
-    Meanwhile a monitor sees that the gateway is there, and the archive is not."""
+    """Another owner, damage, a file that is missing: `systemctl status` says what is wrong, an alarm is sent, and
+    nothing is made again. Meanwhile a monitor sees that the gateway is there, and the archive is not."""
     told = alarms(debian, "life.service")
     check("a monitor sees an archive that is served", until(lambda: curl(debian, HEALTH) == ("200", '{"deposits":[]}')))
     for name, breaks, mends, said in (
@@ -263,8 +275,8 @@ def way_back(done: Done) -> str:
 
 
 def restores_an_older_copy(debian: Debian) -> None:
-    """An older copy is put back on purpose, while the archive has more, and a cached page of what is gone: it has to be asked for. Numbers
-    continue from the copy, copies are made, and what was there is kept."""
+    """An older copy is put back on purpose, while the archive has more, and a cached page of what is gone: it has to be
+    asked for. Numbers continue from the copy, copies are made, and what was there is kept."""
     # A copy of the next minute has a name of its own.
     older, aside = OLDER_COPY, "/srv/before.db"
     os.rename(debian.path(f"{COPIES}/{copies(debian)[-1]}"), debian.path(older))
@@ -314,7 +326,8 @@ def restores_an_older_copy(debian: Debian) -> None:
 def restores_another_club(debian: Debian) -> None:
     """The copy of another club is refused; where it is asked for, the command that goes back is named."""
     debian.shell(
-        f"{COPY}; printf 'x = 3, y = 3\\nbo$2bo$3o!\\n' | life deposit --db /srv/other.db eve t1; chown life: /srv/other.db*"
+        f"{COPY}; printf 'x = 3, y = 3\\nbo$2bo$3o!\\n' | life deposit --db /srv/other.db eve t1; "
+        "chown life: /srv/other.db*"
     )
     before = main_process(debian)
     done = debian.run("life-restore", "--older", "/srv/other.db")
@@ -338,9 +351,14 @@ NO_COPIES = {
     "an empty file": ": > /srv/no.db",
     "a missing file": "rm -f /srv/no.db",
     "a folder": "rm -f /srv/no.db; mkdir /srv/no.db",
-    "another database": 'rmdir /srv/no.db; python3 -c \'import sqlite3; sqlite3.connect("/srv/no.db").execute("CREATE TABLE t (n)")\'',
+    "another database": (
+        "rmdir /srv/no.db; python3 -c "
+        '\'import sqlite3; sqlite3.connect("/srv/no.db").execute("CREATE TABLE t (n)")\''
+    ),
     "half a copy": f"head -c 6000 {NEWEST} > /srv/no.db",
-    "a bit that is another one": f"cp {NEWEST} /srv/no.db; printf x | dd of=/srv/no.db bs=1 seek=9000 conv=notrunc 2> /dev/null",
+    "a bit that is another one": (
+        f"cp {NEWEST} /srv/no.db; printf x | dd of=/srv/no.db bs=1 seek=9000 conv=notrunc 2> /dev/null"
+    ),
     "the index": "cp /var/lib/life-index/index.json /srv/no.db 2> /dev/null || echo '{}' > /srv/no.db",
 }
 
@@ -368,15 +386,18 @@ def restores_no_copy(debian: Debian) -> None:
 
 # Runs a restore that gets a signal once it has said that the service is stopped, and prints its status.
 SIGNALLED = (
-    "life-restore --older {copy} > /tmp/said 2>&1 & restore=$!; until grep -q 'is stopped' /tmp/said || ! kill -0 $restore 2> /dev/null; do sleep 0.01; done; "
+    "life-restore --older {copy} > /tmp/said 2>&1 & restore=$!; "
+    "until grep -q 'is stopped' /tmp/said || ! kill -0 $restore 2> /dev/null; do sleep 0.01; done; "
     "kill -{name} $restore; wait $restore; echo $?; cat /tmp/said"
 )
 
 
 def interrupts_a_restore(debian: Debian) -> None:
-    """A signal in a restore leaves all as it was, or as the copy is, and the service runs. After a kill this is so after the next command."""
+    """A signal in a restore leaves all as it was, or as the copy is, and the service runs. After a kill this is so
+    after the next command."""
     debian.shell(
-        f"rm -rf {COPIES}/before-restore-*; mkdir -p /srv/whole; systemctl stop life.service; cp -p {ARCHIVE}* /srv/whole; systemctl start life.service"
+        f"rm -rf {COPIES}/before-restore-*; mkdir -p /srv/whole; systemctl stop life.service; "
+        f"cp -p {ARCHIVE}* /srv/whole; systemctl start life.service"
     )
     older = OLDER_COPY
     had = rows_of(debian.path(older))
@@ -396,7 +417,8 @@ def interrupts_a_restore(debian: Debian) -> None:
         left = debian.run("sh", "-c", f"ls -d {ARCHIVE}.exchange 2> /dev/null").stdout
         same(f"no journal is left after {name}: {left}", left, "")
         debian.shell(
-            f"systemctl stop life.service; rm -rf {ARCHIVE}* /var/lib/life/before-restore-*; cp -p /srv/whole/club.db* /var/lib/life; "
+            f"systemctl stop life.service; rm -rf {ARCHIVE}* /var/lib/life/before-restore-*; "
+            "cp -p /srv/whole/club.db* /var/lib/life; "
             f"mv {COPIES}/before-restore-*/*.db {COPIES} 2> /dev/null || true; {AGAIN}"
         )
         check(f"all of them again after {name}", state(debian) == "active" and debian.has_all())
@@ -450,7 +472,8 @@ def kills_everything(debian: Debian) -> None:
 
 
 def kills_under_deposits(debian: Debian) -> None:
-    """The program is killed while five clients deposit: each gets a number for each of its files, and no number is given twice."""
+    """The program is killed while five clients deposit: each gets a number for each of its files, and no number is
+    given twice."""
     running = debian.clients(5, "kills", most=40)
     for _ in range(5):
         time.sleep(0.7)
@@ -463,8 +486,8 @@ def kills_under_deposits(debian: Debian) -> None:
 
 
 def cuts_the_power(debian: Debian) -> None:
-    """The machine loses its current in the middle of deposits, twice: what was acknowledged is there after the next boot. What was not, and
-    is there all the same, is what somebody sent."""
+    """The machine loses its current in the middle of deposits, twice: what was acknowledged is there after the next
+    boot. What was not, and is there all the same, is what somebody sent."""
     chance = random.Random(SEED)
     for turn in range(2):
         running, before = debian.clients(5, f"cut-{turn}"), len(debian.ledger)
@@ -479,7 +502,8 @@ def cuts_the_power(debian: Debian) -> None:
 
 
 def unacknowledged(debian: Debian) -> int:
-    """Puts numbers into the ledger that are there and were never acknowledged; how many. Each is a file that a client has sent."""
+    """Puts numbers into the ledger that are there and were never acknowledged; how many. Each is a file that a client
+    has sent."""
     count, rows = 0, rows_in_archive(debian)
     for number in sorted(set(rows) - set(debian.ledger)):
         one = rows[number]
@@ -524,8 +548,8 @@ def is_old(debian: Debian, version: str) -> bool:
 
 
 def upgrades_without_a_copy(debian: Debian) -> None:
-    """Without a copy nothing is upgraded: the archive is not there, the copies' disk is full, the settings are broken or gone. The program that
-    runs is the old one."""
+    """Without a copy nothing is upgraded: the archive is not there, the copies' disk is full, the settings are broken
+    or gone. The program that runs is the old one."""
     for name, harm, mend in (
         ("the archive is not there", f"mv {ARCHIVE} /srv/moved.db", f"mv /srv/moved.db {ARCHIVE}"),
         ("the copies' disk is full", DISK.format(size="40k", folder=COPIES), f"umount {COPIES}"),
@@ -546,7 +570,8 @@ def upgrades_without_a_copy(debian: Debian) -> None:
     done = debian.run(
         "bash",
         "-c",
-        f"cp {SETTINGS} /srv/settings; echo 'READS 60' >> {SETTINGS}; {COPY.replace('systemctl start', 'true')}; life-restore --older {OLDER_COPY}; mv /srv/settings {SETTINGS}",
+        f"cp {SETTINGS} /srv/settings; echo 'READS 60' >> {SETTINGS}; "
+        f"{COPY.replace('systemctl start', 'true')}; life-restore --older {OLDER_COPY}; mv /srv/settings {SETTINGS}",
     )
     check(
         f"a restore with a broken line: {done.stdout}{done.stderr}",
@@ -556,13 +581,14 @@ def upgrades_without_a_copy(debian: Debian) -> None:
 
 
 def upgrades(debian: Debian) -> None:
-    """The next version over this one: a copy from before it is there, and the archive continues. What was stopped stays so, and what was changed
-    by hand, too, also a unit of somebody else."""
+    """The next version over this one: a copy from before it is there, and the archive continues. What was stopped stays
+    so, and what was changed by hand, too, also a unit of somebody else."""
     before = main_process(debian)
     change_settings(debian, KEEP_MONTHS=11)
     debian.shell(
-        f"systemctl stop life-index.timer; sed -i 's/^server {{/&\\n    deny 203.0.113.7; # ours/' {SITE}; printf ' \\r\\n# caf\\351\\n' >> {SETTINGS}; "
-        f"sed -i 's/^ARCHIVE=.*/& /' {SETTINGS}; printf '[Service]\\nType=oneshot\\nExecStart=/bin/true\\n' > /etc/systemd/system/life-index.service"
+        f"systemctl stop life-index.timer; sed -i 's/^server {{/&\\n    deny 203.0.113.7; # ours/' {SITE}; "
+        f"printf ' \\r\\n# caf\\351\\n' >> {SETTINGS}; sed -i 's/^ARCHIVE=.*/& /' {SETTINGS}; "
+        "printf '[Service]\\nType=oneshot\\nExecStart=/bin/true\\n' > /etc/systemd/system/life-index.service"
     )
     done = installed(debian, LATER)
     check(f"an upgrade: {done.stderr[-300:]}", done.returncode == 0 and is_old(debian, LATER))
@@ -594,7 +620,8 @@ def upgrades(debian: Debian) -> None:
 
 
 def written_as_schema_1(path: str) -> int:
-    """Writes an archive of schema version 1 in the place of an archive, with its deposits, a block, and censuses of the glider and of the block."""
+    """Writes an archive of schema version 1 in the place of an archive, with its deposits, a block, and censuses of the
+    glider and of the block."""
     old = sqlite3.connect(path)
     rows = old.execute("SELECT id, member, token, rule, population, rle FROM deposits ORDER BY id").fetchall()
     old.close()
@@ -631,7 +658,8 @@ def version_in(path: str) -> tuple[list[int], list[tuple[int, int]] | None]:
 
 
 def upgrades_an_old_archive(debian: Debian) -> None:
-    """An upgrade over an archive of schema version 1: the copy from before is still of that version, the archive is of version 2 and served."""
+    """An upgrade over an archive of schema version 1: the copy from before is still of that version, the archive is of
+    version 2 and served."""
     debian.run("systemctl", "stop", "life.service")
     block, version = (
         written_as_schema_1(debian.path(ARCHIVE)),
@@ -664,7 +692,8 @@ def upgrades_an_old_archive(debian: Debian) -> None:
 
 
 def downgrades(debian: Debian) -> None:
-    """The older version is installed over the newer one, and the copy from before is put back: what came since is named, and kept."""
+    """The older version is installed over the newer one, and the copy from before is put back: what came since is
+    named, and kept."""
     before = beginning(debian.ledger, len(debian.ledger))
     copy = f"{COPIES}/before-{LATEST}-back.db"
     debian.shell(f"life-copy {ARCHIVE} {copy}")
@@ -709,7 +738,8 @@ def removes_the_packages(debian: Debian) -> None:
 
 
 def purges_the_packages(debian: Debian) -> None:
-    """The packages are purged: the archive and its copies stay, the other site too, and nothing else. Installed again, they are served."""
+    """The packages are purged: the archive and its copies stay, the other site too, and nothing else. Installed again,
+    they are served."""
     debian.run("systemctl", "stop", "life.service")
     archive = sums(debian.path(ARCHIVE))
     same("removed", debian.run("apt-get", "remove", "--yes", "life", "life-gateway", timeout=300).returncode, 0)
@@ -730,8 +760,9 @@ def purges_the_packages(debian: Debian) -> None:
     left = debian.run(
         "sh",
         "-c",
-        "ls -d /etc/life /etc/nginx/sites-*/life* /etc/systemd/system/life* /etc/logrotate.d/life* /usr/lib/life /var/cache/life "
-        "/var/lib/life-index /var/lib/life-metrics /var/log/nginx/life* /var/log/life-gateway /run/life-alarm 2> /dev/null",
+        "ls -d /etc/life /etc/nginx/sites-*/life* /etc/systemd/system/life* /etc/logrotate.d/life* "
+        "/usr/lib/life /var/cache/life /var/lib/life-index /var/lib/life-metrics "
+        "/var/log/nginx/life* /var/log/life-gateway /run/life-alarm 2> /dev/null",
     ).stdout
     same(f"nothing else is left: {left}", left, "")
     done = installed(debian, LATER)
@@ -742,13 +773,17 @@ def purges_the_packages(debian: Debian) -> None:
 
 UPGRADES, CONFIGURATIONS = 10, 16
 NAMES = ("TERM", "KILL", "INT", "HUP")
-# Upgrades in a job of its own, which gets a signal after a while: dpkg alone, or all that it runs, as a Ctrl-C comes to them.
-UPGRADING = "set -m; dpkg --install {files} > /tmp/said 2>&1 & run=$!; sleep {wait}; kill -{name} -- {who}; wait $run; echo $?; cat /tmp/said"
+# Upgrades in a job of its own, which gets a signal after a while: dpkg alone, or all that it runs, as a Ctrl-C comes to
+# them.
+UPGRADING = (
+    "set -m; dpkg --install {files} > /tmp/said 2>&1 & run=$!; sleep {wait}; "
+    "kill -{name} -- {who}; wait $run; echo $?; cat /tmp/said"
+)
 
 
 def interrupts_an_upgrade(debian: Debian) -> None:
-    """Signals at moments by a seed in an upgrade. After each the archive is whole and served, and the same upgrade comes to its end, with a
-    copy from before."""
+    """Signals at moments by a seed in an upgrade. After each the archive is whole and served, and the same upgrade
+    comes to its end, with a copy from before."""
     chance, versions, begun = random.Random(SEED), [VERSION, LATER], time.monotonic()
     debian.shell(f"dpkg --install {' '.join(packages_of(VERSION))}")
     usual = time.monotonic() - begun
@@ -790,14 +825,16 @@ def lies_about(debian: Debian, line: str) -> None:
     left = debian.run(
         "bash",
         "-c",
-        f"ls -d /etc/life/*.dpkg-* /etc/nginx/*/*.dpkg-* /etc/systemd/system/*.dpkg-* /etc/logrotate.d/*.dpkg-* {COPIES}/.life-* /var/lib/life/.life-* 2> /dev/null",
+        "ls -d /etc/life/*.dpkg-* /etc/nginx/*/*.dpkg-* /etc/systemd/system/*.dpkg-* "
+        f"/etc/logrotate.d/*.dpkg-* {COPIES}/.life-* /var/lib/life/.life-* 2> /dev/null",
     ).stdout
     same(f"{line}: nothing lies about: {left}", left, "")
 
 
 def interrupts_a_configuration(debian: Debian) -> None:
-    """Signals at steps by a seed while changed settings are brought to nginx, HAProxy, logrotate and systemd; a third of the settings are refused.
-    After each the archive is served, and what is there is taken by its program; after a kill that is so after the next life-configure.
+    """Signals at steps by a seed while changed settings are brought to nginx, HAProxy, logrotate and systemd; a third
+    of the settings are refused. After each the archive is served, and what is there is taken by its program; after a
+    kill that is so after the next life-configure.
     """
     chance, words = random.Random(SEED), ["python3", "-c", STEPPED, "/tmp/steps"]
     good = {"TLS": "no", "LISTEN": "80", "LISTEN_ALSO": "[::]:80"}
@@ -846,7 +883,8 @@ def taken(debian: Debian, line: str) -> None:
     done = debian.run(
         "bash",
         "-ec",
-        "nginx -t -q; haproxy -c -q -f /etc/life/haproxy.cfg; logrotate --debug /etc/logrotate.d/life-gateway 2> /dev/null",
+        "nginx -t -q; haproxy -c -q -f /etc/life/haproxy.cfg; "
+        "logrotate --debug /etc/logrotate.d/life-gateway 2> /dev/null",
     )
     same(f"{line}: what is there is taken: {done.stderr}", done.returncode, 0)
     lies_about(debian, line)

@@ -20,8 +20,8 @@ def content(path: str) -> bytes:
 
 
 def with_sources(folder: str) -> str:
-    """The setting by which a gateway also serves the files of web/ as they are, below /sources/: tests call what the modules export. The
-    pages load none of them."""
+    """The setting by which a gateway also serves the files of web/ as they are, below /sources/: tests call what the
+    modules export. The pages load none of them."""
     place = os.path.join(folder, "site")
     os.makedirs(place, exist_ok=True)
     with open(os.path.join(place, "sources.conf"), "w", encoding="ascii") as out:

@@ -1,14 +1,17 @@
-"""Phrases that a fluent reader stumbles over, and what to write instead. tests/test_documents.py looks for them wherever a person reads.
+"""Phrases that a fluent reader stumbles over, and what to write instead. tests/test_documents.py looks for them
+wherever a person reads.
 
-Documents, tables, manual pages, scripts, settings, web pages and tests are read as a whole; of Rattle sources the comments, and the texts that
-a program prints; of specifications all comments, and of proofs the comment that a file begins with.
+Documents, tables, manual pages, scripts, settings, web pages and tests are read as a whole; of Rattle sources the
+comments, and the texts that a program prints; of specifications all comments, and of proofs the comment that a file
+begins with.
 """
 import re
 from typing import Iterator, List, NamedTuple, Tuple
 
 
 class Phrase(NamedTuple):
-    """A phrase as a regular expression, and what to write instead. A space in it is any white space, also over the end of a line."""
+    """A phrase as a regular expression, and what to write instead. A space in it is any white space, also over the end
+    of a line."""
 
     form: str
     instead: str
@@ -60,7 +63,8 @@ EXCEPTIONS = {
     ("tests/test_members.py", "are told"): "a sentence that was withdrawn from docs/API.md, which must not come back",
 }
 
-# Nobody reads these as prose: stored runs, pictures, licences, sources of bench/, this list, and the changes that tests/test_documents.py plants.
+# Nobody reads these as prose: stored runs, pictures, licences, sources of bench/, this list, and the changes that
+# tests/test_documents.py plants.
 UNREAD = re.compile(
     r"tests/cases/.*|tests/(?:phrases|test_documents)\.py|LICENSE-.*|.*\.(?:svg|png|ico|rle|edit|rattle)"
 )

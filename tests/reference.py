@@ -1,5 +1,6 @@
-"""A second implementation of the archive for the tests, from docs/API.md and docs/FORMATS.md. It shares no code with the program.
-Numbers, names and statuses of refusals and faults are those of docs/refusals.csv, and limits those of docs/limits.csv.
+"""A second implementation of the archive for the tests, from docs/API.md and docs/FORMATS.md. It shares no code with
+the program. Numbers, names and statuses of refusals and faults are those of docs/refusals.csv, and limits those of
+docs/limits.csv.
 
 `Archive.replies(stream)` gives the bytes that a stream of messages is answered with. Nothing here is fast.
 """
@@ -71,7 +72,8 @@ def tally(rule: life.Rule, cells: Iterable[life.Cell], limit: int) -> Tally:
 
 
 def is_steady(rule: life.Rule, cells: Iterable[life.Cell], limit: int) -> bool:
-    """Whether each cluster is a still life or an oscillator within the limit, and no phase of one comes near a phase of another."""
+    """Whether each cluster is a still life or an oscillator within the limit, and no phase of one comes near a phase of
+    another."""
     reached: list[set[life.Cell]] = []
     for part in clusters(cells):
         kind = life.kind_of(rule, part, limit)

@@ -1,5 +1,5 @@
-"""What tests/test_gateway.py does to a gateway as strangers: floods, requests that take the program long beside ten honest clients, and many
-addresses of one network of IPv6.
+"""What tests/test_gateway.py does to a gateway as strangers: floods, requests that take the program long beside ten
+honest clients, and many addresses of one network of IPv6.
 
     tests/strangers.py PROGRAM FOLDER    is what it runs in a network of its own, as its root
 """
@@ -40,7 +40,8 @@ MANY, NAMED = 200, 40
 
 
 class Site:
-    """A gateway with TLS, if a certificate can be made, and what is sent to it: each client has an address of 127.0.0.0/8."""
+    """A gateway with TLS, if a certificate can be made, and what is sent to it: each client has an address of
+    127.0.0.0/8."""
 
     def __init__(self, folder: str, name: str, *settings: str) -> None:
         self.context, words = None, []
@@ -87,7 +88,8 @@ class Site:
 
 
 def poured(port: int, context: ssl.SSLContext | None, data: bytes, seconds: float) -> int:
-    """Sends the same requests over and over on one connection, for some seconds at most, and reads the replies. How many came."""
+    """Sends the same requests over and over on one connection, for some seconds at most, and reads the replies. How
+    many came."""
     came, until, wanted = 0, time.monotonic() + seconds, data.count(b"HTTP/1.1\r\n")
     with socket.create_connection(("127.0.0.1", port), timeout=5, source_address=("127.2.0.200", 0)) as plain, (
         context.wrap_socket(plain) if context else plain
@@ -264,7 +266,8 @@ def watching(site: Site, over: threading.Event, ended: list[int]) -> None:
 
 
 def processor_times() -> list[int]:
-    """The times of /proc/stat: user, nice, system, idle, iowait, irq, softirq and steal, which a host gave to other machines."""
+    """The times of /proc/stat: user, nice, system, idle, iowait, irq, softirq and steal, which a host gave to other
+    machines."""
     with open("/proc/stat", encoding="ascii") as file:
         return [int(word) for word in file.readline().split()[1:9]]
 
@@ -276,7 +279,8 @@ def taken_away(before: list[int]) -> float:
 
 
 def beside_strangers(site: Site) -> None:
-    """Ten honest clients beside one that has the program do what takes it longest: they wait for one such request, and are answered."""
+    """Ten honest clients beside one that has the program do what takes it longest: they wait for one such request, and
+    are answered."""
     status, answer = site.deposit(202, "soup", soup(600))
     same("a soup that grows", status, 201)
     dear = Dear(site, json.loads(answer)["deposit"])
@@ -302,11 +306,13 @@ def beside_strangers(site: Site) -> None:
         one.join()
     seconds = sorted(took for _, took in waits)
     note(
-        f"{len(waits)} honest requests beside {len(statuses)} that take up to {dear.longest:.1f} s: median {seconds[len(seconds) // 2]:.2f} s, "
+        f"{len(waits)} honest requests beside {len(statuses)} that take up to {dear.longest:.1f} s: "
+        f"median {seconds[len(seconds) // 2]:.2f} s, "
         f"99 % within {seconds[len(seconds) * 99 // 100]:.2f} s, all within {seconds[-1]:.2f} s"
     )
     check("honest clients are answered", {status for status, _ in waits} <= {200, 201} and len(waits) > 10 * HONEST)
-    # A second on a quiet machine. Whoever had to wait for two dear requests waits longer; sixteen of them are there all the time.
+    # A second on a quiet machine. Whoever had to wait for two dear requests waits longer; sixteen of them are there all
+    # the time.
     bound = 1 + 2.5 * dear.longest
     is_within = seconds[len(seconds) * 99 // 100] < bound
     if not is_within and taken_away(at_first) > MOST_TAKEN_AWAY:
@@ -343,8 +349,8 @@ def strangers(folder: str) -> None:
 
 
 def one_network(folder: str) -> None:
-    """Two hundred addresses of one network of IPv6 are one client, and another network is another one. They are in a network namespace of their
-    own, which is gone with its last process."""
+    """Two hundred addresses of one network of IPv6 are one client, and another network is another one. They are in a
+    network namespace of their own, which is gone with its last process."""
     words = ["unshare", "--net", sys.executable, os.path.abspath(__file__), clients.PROGRAM, folder]
     if (
         not shutil.which("ip")
@@ -370,7 +376,8 @@ def one_network(folder: str) -> None:
     )
     same("another network is another client", found.get("other"), 201)
     same("a client of IPv4 is another one", found.get("fourth"), 201)
-    # That network was just at its limit, and is let through five times a second. A new client would be let through twenty times at once.
+    # That network was just at its limit, and is let through five times a second. A new client would be let through
+    # twenty times at once.
     named = found.get("named", {})
     check(
         f"behind another proxy {named} of the network that the proxy names, after {found.get('since', 0):.1f} s",

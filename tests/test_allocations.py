@@ -1,6 +1,7 @@
 """Refused allocations: a library, built with a C compiler, refuses each allocation of the program in turn.
 
-Whatever is not answered has changed nothing: before anything is sent again, the archive's tables are read, and they are as they were.
+Whatever is not answered has changed nothing: before anything is sent again, the archive's tables are read, and they are
+as they were.
 """
 import concurrent.futures
 import multiprocessing
@@ -115,7 +116,8 @@ class Refusing:
 
 
 def copied(database: str, to: str) -> str:
-    """The path of a copy of an archive's file and log. A server has both locked, and writes to neither while it gets no requests."""
+    """The path of a copy of an archive's file and log. A server has both locked, and writes to neither while it gets no
+    requests."""
     copy = fresh(os.path.dirname(database), to)
     for ending in ("", "-wal"):
         if os.path.exists(database + ending):
@@ -124,7 +126,8 @@ def copied(database: str, to: str) -> str:
 
 
 def tables(database: str) -> list[str]:
-    """The statements that would recreate an archive's tables with their rows. The archive may be in use, and is only read."""
+    """The statements that would recreate an archive's tables with their rows. The archive may be in use, and is only
+    read."""
     kept = sqlite3.connect(copied(database, "looked-at.db"))
     try:
         return list(kept.iterdump())
@@ -172,8 +175,8 @@ def has_commit(database: str) -> bool:
 
 
 def refused_deposits_share(folder: str, share: int, shares: int) -> tuple[int, int, int, int]:
-    """How many allocations of one share were refused, after how many of these `refused_deposits` found something wrong, how many deposits were
-    refused with them, and how many of these left a log with a commit."""
+    """How many allocations of one share were refused, after how many of these `refused_deposits` found something wrong,
+    how many deposits were refused with them, and how many of these left a log with a commit."""
     folder = folder_of(folder, "deposits", share)
     refusing, database = Refusing(folder), fresh(folder, "refused.db")
     run("deposit", "--db", database, "ann", "t1")
@@ -206,13 +209,13 @@ def refused_deposits_share(folder: str, share: int, shares: int) -> tuple[int, i
 
 
 def test_refused_deposits(folder: str) -> None:
-    """Each allocation of `life deposit` refused in turn, from the start of the program on: it is refused and nothing is stored, or it is right.
-    Then it is right."""
+    """Each allocation of `life deposit` refused in turn, from the start of the program on: it is refused and nothing is
+    stored, or it is right. Then it is right."""
     tried, wrong, refusals, logs = shared(refused_deposits_share, folder)
     check(f"{tried} allocations of a deposit refused, {wrong} answered otherwise", wrong == 0 and tried > 10)
     check(f"{refusals} refused deposits", refusals > 0)
-    # An opening that is refused after it made the tables leaves them in its log; a deposit that is refused later closes the archive, which
-    # copies the log into the file.
+    # An opening that is refused after it made the tables leaves them in its log; a deposit that is refused later closes
+    # the archive, which copies the log into the file.
     check(f"{logs} of them left a log with a commit", logs > 0)
 
 
@@ -259,15 +262,16 @@ def has_ended(peer: socket.socket) -> bool:
 def answered_in_turn(
     server: Server, messages: list[bytes], database: str, archive: reference.Archive
 ) -> tuple[bool, int]:
-    """Sends messages one by one over the server's only connection. Whether each is answered as by this archive of the reference, or is unavailable,
-    or ends the connection without a reply; and whether the tables, read before the next one is sent, changed with each 201 and with nothing
-    else. And how many are unavailable."""
+    """Sends messages one by one over the server's only connection. Whether each is answered as by this archive of the
+    reference, or is unavailable, or ends the connection without a reply; and whether the tables, read before the next
+    one is sent, changed with each 201 and with nothing else. And how many are unavailable."""
     unavailable, before, ended = 0, tables(database), True
     with socket.create_connection(("127.0.0.1", server.port), timeout=60) as peer:
         for one in messages:
             back = replied(peer, one)
             if not back or b" HTTP/1.0\r\n" in one:
-                # The server ends after its connection, and writes its log into its file: the tables are read once it has.
+                # The server ends after its connection, and writes its log into its file: the tables are read once it
+                # has.
                 ended = has_ended(peer) and server.ended() is not None
             after = tables(database)
             unavailable += back == UNAVAILABLE
@@ -285,7 +289,8 @@ def answered_in_turn(
 
 
 def made_archive(folder: str, before: list[bytes]) -> tuple[str, list[str], list[str]]:
-    """An archive that was asked so much, its tables, and the tables of a file before the first opening if it was asked nothing."""
+    """An archive that was asked so much, its tables, and the tables of a file before the first opening if it was asked
+    nothing."""
     made = fresh(folder, "made.db")
     with Server(made, 1) as server:
         exchanged(server.port, before)
@@ -303,8 +308,8 @@ def refused_share(
     share: int,
     shares: int,
 ) -> tuple[int, int, int, int]:
-    """How many allocations of one share were refused, after how many of these `refused_messages` found something wrong, how many ended the
-    connection, and how many messages were unavailable."""
+    """How many allocations of one share were refused, after how many of these `refused_messages` found something wrong,
+    how many ended the connection, and how many messages were unavailable."""
     folder = folder_of(folder, name, share)
     refusing, (made, opened, unopened) = Refusing(folder), made_archive(folder, before)
     wrong, allocation, tried, ended, unavailable = 0, step * (share + 1 - shares), 0, 0, 0
@@ -339,9 +344,10 @@ def refused_share(
         tried += 1
 
 
-# Each allocation of one deposit; of two reads of a deposit that is kept already, the second of which closes and has bytes after it; of a
-# census, whose deposits are kept already; and some of a run of all requests. Each run has the messages before it, its own messages, how many
-# deposits and censuses are kept in the end, and the step from one allocation to the next.
+# Each allocation of one deposit; of two reads of a deposit that is kept already, the second of which closes and has
+# bytes after it; of a census, whose deposits are kept already; and some of a run of all requests. Each run has the
+# messages before it, its own messages, how many deposits and censuses are kept in the end, and the step from one
+# allocation to the next.
 RUNS = {
     "one deposit": ([], MESSAGES[:1], (1, 0), 1),
     "two reads": (
@@ -362,8 +368,9 @@ RUNS = {
 
 @pytest.mark.parametrize("name", RUNS)
 def test_refused_messages(folder: str, name: str) -> None:
-    """With every n-th allocation of `life serve` refused, one a run: each message is answered right, or it is unavailable or ends the connection,
-    and then the tables are as before it. It is answered right when it is sent again, and then all deposits and censuses are stored.
+    """With every n-th allocation of `life serve` refused, one a run: each message is answered right, or it is
+    unavailable or ends the connection, and then the tables are as before it. It is answered right when it is sent
+    again, and then all deposits and censuses are stored.
     """
     before, messages, kept, step = RUNS[name]
     tried, wrong, ended, unavailable = shared(refused_share, folder, name, before, messages, kept, step)

@@ -1,5 +1,5 @@
-"""Runs the built program on an archive in a file, as members would: `life deposit` and `life serve` on this machine's loopback, with curl
-if it is installed, raw sockets and sqlite3. It kills the program and continues.
+"""Runs the built program on an archive in a file, as members would: `life deposit` and `life serve` on this machine's
+loopback, with curl if it is installed, raw sockets and sqlite3. It kills the program and continues.
 """
 import os
 import random
@@ -37,7 +37,8 @@ from clients import (
     same,
 )
 
-# How many bits of a file are turned, how many streams are sent, how often the program is killed, and how many censuses it migrates.
+# How many bits of a file are turned, how many streams are sent, how often the program is killed, and how many censuses
+# it migrates.
 BITS, STREAMS, STOPS, CENSUSES = 100, 1000, 25, 1000
 
 pytestmark = [pytest.mark.full, pytest.mark.usefixtures("program")]
@@ -87,7 +88,8 @@ def has_deposits(database: str, tokens: list[str]) -> bool:
 
 
 def test_file_alone(folder: str) -> None:
-    """Once the program has ended the archive's file has all by itself: a copy of it, without the log, is the archive."""
+    """Once the program has ended the archive's file has all by itself: a copy of it, without the log, is the
+    archive."""
     database = fresh(folder, "alone.db")
     for token, data in (("t1", GLIDER), ("t2", BLOCKS)):
         run("deposit", "--db", database, "ann", token, data=data)
@@ -141,7 +143,8 @@ def sum_of(page: bytes) -> bytes:
 
 
 def test_sums(folder: str) -> None:
-    """One bit of a new archive's file turned at seeded places: it is refused, or what is answered is right or unavailable."""
+    """One bit of a new archive's file turned at seeded places: it is refused, or what is answered is right or
+    unavailable."""
     chosen = random.Random(5)
     database = fresh(folder, "sums.db")
     soup = (
@@ -206,7 +209,8 @@ def examples(program: str, folder: str) -> str:
 
 @pytest.mark.parametrize("subcommand", SUBCOMMANDS)
 def test_help(examples: str, subcommand: str) -> None:
-    """The help of each subcommand says what is read, printed and refused, and its example, run in a folder with the examples, is well."""
+    """The help of each subcommand says what is read, printed and refused, and its example, run in a folder with the
+    examples, is well."""
     status, out, err = run(subcommand, "--help")
     lines = err.decode().split("\n")
     good = status == 2 and out == b"" and all(sum(line.startswith(part) for line in lines) == 1 for part in PARTS)
@@ -437,7 +441,8 @@ def seeded_message(chosen: random.Random) -> bytes:
 
 
 def test_seeded_streams(folder: str) -> None:
-    """Streams of good and malformed messages, cut in pieces, on one archive that grows: all replies are the reference's."""
+    """Streams of good and malformed messages, cut in pieces, on one archive that grows: all replies are the
+    reference's."""
     chosen = random.Random(1)
     database = os.path.join(folder, "seeded.db")
     archive, wrong = reference.Archive(), 0
@@ -469,7 +474,8 @@ def test_seeded_streams(folder: str) -> None:
 
 
 def test_stops(folder: str) -> None:
-    """Kills the server at seeded moments under a stream of deposits: what was acknowledged is stored, once, and the next server continues."""
+    """Kills the server at seeded moments under a stream of deposits: what was acknowledged is stored, once, and the
+    next server continues."""
     chosen = random.Random(2)
     database = os.path.join(folder, "stops.db")
     answered: dict[str, int] = {}
@@ -517,9 +523,20 @@ LAYOUT = "CREATE TABLE layout (version INTEGER NOT NULL) STRICT"
 
 FIRST_TABLES = [
     LAYOUT,
-    "CREATE TABLE deposits (id INTEGER PRIMARY KEY, member TEXT NOT NULL, token TEXT NOT NULL, rule TEXT NOT NULL, population INTEGER NOT NULL CHECK (population >= 0), rle BLOB NOT NULL, UNIQUE (member, token)) STRICT",
-    "CREATE TABLE censuses (id INTEGER PRIMARY KEY, member TEXT NOT NULL, token TEXT NOT NULL, deposit INTEGER NOT NULL REFERENCES deposits (id), gens INTEGER NOT NULL, lim INTEGER NOT NULL, clusters INTEGER NOT NULL, unresolved INTEGER NOT NULL, UNIQUE (member, token)) STRICT",
-    "CREATE TABLE census_rows (census INTEGER NOT NULL REFERENCES censuses (id), code TEXT NOT NULL, n INTEGER NOT NULL CHECK (n > 0), PRIMARY KEY (census, code)) STRICT",
+    (
+        "CREATE TABLE deposits (id INTEGER PRIMARY KEY, member TEXT NOT NULL, token TEXT NOT NULL, "
+        "rule TEXT NOT NULL, population INTEGER NOT NULL CHECK (population >= 0), "
+        "rle BLOB NOT NULL, UNIQUE (member, token)) STRICT"
+    ),
+    (
+        "CREATE TABLE censuses (id INTEGER PRIMARY KEY, member TEXT NOT NULL, token TEXT NOT NULL, "
+        "deposit INTEGER NOT NULL REFERENCES deposits (id), gens INTEGER NOT NULL, lim INTEGER NOT NULL, "
+        "clusters INTEGER NOT NULL, unresolved INTEGER NOT NULL, UNIQUE (member, token)) STRICT"
+    ),
+    (
+        "CREATE TABLE census_rows (census INTEGER NOT NULL REFERENCES censuses (id), "
+        "code TEXT NOT NULL, n INTEGER NOT NULL CHECK (n > 0), PRIMARY KEY (census, code)) STRICT"
+    ),
     "INSERT INTO layout (version) VALUES (1)",
 ]
 
@@ -528,7 +545,8 @@ FIELDS = [b"x = 6, y = 2\n2o2b2o$2o2b2o!\n", b"x = 4, y = 3\no2bo$o2bo$o2bo!\n",
 
 
 def first_archive(path: str, many: int) -> list[tuple[int, int]]:
-    """Writes an archive of schema version 1 with this many censuses, using sqlite3; returns the flags that they have to get."""
+    """Writes an archive of schema version 1 with this many censuses, using sqlite3; returns the flags that they have to
+    get."""
     kept = sqlite3.connect(path)
     kept.execute("PRAGMA journal_mode=WAL")
     for statement in FIRST_TABLES:
@@ -548,7 +566,8 @@ def first_archive(path: str, many: int) -> list[tuple[int, int]]:
             found[asked] = reference.tally(rule, later, limit), reference.is_steady(rule, later, limit)
         (rows, unresolved, total), steady = found[asked]
         kept.execute(
-            "INSERT INTO censuses (id, member, token, deposit, gens, lim, clusters, unresolved) VALUES (?, ?, ?, ?, ?, ?, ?, ?)",
+            "INSERT INTO censuses (id, member, token, deposit, gens, lim, clusters, unresolved) "
+            "VALUES (?, ?, ?, ?, ?, ?, ?, ?)",
             (number, "ann", f"c{number}", deposit, n, limit, total, unresolved),
         )
         kept.executemany(
@@ -578,7 +597,8 @@ def version_kept(path: str, flags: list[tuple[int, int]]) -> int | None:
 
 
 def test_killed_migration(folder: str) -> None:
-    """Kills the program at seeded moments while it carries an archive of schema version 1 over: the file is as it was, or whole."""
+    """Kills the program at seeded moments while it carries an archive of schema version 1 over: the file is as it was,
+    or whole."""
     chosen = random.Random(3)
     first = os.path.join(folder, "first.db")
     flags = first_archive(first, CENSUSES)
@@ -641,18 +661,23 @@ FIRST_CHANGES = [
     ("UPDATE layout SET version = 2", b"not-ours"),
     ("UPDATE layout SET version = 3", b"not-ours"),
     (
-        "CREATE TABLE census_flags (census INTEGER PRIMARY KEY REFERENCES censuses (id), steady INTEGER NOT NULL) STRICT",
+        "CREATE TABLE census_flags "
+        "(census INTEGER PRIMARY KEY REFERENCES censuses (id), steady INTEGER NOT NULL) STRICT",
         b"not-ours",
     ),
     ("UPDATE censuses SET gens = 2049 WHERE id = 2", b"unavailable"),
 ]
 
-# Rows that no archive writes: no file; another population; another rule; a text that is read as the record and is not canonical.
+# Rows that no archive writes: no file; another population; another rule; a text that is read as the record and is not
+# canonical.
 FOREIGN_ROWS = [
     "UPDATE deposits SET rle = x'00' WHERE id = 1",
     "UPDATE deposits SET population = 9 WHERE id = 3",
     "UPDATE deposits SET rule = 'B36/S23' WHERE id = 4",
-    "UPDATE deposits SET rle = CAST(replace(CAST(rle AS TEXT), '2o2b2o$2o2b2o!', 'oo2b2o$2o2b2o!') AS BLOB) WHERE id = 5",
+    (
+        "UPDATE deposits SET rle = CAST(replace(CAST(rle AS TEXT), "
+        "'2o2b2o$2o2b2o!', 'oo2b2o$2o2b2o!') AS BLOB) WHERE id = 5"
+    ),
     "INSERT INTO censuses VALUES (1, 'ann', 'c1', 2, -1, 1, 0, 0)",
     "INSERT INTO census_flags VALUES (1, 1)",
     "INSERT INTO censuses VALUES (2, 'ann', 'c2', 2, 0, 1, 1, 0)",
@@ -670,7 +695,8 @@ def execute(database: str, statements: list[str]) -> None:
 
 
 def rewritten(database: str, to: str) -> str:
-    """The same tables with the same rows in a file that sqlite3 makes, without the sums by which a change would be refused."""
+    """The same tables with the same rows in a file that sqlite3 makes, without the sums by which a change would be
+    refused."""
     copy = fresh(os.path.dirname(database), to)
     kept = sqlite3.connect(copy)
     kept.execute("PRAGMA journal_mode=WAL")
@@ -688,7 +714,8 @@ def dumped(database: str) -> list[str]:
 
 
 def is_refused(database: str, name: bytes) -> bool:
-    """Whether a deposit is refused by this name, and leaves the database as it was, without a log where there was none."""
+    """Whether a deposit is refused by this name, and leaves the database as it was, without a log where there was
+    none."""
     before, beside = dumped(database), os.path.exists(database + "-wal")
     good = run("deposit", "--db", database, "ann", "t1", data=GLIDER) == (1, b"", b"refused: " + name + b"\n")
     return good and os.path.exists(database + "-wal") == beside and dumped(database) == before
@@ -764,7 +791,8 @@ def test_foreign_rows(folder: str) -> None:
 
 
 def test_versions(folder: str) -> None:
-    """What docs/UPGRADING.md asks of a file, and its way back to a file without sums, which is served as the one with them."""
+    """What docs/UPGRADING.md asks of a file, and its way back to a file without sums, which is served as the one with
+    them."""
     made, plain = fresh(folder, "with-sums.db"), fresh(folder, "without-sums.db")
     for token, data in (("t1", GLIDER), ("t2", BLOCKS)):
         run("deposit", "--db", made, "ann", token, data=data)

@@ -1,6 +1,7 @@
-"""The packages of deploy/package on a fresh Debian, with systemd for real: installed, used through nginx, switched off, copied, configured; and
-the mistakes of an administrator, which are the table of tests/mistakes.py. The machine has namespaces and a network of its own; its sshd, its
-logrotate and a sendmail are Debian's. Root on Debian is needed, and mmdebstrap.
+"""The packages of deploy/package on a fresh Debian, with systemd for real: installed, used through nginx, switched off,
+copied, configured; and the mistakes of an administrator, which are the table of tests/mistakes.py. The machine has
+namespaces and a network of its own; its sshd, its logrotate and a sendmail are Debian's. Root on Debian is needed, and
+mmdebstrap.
 """
 import glob
 import gzip
@@ -91,7 +92,8 @@ def end_tests(number: int, _frame: FrameType | None) -> None:
 
 @pytest.fixture(scope="module")
 def room() -> Iterator[str]:
-    """A folder on a disk: a Debian is too large for memory. A signal that ends the tests removes the folder, and ends the machine."""
+    """A folder on a disk: a Debian is too large for memory. A signal that ends the tests removes the folder, and ends
+    the machine."""
     before = {number: signal.signal(number, end_tests) for number in (signal.SIGTERM, signal.SIGHUP)}
     path = tempfile.mkdtemp(prefix="life-boot-")
     yield path
@@ -139,7 +141,8 @@ def fresh(room: str, built: Packages) -> Iterator[Debian]:
 
 @pytest.fixture(scope="module")
 def debian(fresh: Debian) -> Debian:
-    """The machine with the packages, which serves deposits. If test_installation did not run, they are installed now."""
+    """The machine with the packages, which serves deposits. If test_installation did not run, they are installed
+    now."""
     if not fresh.ledger:
         installed(fresh, VERSION)
         until(lambda: curl(fresh, "/deposits/after/0") == ("200", '{"deposits":[]}'))
@@ -215,7 +218,8 @@ def test_manual_pages(room: str, built: Packages) -> None:
 def test_old_processor(fresh: Debian) -> None:
     """On a processor before x86-64-v2 nothing is unpacked, and one sentence says why."""
     fresh.shell(
-        "grep -v '^flags' /proc/cpuinfo > /srv/cpuinfo; echo 'flags : fpu sse sse2 popcnt' >> /srv/cpuinfo; mount --bind /srv/cpuinfo /proc/cpuinfo"
+        "grep -v '^flags' /proc/cpuinfo > /srv/cpuinfo; echo 'flags : fpu sse sse2 popcnt' >> /srv/cpuinfo; "
+        "mount --bind /srv/cpuinfo /proc/cpuinfo"
     )
     done = installed(fresh, VERSION)
     fresh.shell("umount /proc/cpuinfo; rm /srv/cpuinfo")
@@ -268,7 +272,8 @@ def test_installation(fresh: Debian) -> None:
 
 
 def test_shut_in(debian: Debian) -> None:
-    """What systemd itself says of how far each unit is shut in: an exposure below 2, but for the alarm, which may send mail."""
+    """What systemd itself says of how far each unit is shut in: an exposure below 2, but for the alarm, which may send
+    mail."""
     names = [
         name
         for name in os.listdir(debian.path("/usr/lib/systemd/system"))
@@ -314,7 +319,8 @@ def test_timer(debian: Debian) -> None:
 
 @pytest.mark.usefixtures("first_copy")
 def test_ages(debian: Debian) -> None:
-    """That no good copy was made for hours is one alarm, however often it is looked at, and another one after the next good copy."""
+    """That no good copy was made for hours is one alarm, however often it is looked at, and another one after the next
+    good copy."""
     begun = alarms(debian, "life-age.service")
     for turn in (1, 2):
         for place, name in enumerate(copies(debian)):
@@ -374,8 +380,8 @@ def test_sound(debian: Debian) -> None:
 
 
 def test_stopped(debian: Debian) -> None:
-    """An archive that is enabled and does not run for ten minutes is an alarm; so is one that serves another file than the one that has its
-    name. nginx that is killed is back."""
+    """An archive that is enabled and does not run for ten minutes is an alarm; so is one that serves another file than
+    the one that has its name. nginx that is killed is back."""
     debian.run("sh", "-c", "systemctl stop life-age.timer life.service; systemctl reset-failed life-age.service")
     before = alarms(debian, "life-age.service")
     same("a stop is no failure at first", debian.run("systemctl", "start", "life-age.service").returncode, 0)
@@ -394,7 +400,8 @@ def test_stopped(debian: Debian) -> None:
     debian.run(
         "sh",
         "-c",
-        f"mv {ARCHIVE} /srv/served.db; install -o life -g life -m 600 /srv/served.db {ARCHIVE}; systemctl reset-failed life-age.service",
+        f"mv {ARCHIVE} /srv/served.db; install -o life -g life -m 600 /srv/served.db {ARCHIVE}; "
+        "systemctl reset-failed life-age.service",
     )
     failed = debian.run("systemctl", "start", "life-age.service").returncode
     check(
@@ -418,7 +425,8 @@ def test_stopped(debian: Debian) -> None:
 
 
 def test_loaded(debian: Debian) -> None:
-    """What nginx refuses only when it runs is said, until it is restarted; what `nginx -t` refuses leaves what was there."""
+    """What nginx refuses only when it runs is said, until it is restarted; what `nginx -t` refuses leaves what was
+    there."""
     debian.run("install", "-d", "-o", "www-data", "-g", "www-data", "/var/cache/life-two")
     check(
         "another folder for the cache",
@@ -462,7 +470,8 @@ def test_loaded(debian: Debian) -> None:
 
 
 def test_rotation(debian: Debian) -> None:
-    """logrotate rotates the logs of the site, once, where they are by default and elsewhere. nginx writes on into new files."""
+    """logrotate rotates the logs of the site, once, where they are by default and elsewhere. nginx writes on into new
+    files."""
     for folder, file in (("/var/log/nginx", "nginx"), ("/var/log/club", "life-gateway")):
         log = f"{folder}/life.log"
         debian.run("install", "-d", "-o", "www-data", "-g", "adm", "-m", "755", folder)
@@ -505,7 +514,8 @@ def test_rotation(debian: Debian) -> None:
 
 
 def test_numbers(debian: Debian) -> None:
-    """HAProxy's numbers for Prometheus are at the port that is set, from the unit as it is shut in, and nowhere if none is."""
+    """HAProxy's numbers for Prometheus are at the port that is set, from the unit as it is shut in, and nowhere if none
+    is."""
 
     def count() -> int | None:
         found = re.search(
@@ -529,10 +539,13 @@ def test_numbers(debian: Debian) -> None:
 
 
 def test_second_place(debian: Debian) -> None:
-    """The newest copy goes to another user's folder over ssh, by the unit as it is shut in. A machine that is not known is a failure."""
+    """The newest copy goes to another user's folder over ssh, by the unit as it is shut in. A machine that is not known
+    is a failure."""
     script = (
-        "set -e; useradd --create-home --home-dir /srv/elsewhere --shell /bin/sh club; install -d -o club -m 700 /srv/elsewhere/.ssh /srv/elsewhere/copies; "
-        "install -d -o life -g life -m 700 /var/lib/life/.ssh; runuser -u life -- ssh-keygen -q -t ed25519 -N '' -f /var/lib/life/.ssh/id_ed25519; "
+        "set -e; useradd --create-home --home-dir /srv/elsewhere --shell /bin/sh club; "
+        "install -d -o club -m 700 /srv/elsewhere/.ssh /srv/elsewhere/copies; "
+        "install -d -o life -g life -m 700 /var/lib/life/.ssh; "
+        "runuser -u life -- ssh-keygen -q -t ed25519 -N '' -f /var/lib/life/.ssh/id_ed25519; "
         "install -o club -m 600 /var/lib/life/.ssh/id_ed25519.pub /srv/elsewhere/.ssh/authorized_keys"
     )
     done = debian.run("sh", "-c", script)
@@ -578,7 +591,8 @@ def test_mail(debian: Debian) -> None:
     debian.run(
         "sh",
         "-c",
-        f"systemctl stop life.service; systemctl reset-failed life.service; mv {ARCHIVE} /srv/club.db; systemctl start life.service",
+        "systemctl stop life.service; systemctl reset-failed life.service; "
+        f"mv {ARCHIVE} /srv/club.db; systemctl start life.service",
     )
     subject = f"Subject: life on {debian.run('uname', '-n').stdout.strip()}: life.service failed\n"
     check("root has mail", until(lambda: subject in text_of(debian, "/var/mail/root")))
@@ -640,8 +654,8 @@ def test_renewal(debian: Debian) -> None:
 @pytest.mark.usefixtures("first_copy")
 @pytest.mark.parametrize("mistake", [one for one in MISTAKES if not isinstance(one.done, Elsewhere)], ids=named)
 def test_mistake(debian: Debian, mistake: Mistake) -> None:
-    """After a mistake nothing is lost, it is said what is wrong, and the archive is served once that was done which is said. The last ones
-    remove the packages."""
+    """After a mistake nothing is lost, it is said what is wrong, and the archive is served once that was done which is
+    said. The last ones remove the packages."""
     if mistake.done in AFTER_AN_OLDER_COPY and not os.path.exists(debian.path(OLDER_COPY)):
         pytest.skip("the mistake 'an older copy is put back' has to be made before this one")
     try_mistake(debian, mistake)

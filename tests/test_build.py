@@ -1,5 +1,6 @@
-"""The script `life`, with a stand-in for `rt` that takes a moment and leaves the same files: each crate is built after its dependencies, two
-at a time, failures are reported, nothing is built twice, a trial is shown, a stop has its status, and --clean leaves the programs.
+"""The script `life`, with a stand-in for `rt` that takes a moment and leaves the same files: each crate is built after
+its dependencies, two at a time, failures are reported, nothing is built twice, a trial is shown, a stop has its status,
+and --clean leaves the programs.
 """
 import contextlib
 import json
@@ -107,8 +108,9 @@ class Tree:
         data: str = "",
         stdin: int | None = None,
     ) -> "subprocess.CompletedProcess[str]":
-        """Runs the script on this text, or on what the descriptor `stdin` reads. A crate in `awaited` is not built before the log has the line
-        that it names there, or before a trial has answered. A trial answers as the program does, or what `trial` says.
+        """Runs the script on this text, or on what the descriptor `stdin` reads. A crate in `awaited` is not built
+        before the log has the line that it names there, or before a trial has answered. A trial answers as the program
+        does, or what `trial` says.
         """
         return subprocess.run(
             [os.path.join(self.top, "life"), *words],
@@ -218,7 +220,8 @@ def answer_of(done: "subprocess.CompletedProcess[str]") -> tuple[int, str]:
 
 
 def test_kit(tree: Tree, monkeypatch: pytest.MonkeyPatch) -> None:
-    """A kit that is older than the one in the file KIT is refused before anything is built; that one and a later one are not."""
+    """A kit that is older than the one in the file KIT is refused before anything is built; that one and a later one
+    are not."""
     with open(os.path.join(TOP, "KIT"), encoding="ascii") as file:
         least = file.read().strip()
     for name, is_taken in (("rattle-kit-2z", False), (least[:-1], False), (least, True), ("rattle-kit-999a", True)):
@@ -233,7 +236,8 @@ def test_kit(tree: Tree, monkeypatch: pytest.MonkeyPatch) -> None:
 
 
 def test_smaller_program(tree: Tree) -> None:
-    """A command over a file needs no crate of the archive. Of two crates on one, the second is built in a copy of the tree."""
+    """A command over a file needs no crate of the archive. Of two crates on one, the second is built in a copy of the
+    tree."""
     # However busy the machine is, life_words ends before life_core, and life_rle and life_code run at the same time.
     answer = tree.life(
         "generation",
@@ -260,7 +264,8 @@ def test_smaller_program(tree: Tree) -> None:
 
 
 def test_trial(tree: Tree) -> None:
-    """While the smaller program is built, a trial answers on standard error. Standard output has the program's answer alone."""
+    """While the smaller program is built, a trial answers on standard error. Standard output has the program's answer
+    alone."""
     mark = "life: trial, not proved yet: "
     tree.has("life_patterns")
 
@@ -323,7 +328,8 @@ def test_whole_program(tree: Tree) -> None:
     """The whole program is built after the smaller one, whose dependencies are not built again."""
     tree.has("life_patterns")
     before = set(tree.built)
-    # Of the remaining crates, life_check and life_pages alone don't depend on each other. However busy the machine is, they run at the same time.
+    # Of the remaining crates, life_check and life_pages alone don't depend on each other. However busy the machine is,
+    # they run at the same time.
     together = {"life_check": "begin life_pages", "life_pages": "begin life_check"}
     same("the whole program is built", answer_of(tree.life("--build", awaited=together)), (0, ""))
     log = tree.log()

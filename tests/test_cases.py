@@ -1,8 +1,8 @@
 """Runs the program on the cases of tests/cases and compares what it prints.
 
-A case TOPIC/NAME has NAME.args, one word a line. It has NAME.stdin, NAME.stdout, NAME.stderr and NAME.status if they are not empty or 0. If
-the status is not 1, only the first line of standard error is compared. NAME.streams names a stream that is replaced: 'input closed',
-'input folder', 'output full', 'errors full'.
+A case TOPIC/NAME has NAME.args, one word a line. It has NAME.stdin, NAME.stdout, NAME.stderr and NAME.status if they
+are not empty or 0. If the status is not 1, only the first line of standard error is compared. NAME.streams names a
+stream that is replaced: 'input closed', 'input folder', 'output full', 'errors full'.
 
 The program without an archive has to print the same: --program crates/life_patterns/out/life_patterns.
 """

@@ -1,5 +1,5 @@
-"""The script `life` links a program for the processor that LIFE_CPU names, and the program for x86-64-v3 passes tests/test_cases.py, if this
-machine can run it. What is linked for x86-64-v2 is what the gate runs everywhere else.
+"""The script `life` links a program for the processor that LIFE_CPU names, and the program for x86-64-v3 passes
+tests/test_cases.py, if this machine can run it. What is linked for x86-64-v2 is what the gate runs everywhere else.
 
 It is built and proved in a copy of the sources: `rt ci` leaves no library that another run takes.
 """

@@ -1,5 +1,6 @@
-"""What an administrator runs besides the gateway: deploy/life-copy with a file and a copy, the systemd units, and the commands of
-docs/UPGRADING.md. It needs neither nginx nor HAProxy nor systemd. tests/test_restores.py tests the copies of a club.
+"""What an administrator runs besides the gateway: deploy/life-copy with a file and a copy, the systemd units, and the
+commands of docs/UPGRADING.md. It needs neither nginx nor HAProxy nor systemd. tests/test_restores.py tests the copies
+of a club.
 """
 import os
 import re
@@ -119,7 +120,8 @@ def test_lesser_copies(program: str, folder: str) -> None:
 
 
 def test_copies_with_a_log(program: str, folder: str) -> None:
-    """A log beside a copy is passed over if there is no commit in it. A copy that was written to, or that a program has open, stays."""
+    """A log beside a copy is passed over if there is no commit in it. A copy that was written to, or that a program has
+    open, stays."""
     room = new_room(folder, "logs")
     copy, log = os.path.join(room, "copy.db"), os.path.join(room, "copy.db-wal")
     life_copy(archive(folder, "logs.db", MEMBERS[:1]), copy)
@@ -234,7 +236,8 @@ runpy.run_path(sys.argv[0], run_name="__main__")
 
 
 def test_copies_on_the_disk(program: str, folder: str) -> None:
-    """The new copy is on the disk before it has its name, which it gets in its own folder; then the name is on the disk."""
+    """The new copy is on the disk before it has its name, which it gets in its own folder; then the name is on the
+    disk."""
     room = new_room(folder, "disk")
     database, copy = archive(folder, "disk.db", MEMBERS), os.path.join(room, "copy.db")
     for turn in ("first", "second"):
@@ -285,7 +288,8 @@ def units(room: str, *endings: str) -> list[str]:
 
 
 def test_starts(program: str, folder: str) -> None:
-    """Before the program starts the unit looks at the archive: if it is not there, an error says so, and it stays missing."""
+    """Before the program starts the unit looks at the archive: if it is not there, an error says so, and it stays
+    missing."""
     database = os.path.join(folder, "started.db")
     room = units_of(folder, program, database)
     unit, backup = (os.path.join(room, name) for name in ("life.service", "life-backup.service"))
@@ -316,7 +320,8 @@ def test_second_place(folder: str, place: str, mounts: list[str]) -> None:
 
 
 def test_alarms(program: str, folder: str) -> None:
-    """Each unit that fails sends an alarm, but for the alarm itself and the new start, about which the watch has sent one."""
+    """Each unit that fails sends an alarm, but for the alarm itself and the new start, about which the watch has sent
+    one."""
     room = units_of(folder, program, os.path.join(folder, "started.db"))
     for name in units(room, ".service"):
         wanted = name not in ("life-alarm@.service", "life-restart.service")
@@ -564,7 +569,8 @@ def commands(document: str, heading: str) -> list[str]:
 
 
 def moved(lines: list[str], room: str) -> str:
-    """Commands with the room in place of the system's root. A path elsewhere than below /var and /usr/local is an error: it stays."""
+    """Commands with the room in place of the system's root. A path elsewhere than below /var and /usr/local is an
+    error: it stays."""
     text = "\n".join(lines)
     if elsewhere := re.search(r"(?<![\w./:-])/(?!(?:var|usr/local)/)\S+", text):
         raise ValueError(f"a command has the path {elsewhere[0]}")
@@ -574,8 +580,8 @@ def moved(lines: list[str], room: str) -> str:
 def executed(
     lines: list[str], room: str, cwd: str, functions: dict[str, str], **environment: str
 ) -> tuple[int, str, str]:
-    """The status and the two streams of commands in one shell, which ends at the first failure. The room is in place of the system's root,
-    and a command that needs a whole machine is one of these functions."""
+    """The status and the two streams of commands in one shell, which ends at the first failure. The room is in place of
+    the system's root, and a command that needs a whole machine is one of these functions."""
     text = "\n".join([*(f"{name}() {{ {body}; }}" for name, body in functions.items()), moved(lines, room)])
     environment = {**os.environ, **environment, "PATH": os.path.join(room, "usr/local/bin") + ":" + os.environ["PATH"]}
     pipe = subprocess.PIPE
@@ -649,7 +655,8 @@ def new_version(room: str) -> tuple[str, str]:
 
 
 def upgraded(program: str, room: str, old: str, newer: str) -> tuple[int, list[str]]:
-    """Runs the commands of UPGRADING.md in the old clone while the old program serves; the status, and how systemctl was called."""
+    """Runs the commands of UPGRADING.md in the old clone while the old program serves; the status, and how systemctl
+    was called."""
     called = os.path.join(room, "called")
     shutil.copy(program, os.path.join(room, "usr/local/bin/life"))
     with open(newer, "wb") as file:
@@ -664,7 +671,8 @@ def upgraded(program: str, room: str, old: str, newer: str) -> tuple[int, list[s
 
 
 def test_upgrading(program: str, folder: str, monkeypatch: pytest.MonkeyPatch) -> None:
-    """The commands of UPGRADING.md fetch the new version, keep a copy of both files and start the new program on the archive."""
+    """The commands of UPGRADING.md fetch the new version, keep a copy of both files and start the new program on the
+    archive."""
     if not shutil.which("git") or not os.path.exists(os.path.join(TOP, ".git")):
         pytest.skip("this is not a clone, or git is not installed, so the commands of UPGRADING.md are left out")
     room = machine(folder, "upgrade", monkeypatch)

@@ -1,11 +1,11 @@
 """Compares the documents with one another and with the sources.
 
-Links lead to a file and a heading that are there, and so do paths. Every name in backquotes in docs/PROOFS.md is a name of the
-sources. Each clause of each public function of a library has its row there, and no row names another. Each link of README.md to a
-row has the name of its function or clause. Each definition that docs/DEFINITIONS.md quotes is line by line the one of its file, and
-has a law. Each mutation and each part of the gate has its row in docs/TESTING.md. What docs/make-tables writes is as it would write it.
-Pages have their lengths. No file that a person reads has one of the phrases of tests/phrases.py. At the end the same checks read files that
-were changed, and have to fail.
+Links lead to a file and a heading that are there, and so do paths. Every name in backquotes in docs/PROOFS.md is a name
+of the sources. Each clause of each public function of a library has its row there, and no row names another. Each link
+of README.md to a row has the name of its function or clause. Each definition that docs/DEFINITIONS.md quotes is line by
+line the one of its file, and has a law. Each mutation and each part of the gate has its row in docs/TESTING.md. What
+docs/make-tables writes is as it would write it. Pages have their lengths. No file that a person reads has one of the
+phrases of tests/phrases.py. At the end the same checks read files that were changed, and have to fail.
 
 Each link, name, row, quotation, place, page, file and change is one check.
 """
@@ -26,7 +26,8 @@ from tables import clauses, kit, limits, places, refusals, replies, routes, sour
 
 pytestmark = pytest.mark.quick
 TOP = os.path.dirname(HERE)
-# The text of each file that a check reads, by its path, and what is wrong with each thing that it looks at, if anything is.
+# The text of each file that a check reads, by its path, and what is wrong with each thing that it looks at, if anything
+# is.
 Pages = Mapping[str, str]
 Problems = Iterator[str | None]
 
@@ -97,7 +98,8 @@ OTHERS = [
     "docs/life.1",
     "crates/life_core/src/generations.rt",
 ]
-# A file of each kind that a person reads, in which a phrase of tests/phrases.py is planted: what is replaced, and by what.
+# A file of each kind that a person reads, in which a phrase of tests/phrases.py is planted: what is replaced, and by
+# what.
 PLANTED = {
     "README.md": (r"Members deposit patterns", "There are so many deposits"),
     "docs/life-haul.1": ("Counts the objects", "Counts so many objects"),
@@ -126,7 +128,8 @@ PLANTED = {
 # Pages that are looked things up in: they have no length. Lines of the page on hauls may be longer.
 REFERENCES = {API, FORMATS, PROOFS, DEFINITIONS, "docs/GUIDE.md"}
 MOST_LINES, MOST_COLUMNS, MOST_WORDS_OF_A_CELL = 250, 120, 40
-# Pages with a limit of their own: README is two pages, DECISIONS and bench are lists; COMMANDS and OPERATING are looked something up in.
+# Pages with a limit of their own: README is two pages, DECISIONS and bench are lists; COMMANDS and OPERATING are looked
+# something up in.
 OTHER_LENGTHS = {
     "README.md": 170,
     "bench/README.md": 300,
@@ -219,7 +222,8 @@ DECLARING = "fn|struct|enum|trait|mod|const|type|ensures|requires|record|data|mo
 
 @functools.cache
 def names_of_sources() -> tuple[set[str], list[str]]:
-    """Every name that a source declares: crates, modules, types and their variants, functions, clauses, definitions; and texts."""
+    """Every name that a source declares: crates, modules, types and their variants, functions, clauses, definitions;
+    and texts."""
     names = {path.split("/")[1] for path in FILES if path.startswith("crates/")} | {kit.read_kit(read)}
     quoted: list[str] = []
     for path in FILES:
@@ -247,11 +251,16 @@ def rows(pages: Pages) -> Problems:
         yield f"{CLAUSES}: line {at} is over {MOST_COLUMNS} columns" if len(line) > MOST_COLUMNS else None
     for row in clauses.read_rows(lambda path: pages[path], limits.read_limits(lambda path: pages[path])):
         words = len(row.sentence.split())
-        yield f"{CLAUSES}: {row.crate}: {row.clause}: a sentence of {words} words" if words > MOST_WORDS_OF_A_CELL else None
+        yield (
+            f"{CLAUSES}: {row.crate}: {row.clause}: a sentence of {words} words"
+            if words > MOST_WORDS_OF_A_CELL
+            else None
+        )
 
 
 def is_known(name: str, names: set[str], quoted: list[str]) -> bool:
-    """Whether a text in backquotes is a path, a name, names joined by `::`, or the beginning of a text of the sources."""
+    """Whether a text in backquotes is a path, a name, names joined by `::`, or the beginning of a text of the
+    sources."""
     path = name.rstrip("/")
     if path in FILES or path in FOLDERS or f"crates/{path}" in FILES:
         return True
@@ -305,7 +314,8 @@ def without_comments(text: str) -> list[str]:
 
 
 def quotations(pages: Pages) -> Problems:
-    """Each quoted definition is one of the file that the line above it names, from its first line to its last, comments left out."""
+    """Each quoted definition is one of the file that the line above it names, from its first line to its last, comments
+    left out."""
     for path, quoted in re.findall(r"(?m)^.*`([\w/]+\.antt)`.*\n\n```antt\n((?:.*\n)*?)```$", pages[DEFINITIONS]):
         full = f"crates/{path}"
         source = without_comments(read(full)) if full in FILES else []
@@ -342,7 +352,11 @@ def proofs(pages: Pages) -> Problems:
     """Each proof of the table is a file of its crate."""
     for crate, several in re.findall(r"(?m)^\| (life_\w+) \| ((?:`\w+`(?:, )?)+) \|", pages[ARCHITECTURE]):
         for name in re.findall(r"`(\w+)`", several):
-            yield None if f"crates/{crate}/proofs/{name}.antt" in FILES else f"{ARCHITECTURE}: {crate} has no proofs {name}"
+            yield (
+                None
+                if f"crates/{crate}/proofs/{name}.antt" in FILES
+                else f"{ARCHITECTURE}: {crate} has no proofs {name}"
+            )
 
 
 # ---- TESTING.md
@@ -427,7 +441,8 @@ def faults_of_row(row: dict[str, str]) -> Iterator[str]:
 
 
 def table(pages: Pages) -> Problems:
-    """The table of refusals has its form: kinds and numbers in their order, each name once in a kind, sentences that fit everywhere."""
+    """The table of refusals has its form: kinds and numbers in their order, each name once in a kind, sentences that
+    fit everywhere."""
     all_rows = table_of(pages)
     yield None if pages[REFUSALS].split("\n")[0] == ",".join(refusals.COLUMNS) else f"{REFUSALS}: another header"
     for row in all_rows if set(refusals.COLUMNS) <= set(all_rows[0]) else []:
@@ -448,7 +463,8 @@ def table(pages: Pages) -> Problems:
 
 
 def printed(pages: Pages) -> Problems:
-    """The names of refusals in the prose of COMMANDS, and the replies of the gateway that OPERATING lists, are those of the table."""
+    """The names of refusals in the prose of COMMANDS, and the replies of the gateway that OPERATING lists, are those of
+    the table."""
     known = columns(pages, "refusal", "name") + columns(pages, "program", "name")
     for name in sorted(set(re.findall(r"refused: ([a-z-]+)", pages[COMMANDS]))):
         yield None if (name,) in known else f"{COMMANDS}: not in {REFUSALS}: {name}"
@@ -546,7 +562,8 @@ LISTED = [
 
 
 def what_changed(pages: Pages) -> Problems:
-    """`./check` knows the crates that stand on one that changed, and the parts that look at a path; all files together are of all crates and parts."""
+    """`./check` knows the crates that stand on one that changed, and the parts that look at a path; all files together
+    are of all crates and parts."""
     crates = re.findall(r"(?m)^(\w+):", read("crates.txt"))
     for changed, wanted, looked_at in [*LISTED, (sorted(FILES), " ".join(crates), " ".join(sorted(PARTS)))]:
         said = subprocess.run(
@@ -745,7 +762,8 @@ ROUTE_MORE = "GET,/deposits/{id}/cells/{n}/{code},Cells,CellsOf id n code,some c
 
 
 def test_route_more() -> None:
-    """With one route more in the table, each file that has the routes is written, and what is written needs no change."""
+    """With one route more in the table, each file that has the routes is written, and what is written needs no
+    change."""
     pages = {**PAGES, ROUTES: PAGES[ROUTES] + ROUTE_MORE}
     written, problems = places.written(lambda path: pages[path] if path in pages else read(path))
     same("problems of one route more", problems, [])

@@ -1,9 +1,9 @@
 """The pictures of the program `life-draw`, read by Python's own parsers.
 
-Each picture is compared with the cells that are decoded here from the file: a text character by character, an SVG document by an XML
-parser and its path rectangle by rectangle. Some pictures are compared with texts that were written by hand. The pictures of
-docs/pictures are drawn again by docs/make-pictures, which also needs the program `life`, and compared, also with generations that are
-computed here.
+Each picture is compared with the cells that are decoded here from the file: a text character by character, an SVG
+document by an XML parser and its path rectangle by rectangle. Some pictures are compared with texts that were written
+by hand. The pictures of docs/pictures are drawn again by docs/make-pictures, which also needs the program `life`, and
+compared, also with generations that are computed here.
 """
 import os
 import random
@@ -36,7 +36,8 @@ def programs() -> None:
 
 
 def run(*words: str | bytes, file: bytes = b"") -> tuple[int, bytes, bytes]:
-    """The status of the program, and the bytes of its two streams. It is called by its name, which its messages have."""
+    """The status of the program, and the bytes of its two streams. It is called by its name, which its messages
+    have."""
     done = subprocess.run(
         [b"life-draw", *words], executable=PROGRAM, input=file, capture_output=True, timeout=60, check=False
     )
@@ -136,7 +137,8 @@ def check_svg(name: str, document: bytes, title: str | None, cells: Iterable[lif
 
 
 def frames_of(document: bytes) -> tuple[list[set[life.Cell]], str | None, str | None, str | None]:
-    """The frames of an animated document, each as the cells that it shows, how long all of them are shown, and its view box and title."""
+    """The frames of an animated document, each as the cells that it shows, how long all of them are shown, and its view
+    box and title."""
     root = xml.fromstring(document)
     path = root.find(SVG + "path")
     animate = None if path is None else path.find(SVG + "animate")
@@ -206,8 +208,9 @@ BY_HAND = [
         "glider's document by hand",
         ("svg",),
         GLIDER,
-        '<svg xmlns="http://www.w3.org/2000/svg" viewBox="-1 -1 5 5" shape-rendering="crispEdges">\n<title>Glider</title>\n'
-        '<rect x="-1" y="-1" width="5" height="5" fill="white"/>\n<path d="M1 0h1v1h-1zM2 1h1v1h-1zM0 2h3v1h-3z"/>\n</svg>\n',
+        '<svg xmlns="http://www.w3.org/2000/svg" viewBox="-1 -1 5 5" shape-rendering="crispEdges">\n'
+        '<title>Glider</title>\n<rect x="-1" y="-1" width="5" height="5" fill="white"/>\n'
+        '<path d="M1 0h1v1h-1zM2 1h1v1h-1zM0 2h3v1h-3z"/>\n</svg>\n',
     ),
     (
         "empty document by hand",
@@ -222,16 +225,18 @@ BY_HAND = [
         b"x = 3, y = 1\n3o!\n",
         '<svg xmlns="http://www.w3.org/2000/svg" viewBox="-1 -1 5 5" shape-rendering="crispEdges">\n'
         '<rect x="-1" y="-1" width="5" height="5" fill="white"/>\n'
-        '<path d="M0 0M0 1h3v1h-3z"><animate attributeName="d" calcMode="discrete" dur="250ms" repeatCount="indefinite" '
+        '<path d="M0 0M0 1h3v1h-3z">'
+        '<animate attributeName="d" calcMode="discrete" dur="250ms" repeatCount="indefinite" '
         'values="M0 0M0 1h3v1h-3z;M0 0M1 0h1v1h-1zM1 1h1v1h-1zM1 2h1v1h-1z"/></path>\n</svg>\n',
     ),
     (
         "two cells that die, by hand",
         ("animation", "0", "1"),
         b"#N Gone\nx = 2, y = 1\n2o!\n",
-        '<svg xmlns="http://www.w3.org/2000/svg" viewBox="-1 -1 4 3" shape-rendering="crispEdges">\n<title>Gone</title>\n'
-        '<rect x="-1" y="-1" width="4" height="3" fill="white"/>\n'
-        '<path d="M0 0M0 0h2v1h-2z"><animate attributeName="d" calcMode="discrete" dur="250ms" repeatCount="indefinite" '
+        '<svg xmlns="http://www.w3.org/2000/svg" viewBox="-1 -1 4 3" shape-rendering="crispEdges">\n'
+        '<title>Gone</title>\n<rect x="-1" y="-1" width="4" height="3" fill="white"/>\n'
+        '<path d="M0 0M0 0h2v1h-2z">'
+        '<animate attributeName="d" calcMode="discrete" dur="250ms" repeatCount="indefinite" '
         'values="M0 0M0 0h2v1h-2z;M0 0"/></path>\n</svg>\n',
     ),
 ]

@@ -1,4 +1,5 @@
-"""How the file of a club's archive gives its place to another one: restores and new archives, what they refuse, and what undoes them.
+"""How the file of a club's archive gives its place to another one: restores and new archives, what they refuse, and
+what undoes them.
 """
 import fcntl
 import getpass
@@ -47,8 +48,8 @@ def cached(club: Club) -> str:
 
 
 def test_drill(folder: str) -> None:
-    """An older copy, put back on purpose while the service runs and leaves a log behind: all is as the copy has it. Then copies continue, and
-    the way back that is named leads back."""
+    """An older copy, put back on purpose while the service runs and leaves a log behind: all is as the copy has it.
+    Then copies continue, and the way back that is named leads back."""
     club = ClubOfFive(folder, "drill")
     club.copy()
     newest = club.newest()
@@ -170,7 +171,8 @@ def test_newer_copy(folder: str) -> None:
 
 
 def test_unsound(folder: str) -> None:
-    """A copy with a row that no archive writes is put back only if that is asked for, and its other rows are served then."""
+    """A copy with a row that no archive writes is put back only if that is asked for, and its other rows are served
+    then."""
     club = Club(folder, "unsound")
     write_wrong_row(club.archive)
     shutil.copyfile(club.archive, copy := os.path.join(folder, "unsound.db"))
@@ -194,8 +196,8 @@ def overwrite(path: str) -> None:
     "name, harm", [("removed", os.remove), ("overwritten", overwrite)], ids=["removed", "overwritten"]
 )
 def test_gone_while_served(folder: str, name: str, harm: Callable[[str], None]) -> None:
-    """The archive's file is removed, or something is written over it, while it is served. The newest copy with the log that is there has
-    everything that was acknowledged, and a restore says so before numbers are given again."""
+    """The archive's file is removed, or something is written over it, while it is served. The newest copy with the log
+    that is there has everything that was acknowledged, and a restore says so before numbers are given again."""
     club = ClubOfFive(folder, name)
     club.copy()
     newest = club.newest()
@@ -248,7 +250,8 @@ def test_lost(folder: str) -> None:
 
 
 def test_not_restored(folder: str) -> None:
-    """An invalid copy, or one that was written to, is refused before the service is stopped; so is a restore without what it needs."""
+    """An invalid copy, or one that was written to, is refused before the service is stopped; so is a restore without
+    what it needs."""
     club = Club(folder, "not-restored")
     add(club.archive, MEMBERS[:2])
     club.copy()
@@ -360,8 +363,8 @@ def test_while_stopped(folder: str) -> None:
 
 
 def test_after_a_failure(folder: str) -> None:
-    """systemd has given up on an archive that is gone: a restore starts the service at once. If it can't be started, that is said, and where
-    all is."""
+    """systemd has given up on an archive that is gone: a restore starts the service at once. If it can't be started,
+    that is said, and where all is."""
     club = ClubOfFive(folder, "failed")
     club.copy()
     club.systemctl("stop")
@@ -417,7 +420,8 @@ CASES, SEED = 13, 20261128
 
 
 def signalled(club: ClubOfFive, number: signal.Signals, line: str, wait: float, to_worker: bool) -> tuple[int, str]:
-    """A restore that gets a signal so long after it says a line, or whose worker gets it. Its status and what it said."""
+    """A restore that gets a signal so long after it says a line, or whose worker gets it. Its status and what it
+    said."""
     process = club.begun("life-restore", "--older", club.older)
     said = ""
     assert process.stdout is not None
@@ -439,8 +443,8 @@ def signalled(club: ClubOfFive, number: signal.Signals, line: str, wait: float, 
 
 @pytest.mark.parametrize("number", SIGNALS, ids=[number.name for number in SIGNALS])
 def test_signals(folder: str, number: signal.Signals) -> None:
-    """Signals at moments by a seed in a restore. After each the archive is whole, as it was or as the copy is, and served; after a kill this is
-    so after the next command."""
+    """Signals at moments by a seed in a restore. After each the archive is whole, as it was or as the copy is, and
+    served; after a kill this is so after the next command."""
     chance, started = random.Random(SEED + number), time.monotonic()
     ends: dict[int, int] = {}
     club = ClubOfFive(folder, number.name)
@@ -512,7 +516,8 @@ def judge(club: Club, name: str, newest: str, status: int) -> None:
 @pytest.mark.parametrize("command", ["life-restore", "life-new-archive"])
 @pytest.mark.parametrize("word, said, wanted", [("stop", "undone", FIVE), ("start", "finished", THREE)])
 def test_kills(folder: str, word: str, said: str, wanted: Ledger, command: str) -> None:
-    """A restore is killed at its stop, and at its start. The next command, whichever it is, undoes the one and finishes the other."""
+    """A restore is killed at its stop, and at its start. The next command, whichever it is, undoes the one and finishes
+    the other."""
     club = ClubOfFive(folder, f"killed-at-{word}-{command}")
     club.copy()
     cached(club)
@@ -642,8 +647,8 @@ def state_of(path: str) -> tuple[object, ...]:
 
 
 def test_planted(folder: str) -> None:
-    """Links that the archive's user and nginx's user have planted lead a command of root nowhere: what it does in their folders, it does as
-    they."""
+    """Links that the archive's user and nginx's user have planted lead a command of root nowhere: what it does in their
+    folders, it does as they."""
     if os.geteuid() != 0:
         pytest.skip("this is not root, so no links are planted for it")
     os.chmod(folder, 0o755)
@@ -697,8 +702,8 @@ def test_planted(folder: str) -> None:
 
 
 def test_roots_own_copy(folder: str) -> None:
-    """Root's copy of another user's archive in a folder of root's own: the archive's user reads, and root takes the bytes. What that user can't
-    read is in no copy."""
+    """Root's copy of another user's archive in a folder of root's own: the archive's user reads, and root takes the
+    bytes. What that user can't read is in no copy."""
     if os.geteuid() != 0:
         pytest.skip("this is not root, so root makes no copy of its own")
     os.chmod(folder, 0o755)
@@ -762,7 +767,8 @@ def planted_for_a_new_one(club: Club, victim: str) -> None:
 
 
 def plant(club: Club, victims: list[str]) -> None:
-    """Links at names that a command may write, as the users do to whom the folders belong; and a program that notes who runs it."""
+    """Links at names that a command may write, as the users do to whom the folders belong; and a program that notes who
+    runs it."""
     file, folder, none = victims
     for below, name, to in (
         ("archive", "club.db.new", file),
@@ -784,7 +790,8 @@ def plant(club: Club, victims: list[str]) -> None:
 
 
 def test_rooms(folder: str) -> None:
-    """A command that is ended by a signal removes its room, and ends the program that it tries; rooms that a kill has left go after a day."""
+    """A command that is ended by a signal removes its room, and ends the program that it tries; rooms that a kill has
+    left go after a day."""
     club = ClubOfFive(folder, "rooms")
     for place, names in ((club.folder, (".life-exchange-old", ".life-new-old")), (club.copies, (".life-copy-old",))):
         for name in names:

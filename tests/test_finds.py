@@ -1,5 +1,5 @@
-"""The scripts for the table of a haul: what examples/scripts/deposit-finds refuses and deposits, and what examples/scripts/plot-haul draws.
-The expected finds, soups and censuses are computed in Python.
+"""The scripts for the table of a haul: what examples/scripts/deposit-finds refuses and deposits, and what
+examples/scripts/plot-haul draws. The expected finds, soups and censuses are computed in Python.
 """
 import hashlib
 import json
@@ -50,7 +50,8 @@ def said(room: str, name: str, *words: str) -> tuple[int, str, str]:
 
 
 def table(room: str) -> tuple[str, list[list[str]]]:
-    """The path of a haul's table, and its rows: the least count first, and of equal counts in the order of the table."""
+    """The path of a haul's table, and its rows: the least count first, and of equal counts in the order of the
+    table."""
     path = os.path.join(room, "haul.csv")
     with open(path, "wb") as file:
         subprocess.run([HAUL, ROOT, "0", str(SOUPS), str(GENERATION), str(LIMIT)], stdout=file, check=True)
@@ -131,7 +132,8 @@ def test_picture(room: str) -> None:
 
 # ---- what is deposited
 
-# The haul whose finds are deposited: rule, how many soups, generation. Of its rarest codes the first 7 have two of one soup.
+# The haul whose finds are deposited: rule, how many soups, generation. Of its rarest codes the first 7 have two of one
+# soup.
 RULE, HAULED, AT, RAREST = "B3/S23", 20, 200, 7
 HIGHLIFE = "B36/S23", 6, 64
 # Another haul with soups of another symmetry than C1.
@@ -174,8 +176,8 @@ def number_of(reply: bytes) -> int:
 def deposited(
     archive: reference.Archive, member: str, rule: str, generation: int, finds: list[Find], symmetry: str = "C1"
 ) -> str:
-    """What the script prints for finds, once the archive of the reference has their soups and censuses. Soups come in the order of their files'
-    names, and the token of a file is its digest."""
+    """What the script prints for finds, once the archive of the reference has their soups and censuses. Soups come in
+    the order of their files' names, and the token of a file is its digest."""
     numbers, printed = {}, ""
     for number in sorted({first for _, _, first in finds}, key=lambda first: f"{first}.rle"):
         text = soup(rule, number, symmetry)
@@ -207,8 +209,8 @@ class Archive(reference.Archive):
 
 
 def is_same(server: Server, archive: Archive) -> bool:
-    """Whether the archive that is served shows the list, each deposit, each census and each of their codes as the one of the reference. Numbers
-    beyond the last are asked for too: nothing is there."""
+    """Whether the archive that is served shows the list, each deposit, each census and each of their codes as the one
+    of the reference. Numbers beyond the last are asked for too: nothing is there."""
     last, most = len(archive.deposits) + 1, len(archive.censuses) + 1
     codes = {code for number in range(1, most) for code, _ in archive.counted(number)[3][0]}
     paths = [
@@ -226,7 +228,8 @@ def url(server: Server) -> str:
 
 
 def test_finds_are_deposited(room: str) -> None:
-    """The first soups of the rarest codes are deposited and counted, and the numbers are printed. Again they are the same, and nothing is new."""
+    """The first soups of the rarest codes are deposited and counted, and the numbers are printed. Again they are the
+    same, and nothing is new."""
     archive, path, rows = Archive(), hauled(room, RULE, HAULED, AT), counted(RULE, HAULED, AT)
     rarest = rows[:RAREST]
     check("soups with one find and a soup with two", 1 < len({first for _, _, first in rarest}) < RAREST < len(rows))

@@ -1,5 +1,5 @@
-"""The real gateway of deploy/: nginx, HAProxy and the archive's program, as deploy/try runs them, with many clients at once, each with its
-own address.
+"""The real gateway of deploy/: nginx, HAProxy and the archive's program, as deploy/try runs them, with many clients at
+once, each with its own address.
 
 The members' scripts wait more than they work, so they can run beside everything else: `pytest -n 2 --dist loadgroup`.
 """
@@ -40,7 +40,8 @@ MANY = 200
 NO_REPLY = b'{"error":"no-reply"}'
 # The status, the body and the header lines of a reply.
 Reply = tuple[int, bytes, dict[str, str]]
-# No head of a message: of another protocol, with a byte that no path has, half a line, a path and a line that are too long.
+# No head of a message: of another protocol, with a byte that no path has, half a line, a path and a line that are too
+# long.
 NO_HEADS = [
     b"\x16\x03\x01\x02",
     b'GET /\xff\x01"\\ HTTP/1.1\r\nhost: x\r\n\r\n',
@@ -81,7 +82,8 @@ def sent(port: int, client: int, token: str, body: bytes) -> Reply:
 
 
 def sent_until_answered(port: int, client: int, token: str, body: bytes, tries: int = 40) -> int | None:
-    """A deposit from a careful member: if no number comes back, it is sent again with its token. Returns the number, or None."""
+    """A deposit from a careful member: if no number comes back, it is sent again with its token. Returns the number, or
+    None."""
     for _ in range(tries):
         try:
             status, answer, _ = sent(port, client, token, body)
@@ -167,7 +169,8 @@ def test_the_beginning(gateway: Gateway) -> None:
 
 
 def test_many_clients(gateway: Gateway, kept: Kept) -> None:
-    """Many at once deposit, read their deposit and a generation of it: each is answered, and each deposit is there once."""
+    """Many at once deposit, read their deposit and a generation of it: each is answered, and each deposit is there
+    once."""
 
     def one(client: int) -> bool:
         good = []
@@ -192,7 +195,8 @@ def test_many_clients(gateway: Gateway, kept: Kept) -> None:
 
 
 def test_slow_clients(gateway: Gateway, filled: None) -> None:
-    """Clients that are silent, stop in a head, in a small or a large body, drip, or take no reply, thirty of each, hold nobody."""
+    """Clients that are silent, stop in a head, in a small or a large body, drip, or take no reply, thirty of each, hold
+    nobody."""
     head = b"POST /deposits HTTP/1.1\r\nhost: x\r\nx-member: slow\r\nx-token: t1\r\ncontent-length: 900000\r\n\r\n"
     begins = [
         b"",
@@ -372,7 +376,8 @@ def requests(gateway: Gateway) -> list[dict[str, Any]]:
 
 
 def test_floods(gateway: Gateway, filled: None) -> None:
-    """Of a client that asks far too much the logs have what it was given, and a trace of the 429 that it got besides."""
+    """Of a client that asks far too much the logs have what it was given, and a trace of the 429 that it got
+    besides."""
     each, threads, client = 1500, 4, 257
     before = [len(log(gateway, name)) for name in ("access.log", "error.log")]
 
@@ -493,7 +498,8 @@ def test_links(gateway: Gateway, folder: str) -> None:
 
 
 def test_no_heads(gateway: Gateway) -> None:
-    """A malformed request, or one that is too long, gets the program's reply, and leaves no line in the log of errors."""
+    """A malformed request, or one that is too long, gets the program's reply, and leaves no line in the log of
+    errors."""
     before = len(log(gateway, "error.log"))
     for head in NO_HEADS:
         reply = exchanged(gateway.port, [head])
@@ -531,7 +537,8 @@ def test_numbers_for_prometheus(gateway: Gateway) -> None:
 
 
 def test_kills(gateway: Gateway, kept: Kept, filled: None) -> None:
-    """The program is killed under a load of deposits; members who got no number send again. Nothing is lost, and nothing is kept twice."""
+    """The program is killed under a load of deposits; members who got no number send again. Nothing is lost, and
+    nothing is kept twice."""
     killed = []
     over = threading.Event()
 
@@ -588,7 +595,8 @@ def test_kills(gateway: Gateway, kept: Kept, filled: None) -> None:
 
 
 def test_copies(gateway: Gateway, kept: Kept, filled: None, folder: str) -> None:
-    """A copy of the archive while it is served and written is an archive, and has all that was answered before it was begun."""
+    """A copy of the archive while it is served and written is an archive, and has all that was answered before it was
+    begun."""
     over = threading.Event()
     writing = threading.Thread(
         target=lambda: [
@@ -628,7 +636,8 @@ def test_copies(gateway: Gateway, kept: Kept, filled: None, folder: str) -> None
 
 
 def seeds() -> bytes:
-    """A file of a thousand seeds that mostly grow for ever, under a rule in which no law says so: each is followed to the limit, which takes minutes."""
+    """A file of a thousand seeds that mostly grow for ever, under a rule in which no law says so: each is followed to
+    the limit, which takes minutes."""
     chance, rows = random.Random(19), [["b"] * 1024 for _ in range(1024)]
     for number in range(1000):
         for place in range(16):
@@ -639,8 +648,8 @@ def seeds() -> bytes:
 
 
 def test_long_requests(gateway: Gateway, filled: None, folder: str) -> None:
-    """A census or a kind that takes long is ended by the watch, is not sent again, and others are served after it. No kind takes long enough
-    on every machine, so while one is asked for, a signal suspends the program."""
+    """A census or a kind that takes long is ended by the watch, is not sent again, and others are served after it. No
+    kind takes long enough on every machine, so while one is asked for, a signal suspends the program."""
     number = json.loads(sent(gateway.port, 255, "seeds", seeds())[1])["deposit"]
     mark = os.path.join(folder, "watched")
     watch = [os.path.join(DEPLOY, "life-watch"), str(gateway.life_port), "1", "touch", mark]
@@ -739,7 +748,8 @@ def scripts_with_passwords(gateway: Gateway, folder: str) -> None:
 
 
 def long_searches(gateway: Gateway) -> None:
-    """With passwords a search for a period above 256 is for members, however its limit is written, and comes from the cache for them alone."""
+    """With passwords a search for a period above 256 is for members, however its limit is written, and comes from the
+    cache for them alone."""
     good = {"authorization": "Basic " + base64.b64encode(b"ann:of-ann").decode()}
     for path, alone, with_password in (
         ("/deposits/1/kind/256", 200, 200),
@@ -831,7 +841,8 @@ def head_of(connection: http.client.HTTPConnection, path: str) -> Reply:
 
 
 def test_over_tls(servers: None, folder: str) -> None:
-    """TLS by IPv4 and IPv6. Plain HTTP is sent on to it, but for what a certificate is given for; each reply says that https is to be asked."""
+    """TLS by IPv4 and IPv6. Plain HTTP is sent on to it, but for what a certificate is given for; each reply says that
+    https is to be asked."""
     if not shutil.which("openssl"):
         pytest.skip("openssl is not installed")
     cert, key = os.path.join(folder, "cert.pem"), os.path.join(folder, "key.pem")
@@ -898,7 +909,8 @@ def test_over_tls(servers: None, folder: str) -> None:
 
 
 def test_both_protocols(servers: None, folder: str) -> None:
-    """Without TLS both protocols are answered, with what a certificate is given for, and no reply says that https is to be asked."""
+    """Without TLS both protocols are answered, with what a certificate is given for, and no reply says that https is to
+    be asked."""
     also = free_port()
     gateway = Gateway(
         os.path.join(folder, "both.db"), FIRST_PORT, f"LISTEN_ALSO=[::1]:{also}", f"ACME_FOLDER={challenges(folder)}"
@@ -917,7 +929,8 @@ def test_both_protocols(servers: None, folder: str) -> None:
 
 
 def test_new_archives(servers: None, folder: str) -> None:
-    """deploy/try says on standard error that it creates a new archive, with the file's name, and nothing if the file is there."""
+    """deploy/try says on standard error that it creates a new archive, with the file's name, and nothing if the file is
+    there."""
     database = os.path.join(folder, "new.db")
     words = [
         os.path.join(DEPLOY, "try"),
@@ -936,7 +949,8 @@ def test_new_archives(servers: None, folder: str) -> None:
 
 
 def script(name: str, *words: str, home: str) -> tuple[tuple[int, str, str], float]:
-    """The status of a member's script, what it prints on its two streams, and how long it took. `home` is the member's own folder."""
+    """The status of a member's script, what it prints on its two streams, and how long it took. `home` is the member's
+    own folder."""
     begun = time.monotonic()
     own = os.environ | {"HOME": home, "XDG_STATE_HOME": os.path.join(home, "state")}
     done = subprocess.run([os.path.join(SCRIPTS, name), *words], capture_output=True, text=True, timeout=300, env=own)
@@ -960,7 +974,8 @@ def new_patterns(folder: str, name: str, count: int) -> tuple[str, Callable[[int
 
 @pytest.mark.xdist_group("scripts")
 def test_scripts(servers: None, folder: str) -> None:
-    """The members' scripts over a gateway with its limits as they are: one call does all, and a second one sends nothing and changes nothing."""
+    """The members' scripts over a gateway with its limits as they are: one call does all, and a second one sends
+    nothing and changes nothing."""
     home, database = os.path.join(folder, "home"), os.path.join(folder, "scripts.db")
     os.mkdir(home)
     few, few_kept = new_patterns(folder, "few", 20)

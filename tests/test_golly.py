@@ -1,7 +1,8 @@
-"""Compares generations with Golly's: its own files and seeded fields are evolved by its QuickLife and by the program `life`.
+"""Compares generations with Golly's: its own files and seeded fields are evolved by its QuickLife and by the program
+`life`.
 
-The live cells have to be the same up to a translation, since the program prints each generation from its corner. Files of Golly that the
-program refuses as patterns, such as those with other kinds of rules, are left out; fields never are.
+The live cells have to be the same up to a translation, since the program prints each generation from its corner. Files
+of Golly that the program refuses as patterns, such as those with other kinds of rules, are left out; fields never are.
 
 It needs Debian's golly, which has `bgolly` and the files.
 """
@@ -39,7 +40,8 @@ def golly() -> None:
 
 
 def field_of(text: bytes) -> Field:
-    """The rule and the live cells that a file spells, moved so that the least column and row are 0. Generations are wider than files may be."""
+    """The rule and the live cells that a file spells, moved so that the least column and row are 0. Generations are
+    wider than files may be."""
     return life.read_file(text, is_limited=False)[3:]
 
 
@@ -96,7 +98,8 @@ def test_files_of_golly(folder: str) -> None:
 
 @pytest.fixture(scope="module")
 def fields(folder: str) -> str:
-    """A folder of files of random fields, of each side under each rule, three tenths of the cells live, and half of them."""
+    """A folder of files of random fields, of each side under each rule, three tenths of the cells live, and half of
+    them."""
     path, chance = os.path.join(folder, "fields"), random.Random(2048)
     os.mkdir(path)
     for rule in RULES:

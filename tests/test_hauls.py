@@ -1,10 +1,11 @@
 """The tables of `life-haul`, compared with hauls computed in Python, and the scripts that add hauls and split them.
 
-200 soups of three roots, and some of each symmetry, are compared with tests/haul_reference.py, which uses the program `life` only for the
-codes of shapes. Soups are compared with hashlib and with sha256sum, as `life` prints them. Refusals, usage errors, failing streams and a
-terminal are tested. A haul of four times the soups takes no more memory. Tables of ranges are added, here and by examples/scripts/add-hauls.
-deploy/haul/parallel counts 20,000 soups: a worker is killed, a run is killed, and a run is ended by a signal. The same command resumes
-the haul each time. The commands of docs/HAULS.md print what is written there.
+200 soups of three roots, and some of each symmetry, are compared with tests/haul_reference.py, which uses the program
+`life` only for the codes of shapes. Soups are compared with hashlib and with sha256sum, as `life` prints them.
+Refusals, usage errors, failing streams and a terminal are tested. A haul of four times the soups takes no more memory.
+Tables of ranges are added, here and by examples/scripts/add-hauls. deploy/haul/parallel counts 20,000 soups: a worker
+is killed, a run is killed, and a run is ended by a signal. The same command resumes the haul each time. The commands of
+docs/HAULS.md print what is written there.
 """
 import contextlib
 import os
@@ -146,7 +147,8 @@ def test_table(haul: tuple[str, int, int, int, int, str, str]) -> None:
 
 
 def peak(count: int) -> int:
-    """The most kilobytes that a haul of this many soups has at once. At generation 8 most clusters have no code, so their shapes differ."""
+    """The most kilobytes that a haul of this many soups has at once. At generation 8 most clusters have no code, so
+    their shapes differ."""
     with open(os.devnull, "wb") as nothing, subprocess.Popen(
         ["life-haul", ROOTS[0], "0", str(count), "8", "1"], executable=PROGRAM, stdout=nothing, stderr=nothing
     ) as child:
@@ -189,7 +191,8 @@ SOUPS = [
 # A soup by the tools of a Linux system, as a pattern file: $1 is its root, $2 its number, and $3 its rule.
 SOUP_TOOLS = r"""
 echo "x = 16, y = 16, rule = $3"
-printf %s "$1$2" | sha256sum | cut -c 1-64 | tr a-f A-F | basenc --base16 --decode | basenc --base2msbf --wrap=16 | tr 01 bo | paste -s -d '$' | sed 's/$/!/'
+printf %s "$1$2" | sha256sum | cut -c 1-64 | tr a-f A-F | basenc --base16 --decode |
+  basenc --base2msbf --wrap=16 | tr 01 bo | paste -s -d '$' | sed 's/$/!/'
 """
 
 
@@ -392,7 +395,8 @@ def on_terminal(*arguments: str) -> Said:
 
 
 def test_progress() -> None:
-    """On a terminal a line says how far a haul is, at most once a second. It is gone at the end, and standard output stays the same."""
+    """On a terminal a line says how far a haul is, at most once a second. It is gone at the end, and standard output
+    stays the same."""
     began = time.monotonic()
     status, output, errors = on_terminal("ann-2026", "0", "4000", "2048", "60")
     seconds = time.monotonic() - began
@@ -406,8 +410,8 @@ def test_progress() -> None:
     numbers = [(int(line[1]), int(line[2]), int(line[3])) for line in found if line]
     done = [number for number, _, _ in numbers] + [4000]
     check(f"soups that are done: {numbers}", all(0 < one < other for one, other in zip(done, done[1:])))
-    # A line has the soups per second and the seconds left, both as whole numbers. Several times may fit: take the first that is not before the
-    # time of the line before.
+    # A line has the soups per second and the seconds left, both as whole numbers. Several times may fit: take the first
+    # that is not before the time of the line before.
     spent = 1
     for soups, speed, left in numbers:
         spent = next(
@@ -575,7 +579,8 @@ def test_sum(name: str, tables: list[str], wanted: str, room: str) -> None:
 
 
 def test_sums_of_files(room: str) -> None:
-    """Tables from pipes; sqlite3 with settings of one's own; the same table twice; files that are not there; a full disk."""
+    """Tables from pipes; sqlite3 with settings of one's own; the same table twice; files that are not there; a full
+    disk."""
     needs("sqlite3")
     whole, other = written(room, "whole.csv", WHOLE), written(room, "other.csv", AFTER)
     same("tables from pipes", run("bash", "-c", '"$0" <(cat "$1") <(cat "$2")', ADD, whole, other), (0, BOTH, ""))
@@ -718,7 +723,8 @@ def end_run(command: list[str], folder: str) -> None:
 
 
 def test_parallel(room: str) -> None:
-    """After a killed worker, a killed run and one that is ended, the same command resumes the haul and counts nothing twice."""
+    """After a killed worker, a killed run and one that is ended, the same command resumes the haul and counts nothing
+    twice."""
     needs("parallel", "sqlite3")
     folder = os.path.join(room, "shared")
     command = [
@@ -807,7 +813,8 @@ def test_refused_folders(room: str) -> None:
 
 
 def examples(text: str) -> list[list[str]]:
-    """The commands of a document and what each prints, in lines that begin with four spaces. A backslash at its end continues a command."""
+    """The commands of a document and what each prints, in lines that begin with four spaces. A backslash at its end
+    continues a command."""
     found: list[list[str]] = []
     for line in re.findall(r"^    (.*)$", text, re.M):
         if line.startswith("$ "):
@@ -826,7 +833,8 @@ def can_run(command: str) -> bool:
 
 
 def test_examples(room: str) -> None:
-    """The commands of the page, run one after the other in one folder, print on their two streams what is written there."""
+    """The commands of the page, run one after the other in one folder, print on their two streams what is written
+    there."""
     for name, path in (
         ("life", LIFE),
         ("life-haul", PROGRAM),

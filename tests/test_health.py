@@ -1,5 +1,6 @@
-"""Whether an administrator learns about problems: alarms that begin and end once, the checks of life-age, settings that are named with their
-line, and files that somebody has changed by hand. systemd is a stand-in here; tests/test_boot.py has a real one.
+"""Whether an administrator learns about problems: alarms that begin and end once, the checks of life-age, settings that
+are named with their line, and files that somebody has changed by hand. systemd is a stand-in here; tests/test_boot.py
+has a real one.
 """
 import contextlib
 import getpass
@@ -84,7 +85,8 @@ class Desk:
 
 
 def test_alarms(folder: str) -> None:
-    """An alarm is in the journal at priority crit, and by mail if there is a sendmail. The same reason sends one alarm, until it is over."""
+    """An alarm is in the journal at priority crit, and by mail if there is a sendmail. The same reason sends one alarm,
+    until it is over."""
     desk = Desk(os.path.join(folder, "alarms"))
     write(os.path.join(desk.room, "last"), "life-copy: club.db is not there\n")
     write(os.path.join(desk.room, "shown"), "Result=exit-code\nExecMainStatus=1\nExecMainCode=1\n")
@@ -163,7 +165,8 @@ class Place:
 
 
 def test_ages(folder: str) -> None:
-    """A newest copy that is too old is a failure for as long as it is so. A copy with a time in the future does not count."""
+    """A newest copy that is too old is a failure for as long as it is so. A copy with a time in the future does not
+    count."""
     place = Place(os.path.join(folder, "ages"))
     same("a new folder without a copy", place.age()[0], 0)
     os.utime(place.copies, (time.time() - 8000, time.time() - 8000))
@@ -277,7 +280,8 @@ def sound(place: Place, program: str) -> tuple[int, str]:
 
 
 def test_sound(program: str, folder: str) -> None:
-    """The newest copy is read row by row, and stays as it is. A wrong row, a file that is not a database, and a missing copy are failures."""
+    """The newest copy is read row by row, and stays as it is. A wrong row, a file that is not a database, and a missing
+    copy are failures."""
     place = Place(os.path.join(folder, "sound"))
     same("no copy", sound(place, program), (1, f"life-sound: there is no copy in {place.copies}\n"))
     with Server(place.archive, 2) as server:
@@ -328,7 +332,10 @@ def test_spellings(program: str, folder: str) -> None:
     with Server(archive, 1) as server:
         exchanged(server.port, [deposit("ann", "t1", GLIDER)])
         server.ended()
-    others = f"PROGRAM={program}\nARCHIVE_FOLDER={os.path.dirname(archive)}\nBACKUP_FOLDER={copies}\nLIFE_USER={getpass.getuser()}\nMETRICS_FOLDER=\n"
+    others = (
+        f"PROGRAM={program}\nARCHIVE_FOLDER={os.path.dirname(archive)}\nBACKUP_FOLDER={copies}\n"
+        f"LIFE_USER={getpass.getuser()}\nMETRICS_FOLDER=\n"
+    )
     for number, spelling in enumerate(clubs.SPELLINGS):
         path = os.path.join(room, f"settings{number}")
         with open(path, "wb") as file:
@@ -361,7 +368,8 @@ class Root:
 
 
 def test_changed_by_hand(folder: str) -> None:
-    """A file that somebody has changed stays, and what the settings make of it is beside it, until --replace is asked for."""
+    """A file that somebody has changed stays, and what the settings make of it is beside it, until --replace is asked
+    for."""
     root = Root(os.path.join(folder, "configured"))
     site, unit = root.path("etc/nginx/sites-available/life"), root.path("etc/systemd/system/life-watch.service")
     status, out, err = root.configured()

@@ -1,4 +1,5 @@
-"""deploy/life-index: the content of its files, for archives that this test writes according to docs/FORMATS.md, and for one of the program's."""
+"""deploy/life-index: the content of its files, for archives that this test writes according to docs/FORMATS.md, and for
+one of the program's."""
 import gzip
 import json
 import os
@@ -38,8 +39,8 @@ def time_of_children() -> float:
 
 
 def life_index(copy: str, folder: str, day: Day = FIRST_DAY) -> tuple[tuple[int, str, str], float]:
-    """The status of life-index, what it prints on its two streams, and how long a processor worked on it, which other work beside it hardly
-    changes."""
+    """The status of life-index, what it prints on its two streams, and how long a processor worked on it, which other
+    work beside it hardly changes."""
     begun = time_of_children()
     own = os.environ | {"SOURCE_DATE_EPOCH": str(day[1])}
     done = subprocess.run(
@@ -108,7 +109,8 @@ def names_for_titles(folder: str) -> dict[str, str]:
 
 
 def test_large(folder: str) -> None:
-    """100,000 deposits: each is said as it is, in the time and the room that there is; what is added is there quickly, and full blocks stay."""
+    """100,000 deposits: each is said as it is, in the time and the room that there is; what is added is there quickly,
+    and full blocks stay."""
     chance, room, copy = random.Random(11), os.path.join(folder, "large"), os.path.join(folder, "large.db")
     entries = [Entry(number, chance) for number in range(1, MANY + 1)]
     database = new_archive(copy)
@@ -142,7 +144,8 @@ def test_large(folder: str) -> None:
 
 
 def test_censuses(folder: str) -> None:
-    """Each census is said with its rows, by rule and code; a block that is full never changes, and the last one does."""
+    """Each census is said with its rows, by rule and code; a block that is full never changes, and the last one
+    does."""
     chance, room, copy = random.Random(12), os.path.join(folder, "counted"), os.path.join(folder, "counted.db")
     entries = [Entry(number, chance) for number in range(1, 41)]
     database, wanted = new_archive(copy), []
@@ -200,7 +203,8 @@ def test_censuses(folder: str) -> None:
 
 
 def test_grown(folder: str) -> None:
-    """An index that has grown in steps has the blocks of one that is made at once, but for the days; nothing is left of what it was."""
+    """An index that has grown in steps has the blocks of one that is made at once, but for the days; nothing is left of
+    what it was."""
     chance, copy = random.Random(13), os.path.join(folder, "grown.db")
     steps, whole = os.path.join(folder, "steps"), os.path.join(folder, "whole")
     database = new_archive(copy)
@@ -281,7 +285,8 @@ def test_other_archives(folder: str) -> None:
 
 
 def test_of_one_club(folder: str) -> None:
-    """With --archive only the copies that life-copy made of that archive count: not newer files of other names, nor those with a time in the future."""
+    """With --archive only the copies that life-copy made of that archive count: not newer files of other names, nor
+    those with a time in the future."""
     chance, place, room = (
         random.Random(21),
         os.path.join(folder, "copies-of-clubs"),
@@ -445,7 +450,8 @@ def test_feed(folder: str) -> None:
 
 
 def test_of_the_program(program: str, folder: str) -> None:
-    """An archive of the program, copied by life-copy while it is served: the index says what the routes say. Of a folder the newest copy counts."""
+    """An archive of the program, copied by life-copy while it is served: the index says what the routes say. Of a
+    folder the newest copy counts."""
     database, copies, room = (
         os.path.join(folder, "club.db"),
         os.path.join(folder, "copies"),
@@ -518,7 +524,8 @@ def test_of_the_program(program: str, folder: str) -> None:
 
 
 def test_while_deposits_come(program: str, folder: str) -> None:
-    """Copies and indexes made while members deposit: each is of what there was at one moment, and none is behind what was answered before it."""
+    """Copies and indexes made while members deposit: each is of what there was at one moment, and none is behind what
+    was answered before it."""
     database, copy, room = (os.path.join(folder, name) for name in ("busy.db", "busy-copy.db", "busy"))
     answered: list[bytes] = []
     over = threading.Event()

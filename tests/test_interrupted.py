@@ -1,5 +1,5 @@
-"""Copies and configurations that get a signal, at steps by a seed. A step is what a script is about to do with a file, a lock, a socket or a
-program, so the same steps come on a slow machine and on a fast one.
+"""Copies and configurations that get a signal, at steps by a seed. A step is what a script is about to do with a file,
+a lock, a socket or a program, so the same steps come on a slow machine and on a fast one.
 """
 import os
 import random
@@ -23,7 +23,8 @@ SIGNALS = (signal.SIGTERM, signal.SIGKILL, signal.SIGINT, signal.SIGHUP)
 
 
 class Steps:
-    """A command that gets signals: its words, the folders below which opening a file is a step, and what is done before each run."""
+    """A command that gets signals: its words, the folders below which opening a file is a step, and what is done before
+    each run."""
 
     def __init__(
         self,
@@ -94,8 +95,8 @@ def left_in(*folders: str) -> list[str]:
 
 
 def test_signals_in_copies(program: str, folder: str) -> None:
-    """Signals in the three forms of a copy. After each the archive is served, each copy is whole, nothing lies about, and the next copy comes.
-    What a kill leaves goes a day later."""
+    """Signals in the three forms of a copy. After each the archive is served, each copy is whole, nothing lies about,
+    and the next copy comes. What a kill leaves goes a day later."""
     club = ClubOfFive(folder, "copied")
     elsewhere, second = os.path.join(club.room, "elsewhere"), other_disk(folder) if shutil.which("rsync") else None
     os.mkdir(elsewhere)
@@ -132,7 +133,8 @@ def test_signals_in_copies(program: str, folder: str) -> None:
 
 
 def after_a_copy(club: Club, line: str, folders: list[str], number: signal.Signals, words: list[str]) -> None:
-    """Nothing lies about, but for what a kill has left, which the next copy of that form removes once it is a day old."""
+    """Nothing lies about, but for what a kill has left, which the next copy of that form removes once it is a day
+    old."""
     left = left_in(*folders)
     check(f"{line}: nothing lies about: {left}", left == [] or number == signal.SIGKILL)
     for path in left:
@@ -196,8 +198,9 @@ def files_below(root: str) -> dict[str, bytes]:
 
 
 def test_signals_in_configurations(folder: str) -> None:
-    """Signals while changed settings are brought to their places. After each every file is the old one or the new one, nothing lies about, and
-    the next life-configure does the rest. Some files somebody has changed by hand: those stay, or are replaced as a whole.
+    """Signals while changed settings are brought to their places. After each every file is the old one or the new one,
+    nothing lies about, and the next life-configure does the rest. Some files somebody has changed by hand: those stay,
+    or are replaced as a whole.
     """
     root = os.path.join(folder, "configured")
     settings, site = os.path.join(root, "etc/life/settings"), os.path.join(root, "etc/nginx/sites-available/life")

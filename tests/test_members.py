@@ -1,5 +1,6 @@
-"""What members type besides the programs: the scripts of examples/scripts on served archives, and shell completions. It also checks that these
-and the manual pages match the help of the programs. The tests wait more than they work, so they run side by side with `-n 8`.
+"""What members type besides the programs: the scripts of examples/scripts on served archives, and shell completions. It
+also checks that these and the manual pages match the help of the programs. The tests wait more than they work, so they
+run side by side with `-n 8`.
 """
 import concurrent.futures
 import hashlib
@@ -135,7 +136,8 @@ KEPT = [
 
 
 def test_folder_twice(room: str, program: str) -> None:
-    """The same command again has the same numbers and makes no row; the same bytes under another name have the number that they have."""
+    """The same command again has the same numbers and makes no row; the same bytes under another name have the number
+    that they have."""
     folder, wanted = mixed(room, "twice")
     database = os.path.join(room, "twice.db")
     with Server(database, 100) as server:
@@ -163,7 +165,8 @@ def test_folder_twice(room: str, program: str) -> None:
     same("rows of a folder", rows(database, "SELECT member, token, population FROM deposits ORDER BY id"), KEPT)
 
 
-# Files and what is sent of them by `--name --author Éva`: the same as what the web pages send of the first (tests/web_many.py).
+# Files and what is sent of them by `--name --author Éva`: the same as what the web pages send of the first
+# (tests/web_many.py).
 BARE = b"#C bare\nx = 3, y = 1\n3o!\n"
 LONG = "a" + 120 * "é"
 TEXTS = {
@@ -189,7 +192,8 @@ def answered(server: Server, content: bytes) -> str:
 
 
 def test_texts_of_a_folder(room: str, program: str) -> None:
-    """A name and an author are sent with the files that have none, as the web pages do it; all else is as it is without."""
+    """A name and an author are sent with the files that have none, as the web pages do it; all else is as it is
+    without."""
     folder = new_folder(room, "texts", {name: content for name, (content, _) in TEXTS.items()})
     names = sorted(TEXTS, key=os.fsencode)
     # Each name is one field of one line.
@@ -238,7 +242,8 @@ def test_texts_of_a_folder(room: str, program: str) -> None:
 
 
 def test_folder_over_a_restart(room: str, program: str) -> None:
-    """A server that ends amid a folder and is started again some time later is sent the file again that it did not answer."""
+    """A server that ends amid a folder and is started again some time later is sent the file again that it did not
+    answer."""
     folder, wanted = mixed(room, "restart")
     database = os.path.join(room, "restart.db")
     with Server(database, 2) as first, concurrent.futures.ThreadPoolExecutor() as beside:
@@ -483,7 +488,8 @@ DATE = "Wed, 21 Oct 2037 07:28:00 GMT"
 NO_DEPOSITS = (200, b'{"deposits":[]}')
 TWO_DEPOSITS = (
     200,
-    b'{"deposits":[{"id":1,"member":"ann","population":5,"rule":"B3/S23"},{"id":2,"member":"ann","population":5,"rule":"B3/S23"}]}',
+    b'{"deposits":[{"id":1,"member":"ann","population":5,"rule":"B3/S23"},'
+    b'{"id":2,"member":"ann","population":5,"rule":"B3/S23"}]}',
 )
 
 
@@ -573,7 +579,8 @@ def listed(number: int, member: str = "ann") -> Reply:
     ],
 )
 def test_kept_before(name: str, replies: list[Reply], times_sent: int, room: str) -> None:
-    """A file that was kept is not sent again as long as the archive lists the number as the member's and shows the same under it."""
+    """A file that was kept is not sent again as long as the archive lists the number as the member's and shows the same
+    under it."""
     folder = new_folder(room, "before " + name, {"a.rle": GLIDER})
     with Pretender(GIVEN, (200, clients.GLIDER_TEXT), *replies) as server:
         wanted = (0, f"7\t{folder}/a.rle\n", "")
@@ -610,7 +617,8 @@ def test_of_whom(room: str) -> None:
     [(4, 1, 0, 60, 1), (4, 2, 0, 60, 2), (4, 1, 1, 60, 2), (4, 1, 0, 61, 2), (5, 1, 0, 60, 2)],
 )
 def test_counted_before(census: int, deposit: int, generation: int, limit: int, times_sent: int, room: str) -> None:
-    """A census that was kept is not asked for again as long as the archive shows it of the same deposit, generation and limit."""
+    """A census that was kept is not asked for again as long as the archive shows it of the same deposit, generation and
+    limit."""
     one, given = listed(1), (201, b'{"census":4}')
     text = '{"census":%d,"clusters":1,"deposit":%d,"generation":%d,"limit":%d,"rows":[],"steady":true,"unresolved":0}'
     values = (census, deposit, generation, limit)
@@ -732,7 +740,8 @@ SAFE = {
 
 
 def wide_archive(room: str, name: str) -> tuple[str, list[str]]:
-    """A new archive with 300 deposits of three members under nine names, some with equal texts under other tokens; and who made each."""
+    """A new archive with 300 deposits of three members under nine names, some with equal texts under other tokens; and
+    who made each."""
     database = os.path.join(room, name)
     files = [b"#N %s\nx = 3, y = 1\n%do!\n" % (list(SAFE)[n % len(SAFE)], n % 40 + 1) for n in range(300)]
     owners = [("ann", "bob", "club-1")[n * n % 3] for n in range(300)]
@@ -743,8 +752,8 @@ def wide_archive(room: str, name: str) -> tuple[str, list[str]]:
 
 
 def test_taken_out(room: str, program: str) -> None:
-    """Each deposit becomes a file, under a safe name; the same command again writes nothing; put into a new archive in their order the
-    files have the same numbers and rows."""
+    """Each deposit becomes a file, under a safe name; the same command again writes nothing; put into a new archive in
+    their order the files have the same numbers and rows."""
     database, owners = wide_archive(room, "wide.db")
     folder = os.path.join(room, "taken", "out")
     files = [f"{folder}/{n:07}{list(SAFE.values())[(n - 1) % len(SAFE)]}.rle" for n in range(1, 301)]
@@ -824,7 +833,8 @@ def test_not_taken_out(room: str) -> None:
 
 
 def test_censuses(room: str, program: str) -> None:
-    """Each deposit of more than a page has its census once, also one that comes later; another limit is another census."""
+    """Each deposit of more than a page has its census once, also one that comes later; another limit is another
+    census."""
     many = 103
     folder = new_folder(
         room, "many", {f"{number:03}.rle": b"#N %d\n" % number + GLIDER for number in range(1, many + 1)}
@@ -876,7 +886,8 @@ def test_censuses(room: str, program: str) -> None:
 
 
 def test_censuses_over_a_restart(room: str, program: str) -> None:
-    """A server that ends amid the censuses ends the run; the same command takes those that are left, and no census twice."""
+    """A server that ends amid the censuses ends the run; the same command takes those that are left, and no census
+    twice."""
     folder = new_folder(room, "counted", {"a.rle": GLIDER, "b.rle": BLOCKS, "c.rle": example("pulsar.rle")})
     database = os.path.join(room, "counted.db")
     # Each of three files is sent and read.
@@ -961,8 +972,8 @@ def test_bash(room: str) -> None:
     ]
     for words, wanted in calls:
         line = (
-            source
-            + 'COMP_WORDS=("$@"); COMP_CWORD=$(($# - 1)); _${1//-/_}; [ ${#COMPREPLY[@]} = 0 ] || printf \'%s\\n\' "${COMPREPLY[@]}"'
+            source + 'COMP_WORDS=("$@"); COMP_CWORD=$(($# - 1)); _${1//-/_}; '
+            "[ ${#COMPREPLY[@]} = 0 ] || printf '%s\\n' \"${COMPREPLY[@]}\""
         )
         status, printed, errors = said("bash", "--norc", "-c", line, "bash", *words, cwd=where)
         # Each short form is where its long one is, and a program's own options are where its subcommands are.
@@ -1134,9 +1145,11 @@ WITHDRAWN = [
     ("docs/OPERATING.md", "No peer holds the others for long"),
     ("docs/UPGRADING.md", "What never changes from one version to"),
 ]
-# What a command of a page has in it that a test can't type: keys, and what belongs to a shell or a machine of one's own.
+# What a command of a page has in it that a test can't type: keys, and what belongs to a shell or a machine of one's
+# own.
 NEEDS_MORE = re.compile("<tab>|--port$|completions|deploy/|man -l|--help|8081")
-# The pages whose commands are typed, how many there are at least, and how many are not typed. Each is begun in a folder of its own.
+# The pages whose commands are typed, how many there are at least, and how many are not typed. Each is begun in a folder
+# of its own.
 TYPED_PAGES = [
     ("README.md", 9, 0),
     ("docs/COMMANDS.md", 18, 5),
@@ -1172,7 +1185,8 @@ def have_ended(servers: "list[subprocess.Popen[bytes]]") -> None:
 
 
 def printed_by(command: str, here: str, servers: "list[subprocess.Popen[bytes]]") -> str:
-    """What a command prints. A server is left running, and the next command that needs its file waits until it has ended."""
+    """What a command prints. A server is left running, and the next command that needs its file waits until it has
+    ended."""
     if "--db" in command or "sqlite3" in command:
         have_ended(servers)
     if command.endswith("&") or command.startswith("./life serve"):

@@ -1,9 +1,9 @@
 """Asks the built program for the codes of known objects of Conway's Life, in any position, orientation and phase.
 
-Each object of web/objects.csv is opened by its code. The pattern that the program prints, and a later phase of it, which
-life.py computes, are tested in each of the eight orientations: the program has to find the kind that the code names, with
-this very code. The constellations are also given here by their cells, as books draw them: the table has their codes under
-their names.
+Each object of web/objects.csv is opened by its code. The pattern that the program prints, and a later phase of it,
+which life.py computes, are tested in each of the eight orientations: the program has to find the kind that the code
+names, with this very code. The constellations are also given here by their cells, as books draw them: the table has
+their codes under their names.
 """
 import csv
 import os
@@ -27,11 +27,23 @@ DRAWINGS = {
     "beehive and dock": "...OO./..O..O/...OO./....../.OOOO./O....O/OO..OO",
     "boat-ship-tie": "OO..../O.O.../.OO.../...OO./...O.O/....O.",
     "half-bakery": "....OO./...O..O/...O.O./.OO.O../O..O.../O.O..../.O.....",
-    "bakery": "....OO..../...O..O.../...O.O..../.OO.O...O./O..O...O.O/O.O...O..O/.O...O.OO./....O.O.../...O..O.../....OO....",
+    "bakery": (
+        "....OO..../...O..O.../...O.O..../.OO.O...O./O..O...O.O/"
+        "O.O...O..O/.O...O.OO./....O.O.../...O..O.../....OO...."
+    ),
     "traffic light": "..OOO../......./O.....O/O.....O/O.....O/......./..OOO..",
-    "honey farm": "......O....../.....O.O...../.....O.O...../......O....../............./.OO.......OO./O..O.....O..O/.OO.......OO./............./......O....../.....O.O...../.....O.O...../......O......",
-    "fleet": "....OO..../....O.O.../.....OO.../.......OO./OO.....O.O/O.O.....OO/.OO......./...OO...../...O.O..../....OO....",
-    "interchange": "..OOO....OOO../............../O............O/O............O/O............O/............../..OOO....OOO..",
+    "honey farm": (
+        "......O....../.....O.O...../.....O.O...../......O....../............./"
+        ".OO.......OO./O..O.....O..O/.OO.......OO./"
+        "............./......O....../.....O.O...../.....O.O...../......O......"
+    ),
+    "fleet": (
+        "....OO..../....O.O.../.....OO.../.......OO./OO.....O.O/"
+        "O.O.....OO/.OO......./...OO...../...O.O..../....OO...."
+    ),
+    "interchange": (
+        "..OOO....OOO../............../O............O/O............O/O............O/............../..OOO....OOO.."
+    ),
     "pulsar quadrant": ".....O../...OOO../..O...OO/O..O..O./O...O.O./O....O../......../..OOO...",
 }
 # What becomes of the stairstep hexomino.

@@ -1,5 +1,5 @@
-"""Slow, silent or many peers, each next to another client that is served in time; the lines for connections that fail; and two
-programs on one file.
+"""Slow, silent or many peers, each next to another client that is served in time; the lines for connections that fail;
+and two programs on one file.
 
 The tests wait more than they work, so they may run side by side: -n 8.
 """
@@ -125,7 +125,8 @@ def test_slow_peer(
 
 
 def test_silent_peers(folder: str) -> None:
-    """Peers that say nothing, or nothing more, cost the others one second each: they are not waited for a second time."""
+    """Peers that say nothing, or nothing more, cost the others one second each: they are not waited for a second
+    time."""
     count = 6
     with Server(new_archive(folder, "silent-peers.db"), count + 1) as server:
         peers = [(says_nothing, keeps_alive)[number % 2](server.port)[0] for number in range(count)]
@@ -213,7 +214,8 @@ def sends_the_rest_late(port: int) -> bool:
 
 
 def sends_half_a_message_behind_another(port: int) -> bool:
-    """If its first bytes came in one piece with the message before, the ten seconds begin with the next byte, for which there is a second."""
+    """If its first bytes came in one piece with the message before, the ten seconds begin with the next byte, for which
+    there is a second."""
     peer = Peer(port)
     peer.send_at(0, ASKED + LAST[:HALF], 0.97)
     peer.send_at(0.8, LAST[HALF : HALF + 1], 0.97)
@@ -288,7 +290,8 @@ def test_patient_peer(folder: str, part: Callable[[int], bool]) -> None:
 
 
 def test_clients_in_turn(folder: str) -> None:
-    """Three clients that keep their connections alive and ask in turn are all served, though one connection is served after the other."""
+    """Three clients that keep their connections alive and ask in turn are all served, though one connection is served
+    after the other."""
     answers: list[bytes] = []
     with Server(new_archive(folder, "turns.db"), 1000) as server:
         begun = time.monotonic()
@@ -321,9 +324,10 @@ def reset(port: int) -> None:
     peer.close()
 
 
-# A sender that is faster than the server takes: a byte a call, and what comes back is dropped, also while there is no room to send: else the
-# server would wait for a peer that waits for it. If the system allows it, it goes before other work, so that no silence of a second ends
-# the stream on a busy machine. Within a message a silence may be longer, so messages have bodies.
+# A sender that is faster than the server takes: a byte a call, and what comes back is dropped, also while there is no
+# room to send: else the server would wait for a peer that waits for it. If the system allows it, it goes before other
+# work, so that no silence of a second ends the stream on a busy machine. Within a message a silence may be longer, so
+# messages have bodies.
 SENDER = r"""
 #include <arpa/inet.h>
 #include <errno.h>
@@ -339,7 +343,9 @@ int main(int count, char **words) {
   static char message[sizeof head - 1 + 1000], dropped[65536];
   memset(message, 'x', sizeof message);
   memcpy(message, head, sizeof head - 1);
-  struct sockaddr_in to = {.sin_family = AF_INET, .sin_port = htons(atoi(words[1])), .sin_addr.s_addr = htonl(INADDR_LOOPBACK)};
+  struct sockaddr_in to = {
+    .sin_family = AF_INET, .sin_port = htons(atoi(words[1])), .sin_addr.s_addr = htonl(INADDR_LOOPBACK)
+  };
   sched_setscheduler(0, SCHED_RR, &(struct sched_param) {.sched_priority = 1});
   int on = 1, peer = socket(AF_INET, SOCK_STREAM, 0);
   setsockopt(peer, IPPROTO_TCP, TCP_NODELAY, &on, sizeof on);
@@ -367,8 +373,8 @@ WAITED = ((0, b""), (0, b"connection: read\n"), (0, b"connection: write\n"))
 
 
 def test_many_reads(folder: str) -> None:
-    """A stream of many messages that come byte by byte ends after 1,048,576 takes. On a busy machine the sender may have
-    to wait nonetheless, and the stream ends before that, so it is tried up to five times."""
+    """A stream of many messages that come byte by byte ends after 1,048,576 takes. On a busy machine the sender may
+    have to wait nonetheless, and the stream ends before that, so it is tried up to five times."""
     if not shutil.which("cc"):
         pytest.skip("cc is not installed")
     sender = os.path.join(folder, "sender")

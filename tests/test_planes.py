@@ -1,9 +1,9 @@
 """Compares the two types of planes, lists of cells and packed rows, with each other and with Python.
 
-The program `planes` makes 1,000 seeded sets with box sizes around the edges of words and of blocks. It compares the two planes on
-each in 70 generations, under six rules and under two pairs of rules that alternate, and prints the population and a digest of
-each last generation. This test makes the same sets again, a field as one number with a bit per cell, which shares nothing with the
-program, and compares the last generations. A check is a pair of a set and a rule.
+The program `planes` makes 1,000 seeded sets with box sizes around the edges of words and of blocks. It compares the two
+planes on each in 70 generations, under six rules and under two pairs of rules that alternate, and prints the population
+and a digest of each last generation. This test makes the same sets again, a field as one number with a bit per cell,
+which shares nothing with the program, and compares the last generations. A check is a pair of a set and a rule.
 
 Each rule takes minutes. They may run side by side: -n 8.
 """

@@ -1,6 +1,6 @@
-"""A club's archive and its administrator: copies according to the settings, which of them are kept, and the checks of the service. systemd is
-a stand-in here, which starts and kills the real program. tests/test_exchanges.py has the restores, and tests/test_interrupted.py the signals in
-copies and configurations.
+"""A club's archive and its administrator: copies according to the settings, which of them are kept, and the checks of
+the service. systemd is a stand-in here, which starts and kills the real program. tests/test_exchanges.py has the
+restores, and tests/test_interrupted.py the signals in copies and configurations.
 """
 import getpass
 import os
@@ -146,7 +146,8 @@ def test_looked_at_by_the_program(folder: str) -> None:
 
 
 def test_wrong_row(folder: str) -> None:
-    """A copy with a row that no archive writes does not count, though the program opens it and shows its newest deposit."""
+    """A copy with a row that no archive writes does not count, though the program opens it and shows its newest
+    deposit."""
     club = Club(folder, "wrong")
     write_wrong_row(club.archive)
     row_1 = "is not sound: deposit 1: its row is wrong or missing"
@@ -172,7 +173,8 @@ def test_room_on_the_disk(folder: str) -> None:
 
 
 def test_which_stay(folder: str) -> None:
-    """Of the last three quarters of an hour, days and months with copies the last copy of each stays, and files of other names."""
+    """Of the last three quarters of an hour, days and months with copies the last copy of each stays, and files of
+    other names."""
     club = Club(folder, "stay", KEEP_QUARTERS=3, KEEP_DAYS=3, KEEP_MONTHS=3)
     fill(club.archive, MEMBERS[:1])
     club.copy()
@@ -228,7 +230,8 @@ def test_second_place(folder: str) -> None:
 
 
 def test_times_to_come(folder: str) -> None:
-    """Copies with a time in the future, from a clock that was wrong, push out no other copy, are listed, and still have to be in a new copy."""
+    """Copies with a time in the future, from a clock that was wrong, push out no other copy, are listed, and still have
+    to be in a new copy."""
     club = Club(folder, "future", KEEP_QUARTERS=1, KEEP_DAYS=2, KEEP_MONTHS=1)
     fill(club.archive, MEMBERS[:2])
     club.copy()

@@ -1,7 +1,8 @@
 """deploy/haul/slurm on a Slurm with one node, whose key, controller and node daemon are in a separate folder.
 
-20,000 soups are counted in pieces, a worker is killed, and the same command submits what is left: the sum is the table of one run, and
-nothing is counted twice. Then: another haul's folder, arguments that a shell would parse, and a Slurm that answers nothing.
+20,000 soups are counted in pieces, a worker is killed, and the same command submits what is left: the sum is the table
+of one run, and nothing is counted twice. Then: another haul's folder, arguments that a shell would parse, and a Slurm
+that answers nothing.
 
 It needs root, Slurm (Debian's slurm-wlm), munge and sqlite3.
 """

@@ -1,6 +1,8 @@
-"""The pages of web/ in a Chromium, and some in a Firefox, through the gateway as deploy/try runs it, over the archive's program.
+"""The pages of web/ in a Chromium, and some in a Firefox, through the gateway as deploy/try runs it, over the archive's
+program.
 
-Each test uses the archive that the ones before it have made. Pictures of the pages are left in tests/out, which is not kept.
+Each test uses the archive that the ones before it have made. Pictures of the pages are left in tests/out, which is not
+kept.
 """
 import base64
 import csv
@@ -73,8 +75,8 @@ def runs_of(cells: Iterable[tuple[int, int]]) -> list[list[int]]:
     return rows
 
 
-# The cells that a canvas shows, from the pixels that are of the color of live ones: given the size of a cell, it finds where the first one is
-# seen. Each live cell has its left upper pixel of that color, and there are no others.
+# The cells that a canvas shows, from the pixels that are of the color of live ones: given the size of a cell, it finds
+# where the first one is seen. Each live cell has its left upper pixel of that color, and there are no others.
 SEEN = """
 const canvas = document.querySelector(words[0]);
 const { colors } = await import('/sources/drawing/draw.js');
@@ -84,14 +86,15 @@ const pixels = new Uint32Array(canvas.getContext('2d').getImageData(0, 0, width,
 const { live } = colors();
 const cells = [];
 for (let at = 0; at < pixels.length; at += 1)
-  if (pixels[at] === live && pixels[at - 1] !== live && pixels[at - width] !== live) cells.push([at % width, Math.floor(at / width)]);
+  if (pixels[at] === live && pixels[at - 1] !== live && pixels[at - width] !== live)
+    cells.push([at % width, Math.floor(at / width)]);
 return cells;
 """
 
 
 def seen(browser: Browser) -> tuple[set[tuple[int, int]], tuple[float, float, float]]:
-    """The cells that the large canvas shows, apart from one another as gaps are, moved to the corner; and where that is. A canvas that is being
-    redrawn may show none: then they are nowhere."""
+    """The cells that the large canvas shows, apart from one another as gaps are, moved to the corner; and where that
+    is. A canvas that is being redrawn may show none: then they are nowhere."""
     pixels = browser.wait_for(SEEN, "canvas.large")
     if len(pixels) < 2:
         nowhere = float("inf")
@@ -287,7 +290,8 @@ def test_pasted(gateway: Gateway, browser: Browser, base: str, tokens: set[str])
 
 
 def test_dropped(gateway: Gateway, browser: Browser, base: str, folder: str, tokens: set[str]) -> None:
-    """A file is dropped, one with line ends and bytes that no text field keeps; one is chosen; the same again is the same deposit."""
+    """A file is dropped, one with line ends and bytes that no text field keeps; one is chosen; the same again is the
+    same deposit."""
     file = os.path.join(folder, "dropped.rle")
     raw = b"#N Dropped \xff\r\nx = 3, y = 1\r\n3o!\r\n"
     with open(file, "wb") as out:
@@ -337,7 +341,8 @@ Blob.prototype.arrayBuffer = function () { window.reads += 1; return whole.call(
 
 
 def test_too_long(gateway: Gateway, browser: Browser, base: str, folder: str) -> None:
-    """A file is read only if it is not longer than the archive takes; the sentence for one that is longer is the usual one."""
+    """A file is read only if it is not longer than the archive takes; the sentence for one that is longer is the usual
+    one."""
     longest, longer, huge = (os.path.join(folder, name) for name in ("longest.rle", "longer.rle", "huge.rle"))
     for path, size in ((longest, 1_048_576), (longer, 1_048_577), (huge, 64 << 20)):
         with open(path, "wb") as out:
@@ -436,7 +441,8 @@ def test_faults(browser: Browser, base: str) -> None:
 
 
 def test_sentences(browser: Browser, base: str) -> None:
-    """Each refusal of docs/API.md and each fault of docs/FORMATS.md has a sentence of its own, and its number names it."""
+    """Each refusal of docs/API.md and each fault of docs/FORMATS.md has a sentence of its own, and its number names
+    it."""
     with open(os.path.join(TOP, "docs", "API.md"), encoding="utf-8") as text:
         refusals = [name for number, name in re.findall(r"^\| (\d+) \| `([a-z-]+)` \| \d+ \|", text.read(), re.M)]
     with open(os.path.join(TOP, "docs", "FORMATS.md"), encoding="utf-8") as text:
@@ -453,12 +459,14 @@ def test_sentences(browser: Browser, base: str) -> None:
         """
         const { sentenceOf, refusalOf } = await import('/sources/requests/refusals.js');
         const said = words[0].map((name) => sentenceOf(refusalOf(400, JSON.stringify({ error: name, refusal: 1 }))));
-        return said.concat(words[1].map((rle) => sentenceOf(refusalOf(422, JSON.stringify({ error: 'bad-pattern', refusal: 7, rle })))));""",
+        return said.concat(words[1].map((rle) => sentenceOf(
+          refusalOf(422, JSON.stringify({ error: 'bad-pattern', refusal: 7, rle })))));""",
         refusals + ["too-many-requests", "no-reply"],
         [int(number) for number, _ in faulty],
     )
     unknown = browser.wait_for(
-        "const { sentenceOf, refusalOf } = await import('/sources/requests/refusals.js'); return [[418, 'x'], [502, '<html>'], [401, '<html>']].map((reply) => sentenceOf(refusalOf(...reply)));"
+        "const { sentenceOf, refusalOf } = await import('/sources/requests/refusals.js'); "
+        "return [[418, 'x'], [502, '<html>'], [401, '<html>']].map((reply) => sentenceOf(refusalOf(...reply)));"
     )
     check(
         "a sentence for each",
@@ -497,7 +505,8 @@ def test_played(gateway: Gateway, browser: Browser, base: str) -> None:
     browser.one("#play").click()
     at = browser.until(
         lambda: browser.run(
-            "return location.pathname.split('/at/')[1] === document.getElementById('generation').value && location.pathname.split('/at/')[1]"
+            "return location.pathname.split('/at/')[1] === document.getElementById('generation').value "
+            "&& location.pathname.split('/at/')[1]"
         )
     )
     same(f"generation {at} is drawn after playing", seen(browser)[0], later(gun, int(at)))
@@ -545,8 +554,10 @@ def test_counted(gateway: Gateway, browser: Browser, base: str, downloads: str) 
         ],
     )
     table = browser.run(
-        """return [...document.querySelectorAll('tbody tr')].map((row) => [row.querySelector('th code, th').firstChild.textContent, row.querySelector('.number').textContent,
-        row.querySelector('th small')?.textContent ?? null, row.querySelector('.bar').getBoundingClientRect().width, !!row.querySelector('canvas')])"""
+        """return [...document.querySelectorAll('tbody tr')].map((row) => [
+          row.querySelector('th code, th').firstChild.textContent, row.querySelector('.number').textContent,
+          row.querySelector('th small')?.textContent ?? null, row.querySelector('.bar').getBoundingClientRect().width,
+          !!row.querySelector('canvas')])"""
     )
     same(
         "the table",
@@ -613,7 +624,8 @@ def test_cited(gateway: Gateway, browser: Browser, base: str) -> None:
 
 
 def test_looked_up(browser: Browser, base: str) -> None:
-    """A code is looked up: how often it occurs, what it looks like as the program opens it, and how the program is asked."""
+    """A code is looked up: how often it occurs, what it looks like as the program opens it, and how the program is
+    asked."""
     browser.open(f"{base}/find")
     browser.type("#code", "xs4_33")
     browser.one("form.code button").click()
@@ -645,7 +657,8 @@ def test_looked_up(browser: Browser, base: str) -> None:
     with open(os.path.join(TOP, "web", "objects.csv"), encoding="ascii") as table:
         codes = [row["code"] for row in csv.DictReader(line for line in table if not line.startswith("#"))]
     spelled = browser.wait_for(
-        "const { patternOf, limitOf } = await import('/sources/patterns/code.js'); return words[0].map((code) => [patternOf(code).rows, limitOf(code)]);",
+        "const { patternOf, limitOf } = await import('/sources/patterns/code.js'); "
+        "return words[0].map((code) => [patternOf(code).rows, limitOf(code)]);",
         codes,
     )
     for code, (rows, limit) in zip(codes, spelled):
@@ -848,7 +861,8 @@ def test_part(part: Callable[..., None], gateway: Gateway, browser: Browser, bas
 
 
 def test_screens(browser: Browser, base: str) -> None:
-    """No page is wider than a phone, and each is light or dark as is preferred; and what is on it has a name for who hears it."""
+    """No page is wider than a phone, and each is light or dark as is preferred; and what is on it has a name for who
+    hears it."""
     for address in ADDRESSES:
         for width in (320, 390):
             browser.screen(width, 780)
@@ -858,7 +872,10 @@ def test_screens(browser: Browser, base: str) -> None:
         browser.picture("phone-" + (re.sub("[^a-z0-9]+", "-", address).strip("-")[:20] or "list"))
         same(f"names on '{address}': {(unnamed := browser.unnamed())}", unnamed, [])
         same(f"one heading on '{address}'", len(browser.all("h1")), 1)
-    brightness = "return getComputedStyle(document.documentElement).backgroundColor.match(/[0-9]+/g).slice(0, 3).reduce((sum, part) => sum + Number(part), 0) / 765"
+    brightness = (
+        "return getComputedStyle(document.documentElement).backgroundColor"
+        ".match(/[0-9]+/g).slice(0, 3).reduce((sum, part) => sum + Number(part), 0) / 765"
+    )
     for scheme in ("light", "dark"):
         browser.screen(1100, 900, scheme)
         browser.open(f"{base}/d/4/at/30")
@@ -869,7 +886,8 @@ def test_screens(browser: Browser, base: str) -> None:
             browser.wait_for(
                 """
             await new Promise((resolve) => requestAnimationFrame(() => requestAnimationFrame(resolve)));
-            return [...document.querySelector('canvas.large').getContext('2d').getImageData(1, 1, 1, 1).data.slice(0, 3)];"""
+            return [...document.querySelector('canvas.large').getContext('2d')
+              .getImageData(1, 1, 1, 1).data.slice(0, 3)];"""
             )[0]
             * 1
             // 128
@@ -919,7 +937,12 @@ for (let row = 0; row < height; row += 1) {
   }
   rows.push(runs);
 }
-return { before: rows.slice(0, 2), rows: rows.slice(2, 2 + pattern.height), after: rows.slice(2 + pattern.height), population: pattern.population };
+return {
+  before: rows.slice(0, 2),
+  rows: rows.slice(2, 2 + pattern.height),
+  after: rows.slice(2 + pattern.height),
+  population: pattern.population
+};
 """
 
 
@@ -978,13 +1001,17 @@ def test_sizes(browser: Browser, base: str) -> None:
         const { live } = colors();
         const cells = [];
         for (let cell = 0; cell < 200; cell += 1) cells.push([(cell * 37) % 61, (cell * 11) % 43]);
-        const rows = Array.from({ length: 43 }, (_, row) => [...new Set(cells.filter((cell) => cell[1] === row).map((cell) => cell[0]))].sort((a, b) => a - b).flatMap((column) => [column, column + 1]));
+        const rows = Array.from({ length: 43 }, (_, row) => [
+          ...new Set(cells.filter((cell) => cell[1] === row).map((cell) => cell[0]))
+        ].sort((a, b) => a - b).flatMap((column) => [column, column + 1]));
         const wrong = [];
         for (const size of SIZES) for (const shift of [0, -3.25, 5.5]) {
           const canvas = document.createElement('canvas');
           canvas.width = 300;
           canvas.height = 200;
-          paint(canvas, { width: 61, height: 43, rows }, { left: shift, top: shift, size, place: { column: 2, row: 1 } });
+          paint(canvas, { width: 61, height: 43, rows }, {
+            left: shift, top: shift, size, place: { column: 2, row: 1 }
+          });
           const pixels = new Uint32Array(canvas.getContext('2d').getImageData(0, 0, 300, 200).data.buffer);
           const wanted = new Set();
           for (const [column, row] of cells) {
@@ -994,7 +1021,8 @@ def test_sizes(browser: Browser, base: str) -> None:
           const lit = new Set([...pixels.keys()].filter((at) => pixels[at] === live));
           const within = (at) => cells.some(([column, row]) => {
             const x = (column + 2 - shift) * size; const y = (row + 1 - shift) * size;
-            return at % 300 >= Math.floor(x) && at % 300 < Math.max(x + size, Math.floor(x) + 1) && Math.floor(at / 300) >= Math.floor(y) && Math.floor(at / 300) < Math.max(y + size, Math.floor(y) + 1);
+            return at % 300 >= Math.floor(x) && at % 300 < Math.max(x + size, Math.floor(x) + 1)
+              && Math.floor(at / 300) >= Math.floor(y) && Math.floor(at / 300) < Math.max(y + size, Math.floor(y) + 1);
           });
           if ([...wanted].some((at) => !lit.has(at)) || [...lit].some((at) => !within(at))) wrong.push([size, shift]);
         }

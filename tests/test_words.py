@@ -1,7 +1,8 @@
-"""What the programs say about their arguments: the text of `life explain` for each name in docs/refusals.csv, and the hint after a usage error
-if a file is named although the pattern comes on standard input.
+"""What the programs say about their arguments: the text of `life explain` for each name in docs/refusals.csv, and the
+hint after a usage error if a file is named although the pattern comes on standard input.
 
-No clause covers the sentences, so they are compared here, and so are the names in the help and in the usage error for an unknown name.
+No clause covers the sentences, so they are compared here, and so are the names in the help and in the usage error for
+an unknown name.
 """
 import csv
 import os

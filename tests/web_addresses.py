@@ -1,5 +1,5 @@
-"""The parts of tests/test_web.py on addresses: who gets the page, and who the archive's words; what a preview of a link shows; old addresses;
-links; titles.
+"""The parts of tests/test_web.py on addresses: who gets the page, and who the archive's words; what a preview of a link
+shows; old addresses; links; titles.
 """
 import html.parser
 import os
@@ -165,7 +165,8 @@ def pages(gateway: Gateway, _browser: Browser, _base: str, _folder: str) -> None
 
 
 def nowhere(gateway: Gateway, browser: Browser, base: str, _folder: str) -> None:
-    """A reader's wrong address has the page, which says so; a program's has the archive's words; and the routes of the archive are the same for both."""
+    """A reader's wrong address has the page, which says so; a program's has the archive's words; and the routes of the
+    archive are the same for both."""
     for path in NOWHERE:
         for form in PROGRAMS:
             same(
@@ -208,7 +209,8 @@ def nowhere(gateway: Gateway, browser: Browser, base: str, _folder: str) -> None
 
 
 def previews(gateway: Gateway, browser: Browser, base: str, _folder: str) -> None:
-    """A preview of a link has a title that says what it leads to, and a picture; there is an icon, and a word for crawlers."""
+    """A preview of a link has a title that says what it leads to, and a picture; there is an icon, and a word for
+    crawlers."""
     for path, named, _ in ADDRESSES + [("/d/4/at/x", "", ""), ("/o/B3-S23/<b>", "", ""), ("/d/of/a%22b", "", "")]:
         said = Previewed(
             asked(gateway.port, path.replace("<", "%3C").replace(">", "%3E"), headers=accepting(READERS[0]))[1]
@@ -260,7 +262,8 @@ def old_ones(_gateway: Gateway, browser: Browser, base: str, _folder: str) -> No
 
 
 def links(_gateway: Gateway, browser: Browser, base: str, _folder: str) -> None:
-    """A link is followed without a full reload, back and forth; one that is to be opened elsewhere, or to load, is the browser's."""
+    """A link is followed without a full reload, back and forth; one that is to be opened elsewhere, or to load, is the
+    browser's."""
     browser.open(f"{base}/d/after/3")
     browser.run("window.mark = 1")
     first = browser.run("return document.querySelector('.cards a').pathname")
@@ -282,7 +285,8 @@ def links(_gateway: Gateway, browser: Browser, base: str, _folder: str) -> None:
         """
         const seen = [];
         addEventListener('click', (event) => { seen.push(event.defaultPrevented); event.preventDefault(); });
-        const press = (selector, more) => document.querySelector(selector).dispatchEvent(new MouseEvent('click', { bubbles: true, cancelable: true, ...more }));
+        const press = (selector, more) => document.querySelector(selector).dispatchEvent(
+          new MouseEvent('click', { bubbles: true, cancelable: true, ...more }));
         press('header a[href="/find"]', { ctrlKey: true });
         press('header a[href="/find"]', { shiftKey: true });
         const load = Object.assign(document.createElement('a'), { href: '/d/4', download: 'x' });

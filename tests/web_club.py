@@ -1,5 +1,5 @@
-"""The parts of tests/test_web.py on what a member who knows the field looks for: who deposited, comments, the wheel, playing from a cited
-generation, the search box, objects, groups, the first page and the page about the archive.
+"""The parts of tests/test_web.py on what a member who knows the field looks for: who deposited, comments, the wheel,
+playing from a cited generation, the search box, objects, groups, the first page and the page about the archive.
 """
 import json
 import os
@@ -16,7 +16,8 @@ from pages import asked, content, index, kept
 
 WEB = os.path.join(HERE, "..", "web")
 ENTER = "\ue007"
-# Above this the first new picture of a play is late, in milliseconds. A machine with other work is slower than the 200 that are wanted.
+# Above this the first new picture of a play is late, in milliseconds. A machine with other work is slower than the 200
+# that are wanted.
 LATE = 2000
 # Presses *Play* and answers how long it takes until another generation is shown, in milliseconds.
 FIRST_PICTURE = """
@@ -53,7 +54,8 @@ def listed(_gateway: Gateway, _browser: Browser, _base: str, _folder: str) -> No
 def wheel(browser: Browser, pixels: Any, modifiers: int = 0) -> None:
     """A turn of the wheel over the middle of the canvas."""
     box = browser.run(
-        "const box = document.querySelector('canvas.large').getBoundingClientRect(); return [box.x + box.width / 2, box.y + box.height / 2]"
+        "const box = document.querySelector('canvas.large').getBoundingClientRect(); "
+        "return [box.x + box.width / 2, box.y + box.height / 2]"
     )
     browser.driver.execute_cdp_cmd(
         "Input.dispatchMouseEvent",
@@ -114,9 +116,13 @@ def wheeled(gateway: Gateway, browser: Browser, base: str, _folder: str) -> None
     check("the page scrolls", browser.until(lambda: browser.run("return scrollY") > 0))
     check("it is said how to zoom", browser.run("return !document.querySelector('.over').hidden"))
     browser.run("scrollTo(0, 0); document.querySelector('canvas.large').focus()")
-    live = """const canvas = document.querySelector('canvas.large'); const { width, height } = canvas; const { colors } = await import('/sources/drawing/draw.js');
+    live = """const canvas = document.querySelector('canvas.large');
+        const { width, height } = canvas;
+        const { colors } = await import('/sources/drawing/draw.js');
         await new Promise((resolve) => requestAnimationFrame(() => requestAnimationFrame(resolve)));
-        const { live } = colors(); return new Uint32Array(canvas.getContext('2d').getImageData(0, 0, width, height).data.buffer).filter((word) => word === live).length"""
+        const { live } = colors();
+        return new Uint32Array(canvas.getContext('2d').getImageData(0, 0, width, height).data.buffer)
+          .filter((word) => word === live).length"""
     before = browser.wait_for(live)
     for _ in range(10):
         wheel(browser, -4)
@@ -214,7 +220,8 @@ def boxed(gateway: Gateway, browser: Browser, base: str, folder: str) -> None:
 
 
 def objects(gateway: Gateway, browser: Browser, base: str, folder: str) -> None:
-    """The page of objects has the totals of the archive, the most frequent first, sorts and filters them, and names groups."""
+    """The page of objects has the totals of the archive, the most frequent first, sorts and filters them, and names
+    groups."""
     number = kept(gateway, "club-field", b"#N Field\nx = 40, y = 9\n2o5b2ob2o5b3o$2o5b2ob2o3$b3o$o5bo$o5bo$o5bo$b3o!\n")
     exchanged(
         gateway.life_port,
@@ -222,7 +229,11 @@ def objects(gateway: Gateway, browser: Browser, base: str, folder: str) -> None:
     )
     check("an index for the objects", index(gateway, os.path.join(folder, "club.db")))
     browser.open(f"{base}/o")
-    lines = "return [...document.querySelectorAll('.catalog tbody tr')].map((row) => [new URL(row.querySelector('a').href).pathname.split('/')[3], Number(row.children[5].firstChild.data.replaceAll(',', '')), row.children[1].textContent])"
+    lines = (
+        "return [...document.querySelectorAll('.catalog tbody tr')].map((row) => "
+        "[new URL(row.querySelector('a').href).pathname.split('/')[3], "
+        "Number(row.children[5].firstChild.data.replaceAll(',', '')), row.children[1].textContent])"
+    )
     rows = browser.run(lines)
     check(
         "the most frequent first",
@@ -286,7 +297,8 @@ def scripted(gateway: Gateway, browser: Browser, base: str, _folder: str) -> Non
     number = kept(
         gateway,
         "club-scripted",
-        b"#C A gun [[ ZOOM 4 ]] of 1970\n#C [[ AUTOSTART ]]\n#C\n#C [[ THEME 6\n#C GPS 10\n#C ]]\n#C [1] a note\nx = 2, y = 1\n2o!\n",
+        b"#C A gun [[ ZOOM 4 ]] of 1970\n#C [[ AUTOSTART ]]\n#C\n#C [[ THEME 6\n"
+        b"#C GPS 10\n#C ]]\n#C [1] a note\nx = 2, y = 1\n2o!\n",
     )
     browser.open(f"{base}/d/{number}")
     same("comments without scripts", browser.text("#comments-text"), "A gun  of 1970\n\n[1] a note")
@@ -295,7 +307,10 @@ def scripted(gateway: Gateway, browser: Browser, base: str, _folder: str) -> Non
 def single_keys(_gateway: Gateway, browser: Browser, base: str, _folder: str) -> None:
     """Letters, digits and signs that are commands can be turned off; arrows, space and the buttons still work."""
     browser.open(f"{base}/d/4")
-    choose = "const keys = document.getElementById('letters'); keys.value = arguments[0]; keys.dispatchEvent(new Event('change'))"
+    choose = (
+        "const keys = document.getElementById('letters'); keys.value = arguments[0]; "
+        "keys.dispatchEvent(new Event('change'))"
+    )
     at = "return document.getElementById('generation').value"
     browser.run(choose, "off")
     for key in ("n", "?", "/", "+", "b"):
@@ -317,7 +332,10 @@ def single_keys(_gateway: Gateway, browser: Browser, base: str, _folder: str) ->
     check("letters are commands again", browser.at("/new"))
     browser.open(f"{base}/new")
     browser.type("#pattern", "#N Named\nx = 1, y = 1\no!")
-    style = "const style = getComputedStyle(document.getElementById(arguments[0])); return [style.borderStyle, style.opacity]"
+    style = (
+        "const style = getComputedStyle(document.getElementById(arguments[0])); "
+        "return [style.borderStyle, style.opacity]"
+    )
     same(
         "a field that is disabled looks so",
         [browser.run(style, name) for name in ("text-name", "text-author")],
@@ -329,7 +347,8 @@ def single_keys(_gateway: Gateway, browser: Browser, base: str, _folder: str) ->
 # Buttons whose name does not have the words that are seen on them.
 MISNAMED = """
 return [...document.querySelectorAll('button[aria-label]')].filter((button) => /[a-z]/i.test(button.textContent))
-  .filter((button) => !button.ariaLabel.toLowerCase().includes(button.textContent.trim().toLowerCase())).map((button) => button.textContent);
+  .filter((button) => !button.ariaLabel.toLowerCase().includes(button.textContent.trim().toLowerCase()))
+  .map((button) => button.textContent);
 """
 
 
@@ -354,7 +373,11 @@ def sorts(gateway: Gateway, browser: Browser, base: str, folder: str) -> None:
     browser.one("[data-column=count] button").click()
     same("a census by counts", browser.run(codes), most_first)
     browser.open(f"{base}/c")
-    lines = "return [...document.querySelectorAll('.censuses tbody tr')].map((row) => [Number(row.querySelector('th').textContent), Number(row.querySelector('.number').textContent.replaceAll(',', ''))])"
+    lines = (
+        "return [...document.querySelectorAll('.censuses tbody tr')].map((row) => "
+        "[Number(row.querySelector('th').textContent), "
+        "Number(row.querySelector('.number').textContent.replaceAll(',', ''))])"
+    )
     rows = browser.run(lines)
     same("censuses, the newest first", [row[0] for row in rows], sorted((row[0] for row in rows), reverse=True))
     browser.one("[data-column=clusters] button").click()
@@ -372,7 +395,8 @@ def printed(_gateway: Gateway, browser: Browser, base: str, _folder: str) -> Non
     browser.open(f"{base}/d/4")
     browser.driver.execute_cdp_cmd("Emulation.setEmulatedMedia", {"media": "print"})
     seen = browser.run(
-        "return [...document.querySelectorAll('button, input, select, header nav, canvas.large, h1, .address')].filter((one) => one.checkVisibility()).map((one) => one.className || one.tagName)"
+        "return [...document.querySelectorAll('button, input, select, header nav, canvas.large, h1, .address')]"
+        ".filter((one) => one.checkVisibility()).map((one) => one.className || one.tagName)"
     )
     browser.screen()
     same("what is on paper", seen, ["H1", "large", "address"])

@@ -9,7 +9,8 @@ from pages import kept, told
 
 GENERATION = "return Number(document.getElementById('generation').value)"
 ENTER, OLDEST = "\ue007", 32
-# Each cell that the large canvas shows, by its left upper pixel, with its color: what is neither dead nor grid. Between cells is a gap.
+# Each cell that the large canvas shows, by its left upper pixel, with its color: what is neither dead nor grid. Between
+# cells is a gap.
 SHOWN = """
 const { colors } = await import('/sources/drawing/draw.js');
 await new Promise((resolve) => requestAnimationFrame(() => requestAnimationFrame(resolve)));
@@ -19,7 +20,8 @@ const pixels = new Uint32Array(canvas.getContext('2d').getImageData(0, 0, width,
 const { dead, grid } = colors();
 const is = (at) => pixels[at] !== dead && pixels[at] !== grid;
 const cells = [];
-for (let at = 0; at < pixels.length; at += 1) if (is(at) && !is(at - 1) && !is(at - width)) cells.push([at % width, Math.floor(at / width), pixels[at]]);
+for (let at = 0; at < pixels.length; at += 1)
+  if (is(at) && !is(at - 1) && !is(at - width)) cells.push([at % width, Math.floor(at / width), pixels[at]]);
 return cells;
 """
 COLORS = "const { colors } = await import('/sources/drawing/draw.js'); return colors();"
@@ -62,7 +64,8 @@ def aged(text: bytes, last: int) -> list[dict[tuple[int, int], int]]:
 
 
 def is_colored(shown: Any, ages: Any, of_age: Any, wanted: Any) -> Any:
-    """Whether cells are shown in one color for each age, which is the same in all generations that were seen: these are then in `of_age`."""
+    """Whether cells are shown in one color for each age, which is the same in all generations that were seen: these are
+    then in `of_age`."""
     if set(shown) != set(ages):
         return False
     all_of_age = dict(of_age)
@@ -80,7 +83,8 @@ def is_colored(shown: Any, ages: Any, of_age: Any, wanted: Any) -> Any:
 
 
 def ages(gateway: Gateway, browser: Browser, base: str, _folder: str) -> None:
-    """Cells are colored by their age if one wishes: after steps, after leaps, back, and after playing; and that is kept."""
+    """Cells are colored by their age if one wishes: after steps, after leaps, back, and after playing; and that is
+    kept."""
     number = kept(gateway, "aged", b"#N Aged\nx = 9, y = 3\nbo4b3o$2o$b2o!\n")
     wanted = aged(told(gateway, f"/deposits/{number}"), 90)
     of_age: dict[int, int] = {}
@@ -146,7 +150,8 @@ new MutationObserver((_, watch) => {
 
 
 def themes(_gateway: Gateway, browser: Browser, base: str, _folder: str) -> None:
-    """The theme is the system's, or what is chosen, from the first drawing on, in each window, also of what is on the page."""
+    """The theme is the system's, or what is chosen, from the first drawing on, in each window, also of what is on the
+    page."""
     seen = {}
     watching = browser.driver.execute_cdp_cmd("Page.addScriptToEvaluateOnNewDocument", {"source": EARLY})
     for scheme in ("light", "dark"):
@@ -167,7 +172,8 @@ def themes(_gateway: Gateway, browser: Browser, base: str, _folder: str) -> None
         browser.open(f"{base}/d/4")
         browser.until(lambda: len(browser.wait_for(SHOWN)) > 30)
         browser.run(
-            "const theme = document.getElementById('theme'); theme.value = arguments[0]; theme.dispatchEvent(new Event('change'))",
+            "const theme = document.getElementById('theme'); theme.value = arguments[0]; "
+            "theme.dispatchEvent(new Event('change'))",
             chosen,
         )
         same(f"{chosen} is chosen where the system is {scheme}", browser.run(BACK), seen[chosen][0])

@@ -1,5 +1,5 @@
-"""The parts of tests/test_web.py on files in other forms: plaintext, Life 1.05 and 1.06, RLE without a header, texts that are not UTF-8, too many
-comments; and on drops and pastes without a pattern.
+"""The parts of tests/test_web.py on files in other forms: plaintext, Life 1.05 and 1.06, RLE without a header, texts
+that are not UTF-8, too many comments; and on drops and pastes without a pattern.
 """
 import glob
 import hashlib
@@ -19,7 +19,10 @@ from web_many import written
 GOLLY = "/usr/share/golly/Patterns"
 CONTROL = "\ue009"
 # What the page reads of a text in another form: what it calls the form, and the file that it sends.
-READ = "const { readOther } = await import('/sources/patterns/formats.js'); return words[0].map((text) => readOther(text));"
+READ = (
+    "const { readOther } = await import('/sources/patterns/formats.js'); "
+    "return words[0].map((text) => readOther(text));"
+)
 TOKEN = "return document.getElementById('token').value"
 
 

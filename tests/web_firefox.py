@@ -59,7 +59,8 @@ def looked_up(gateway: Gateway, browser: firefox.Firefox, base: str, folder: str
 
 
 def in_firefox(gateway: Gateway, base: str, folder: str, parts: Iterable[Callable[..., None]]) -> None:
-    """These parts, and those above, in a Firefox, whose console has no error at the end. A part takes a gateway, a browser and an address."""
+    """These parts, and those above, in a Firefox, whose console has no error at the end. A part takes a gateway, a
+    browser and an address."""
     if firefox.missing():
         pytest.skip("firefox-esr is not installed")
     # It is slower than the other browser.

@@ -16,7 +16,8 @@ from gateways import Gateway
 
 ROOT, FIRST, SOUPS, GENERATION, LIMIT = "ann-2026", 1000, 5000, 2048, 60
 LIFE, HIGHLIFE = "B3/S23", "B36/S23"
-# A constellation, which has a name, and two that have none: three blinkers, and a text that only has the form of a code.
+# A constellation, which has a name, and two that have none: three blinkers, and a text that only has the form of a
+# code.
 TRAFFIC_LIGHT, THREE_BLINKERS, UNKNOWN = "xp2_s01110szw222", "xp2_70ggg07", "xs999_0"
 # A haul: how many of each code were counted, and in which soup first; None are the unresolved clusters.
 Haul = dict[str | None, tuple[int, int | str]]
@@ -67,8 +68,13 @@ def at_haul(browser: Browser, base: str) -> bool:
 # ---- what is shown
 
 ROWS = """
-return [...document.querySelectorAll('main tbody tr')].map((row) => ({ code: row.querySelector('th code').textContent, name: row.querySelector('th .name')?.textContent ?? null,
-  link: row.querySelector('th a').pathname, numbers: [...row.querySelectorAll('.number')].map((cell) => cell.textContent), bar: row.querySelector('.bar').getBoundingClientRect().width }));
+return [...document.querySelectorAll('main tbody tr')].map((row) => ({
+  code: row.querySelector('th code').textContent,
+  name: row.querySelector('th .name')?.textContent ?? null,
+  link: row.querySelector('th a').pathname,
+  numbers: [...row.querySelectorAll('.number')].map((cell) => cell.textContent),
+  bar: row.querySelector('.bar').getBoundingClientRect().width
+}));
 """
 # For each row the pixels of its drawing that are of the color of live cells; null if it has none.
 DRAWN = """
@@ -79,13 +85,19 @@ const pixelsOf = (canvas) => {
   const pixels = new Uint32Array(canvas.getContext('2d').getImageData(0, 0, width, height).data.buffer);
   return [...pixels.keys()].filter((at) => pixels[at] === live).map((at) => [at % width, Math.floor(at / width)]);
 };
-return [...document.querySelectorAll('main tbody tr')].map((row) => row.querySelector('canvas')).map((canvas) => canvas && pixelsOf(canvas));
+return [...document.querySelectorAll('main tbody tr')]
+  .map((row) => row.querySelector('canvas'))
+  .map((canvas) => canvas && pixelsOf(canvas));
 """
-FACTS = "return Object.fromEntries([...document.querySelectorAll('.facts div')].map((fact) => [fact.querySelector('dt').textContent, fact.querySelector('dd').textContent]))"
+FACTS = (
+    "return Object.fromEntries([...document.querySelectorAll('.facts div')].map((fact) => "
+    "[fact.querySelector('dt').textContent, fact.querySelector('dd').textContent]))"
+)
 
 
 def cells_of(pixels: Any, columns: int, rows: Any) -> Any:
-    """The cells of a drawing with this many columns and rows, moved to the corner. Between large cells there is a gap of one pixel."""
+    """The cells of a drawing with this many columns and rows, moved to the corner. Between large cells there is a gap
+    of one pixel."""
     left, top = min(x for x, _ in pixels), min(y for _, y in pixels)
     width, height = 1 + max(x for x, _ in pixels) - left, 1 + max(y for _, y in pixels) - top
     size = max(-(-width // columns), -(-height // rows))
@@ -129,7 +141,8 @@ def is_shown(browser: Browser, haul: Haul, rule: str, named: str = "") -> bool:
     }
     return (
         browser.text(".by")
-        == f"Soups {FIRST:,} to {FIRST + SOUPS - 1:,} of {ROOT}{named}, at generation {GENERATION:,} under {rule}, with periods up to {LIMIT}."
+        == f"Soups {FIRST:,} to {FIRST + SOUPS - 1:,} of {ROOT}{named}, at generation {GENERATION:,} under {rule}, "
+        f"with periods up to {LIMIT}."
         and browser.run(FACTS) == facts
         and is_listed(browser.run(ROWS), haul, rule)
         and browser.text("main tfoot th").startswith("unresolved")
@@ -139,7 +152,8 @@ def is_shown(browser: Browser, haul: Haul, rule: str, named: str = "") -> bool:
 
 
 def dropped(_gateway: Gateway, browser: Browser, base: str, folder: str) -> None:
-    """A table that is dropped is shown with drawings, names and bars, and nobody is asked for anything but the names."""
+    """A table that is dropped is shown with drawings, names and bars, and nobody is asked for anything but the
+    names."""
     check("the page of hauls", at_haul(browser, base) and browser.text("h1") == "A haul")
     browser.keep_logs()
     asked = len(browser.asked)
@@ -204,7 +218,8 @@ def chosen(_gateway: Gateway, browser: Browser, base: str, folder: str) -> None:
 
 
 def elsewhere(_gateway: Gateway, browser: Browser, base: str, folder: str) -> None:
-    """A table that is dropped on another page leads to the page of hauls, and is there again after the page of a soup and a reload."""
+    """A table that is dropped on another page leads to the page of hauls, and is there again after the page of a soup
+    and a reload."""
     path = written(folder, "elsewhere.csv", table())
     for address in ("/about", "/new"):
         at_haul(browser, base)
@@ -277,7 +292,8 @@ def no_tables() -> Any:
 
 
 def refused(_gateway: Gateway, browser: Browser, base: str, folder: str) -> None:
-    """An incomplete table is refused with a sentence, and neither it nor the table before it is shown. The next table is shown."""
+    """An incomplete table is refused with a sentence, and neither it nor the table before it is shown. The next table
+    is shown."""
     at_haul(browser, base)
     good = written(folder, "good.csv", table())
     for name, text in no_tables().items():

@@ -1,4 +1,5 @@
-"""The parts of tests/test_web.py on names, and on many files at once: a drop, a choice and a folder, under the gateway's limits as they are.
+"""The parts of tests/test_web.py on names, and on many files at once: a drop, a choice and a folder, under the
+gateway's limits as they are.
 """
 import hashlib
 import os
@@ -11,7 +12,11 @@ from pages import listed, told
 # Ten deposits above the twenty that are let through at once wait for their turn at five a second.
 MANY, PATIENCE = 32, 60
 CUT = b"#C cut\nx = 1, y = 1\n3o"
-LINES = "return [...document.querySelectorAll('.files tbody tr')].map((row) => [row.querySelector('th').firstChild.textContent, row.querySelector('.outcome').textContent, !!row.querySelector('canvas')])"
+LINES = (
+    "return [...document.querySelectorAll('.files tbody tr')].map((row) => "
+    "[row.querySelector('th').firstChild.textContent, row.querySelector('.outcome').textContent, "
+    "!!row.querySelector('canvas')])"
+)
 
 
 def named_file(number: int) -> bytes:
@@ -39,7 +44,8 @@ def done(browser: Browser) -> str:
 
 
 def names(gateway: Gateway, browser: Browser, base: str, folder: str) -> None:
-    """A file without a name gets the one that is typed, or its file's, and so its author; one that has them stays byte by byte."""
+    """A file without a name gets the one that is typed, or its file's, and so its author; one that has them stays byte
+    by byte."""
     bare, whole = written(
         os.path.join(folder, "bare"),
         {
@@ -79,7 +85,8 @@ def names(gateway: Gateway, browser: Browser, base: str, folder: str) -> None:
         "a file with a name keeps it",
         browser.until(
             lambda: browser.run(
-                "return ['text-name', 'text-author'].map((id) => [document.getElementById(id).value, document.getElementById(id).disabled])"
+                "return ['text-name', 'text-author'].map((id) => "
+                "[document.getElementById(id).value, document.getElementById(id).disabled])"
             )
             == [["Whole", True], ["Eve", True]]
         )
@@ -90,7 +97,8 @@ def names(gateway: Gateway, browser: Browser, base: str, folder: str) -> None:
         const { withTexts, baseName } = await import('/sources/patterns/names.js');
         const text = (...given) => new TextDecoder().decode(withTexts(new TextEncoder().encode('x'), ...given));
         const none = { name: null, author: null };
-        return [text(none, 'a\\nb\\r#C', ''), text(none, ' ', '\\t'), text({ name: 'n', author: null }, 'no', 'yes'), new TextEncoder().encode(text(none, 'é'.repeat(150), '')).length,
+        return [text(none, 'a\\nb\\r#C', ''), text(none, ' ', '\\t'), text({ name: 'n', author: null }, 'no', 'yes'),
+          new TextEncoder().encode(text(none, 'é'.repeat(150), '')).length,
           baseName('a/b/c d.RLE'), baseName('x.txt'), baseName('plain')];"""
     )
     same(
@@ -101,8 +109,11 @@ def names(gateway: Gateway, browser: Browser, base: str, folder: str) -> None:
     commented = browser.wait_for(
         """
         const { withTexts, folderOf } = await import('/sources/patterns/names.js');
-        const text = (comments, folder) => new TextDecoder().decode(withTexts(new TextEncoder().encode('x'), { name: 'n', author: 'o', comments }, '', '', folder));
-        return [folderOf('jslife/guns/gun30.rle'), folderOf('glider.rle'), text([], 'a/b'), text([], ''), text(['Folder: a/b'], 'a/b'), text(Array(63).fill('c'), 'a'), text(Array(64).fill('c'), 'a')];"""
+        const text = (comments, folder) => new TextDecoder().decode(
+          withTexts(new TextEncoder().encode('x'), { name: 'n', author: 'o', comments }, '', '', folder));
+        return [folderOf('jslife/guns/gun30.rle'), folderOf('glider.rle'),
+          text([], 'a/b'), text([], ''), text(['Folder: a/b'], 'a/b'),
+          text(Array(63).fill('c'), 'a'), text(Array(64).fill('c'), 'a')];"""
     )
     same(
         "a folder is a comment, once, and never one too many",
@@ -112,7 +123,8 @@ def names(gateway: Gateway, browser: Browser, base: str, folder: str) -> None:
 
 
 def dropped(gateway: Gateway, browser: Browser, base: str, folder: str) -> None:
-    """Many files at once: each is drawn or has its fault, one press deposits the good ones, and the table says what became of each."""
+    """Many files at once: each is drawn or has its fault, one press deposits the good ones, and the table says what
+    became of each."""
     files = {f"{number:02}.rle": named_file(number) for number in range(2, MANY + 2)} | {
         "cut.rle": CUT,
         "long.rle": b" " * 1_048_577,
@@ -148,7 +160,8 @@ def dropped(gateway: Gateway, browser: Browser, base: str, folder: str) -> None:
         "a bar is seen",
         browser.until(
             lambda: browser.run(
-                "const bar = document.querySelector('.many progress'); return !bar.hidden && bar.value > 3 && bar.max === 33"
+                "const bar = document.querySelector('.many progress'); "
+                "return !bar.hidden && bar.value > 3 && bar.max === 33"
             )
         ),
     )
@@ -179,8 +192,8 @@ def dropped(gateway: Gateway, browser: Browser, base: str, folder: str) -> None:
 
 
 def folders(gateway: Gateway, browser: Browser, base: str, folder: str) -> None:
-    """A folder, chosen or dropped: its pattern files and those of its folders, by their file's names where they have none. A comment with the
-    folder is added if the member wants it.
+    """A folder, chosen or dropped: its pattern files and those of its folders, by their file's names where they have
+    none. A comment with the folder is added if the member wants it.
     """
     room = os.path.join(folder, "guns")
     written(
@@ -234,12 +247,14 @@ def folders(gateway: Gateway, browser: Browser, base: str, folder: str) -> None:
     )
 
 
-SHOWN = """return [...document.querySelectorAll('#pattern, #text-name, #many-name, #send-many, #text-instead, #see-them, .drop')]
-  .filter((element) => element.checkVisibility()).map((element) => element.id || element.className)"""
+SHOWN = """return [
+  ...document.querySelectorAll('#pattern, #text-name, #many-name, #send-many, #text-instead, #see-them, .drop')
+].filter((element) => element.checkVisibility()).map((element) => element.id || element.className)"""
 
 
 def nameless(gateway: Gateway, browser: Browser, base: str, folder: str) -> None:
-    """A folder in which no file has a name gets those of its files; the field for a text is gone meanwhile; at the end a link leads to the deposits."""
+    """A folder in which no file has a name gets those of its files; the field for a text is gone meanwhile; at the end
+    a link leads to the deposits."""
     room = os.path.join(folder, "disk")
     written(
         room, {f"{name}.rle": f"#C Nameless {name}\nx = 1, y = 1\no!\n".encode() for name in ("fish", "loaf", "ship")}
@@ -278,7 +293,8 @@ def nameless(gateway: Gateway, browser: Browser, base: str, folder: str) -> None
 
 
 def broken_off(gateway: Gateway, browser: Browser, _base: str, folder: str) -> None:
-    """If replies stay away it says so, and the same button continues; nothing is kept twice. After a reload the page lists what was not sent."""
+    """If replies stay away it says so, and the same button continues; nothing is kept twice. After a reload the page
+    lists what was not sent."""
     relay = Relay(gateway.port)
     try:
         before = len(listed(gateway))

@@ -1,4 +1,5 @@
-"""The part of tests/test_web.py on a club with passwords: the pages say whose deposits they send, and whose the last one became.
+"""The part of tests/test_web.py on a club with passwords: the pages say whose deposits they send, and whose the last
+one became.
 """
 import base64
 import os
@@ -10,10 +11,13 @@ from pages import listed
 from web_many import SHOWN, done, written
 
 FIRST_PORT = 10600
-# The gateway's refusal as the page gets it once the member closes the browser's own dialog, which a browser without a screen never does.
+# The gateway's refusal as the page gets it once the member closes the browser's own dialog, which a browser without a
+# screen never does.
 REFUSED = """
 const whole = window.fetch;
-window.fetch = (path, options) => (options?.method === 'POST' ? Promise.resolve(new Response('<html>', { status: 401 })) : whole(path, options));
+window.fetch = (path, options) => (options?.method === 'POST'
+  ? Promise.resolve(new Response('<html>', { status: 401 }))
+  : whole(path, options));
 """
 FIELD = "return [...document.querySelectorAll('#member')].length"
 

@@ -21,7 +21,8 @@ DOWNLOADS = "downloads"
 # Each cell's middle pixel of a picture, dark or not, with the size of a cell in a box of this many columns.
 PIXELS = """
 const [encoded, wide] = words;
-const bitmap = await createImageBitmap(new Blob([Uint8Array.from(atob(encoded), (byte) => byte.charCodeAt(0))], { type: 'image/png' }));
+const bitmap = await createImageBitmap(
+  new Blob([Uint8Array.from(atob(encoded), (byte) => byte.charCodeAt(0))], { type: 'image/png' }));
 const canvas = document.createElement('canvas');
 canvas.width = bitmap.width;
 canvas.height = bitmap.height;
@@ -31,7 +32,8 @@ const size = bitmap.width / wide;
 const cells = [];
 for (let y = 0; y < bitmap.height / size; y += 1)
   for (let x = 0; x < wide; x += 1)
-    if (context.getImageData(Math.floor((x + 0.5) * size) - 1, Math.floor((y + 0.5) * size) - 1, 1, 1).data[0] < 128) cells.push([x - 1, y - 1]);
+    if (context.getImageData(Math.floor((x + 0.5) * size) - 1, Math.floor((y + 0.5) * size) - 1, 1, 1).data[0] < 128)
+      cells.push([x - 1, y - 1]);
 return [size, bitmap.height / size, cells];
 """
 
@@ -69,7 +71,10 @@ def cells_of(path: str) -> set[tuple[int, int]]:
 # What a button of the page copies.
 COPY = """
 let copied = null;
-Object.defineProperty(navigator, 'clipboard', { configurable: true, value: { writeText: async (text) => { copied = text; } } });
+Object.defineProperty(navigator, 'clipboard', {
+  configurable: true,
+  value: { writeText: async (text) => { copied = text; } }
+});
 [...document.querySelectorAll('button')].find((button) => button.textContent === words[0]).click();
 await new Promise((resolve) => setTimeout(resolve));
 return copied;
@@ -103,7 +108,8 @@ def texts_of(png: bytes) -> dict[str, str]:
 
 
 def pictures(gateway: Gateway, browser: Browser, base: str, folder: str) -> None:
-    """A picture is byte for byte the one that life-draw makes of the copied text, but for its origin, and a PNG has the same cells."""
+    """A picture is byte for byte the one that life-draw makes of the copied text, but for its origin, and a PNG has the
+    same cells."""
     name = 'A <b> & "c"'
     number = kept(gateway, "pictured", f"#N {name}\nx = 9, y = 3\nbo3b3o$2bo2bo$3o5bo!\n".encode())
     browser.open(f"{base}/d/{number}")
@@ -147,7 +153,8 @@ def pictures(gateway: Gateway, browser: Browser, base: str, folder: str) -> None
 
 
 def copied(gateway: Gateway, browser: Browser, base: str, _folder: str) -> None:
-    """What is copied while it plays is the generation whose address is copied. A file that is copied twice has its origin once."""
+    """What is copied while it plays is the generation whose address is copied. A file that is copied twice has its
+    origin once."""
     number = kept(gateway, "copied", b"#N Copied\nx = 3, y = 3\nb2o$2o$bo!\n")
     browser.open(f"{base}/d/{number}")
     browser.run(
@@ -157,7 +164,8 @@ def copied(gateway: Gateway, browser: Browser, base: str, _folder: str) -> None:
     browser.until(lambda: int(browser.run("return document.getElementById('generation').value")) > 1)
     text, address = browser.wait_for(
         COPY.replace("return copied", "const text = copied")
-        + """[...document.querySelectorAll('button')].find((button) => button.textContent === 'Copy the address').click();
+        + """[...document.querySelectorAll('button')]
+          .find((button) => button.textContent === 'Copy the address').click();
         await new Promise((resolve) => setTimeout(resolve));
         return [text, copied];""",
         "Copy as RLE",
@@ -176,7 +184,10 @@ def copied(gateway: Gateway, browser: Browser, base: str, _folder: str) -> None:
         "an origin is written once, and not as a comment too many",
         browser.wait_for(
             """
-        const [{ withOrigin }, { readFile }] = [await import('/sources/patterns/writer.js'), await import('/sources/patterns/rle.js')];
+        const [{ withOrigin }, { readFile }] = [
+          await import('/sources/patterns/writer.js'),
+          await import('/sources/patterns/rle.js')
+        ];
         return words[0].map((text) => {
           const bytes = new TextEncoder().encode(text);
           return new TextDecoder().decode(withOrigin(bytes, readFile(bytes), { title: null, origin: words[1] }));
@@ -203,7 +214,8 @@ return [x, y, width, height];
 
 
 def animations(gateway: Gateway, browser: Browser, base: str, folder: str) -> None:
-    """An animation is byte for byte the one of life-draw. It has each generation in its own place in one box, so a glider glides."""
+    """An animation is byte for byte the one of life-draw. It has each generation in its own place in one box, so a
+    glider glides."""
     file = b"#N Glides\nx = 3, y = 3\nbo$2bo$3o!\n#\n"
     glider = kept(gateway, "glides", file)
     browser.open(f"{base}/d/{glider}/at/2")
@@ -244,10 +256,14 @@ def animations(gateway: Gateway, browser: Browser, base: str, folder: str) -> No
     same("one is seen after the other, over and over", shown, boxes * 2)
 
 
-# How a browser decodes an animated PNG: the number of frames, how often it repeats, and of each frame the time and the cells.
+# How a browser decodes an animated PNG: the number of frames, how often it repeats, and of each frame the time and the
+# cells.
 DECODED = """
 const [encoded, size] = words;
-const decoder = new ImageDecoder({ type: 'image/png', data: Uint8Array.from(atob(encoded), (byte) => byte.charCodeAt(0)) });
+const decoder = new ImageDecoder({
+  type: 'image/png',
+  data: Uint8Array.from(atob(encoded), (byte) => byte.charCodeAt(0))
+});
 await decoder.tracks.ready;
 const { frameCount, repetitionCount } = decoder.tracks.selectedTrack;
 const frames = [];
@@ -260,7 +276,8 @@ for (let frameIndex = 0; frameIndex < frameCount; frameIndex += 1) {
   const cells = [];
   for (let y = 0; y < height / size; y += 1)
     for (let x = 0; x < width / size; x += 1)
-      if (data[4 * (Math.floor((y + 0.5) * size) * width + Math.floor((x + 0.5) * size))] < 128) cells.push([x - 1, y - 1]);
+      if (data[4 * (Math.floor((y + 0.5) * size) * width + Math.floor((x + 0.5) * size))] < 128)
+        cells.push([x - 1, y - 1]);
   frames.push([image.duration, cells]);
 }
 return [frameCount, String(repetitionCount), frames];

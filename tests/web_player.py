@@ -1,4 +1,5 @@
-"""The parts of tests/test_web.py on the player: generations that the page makes, their comparison with the archive's, steps, loops and plots.
+"""The parts of tests/test_web.py on the player: generations that the page makes, their comparison with the archive's,
+steps, loops and plots.
 """
 import random
 import time
@@ -14,7 +15,10 @@ GENERATION = "return Number(document.getElementById('generation').value)"
 SOURCE = "return document.querySelector('.source').textContent"
 OWN, ENTER = "The archive’s own answer.", "\ue007"
 # The generations that the page has asked the archive for.
-ASKED = "return performance.getEntriesByType('resource').map((entry) => /[/]at[/]([0-9]+)$/.exec(entry.name)).filter(Boolean).map((found) => Number(found[1]))"
+ASKED = (
+    "return performance.getEntriesByType('resource')"
+    ".map((entry) => /[/]at[/]([0-9]+)$/.exec(entry.name)).filter(Boolean).map((found) => Number(found[1]))"
+)
 # Makes generations of a file in the page: for each its corner and its rows of runs.
 MADE = """
 const [encoded, numbers] = words;
@@ -25,7 +29,10 @@ const maker = new Maker(readFile(new TextEncoder().encode(encoded)), 2048, end.s
 const found = [];
 for (const number of numbers) {
   const { pattern, corner } = await maker.get(number);
-  found.push([corner.column, corner.row, pattern.population, pattern.width, pattern.height, pattern.rows.map((runs) => [...runs])]);
+  found.push([
+    corner.column, corner.row, pattern.population, pattern.width, pattern.height,
+    pattern.rows.map((runs) => [...runs])
+  ]);
 }
 end.abort();
 return found;
@@ -93,7 +100,8 @@ def compared(gateway: Gateway, browser: Browser, base: str, _folder: str) -> Non
     browser.open(f"{base}/d/{number}")
     check("at rest it is the archive's own", browser.run(SOURCE).startswith(OWN))
     browser.run(
-        "const speed = document.getElementById('speed'); speed.value = '60'; speed.dispatchEvent(new Event('change')); performance.clearResourceTimings()"
+        "const speed = document.getElementById('speed'); speed.value = '60'; "
+        "speed.dispatchEvent(new Event('change')); performance.clearResourceTimings()"
     )
     browser.type("#run-to", "230")
     browser.one("#run").click()
@@ -107,7 +115,8 @@ def compared(gateway: Gateway, browser: Browser, base: str, _folder: str) -> Non
     requests = browser.run(ASKED)
     check(f"few requests: {requests}", {100, 200, 230} <= set(requests) and len(requests) < 20)
     shown = browser.run(
-        "return document.getElementById('text') && [...document.querySelectorAll('.facts dd')].slice(0, 2).map((fact) => fact.textContent)"
+        "return document.getElementById('text') && "
+        "[...document.querySelectorAll('.facts dd')].slice(0, 2).map((fact) => fact.textContent)"
     )
     own = life.read_file(asked(gateway.life_port, f"/deposits/{number}/at/230")[1])[4]
     same("what is shown is the archive's", shown[0], f"{len(own):,}")
@@ -117,12 +126,16 @@ def compared(gateway: Gateway, browser: Browser, base: str, _folder: str) -> Non
 # Answers another generation in the place of the hundredth.
 FALSE = """
 const whole = window.fetch;
-window.fetch = (path, options) => whole(`${path}`.endsWith('/at/100') ? `${path}`.replace('/at/100', '/at/99') : path, options);
+window.fetch = (path, options) => whole(
+  `${path}`.endsWith('/at/100') ? `${path}`.replace('/at/100', '/at/99') : path,
+  options
+);
 """
 
 
 def doubted(gateway: Gateway, browser: Browser, base: str, _folder: str) -> None:
-    """If what the page made is not what the archive answers, it says so, shows the archive's, and plays by the archive alone."""
+    """If what the page made is not what the archive answers, it says so, shows the archive's, and plays by the archive
+    alone."""
     number = kept(gateway, "doubted", b"#N Pi\nx = 3, y = 3\n3o$obo$obo!\n")
     browser.open(f"{base}/d/{number}")
     browser.run(FALSE)
@@ -148,7 +161,8 @@ def doubted(gateway: Gateway, browser: Browser, base: str, _folder: str) -> None
 
 
 def controls(gateway: Gateway, browser: Browser, base: str, _folder: str) -> None:
-    """Steps of 10 and 100, the generation at which a pattern is back, playing it over and over, the grid, and the plot."""
+    """Steps of 10 and 100, the generation at which a pattern is back, playing it over and over, the grid, and the
+    plot."""
     pulsar = kept(gateway, "pulsar", b"#N Blinker\nx = 3, y = 1\n3o!\n")
     browser.open(f"{base}/d/{pulsar}")
     for size, wanted in (("10", 10), ("100", 110), ("1", 111)):
@@ -176,7 +190,11 @@ def controls(gateway: Gateway, browser: Browser, base: str, _folder: str) -> Non
         seen.add(browser.run(GENERATION))
     browser.one("#play").click()
     same(f"it plays over and over: {seen}", seen, {1, 2})
-    shades = "const canvas = document.querySelector('canvas.large'); return new Set(new Uint32Array(canvas.getContext('2d').getImageData(0, 0, canvas.width, canvas.height).data.buffer)).size"
+    shades = (
+        "const canvas = document.querySelector('canvas.large'); "
+        "return new Set(new Uint32Array(canvas.getContext('2d')"
+        ".getImageData(0, 0, canvas.width, canvas.height).data.buffer)).size"
+    )
     check("a grid is drawn", browser.until(lambda: browser.run(shades) == 3))
     browser.one("#grid").click()
     check("and is not, if it is not wanted", browser.until(lambda: browser.run(shades) == 2))
@@ -189,7 +207,8 @@ def controls(gateway: Gateway, browser: Browser, base: str, _folder: str) -> Non
         and browser.text(".population figcaption").startswith(label),
     )
     browser.run(
-        "const plot = document.querySelector('canvas.plot'); const box = plot.getBoundingClientRect(); plot.dispatchEvent(new MouseEvent('click', { clientX: box.left + box.width / 2, bubbles: true }))"
+        "const plot = document.querySelector('canvas.plot'); const box = plot.getBoundingClientRect(); "
+        "plot.dispatchEvent(new MouseEvent('click', { clientX: box.left + box.width / 2, bubbles: true }))"
     )
     check("a press on the plot leads to its generation", browser.until(lambda: 1020 <= browser.run(GENERATION) <= 1028))
     browser.picture("player")
@@ -203,7 +222,8 @@ def controls(gateway: Gateway, browser: Browser, base: str, _folder: str) -> Non
 
 
 def large(gateway: Gateway, browser: Browser, base: str, _folder: str) -> None:
-    """A soup of 1000 by 1000 is made at 30 generations a second and more: in the best of twelve times ten generations, as others may be at work."""
+    """A soup of 1000 by 1000 is made at 30 generations a second and more: in the best of twelve times ten generations,
+    as others may be at work."""
     chance = random.Random(32)
     rows = ["".join(chance.choice("bo") for _ in range(1000)) for _ in range(1000)]
     number = kept(gateway, "soup", ("#N Soup\nx = 1000, y = 1000\n" + "$\n".join(rows) + "!\n").encode())
@@ -258,7 +278,8 @@ def counted(gateway: Gateway, browser: Browser, base: str, _folder: str) -> None
         const plot = new Plot((at) => went.push(at));
         document.querySelector('main').append(plot.figure);
         const box = plot.canvas.getBoundingClientRect();
-        const press = (share) => plot.canvas.dispatchEvent(new MouseEvent('click', { clientX: box.left + box.width * share }));
+        const press = (share) => plot.canvas.dispatchEvent(
+          new MouseEvent('click', { clientX: box.left + box.width * share }));
         plot.add(0, 7);
         press(1);
         plot.fill(0, Array(401).fill(3));
@@ -283,7 +304,8 @@ def whole_screen(_gateway: Gateway, browser: Browser, base: str, _folder: str) -
     check(
         "the canvas and the controls are there",
         browser.run(
-            """const [canvas, bar] = ['canvas.large', '.controls'].map((name) => document.querySelector(name).getBoundingClientRect());
+            """const [canvas, bar] = ['canvas.large', '.controls']
+              .map((name) => document.querySelector(name).getBoundingClientRect());
             return canvas.height > innerHeight / 2 && bar.bottom <= innerHeight && canvas.width > innerWidth * 0.9"""
         ),
     )

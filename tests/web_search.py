@@ -1,5 +1,5 @@
-"""The parts of tests/test_web.py on the search index: searching, a member's deposits, where an object occurs, censuses, the feed; and that
-the pages do without an index.
+"""The parts of tests/test_web.py on the search index: searching, a member's deposits, where an object occurs, censuses,
+the feed; and that the pages do without an index.
 """
 import json
 import os
@@ -19,7 +19,10 @@ from gateways import DEPLOY, Gateway
 from pages import asked, index, kept, listed
 from web_addresses import Previewed
 
-LINKS = "return [...document.querySelectorAll('.cards a')].map((link) => Number(link.getAttribute('href').match(/[0-9]+/)[0]))"
+LINKS = (
+    "return [...document.querySelectorAll('.cards a')]"
+    ".map((link) => Number(link.getAttribute('href').match(/[0-9]+/)[0]))"
+)
 ENTER = "\ue007"
 MANY = 100_000
 # How long a search over all blocks may take once they came, in seconds.
@@ -132,7 +135,8 @@ def searched(gateway: Gateway, browser: Browser, base: str, folder: str) -> None
     same(
         "the form has what was asked",
         browser.run(
-            "return ['member', 'cells', 'cells-to', 'text'].map((name) => document.getElementById('search-' + name).value)"
+            "return ['member', 'cells', 'cells-to', 'text']"
+            ".map((name) => document.getElementById('search-' + name).value)"
         ),
         ["dan", "8", "8", ""],
     )
@@ -168,7 +172,8 @@ def members(gateway: Gateway, browser: Browser, base: str, folder: str) -> None:
 
 
 def counted(gateway: Gateway, browser: Browser, base: str, folder: str) -> None:
-    """An object's page says which censuses and deposits have it, a deposit's which censuses it has, and there is a list of all."""
+    """An object's page says which censuses and deposits have it, a deposit's which censuses it has, and there is a list
+    of all."""
     rows = listed(gateway)
     one, two = (
         next(row["id"] for row in rows if row["member"] == member and row["population"] == cells)
@@ -176,7 +181,10 @@ def counted(gateway: Gateway, browser: Browser, base: str, folder: str) -> None:
     )
     made = [a_census(gateway, one), a_census(gateway, two), a_census(gateway, one, 3)]
     check("an index of the censuses", index(gateway, os.path.join(folder, "club.db")))
-    lines = "return [...document.querySelectorAll('.censuses tbody tr')].map((row) => [...row.children].map((cell) => cell.textContent))"
+    lines = (
+        "return [...document.querySelectorAll('.censuses tbody tr')]"
+        ".map((row) => [...row.children].map((cell) => cell.textContent))"
+    )
     browser.open(f"{base}/o/B3-S23/xs4_33")
     found = browser.until(lambda: browser.one("#occurrences") and browser.run(lines))
     check(
@@ -301,7 +309,8 @@ def folded(text: str) -> str:
     ).lower()
 
 
-# The time of each search is the least of three, as others may be at work. Beside them: how many blocks were on their way at once.
+# The time of each search is the least of three, as others may be at work. Beside them: how many blocks were on their
+# way at once.
 SEARCH = """
 const { allDeposits, search, NOTHING } = await import('/sources/requests/index.js');
 const whole = window.fetch;

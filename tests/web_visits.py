@@ -1,5 +1,5 @@
-"""The parts of tests/test_web.py on what a visit loads: how many requests, what a browser keeps of them, how soon the picture is there on a slow
-line, and what becomes of a page that was open during an upgrade.
+"""The parts of tests/test_web.py on what a visit loads: how many requests, what a browser keeps of them, how soon the
+picture is there on a slow line, and what becomes of a page that was open during an upgrade.
 """
 import os
 import re
@@ -18,7 +18,8 @@ MOST_REQUESTS = 20
 LATENCY, RATE = 150, 200_000
 # The most bytes of the pages' files that such a visit transfers, compressed: 0.3 s on that line.
 MOST_SENT = 60_000
-# Above this the first picture is late, in milliseconds. A machine with other work is much slower than the 1,500 that are wanted.
+# Above this the first picture is late, in milliseconds. A machine with other work is much slower than the 1,500 that
+# are wanted.
 LATE = 8000
 # After this many seconds without a request a page has all that it wants.
 QUIET = 3
@@ -39,9 +40,13 @@ requestAnimationFrame(look);
 """
 # The modules that a window has loaded, and the bytes of the pages' files that were transferred.
 MODULES = """
-const entries = performance.getEntriesByType('resource').map((entry) => [new URL(entry.name).pathname, entry.encodedBodySize]);
+const entries = performance.getEntriesByType('resource')
+  .map((entry) => [new URL(entry.name).pathname, entry.encodedBodySize]);
 const own = entries.filter(([path]) => path.startsWith('/web/'));
-return [[...new Set(own.map(([path]) => path).filter((path) => path.endsWith('.js')))], own.reduce((sum, [, size]) => sum + size, 0)];
+return [
+  [...new Set(own.map(([path]) => path).filter((path) => path.endsWith('.js')))],
+  own.reduce((sum, [, size]) => sum + size, 0)
+];
 """
 
 
@@ -58,7 +63,8 @@ def new_browser(folder: str, is_slow: bool) -> Browser:
 
 
 def visit(browser: Browser, relay: Relay, address: str) -> tuple[list[str], float]:
-    """The requests of a visit to a deposit, until it asks no more, and when its first picture was there, in milliseconds."""
+    """The requests of a visit to a deposit, until it asks no more, and when its first picture was there, in
+    milliseconds."""
     relay.asked.clear()
     browser.open(f"http://127.0.0.1:{relay.port}{address}")
     at = browser.until(lambda: browser.run("return window.pictureAt"))
@@ -70,8 +76,8 @@ def visit(browser: Browser, relay: Relay, address: str) -> tuple[list[str], floa
 
 
 def bundles(gateway: Gateway, _browser: Browser, _base: str, folder: str) -> None:
-    """The same sources always give the same files. Without a folder the script says how it is called. A page that names a file that nobody makes
-    is refused."""
+    """The same sources always give the same files. Without a folder the script says how it is called. A page that names
+    a file that nobody makes is refused."""
     script, again = os.path.join(DEPLOY, "bundle"), os.path.join(folder, "bundled-again")
     same("bundled again", subprocess.run([script, again], timeout=60, check=False).returncode, 0)
     pages = os.path.join(gateway.folder, "pages")
@@ -91,7 +97,8 @@ def bundles(gateway: Gateway, _browser: Browser, _base: str, folder: str) -> Non
 
 
 def visits(gateway: Gateway, _browser: Browser, _base: str, folder: str) -> None:
-    """A first visit to a deposit makes few requests. A second one asks only for the page and for what may have changed in the archive."""
+    """A first visit to a deposit makes few requests. A second one asks only for the page and for what may have changed
+    in the archive."""
     number = kept(gateway, "visited", b"#N Visited\nx = 3, y = 3\nbo$2bo$3o!\n")
     check("an index for a visit", index(gateway, os.path.join(folder, "club.db")))
     relay, browser = Relay(gateway.port), new_browser(folder, False)
@@ -113,7 +120,8 @@ def visits(gateway: Gateway, _browser: Browser, _base: str, folder: str) -> None
 
 
 def slow_line(gateway: Gateway, _browser: Browser, _base: str, folder: str) -> None:
-    """On a slow line the first picture of a deposit comes soon. It is the least time of two, as others may be at work."""
+    """On a slow line the first picture of a deposit comes soon. It is the least time of two, as others may be at
+    work."""
     relay = Relay(gateway.port)
     times = []
     for _ in range(2):
@@ -127,7 +135,8 @@ def slow_line(gateway: Gateway, _browser: Browser, _base: str, folder: str) -> N
 
 
 def upgrade(pages: str, others: str, to: str) -> None:
-    """Puts another release of the pages into the folder: the file of a group has another name there, and so has the one that imports it."""
+    """Puts another release of the pages into the folder: the file of a group has another name there, and so has the one
+    that imports it."""
     page = os.path.join(pages, "index.html")
     main = re.search(r"main-\w+\.js", content(page).decode())
     assert main
@@ -140,7 +149,8 @@ def upgrade(pages: str, others: str, to: str) -> None:
 
 
 def upgraded(gateway: Gateway, browser: Browser, _base: str, folder: str) -> None:
-    """A page that was open during an upgrade is loaded again once it needs a file that is gone; and once only, if that does not help."""
+    """A page that was open during an upgrade is loaded again once it needs a file that is gone; and once only, if that
+    does not help."""
     pages, before = os.path.join(gateway.folder, "pages"), os.path.join(folder, "release")
     shutil.copytree(pages, before)
     others = os.path.basename(bundled(gateway, "others.js"))

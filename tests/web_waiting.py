@@ -1,4 +1,5 @@
-"""The parts of tests/test_web.py on waiting and continuing: what a page shows while a reply is missing, trying again, and what a browser stores.
+"""The parts of tests/test_web.py on waiting and continuing: what a page shows while a reply is missing, trying again,
+and what a browser stores.
 """
 import time
 
@@ -7,14 +8,18 @@ from clients import check, same
 from gateways import Gateway
 from pages import kept
 
-VISIBLE = "const style = getComputedStyle(document.querySelector('.page'), '::after'); return style.content.includes('Waiting') && style.visibility === 'visible'"
+VISIBLE = (
+    "const style = getComputedStyle(document.querySelector('.page'), '::after'); "
+    "return style.content.includes('Waiting') && style.visibility === 'visible'"
+)
 # A list may be two seconds old.
 OLD = 2.1
 KEYS = {"older": "[", "newer": "]"}
 
 
 def waiting(gateway: Gateway, browser: Browser, _base: str, _folder: str) -> None:
-    """A page that waits says so, for who sees it and who hears it; a read without a reply can be tried again, and then shows the page."""
+    """A page that waits says so, for who sees it and who hears it; a read without a reply can be tried again, and then
+    shows the page."""
     relay = Relay(gateway.port)
     try:
         browser.open(f"http://127.0.0.1:{relay.port}/find")
@@ -118,8 +123,8 @@ def capitals(_gateway: Gateway, browser: Browser, base: str, _folder: str) -> No
         check(f"the address {address}", wanted in browser.text("h1") and browser.all(".refusal") == [])
 
 
-# Asks for the last number of an archive with this many deposits, which answers slowly, and counts the requests, those at once and the turns. Each try has
-# the module again, which remembers what it found.
+# Asks for the last number of an archive with this many deposits, which answers slowly, and counts the requests, those
+# at once and the turns. Each try has the module again, which remembers what it found.
 LAST = """
 const { lastDeposit } = await import(`/sources/requests/archive.js?${words[0]}-${words[1]}`);
 const whole = window.fetch;
@@ -147,8 +152,8 @@ try {
 
 
 def last_number(_gateway: Gateway, browser: Browser, base: str, _folder: str) -> None:
-    """The newest number is looked for by four lists at a time: few turns, also in a large archive. The time is the least of three, as others
-    may be at work."""
+    """The newest number is looked for by four lists at a time: few turns, also in a large archive. The time is the
+    least of three, as others may be at work."""
     browser.open(f"{base}/find")
     for number in (0, 1, 99, 100, 101, 1099, 1100, 43_557, 999_999):
         found, requests, most, took = min(
@@ -221,9 +226,14 @@ def kept_places(gateway: Gateway, browser: Browser, base: str, _folder: str) -> 
 # The least contrast of the border of what can be used with what is round it (WCAG 2.1, 1.4.11: 3).
 CONTRAST = """
 const channel = (part) => (part <= 0.03928 ? part / 12.92 : ((part + 0.055) / 1.055) ** 2.4);
-const light = (color) => { const [red, green, blue] = color.match(/[0-9.]+/g).slice(0, 3).map((part) => channel(part / 255)); return 0.2126 * red + 0.7152 * green + 0.0722 * blue; };
+const light = (color) => {
+  const [red, green, blue] = color.match(/[0-9.]+/g).slice(0, 3).map((part) => channel(part / 255));
+  return 0.2126 * red + 0.7152 * green + 0.0722 * blue;
+};
 const back = light(getComputedStyle(document.documentElement).backgroundColor);
-return [...document.querySelectorAll('main button, main input:not([type=range]):not([type=checkbox]):not([type=file]), main select, main textarea')].filter((one) => one.checkVisibility() && !one.disabled).map((one) => {
+return [...document.querySelectorAll(
+  'main button, main input:not([type=range]):not([type=checkbox]):not([type=file]), main select, main textarea'
+)].filter((one) => one.checkVisibility() && !one.disabled).map((one) => {
   const style = getComputedStyle(one);
   const [edge, inside] = [light(style.borderColor), light(style.backgroundColor)];
   return Math.max(...[back].map((round) => (Math.max(edge, round) + 0.05) / (Math.min(edge, round) + 0.05)));
@@ -244,7 +254,9 @@ def contrasts(_gateway: Gateway, browser: Browser, base: str, _folder: str) -> N
 
 SHADES = """
 const { thumbnail } = await import('/sources/drawing/draw.js');
-const rows = Array.from({ length: 640 }, (_, row) => words[0] === 'half' ? Array.from({ length: 640 }, (_, at) => at) : row % 40 === 0 ? [row, row + 1] : []);
+const rows = Array.from({ length: 640 }, (_, row) => words[0] === 'half'
+  ? Array.from({ length: 640 }, (_, at) => at)
+  : row % 40 === 0 ? [row, row + 1] : []);
 const canvas = thumbnail({ width: 640, height: 640, population: 1, rows }, 176, 120);
 const pixels = canvas.getContext('2d').getImageData(0, 0, canvas.width, canvas.height).data;
 return [...pixels.filter((_, at) => at % 4 === 0)];
@@ -252,7 +264,8 @@ return [...pixels.filter((_, at) => at % 4 === 0)];
 
 
 def shaded(_gateway: Gateway, browser: Browser, base: str, _folder: str) -> None:
-    """A small drawing of a large field is as dark as it has live cells, and a single cell is seen, in one pixel or across up to four."""
+    """A small drawing of a large field is as dark as it has live cells, and a single cell is seen, in one pixel or
+    across up to four."""
     browser.screen(1100, 900, "light")
     browser.open(f"{base}/find")
     half, few = browser.wait_for(SHADES, "half"), browser.wait_for(SHADES, "few")
@@ -265,14 +278,16 @@ def shaded(_gateway: Gateway, browser: Browser, base: str, _folder: str) -> None
 
 
 def phone(_gateway: Gateway, browser: Browser, base: str, _folder: str) -> None:
-    """On a phone the controls take few rows, the head of a census' table is not broken, and there is room beside the canvas to scroll by."""
+    """On a phone the controls take few rows, the head of a census' table is not broken, and there is room beside the
+    canvas to scroll by."""
     browser.screen(390, 844)
     browser.open(f"{base}/d/1")
     beside = browser.run("return innerWidth - document.querySelector('canvas.large').getBoundingClientRect().right")
     check(f"{beside} pixels beside the canvas", beside >= 32)
     browser.open(f"{base}/c/1")
     heads = browser.run(
-        "return [...document.querySelectorAll('.census thead th')].map((head) => head.getClientRects().length === 1 && head.getBoundingClientRect().height < 40)"
+        "return [...document.querySelectorAll('.census thead th')]"
+        ".map((head) => head.getClientRects().length === 1 && head.getBoundingClientRect().height < 40)"
     )
     same("the head of a census", heads, [True, True])
     browser.screen()
@@ -280,7 +295,8 @@ def phone(_gateway: Gateway, browser: Browser, base: str, _folder: str) -> None:
 
 # The files of the pages that a window has loaded, with their bytes, without the replies of an archive or an index.
 LOADED = """
-return [...performance.getEntriesByType('navigation'), ...performance.getEntriesByType('resource')].map((entry) => [new URL(entry.name).pathname, entry.decodedBodySize])
+return [...performance.getEntriesByType('navigation'), ...performance.getEntriesByType('resource')]
+  .map((entry) => [new URL(entry.name).pathname, entry.decodedBodySize])
   .filter(([path]) => path === '/d' || path.startsWith('/web/') || path === '/favicon.ico');
 """
 # The most bytes that the list of deposits may load before it asks the archive, uncompressed.
@@ -288,7 +304,8 @@ MOST_BYTES = 90_000
 
 
 def light(_gateway: Gateway, browser: Browser, base: str, _folder: str) -> None:
-    """The list of deposits loads what it shows, and no more: a player, a form or the names of objects come with their own pages."""
+    """The list of deposits loads what it shows, and no more: a player, a form or the names of objects come with their
+    own pages."""
     browser.open(f"{base}/d")
     browser.until(lambda: browser.all(".cards canvas"))
     loaded = dict(browser.run(LOADED))

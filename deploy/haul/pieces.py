@@ -16,13 +16,15 @@ ADD = os.path.join(TOP, "examples", "scripts", "add-hauls")
 # The most soups for one call of the program, and the most tables that fit on the command line of `add-hauls`.
 MOST_SOUPS = 1_000_000
 MOST_PIECES = 10_000
-# The command that counts a piece: FIRST is its first soup, COUNT the number of soups. A table gets its name once it is whole, and is then
-# never made again. The arguments of the haul are in the environment, so a shell never parses them.
-PIECE = """\
-trap 'rm -f FIRST.$$' EXIT
-trap 'exit 1' INT TERM
-[ -e FIRST.csv ] && exit
-"$HAUL_PROGRAM" --rule "$HAUL_RULE" --symmetry "$HAUL_SYMMETRY" -- "$HAUL_ROOT" FIRST COUNT "$HAUL_N" "$HAUL_LIMIT" > FIRST.$$ && mv FIRST.$$ FIRST.csv"""
+# The command that counts a piece: FIRST is its first soup, COUNT the number of soups. A table gets its name once it is
+# whole, and is then never made again. The arguments of the haul are in the environment, so a shell never parses them.
+PIECE = (
+    "trap 'rm -f FIRST.$$' EXIT\n"
+    "trap 'exit 1' INT TERM\n"
+    "[ -e FIRST.csv ] && exit\n"
+    '"$HAUL_PROGRAM" --rule "$HAUL_RULE" --symmetry "$HAUL_SYMMETRY" -- '
+    '"$HAUL_ROOT" FIRST COUNT "$HAUL_N" "$HAUL_LIMIT" > FIRST.$$ && mv FIRST.$$ FIRST.csv'
+)
 
 
 class Haul:
@@ -98,7 +100,8 @@ def pieces_of(haul: Haul) -> list[Piece]:
 
 
 def validate(haul: Haul, pieces: list[Piece]) -> None:
-    """Ends like the program if that refuses the first soup of the last piece. This also builds the program if necessary."""
+    """Ends like the program if that refuses the first soup of the last piece. This also builds the program if
+    necessary."""
     last = pieces[-1].first if pieces else haul.first
     numbers = map(str, (last, min(haul.count, 1), haul.n, haul.limit))
     done = subprocess.run(

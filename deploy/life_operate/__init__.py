@@ -1,1 +1,2 @@
-"""What an administrator of a club's archive runs: copies, restores, settings and the search index. The commands beside this folder call it."""
+"""What an administrator of a club's archive runs: copies, restores, settings and the search index. The commands beside
+this folder call it."""

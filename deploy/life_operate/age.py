@@ -2,10 +2,10 @@
 
     life-age [--state FOLDER] [--root FOLDER] ARCHIVE COPIES AGE
 
-The status is 1, with a line on standard error, as long as one of these holds: the folder COPIES has no copy younger than AGE (such as 2h);
-the archive's file is not the one that the service has open; the service, its gateway or nginx is enabled, but has not been active for
-ten minutes; the disk of the archive is nearly full. If there is no copy at all, the last change of COPIES counts. The folder --state
-records since when a unit has not been active. --root replaces /.
+The status is 1, with a line on standard error, as long as one of these holds: the folder COPIES has no copy younger
+than AGE (such as 2h); the archive's file is not the one that the service has open; the service, its gateway or nginx is
+enabled, but has not been active for ten minutes; the disk of the archive is nearly full. If there is no copy at all,
+the last change of COPIES counts. The folder --state records since when a unit has not been active. --root replaces /.
 """
 import argparse
 import datetime
@@ -40,7 +40,8 @@ LOOKS, PAUSE = 5, 1.0
 
 
 def newest(copies: Copies) -> tuple[float, str]:
-    """When the newest copy was made, as a time and as a text. A name with a time in the future comes from a clock that was wrong."""
+    """When the newest copy was made, as a time and as a text. A name with a time in the future comes from a clock that
+    was wrong."""
     now = datetime.datetime.now(UTC).strftime(STAMP)
     stamps = [stamp for stamp in copies.stamps if stamp <= now]
     if not stamps:
@@ -92,11 +93,15 @@ def served(root: str, archive: str) -> str:
                 raise
             fault = line_of(missing)
         time.sleep(PAUSE)
-    return f"{fault}: new deposits go into a file that no longer has a name. Don't stop the service: see 'A file that was exchanged' in OPERATING"
+    return (
+        f"{fault}: new deposits go into a file that no longer has a name. "
+        "Don't stop the service: see 'A file that was exchanged' in OPERATING"
+    )
 
 
 def away(root: str, state: str) -> Iterator[str]:
-    """The services that are enabled but have not been active for a while. A file for each records when that was first seen."""
+    """The services that are enabled but have not been active for a while. A file for each records when that was first
+    seen."""
     for unit in SERVICES:
         seen = os.path.join(state, unit)
         if is_active(root, unit) or not os.path.lexists(os.path.join(root, WANTED_BY, unit)):

@@ -3,10 +3,11 @@
     life-alarm UNIT [ADDRESS]
     life-alarm --ended UNIT [ADDRESS]
 
-The first form is for a unit that has failed: it writes a line into the journal, at priority crit, and sends mail if there is a sendmail
-that accepts it. A file in /run/life-alarm lists the reasons: if the unit fails again for one of them before it has worked, no mail is
-sent, and the line has priority err. The second form is for a unit that has done its work: if an alarm was sent, it says that it is over.
-The default of ADDRESS is in the settings. The environment may name another sendmail (SENDMAIL) and another folder (LIFE_ALARMS).
+The first form is for a unit that has failed: it writes a line into the journal, at priority crit, and sends mail if
+there is a sendmail that accepts it. A file in /run/life-alarm lists the reasons: if the unit fails again for one of
+them before it has worked, no mail is sent, and the line has priority err. The second form is for a unit that has done
+its work: if an alarm was sent, it says that it is over. The default of ADDRESS is in the settings. The environment may
+name another sendmail (SENDMAIL) and another folder (LIFE_ALARMS).
 """
 import argparse
 import os
@@ -67,7 +68,8 @@ def journal(priority: str, *lines: str) -> None:
 
 
 def journal_of(unit: str, line: str) -> None:
-    """Adds a line that `systemctl status` of the unit shows last. It shows lines about another unit only if root wrote them."""
+    """Adds a line that `systemctl status` of the unit shows last. It shows lines about another unit only if root wrote
+    them."""
     fields = f"SYSLOG_IDENTIFIER=life-alarm\nPRIORITY=3\nOBJECT_SYSTEMD_UNIT={unit}\nMESSAGE={line}\n"
     subprocess.run(["logger", "--journald"], input=fields, text=True, check=False)
 

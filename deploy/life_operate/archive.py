@@ -1,9 +1,9 @@
 """An archive's file and its log: copying, reading and comparing them, and opening them with the program.
 
-The server holds the file's lock, so sqlite3 can't read it. `copied` copies the bytes of the file and then those of its log. As long as
-the file and the head of its log do not change, the program only appends to the log, so the copy is what a crash at that moment would
-have left. SQLite then merges the log into the file. It must not change any other byte: `.backup`, VACUUM INTO or another journal mode
-would leave wrong checksums in the pages.
+The server holds the file's lock, so sqlite3 can't read it. `copied` copies the bytes of the file and then those of its
+log. As long as the file and the head of its log do not change, the program only appends to the log, so the copy is what
+a crash at that moment would have left. SQLite then merges the log into the file. It must not change any other byte:
+`.backup`, VACUUM INTO or another journal mode would leave wrong checksums in the pages.
 """
 import contextlib
 import datetime
@@ -195,7 +195,8 @@ def lacks(new: Contents, there: Contents) -> str:
     """Why a new archive can't replace another one, as a sentence; empty if it can."""
     found = lacking(new, there)
     return (
-        f"{there.name} was kept, with {there.text_with_first()}; {new.name} has {new.text_with_first()}: {', '.join(found)}"
+        f"{there.name} was kept, with {there.text_with_first()}; {new.name} has {new.text_with_first()}: "
+        f"{', '.join(found)}"
         if found
         else ""
     )
@@ -286,8 +287,8 @@ def opened_by_program(program: str, path: str) -> Iterator[Opened]:
 
 
 def asked_of_program(program: str, path: str, name: str, route: str, ends: bool = False) -> tuple[int, bytes]:
-    """What the program answers with a file open; with `ends` it also has to succeed after that. Anybody on the machine may use up its one
-    connection, so a question without an answer is asked once more."""
+    """What the program answers with a file open; with `ends` it also has to succeed after that. Anybody on the machine
+    may use up its one connection, so a question without an answer is asked once more."""
     for last in (False, True):
         with opened_by_program(program, path) as opened:
             try:
@@ -303,7 +304,8 @@ def asked_of_program(program: str, path: str, name: str, route: str, ends: bool 
 
 
 def checked_by_program(program: str, *words: str) -> tuple[int, str, str]:
-    """The status of `PROGRAM check` with these arguments, and the first lines of its output and of its errors. It changes no byte."""
+    """The status of `PROGRAM check` with these arguments, and the first lines of its output and of its errors. It
+    changes no byte."""
     with started([program, "check", *words]) as process:
         texts = process.communicate()
     said, errors = ((text.decode().splitlines() or [""])[0] for text in texts)
@@ -311,8 +313,9 @@ def checked_by_program(program: str, *words: str) -> tuple[int, str, str]:
 
 
 def try_by_program(program: str, path: str, contents: Contents) -> str:
-    """Has the program open a throw-away copy, reads its newest deposit, and has the program look at every row, without counting censuses;
-    returns what it says of the first wrong row, or ''. The opening comes first: it migrates an archive of an earlier schema version.
+    """Has the program open a throw-away copy, reads its newest deposit, and has the program look at every row, without
+    counting censuses; returns what it says of the first wrong row, or ''. The opening comes first: it migrates an
+    archive of an earlier schema version.
     """
     route, wanted = contents.newest()
     if asked_of_program(program, path, contents.name, route) != (200, wanted):

@@ -1,4 +1,5 @@
-"""nginx's cache, which still has what a number named before a restore. It belongs to nginx's user; no other user follows links in it."""
+"""nginx's cache, which still has what a number named before a restore. It belongs to nginx's user; no other user
+follows links in it."""
 import contextlib
 import errno
 import os

@@ -2,15 +2,16 @@
 
     life-configure [--files-only] [--replace] [--root FOLDER]
 
-Units that differ from those of the package are written into /etc/systemd/system. If the gateway is installed, nginx's site, HAProxy's
-configuration and a file for logrotate go to their places. A file that nginx, HAProxy or logrotate refuses is not kept. A file that was
-changed by hand stays, and the new one is put beside it as FILE.dpkg-dist; with --replace it is moved to FILE.dpkg-old instead.
+Units that differ from those of the package are written into /etc/systemd/system. If the gateway is installed, nginx's
+site, HAProxy's configuration and a file for logrotate go to their places. A file that nginx, HAProxy or logrotate
+refuses is not kept. A file that was changed by hand stays, and the new one is put beside it as FILE.dpkg-dist; with
+--replace it is moved to FILE.dpkg-old instead.
 
-Unless --files-only is given, everything that is newer than what runs is then loaded, and nginx is asked whether it has accepted the site:
-it refuses some changes only while it runs. FOLDER replaces /.
+Unless --files-only is given, everything that is newer than what runs is then loaded, and nginx is asked whether it has
+accepted the site: it refuses some changes only while it runs. FOLDER replaces /.
 
-A signal ends it after the current file, which is then wholly the old one or the new one; the next life-configure does the rest. After a
-kill it first puts back what nginx, HAProxy or logrotate had not yet accepted.
+A signal ends it after the current file, which is then wholly the old one or the new one; the next life-configure does
+the rest. After a kill it first puts back what nginx, HAProxy or logrotate had not yet accepted.
 """
 import argparse
 import contextlib
@@ -76,8 +77,8 @@ def write(path: str, text: str | None) -> bool:
 
 
 def bring_back(path: str) -> None:
-    """Puts back what was there before a file that its program has not taken: it was refused, or life-configure was killed. An empty text was no
-    file."""
+    """Puts back what was there before a file that its program has not taken: it was refused, or life-configure was
+    killed. An empty text was no file."""
     before = content(path + BEFORE)
     if before:
         os.replace(path + BEFORE, path)
@@ -96,13 +97,15 @@ def marked(text: str) -> str:
 
 
 def is_ours(text: str) -> bool:
-    """Whether life-configure wrote this text and nobody has changed it since. A text from release 1.0.0 can't be checked, and counts as such."""
+    """Whether life-configure wrote this text and nobody has changed it since. A text from release 1.0.0 can't be
+    checked, and counts as such."""
     mark = MARKED.match(text)
     return mark is not None and mark[1] in (None, digest_of(text[mark.end() :]))
 
 
 def stays(path: str, text: str | None, replace: bool) -> bool:
-    """Whether a file stays because somebody has changed it. If so, the text is put beside it; if it is replaced, it is moved away."""
+    """Whether a file stays because somebody has changed it. If so, the text is put beside it; if it is replaced, it is
+    moved away."""
     with contextlib.suppress(FileNotFoundError):
         # Left by a life-configure that was killed.
         os.remove(path + NEW)
@@ -131,7 +134,8 @@ def put_unit(root: str, name: str, text: str, replace: bool) -> bool:
 
 
 def put_checked(root: str, name: str, text: str, replace: bool) -> bool:
-    """Writes a file that its program, if installed, has to accept; otherwise the old file stays. Returns whether something changed."""
+    """Writes a file that its program, if installed, has to accept; otherwise the old file stays. Returns whether
+    something changed."""
     path = os.path.join(root, PLACES[name])
     if stays(path, marked(text), replace) or content(path) == marked(text):
         return False
@@ -163,8 +167,8 @@ def put_all(root: str, settings: dict[str, str], replace: bool, signals: Signals
 
 
 def judge(settings: dict[str, str], files_only: bool) -> None:
-    """Ends if passwords would travel unencrypted or could not be read. An upgrade, which only writes files, reports that and continues.
-    Times that don't fit together are only reported, since those of release 1.0.0 don't fit."""
+    """Ends if passwords would travel unencrypted or could not be read. An upgrade, which only writes files, reports
+    that and continues. Times that don't fit together are only reported, since those of release 1.0.0 don't fit."""
     judges: list[tuple[Callable[[dict[str, str]], None], bool]] = [
         (life_settings.judge_passwords, True),
         (life_settings.judge_reader, True),

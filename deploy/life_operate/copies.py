@@ -4,18 +4,20 @@
     life-copy [--settings FILE]
     life-copy [--settings FILE] --before VERSION
 
-The second form makes a copy for a club, as its settings (/etc/life/settings) say, with the time in its name: club-2026-11-26T0715.db in
-BACKUP_FOLDER, in UTC. It first checks the room on the disk, and has the program open the copy, read its newest deposit, and look at
-every row with `life check --quick`. Then it removes surplus copies and sends the newest one to SECOND_PLACE, one file for each day. The
-third form makes the copy before an upgrade from VERSION, before-VERSION.db in the same folder. No rule removes that one. If the archive
-is missing but should exist, it refuses.
+The second form makes a copy for a club, as its settings (/etc/life/settings) say, with the time in its name:
+club-2026-11-26T0715.db in BACKUP_FOLDER, in UTC. It first checks the room on the disk, and has the program open the
+copy, read its newest deposit, and look at every row with `life check --quick`. Then it removes surplus copies and sends
+the newest one to SECOND_PLACE, one file for each day. The third form makes the copy before an upgrade from VERSION,
+before-VERSION.db in the same folder. No rule removes that one. If the archive is missing but should exist, it refuses.
 
-A copy is made in a folder next to its place, and gets its name only when it is whole and on the disk. It must have everything that the
-copy of that name, or the club's newest copy, has: at least as many deposits and censuses, and the same ones. A copy is not replaced if a
-program has it open, or if a log beside it has a commit. If the copy fails, one line on standard error says why, and the status is 1.
+A copy is made in a folder next to its place, and gets its name only when it is whole and on the disk. It must have
+everything that the copy of that name, or the club's newest copy, has: at least as many deposits and censuses, and the
+same ones. A copy is not replaced if a program has it open, or if a log beside it has a commit. If the copy fails, one
+line on standard error says why, and the status is 1.
 
-Run by root, the second form first becomes the user of the archive, and the first form the user who owns the folder of COPY. If that is root,
-the user of ARCHIVE makes the copy in a folder next to it, and root takes its bytes: root opens nothing that another user may have planted.
+Run by root, the second form first becomes the user of the archive, and the first form the user who owns the folder of
+COPY. If that is root, the user of ARCHIVE makes the copy in a folder next to it, and root takes its bytes: root opens
+nothing that another user may have planted.
 """
 import argparse
 import contextlib
@@ -112,7 +114,8 @@ def quarter_of(stamp: str) -> str:
 
 
 def kept(stamps: list[str], counts: list[int]) -> set[str]:
-    """The times, newest first, whose copies are kept: the last one in each of the latest quarters of an hour, days and months."""
+    """The times, newest first, whose copies are kept: the last one in each of the latest quarters of an hour, days and
+    months."""
     stay: set[str] = set()
     periods: list[Callable[[str], str]] = [quarter_of, lambda stamp: stamp[:DAY], lambda stamp: stamp[:MONTH]]
     for period, count in zip(periods, counts):
@@ -124,8 +127,8 @@ def kept(stamps: list[str], counts: list[int]) -> set[str]:
 
 
 def remove_old(copies: Copies, new: str, counts: list[int]) -> None:
-    """Removes surplus copies, except the new one and those that somebody has written to. Copies with a time in the future neither count
-    nor are removed: the clock was wrong then, and they would push out all others."""
+    """Removes surplus copies, except the new one and those that somebody has written to. Copies with a time in the
+    future neither count nor are removed: the clock was wrong then, and they would push out all others."""
     past = copies.past()
     stay = kept(past, counts)
     for path in [copies.path(stamp) for stamp in past if stamp not in stay]:
@@ -144,7 +147,8 @@ def look_for_room(archive: str, folder: str) -> None:
 
 
 def judge_by(program: str, before: list[Contents]) -> Judge:
-    """The requirements of a club's new copy: it has no less than these, and the program opens it and finds every row sound."""
+    """The requirements of a club's new copy: it has no less than these, and the program opens it and finds every row
+    sound."""
 
     def judge(new: str, found: Contents) -> None:
         for there in before:
@@ -170,8 +174,8 @@ def send(copy: str, place: str) -> None:
 
 
 def run_politely(words: list[str]) -> tuple[int, str]:
-    """The status of a program and what it wrote to standard error. If a signal ends this command, the program gets SIGTERM and some time, so that
-    it removes what it has begun."""
+    """The status of a program and what it wrote to standard error. If a signal ends this command, the program gets
+    SIGTERM and some time, so that it removes what it has begun."""
     with started(words, ENDS_WITHIN) as process:
         errors = process.communicate()[1].decode(errors="replace")
     return process.returncode, errors
@@ -236,7 +240,8 @@ def club_copy(settings: dict[str, str], signals: Signals) -> str:
 
 
 def before_upgrade(settings: dict[str, str], version: str, signals: Signals) -> str:
-    """Makes the copy before another version opens the archive. No rule removes it, and it replaces none from an earlier upgrade."""
+    """Makes the copy before another version opens the archive. No rule removes it, and it replaces none from an earlier
+    upgrade."""
     archive, folder = os.path.realpath(settings["ARCHIVE"]), os.path.realpath(settings["BACKUP_FOLDER"])
     if not os.path.lexists(archive):
         if os.listdir(folder):
@@ -285,7 +290,8 @@ def owner_of_archive(path: str) -> pwd.struct_passwd:
 
 
 class OwnFolder:
-    """What root does in a folder of its own for a copy that another user makes there: it opens what is there, and gives the new file its name."""
+    """What root does in a folder of its own for a copy that another user makes there: it opens what is there, and gives
+    the new file its name."""
 
     def __init__(self, copy: str) -> None:
         self.copy, self.room = os.path.realpath(copy), ""

@@ -1,12 +1,12 @@
 """The one procedure that replaces a club's archive with another file.
 
-The new file is checked and on the disk before anything stops. Then the steps are: stop the service, move the archive and its log away, move
-away copies that have more, empty nginx's cache, rename the new file, start the service. The rename decides. Before it, an error or a signal
-undoes every step; after it, the rest is done. So at every moment the archive's name has the whole old file, the whole new one, or nothing,
-and the service refuses to start with nothing.
+The new file is checked and on the disk before anything stops. Then the steps are: stop the service, move the archive
+and its log away, move away copies that have more, empty nginx's cache, rename the new file, start the service. The
+rename decides. Before it, an error or a signal undoes every step; after it, the rest is done. So at every moment the
+archive's name has the whole old file, the whole new one, or nothing, and the service refuses to start with nothing.
 
-A journal beside the archive describes the exchange from its first step to its last. After a kill or a power cut, the next command compares
-it with the files that are there, and finishes or undoes the exchange.
+A journal beside the archive describes the exchange from its first step to its last. After a kill or a power cut, the
+next command compares it with the files that are there, and finishes or undoes the exchange.
 """
 import contextlib
 import dataclasses
@@ -135,7 +135,8 @@ class Plan:
         return os.path.join(self.folder, self.room, "new.db")
 
     def moves(self) -> list[tuple[str, str]]:
-        """What moves away, and where to. The archive moves before its log, so that it is never in its place without its log."""
+        """What moves away, and where to. The archive moves before its log, so that it is never in its place without its
+        log."""
         away = [
             (path, os.path.join(self.folder, self.aside, os.path.basename(path)))
             for path in (self.archive, self.archive + "-wal")
@@ -244,8 +245,8 @@ class Exchange:
         self.sync(self.plan.copies)
 
     def start_and_forget(self, starts: bool) -> None:
-        """The last step. If the service itself fails, its unit reports that. If the helper is gone, nothing was started, and the journal stays
-        so that the next command starts it."""
+        """The last step. If the service itself fails, its unit reports that. If the helper is gone, nothing was
+        started, and the journal stays so that the next command starts it."""
         try:
             if starts:
                 self.start()
@@ -261,8 +262,9 @@ class Exchange:
         sync(self.plan.folder)
 
     def run(self, signals: Signals, look_again: Callable[[], bool]) -> None:
-        """Does all steps up to the rename, or none; `finish` does the rest. The caller holds signals back: one that came before the rename
-        undoes everything, a later one does nothing. Once the service is stopped, `look_again` may refuse; it returns whether it made the new file again.
+        """Does all steps up to the rename, or none; `finish` does the rest. The caller holds signals back: one that
+        came before the rename undoes everything, a later one does nothing. Once the service is stopped, `look_again`
+        may refuse; it returns whether it made the new file again.
         """
         signals.check()
         self.plan.ran = self.plan.serves and self.helper.ask("systemctl", "is-active") == "yes"
@@ -312,7 +314,8 @@ class Exchange:
 
 
 def end_interrupted(archive: str, helper: Helper, signals: Signals) -> bool:
-    """Finishes or undoes what a killed command began, and returns whether there was anything. A signal waits until that is done."""
+    """Finishes or undoes what a killed command began, and returns whether there was anything. A signal waits until that
+    is done."""
     plan = read_journal(archive)
     if plan:
         with signals.held_back():

@@ -1,7 +1,8 @@
 """How commands that root types avoid doing anything as root in other users' folders.
 
-A command splits into a worker, which becomes the archive's user and does everything with files, and a helper, which keeps root's rights and
-does the few things that the worker asks for. A link that the archive's user has planted then leads nowhere that this user could not go.
+A command splits into a worker, which becomes the archive's user and does everything with files, and a helper, which
+keeps root's rights and does the few things that the worker asks for. A link that the archive's user has planted then
+leads nowhere that this user could not go.
 """
 import contextlib
 import json
@@ -44,8 +45,8 @@ def become(user: pwd.struct_passwd) -> None:
 
 
 def call_as(user: pwd.struct_passwd, function: Callable[..., object], *words: object) -> object:
-    """Calls a function in a separate process that has become a user, and returns its result, which must fit into JSON. It is short, so the
-    process ignores signals."""
+    """Calls a function in a separate process that has become a user, and returns its result, which must fit into JSON.
+    It is short, so the process ignores signals."""
     reading, writing = os.pipe()
     child = os.fork()
     if child == 0:
@@ -74,7 +75,8 @@ def call_as(user: pwd.struct_passwd, function: Callable[..., object], *words: ob
 
 
 def open_plain(path: str) -> int | None:
-    """Opens a file that may be handed to another user: no part of its path is a link, and it has one name. None if it is missing."""
+    """Opens a file that may be handed to another user: no part of its path is a link, and it has one name. None if it
+    is missing."""
     folder = os.open("/", os.O_PATH | os.O_DIRECTORY)
     *folders, name = os.path.normpath(path).strip("/").split("/")
     try:
@@ -172,8 +174,8 @@ def work(user: pwd.struct_passwd, line: socket.socket, helper: int, worker: Call
 
 
 def split(user: pwd.struct_passwd, worker: Callable[[Helper], None], actions: dict[str, Action]) -> int:
-    """Runs a worker as a user, performs these actions for it, and returns its status. Signals are passed on to the worker; an early one waits
-    until the worker is ready for it."""
+    """Runs a worker as a user, performs these actions for it, and returns its status. Signals are passed on to the
+    worker; an early one waits until the worker is ready for it."""
     ours, theirs = socket.socketpair(socket.AF_UNIX, socket.SOCK_SEQPACKET)
     helper = os.getpid()
     signal.pthread_sigmask(signal.SIG_BLOCK, ENDING)

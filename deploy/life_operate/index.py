@@ -2,23 +2,27 @@
 
     life-index [--archive FILE] COPY FOLDER
 
-COPY is a copy that life-copy made, or a folder of copies, from which it takes the newest; with --archive, the newest copy of FILE. It
-writes these files into FOLDER, which it creates if necessary:
+COPY is a copy that life-copy made, or a folder of copies, from which it takes the newest; with --archive, the newest
+copy of FILE. It writes these files into FOLDER, which it creates if necessary:
 
     index.json            how many deposits and censuses there are, and the names of all blocks
-    deposits-N-SUM.json   up to 1,000 deposits from N on: name, author, member, rule, population, width, height, the day first seen
-    censuses-N-SUM.json   censuses from N on: deposit, generation, limit, clusters, unresolved, steady, the day first seen
+    deposits-N-SUM.json   up to 1,000 deposits from N on: name, author, member, rule, population, width, height, the day
+                          first seen
+    censuses-N-SUM.json   censuses from N on: deposit, generation, limit, clusters, unresolved, steady, the day first
+                          seen
     objects-N-SUM.json    for each rule and each code, which of these censuses have it, and how often
     comments-N-SUM.json   the comments of up to 1,000 deposits from N on
     feed.xml              the newest deposits, as Atom
-    names-K.txt           the names of deposits 1,000 K to 1,000 K + 999: the gateway writes them into the titles of pages
+    names-K.txt           the names of deposits 1,000 K to 1,000 K + 999: the gateway writes them into the titles of
+                          pages
 
-SUM is the beginning of the file's SHA-256 digest, so a file with a given name never changes. A block of 1,000 is full: as long as the
-archive only grows, it is not made again. An archive has no dates: the day is when this program first saw the row, in UTC, or that of
-SOURCE_DATE_EPOCH. Nothing about the index is proved; what it links to comes from the archive itself.
+SUM is the beginning of the file's SHA-256 digest, so a file with a given name never changes. A block of 1,000 is full:
+as long as the archive only grows, it is not made again. An archive has no dates: the day is when this program first saw
+the row, in UTC, or that of SOURCE_DATE_EPOCH. Nothing about the index is proved; what it links to comes from the
+archive itself.
 
-If the copy is damaged or not an archive, all files stay as they are. If the index can't be built, one line on standard error says why,
-and the status is 1.
+If the copy is damaged or not an archive, all files stay as they are. If the index can't be built, one line on standard
+error says why, and the status is 1.
 """
 import argparse
 import datetime
@@ -106,7 +110,8 @@ class Archive:
         return int(count)
 
     def mark(self, counts: dict[str, int]) -> str:
-        """A digest of the first and the last row of each table, up to these numbers of rows. It tells whether an archive is the same, only longer."""
+        """A digest of the first and the last row of each table, up to these numbers of rows. It tells whether an
+        archive is the same, only longer."""
         numbers = [{1, counts[table]} for table in TABLES]
         rows = [
             self.rows(
@@ -114,7 +119,8 @@ class Archive:
                 *numbers[0],
             ),
             self.rows(
-                f"SELECT id, deposit, gens, lim, clusters FROM censuses WHERE id IN ({', '.join('?' * len(numbers[1]))})",
+                "SELECT id, deposit, gens, lim, clusters FROM censuses"
+                f" WHERE id IN ({', '.join('?' * len(numbers[1]))})",
                 *numbers[1],
             ),
         ]
@@ -163,7 +169,9 @@ class Archive:
 
     def censuses(self, first: int) -> dict[str, Any]:
         rows = self.rows(
-            "SELECT deposit, gens, lim, clusters, unresolved, steady FROM censuses LEFT JOIN census_flags ON census = id WHERE id >= ? ORDER BY id LIMIT ?",
+            "SELECT deposit, gens, lim, clusters, unresolved, steady"
+            " FROM censuses LEFT JOIN census_flags ON census = id"
+            " WHERE id >= ? ORDER BY id LIMIT ?",
             first,
             BLOCK,
         )
@@ -175,7 +183,8 @@ class Archive:
     def objects(self, first: int) -> dict[str, Any]:
         """For each rule and code, pairs of the place of a census in the block and the count there, as a flat list."""
         rows = self.rows(
-            "SELECT rule, code, census, n FROM census_rows JOIN censuses ON censuses.id = census JOIN deposits ON deposits.id = deposit"
+            "SELECT rule, code, census, n"
+            " FROM census_rows JOIN censuses ON censuses.id = census JOIN deposits ON deposits.id = deposit"
             " WHERE census >= ? AND census < ? ORDER BY rule, code, census",
             first,
             first + BLOCK,
@@ -293,7 +302,8 @@ def common(kind: str, old: dict[str, Any], new: dict[str, Any]) -> int:
 
 
 def days_of(kind: str, old: dict[str, Any] | None, new: dict[str, Any]) -> list[list[Any]]:
-    """When the rows of a block were first seen: `[number, day]` for the first row of each day. Old rows keep their day."""
+    """When the rows of a block were first seen: `[number, day]` for the first row of each day. Old rows keep their
+    day."""
     known = new["first"] + (common(kind, old, new) if old else 0)
     end = new["first"] + len(new[COMPARED[kind][0]])
     days = [run for run in old["seen"] if run[0] < known] if old else []
@@ -318,9 +328,9 @@ def times_in(feed: str) -> dict[str, str]:
 
 
 def feed_of(archive: Archive, folder: Folder, names: list[str]) -> bytes:
-    """The newest deposits as an Atom feed (RFC 4287), with relative links to the web pages, which the gateway makes absolute.
-    An entry keeps the time that it has in the feed before. A new one is as old as this run, unless the index has an earlier
-    day for it."""
+    """The newest deposits as an Atom feed (RFC 4287), with relative links to the web pages, which the gateway makes
+    absolute. An entry keeps the time that it has in the feed before. A new one is as old as this run, unless the index
+    has an earlier day for it."""
     entries = []
     for name in names[-2:]:
         if content := folder.content(name):
@@ -388,8 +398,8 @@ def printable(text: str) -> str:
 
 
 def write_names(folder: Folder, blocks: list[str]) -> None:
-    """Writes a line `NUMBER NAME` for each deposit with a name. Of blocks that the index had before, the files are there already. Files beyond
-    the last deposit are removed."""
+    """Writes a line `NUMBER NAME` for each deposit with a name. Of blocks that the index had before, the files are
+    there already. Files beyond the last deposit are removed."""
     before, known = set(folder.head["blocks"]["deposits"]), set()
     # The first number of a file is the last of a block.
     for place in range(len(blocks) + 1):

@@ -1,4 +1,5 @@
-"""Before a copy takes the place of a club's archive: what the archive, its log and its copies have, and what would be lost."""
+"""Before a copy takes the place of a club's archive: what the archive, its log and its copies have, and what would be
+lost."""
 import argparse
 import contextlib
 import dataclasses
@@ -40,7 +41,8 @@ class CurrentArchive:
                 self.words = self.contents.text()
             except PermissionError as fault:
                 raise Refused(
-                    f"{archive} can't be read by the user of the archive: change its owner, or move it away together with its log"
+                    f"{archive} can't be read by the user of the archive: change its owner, "
+                    "or move it away together with its log"
                 ) from fault
             except Refused as fault:
                 self.words = f"it can't be read: {fault}"
@@ -85,8 +87,9 @@ class Findings:
 
 
 def join(copy: str, archive: str, new: str, name: str) -> Contents:
-    """Merges a copy with the log that is beside the archive's place. A log holds whole pages, so it fits every copy that was made after the
-    log began. An older copy lacks pages; since an archive only grows, the check then finds gaps in it."""
+    """Merges a copy with the log that is beside the archive's place. A log holds whole pages, so it fits every copy
+    that was made after the log began. An older copy lacks pages; since an archive only grows, the check then finds gaps
+    in it."""
     remove_files(new)
     shutil.copyfile(copy, new)
     shutil.copyfile(archive + "-wal", new + "-wal")
@@ -98,8 +101,8 @@ def join(copy: str, archive: str, new: str, name: str) -> Contents:
 
 
 def known_copies(archive: str, folder: str, new: Contents) -> dict[str, Contents]:
-    """The readable copies of a club, from the newest to the first that has nothing more than the new archive: older copies have even less.
-    That rule fails for copies with a time in the future, so all of those are read."""
+    """The readable copies of a club, from the newest to the first that has nothing more than the new archive: older
+    copies have even less. That rule fails for copies with a time in the future, so all of those are read."""
     found: dict[str, Contents] = {}
     if not os.path.isdir(folder):
         return found
@@ -132,7 +135,8 @@ def gather(archive: str, folder: str, room: str, program: str, new: Contents) ->
 
 
 def try_copy(program: str, path: str, found: Contents) -> str:
-    """Has the program try a copy of a file, since it may write to what it opens; returns what it says of the first wrong row, or ''."""
+    """Has the program try a copy of a file, since it may write to what it opens; returns what it says of the first
+    wrong row, or ''."""
     trial = path + ".trial"
     try:
         shutil.copyfile(path, trial)
@@ -170,7 +174,8 @@ def decide(new: Contents, found: Findings, words: argparse.Namespace) -> None:
     more = f" and of {count} {'copy' if count == 1 else 'copies'}" if count else ""
     if others:
         text = (
-            f"{words.copy} with {new.text_with_first()} is a different archive from {there.name} with {there.text_with_first()}: "
+            f"{words.copy} with {new.text_with_first()} is a different archive from "
+            f"{there.name} with {there.text_with_first()}: "
             f"{', '.join(differences(new, there))}"
         )
         advice = f"if it is the right one: {again}"
@@ -190,7 +195,8 @@ def decide(new: Contents, found: Findings, words: argparse.Namespace) -> None:
 
 
 def decide_on_row(wrong: str, words: argparse.Namespace) -> None:
-    """Refuses a copy with a wrong row, unless the command line asked for that: the other rows may be all that is left of them."""
+    """Refuses a copy with a wrong row, unless the command line asked for that: the other rows may be all that is left
+    of them."""
     if not wrong:
         return
     text = f"{words.copy} is not sound: {wrong}"

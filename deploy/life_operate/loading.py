@@ -39,7 +39,8 @@ def shown(unit: str, name: str) -> str:
 
 
 def load_units(changed: list[str]) -> None:
-    """Units that were changed now, or at some earlier time that systemd has not seen. A service that is stopped stays so."""
+    """Units that were changed now, or at some earlier time that systemd has not seen. A service that is stopped stays
+    so."""
     names = [name for name in UNITS if name in changed or shown(name, "NeedDaemonReload") == "yes"]
     if names or any(name.endswith((".service", ".timer")) for name in changed):
         systemctl("daemon-reload")
@@ -104,7 +105,8 @@ def digest_in(path: str) -> str:
 
 
 def load_nginx(changed: list[str], settings: dict[str, str], site: str) -> None:
-    """Loads the site, if nginx has read another one. Some changes nginx refuses only while it runs, such as another cache folder; its log says so."""
+    """Loads the site, if nginx has read another one. Some changes nginx refuses only while it runs, such as another
+    cache folder; its log says so."""
     if not os.path.exists(ENABLED_SITE) or shown("nginx.service", "ActiveState") != "active":
         return
     wanted = digest_in(site)

@@ -1,11 +1,12 @@
-"""Creates a club's archive, once. Run it as root or as the user of the archive; everything with files is done as that user.
+"""Creates a club's archive, once. Run it as root or as the user of the archive; everything with files is done as that
+user.
 
     life-new-archive [--settings FILE] [--although-there-are-copies] [--if-missing]
 
-If the file exists, it stays, and the command refuses; with --if-missing it says nothing. The service itself never creates an archive: if
-the file is missing, a disk is not mounted or a path is wrong. If there are copies, or something that a restore moved away, there was an
-archive before, and its numbers would be given again. That needs --although-there-are-copies, which moves the copies away into a folder
-before-new-archive-.. next to them.
+If the file exists, it stays, and the command refuses; with --if-missing it says nothing. The service itself never
+creates an archive: if the file is missing, a disk is not mounted or a path is wrong. If there are copies, or something
+that a restore moved away, there was an archive before, and its numbers would be given again. That needs
+--although-there-are-copies, which moves the copies away into a folder before-new-archive-.. next to them.
 """
 import argparse
 import os
@@ -27,7 +28,8 @@ def copies_in(archive: str, folder: str) -> list[str]:
 
 
 def traces(archive: str, copies: str) -> list[str]:
-    """The evidence that there was an archive: copies of it, and what other commands have moved away or copied before a change."""
+    """The evidence that there was an archive: copies of it, and what other commands have moved away or copied before a
+    change."""
     folders = [folder for folder in sorted({os.path.dirname(archive), copies}) if os.path.isdir(folder)]
     kept = [
         os.path.join(folder, name)
@@ -47,7 +49,8 @@ def look(archive: str, copies: str, words: argparse.Namespace) -> None:
     if there and not words.although_there_are_copies:
         more = f" and {len(there) - 1} more" if len(there) > 1 else ""
         raise Refused(
-            f"{there[0]}{more}: there was an archive, and a new one would give its numbers again; life-restore puts a copy back; "
+            f"{there[0]}{more}: there was an archive, and a new one would give its numbers again; "
+            "life-restore puts a copy back; "
             f"to create a new archive anyway: {NAME} --although-there-are-copies"
         )
 

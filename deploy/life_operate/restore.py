@@ -3,15 +3,17 @@
     life-restore [--settings FILE] [--older | --other] [--with-log] [--unsound] COPY
     life-restore [--settings FILE]
 
-COPY is a file that life-copy made, or the file of a pair (with its log) in a folder whose name begins with before-. While the service runs,
-COPY is checked, opened by the program, and compared with the archive and its copies. If something would be lost, the command says what and
-refuses. --older accepts a copy of this archive that has less, --other accepts another archive. If the archive is gone or damaged but its log
-is there, the newest copy may fit that log; --with-log takes COPY together with the log. --unsound accepts a copy with a row that no archive
-writes: such a row stays as it is, and is answered `unavailable`.
+COPY is a file that life-copy made, or the file of a pair (with its log) in a folder whose name begins with before-.
+While the service runs, COPY is checked, opened by the program, and compared with the archive and its copies. If
+something would be lost, the command says what and refuses. --older accepts a copy of this archive that has less,
+--other accepts another archive. If the archive is gone or damaged but its log is there, the newest copy may fit that
+log; --with-log takes COPY together with the log. --unsound accepts a copy with a row that no archive writes: such a row
+stays as it is, and is answered `unavailable`.
 
-Then the service stops, the archive and its log move away together, nginx's cache is emptied, the copy gets the archive's name, and the
-service starts and is asked for the newest deposit. Copies that have more than the archive has now move away too. An error or a signal before
-the copy has its name undoes everything. After a kill or a power cut, the next command finishes or undoes it; without COPY it does only that.
+Then the service stops, the archive and its log move away together, nginx's cache is emptied, the copy gets the
+archive's name, and the service starts and is asked for the newest deposit. Copies that have more than the archive has
+now move away too. An error or a signal before the copy has its name undoes everything. After a kill or a power cut, the
+next command finishes or undoes it; without COPY it does only that.
 
 The status is 0 if the copy is served, 1 if not, 2 for a usage error, and 128 + N after signal N.
 """
@@ -83,13 +85,15 @@ class Source:
         return sum(os.fstat(file.fileno()).st_size for file in (self.file, self.log) if file)
 
     def look(self, archive: str) -> None:
-        """Refuses what can't be restored. Only in a folder before-.. a log belongs to its file: elsewhere somebody has written to a copy."""
+        """Refuses what can't be restored. Only in a folder before-.. a log belongs to its file: elsewhere somebody has
+        written to a copy."""
         if self.is_file(archive):
             raise Refused(f"{self.path} is the archive itself")
         written = self.log and os.fstat(self.log.fileno()).st_size >= LEAST_COMMIT
         if written and not os.path.basename(os.path.dirname(os.path.realpath(self.path))).startswith("before-"):
             raise Refused(
-                f"{self.path}-wal has what was written to the copy since, and life-copy makes no such file; a copy with a log must be in a folder before-.."
+                f"{self.path}-wal has what was written to the copy since, and life-copy makes no such file; "
+                "a copy with a log must be in a folder before-.."
             )
 
     def put(self, new: str) -> None:
@@ -178,7 +182,8 @@ class Restore:
             raise Refused(f"{self.folder} has room for {free:,} bytes, but a restore needs {wanted:,}")
 
     def look_again(self) -> bool:
-        """Checks what came while the service still ran: merges a log that grew again, or decides again about what would be lost."""
+        """Checks what came while the service still ran: merges a log that grew again, or decides again about what would
+        be lost."""
         room = os.path.dirname(self.new)
         if self.words.with_log:
             if self.log == begin_of(self.archive + "-wal"):
@@ -235,7 +240,8 @@ class Restore:
             say(f"to go back: {shlex.join([RESTORE, os.path.join(aside, os.path.basename(self.archive))])}")
         if self.plan.newer:
             say(
-                f"copies with more than the archive has now are in {os.path.join(self.copies, self.aside)}: {', '.join(self.plan.newer)}"
+                f"copies with more than the archive has now are in {os.path.join(self.copies, self.aside)}: "
+                f"{', '.join(self.plan.newer)}"
             )
 
 

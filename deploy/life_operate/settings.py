@@ -111,7 +111,8 @@ def lines_of(path: str) -> list[tuple[str, str]]:
 
 
 def taken(lines: Iterable[tuple[str, str]], known: Container[str]) -> dict[str, str]:
-    """The settings in these lines. Each line comes with a text to put before its error. `known` has the names of all settings."""
+    """The settings in these lines. Each line comes with a text to put before its error. `known` has the names of all
+    settings."""
     settings = {}
     for place, line in lines:
         found = LINE.fullmatch(line)
@@ -149,13 +150,14 @@ def judge_passwords(settings: dict[str, str]) -> None:
     """Refuses a gateway that sends passwords unencrypted. Copies and restores don't check this."""
     if settings["MEMBERS_FILE"] and settings["TLS"] == "no" and not is_here_alone(settings):
         raise Wrong(
-            "MEMBERS_FILE needs TLS=yes, or LISTEN and LISTEN_ALSO on 127.0.0.1 and [::1] alone: otherwise passwords travel unencrypted"
+            "MEMBERS_FILE needs TLS=yes, or LISTEN and LISTEN_ALSO on 127.0.0.1 and [::1] alone: "
+            "otherwise passwords travel unencrypted"
         )
 
 
 def judge_times(settings: dict[str, str]) -> None:
-    """Refuses times with which a waiting request would expire before the one ahead of it, or the program would be stopped while somebody
-    still waits for its answer."""
+    """Refuses times with which a waiting request would expire before the one ahead of it, or the program would be
+    stopped while somebody still waits for its answer."""
     queue, answer = seconds(settings["QUEUE_TIME"]), seconds(settings["ANSWER_TIME"])
     if seconds(settings["WEB_TIME"]) <= queue + answer:
         raise Wrong("WEB_TIME has to be longer than QUEUE_TIME and ANSWER_TIME together")
@@ -170,7 +172,8 @@ def is_here_alone(settings: dict[str, str]) -> bool:
 
 
 def judge_reader(settings: dict[str, str], user: str = "www-data") -> None:
-    """Refuses a members file that nginx, running as this user, can't read. Only root can check that, and only if the user exists."""
+    """Refuses a members file that nginx, running as this user, can't read. Only root can check that, and only if the
+    user exists."""
     path = settings["MEMBERS_FILE"]
     if not path or os.geteuid() != 0 or subprocess.run(["id", user], capture_output=True, check=False).returncode:
         return
@@ -193,7 +196,8 @@ def judge(settings: dict[str, str]) -> None:
 
 
 def settings_of(path: str | None, words: Iterable[str] = ()) -> dict[str, str]:
-    """All settings, checked. Arguments override those of a file, which may be None, and these override the file beside the package."""
+    """All settings, checked. Arguments override those of a file, which may be None, and these override the file beside
+    the package."""
     settings = taken(lines_of(OWN), FORMS)
     if path:
         settings.update(taken(lines_of(path), settings))
@@ -203,8 +207,8 @@ def settings_of(path: str | None, words: Iterable[str] = ()) -> dict[str, str]:
 
 
 def needed_of(path: str, names: Iterable[str]) -> tuple[dict[str, str], list[str]]:
-    """Only these settings, for commands that have to work in an emergency, and the errors in the lines that were ignored. Each needed
-    setting is checked; a file that can't be read has no settings."""
+    """Only these settings, for commands that have to work in an emergency, and the errors in the lines that were
+    ignored. Each needed setting is checked; a file that can't be read has no settings."""
     settings, faults = taken(lines_of(OWN), FORMS), []
     for place, line in lines_of(path):
         try:

@@ -13,7 +13,8 @@ PR_SET_PDEATHSIG = 1
 
 
 def die_with_parent() -> None:
-    """Has the system kill this process when its parent ends, however that ends, so that half a command does not keep working."""
+    """Has the system kill this process when its parent ends, however that ends, so that half a command does not keep
+    working."""
     ctypes.CDLL(None).prctl(PR_SET_PDEATHSIG, signal.SIGKILL, 0, 0, 0)
 
 
@@ -37,9 +38,9 @@ def blocked() -> Iterator[None]:
 
 @contextlib.contextmanager
 def started(words: list[str], ends_within: float = 0) -> Iterator[subprocess.Popen[bytes]]:
-    """Runs a program for the time of a block. It has no input; its output and its errors are pipes. If it still runs at the end of the block, it
-    gets SIGTERM, and is killed `ends_within` seconds later. A signal waits until the program has started: otherwise nobody would know that it
-    runs.
+    """Runs a program for the time of a block. It has no input; its output and its errors are pipes. If it still runs at
+    the end of the block, it gets SIGTERM, and is killed `ends_within` seconds later. A signal waits until the program
+    has started: otherwise nobody would know that it runs.
     """
     process = None
     try:
@@ -81,13 +82,15 @@ class Interrupted(BaseException):
 
 
 def end_by(number: int) -> None:
-    """Ends this process with a signal, as if it had not been caught, so that its parent, such as systemd, knows why it ended."""
+    """Ends this process with a signal, as if it had not been caught, so that its parent, such as systemd, knows why it
+    ended."""
     signal.signal(number, signal.SIG_DFL)
     os.kill(os.getpid(), number)
 
 
 class Signals:
-    """The first signal raises Interrupted, either at once or, while signals are held back, at the next check. Later signals don't stop the cleanup."""
+    """The first signal raises Interrupted, either at once or, while signals are held back, at the next check. Later
+    signals don't stop the cleanup."""
 
     def __init__(self) -> None:
         self.number: int | None = None

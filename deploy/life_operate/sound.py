@@ -1,9 +1,10 @@
-"""Has the program read every row of the newest copy of a club's archive. Run once a day by life-sound.timer, as the user of the archive.
+"""Has the program read every row of the newest copy of a club's archive. Run once a day by life-sound.timer, as the
+user of the archive.
 
     life-sound PROGRAM ARCHIVE COPIES
 
-It runs `PROGRAM check` on the newest copy of ARCHIVE in the folder COPIES, and prints what the program says. If the copy is not sound or
-can't be checked, a line on standard error says why, and the status is 1.
+It runs `PROGRAM check` on the newest copy of ARCHIVE in the folder COPIES, and prints what the program says. If the
+copy is not sound or can't be checked, a line on standard error says why, and the status is 1.
 """
 import argparse
 import os

@@ -1,7 +1,8 @@
 """Fills settings into templates.
 
-In a template @NAME@ becomes the setting. A line that begins with @NAME?@ is kept if the setting is neither empty nor `no`, a line with
-@NAME!@ if it is. A line may begin with several of these. @DIGEST@ becomes the digest of the whole text.
+In a template @NAME@ becomes the setting. A line that begins with @NAME?@ is kept if the setting is neither empty nor
+`no`, a line with @NAME!@ if it is. A line may begin with several of these. @DIGEST@ becomes the digest of the whole
+text.
 """
 import hashlib
 import os
@@ -14,8 +15,8 @@ GATEWAY = os.path.join(TEMPLATES, "gateway")
 
 
 def with_derived(settings: dict[str, str]) -> dict[str, str]:
-    """The settings, and what is derived from them: a second place on this machine, no HSTS without TLS, nginx's line for each proxy in
-    front of it, and the logs that Debian's logrotate file for nginx does not cover."""
+    """The settings, and what is derived from them: a second place on this machine, no HSTS without TLS, nginx's line
+    for each proxy in front of it, and the logs that Debian's logrotate file for nginx does not cover."""
     place, logs = settings["SECOND_PLACE"], {settings["WEB_LOG"], settings["WEB_ERRORS"]}
     return settings | {
         "SECOND_FOLDER": place if place.startswith("/") else "",

@@ -72,7 +72,8 @@ def forms(value: int) -> List[str]:
 
 
 def has_number(page: str, value: int) -> bool:
-    """Whether a page has a number, or the one before or after it: some sentences name the first number that is refused."""
+    """Whether a page has a number, or the one before or after it: some sentences name the first number that is
+    refused."""
     known = "|".join(re.escape(form) for near in (value - 1, value, value + 1) for form in forms(near))
     return re.search(rf"(?<![\w.,])(?:{known})(?![\w]|,\d)", page) is not None
 

@@ -1,4 +1,5 @@
-"""The replies of the archive: the proofs that have the same line for each are written from the definition of their bytes."""
+"""The replies of the archive: the proofs that have the same line for each are written from the definition of their
+bytes."""
 from __future__ import annotations
 
 import re

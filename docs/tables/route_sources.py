@@ -1,8 +1,8 @@
-"""The parts of life_pages that docs/routes.csv writes: the templates of the routes, how the texts of their parameters are
-read, which method a route wants, and which request it is.
+"""The parts of life_pages that docs/routes.csv writes: the templates of the routes, how the texts of their parameters
+are read, which method a route wants, and which request it is.
 
-The proofs that go from one template to the next are written, too, and those of life_desk that have the same line for each
-request that only reads. No part has comments that mark it.
+The proofs that go from one template to the next are written, too, and those of life_desk that have the same line for
+each request that only reads. No part has comments that mark it.
 """
 from __future__ import annotations
 

@@ -11,9 +11,9 @@ from .limits import Limits
 from .texts import Fault, Read, markdown, rows_of
 
 ROUTES, ADDRESSES = "docs/routes.csv", "docs/addresses.csv"
-# `route` is the name of a route in the sources, and `asks` the request with its arguments: parameters of the path, or what
-# else the message has. `cache` says how long the gateway caches a reply: a `fixed` one never changes, a `moving` one may
-# grow. `cost` says how long a reply may take: a `dear` one up to a minute, a `cheap` one milliseconds.
+# `route` is the name of a route in the sources, and `asks` the request with its arguments: parameters of the path, or
+# what else the message has. `cache` says how long the gateway caches a reply: a `fixed` one never changes, a `moving`
+# one may grow. `cost` says how long a reply may take: a `dear` one up to a minute, a `cheap` one milliseconds.
 ROUTE_COLUMNS = ["method", "path", "route", "asks", "request", "reply", "cache", "cost"]
 # An address may lack what is in brackets. `title` is what a preview of a link says: with brackets for both forms of the
 # address, without them for the short one.
@@ -22,8 +22,8 @@ ADDRESS_COLUMNS = ["name", "path", "title"]
 EXAMPLES = {"id": "7", "n": "8", "limit": "9", "rule": "B3S23", "code": "xq4_153"}
 SITE, PROXY = "deploy/templates/gateway/life-site.conf", "deploy/templates/gateway/haproxy.cfg"
 NUMBER, PART, DIGITS = "[0-9]{1,15}", "[^/]+", "[0-9]+"
-# What a parameter of a route may be in the gateway. A reply that never changes is cached only under the number of a deposit
-# or a census without leading zeros.
+# What a parameter of a route may be in the gateway. A reply that never changes is cached only under the number of a
+# deposit or a census without leading zeros.
 IN_ROUTES = {"id": DIGITS, "n": DIGITS, "limit": DIGITS, "rule": PART, "code": "[0-9a-z_]+"}
 IN_FIXED = {**IN_ROUTES, "id": "[1-9][0-9]*"}
 # The classes of routes that only read: each has a location of the site.

@@ -79,7 +79,8 @@ def signature(lines: Sequence[str], at: int) -> List[str]:
 
 
 def owner(line: str) -> Tuple[Optional[str], bool]:
-    """The type that a block belongs to, and whether the block is for a trait, whose functions are as public as the trait."""
+    """The type that a block belongs to, and whether the block is for a trait, whose functions are as public as the
+    trait."""
     trait = re.match(r"(?:pub )?trait (\w+)", line)
     if trait:
         return trait[1], True

@@ -8,7 +8,8 @@ from typing import Callable, Dict, List, Sequence
 
 TOP = os.path.normpath(os.path.join(os.path.dirname(os.path.abspath(__file__)), "..", ".."))
 
-# Gives the text of a file by its path from the top of the repository. The check of tests/test_documents.py gives changed texts.
+# Gives the text of a file by its path from the top of the repository. The check of tests/test_documents.py gives
+# changed texts.
 Read = Callable[[str], str]
 
 
@@ -67,7 +68,8 @@ def with_marked(text: str, name: str, lines: List[str]) -> str:
 
 
 def with_cases(text: str, begin: str, end: str, cases: List[List[str]]) -> str:
-    """The text with a line for each case between `begin` and `end`. Each list of cases replaces one run of such lines."""
+    """The text with a line for each case between `begin` and `end`. Each list of cases replaces one run of such
+    lines."""
     found = list(re.finditer(rf"(?m)(?:^{re.escape(begin)}.*{re.escape(end)}\n)+", text))
     if len(found) != len(cases):
         raise Fault(f"has {len(found)} runs of lines '{begin}..{end}' in place of {len(cases)}")

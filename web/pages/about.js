@@ -1,6 +1,6 @@
 // The page about the archive: what it is, how to use it, and the terms of the pages.
 
-import { counted, make } from '../shared/dom.js';
+import { make, withCommas } from '../shared/dom.js';
 import { GENERATION_LIMIT, LONGEST_SIDE } from '../shared/limits.js';
 
 const link = (href, text) => make('a', { href }, text);
@@ -27,8 +27,8 @@ const sections = () => [
         + 'so give a pattern its name first. If you deposit the same file twice, it keeps its first number.',
     ],
     [
-      `The archive accepts rules such as B3/S23, up to ${counted(LONGEST_SIDE)} by ${counted(LONGEST_SIDE)} cells `
-        + 'and 1 MiB. It does not accept Generations, isotropic (Hensel) and LifeHistory rules, rules with B0, '
+      `The archive accepts rules such as B3/S23, up to ${withCommas(LONGEST_SIDE)} by ${withCommas(LONGEST_SIDE)} `
+        + 'cells and 1 MiB. It does not accept Generations, isotropic (Hensel) and LifeHistory rules, rules with B0, '
         + 'or bounded grids.',
     ],
   ]],
@@ -36,7 +36,7 @@ const sections = () => [
     [
       'Space plays and pauses; the arrow keys step. ',
       make('kbd', {}, 'Run to'),
-      ` plays to a generation, forward or back. The last generation is ${counted(GENERATION_LIMIT)}; `
+      ` plays to a generation, forward or back. The last generation is ${withCommas(GENERATION_LIMIT)}; `
         + 'from there you can deposit what you see and play on.',
     ],
     [

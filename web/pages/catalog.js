@@ -2,7 +2,7 @@
 
 import { depositAddress, go, objectAddress } from '../shared/address.js';
 import { limitOf, objectNames, patternOf } from '../patterns/code.js';
-import { counted, field, make, many } from '../shared/dom.js';
+import { field, make, plural, withCommas } from '../shared/dom.js';
 import { thumbnail } from '../drawing/draw.js';
 import { indexHead, indexNote, objectsOfRule, rulesWithObjects } from '../requests/index.js';
 import { groupsOf } from '../patterns/parts.js';
@@ -121,13 +121,14 @@ function fitting(rows, asked) {
 
 /** How often an object occurs, and how many of these are in groups. */
 function countCell(row, isSplit) {
-  const more = isSplit ? `${counted(row.count)} alone` : `+ ${counted(row.grouped)} in groups`;
-  return make('td', { class: 'number' }, counted(countOf(row, isSplit)), row.grouped ? make('small', {}, more) : null);
+  const more = isSplit ? `${withCommas(row.count)} alone` : `+ ${withCommas(row.grouped)} in groups`;
+  const number = withCommas(countOf(row, isSplit));
+  return make('td', { class: 'number' }, number, row.grouped ? make('small', {}, more) : null);
 }
 
 /** @param {Row} row @param {string} rule @param {boolean} isSplit */
 function lineOf(row, rule, isSplit) {
-  const more = `${row.kind}${row.period > 1 ? `, period ${counted(row.period)}` : ''}, ${many(row.cells, 'cell')}`;
+  const more = `${row.kind}${row.period > 1 ? `, period ${withCommas(row.period)}` : ''}, ${plural(row.cells, 'cell')}`;
   return make('tr', {},
     make('td', { class: 'drawn' }, row.pattern ? thumbnail(row.pattern, SIDE, SIDE) : null),
     make('th', { scope: 'row' },
@@ -136,12 +137,12 @@ function lineOf(row, rule, isSplit) {
       make('small', { class: 'narrow' }, more),
     ),
     make('td', { class: 'more' }, row.kind),
-    make('td', { class: 'more number' }, counted(row.period)),
-    make('td', { class: 'more number' }, counted(row.cells)),
+    make('td', { class: 'more number' }, withCommas(row.period)),
+    make('td', { class: 'more number' }, withCommas(row.cells)),
     countCell(row, isSplit),
-    make('td', { class: 'more number' }, counted(row.deposits)),
+    make('td', { class: 'more number' }, withCommas(row.deposits)),
     make('td', { class: 'more number' },
-      row.first ? make('a', { href: depositAddress(row.first) }, `#${counted(row.first)}`) : '',
+      row.first ? make('a', { href: depositAddress(row.first) }, `#${withCommas(row.first)}`) : '',
       row.first ? make('small', {}, row.day) : null,
     ),
   );
@@ -165,7 +166,7 @@ const csvOf = (rows) => [
 function ruleField(rules, rule) {
   const choice = make('select', { id: 'objects-rule', change: () => go(`/o/${ruleAddress(choice.value)}`) },
     rules.map(([text, count]) => (
-      make('option', { value: text, selected: text === rule }, `${text} (${counted(count)})`)
+      make('option', { value: text, selected: text === rule }, `${text} (${withCommas(count)})`)
     )),
   );
   return field('Rule', choice);
@@ -277,9 +278,9 @@ class Catalog {
     this.body.replaceChildren();
     const all = this.#fitting.reduce((sum, row) => sum + countOf(row, this.#isSplit), 0);
     this.count.replaceChildren(
-      many(this.#fitting.length, 'object')
-        + (this.#fitting.length < this.rows.length ? ` of ${counted(this.rows.length)}` : '')
-        + `, counted ${many(all, 'time')}`,
+      plural(this.#fitting.length, 'object')
+        + (this.#fitting.length < this.rows.length ? ` of ${withCommas(this.rows.length)}` : '')
+        + `, counted ${plural(all, 'time')}`,
     );
     history.replaceState(history.state, '', location.pathname + queryOf(this.asked));
     this.#showMore();
@@ -291,8 +292,8 @@ class Catalog {
       .map((row) => lineOf(row, this.rule, this.#isSplit)));
     this.#shown = Math.min(this.#shown + SHOWN, this.#fitting.length);
     this.more.hidden = this.#shown >= this.#fitting.length;
-    this.more.textContent = `Show ${counted(Math.min(SHOWN, this.#fitting.length - this.#shown))} more `
-      + `of ${counted(this.#fitting.length)}`;
+    this.more.textContent = `Show ${withCommas(Math.min(SHOWN, this.#fitting.length - this.#shown))} more `
+      + `of ${withCommas(this.#fitting.length)}`;
   }
 }
 
@@ -353,6 +354,6 @@ export async function catalogPage(page, given) {
   }
   const catalog = new Catalog(page, rule, objects.map((object) => rowOf(object, names)), rules);
   page.root.append(catalog.root, indexNote(head));
-  page.say(`${many(objects.length, 'object')} of ${rule}.`);
+  page.say(`${plural(objects.length, 'object')} of ${rule}.`);
   nameGroups(catalog, page.signal).catch(() => {});
 }

@@ -3,7 +3,7 @@
 import { censusAddress, depositAddress, go, objectAddress } from '../shared/address.js';
 import { census, deposit } from '../requests/archive.js';
 import { objectNames, patternOf } from '../patterns/code.js';
-import { copyButton, counted, make, many } from '../shared/dom.js';
+import { copyButton, make, plural, withCommas } from '../shared/dom.js';
 import { thumbnail } from '../drawing/draw.js';
 import { groupsOf } from '../patterns/parts.js';
 import { ruleText } from '../patterns/rule.js';
@@ -52,7 +52,7 @@ export class Labels {
     ];
     const groups = [
       parts && `${name ? ': ' : ''}${parts}`,
-      grouped && `${name || parts ? ' · ' : ''}${counted(grouped)} more in groups`,
+      grouped && `${name || parts ? ' · ' : ''}${withCommas(grouped)} more in groups`,
     ].filter(Boolean);
     this.#lines.get(code)?.replaceChildren(...[
       name ? make('span', { class: 'name' }, name) : null,
@@ -92,7 +92,7 @@ export function objectRow({ code, count }, most, labels) {
       make('a', { href: objectAddress(labels.rule, code) }, make('code', {}, code)),
       labels.lineOf(code),
     ),
-    make('td', { class: 'number' }, counted(count)),
+    make('td', { class: 'number' }, withCommas(count)),
     barOf(count, most),
   );
 }
@@ -102,7 +102,7 @@ export function unresolvedRow(count, most) {
   return make('tr', {},
     make('td', { class: 'drawn' }),
     make('th', { scope: 'row' }, 'unresolved', make('small', {}, 'no code within the limit')),
-    make('td', { class: 'number' }, counted(count)),
+    make('td', { class: 'number' }, withCommas(count)),
     barOf(count, most, 'none'),
   );
 }
@@ -149,16 +149,16 @@ export async function censusPage(page, given) {
   page.keys['['] = () => { if (number > 1) go(censusAddress(number - 1)); };
   page.keys[']'] = () => { go(censusAddress(number + 1)); };
   page.root.append(
-    make('h1', { tabindex: -1 }, `Census ${counted(number)}`),
+    make('h1', { tabindex: -1 }, `Census ${withCommas(number)}`),
     make('p', { class: 'by' },
       'Of ',
-      make('a', { href: place }, `generation ${counted(found.generation)} of deposit ${found.deposit}`),
-      `${record.name ? `, ${record.name}` : ''}, under ${rule}, with periods up to ${counted(found.limit)}.`,
+      make('a', { href: place }, `generation ${withCommas(found.generation)} of deposit ${found.deposit}`),
+      `${record.name ? `, ${record.name}` : ''}, under ${rule}, with periods up to ${withCommas(found.limit)}.`,
     ),
     make('dl', { class: 'facts' }, [
-      ['Clusters', counted(found.clusters)],
-      ['Objects', many(rows.length, 'code')],
-      ['Unresolved', counted(found.unresolved)],
+      ['Clusters', withCommas(found.clusters)],
+      ['Objects', plural(rows.length, 'code')],
+      ['Unresolved', withCommas(found.unresolved)],
     ].map(([term, told]) => make('div', {}, make('dt', {}, term), make('dd', {}, told)))),
     make('p', { class: found.steady ? 'steady yes' : 'steady' }, steadyText(found)),
     countNote(),
@@ -170,6 +170,6 @@ export async function censusPage(page, given) {
     ),
   );
   labels.findGroups(rows, page.signal).catch(() => {});
-  page.say(`Census ${number}: ${many(found.clusters, 'cluster')}, ${many(rows.length, 'code')}, `
+  page.say(`Census ${number}: ${plural(found.clusters, 'cluster')}, ${plural(rows.length, 'code')}, `
     + `${found.unresolved} unresolved.`);
 }

@@ -1,7 +1,7 @@
 // Lists of censuses from the index: all of them, those of a deposit, and those that contain an object.
 
 import { censusAddress, depositAddress } from '../shared/address.js';
-import { counted, make, many } from '../shared/dom.js';
+import { make, plural, withCommas } from '../shared/dom.js';
 import {
   censusesOfObject,
   censusesWith,
@@ -22,14 +22,14 @@ async function censusLine(row, count) {
   const place = depositAddress(row.deposit, row.generation);
   const name = await nameOf(row.deposit);
   return make('tr', {},
-    make('th', { scope: 'row' }, make('a', { href: censusAddress(row.id) }, counted(row.id))),
+    make('th', { scope: 'row' }, make('a', { href: censusAddress(row.id) }, withCommas(row.id))),
     make('td', {},
       make('a', { href: place }, `${name ?? `Deposit ${row.deposit}`}`),
-      make('small', {}, `deposit ${counted(row.deposit)}, generation ${counted(row.generation)}`),
+      make('small', {}, `deposit ${withCommas(row.deposit)}, generation ${withCommas(row.generation)}`),
       make('small', { class: 'narrow' }, `${row.steady ? 'steady' : 'not steady'}, ${row.day}`),
     ),
-    count === undefined ? null : make('td', { class: 'number' }, counted(count)),
-    make('td', { class: 'number' }, counted(row.clusters)),
+    count === undefined ? null : make('td', { class: 'number' }, withCommas(count)),
+    make('td', { class: 'number' }, withCommas(row.clusters)),
     make('td', {}, row.steady ? 'steady' : 'not steady', make('small', {}, row.day)),
   );
 }
@@ -60,8 +60,8 @@ async function censusTable(page, rows, caption, counts) {
     if (own !== shown || body.childElementCount !== from) return;
     body.append(...lines);
     more.hidden = body.childElementCount >= rows.length;
-    more.textContent = `Show ${counted(Math.min(LINES, rows.length - body.childElementCount))} more `
-      + `of ${counted(rows.length)}`;
+    more.textContent = `Show ${withCommas(Math.min(LINES, rows.length - body.childElementCount))} more `
+      + `of ${withCommas(rows.length)}`;
   };
   const heads = new Heads(columns, { sort: 'census', isUp: false }, (order) => {
     shown = sorted(rows, columns, order, counts);
@@ -86,7 +86,7 @@ export async function censusesSection(page, number) {
   const rows = head ? await censusesWith((row) => row.deposit === number, page.signal) : [];
   if (rows.length === 0) return [];
   return [make('section', { id: 'censuses' },
-    make('h2', {}, many(rows.length, 'census', 'censuses')),
+    make('h2', {}, plural(rows.length, 'census', 'censuses')),
     ...await censusTable(page, rows, `Censuses of deposit ${number}`),
     indexNote(head),
   )];
@@ -101,7 +101,7 @@ export async function occurrences(page, rule, code) {
   const deposits = new Set(rows.map((row) => row.deposit));
   const said = rows.length === 0
     ? 'No census in the index contains it.'
-    : `In ${many(rows.length, 'census', 'censuses')} of ${many(deposits.size, 'deposit')}, the newest first.`;
+    : `In ${plural(rows.length, 'census', 'censuses')} of ${plural(deposits.size, 'deposit')}, the newest first.`;
   const table = rows.length === 0 ? [] : await censusTable(
     page,
     rows,
@@ -136,10 +136,10 @@ export async function censusesPage(page) {
     );
   } else {
     page.root.append(
-      make('p', { class: 'count' }, many(rows.length, 'census', 'censuses')),
+      make('p', { class: 'count' }, plural(rows.length, 'census', 'censuses')),
       ...await censusTable(page, rows, 'Censuses, the newest first'),
     );
   }
   page.root.append(indexNote(head));
-  page.say(`${many(rows.length, 'census', 'censuses')}.`);
+  page.say(`${plural(rows.length, 'census', 'censuses')}.`);
 }

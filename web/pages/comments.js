@@ -1,6 +1,6 @@
 // The comments of a deposit, below its picture: the first lines, and a button that shows all.
 
-import { counted, make } from '../shared/dom.js';
+import { make, withCommas } from '../shared/dom.js';
 
 const FIRST = 3;
 
@@ -43,7 +43,7 @@ export function commentsPart(given) {
   const fold = (isOpen) => {
     show(isOpen ? comments : comments.slice(0, FIRST));
     button.setAttribute('aria-expanded', String(isOpen));
-    button.replaceChildren(isOpen ? `The first ${FIRST} lines` : `All ${counted(comments.length)} lines`);
+    button.replaceChildren(isOpen ? `The first ${FIRST} lines` : `All ${withCommas(comments.length)} lines`);
   };
   button.addEventListener('click', () => fold(button.getAttribute('aria-expanded') !== 'true'));
   fold(false);

@@ -1,7 +1,7 @@
 // The buttons under the canvas of a deposit, and the keys that do the same.
 
 import { depositAddress, go } from '../shared/address.js';
-import { counted, icon, make } from '../shared/dom.js';
+import { icon, make, withCommas } from '../shared/dom.js';
 import { keepSetting, setting } from '../shared/kept.js';
 import { GENERATION_LIMIT } from '../shared/limits.js';
 
@@ -20,7 +20,7 @@ const labelled = (label, input) => pair(make('label', { for: input.id }, label),
 function speedPart(player) {
   player.speed = SPEEDS.find((rate) => String(rate) === setting('speed')) ?? player.speed;
   const speed = make('select', { id: 'speed', change: () => keepSetting('speed', player.speed = Number(speed.value)) },
-    SPEEDS.map((rate) => make('option', { value: rate, selected: rate === player.speed }, `${counted(rate)}/s`)));
+    SPEEDS.map((rate) => make('option', { value: rate, selected: rate === player.speed }, `${withCommas(rate)}/s`)));
   speed.title = 'Generations per second; from 120/s on, some generations are not shown';
   return labelled('Speed', speed);
 }
@@ -97,8 +97,8 @@ function backPart(player) {
       loop,
       make('label', { for: 'loop' }, 'Loop'),
       button(
-        `back at ${counted(period)}, the generation that equals generation 0`,
-        `back at ${counted(period)}`,
+        `back at ${withCommas(period)}, the generation that equals generation 0`,
+        `back at ${withCommas(period)}`,
         () => player.go(period),
         { id: 'back-at' },
       ),

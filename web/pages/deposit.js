@@ -9,7 +9,17 @@ import { objectNames } from '../patterns/code.js';
 import { commentsPart } from './comments.js';
 import { controls, keysOf } from './controls.js';
 import { Plot } from './plot.js';
-import { addLater, againButton, copyButton, counted, field, isMember, make, many, refusal } from '../shared/dom.js';
+import {
+  addLater,
+  againButton,
+  copyButton,
+  field,
+  isMember,
+  make,
+  plural,
+  refusal,
+  withCommas,
+} from '../shared/dom.js';
 import { GENERATION_LIMIT, PERIOD_LIMIT } from '../shared/limits.js';
 import { countAll } from '../player/maker.js';
 import { learnMember, memberPart, rememberMember } from '../shared/member.js';
@@ -29,17 +39,17 @@ const LATER = 300;
 const USUAL_LIMIT = 60;
 
 const across = (columns, rows) => [
-  columns === 0 ? null : `${many(Math.abs(columns), 'column')} to the ${columns < 0 ? 'left' : 'right'}`,
-  rows === 0 ? null : `${many(Math.abs(rows), 'row')} ${rows < 0 ? 'up' : 'down'}`,
+  columns === 0 ? null : `${plural(Math.abs(columns), 'column')} to the ${columns < 0 ? 'left' : 'right'}`,
+  rows === 0 ? null : `${plural(Math.abs(rows), 'row')} ${rows < 0 ? 'up' : 'down'}`,
 ].filter(Boolean).join(' and ');
 
 function kindText(found, limit) {
   switch (found.kind) {
     case 'empty': return 'empty: no cell is live';
     case 'still': return 'still life';
-    case 'oscillator': return `oscillator of period ${counted(found.period)}`;
-    case 'ship': return `spaceship of period ${counted(found.period)}, moves ${across(found.dx, found.dy)}`;
-    default: return `does not return within ${many(limit, 'generation')}`;
+    case 'oscillator': return `oscillator of period ${withCommas(found.period)}`;
+    case 'ship': return `spaceship of period ${withCommas(found.period)}, moves ${across(found.dx, found.dy)}`;
+    default: return `does not return within ${plural(limit, 'generation')}`;
   }
 }
 
@@ -157,7 +167,7 @@ function heading(number, record, rows) {
   return make('div', { class: 'title' },
     make('h1', { tabindex: -1 },
       record.name ?? `Deposit ${number}`,
-      record.name ? make('small', {}, ` deposit ${counted(number)}`) : null,
+      record.name ? make('small', {}, ` deposit ${withCommas(number)}`) : null,
     ),
     by,
     line,
@@ -167,10 +177,10 @@ function heading(number, record, rows) {
 /** The links to the deposits before and after this one. */
 function neighbours(number, rows) {
   const nav = make('nav', { class: 'pager', 'aria-label': 'Other deposits' },
-    number > 1 ? make('a', { href: depositAddress(number - 1) }, `← ${counted(number - 1)}`) : null,
+    number > 1 ? make('a', { href: depositAddress(number - 1) }, `← ${withCommas(number - 1)}`) : null,
   );
   rows.then(({ next }) => {
-    if (next) nav.append(make('a', { href: depositAddress(next.id) }, `${counted(next.id)} →`));
+    if (next) nav.append(make('a', { href: depositAddress(next.id) }, `${withCommas(next.id)} →`));
   }, () => {});
   return nav;
 }
@@ -214,11 +224,11 @@ class Stage {
     if (this.player.direction === 0 || this.player.stride === 1) this.ages.show(at);
     this.bar.at(at);
     this.end.replaceChildren();
-    this.facts.population.replaceChildren(counted(pattern.population));
-    this.facts.box.replaceChildren(`${counted(pattern.width)} by ${counted(pattern.height)}`);
+    this.facts.population.replaceChildren(withCommas(pattern.population));
+    this.facts.box.replaceChildren(`${withCommas(pattern.width)} by ${withCommas(pattern.height)}`);
     this.canvas.setAttribute(
       'aria-label',
-      `Generation ${at}: ${many(pattern.population, 'live cell')} in ${pattern.width} by ${pattern.height}`,
+      `Generation ${at}: ${plural(pattern.population, 'live cell')} in ${pattern.width} by ${pattern.height}`,
     );
     this.text.take(at, bytes, record);
     this.plot.add(at, pattern.population);
@@ -237,10 +247,10 @@ class Stage {
 
   compared(at, isSame) {
     if (isSame) {
-      this.equal.replaceChildren(`At generation ${counted(at)} it matched the archive’s answer.`);
+      this.equal.replaceChildren(`At generation ${withCommas(at)} it matched the archive’s answer.`);
     } else {
       this.doubt.replaceChildren(make('p', { class: 'refusal', role: 'alert' },
-        `The page’s generation ${counted(at)} differs from the archive’s. `
+        `The page’s generation ${withCommas(at)} differs from the archive’s. `
           + 'From here on, every generation comes from the archive.',
       ));
     }
@@ -251,7 +261,7 @@ class Stage {
     await this.player.show(this.player.at);
     if (this.player.at < GENERATION_LIMIT) return;
     this.end.replaceChildren(
-      `${counted(GENERATION_LIMIT)} is the last generation here. To play on: `,
+      `${withCommas(GENERATION_LIMIT)} is the last generation here. To play on: `,
       this.text.depositPart(),
     );
   }

@@ -3,7 +3,7 @@
 import { censusAddress, depositAddress, go, objectAddress } from '../shared/address.js';
 import { total } from '../requests/archive.js';
 import { limitOf, objectNames, patternOf } from '../patterns/code.js';
-import { addLater, copyButton, field, make, many } from '../shared/dom.js';
+import { addLater, copyButton, field, make, plural } from '../shared/dom.js';
 import { thumbnail } from '../drawing/draw.js';
 import { indexHead } from '../requests/index.js';
 import { objectParts } from './object.js';
@@ -117,7 +117,7 @@ function groupPart(parts) {
 async function confirmedParts(parts, signal) {
   const coded = parts.filter(({ code }) => code);
   const counts = await Promise.all(coded.map(({ code }) => total('B3/S23', code, limitOf(code), signal)));
-  const texts = coded.map(({ name }, at) => `${name} ${many(counts[at], 'time')}`);
+  const texts = coded.map(({ name }, at) => `${name} ${plural(counts[at], 'time')}`);
   return texts.length === 0
     ? []
     : [make('p', { class: 'hint', id: 'parts' }, `On their own, the archive has counted: ${texts.join(', ')}.`)];
@@ -146,7 +146,7 @@ export async function codePage(page, givenRule, givenCode) {
     picture,
     ...(group ? [groupPart(group), alone] : []),
     make('p', { class: 'total' },
-      make('strong', {}, many(count, 'time')),
+      make('strong', {}, plural(count, 'time')),
       ` in all censuses of deposits under ${plain}.`,
     ),
     make('section', {},
@@ -166,7 +166,7 @@ export async function codePage(page, givenRule, givenCode) {
       ),
     ),
   );
-  page.say(`${code}: ${many(count, 'time')} in all censuses.`);
+  page.say(`${code}: ${plural(count, 'time')} in all censuses.`);
   addLater(page, parts, objectParts(
     pattern,
     code,

@@ -2,7 +2,7 @@
 
 import { objectLink } from './box.js';
 import { objectNames } from '../patterns/code.js';
-import { counted, make, many } from '../shared/dom.js';
+import { make, plural, withCommas } from '../shared/dom.js';
 import { indexHead, objectsOfRule } from '../requests/index.js';
 import { partsOf, partsText } from '../patterns/parts.js';
 
@@ -20,11 +20,11 @@ export async function frequentParts(signal) {
   if (objects.length === 0) return [];
   const links = await Promise.all(objects.slice(0, SHOWN).map(async ({ code, count }) => {
     const parts = names.has(code) ? null : await partsOf(code);
-    return objectLink({ code, name: names.get(code) ?? (parts ? partsText(parts) : null), more: counted(count) });
+    return objectLink({ code, name: names.get(code) ?? (parts ? partsText(parts) : null), more: withCommas(count) });
   }));
   return [make('section', { id: 'frequent' },
     make('h2', {}, 'Most frequent objects'),
     make('div', { class: 'object-links' }, links),
-    make('p', {}, make('a', { href: '/o' }, `All ${many(objects.length, 'object')}`)),
+    make('p', {}, make('a', { href: '/o' }, `All ${plural(objects.length, 'object')}`)),
   )];
 }

@@ -4,7 +4,7 @@
 import { go } from '../shared/address.js';
 import { Labels, countNote, objectRow, unresolvedRow } from './census.js';
 import { objectNames } from '../patterns/code.js';
-import { counted, field, make, many } from '../shared/dom.js';
+import { field, make, plural, withCommas } from '../shared/dom.js';
 import { bring, broughtFiles } from '../shared/brought.js';
 import { draft, keepDraft } from '../shared/kept.js';
 import { Heads, sorted } from '../shared/sorts.js';
@@ -92,7 +92,8 @@ function soupButton(haul, number) {
     bring([new File([soupFile(haul.root, haul.rule, number, haul.symmetry)], `soup-${number}.rle`)]);
     go('/new');
   };
-  return make('button', { type: 'button', click, 'aria-label': `Soup ${number}: see it, deposit it` }, counted(number));
+  const title = `Soup ${number}: see it, deposit it`;
+  return make('button', { type: 'button', click, 'aria-label': title }, withCommas(number));
 }
 
 function rowOf(object, most, haul, labels) {
@@ -119,7 +120,8 @@ function objectsOf(haul, labels) {
     body.append(...objects.slice(shown, end).map((object) => rowOf(object, most, haul, labels)));
     shown = Math.min(end, objects.length);
     more.hidden = shown === objects.length;
-    more.textContent = `Show ${counted(Math.min(SHOWN, objects.length - shown))} more of ${counted(objects.length)}`;
+    const next = Math.min(SHOWN, objects.length - shown);
+    more.textContent = `Show ${withCommas(next)} more of ${withCommas(objects.length)}`;
   };
   const sort = (order) => {
     const end = Math.max(shown, SHOWN);
@@ -147,17 +149,17 @@ function objectsOf(haul, labels) {
 
 function shownHaul(haul, labels) {
   const facts = [
-    ['Soups', counted(haul.soups)],
-    ['Clusters', counted(haul.clusters)],
-    ['Objects', many(haul.objects.length, 'code')],
-    ['Unresolved', counted(haul.unresolved)],
+    ['Soups', withCommas(haul.soups)],
+    ['Clusters', withCommas(haul.clusters)],
+    ['Objects', plural(haul.objects.length, 'code')],
+    ['Unresolved', withCommas(haul.unresolved)],
   ];
   return [
     make('p', { class: 'by' },
-      `Soups ${counted(haul.first)} to ${counted(haul.first + Math.max(haul.soups, 1) - 1)} of `,
+      `Soups ${withCommas(haul.first)} to ${withCommas(haul.first + Math.max(haul.soups, 1) - 1)} of `,
       make('code', {}, haul.root),
-      `${symmetryWords(haul.symmetry)}, at generation ${counted(haul.generation)} under ${haul.rule}, `
-        + `with periods up to ${counted(haul.limit)}.`,
+      `${symmetryWords(haul.symmetry)}, at generation ${withCommas(haul.generation)} under ${haul.rule}, `
+        + `with periods up to ${withCommas(haul.limit)}.`,
     ),
     make('dl', { class: 'facts' }, facts.map(([term, told]) => (
       make('div', {}, make('dt', {}, term), make('dd', {}, told))
@@ -185,7 +187,7 @@ export async function haulPage(page) {
     place.replaceChildren(...(haul ? shownHaul(haul, labels) : [refused]));
     labels?.findGroups(haul.objects, page.signal).catch(() => {});
     page.say(haul
-      ? `${many(haul.soups, 'soup')}, ${many(haul.objects.length, 'code')}.`
+      ? `${plural(haul.soups, 'soup')}, ${plural(haul.objects.length, 'code')}.`
       : 'That is not a table of a haul.');
     if (!haul) return;
     // If this one is too large to be kept, an earlier one must not come back in its place.

@@ -2,7 +2,7 @@
 
 import { afterAddress, depositAddress, go, memberAddress } from '../shared/address.js';
 import { deposit, depositsAfter, lastDeposit } from '../requests/archive.js';
-import { counted, field, isMember, make, many, refusal } from '../shared/dom.js';
+import { field, isMember, make, plural, refusal, withCommas } from '../shared/dom.js';
 import { thumbnail } from '../drawing/draw.js';
 import { allDeposits, indexHead, indexNote } from '../requests/index.js';
 import { keepPlace, place } from '../shared/kept.js';
@@ -35,7 +35,7 @@ function card(page, row, watch) {
   const facts = [
     `No. ${row.id}`,
     row.member,
-    many(row.population, 'cell'),
+    plural(row.population, 'cell'),
     row.rule === 'B3/S23' ? null : row.rule,
   ].filter(Boolean).join(' · ');
   const item = make('li', {},
@@ -115,7 +115,7 @@ export function shownRows(page, rows) {
     list.append(cards(page, rows.slice(shown, shown + number)));
     shown = Math.min(shown + number, rows.length);
     more.hidden = shown >= rows.length;
-    more.textContent = `Show ${counted(Math.min(SHOWN, rows.length - shown))} more of ${counted(rows.length)}`;
+    more.textContent = `Show ${withCommas(Math.min(SHOWN, rows.length - shown))} more of ${withCommas(rows.length)}`;
   };
   more.addEventListener('click', () => {
     show(SHOWN);
@@ -145,15 +145,15 @@ export async function deposits(page, given) {
   walk(page);
   if (rows.length === 0) {
     page.root.append(last === 0 ? nothing() : make('p', { class: 'empty' },
-      `There is no deposit after ${counted(after)}; the newest is `,
-      make('a', { href: depositAddress(last) }, counted(last)),
+      `There is no deposit after ${withCommas(after)}; the newest is `,
+      make('a', { href: depositAddress(last) }, withCommas(last)),
       '.',
     ));
     return;
   }
   const [first, end] = [rows.at(-1).id, rows[0].id];
   page.root.append(
-    make('p', { class: 'count' }, `${counted(first)} to ${counted(end)} of ${counted(Math.max(last, end))}`),
+    make('p', { class: 'count' }, `${withCommas(first)} to ${withCommas(end)} of ${withCommas(Math.max(last, end))}`),
     cards(page, rows),
     pager(
       page,
@@ -161,7 +161,7 @@ export async function deposits(page, given) {
       end < last ? afterAddress(after + SHOWN) : null,
     ),
   );
-  page.say(`${many(rows.length, 'deposit')}, ${first} to ${end}.`);
+  page.say(`${plural(rows.length, 'deposit')}, ${first} to ${end}.`);
 }
 
 /** The deposits after a number, list by list up to the newest one. */
@@ -178,7 +178,7 @@ async function newer(after, signal) {
 async function indexedOf(head, member, said, signal) {
   const since = await newer(head.counts.deposits, signal);
   const all = await allDeposits((number, of) => {
-    if (number < of) said.replaceChildren(`Reading the index: ${counted(number)} of ${counted(of)} blocks…`);
+    if (number < of) said.replaceChildren(`Reading the index: ${withCommas(number)} of ${withCommas(of)} blocks…`);
   }, signal);
   return [...since.reverse(), ...all].filter((row) => row.member === member);
 }
@@ -188,7 +188,7 @@ async function listedOf(member, said, signal) {
   const found = [];
   for (let before = await lastDeposit(signal) + 1; before > 1; before -= TOGETHER * LONGEST_LIST) {
     said.replaceChildren(
-      `Searching the lists: ${many(found.length, 'deposit')} so far, ${counted(before - 1)} left to search…`,
+      `Searching the lists: ${plural(found.length, 'deposit')} so far, ${withCommas(before - 1)} left to search…`,
     );
     const begins = Array.from({ length: TOGETHER }, (_, at) => before - 1 - (at + 1) * LONGEST_LIST)
       .filter((begin) => begin > -LONGEST_LIST);
@@ -209,7 +209,7 @@ export async function depositsOf(page, member, before = Infinity) {
   const head = await indexHead();
   const all = head ? await indexedOf(head, member, said, page.signal) : await listedOf(member, said, page.signal);
   const rows = all.filter((row) => row.id < Number(before));
-  said.replaceChildren(rows.length === 0 ? 'None.' : many(rows.length, 'deposit'));
+  said.replaceChildren(rows.length === 0 ? 'None.' : plural(rows.length, 'deposit'));
   page.root.append(...shownRows(page, rows), ...(head ? [indexNote(head)] : []));
-  page.say(`${many(rows.length, 'deposit')} of ${member}.`);
+  page.say(`${plural(rows.length, 'deposit')} of ${member}.`);
 }

@@ -3,7 +3,7 @@
 
 import { depositAddress, memberAddress } from '../shared/address.js';
 import { depositRows, sendDeposit } from '../requests/archive.js';
-import { counted, field, isMember, make, many, refusal } from '../shared/dom.js';
+import { field, isMember, make, plural, refusal, withCommas } from '../shared/dom.js';
 import { thumbnail } from '../drawing/draw.js';
 import { cutButton, oldChoice, readGiven, refusedBy } from '../patterns/given.js';
 import { draft, keepDraft } from '../shared/kept.js';
@@ -78,7 +78,7 @@ class Row {
     }
     const { pattern, name, rule } = record;
     this.facts.replaceChildren([
-      `${name ? `${name}: ` : ''}${many(pattern.population, 'cell')}, `
+      `${name ? `${name}: ` : ''}${plural(pattern.population, 'cell')}, `
         + `${pattern.width} by ${pattern.height}, ${ruleText(rule)}`,
       ...notes,
     ].join('. '));
@@ -122,7 +122,7 @@ class Row {
   say(text = '') {
     this.line.className = this.refused ? 'bad' : '';
     if (this.kept !== null) {
-      this.outcome.replaceChildren(make('a', { href: depositAddress(this.kept) }, `deposit ${counted(this.kept)}`));
+      this.outcome.replaceChildren(make('a', { href: depositAddress(this.kept) }, `deposit ${withCommas(this.kept)}`));
     } else {
       this.outcome.replaceChildren(this.refused ?? text, ...(this.read?.fault?.isTooMany ? [' ', this.#cut()] : []));
     }
@@ -264,12 +264,12 @@ export class Table {
       this.rows.filter((row) => row.refused).length,
     ];
     const parts = [
-      kept ? `${counted(kept)} deposited` : null,
-      refused ? `${counted(refused)} refused` : null,
-      this.open.length ? `${counted(this.open.length)} to deposit` : null,
+      kept ? `${withCommas(kept)} deposited` : null,
+      refused ? `${withCommas(refused)} refused` : null,
+      this.open.length ? `${withCommas(this.open.length)} to deposit` : null,
     ];
-    this.count.replaceChildren(`${many(this.rows.length, 'file')}: ${parts.filter(Boolean).join(', ')}.`);
-    this.send.replaceChildren(`Deposit ${many(this.open.length, 'file')}`);
+    this.count.replaceChildren(`${plural(this.rows.length, 'file')}: ${parts.filter(Boolean).join(', ')}.`);
+    this.send.replaceChildren(`Deposit ${plural(this.open.length, 'file')}`);
     this.form.hidden = this.send.disabled = this.open.length === 0;
     this.#sayWhose(kept);
   }
@@ -278,7 +278,7 @@ export class Table {
   #sayWhose(kept) {
     const isDone = kept > 0 && this.open.length === 0 && this.owner;
     this.seen.replaceChildren(isDone
-      ? make('a', { id: 'see-them', href: memberAddress(this.owner) }, `${counted(kept)} deposited: see them`)
+      ? make('a', { id: 'see-them', href: memberAddress(this.owner) }, `${withCommas(kept)} deposited: see them`)
       : '');
   }
 

@@ -3,7 +3,7 @@
 import { depositAddress, go } from '../shared/address.js';
 import { broughtFiles, keepNote } from '../shared/brought.js';
 import { lastDeposit, sendDeposit } from '../requests/archive.js';
-import { field, isMember, make, many, refusal } from '../shared/dom.js';
+import { field, isMember, make, plural, refusal } from '../shared/dom.js';
 import { thumbnail } from '../drawing/draw.js';
 import { cutButton, oldChoice, readGiven, refusedBy } from '../patterns/given.js';
 import { draft, keepDraft } from '../shared/kept.js';
@@ -136,7 +136,7 @@ class Content {
       ];
     }
     const { name, rule, pattern } = record;
-    const facts = `${name ? `${name}: ` : ''}${many(pattern.population, 'cell')}, `
+    const facts = `${name ? `${name}: ` : ''}${plural(pattern.population, 'cell')}, `
       + `${pattern.width} by ${pattern.height}, ${ruleText(rule)}`;
     return [
       thumbnail(pattern, WIDTH, HEIGHT, facts),

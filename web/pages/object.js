@@ -1,7 +1,7 @@
 // An object's pattern: its phases, played or side by side, its text, and where else to look it up.
 
 import { objectAddress } from '../shared/address.js';
-import { copyButton, make, many } from '../shared/dom.js';
+import { copyButton, make, plural } from '../shared/dom.js';
 import { thumbnail } from '../drawing/draw.js';
 import { Maker } from '../player/maker.js';
 import { save } from '../drawing/picture.js';
@@ -109,8 +109,8 @@ export async function objectParts(
   const phases = period > 1 ? await phasesOf(pattern, rule, period, page.signal) : [];
   const play = phases.length > 1 ? playButton(picture, phases, code, page.signal) : null;
   const said = period > MOST_PHASES
-    ? `The first ${MOST_PHASES} of ${many(period, 'phase')}, computed by your browser`
-    : `${many(period, 'phase')}, computed by your browser`;
+    ? `The first ${MOST_PHASES} of ${plural(period, 'phase')}, computed by your browser`
+    : `${plural(period, 'phase')}, computed by your browser`;
   const drawn = phases.length > 1
     ? [make('details', { id: 'phases' },
       make('summary', {}, said),

@@ -1,7 +1,7 @@
 // A plot of the population over time: of the generations that were shown and, in the background, of all from the first
 // on. A click opens one.
 
-import { counted, make } from '../shared/dom.js';
+import { make, withCommas } from '../shared/dom.js';
 import { GENERATION_LIMIT } from '../shared/limits.js';
 
 const HEIGHT = 48;
@@ -89,7 +89,7 @@ export class Plot {
   }
 
   #describe() {
-    const text = `Population of generations 0 to ${counted(this.#last)}: at most ${counted(this.#most)}`;
+    const text = `Population of generations 0 to ${withCommas(this.#last)}: at most ${withCommas(this.#most)}`;
     this.canvas.setAttribute('aria-label', text);
     this.words.replaceChildren(`${text}. Computed by your browser; press to go there.`);
   }

@@ -2,7 +2,7 @@
 
 import { addressOf, isSearch, namedLines } from './box.js';
 import { go } from '../shared/address.js';
-import { counted, field, make, many } from '../shared/dom.js';
+import { field, make, plural, withCommas } from '../shared/dom.js';
 import { NOTHING, addComments, allDeposits, indexHead, indexNote, search } from '../requests/index.js';
 import { shownRows } from './list.js';
 import { readRule, ruleText } from '../patterns/rule.js';
@@ -103,15 +103,15 @@ export async function results(page, query) {
     return;
   }
   const all = await allDeposits((number, of) => {
-    if (number < of) said.replaceChildren(`Reading the index: ${counted(number)} of ${counted(of)} blocks…`);
+    if (number < of) said.replaceChildren(`Reading the index: ${withCommas(number)} of ${withCommas(of)} blocks…`);
   }, page.signal);
   const asked = askedBy(query);
   if (asked.text) await addComments(all, page.signal);
   const rows = search(all, asked);
   said.before(...await namedLines(asked.text, [...new Set(all.map(({ member }) => member))]));
   said.replaceChildren(rows.length === 0
-    ? `None of ${many(all.length, 'deposit')} matches.`
-    : `${many(rows.length, 'deposit')} of ${counted(all.length)}, best matches first.`);
+    ? `None of ${plural(all.length, 'deposit')} matches.`
+    : `${plural(rows.length, 'deposit')} of ${withCommas(all.length)}, best matches first.`);
   page.root.append(...shownRows(page, rows), indexNote(head));
 }
 

@@ -1,7 +1,7 @@
 // The generation of a deposit that is shown: its address, its text, and depositing it.
 
 import { depositAddress, go } from '../shared/address.js';
-import { copyButton, counted, make } from '../shared/dom.js';
+import { copyButton, make, withCommas } from '../shared/dom.js';
 import { LONGEST_SIDE } from '../shared/limits.js';
 import { save } from '../drawing/picture.js';
 import { bring } from '../shared/brought.js';
@@ -47,7 +47,7 @@ export class Shown {
   take(at, bytes, record) {
     // Only the deposit itself has its texts.
     this.seen = at === 0 ? { at, ...this.own } : { at, bytes, record: { ...record, rule: this.first.rule } };
-    this.which.replaceChildren(at === 0 ? 'The file' : `Generation ${counted(at)}`);
+    this.which.replaceChildren(at === 0 ? 'The file' : `Generation ${withCommas(at)}`);
     if (bytes === null) return;
     this.whole = this.seen;
     this.address.href = this.url;
@@ -105,8 +105,8 @@ export class Shown {
     const { pattern } = this.whole.record;
     if (Math.max(pattern.width, pattern.height) > LONGEST_SIDE) {
       return make('span', {},
-        `It is ${counted(pattern.width)} by ${counted(pattern.height)}, `
-          + `and the archive takes patterns of up to ${counted(LONGEST_SIDE)} by ${counted(LONGEST_SIDE)}.`,
+        `It is ${withCommas(pattern.width)} by ${withCommas(pattern.height)}, `
+          + `and the archive takes patterns of up to ${withCommas(LONGEST_SIDE)} by ${withCommas(LONGEST_SIDE)}.`,
       );
     }
     const click = () => {

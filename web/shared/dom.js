@@ -40,10 +40,10 @@ export function icon(name) {
 }
 
 /** A number with thousands separators. */
-export const counted = (number) => number.toLocaleString('en');
+export const withCommas = (number) => number.toLocaleString('en');
 
 /** `1 cell`, `2 cells`. */
-export const many = (number, one, more = `${one}s`) => `${counted(number)} ${number === 1 ? one : more}`;
+export const plural = (number, one, more = `${one}s`) => `${withCommas(number)} ${number === 1 ? one : more}`;
 
 /** A field of a form with its label. */
 export function field(label, input, hint) {

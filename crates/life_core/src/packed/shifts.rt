@@ -1,11 +1,11 @@
 //! Translations from one set in packed words to another.
-ghost use Rattle.std.specs.Prelude.{◌≡◌, ◌↔◌, ◌+◌, ◌*◌, ◌<◌, nat_eq, ◌≤◌, ◌-ℤ◌, ◌≤ℤ◌, neg_ℤ, pos, false, IfSome, IsNone, IsTrue, length};
+ghost use Rattle.std.specs.Prelude.{◌≡◌, ◌↔◌, ◌+◌, ◌*◌, ◌<◌, get_or, nat_eq, ◌≤◌, ◌-ℤ◌, ◌≤ℤ◌, neg_ℤ, pos, false, IfSome, IsNone, IsTrue, length};
 ghost use Rattle.std.specs.FinSet as set;
 ghost use Rattle.life_core.specs.declared.cell.Cell.{Cell};
 ghost use Rattle.life_core.specs.Cell.{IsCellWithin, moved_cell};
 ghost use Rattle.life_core.specs.Pattern.{IsWithin, ShiftsTo};
 ghost use Rattle.life_core.specs.PackedRow.{place};
-ghost use Rattle.life_core.specs.PackedFrameState.{framed, IsFrame};
+ghost use Rattle.life_core.specs.PackedFrameState.{framed, cell_of, IsFrame};
 ghost use Rattle.life_core.specs.PackedShiftsState.{IsFirst, Covers, CoversWord};
 
 use crate::cell::{Cell, PLANE};
@@ -32,7 +32,10 @@ pub(crate) fn shift_of_words(
     let other = first_cell(to, others)?;
     let there = shift_of(first, other);
     let back = shift_of(other, first);
-    // The search for a period compares with later sets, which mostly are larger: then this fails at one of the last cells.
+    // The search for a period compares with later sets, which mostly are larger: then this fails at one of the first or the last cells.
+    if !begins_covered(to, others, frame, rows, back) {
+        return None;
+    }
     if !covers(to, others, frame, rows, back) {
         return None;
     }
@@ -57,6 +60,35 @@ fn first_cell(frame: Frame, rows: &[u64]) -> Option<Cell>
     None
 }
 
+/// The most words that [`begins_covered`] compares.
+const FIRST_WORDS: usize = 4;
+
+/// Whether the translation takes the live cells of the first words that have some to others; if not, it takes the set to no part of the
+/// other. Shapes that differ mostly do so there.
+fn begins_covered(frame: Frame, rows: &[u64], to: Frame, others: &[u64], shift: (i64, i64)) -> bool
+    requires frame { IsFrame frame }
+    requires rows { frame.height * frame.words ≡ length rows.now }
+    requires to { IsFrame to }
+    requires others { to.height * to.words ≡ length others.now }
+    requires columns { (neg_ℤ (pos (2 * PLANE)) ≤ℤ shift.0) × (shift.0 ≤ℤ pos (2 * PLANE)) }
+    requires rows_moved { (neg_ℤ (pos (2 * PLANE)) ≤ℤ shift.1) × (shift.1 ≤ℤ pos (2 * PLANE)) }
+    ensures { Covers (framed frame rows.now) (framed to others.now) shift → IsTrue result }
+{
+    let mut left = FIRST_WORDS;
+    for k in 0..rows.len() {
+        if rows[k] != 0 {
+            if left == 0 {
+                return true;
+            }
+            left -= 1;
+            if !covers_at(frame, rows, k, to, others, shift) {
+                return false;
+            }
+        }
+    }
+    true
+}
+
 /// Whether the translation takes each live cell of the words to one of the others. It begins with the last word: the
 /// first cells of two shapes that grow often agree, and the last ones then lie elsewhere.
 fn covers(frame: Frame, rows: &[u64], to: Frame, others: &[u64], shift: (i64, i64)) -> bool
@@ -75,6 +107,27 @@ fn covers(frame: Frame, rows: &[u64], to: Frame, others: &[u64], shift: (i64, i6
         }
     }
     true
+}
+
+/// Whether the translation takes each live cell of word `k` to one of the others.
+fn covers_at(
+    frame: Frame,
+    rows: &[u64],
+    k: usize,
+    to: Frame,
+    others: &[u64],
+    shift: (i64, i64),
+) -> bool
+    requires frame { IsFrame frame }
+    requires rows { frame.height * frame.words ≡ length rows.now }
+    requires k { k < length rows.now }
+    requires to { IsFrame to }
+    requires others { to.height * to.words ≡ length others.now }
+    requires columns { (neg_ℤ (pos (2 * PLANE)) ≤ℤ shift.0) × (shift.0 ≤ℤ pos (2 * PLANE)) }
+    requires rows_moved { (neg_ℤ (pos (2 * PLANE)) ≤ℤ shift.1) × (shift.1 ≤ℤ pos (2 * PLANE)) }
+    ensures { IsTrue result ↔ CoversWord (cell_of frame.left frame.top (64 * frame.words) (64 * k)) (get_or rows.now k 0) (framed to others.now) shift }
+{
+    rows[k] == 0 || covers_word(frame.cell(64 * k), rows[k], to, others, shift)
 }
 
 /// Whether the translation takes each live cell of a word, whose lowest place is the cell `start`, to

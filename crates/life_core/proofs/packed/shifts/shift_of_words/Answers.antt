@@ -63,3 +63,20 @@ returns c =
     let columns : c.shift_of-back.result.0 ≡ neg_ℤ c.shift_of-there.result.0 = omega (arith, ints, c.shift_of-there.ensures.columns, c.shift_of-back.ensures.columns) in
     let rows : c.shift_of-back.result.1 ≡ neg_ℤ c.shift_of-there.result.1 = omega (arith, ints, c.shift_of-there.ensures.rows, c.shift_of-back.ensures.rows) in
     by_covers _ _ c.in_ok-first.first c.shift_of-there.result c.shift_of-back.result c.in_ok-first.ensures.first.live columns rows (c.covers-2.ensures.0 c.if-not-covers-2.false) (c.covers.ensures.0 c.if-not-covers.false)
+
+pub returns-then-not-begins_covered : goal.returns-then-not-begins_covered
+returns-then-not-begins_covered c = λ dx dy e. absurd (false≢true (sym c.if-not-begins_covered.true ∙ c.begins_covered.ensures
+    (covers_back _ _ c.in_ok-first.first c.in_ok-other.other c.shift_of-back.result dx dy c.in_ok-first.ensures.first c.in_ok-other.ensures.first c.shift_of-back.ensures.columns c.shift_of-back.ensures.rows e)))
+
+pub begins_covered-requires-clause-columns : goal.begins_covered-requires-clause-columns
+begins_covered-requires-clause-columns c =
+    let a = c.requires.within c.in_ok-first.first c.in_ok-first.ensures.first.live in
+    let b = c.requires.others_within c.in_ok-other.other c.in_ok-other.ensures.first.live in
+    let move = c.shift_of-back.ensures.columns in
+    (omega (arith, ints, move, a.left, a.right, b.left, b.right), omega (arith, ints, move, a.left, a.right, b.left, b.right))
+
+pub begins_covered-requires-clause-rows_moved : goal.begins_covered-requires-clause-rows_moved
+begins_covered-requires-clause-rows_moved c =
+    let a = c.requires.within c.in_ok-first.first c.in_ok-first.ensures.first.live in
+    let b = c.requires.others_within c.in_ok-other.other c.in_ok-other.ensures.first.live in
+    (omega (arith, ints, c.shift_of-back.ensures.rows, a.top, b.bottom), omega (arith, ints, c.shift_of-back.ensures.rows, a.bottom, b.top))

@@ -1,0 +1,5 @@
+use Rattle.std.proofs.Common.{ℕ, ◌≡◌, ◌<◌, get_or, false}
+use Rattle.life_core.proofs.rule.are_same.Given as goal
+
+abbrev pub invariant-loop-count : goal.invariant-loop-count
+invariant-loop-count l = (k : ℕ) → k < l.count → get_or l.left k false ≡ get_or l.right k false

@@ -9,8 +9,8 @@ ghost use Rattle.life_desk.specs.Archive.{tally_for, tally_of_cells, steady_for}
 ghost use Rattle.life_check.specs.CountState.{AddsUp};
 
 use life_census::{Tally, laws_of_tallies, tally_and_steady};
-use life_code::PERIOD_LIMIT;
-use life_core::{GENERATION_LIMIT, Pattern, Rule, generation};
+use life_code::{PERIOD_LIMIT, settled_generation};
+use life_core::{GENERATION_LIMIT, Pattern, Rule};
 use life_store::{Census, Deposit, Unavailable};
 use std::alloc::Global;
 
@@ -49,6 +49,6 @@ pub(crate) fn counted(
     ensures adds_up { IfOk result (λ p. AddsUp p.0) }
 {
     let rule = deposit.content.rule;
-    let later = generation(alloc, &rule, &deposit.content.cells, census.generation)?;
+    let later = settled_generation(alloc, &rule, &deposit.content.cells, census.generation)?;
     count(alloc, &rule, &later, census.limit)
 }

@@ -5,7 +5,7 @@ use Rattle.std.proofs.Common.{sym, ap, subst, ◌∙◌, arith}
 use Rattle.std.proofs.lemmas.List.{take_more, get_or_default}
 use Rattle.std.specs.FinSet as set
 use Rattle.life_core.specs.declared.cell.Cell.{Cell}
-use Rattle.life_core.specs.Cell.{cell_at, cell_cmp}
+use Rattle.life_core.specs.Cell.{cell_cmp}
 use Rattle.life_core.specs.Generations.{generation_of, HasRoomFor, GivesGeneration}
 use Rattle.life_core.specs.Pattern.{Cells, in_order, IsWithin}
 use Rattle.life_core.specs.Rule.{RuleSets}
@@ -14,10 +14,10 @@ use Rattle.life_core.proofs.GenerationsLaws.{generation_within, within_more}
 use Rattle.life_core.proofs.PatternMembers.{cell_cmp_total, cells_by_members, contains-list, has_cell}
 use Rattle.life_core.proofs.PatternOrder.{from_list_of}
 use Rattle.life_core.proofs.Placements.{moved}
-use Rattle.life_code.specs.declared.apart.Orbit.{Orbit}
 use Rattle.life_code.specs.declared.apart.Moving.{Moving}
 use Rattle.life_code.specs.Apart.{union_of}
-use Rattle.life_code.specs.ApartState.{IsOrbit, AreMoving, parts_of}
+use Rattle.life_code.specs.ApartState.{AreMoving, parts_of}
+use Rattle.life_code.specs.Period.{Returns}
 use Rattle.life_code.specs.SettledState.{IsMovingWithin}
 use Rattle.life_code.proofs.ApartBlocks.{or-false}
 use Rattle.life_code.proofs.ApartParts.{has_cell-append, part_in}
@@ -27,11 +27,11 @@ use Rattle.life_code.proofs.PeriodLemmas.{many, phase_mod, generation-add}
 -- ---- one part
 
 -- a phase, moved as far as the whole periods lead, is the later generation
-pub later_is : (r : RuleSets) (X : Cells) (o : Orbit) → IsOrbit r X o → (n : ℕ) (v : Cell) → v.column ≡ pos (n / o.period) *ℤ o.dx → v.row ≡ pos (n / o.period) *ℤ o.dy
-    → moved v (generation_of r X (n % o.period)) ≡ generation_of r X n
-later_is r X o orbit n v column row =
-    ap (λ (u : Cell). moved u (generation_of r X (n % o.period))) (same_coordinates v (many (n / o.period) (cell_at (o.dx, o.dy))) row column)
-    ∙ sym (phase_mod r X o.period (cell_at (o.dx, o.dy)) orbit.from orbit.back n)
+pub later_is : (r : RuleSets) (X : Cells) (p : ℕ) (by : Cell) → 1 ≤ p → Returns r X p by.column by.row → (n : ℕ) (v : Cell) → v.column ≡ pos (n / p) *ℤ by.column → v.row ≡ pos (n / p) *ℤ by.row
+    → moved v (generation_of r X (n % p)) ≡ generation_of r X n
+later_is r X p by from back n v column row =
+    ap (λ (u : Cell). moved u (generation_of r X (n % p))) (same_coordinates v (many (n / p) by) row column)
+    ∙ sym (phase_mod r X p by from back n)
 
 -- a phase can be made
 pub phase_room : (X : Cells) (n p : ℕ) → 1 ≤ p → n ≤ 2048 → IsWithin 500000000 X → HasRoomFor (n % p) X

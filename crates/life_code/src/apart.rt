@@ -339,12 +339,13 @@ fn part_ways<A: Allocator>(parts: &[Moving<A>]) -> bool
 }
 
 /// The parts of a pattern, if it is seen that each comes back within the limit, and that no two of them are ever
-/// near at one time.
+/// near at one time. Patterns with parts larger than `largest` are not examined.
 pub fn moving_parts<A: Allocator + Copy, P: Plane<A>>(
     alloc: A,
     rule: &Rule,
     pattern: &Pattern<A>,
     limit: u32,
+    largest: i64,
     known: &mut Vec<Moving<A>, A>,
 ) -> Result<Option<Vec<Moving<A>, A>>, Fault>
     requires few { limit ≤ PERIOD_LIMIT }
@@ -354,7 +355,7 @@ pub fn moving_parts<A: Allocator + Copy, P: Plane<A>>(
     ensures moving { IfOk result (λ o. IfSome o (λ v. AreMoving rule.now v.items)) }
     ensures whole { IfOk result (λ o. IfSome o (λ v. union_of (parts_of v.items) ≡ pattern.now)) }
 {
-    let Some(frames) = frames_of(alloc, pattern.cells().runs(), MOST_PARTS)? else {
+    let Some(frames) = frames_of(alloc, pattern.cells().runs(), MOST_PARTS, largest)? else {
         return Ok(None);
     };
     let mut rest = pattern.cells().list(alloc)?;
@@ -388,7 +389,7 @@ pub fn moves_apart<A: Allocator + Copy, P: Plane<A>>(
     if pattern.population() > MOST_CELLS {
         return Ok(false);
     }
-    match moving_parts::<A, P>(alloc, rule, pattern, limit, &mut Vec::new(alloc))? {
+    match moving_parts::<A, P>(alloc, rule, pattern, limit, i64::MAX, &mut Vec::new(alloc))? {
         Some(parts) => Ok(part_ways(&parts)),
         None => Ok(false),
     }

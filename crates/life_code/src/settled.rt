@@ -1,13 +1,14 @@
 //! Generations of fields that settle: once a field is known to consist of parts that return and never meet, any later generation is computed directly.
-ghost use Rattle.std.specs.Prelude.{◌≡◌, ◌≤◌, ◌-◌, ◌/◌, pos, ◌*ℤ◌, map, IfOk, IfSome};
+ghost use Rattle.std.specs.Prelude.{◌≡◌, ◌≤◌, ◌-◌, ◌/◌, pos, ◌*ℤ◌, map, IfOk, IfSome, IsTrue};
 ghost use Rattle.std.specs.List.{All};
 ghost use Rattle.life_core.specs.Generations.{generation_of, HasRoomFor, GivesGeneration};
 ghost use Rattle.life_core.specs.Pattern.{IsWithin};
 ghost use Rattle.life_code.specs.Apart.{union_of};
 ghost use Rattle.life_code.specs.ApartState.{IsMoving, parts_of};
+ghost use Rattle.life_code.specs.Period.{Returns};
 ghost use Rattle.life_code.specs.SettledState.{IsMovingWithin};
 
-use crate::apart::{Moving, Orbit, moving_parts};
+use crate::apart::{Moving, moving_parts};
 use life_core::{
     Cell, CellList, Fault, GENERATION_LIMIT, PackedRows, Pattern, Plane, Rule, generation,
     is_packed, list_runs,
@@ -17,28 +18,125 @@ use std::alloc::Allocator;
 /// The greatest period of the parts that are searched for. Longer ones are rare in ash.
 const SETTLED_LIMIT: u32 = 4;
 
-/// Fields with more cells are not examined.
+/// The greatest size of a part's box, which is one less than its columns or its rows, whichever are more. A larger box nearly always
+/// holds something that is still active.
+const LARGEST_PART: i64 = 24;
+
+/// A field with more cells is not examined, and not looked at again.
 const MOST_CELLS: usize = 1024;
 
-/// Whether to look at generation `i` whether the field has settled. Ash of a random field of 16 by 16 cells settles after 490 generations on
-/// average, half of them after 250. The longer a field has not settled, the longer it will take, and the fewer looks are worth their time.
-fn is_look(i: u32) -> bool {
-    matches!(
-        i,
-        64 | 130 | 210 | 310 | 430 | 570 | 730 | 910 | 1120 | 1360 | 1640
-    )
+/// A pattern that has more cells at its start is not looked at: it hardly settles within [`GENERATION_LIMIT`].
+const MOST_AT_START: usize = 8192;
+
+/// With fewer generations to come a look does not pay: it takes as long as some ten generations of an active field, or a hundred of a small one
+/// that has settled.
+const LEAST_LEFT: u32 = 384;
+
+/// A multiple of all periods up to [`SETTLED_LIMIT`]. After a multiple of it, each part is in the same phase as now.
+const ALL_PERIODS: u32 = 12;
+
+/// How the cells of a pattern lie at its start, as far as that says when it may settle.
+#[derive(Clone, Copy)]
+enum Start {
+    /// Few cells in a wide box: perhaps parts that never meet.
+    Scattered,
+    /// Dense like a random field, which soon becomes ash.
+    Soup,
+    /// Too many cells for a search of parts, perhaps the ash of a large soup.
+    Large,
+    /// Any other: an oscillator, a ship, ash, a gun or a small pattern that takes long to settle.
+    Other,
 }
 
-/// How far an orbit leads in all its whole periods of `n` generations, if the numbers fit.
-fn whole_moves(orbit: &Orbit, n: u32) -> Option<Cell>
-    requires { 1 ≤ orbit.now.period }
-    ensures { IfSome result (λ v. (v.column ≡ pos (n / orbit.now.period) *ℤ orbit.now.dx) × (v.row ≡ pos (n / orbit.now.period) *ℤ orbit.now.dy)) }
+/// How the cells of the pattern lie.
+fn start_of<A: Allocator>(pattern: &Pattern<A>) -> Start {
+    let Some(bounds) = pattern.bounds() else {
+        return Start::Other;
+    };
+    let area = bounds.width.saturating_mul(bounds.height);
+    let population = pattern.population();
+    if population <= MOST_CELLS && area / 64 > population as u64 {
+        return Start::Scattered;
+    }
+    if population >= 48 && area / 4 <= population as u64 {
+        return Start::Soup;
+    }
+    if population > MOST_CELLS {
+        return Start::Large;
+    }
+    Start::Other
+}
+
+/// Whether to look at generation `i` of `n` whether the field has settled. Random fields of 16 by 16 cells settle after 490 generations on
+/// average, half of them after 250. The longer a field has not settled, the longer it will take, and the fewer looks are worth their time.
+fn is_look(start: Start, i: u32, n: u32) -> bool {
+    let left = n.saturating_sub(i);
+    if left < LEAST_LEFT || left % ALL_PERIODS != 0 {
+        return false;
+    }
+    let twelfth = i / ALL_PERIODS;
+    match start {
+        Start::Soup => matches!(twelfth, 5 | 10 | 17 | 28 | 44 | 62 | 78 | 95 | 114 | 136),
+        Start::Other => matches!(twelfth, 47 | 93 | 136),
+        Start::Scattered => matches!(twelfth, 93 | 136),
+        Start::Large => false,
+    }
+}
+
+/// Whether a field of `now` cells may have settled, if the last look found `before` cells. What has settled by one look has as many cells at
+/// the next, a multiple of all periods later. That spares most of the looks at soups that are still active.
+fn may_be_settled(start: Start, before: usize, now: usize) -> bool {
+    match start {
+        Start::Soup => before == now,
+        _ => now <= MOST_CELLS,
+    }
+}
+
+/// Whether to compare generation `i` of `n` with the pattern itself. Most oscillators and ships, and most ash, are back after 12 generations;
+/// those with parts of period 5, 10, 15 or 30 are after 60.
+fn is_return(start: Start, i: u32, n: u32) -> bool
+    ensures { IsTrue result → 1 ≤ i }
 {
-    let times = i64::from(n / orbit.period);
-    match (times.checked_mul(orbit.dx), times.checked_mul(orbit.dy)) {
+    match start {
+        Start::Scattered => i == ALL_PERIODS && n >= 2 * LEAST_LEFT,
+        Start::Soup => false,
+        Start::Large => i == 5 * ALL_PERIODS && n >= 2 * LEAST_LEFT,
+        Start::Other => i == ALL_PERIODS || i == 5 * ALL_PERIODS && n >= 2 * LEAST_LEFT,
+    }
+}
+
+/// How far moves by `by` in each period lead in all whole periods of `n` generations, if the numbers fit.
+fn whole_moves(period: u32, by: Cell, n: u32) -> Option<Cell>
+    requires { 1 ≤ period }
+    ensures { IfSome result (λ v. (v.column ≡ pos (n / period) *ℤ by.column) × (v.row ≡ pos (n / period) *ℤ by.row)) }
+{
+    let times = i64::from(n / period);
+    match (times.checked_mul(by.column), times.checked_mul(by.row)) {
         (Some(column), Some(row)) => Some(Cell { row, column }),
         _ => None,
     }
+}
+
+/// Generation `n` of a set that is back after `period` generations, moved by `by`, if the numbers fit.
+fn later_return<A: Allocator + Copy>(
+    alloc: A,
+    rule: &Rule,
+    part: &Pattern<A>,
+    period: u32,
+    by: Cell,
+    n: u32,
+) -> Result<Option<Pattern<A>>, Fault>
+    requires few { n ≤ GENERATION_LIMIT }
+    requires from { 1 ≤ period }
+    requires back { Returns rule.now part.now period by.column by.row }
+    requires room { IsWithin 500_000_000 part.now }
+    ensures { IfOk result (λ o. IfSome o (λ X. X ≡ generation_of rule.now part.now n)) }
+{
+    let Some(way) = whole_moves(period, by, n) else {
+        return Ok(None);
+    };
+    let phase = generation(alloc, rule, part, n % period)?;
+    Ok(Some(phase.moved(alloc, way.column, way.row)?))
 }
 
 /// Generation `n` of a part that goes its orbit, if the numbers fit.
@@ -52,11 +150,11 @@ fn later_part<A: Allocator + Copy>(
     requires moving { IsMovingWithin 500_000_000 rule.now moving.now }
     ensures { IfOk result (λ o. IfSome o (λ X. X ≡ generation_of rule.now moving.now.part n)) }
 {
-    let Some(by) = whole_moves(&moving.orbit, n) else {
-        return Ok(None);
+    let by = Cell {
+        row: moving.orbit.dy,
+        column: moving.orbit.dx,
     };
-    let phase = generation(alloc, rule, &moving.part, n % moving.orbit.period)?;
-    Ok(Some(phase.moved(alloc, by.column, by.row)?))
+    later_return(alloc, rule, &moving.part, moving.orbit.period, by, n)
 }
 
 /// Generation `n` of parts that go their orbits, together.
@@ -95,23 +193,66 @@ fn settled<A: Allocator + Copy, P: Plane<A>>(
     ensures later { IfOk result (λ o. IfSome o (λ X. X ≡ generation_of rule.now field.now n)) }
 {
     let _quiet = rule.is_live_next(false, 0);
-    if field.population() > MOST_CELLS {
-        return Ok(None);
-    }
-    match moving_parts::<A, P>(alloc, rule, field, SETTLED_LIMIT, known)? {
+    match moving_parts::<A, P>(alloc, rule, field, SETTLED_LIMIT, LARGEST_PART, known)? {
         Some(parts) => later_parts(alloc, rule, &parts, n),
         None => Ok(None),
     }
 }
 
-/// Generation `n`, if it is time to look at generation `i`, which the plane has, and the field is seen to have settled.
+/// Generation `n` of a pattern that starts as scattered parts, if it is seen that they never meet.
+fn first_look<A: Allocator + Copy, P: Plane<A>>(
+    alloc: A,
+    rule: &Rule,
+    pattern: &Pattern<A>,
+    start: Start,
+    n: u32,
+    known: &mut Vec<Moving<A>, A>,
+) -> Result<Option<Pattern<A>>, Fault>
+    requires few { n ≤ GENERATION_LIMIT }
+    requires room { IsWithin 500_000_000 pattern.now }
+    requires known { All (IsMoving rule.now) known.old.items }
+    ensures known { All (IsMoving rule.now) known.new.items }
+    ensures later { IfOk result (λ o. IfSome o (λ X. X ≡ generation_of rule.now pattern.now n)) }
+{
+    match start {
+        Start::Scattered => settled::<A, P>(alloc, rule, pattern, n, known),
+        _ => Ok(None),
+    }
+}
+
+/// Generation `n` of a pattern, if generation `i`, which the plane has, is the pattern itself, moved or not.
+fn repeated<A: Allocator + Copy, P: Plane<A>>(
+    alloc: A,
+    rule: &Rule,
+    pattern: &Pattern<A>,
+    plane: &P,
+    i: u32,
+    n: u32,
+) -> Result<Option<Pattern<A>>, Fault>
+    requires some { 1 ≤ i }
+    requires few { n ≤ GENERATION_LIMIT }
+    requires room { IsWithin 500_000_000 pattern.now }
+    requires now { P.cells plane.now ≡ generation_of rule.now pattern.now i }
+    ensures { IfOk result (λ o. IfSome o (λ X. X ≡ generation_of rule.now pattern.now n)) }
+{
+    let here = plane.to_pattern(alloc)?;
+    let Some((column, row)) = pattern.shift_to(&here) else {
+        return Ok(None);
+    };
+    later_return(alloc, rule, pattern, i, Cell { row, column }, n)
+}
+
+/// Generation `n`, if it is time to look at generation `i`, which the plane has, and the field is seen to have settled. `last` is how many cells
+/// the last look found.
 fn look<A: Allocator + Copy, P: Plane<A>>(
     alloc: A,
     rule: &Rule,
     plane: &P,
+    start: Start,
     i: u32,
     n: u32,
     known: &mut Vec<Moving<A>, A>,
+    last: &mut usize,
 ) -> Result<Option<Pattern<A>>, Fault>
     requires later { i ≤ n }
     requires few { n ≤ GENERATION_LIMIT }
@@ -120,10 +261,18 @@ fn look<A: Allocator + Copy, P: Plane<A>>(
     ensures known { All (IsMoving rule.now) known.new.items }
     ensures later { IfOk result (λ o. IfSome o (λ X. X ≡ generation_of rule.now (P.cells plane.now) (n - i))) }
 {
-    if !is_look(i) {
+    if !is_look(start, i, n) {
+        return Ok(None);
+    }
+    if *last > MOST_CELLS {
         return Ok(None);
     }
     let field = plane.to_pattern(alloc)?;
+    let before = *last;
+    *last = field.population();
+    if !may_be_settled(start, before, *last) {
+        return Ok(None);
+    }
     settled::<A, P>(alloc, rule, &field, n - i, known)
 }
 
@@ -138,15 +287,33 @@ fn settled_generation_by<A: Allocator + Copy, P: Plane<A>>(
     requires room { IsWithin 400_000_000 pattern.now }
     ensures { GivesGeneration rule.now pattern.now n result }
 {
-    let mut plane = P::from_pattern(alloc, pattern)?;
+    let start = start_of(pattern);
     let mut known = Vec::new(alloc);
+    if let Some(later) = first_look::<A, P>(alloc, rule, pattern, start, n, &mut known)? {
+        return Ok(later);
+    }
+    let mut plane = P::from_pattern(alloc, pattern)?;
+    let mut last = 0;
     for i in 0..n {
-        if let Some(later) = look(alloc, rule, &plane, i, n, &mut known)? {
+        if is_return(start, i, n) {
+            if let Some(later) = repeated(alloc, rule, pattern, &plane, i, n)? {
+                return Ok(later);
+            }
+        }
+        if let Some(later) = look(alloc, rule, &plane, start, i, n, &mut known, &mut last)? {
             return Ok(later);
         }
         plane.step(rule)?;
     }
     plane.to_pattern(alloc)
+}
+
+/// Whether it can pay to look whether a pattern settles in `n` generations. Under a birth at one or two neighbours fields grow and do not settle.
+fn may_settle<A: Allocator>(rule: &Rule, pattern: &Pattern<A>, n: u32) -> bool {
+    n >= LEAST_LEFT
+        && pattern.population() <= MOST_AT_START
+        && !rule.is_live_next(false, 1)
+        && !rule.is_live_next(false, 2)
 }
 
 /// Generation `n` of the pattern, the same as from [`generation`](life_core::generation). Fields that settle soon take less time.
@@ -159,6 +326,9 @@ pub fn settled_generation<A: Allocator + Copy>(
     requires { HasRoomFor n pattern.now }
     ensures { GivesGeneration rule.now pattern.now n result }
 {
+    if !may_settle(rule, pattern, n) {
+        return generation(alloc, rule, pattern, n);
+    }
     if !pattern.within(400_000_000) {
         return generation(alloc, rule, pattern, n);
     }

@@ -31,8 +31,8 @@ use crate::refusal::Refusal;
 use crate::request::{Reply, Request, Shown, ValidRequest};
 use crate::validation::validate;
 use life_census::{Tally, csv, laws_of_tallies, tally_and_steady};
-use life_code::{CodeFault, Kind, PERIOD_LIMIT, code_of_kind, kind, open_code};
-use life_core::{Fault, GENERATION_LIMIT, Pattern, Rule, generation};
+use life_code::{CodeFault, Kind, PERIOD_LIMIT, code_of_kind, kind, open_code, settled_generation};
+use life_core::{Fault, GENERATION_LIMIT, Pattern, Rule};
 use life_rle::{RleFault, Text, into_plain, read, write};
 use life_store::{Archive, Census, Deposit, Unavailable};
 use sqlite::{Alter, MemStore};
@@ -155,7 +155,7 @@ fn file_at(alloc: Global, deposit: &Deposit, n: u32) -> Result<Reply, Unavailabl
     ensures { IfOk result (λ r. r ≡ at_reply n (Some deposit.now)) }
 {
     let rule = deposit.content.rule;
-    let later = generation(alloc, &rule, &deposit.content.cells, n)?;
+    let later = settled_generation(alloc, &rule, &deposit.content.cells, n)?;
     let content = into_plain(alloc, rule, later);
     Ok(Reply::File(Bytes::of(write(alloc, &content)?)))
 }
@@ -254,7 +254,7 @@ fn counted(alloc: Global, deposit: &Deposit, census: &Census) -> Result<(Tally, 
     ensures ordered { IfOk result (λ p. HasOrder p.0) }
 {
     let rule = deposit.content.rule;
-    let later = generation(alloc, &rule, &deposit.content.cells, census.generation)?;
+    let later = settled_generation(alloc, &rule, &deposit.content.cells, census.generation)?;
     count(alloc, &rule, &later, census.limit)
 }
 

@@ -15,8 +15,8 @@ ghost use Rattle.life_jobs.specs.Streams.{TakesFile, PutsText, PutsOnce};
 use crate::stop::Stop;
 use crate::streams::{put_text, read_input};
 use life_census::{csv, tally};
-use life_code::{CodeFault, Kind, PERIOD_LIMIT, code_of_kind, kind, open_code};
-use life_core::{Fault, GENERATION_LIMIT, Pattern, Rule, generation};
+use life_code::{CodeFault, Kind, PERIOD_LIMIT, code_of_kind, kind, open_code, settled_generation};
+use life_core::{Fault, GENERATION_LIMIT, Pattern, Rule};
 use life_rle::{Inlet, Outlet, Record, WriteFault, into_plain, write_to};
 use std::alloc::{AllocError, Global};
 
@@ -30,7 +30,7 @@ fn later(alloc: Global, record: Record, n: u32) -> Result<Record, Fault>
     if n == 0 {
         return Ok(into_plain(alloc, rule, cells));
     }
-    let cells = generation(alloc, &rule, &cells, n)?;
+    let cells = settled_generation(alloc, &rule, &cells, n)?;
     Ok(into_plain(alloc, rule, cells))
 }
 
@@ -108,7 +108,7 @@ fn census_table(alloc: Global, record: &Record, n: u32, limit: u32) -> Result<Ve
     requires inside { IsInside 1024 «record».now.cells }
     ensures { IfOk result (λ v. v.items ≡ census_table n limit «record».now) }
 {
-    let cells = generation(alloc, &record.rule, &record.cells, n)?;
+    let cells = settled_generation(alloc, &record.rule, &record.cells, n)?;
     let tally = tally(alloc, &record.rule, &cells, limit)?;
     csv(alloc, &tally)
 }

@@ -12,7 +12,8 @@ use crate::corners::{Corners, corners_of, corners_of_both, extent_of_box, first_
 use crate::document::put_front;
 use crate::numbers::put_numbered;
 use crate::runs::put_path;
-use life_core::{Cell, Fault, GENERATION_LIMIT, PackedRows, Pattern, Plane, Rule, generation};
+use life_code::settled_generation;
+use life_core::{Cell, Fault, GENERATION_LIMIT, PackedRows, Pattern, Plane, Rule};
 use life_rle::{Record, Text};
 use std::alloc::Allocator;
 
@@ -149,6 +150,6 @@ pub fn animation<A: Allocator + Copy>(
     requires inside { IsInside 1024 «record».now.cells }
     ensures { IfOk result (λ v. v.items ≡ animation «record».now n more) }
 {
-    let start = generation(alloc, &record.rule, &record.cells, n)?;
+    let start = settled_generation(alloc, &record.rule, &record.cells, n)?;
     moving(alloc, &record.name, &record.rule, &start, more)
 }

@@ -36,25 +36,30 @@ impl ReplyBuffers {
 }
 
 /// Writes the reply to a request.
-fn answer_request<D: Desk>(alloc: Global, desk: &mut D, request: Request, draft: &mut ReplyBuffers)
-    requires room { HasRoom draft.old }
-    ensures answered { AnswersAsked D.answers desk.old (Ok request) draft.new.reply.items desk.new }
-    ensures room { HasRoom draft.new }
+fn answer_request<D: Desk>(
+    alloc: Global,
+    desk: &mut D,
+    request: Request,
+    buffers: &mut ReplyBuffers,
+)
+    requires room { HasRoom buffers.old }
+    ensures answered { AnswersAsked D.answers desk.old (Ok request) buffers.new.reply.items desk.new }
+    ensures room { HasRoom buffers.new }
 {
     let reply = desk.answer(alloc, request);
-    write_reply(alloc, &mut draft.reply, &mut draft.body, &reply);
+    write_reply(alloc, &mut buffers.reply, &mut buffers.body, &reply);
 }
 
 /// Writes the refusal of a message for which the archive is not asked.
-fn refuse<D: Desk>(desk: &D, unasked: Unasked, draft: &mut ReplyBuffers)
-    requires room { HasRoom draft.old }
-    ensures answered { (read : Result Request MessageRefusal) → IsAsked (Err unasked) read → AnswersAsked D.answers desk.now read draft.new.reply.items desk.now }
-    ensures room { HasRoom draft.new }
+fn refuse<D: Desk>(desk: &D, unasked: Unasked, buffers: &mut ReplyBuffers)
+    requires room { HasRoom buffers.old }
+    ensures answered { (read : Result Request MessageRefusal) → IsAsked (Err unasked) read → AnswersAsked D.answers desk.now read buffers.new.reply.items desk.now }
+    ensures room { HasRoom buffers.new }
 {
     desk.law_of_refusals();
     match unasked {
-        Unasked::Message(refusal) => write_page(&mut draft.reply, refusal),
-        Unasked::Request(refusal) => write_refusal(&mut draft.reply, &mut draft.body, &refusal),
+        Unasked::Message(refusal) => write_page(&mut buffers.reply, refusal),
+        Unasked::Request(refusal) => write_refusal(&mut buffers.reply, &mut buffers.body, &refusal),
     }
 }
 
@@ -65,15 +70,15 @@ pub(crate) fn answer_message<D: Desk>(
     desk: &mut D,
     head: &GoodHead<'_>,
     body: &[u8],
-    draft: &mut ReplyBuffers,
+    buffers: &mut ReplyBuffers,
 )
     requires routes { routes.now ≡ route_rows }
-    requires room { HasRoom draft.old }
-    ensures answered { AnswersMessage D.answers desk.old (said head.now) body.now draft.new.reply.items desk.new }
-    ensures room { HasRoom draft.new }
+    requires room { HasRoom buffers.old }
+    ensures answered { AnswersMessage D.answers desk.old (said head.now) body.now buffers.new.reply.items desk.new }
+    ensures room { HasRoom buffers.new }
 {
     match asked(alloc, routes, head, body) {
-        Ok(request) => answer_request(alloc, desk, request, draft),
-        Err(unasked) => refuse(desk, unasked, draft),
+        Ok(request) => answer_request(alloc, desk, request, buffers),
+        Err(unasked) => refuse(desk, unasked, buffers),
     }
 }

@@ -71,16 +71,16 @@ fn serve_one<O: Outlet, D: Desk>(
     output: &mut O,
     held: &mut Vec<u8>,
     wanted: &mut usize,
-    draft: &mut ReplyBuffers,
+    buffers: &mut ReplyBuffers,
 ) -> Result<Step, Failed>
     requires routes { routes.now ≡ route_rows }
-    requires draft { HasRoom draft.old }
+    requires buffers { HasRoom buffers.old }
     requires below { WantsUntil wanted.old held.old.items }
     ensures count { OnOk result (O.failures output.new ≡ O.failures output.old) }
     ensures failed { OnErr result (FailsLast (O.failures output.old) (O.failures output.new) (O.last_failed output.new)) }
     ensures step { IsStep (AnswersMessage D.answers) result held.old.items held.new.items desk.old desk.new (O.already output.old) (O.already output.new) }
     ensures room { vec_capacity held.old ≤ vec_capacity held.new }
-    ensures draft { HasRoom draft.new }
+    ensures buffers { HasRoom buffers.new }
     ensures below { WantsUntil wanted.new held.new.items }
 {
     if held.len() < *wanted {
@@ -100,11 +100,11 @@ fn serve_one<O: Outlet, D: Desk>(
         }
         Next::Whole(head) => {
             let end = head.len + head.body as usize;
-            answer_message(alloc, routes, desk, &head, &held[head.len..end], draft);
+            answer_message(alloc, routes, desk, &head, &held[head.len..end], buffers);
             (end, head.closes)
         }
     };
-    if let Err(e) = put_all(output, &draft.reply) {
+    if let Err(e) = put_all(output, &buffers.reply) {
         return Err(e);
     }
     if closes {
@@ -122,20 +122,20 @@ fn serve_held<O: Outlet, D: Desk>(
     output: &mut O,
     held: &mut Vec<u8>,
     wanted: &mut usize,
-    draft: &mut ReplyBuffers,
+    buffers: &mut ReplyBuffers,
 ) -> Result<bool, Failed>
     requires routes { routes.now ≡ route_rows }
-    requires draft { HasRoom draft.old }
+    requires buffers { HasRoom buffers.old }
     requires below { WantsUntil wanted.old held.old.items }
     ensures count { OnOk result (O.failures output.new ≡ O.failures output.old) }
     ensures failed { OnErr result (FailsLast (O.failures output.old) (O.failures output.new) (O.last_failed output.new)) }
     ensures served { IsHeldServed (AnswersMessage D.answers) result held.old.items held.new.items desk.old desk.new (O.already output.old) (O.already output.new) }
     ensures room { vec_capacity held.old ≤ vec_capacity held.new }
-    ensures draft { HasRoom draft.new }
+    ensures buffers { HasRoom buffers.new }
     ensures below { WantsUntil wanted.new held.new.items }
 {
     'held: loop {
-        match serve_one(alloc, routes, desk, output, held, wanted, draft) {
+        match serve_one(alloc, routes, desk, output, held, wanted, buffers) {
             Ok(Step::Goes) => {}
             Ok(Step::Wants) => return Ok(false),
             Ok(Step::Ends) => return Ok(true),
@@ -284,7 +284,7 @@ struct Ready {
     held: Vec<u8>,
     /// No message is whole before this many bytes are held.
     wanted: usize,
-    draft: ReplyBuffers,
+    buffers: ReplyBuffers,
 }
 
 /// The routes, the buffer and the reserve for a reply.
@@ -293,16 +293,16 @@ fn prepared(alloc: Global) -> Result<Ready, AllocError>
     ensures routes { IfOk result (λ p. p.routes ≡ route_rows) }
     ensures held { IfOk result (λ p. (p.held.items ≡ []) × (HELD_LIMIT ≤ vec_capacity p.held)) }
     ensures below { IfOk result (λ p. WantsUntil p.wanted p.held.items) }
-    ensures draft { IfOk result (λ p. HasRoom p.draft) }
+    ensures buffers { IfOk result (λ p. HasRoom p.buffers) }
 {
-    let draft = ReplyBuffers::with_room(alloc)?;
+    let buffers = ReplyBuffers::with_room(alloc)?;
     let held = Vec::with_capacity(alloc, HELD_LIMIT)?;
     match route_table(alloc) {
         Ok(routes) => Ok(Ready {
             routes,
             held,
             wanted: 0,
-            draft,
+            buffers,
         }),
         Err(_) => Err(AllocError),
     }
@@ -319,7 +319,7 @@ fn serve_stream<I: Inlet, O: Outlet, D: Desk>(
     requires routes { ready.old.routes ≡ route_rows }
     requires empty { ready.old.held.items ≡ [] }
     requires held { HELD_LIMIT ≤ vec_capacity ready.old.held }
-    requires draft { HasRoom ready.old.draft }
+    requires buffers { HasRoom ready.old.buffers }
     requires below { WantsUntil ready.old.wanted ready.old.held.items }
     ensures outcome { IsOutcome (AnswersMessage D.answers) result (I.to_come input.old) (I.to_come input.new) (I.last_take input.new) desk.old desk.new (O.already output.old) (O.already output.new) }
     ensures most { LosesUpTo (TAKES * MOST_TAKEN) (I.to_come input.old) (I.to_come input.new) }
@@ -337,7 +337,7 @@ fn serve_stream<I: Inlet, O: Outlet, D: Desk>(
             output,
             &mut ready.held,
             &mut ready.wanted,
-            &mut ready.draft,
+            &mut ready.buffers,
         ) {
             Ok(true) => return Ok(()),
             Ok(false) => {}

@@ -15,7 +15,7 @@ pub record Going (r m t f p h d i o b n l e : Type 0) : Type 0 where
   pub few : f
   pub routes : p
   pub room : h
-  pub draft : d
+  pub buffers : d
   pub takes : i
   pub puts : o
   pub below : b
@@ -31,7 +31,7 @@ invariant-takes g l = Going
     (l.taken ≤ most_takes)
     (l.ready.routes ≡ route_rows)
     (held_limit ≤ vec_capacity l.ready.held)
-    (HasRoom l.ready.draft)
+    (HasRoom l.ready.buffers)
     (g.I.Inlet.failures l.input ≡ g.I.Inlet.failures l.fn.input)
     (g.O.Outlet.failures l.output ≡ g.O.Outlet.failures l.fn.output)
     (WantsUntil l.ready.wanted l.ready.held.items)

@@ -3,6 +3,7 @@
 import os
 import pty
 import random
+import re
 import shutil
 import sqlite3
 import subprocess
@@ -226,7 +227,8 @@ def test_other_files(folder: str) -> None:
 # ---- several errors
 
 DEPOSITS, CENSUSES, SEEDS = 6, 8, 100
-# Changes of a row, with {} for its number: of a deposit, so that its censuses can't be counted; of its member or token; of a census.
+# Changes of a row, with {} for its number: of a deposit, so that its censuses can't be counted; of its member or
+# token; of a census.
 OF_DEPOSIT = [
     "UPDATE deposits SET rule = 'B36/S23' WHERE id = {}",
     "UPDATE deposits SET population = population + 1 WHERE id = {}",
@@ -300,6 +302,45 @@ def test_a_hundred_errors(folder: str) -> None:
     far = "INSERT INTO deposits SELECT 1000000000, member, 'far', rule, population, rle FROM deposits WHERE id = 1"
     wrong = [f"deposit {number}" for number in range(DEPOSITS + 1, DEPOSITS + 101)]
     checks_as("a gap", several(folder, [far]), (1, lines_of(wrong), UNSOUND))
+
+
+# ---- one token twice
+
+# A member and a token side by side, as rows and index entries have them, and those of the row before.
+TWICE = {"deposits": (b"annt2", b"annt1"), "censuses": (b"bobc2", b"bobc1")}
+
+
+@pytest.mark.parametrize("places", [[0, 1], [0], [1]], ids=["both", "first", "second"])
+@pytest.mark.parametrize("table", TWICE)
+def test_one_token_twice(folder: str, table: str, places: list[int]) -> None:
+    """Bytes give a row, its entry in the index, or both, another row's member and token. Such a file is not opened."""
+    database, (own, other) = several(folder, []), TWICE[table]
+    with open(database, "rb") as file:
+        data = bytearray(file.read())
+    found = [match.start() for match in re.finditer(own, data)]
+    same("a row and an entry", len(found), 2)
+    for place in places:
+        data[found[place] : found[place] + len(own)] = other
+    with open(database, "wb") as file:
+        file.write(data)
+    checks_as("one token twice", database, (1, b"", b"refused: unavailable\n"))
+
+
+@pytest.mark.parametrize("table", TWICE)
+def test_tables_without_unique(folder: str, table: str) -> None:
+    """Tables that let a member use a token twice are not an archive's."""
+    database = fresh(folder, "twice.db")
+    kept = sqlite3.connect(database)
+    for statement in archives.tables():
+        is_it = statement.startswith(f"CREATE TABLE {table} ")
+        kept.execute(statement.replace("UNIQUE (member, token)", "CHECK (id > 0)") if is_it else statement)
+    kept.execute("INSERT INTO layout VALUES (2)")
+    for statement, values in ROWS:
+        kept.execute(statement, values)
+    kept.execute(f"UPDATE {table} SET member = 'ann', token = 't1'")
+    kept.commit()
+    kept.close()
+    checks_as("one token twice", database, (1, lines_of([NO_TABLES]), UNSOUND))
 
 
 # ---- single bytes, kills, progress

@@ -41,13 +41,13 @@ some_is same = cc
 module _ {D E : Type 0} (g : disk.Ghosts D) (h : disk.Ghosts E) (image again : Image) (capacity next : ℕ) (before after : Option (List ℕ)) (files : Files D) (left : Result (Files E) (Files E)) (two : PathJob h again next left)
     (clean : AreClean g files.log files.db) (may : outcomes g files.log files.db again) where
   -- the verdict was sound
-  begins : (v : Verdict) (further : List Wrong) → AreFurther (Ok v) further → PutsVerdict v further before after (Ok tt) → (one : IsPathCheck false g image capacity (Ok v) files)
+  begins : (v : Verdict) (further : List Wrong) → AreFurther (Ok v) further → PutsVerdict v further before after (Ok tt) → (one : IsPathCheck false g image capacity (Ok v) further files)
       → (A : Archive) × Gains before after (verdict_line (Sound (length A.deposits) (length A.censuses))) × LeavesOne h (BecomesBy two (under next A)) left
   begins (NotSound w) further few puts one = elim puts [
     | inl it ↦ absurd (done_is_no_stop it.0)
     | inr others ↦ elim others [ inl it ↦ absurd (done_is_no_stop it.0) | inr it ↦ absurd (done_is_no_stop it) ]
   ]
-  begins (SoundButForCounts d c) further few puts one = absurd (whole_is_not_quick (one.finds clean).5)
+  begins (SoundButForCounts d c) further few puts one = absurd (whole_is_not_quick (one.finds clean).6)
   begins (Sound d c) further few puts one = elim puts [
     | inl it ↦ let found = one.finds clean in (
       found.0,
@@ -57,12 +57,12 @@ module _ {D E : Type 0} (g : disk.Ghosts D) (h : disk.Ghosts E) (image again : I
     | inr others ↦ elim others [ inl it ↦ absurd (done_is_no_stop it.0) | inr it ↦ absurd (done_is_no_stop it) ]
   ]
 
-  begins_with : (checked : Result Verdict Failed) (further : List Wrong) → ChecksPath false g image capacity checked (Some files) → AreFurther checked further → PutsChecked checked further before after (Ok tt)
+  begins_with : (checked : Result Verdict Failed) (further : List Wrong) → ChecksPath false g image capacity checked further (Some files) → AreFurther checked further → PutsChecked checked further before after (Ok tt)
       → (A : Archive) × Gains before after (verdict_line (Sound (length A.deposits) (length A.censuses))) × LeavesOne h (BecomesBy two (under next A)) left
   begins_with (Err e) further checks few puts = absurd (done_is_no_stop puts)
   begins_with (Ok v) further checks few puts = elim checks [
     | inl unopened ↦ absurd (let same : Ok v ≡ Err unopened.0 = unopened.1 in cc)
-    | inr one ↦ begins v further few puts (subst (λ (all : Files D). IsPathCheck false g image capacity (Ok v) all) (sym (some_is one.1)) one.2)
+    | inr one ↦ begins v further few puts (subst (λ (all : Files D). IsPathCheck false g image capacity (Ok v) further all) (sym (some_is one.1)) one.2)
   ]
 
 pub checked_files_begin : {D E : Type 0} (g : disk.Ghosts D) (h : disk.Ghosts E) → CheckedFilesBegin g h

@@ -82,7 +82,7 @@ by_output answer = by_streams answer
 -- The file could not be opened, and nothing was put; or it was checked, and what was found was put.
 abbrev pub ChecksAt : {D : Type 0} → Bool → disk.Ghosts D → Image → ℕ → Option (List ℕ) → Option (List ℕ) → Result (Unit {0}) ArchiveStop → Option (Files D) → Type 0
 ChecksAt quick g image capacity before after answer left =
-    (checked : Result Verdict Failed) × (further : List Wrong) × ChecksPath quick g image capacity checked left × AreFurther checked further × PutsChecked checked further before after answer
+    (checked : Result Verdict Failed) × (further : List Wrong) × ChecksPath quick g image capacity checked further left × AreFurther checked further × PutsChecked checked further before after answer
 
 -- Files were checked, with each census counted again, and the answer Ok, and `life serve` or `life deposit` opens them next, maybe on another disk, or what a crash left of them. If the disk was
 -- honest, there is an archive A with which that job begins: what it leaves it leaves of A, under its own capacity. The line that was put has the numbers of deposits and

@@ -1,5 +1,5 @@
 -- What files hold that were checked.
-use Rattle.std.proofs.Common.{ℕ, Bool, Result, Ok, Err, IsTrue}
+use Rattle.std.proofs.Common.{ℕ, Bool, List, Result, Ok, Err, IsTrue}
 use Rattle.std.specs.Prelude.{IfOk}
 use Rattle.sqlite_disk.specs.declared.Disk as disk
 use Rattle.sqlite_disk.specs.declared.Files.{Files}
@@ -12,23 +12,25 @@ use Rattle.life_desk.specs.Represents.{kept_of}
 use Rattle.life_desk.proofs.Representing.{holds_of}
 use Rattle.life_check.specs.declared.judging.Verdict.{Verdict}
 use Rattle.life_check.specs.declared.judging.Verdict.TheVariants.{Sound, SoundButForCounts, NotSound}
+use Rattle.life_check.specs.declared.judging.Wrong.{Wrong}
 use Rattle.life_check.specs.Sound.{RepresentsSome}
 use Rattle.life_check.specs.Files.{EndsCheck, IsFoundAt, FindsIn, IsPathCheck}
 
-module _ {D : Type 0} {g : disk.Ghosts D} (quick : Bool) (a : ArchiveView (FileStore D g)) (checked : Result Verdict Unavailable) (files : Files D) (ends : EndsCheck quick g a checked files) (image : Image) (capacity : ℕ) (opens : IsFoundAt image capacity a) where
+module _ {D : Type 0} {g : disk.Ghosts D} (quick : Bool) (a : ArchiveView (FileStore D g)) (checked : Result Verdict Unavailable) (further : List Wrong) (files : Files D) (ends : EndsCheck quick g a checked further files) (image : Image) (capacity : ℕ) (opens : IsFoundAt image capacity a) where
   still_healthy : AreClean g files.log files.db → IsTrue a.tables.is_healthy
   still_healthy clean = opens.healthy (ends.honest clean)
 
   finds_in : (r : Result Verdict Unavailable) → AreClean g files.log files.db → IfOk r (RepresentsSome quick a) → IfOk r (FindsIn quick files a)
-  finds_in (Ok (Sound d c)) clean it = (it.0, it.1, it.2, it.3, ends.held (kept_of it.0) (still_healthy clean) (holds_of a it.0 it.1) clean, it.4, it.5)
+  finds_in (Ok (Sound d c)) clean it = (it.0, it.1, it.2, it.3, ends.held (kept_of it.0) (still_healthy clean) (holds_of a it.0 it.1) clean, it.4, it.5, it.6)
   finds_in (Ok (SoundButForCounts d c)) clean it = it
   finds_in (Ok (NotSound w)) clean it = it
   finds_in (Err e) clean it = tt
 
-  pub is_path_check : IsPathCheck quick g image capacity checked files
+  pub is_path_check : IsPathCheck quick g image capacity checked further files
   is_path_check = record {
     opened = a;
     opens = opens;
     finds = λ clean. finds_in checked clean (ends.finds clean);
+    lists = ends.lists;
     keeps = λ clean k holds. let now = still_healthy clean in ends.held k now (opens.found k now holds) clean;
   }

@@ -18,13 +18,17 @@ use Rattle.life_desk.specs.Archive.{Archive, tally_for}
 use Rattle.life_desk.specs.Represents.{tallied, Represents, EachHasDeposit}
 use Rattle.life_check.specs.ReadState.{AreNames, IsAskable, IsNamed}
 use Rattle.life_check.specs.CountState.{AddsUp, AreSome, IsTallied, IsCounted, AreCounted}
+use Rattle.sqlite_schema.specs.declared.schema.Constraint.TheVariants.{Unique}
+use Rattle.sqlite_schema.specs.Rules.{Keeps}
 use Rattle.life_store.specs.Layout.{archive_schema}
 use Rattle.life_store.specs.TreesOf.{AreTreesOf}
 use Rattle.life_check.specs.declared.judging.Verdict.{Verdict}
 use Rattle.life_check.specs.declared.judging.Verdict.TheVariants.{Sound, SoundButForCounts, NotSound}
-use Rattle.life_check.specs.Sound.{AreSound, FindsSound, FindsWrong, IsAskedFor, RepresentsButForCounts, RepresentsSome, RepresentsNone}
+use Rattle.life_check.specs.Sound.{AreSound, FindsSound, FindsWrong, IsAskedFor, HasUniqueTokens, RepresentsButForCounts, RepresentsSome, RepresentsNone}
 use Rattle.life_check.specs.declared.judging.Wrong.{Wrong}
 use Rattle.life_check.specs.declared.judging.Wrong.TheVariants as wrong
+use Rattle.life_check.proofs.WalkLemmas.{all_more}
+use Rattle.life_check.proofs.TokenLemmas.{unique_deposits, unique_censuses}
 
 -- what is counted anew is what was counted
 same_tallied : (ds : List Deposit) (ts : List Tallied) → AllByRecursion (IsCounted false ds) ts → map (tallied ds) (map (λ (t : Tallied). t.census) ts) ≡ ts
@@ -42,10 +46,6 @@ all_askable quick ds (t ∷ ts) all = (all.0.askable, all_askable quick ds ts al
 many_mapped : {A B : Type 0} (f : A → B) (xs : List A) → length (map f xs) ≡ length xs
 many_mapped f [] = refl
 many_mapped f (x ∷ xs) = omega (arith, many_mapped f xs)
-
-all_more : {X : Type 0} (P Q : X → Type 0) → ((x : X) → P x → Q x) → (xs : List X) → AllByRecursion P xs → AllByRecursion Q xs
-all_more P Q more [] all = tt
-all_more P Q more (x ∷ xs) all = (more x all.0, all_more P Q more xs all.1)
 
 -- the archive of what was read, which requests can ask for
 module _ {S : Type 0} (a : ArchiveView S) (trees : Trees) (quick : Bool) (d c : ℕ) (schema : a.tables.schema ≡ archive_schema) (has : AreTreesOf a.tables trees) (sound : AreSound quick trees d c) where
@@ -79,11 +79,16 @@ module _ {S : Type 0} (a : ArchiveView S) (trees : Trees) (quick : Bool) (d c : 
     censuses = all_askable quick sound.filed.0 read.censuses read.good;
   }
 
+  unique_tokens : HasUniqueTokens archive
+  unique_tokens =
+      let unique = subst (λ s. Keeps Unique s trees) schema (has.obeys.obeys.rules Unique) in
+      record { deposits = unique_deposits trees unique sound.filed.0 sound.filed.1; censuses = unique_censuses trees unique read.censuses read.rows }
+
   many_censuses : length archive.censuses ≡ c
   many_censuses = many_mapped (λ (t : Tallied). t.census) read.censuses ∙ read.many
 
 pub represented : {S : Type 0} (a : ArchiveView S) (trees : Trees) (d c : ℕ) → a.tables.schema ≡ archive_schema → AreTreesOf a.tables trees → AreSound false trees d c
-    → (A : Archive) × Represents a A × (length A.deposits ≡ d) × (length A.censuses ≡ c) × IsAskedFor A
+    → (A : Archive) × Represents a A × (length A.deposits ≡ d) × (length A.censuses ≡ c) × IsAskedFor A × HasUniqueTokens A
 unfolding Represents
 represented a trees d c schema has sound =
     let ds = sound.filed.0 in
@@ -98,10 +103,11 @@ represented a trees d c schema has sound =
       sound.filed.3,
       many_censuses a trees false d c schema has sound,
       asked_for a trees false d c schema has sound,
+      unique_tokens a trees false d c schema has sound,
     )
 
 pub represented_uncounted : {S : Type 0} (a : ArchiveView S) (trees : Trees) (d c : ℕ) → a.tables.schema ≡ archive_schema → AreTreesOf a.tables trees → AreSound true trees d c
-    → (A : Archive) × RepresentsButForCounts a A × (length A.deposits ≡ d) × (length A.censuses ≡ c) × IsAskedFor A
+    → (A : Archive) × RepresentsButForCounts a A × (length A.deposits ≡ d) × (length A.censuses ≡ c) × IsAskedFor A × HasUniqueTokens A
 represented_uncounted a trees d c schema has sound =
     let ds = sound.filed.0 in
     let it = read a trees true d c schema has sound in (
@@ -117,6 +123,7 @@ represented_uncounted a trees d c schema has sound =
       sound.filed.3,
       many_censuses a trees true d c schema has sound,
       asked_for a trees true d c schema has sound,
+      unique_tokens a trees true d c schema has sound,
     )
 
 -- the deposits of an archive, with what a table keeps of them
@@ -171,8 +178,8 @@ other_tables a other = λ A m. other m.holds.schema
 
 -- what was found of the trees, said of the archive
 pub sound_is : {S : Type 0} (quick : Bool) (a : ArchiveView S) (trees : Trees) (v : Verdict) → a.tables.schema ≡ archive_schema → AreTreesOf a.tables trees → FindsSound quick trees v → RepresentsSome quick a v
-sound_is quick a trees (Sound d c) schema has it = let found = represented a trees d c schema has (subst (λ q. AreSound q trees d c) it.1 it.0) in (found.0, found.1, found.2, found.3, found.4, it.1)
-sound_is quick a trees (SoundButForCounts d c) schema has it = let found = represented_uncounted a trees d c schema has (subst (λ q. AreSound q trees d c) it.1 it.0) in (found.0, found.1, found.2, found.3, found.4, it.1)
+sound_is quick a trees (Sound d c) schema has it = let found = represented a trees d c schema has (subst (λ q. AreSound q trees d c) it.1 it.0) in (found.0, found.1, found.2, found.3, found.4, found.5, it.1)
+sound_is quick a trees (SoundButForCounts d c) schema has it = let found = represented_uncounted a trees d c schema has (subst (λ q. AreSound q trees d c) it.1 it.0) in (found.0, found.1, found.2, found.3, found.4, found.5, it.1)
 sound_is quick a trees (NotSound w) schema has it = none_is a trees w has it
 
 pub ok_sound : {S E : Type 0} (quick : Bool) (a : ArchiveView S) (trees : Trees) (r : Result Verdict E) → a.tables.schema ≡ archive_schema → OnOk r (AreTreesOf a.tables trees) → IfOk r (FindsSound quick trees) → IfOk r (RepresentsSome quick a)

@@ -53,6 +53,10 @@ read_more f P n rows more row x before good is =
       are = before.are ∙ ap (λ r. rows_by f 1 before.done ++ r ∷ more) (is ∙ ap (λ k. Int (pos k) ∷ f x) number) ∙ rows_push f before.done 1 x more;
     }
 
+pub all_more : {X : Type 0} (P Q : X → Type 0) → ((x : X) → P x → Q x) → (xs : List X) → AllByRecursion P xs → AllByRecursion Q xs
+all_more P Q more [] all = tt
+all_more P Q more (x ∷ xs) all = (more x all.0, all_more P Q more xs all.1)
+
 pub append_none : {A : Type 0} (xs : List A) → xs ++ [] ≡ xs
 append_none [] = refl
 append_none (x ∷ xs) = ap (λ all. x ∷ all) (append_none xs)

@@ -1,7 +1,7 @@
 -- The errors that are listed after the first.
-use Rattle.std.specs.Prelude.{◌≡◌, ◌≤◌, ⊤, pos, true, List, [], length, Result, Ok, Err}
+use Rattle.std.specs.Prelude.{◌≡◌, ◌<◌, ⊤, pos, true, List, [], length, Result, Ok, Err}
 use Rattle.std.specs.List.{AllByRecursion}
-use Rattle.sqlite_trees.specs.Tree.{Trees}
+use Rattle.sqlite_value.specs.Order.{Row}
 use Rattle.sqlite_trees.specs.View.{Finds}
 use Rattle.life_store.specs.declared.fault.Unavailable.{Unavailable}
 use Rattle.life_store.specs.declared.kept.Deposit.{Deposit}
@@ -12,20 +12,35 @@ use Rattle.life_check.specs.declared.judging.Wrong.{Wrong}
 use Rattle.life_check.specs.declared.judging.Wrong.TheVariants as wrong
 use Rattle.life_check.specs.ReadState.{IsNamed, deposit_row}
 
--- The row with this number is not that of a deposit, or not of one that a request can ask for. Nothing is said of other errors.
-abbrev pub IsWrongThere : Trees → Wrong → Type 0
-IsWrongThere trees (wrong.Deposit id) = (d : Deposit) → IsFiled d → Finds (trees 1) (pos id) (deposit_row id d) true → ⊥
-IsWrongThere trees (wrong.DepositNames id) = (d : Deposit) → IsNamed d → Finds (trees 1) (pos id) (deposit_row id d) true → ⊥
-IsWrongThere trees (wrong.Census id) = ⊤
-IsWrongThere trees wrong.Layout = ⊤
-IsWrongThere trees wrong.Tables = ⊤
+-- The row of `deposits` with this number is not that of a deposit, or not of one that a request can ask for. Nothing is said of censuses. Nothing else
+-- is listed.
+abbrev pub IsWrongThere : List Row → Wrong → Type 0
+IsWrongThere deposits (wrong.Deposit id) = (d : Deposit) → IsFiled d → Finds deposits (pos id) (deposit_row id d) true → ⊥
+IsWrongThere deposits (wrong.DepositNames id) = (d : Deposit) → IsNamed d → Finds deposits (pos id) (deposit_row id d) true → ⊥
+IsWrongThere deposits (wrong.Census id) = ⊤
+IsWrongThere deposits wrong.Layout = ⊥
+IsWrongThere deposits wrong.Tables = ⊥
 
-abbrev pub AreWrongThere : Trees → List Wrong → Type 0
-AreWrongThere trees = AllByRecursion (IsWrongThere trees)
+abbrev pub AreWrongThere : List Row → List Wrong → Type 0
+AreWrongThere deposits = AllByRecursion (IsWrongThere deposits)
 
--- after the first error of a check at most 99 are listed, and none otherwise
+-- The error comes before all censuses: then the deposits after it were not looked at.
+abbrev pub IsBeforeCensuses : Wrong → Type 0
+IsBeforeCensuses wrong.Tables = ⊥
+IsBeforeCensuses wrong.Layout = ⊤
+IsBeforeCensuses (wrong.Deposit id) = ⊤
+IsBeforeCensuses (wrong.DepositNames id) = ⊤
+IsBeforeCensuses (wrong.Census id) = ⊥
+
+-- the same of a verdict
+abbrev pub StopsBeforeCensuses : Verdict → Type 0
+StopsBeforeCensuses (Sound d c) = ⊥
+StopsBeforeCensuses (SoundButForCounts d c) = ⊥
+StopsBeforeCensuses (NotSound w) = IsBeforeCensuses w
+
+-- with the first error of a check at most 100 are listed, and none otherwise
 abbrev pub AreFurther : Result Verdict Unavailable → List Wrong → Type 0
 AreFurther (Ok (Sound d c)) listed = listed ≡ []
 AreFurther (Ok (SoundButForCounts d c)) listed = listed ≡ []
-AreFurther (Ok (NotSound w)) listed = length listed ≤ 99
+AreFurther (Ok (NotSound w)) listed = length listed < 100
 AreFurther (Err e) listed = listed ≡ []

@@ -1,5 +1,5 @@
 -- When a check finds the tables of an archive sound.
-use Rattle.std.specs.Prelude.{◌≡◌, ◌≢◌, ◌<◌, ◌^◌, ℕ, Bool, true, false, List, length, map}
+use Rattle.std.specs.Prelude.{◌≡◌, ◌≢◌, ◌<◌, ◌^◌, ℕ, Bool, true, false, List, length, map, slice_get, Some}
 use Rattle.std.specs.List.{AllByRecursion}
 use Rattle.sqlite_trees.specs.Tree.{Trees}
 use Rattle.life_store.specs.declared.kept.Deposit.{Deposit}
@@ -41,6 +41,15 @@ pub record IsAskedFor (A : Archive) : Type 0 where
   pub deposits : AllByRecursion (λ d. AreNames d.member d.token) A.deposits
   pub censuses : AllByRecursion IsAskable A.censuses
 
+-- no two have the same member and the same token
+abbrev pub AreUnique : {X : Type 0} → (X → List ℕ × List ℕ) → List X → Type 0
+AreUnique {X} names xs = (i j : ℕ) (x y : X) → slice_get xs i ≡ Some x → slice_get xs j ≡ Some y → names x ≡ names y → i ≡ j
+
+-- A member's token is that of one deposit, and that of one census. The two are independent.
+pub record HasUniqueTokens (A : Archive) : Type 0 where
+  pub deposits : AreUnique (λ d. (d.member, d.token)) A.deposits
+  pub censuses : AreUnique (λ c. (c.member, c.token)) A.censuses
+
 -- The tables represent the archive but for the counts of its censuses: each has some tally that adds up, and some flag. The order of a tally's rows is not
 -- looked at.
 pub record RepresentsButForCounts {S : Type 0} (a : ArchiveView S) (A : Archive) : Type 0 where
@@ -61,6 +70,6 @@ RepresentsNone a (wrong.Census id) = (A : Archive) → IsAskedFor A → Represen
 
 -- the tables represent an archive with this many deposits and censuses, but for its counts if the check is quick; or no archive
 abbrev pub RepresentsSome : {S : Type 0} → Bool → ArchiveView S → Verdict → Type 0
-RepresentsSome quick a (Sound d c) = (A : Archive) × Represents a A × (length A.deposits ≡ d) × (length A.censuses ≡ c) × IsAskedFor A × (quick ≡ false)
-RepresentsSome quick a (SoundButForCounts d c) = (A : Archive) × RepresentsButForCounts a A × (length A.deposits ≡ d) × (length A.censuses ≡ c) × IsAskedFor A × (quick ≡ true)
+RepresentsSome quick a (Sound d c) = (A : Archive) × Represents a A × (length A.deposits ≡ d) × (length A.censuses ≡ c) × IsAskedFor A × HasUniqueTokens A × (quick ≡ false)
+RepresentsSome quick a (SoundButForCounts d c) = (A : Archive) × RepresentsButForCounts a A × (length A.deposits ≡ d) × (length A.censuses ≡ c) × IsAskedFor A × HasUniqueTokens A × (quick ≡ true)
 RepresentsSome quick a (NotSound w) = RepresentsNone a w

@@ -1,12 +1,13 @@
 //! Checking the file of a path.
 
-ghost use Rattle.std.specs.Prelude.{◌≤◌, length, IfOk, IsTrue};
+ghost use Rattle.std.specs.Prelude.{◌≡◌, List, IfOk, IsTrue};
+ghost use Rattle.sqlite_value.specs.Order.{Row};
 ghost use Rattle.sqlite_trees.specs.View.{IsClean};
 ghost use Rattle.sqlite_wal.specs.Files.{image_at};
 ghost use Rattle.sqlite.specs.Held.{AreDatabases};
 ghost use Rattle.life_check.specs.WalkState.{IsCalm};
 ghost use Rattle.life_check.specs.Files.{EndsCheck, ChecksPath};
-ghost use Rattle.life_check.specs.Listed.{AreFurther};
+ghost use Rattle.life_check.specs.Listed.{AreFurther, AreWrongThere, StopsBeforeCensuses};
 ghost use Rattle.life_check.specs.Sound.{RepresentsSome};
 
 use crate::judging::{Verdict, Wrong, check};
@@ -17,23 +18,6 @@ use sqlite::{Alter, FileFrom, FileStore, Start};
 use sqlite_disk::{Disk, Files};
 use std::alloc::Global;
 
-/// The errors after the first. They are left out if they can't be read.
-fn errors_after<S: Alter, W: Watch>(
-    store: &mut S,
-    alloc: Global,
-    quick: bool,
-    first: Wrong,
-    watch: &mut W,
-) -> Vec<Wrong>
-    ensures few { length result.items ≤ 99 }
-    ensures calm { IsCalm S.Store store.old store.new }
-{
-    match further_errors(store, alloc, quick, first, watch) {
-        Ok(errors) => errors,
-        Err(_) => Vec::new(alloc),
-    }
-}
-
 /// The errors after the first of a check, if it found one.
 fn errors_of<S: Alter, W: Watch>(
     store: &mut S,
@@ -43,6 +27,7 @@ fn errors_of<S: Alter, W: Watch>(
     watch: &mut W,
 ) -> Vec<Wrong>
     ensures few { AreFurther checked.now result.items }
+    ensures wrong { (deposits : List Row) → IsClean (S.Store.view store.new) → IfOk checked.now (λ v. StopsBeforeCensuses v → (S.Store.view store.old).trees 1 ≡ deposits) → AreWrongThere deposits result.items }
     ensures calm { IsCalm S.Store store.old store.new }
 {
     let verdict = match checked {
@@ -52,7 +37,7 @@ fn errors_of<S: Alter, W: Watch>(
     match verdict {
         Verdict::Sound(_, _) => Vec::new(alloc),
         Verdict::SoundButForCounts(_, _) => Vec::new(alloc),
-        Verdict::NotSound(first) => errors_after(store, alloc, quick, first, watch),
+        Verdict::NotSound(first) => further_errors(store, alloc, quick, first, watch),
     }
 }
 
@@ -65,6 +50,7 @@ fn check_and_list<S: Alter + Drop, W: Watch>(
 ) -> (Result<Verdict, Unavailable>, Vec<Wrong>, S)
     ensures sound { IsClean (S.Store.view result.2) → IfOk result.0 (RepresentsSome quick archive) }
     ensures further { AreFurther result.0 result.1.items }
+    ensures wrong { IsClean (S.Store.view result.2) → AreWrongThere archive.tables.deposits result.1.items }
     ensures calm { IsCalm S.Store archive.store result.2 }
     ensures numbered { IsClean (S.Store.view result.2) → IsTrue (S.Store.view result.2).is_numbered }
     ensures databases { IsClean (S.Store.view result.2) → AreDatabases (S.Store.recovers result.2) }
@@ -81,7 +67,7 @@ fn check_opened<D: Disk + Drop, W: Watch>(
     quick: bool,
     watch: &mut W,
 ) -> (Result<Verdict, Unavailable>, Vec<Wrong>, Files<D>)
-    ensures check { EndsCheck quick D.Disk archive result.0 result.2 }
+    ensures check { EndsCheck quick D.Disk archive result.0 result.1.items result.2 }
     ensures further { AreFurther result.0 result.1.items }
 {
     archive.law_of_crashes();
@@ -106,7 +92,7 @@ pub fn check_path<T: Start, W: Watch>(
     Vec<Wrong>,
     Option<Files<FileFrom<T>>>,
 )
-    ensures check { ChecksPath quick ⟦<FileFrom<T> as Disk>⟧ (image_at T.Start) capacity result.0 result.2 }
+    ensures check { ChecksPath quick ⟦<FileFrom<T> as Disk>⟧ (image_at T.Start) capacity result.0 result.1.items result.2 }
     ensures further { AreFurther result.0 result.1.items }
 {
     match Archive::open_unprepared(rt, path, capacity, start) {

@@ -1,13 +1,18 @@
 //! The check of a whole archive.
 
-ghost use Rattle.std.specs.Prelude.{◌≡◌, ◌≢◌, ◌↔◌, ◌∷◌, [], pos, false, IfOk, OnOk, IsTrue};
+ghost use Rattle.std.specs.Prelude.{◌≡◌, ◌≢◌, ◌↔◌, ◌∷◌, [], ℕ, pos, false, Some, IfOk, OnOk, IsTrue};
 ghost use Rattle.sqlite_value.specs.declared.value.Value.TheVariants.{Int};
 ghost use Rattle.sqlite_trees.specs.View.{IsClean};
 ghost use Rattle.sqlite.specs.Held.{AreDatabases};
 ghost use Rattle.life_store.specs.Layout.{archive_schema};
 ghost use Rattle.life_store.specs.Tables.{version_2};
 ghost use Rattle.life_check.specs.WalkState.{IsCalm, KeepsTrees};
-ghost use Rattle.life_check.specs.Sound.{FindsSound, RepresentsSome};
+ghost use Rattle.life_check.specs.Listed.{StopsBeforeCensuses};
+ghost use Rattle.life_check.specs.Sound.{FindsSound, RepresentsSome, HasUniqueTokens};
+ghost use Rattle.life_desk.specs.Archive.{Archive as Model};
+ghost use Rattle.life_store.specs.declared.kept.Deposit.{Deposit};
+ghost use Rattle.life_store.specs.declared.kept.Census.{Census};
+ghost use Rattle.life_store.specs.Kept.{numbered, deposit_by, census_by};
 
 use crate::censuses::censuses;
 use crate::deposits::deposits;
@@ -86,6 +91,7 @@ pub fn check_trees<S: Alter, W: Watch>(
 ) -> Result<Verdict, Unavailable>
     ensures sound { IsClean (S.Store.view store.new) → IfOk result (FindsSound quick (S.Store.view store.old).trees) }
     ensures unbroken { IsClean (S.Store.view store.new) → OnOk result ((S.Store.view store.old).is_broken ≡ false) }
+    ensures deposits { IsClean (S.Store.view store.new) → IfOk result (λ v. StopsBeforeCensuses v → (S.Store.view store.new).trees 1 ≡ (S.Store.view store.old).trees 1) }
     ensures calm { IsCalm S.Store store.old store.new }
 {
     if !is_layout(store, alloc)? {
@@ -124,6 +130,7 @@ fn check_rows<S: Alter + Drop, W: Watch>(
     watch: &mut W,
 ) -> (Result<Verdict, Unavailable>, S)
     ensures sound { IsClean (S.Store.view result.1) → archive.tables.schema ≡ archive_schema → IfOk result.0 (RepresentsSome quick archive) }
+    ensures deposits { IsClean (S.Store.view result.1) → IfOk result.0 (λ v. StopsBeforeCensuses v → (S.Store.view result.1).trees 1 ≡ archive.tables.deposits) }
     ensures calm { IsCalm S.Store archive.store result.1 }
     ensures numbered { IsClean (S.Store.view result.1) → IsTrue (S.Store.view result.1).is_numbered }
     ensures databases { IsClean (S.Store.view result.1) → AreDatabases (S.Store.recovers result.1) }
@@ -145,6 +152,13 @@ fn store_of<S: Alter + Drop>(archive: Archive<S>) -> S
     archive.into_trees().1
 }
 
+/// If no two deposits have one member and one token, a repeated request finds the deposit that it made; and so with censuses.
+/// A law: calling it does nothing.
+pub fn law_of_unique_tokens()
+    ensures deposits { (A : Model) (i : ℕ) (d : Deposit) → HasUniqueTokens A → numbered A.deposits i ≡ Some d → deposit_by d.member d.token A.deposits ≡ Some (i, d) }
+    ensures censuses { (A : Model) (i : ℕ) (c : Census) → HasUniqueTokens A → numbered A.censuses i ≡ Some c → census_by c.member c.token A.censuses ≡ Some (i, c) }
+{}
+
 /// Checks the tables and every row of an archive, and returns its store. It changes nothing. Sound tables are an archive, whoever wrote
 /// them. A quick check counts no census, and takes about as long as one reading of the deposits.
 pub fn check<S: Alter + Drop, W: Watch>(
@@ -154,6 +168,7 @@ pub fn check<S: Alter + Drop, W: Watch>(
     watch: &mut W,
 ) -> (Result<Verdict, Unavailable>, S)
     ensures sound { IsClean (S.Store.view result.1) → IfOk result.0 (RepresentsSome quick archive) }
+    ensures deposits { IsClean (S.Store.view result.1) → IfOk result.0 (λ v. StopsBeforeCensuses v → (S.Store.view result.1).trees 1 ≡ archive.tables.deposits) }
     ensures calm { IsCalm S.Store archive.store result.1 }
     ensures numbered { IsClean (S.Store.view result.1) → IsTrue (S.Store.view result.1).is_numbered }
     ensures databases { IsClean (S.Store.view result.1) → AreDatabases (S.Store.recovers result.1) }

@@ -16,6 +16,6 @@ mod walk;
 mod watch;
 
 pub use files::check_path;
-pub use judging::{Verdict, Wrong, check, check_trees};
+pub use judging::{Verdict, Wrong, check, check_trees, law_of_unique_tokens};
 pub use listing::further_errors;
 pub use watch::{Unwatched, Watch};

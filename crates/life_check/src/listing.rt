@@ -1,10 +1,10 @@
 //! Listing the errors of an archive after the first one. Each row is looked up by its number, so that a wrong row hides no other.
 
-ghost use Rattle.std.specs.Prelude.{◌≡◌, ◌<◌, ◌≤◌, ◌+◌, length, IsSome, IfOk, IfSome, OnOk};
-ghost use Rattle.sqlite_trees.specs.Tree.{Trees};
+ghost use Rattle.std.specs.Prelude.{◌≡◌, ◌<◌, ◌≤◌, ◌+◌, List, length, IsSome, IfOk, IfSome, OnOk};
 ghost use Rattle.sqlite_trees.specs.View.{IsClean, StayLive};
 ghost use Rattle.life_check.specs.WalkState.{IsCalm};
-ghost use Rattle.life_check.specs.Listed.{IsWrongThere, AreWrongThere};
+ghost use Rattle.life_check.specs.Listed.{IsWrongThere, AreWrongThere, IsBeforeCensuses};
+ghost use Rattle.sqlite_value.specs.Order.{Row as Values};
 
 use crate::censuses::{CENSUS_FLAGS, CENSUS_ROWS, CENSUSES, census_follows, none_left};
 use crate::deposits::{DEPOSITS, LAST};
@@ -19,8 +19,8 @@ use sqlite_value::row::Row;
 use sqlite_value::value::ValueRef;
 use std::alloc::Global;
 
-/// The greatest number of errors that are listed, without the first.
-const MOST_LISTED: usize = 99;
+/// The greatest number of errors that a check lists, with the first.
+const MOST_ERRORS: usize = 100;
 
 /// Places the cursor before the row with the number, or before the next one if there is no such row.
 fn seek_number<S: Alter>(
@@ -67,7 +67,7 @@ fn deposit_error<S: Alter>(
     alloc: Global,
     id: u64,
 ) -> Result<Option<Wrong>, Unavailable>
-    ensures wrong { IsClean (S.Store.view store.new) → IfOk result (λ o. IfSome o (IsWrongThere (S.Store.view store.old).trees)) }
+    ensures wrong { IsClean (S.Store.view store.new) → IfOk result (λ o. IfSome o (IsWrongThere ((S.Store.view store.old).trees 1))) }
     ensures keeps { IsClean (S.Store.view store.new) → OnOk result ((S.Store.view store.new).trees ≡ (S.Store.view store.old).trees) }
     ensures calm { IsCalm S.Store store.old store.new }
 {
@@ -89,8 +89,8 @@ fn deposit_error<S: Alter>(
 
 /// Adds an error, if there is one.
 fn add(errors: &mut Vec<Wrong>, error: Option<Wrong>) -> Result<(), Unavailable>
-    ensures few { OnOk result (length errors.new.items ≤ length errors.old.items + 1) }
-    ensures wrong { (trees : Trees) → AreWrongThere trees errors.old.items → IfSome error (IsWrongThere trees) → OnOk result (AreWrongThere trees errors.new.items) }
+    ensures few { length errors.new.items ≤ length errors.old.items + 1 }
+    ensures wrong { (deposits : List Values) → AreWrongThere deposits errors.old.items → IfSome error (IsWrongThere deposits) → AreWrongThere deposits errors.new.items }
 {
     let Some(wrong) = error else {
         return Ok(());
@@ -101,7 +101,7 @@ fn add(errors: &mut Vec<Wrong>, error: Option<Wrong>) -> Result<(), Unavailable>
     }
 }
 
-/// Adds the errors of the deposits with numbers above `after`.
+/// Adds the errors of the deposits with numbers above `after`. If rows can't be read, those before them are added.
 fn add_deposits<S: Alter, W: Watch>(
     store: &mut S,
     alloc: Global,
@@ -109,14 +109,14 @@ fn add_deposits<S: Alter, W: Watch>(
     errors: &mut Vec<Wrong>,
     watch: &mut W,
 ) -> Result<(), Unavailable>
-    requires { length errors.old.items ≤ 99 }
-    ensures few { OnOk result (length errors.new.items ≤ 99) }
-    ensures wrong { IsClean (S.Store.view store.new) → OnOk result (AreWrongThere (S.Store.view store.old).trees errors.old.items → AreWrongThere (S.Store.view store.old).trees errors.new.items) }
+    requires { length errors.old.items < MOST_ERRORS }
+    ensures few { length errors.new.items < MOST_ERRORS }
+    ensures wrong { IsClean (S.Store.view store.new) → AreWrongThere ((S.Store.view store.old).trees 1) errors.old.items → AreWrongThere ((S.Store.view store.old).trees 1) errors.new.items }
     ensures calm { IsCalm S.Store store.old store.new }
 {
     let last = last_number(store, alloc, DEPOSITS)?;
     for id in after..last {
-        if errors.len() >= MOST_LISTED {
+        if errors.len() >= MOST_ERRORS - 1 {
             return Ok(());
         }
         let error = deposit_error(store, alloc, id + 1)?;
@@ -187,9 +187,9 @@ fn pass_census<S: Alter>(
     before: u64,
     errors: &mut Vec<Wrong>,
 ) -> Result<u64, Unavailable>
-    requires { length errors.old.items < 99 }
-    ensures few { OnOk result (length errors.new.items ≤ 99) }
-    ensures wrong { (trees : Trees) → AreWrongThere trees errors.old.items → OnOk result (AreWrongThere trees errors.new.items) }
+    requires { length errors.old.items + 1 < MOST_ERRORS }
+    ensures few { length errors.new.items < MOST_ERRORS }
+    ensures wrong { (deposits : List Values) → AreWrongThere deposits errors.old.items → AreWrongThere deposits errors.new.items }
     ensures calm { IsCalm S.Store store.old store.new }
 {
     if let Some(end) = census_at(store, alloc, quick, id, before)? {
@@ -207,12 +207,12 @@ fn add_rows_left<S: Alter>(
     before: u64,
     errors: &mut Vec<Wrong>,
 ) -> Result<(), Unavailable>
-    requires { length errors.old.items ≤ 99 }
-    ensures few { OnOk result (length errors.new.items ≤ 99) }
-    ensures wrong { (trees : Trees) → AreWrongThere trees errors.old.items → OnOk result (AreWrongThere trees errors.new.items) }
+    requires { length errors.old.items < MOST_ERRORS }
+    ensures few { length errors.new.items < MOST_ERRORS }
+    ensures wrong { (deposits : List Values) → AreWrongThere deposits errors.old.items → AreWrongThere deposits errors.new.items }
     ensures calm { IsCalm S.Store store.old store.new }
 {
-    if errors.len() >= MOST_LISTED {
+    if errors.len() >= MOST_ERRORS - 1 {
         return Ok(());
     }
     let (Some(next_number), Some(next_place)) = (last.checked_add(1), before.checked_add(1)) else {
@@ -235,9 +235,9 @@ fn add_censuses<S: Alter, W: Watch>(
     errors: &mut Vec<Wrong>,
     watch: &mut W,
 ) -> Result<(), Unavailable>
-    requires { length errors.old.items ≤ 99 }
-    ensures few { OnOk result (length errors.new.items ≤ 99) }
-    ensures wrong { (trees : Trees) → AreWrongThere trees errors.old.items → OnOk result (AreWrongThere trees errors.new.items) }
+    requires { length errors.old.items < MOST_ERRORS }
+    ensures few { length errors.new.items < MOST_ERRORS }
+    ensures wrong { (deposits : List Values) → AreWrongThere deposits errors.old.items → AreWrongThere deposits errors.new.items }
     ensures calm { IsCalm S.Store store.old store.new }
 {
     let last = last_number(store, alloc, CENSUSES)?;
@@ -246,7 +246,7 @@ fn add_censuses<S: Alter, W: Watch>(
     }
     let mut before = place_before(store, alloc, after.saturating_add(1), 0)?;
     for id in after..last {
-        if errors.len() >= MOST_LISTED {
+        if errors.len() >= MOST_ERRORS - 1 {
             return Ok(());
         }
         before = pass_census(store, alloc, quick, id + 1, before, errors)?;
@@ -255,34 +255,63 @@ fn add_censuses<S: Alter, W: Watch>(
     add_rows_left(store, alloc, last, before, errors)
 }
 
-/// The numbers of the last deposit and the last census that need no second look, after the first error. `None` if rows can't be read.
-fn looked_at(first: Wrong) -> Option<(u64, u64)> {
+/// The number of the last deposit that needs no second look after the first error, if some are left to look at.
+fn deposits_after(first: Wrong) -> Option<u64>
+    ensures { IsSome result → IsBeforeCensuses first }
+{
     match first {
-        Wrong::Tables => None,
-        Wrong::Layout => Some((0, 0)),
-        Wrong::Deposit(id) | Wrong::DepositNames(id) => Some((id, 0)),
-        Wrong::Census(id) => Some((LAST, id)),
+        Wrong::Layout => Some(0),
+        Wrong::Deposit(id) | Wrong::DepositNames(id) => Some(id),
+        Wrong::Tables | Wrong::Census(_) => None,
     }
 }
 
-/// The errors of an archive after the first, in the order of the numbers, deposits before censuses, and at most 99. Deposits and censuses with
-/// numbers up to that of the first error are not looked at again.
+/// The number of the last census that needs no second look after the first error, if rows can be read at all.
+fn censuses_after(first: Wrong) -> Option<u64> {
+    match first {
+        Wrong::Census(id) => Some(id),
+        Wrong::Layout | Wrong::Deposit(_) | Wrong::DepositNames(_) => Some(0),
+        Wrong::Tables => None,
+    }
+}
+
+/// Adds the errors after the first. If rows can't be read, those before them are added.
+fn add_further<S: Alter, W: Watch>(
+    store: &mut S,
+    alloc: Global,
+    quick: bool,
+    first: Wrong,
+    errors: &mut Vec<Wrong>,
+    watch: &mut W,
+) -> Result<(), Unavailable>
+    requires { length errors.old.items < MOST_ERRORS }
+    ensures few { length errors.new.items < MOST_ERRORS }
+    ensures wrong { (deposits : List Values) → IsClean (S.Store.view store.new) → (IsBeforeCensuses first → (S.Store.view store.old).trees 1 ≡ deposits) → AreWrongThere deposits errors.old.items → AreWrongThere deposits errors.new.items }
+    ensures calm { IsCalm S.Store store.old store.new }
+{
+    if let Some(after) = deposits_after(first) {
+        add_deposits(store, alloc, after, errors, watch)?;
+    }
+    let Some(after) = censuses_after(first) else {
+        return Ok(());
+    };
+    add_censuses(store, alloc, quick, after, errors, watch)
+}
+
+/// The errors of an archive after the first, in the order of the numbers, deposits before censuses; with it at most 100. Deposits and censuses with
+/// numbers up to that of the first error are not looked at again. If rows can't be read, the list ends before them.
 pub fn further_errors<S: Alter, W: Watch>(
     store: &mut S,
     alloc: Global,
     quick: bool,
     first: Wrong,
     watch: &mut W,
-) -> Result<Vec<Wrong>, Unavailable>
-    ensures few { IfOk result (λ v. length v.items ≤ 99) }
-    ensures wrong { IsClean (S.Store.view store.new) → IfOk result (λ v. AreWrongThere (S.Store.view store.old).trees v.items) }
+) -> Vec<Wrong>
+    ensures few { length result.items < MOST_ERRORS }
+    ensures wrong { (deposits : List Values) → IsClean (S.Store.view store.new) → (IsBeforeCensuses first → (S.Store.view store.old).trees 1 ≡ deposits) → AreWrongThere deposits result.items }
     ensures calm { IsCalm S.Store store.old store.new }
 {
     let mut errors = Vec::new(alloc);
-    let Some((deposits, censuses)) = looked_at(first) else {
-        return Ok(errors);
-    };
-    add_deposits(store, alloc, deposits, &mut errors, watch)?;
-    add_censuses(store, alloc, quick, censuses, &mut errors, watch)?;
-    Ok(errors)
+    let _complete = add_further(store, alloc, quick, first, &mut errors, watch);
+    errors
 }

@@ -15,7 +15,7 @@ use Rattle.life_store.proofs.Selecting.{is_picked}
 use Rattle.life_store.proofs.Statements.{has_token, has_id, is_after, of_census}
 use Rattle.life_store.specs.Stored.{deposit_cells, census_cells, count_cells}
 
-truth_is : (b : Bool) → is_true (from_truth (Some b)) ≡ b
+pub truth_is : (b : Bool) → is_true (from_truth (Some b)) ≡ b
 truth_is true = refl
 truth_is false = refl
 

@@ -373,8 +373,8 @@ impl<S: Alter> Archive<S> {
 }
 
 impl<S: Alter + Drop> Archive<S> {
-    /// The store of the archive, and whether no transaction was open: then its tables are trees of the store. What is not committed
-    /// is lost. For a look at every row, in the order of the trees, which no query tells.
+    /// The store of the archive, and whether no transaction was open: then its tables are trees of the store, which obey its schema.
+    /// What is not committed is lost. For a look at every row, in the order of the trees, which no query tells.
     pub fn into_trees(self) -> (bool, S)
         ensures trees { IsTrue result.0 → IsClean (S.Store.view result.1) → (S.Store.view result.1).is_broken ≡ false → AreTreesOf self.tables (S.Store.view result.1).trees }
         ensures honest { doubt (S.Store.view self.store).is_clean ≤ doubt (S.Store.view result.1).is_clean }
@@ -384,6 +384,7 @@ impl<S: Alter + Drop> Archive<S> {
         ensures databases { IsClean (S.Store.view result.1) → AreDatabases (S.Store.recovers result.1) }
     {
         let conn = self.into_connection();
+        let _obeyed = conn.schema();
         let is_settled = conn.is_autocommit();
         (is_settled, conn.into_store())
     }

@@ -27,7 +27,7 @@ pub(crate) fn create_census_flags<S: Alter>(tx: &mut Transaction<'_, S>) -> Resu
     )
 }
 
-/// Creates the five tables, and the row that names their layout.
+/// Creates the five tables, and the row that names their schema version.
 fn create_all<S: Alter>(tx: &mut Transaction<'_, S>) -> Result<(), Error>
     ensures same_reference { tx.new.conn.ghost_name ≡ tx.old.conn.ghost_name }
     ensures has_tables { HasCleanDisk (state S.Store tx.new.conn.now) → IsTrue tx.old.conn.now.in_transaction → HasTables no_schema [] (state S.Store tx.old.conn.now).now → OnOk result (IsNewArchive (state S.Store tx.new.conn.now).now × IsDatabase (state S.Store tx.new.conn.now).now) }

@@ -32,7 +32,8 @@ pub struct Census {
     pub limit: u32,
 }
 
-/// A census, and the numbers of its tally. The tally's rows are asked for by `rows_of`.
+/// A census, and the numbers of its tally. The tally's rows are read by `rows_and_flag_of`, or
+/// without the flag by `rows_of`.
 #[derive(Debug, Drop)]
 pub struct KeptCensus {
     /// The census.

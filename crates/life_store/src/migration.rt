@@ -169,7 +169,7 @@ fn name_version<S: Alter>(tx: &mut Transaction<'_, S>) -> Result<(), Unavailable
     Ok(())
 }
 
-/// Creates the table of flags, fills it, and names the layout.
+/// Creates the table of flags, fills it, and names schema version 2.
 fn migrate_all<S: Alter>(alloc: Global, tx: &mut Transaction<'_, S>) -> Result<(), Unavailable>
     ensures migrated { HasCleanDisk (state S.Store tx.new.conn.now) → IsTrue tx.old.conn.now.in_transaction → (p : Parts) → AllByRecursion IsFiled p.deposits → HoldsFirstParts (state S.Store tx.old.conn.now).now p → p.layout ≡ version_1
         → OnOk result (IsMigrated p (state S.Store tx.new.conn.now).now × IsDatabase (state S.Store tx.new.conn.now).now) }

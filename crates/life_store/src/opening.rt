@@ -83,7 +83,7 @@ fn has_some(schema: &Schema) -> bool
         || has_name(schema, b"census_flags")
 }
 
-/// The layout of an archive's tables.
+/// The schema version of an archive.
 #[derive(Clone, Copy)]
 enum Version {
     /// Without a table of flags.
@@ -92,7 +92,7 @@ enum Version {
     Second,
 }
 
-/// The rows that name the layout.
+/// The rows that name the schema version.
 fn versions<S: Alter>(conn: &mut Connection<S>) -> Result<Vec<Row>, Error>
     ensures same { (schema : SchemaValue) (own : List Value) → IsLayout schema own → IsTrue (tables_of (state S.Store conn.new)).is_healthy → (state S.Store conn.old).now.schema ≡ schema → (state S.Store conn.new).now ≡ (state S.Store conn.old).now }
     ensures tells { (schema : SchemaValue) (own versions : List Value) → IsLayout schema own → IsTrue (tables_of (state S.Store conn.new)).is_healthy → HaveVersions schema (tables_of (state S.Store conn.old)) versions → IfOk result (λ rows. (rows.items ≡ column_of own) ↔ (versions ≡ own)) }

@@ -346,7 +346,7 @@ def test_limits(gateway: Gateway, filled: None) -> None:
         check(
             "what is answered above it",
             {reply for reply in replies if reply[0] != wanted} <= {(429, b'{"error":"too-many-requests"}')}
-            and (good < 1500 or took > 26),
+            and (good < 1500 or at_once + rate * took >= 1500),
         )
         same("another client beside it", asked(gateway.port, 254, "GET", path)[0], wanted)
     begun = time.monotonic()

@@ -706,7 +706,7 @@ CHANGES = [
     (copies, ROUTER_SPECS, r'"/objects/\{rule\}/\{code\}', '"/objects/{code}/{rule}'),
     (copies, ROUTER_SPECS, r"(?m)^reading_of After .*\n", ""),
     (copies, ASKED_SPECS, r"ask\.At id n", "ask.At n id"),
-    (copies, ROUTE_FINDING, r"\(\(refl, refl, refl, refl, refl, refl\), tt\)", "tt"),
+    (copies, ROUTE_FINDING, r"\(refl, refl, refl, refl, refl, refl\),\n +tt,", "tt,"),
     (copies, ROUTE_EXAMPLES, "Some \\(At 7 8\\)", "Some (At 8 7)"),
     (copies, ROUTES_ADDED, "c.in_ok-insert-4", "c.in_ok-insert-5"),
     (copies, STEPS, r"(?m)^after_case .*good\.KindOf .*\n", ""),

@@ -1,5 +1,6 @@
-"""Python, bash and JavaScript pass their formatters and linters, and no line of JavaScript or CSS is too wide."""
+"""Python, bash and JavaScript pass their formatters and linters, and no line of JavaScript, CSS or antt is too wide."""
 import os
+import re
 import shutil
 import subprocess
 
@@ -8,8 +9,10 @@ import pytest
 import linters
 
 pytestmark = pytest.mark.quick
-# The width of lines in .editorconfig. No linter looks at that of JavaScript and CSS.
+# The width of lines in .editorconfig. No linter looks at that of JavaScript, CSS and antt.
 MOST_COLUMNS = 120
+# What no line of antt can break: a text in quotes, and the path of an import with one name.
+UNBROKEN = re.compile(r' +"[^\n]*"\)*|use \S+')
 
 
 @pytest.mark.parametrize("name", linters.tools())
@@ -30,12 +33,12 @@ def lines_of(path: str) -> list[str]:
 
 
 def test_width() -> None:
-    """No line of JavaScript or CSS has more columns than .editorconfig allows."""
+    """No line of JavaScript, CSS or antt has more columns than .editorconfig allows, if it can be broken."""
     wide = [
         f"{path}:{number}: {len(line)} columns, and at most {MOST_COLUMNS} are allowed"
         for path in linters.tracked()
-        if path.endswith((".js", ".css"))
+        if path.endswith((".js", ".css", ".antt"))
         for number, line in enumerate(lines_of(path), 1)
-        if len(line) > MOST_COLUMNS
+        if len(line) > MOST_COLUMNS and not (path.endswith(".antt") and UNBROKEN.fullmatch(line))
     ]
     assert not wide, "\n".join(wide)[:6000]

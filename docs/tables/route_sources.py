@@ -23,6 +23,8 @@ FIELDS = {"n": "generation"}
 FROM_MESSAGE = {"member": "said.member", "token": "said.token", "body": "body"}
 # `rt fmt` writes the fields of a value on lines of their own if they take more than this many columns.
 SHORT = 18
+# The most columns of a line.
+COLUMNS = 120
 # The groups of routes in the sources: those below /deposits, and all others.
 GROUPS = ("deposit", "census")
 # The names of examples that differ from those of their routes.
@@ -68,9 +70,11 @@ def count(routes: List[Route]) -> str:
 
 
 def imported(kind: str, routes: List[Route]) -> Tuple[str, str, List[str]]:
-    """The import of the names of routes: how its line begins and ends, and the line."""
+    """The import of the names of routes: how it begins and ends, and its lines, as `rt fmt` writes them."""
     begin = f"use Rattle.life_pages.specs.declared.route.{kind}.TheVariants.{{"
-    return begin, "}", [begin + ", ".join(route.name for route in routes) + "}"]
+    line = begin + ", ".join(route.name for route in routes) + "}"
+    wrapped = [begin, *(f"  {route.name}," for route in routes), "}"]
+    return begin, "}", [line] if len(line) <= COLUMNS else wrapped
 
 
 # ---- the definitions
@@ -91,8 +95,14 @@ def place(route: Route) -> str:
     return re.sub(r"\{\w+\}", "\x7f", route.path) + "\x80"
 
 
+def paired(first: str, second: str) -> str:
+    """A pair in a list of them, as `rt fmt` writes it if it is too long for a line."""
+    line = f"({first}, {second})"
+    return line if len(f"    ∷ {line}") <= COLUMNS else f"(\n      {first},\n      {second},\n    )"
+
+
 def templates(routes: List[Route]) -> List[str]:
-    rows = [f'(codes "{route.path}", {reading(route)})' for route in sorted(routes, key=place)]
+    rows = [paired(f'codes "{route.path}"', reading(route)) for route in sorted(routes, key=place)]
     return ["templates =", "    " + "\n    ∷ ".join([*rows, "[]"])]
 
 
@@ -167,10 +177,11 @@ def examples(routes: List[Route]) -> List[str]:
 
 def rows_proved(routes: List[Route]) -> List[str]:
     """That the rows of the router are those of the templates: six facts for each, which the check computes."""
-    rows = "tt"
+    rows = ["tt"]
     for _ in routes:
-        rows = f"((refl, refl, refl, refl, refl, refl), {rows})"
-    return ["rows_are =", "    " + rows, ""]
+        inside = ["(refl, refl, refl, refl, refl, refl),", *rows[:-1], f"{rows[-1]},"]
+        rows = ["(", *(f"  {line}" for line in inside), ")"]
+    return [f"rows_are = {rows[0]}", *rows[1:], ""]
 
 
 def insertions_proved(routes: List[Route], name: str) -> List[str]:

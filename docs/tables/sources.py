@@ -112,8 +112,8 @@ def records_of_clauses(read: Read) -> Dict[str, List[str]]:
     """The fields of each definition in `specs/` that is a record about the `result` of a call. They are clauses of a
     function that cites it."""
     sources = "\n".join(read(path) for path in files_like(r"crates/\w+/specs/\w+\.antt"))
-    found = re.findall(r"(?m)^pub record (\w+) .*\(result : .*\n((?:  .*\n)+)", sources)
-    return {record: re.findall(r"(?m)^  pub (\w+) :", body) for record, body in found}
+    found = re.findall(r"(?m)^pub record (\w+) (.*(?:\n    .*)*) where\n((?:  .*\n)+)", sources)
+    return {record: re.findall(r"(?m)^  pub (\w+) :", body) for record, head, body in found if "(result : " in head}
 
 
 def public_clauses(read: Read) -> Libraries:

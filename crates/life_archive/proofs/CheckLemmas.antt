@@ -1,5 +1,6 @@
 -- The job that opens files that were checked.
-use Rattle.std.proofs.Common.{◌≡◌, ◌∙◌, ◌++◌, ◌∷◌, [], ap, ℕ, List, length, true, false, Option, Some, Result, Ok, Err, refl, sym, subst, subst₂, inl, inr}
+use Rattle.std.proofs.Common.{◌≡◌, ◌∙◌, ◌++◌, ◌∷◌, [], ap, ℕ, List, length, true, false, Option, Some, Result, Ok, Err}
+use Rattle.std.proofs.Common.{refl, sym, subst, subst₂, inl, inr}
 use Rattle.sqlite_disk.specs.declared.Disk as disk
 use Rattle.sqlite_disk.specs.declared.Files.{Files}
 use Rattle.sqlite_wal.specs.Files.{outcomes}
@@ -38,11 +39,15 @@ one_line v further none = ap (checked_lines v) none ∙ append_none (verdict_lin
 some_is : {A : Type 0} {x y : A} → Some x ≡ Some y → x ≡ y
 some_is same = cc
 
-module _ {D E : Type 0} (g : disk.Ghosts D) (h : disk.Ghosts E) (image again : Image) (capacity next : ℕ) (before after : Option (List ℕ)) (files : Files D) (left : Result (Files E) (Files E)) (two : PathJob h again next left)
+module _ {D E : Type 0} (g : disk.Ghosts D) (h : disk.Ghosts E) (image again : Image) (capacity next : ℕ)
+    (before after : Option (List ℕ)) (files : Files D) (left : Result (Files E) (Files E))
+    (two : PathJob h again next left)
     (clean : AreClean g files.log files.db) (may : outcomes g files.log files.db again) where
   -- the verdict was sound
-  begins : (v : Verdict) (further : List Wrong) → AreFurther (Ok v) further → PutsVerdict v further before after (Ok tt) → (one : IsPathCheck false g image capacity (Ok v) further files)
-      → (A : Archive) × Gains before after (verdict_line (Sound (length A.deposits) (length A.censuses))) × LeavesOne h (BecomesBy two (under next A)) left
+  begins : (v : Verdict) (further : List Wrong) → AreFurther (Ok v) further → PutsVerdict v further before after (Ok tt)
+      → (one : IsPathCheck false g image capacity (Ok v) further files)
+      → (A : Archive) × Gains before after (verdict_line (Sound (length A.deposits) (length A.censuses)))
+      × LeavesOne h (BecomesBy two (under next A)) left
   begins (NotSound w) further few puts one = elim puts [
     | inl it ↦ absurd (done_is_no_stop it.0)
     | inr others ↦ elim others [ inl it ↦ absurd (done_is_no_stop it.0) | inr it ↦ absurd (done_is_no_stop it) ]
@@ -51,19 +56,27 @@ module _ {D E : Type 0} (g : disk.Ghosts D) (h : disk.Ghosts E) (image again : I
   begins (Sound d c) further few puts one = elim puts [
     | inl it ↦ let found = one.finds clean in (
       found.0,
-      subst₂ (λ (x y : ℕ). Gains before after (verdict_line (Sound x y))) (sym found.2) (sym found.3) (subst (Gains before after) (one_line (Sound d c) further few) it.1),
-      job_leaves h again next left two (under next found.0) refl (inl (each_of one.opened found.0 found.1, found.4 again may)),
+      subst₂ (λ (x y : ℕ). Gains before after (verdict_line (Sound x y))) (sym found.2) (sym found.3)
+          (subst (Gains before after) (one_line (Sound d c) further few) it.1),
+      job_leaves h again next left two (under next found.0) refl
+          (inl (each_of one.opened found.0 found.1, found.4 again may)),
     )
     | inr others ↦ elim others [ inl it ↦ absurd (done_is_no_stop it.0) | inr it ↦ absurd (done_is_no_stop it) ]
   ]
 
-  begins_with : (checked : Result Verdict Failed) (further : List Wrong) → ChecksPath false g image capacity checked further (Some files) → AreFurther checked further → PutsChecked checked further before after (Ok tt)
-      → (A : Archive) × Gains before after (verdict_line (Sound (length A.deposits) (length A.censuses))) × LeavesOne h (BecomesBy two (under next A)) left
+  begins_with : (checked : Result Verdict Failed) (further : List Wrong)
+      → ChecksPath false g image capacity checked further (Some files) → AreFurther checked further
+      → PutsChecked checked further before after (Ok tt)
+      → (A : Archive) × Gains before after (verdict_line (Sound (length A.deposits) (length A.censuses)))
+      × LeavesOne h (BecomesBy two (under next A)) left
   begins_with (Err e) further checks few puts = absurd (done_is_no_stop puts)
   begins_with (Ok v) further checks few puts = elim checks [
     | inl unopened ↦ absurd (let same : Ok v ≡ Err unopened.0 = unopened.1 in cc)
-    | inr one ↦ begins v further few puts (subst (λ (all : Files D). IsPathCheck false g image capacity (Ok v) further all) (sym (some_is one.1)) one.2)
+    | inr one ↦
+        begins v further few puts (subst (λ (all : Files D). IsPathCheck false g image capacity (Ok v) further all)
+        (sym (some_is one.1)) one.2)
   ]
 
 pub checked_files_begin : {D E : Type 0} (g : disk.Ghosts D) (h : disk.Ghosts E) → CheckedFilesBegin g h
-checked_files_begin g h image again capacity next before after files left done two clean may = begins_with g h image again capacity next before after files left two clean may done.0 done.1 done.2 done.3 done.4
+checked_files_begin g h image again capacity next before after files left done two clean may =
+    begins_with g h image again capacity next before after files left two clean may done.0 done.1 done.2 done.3 done.4

@@ -7,8 +7,10 @@ use Rattle.life_desk.proofs.Runs.{IsSettled, crash_safe}
 use Rattle.life_archive.specs.declared.stop.ArchiveStop.{ArchiveStop}
 use Rattle.life_archive.specs.Deposit.{Deposits, IsDepositSafe}
 
-pub deposit_safe : {S : Type 0} (g : Ghosts S) (old new : ArchiveView S) (member token : List ℕ) (known before now : Option (List ℕ)) (answer : Result (Unit {0}) ArchiveStop) → IsSettled g old
-    → Deposits g old new member token known before now answer → IsDepositSafe g old new member token known before now answer
+pub deposit_safe : {S : Type 0} (g : Ghosts S) (old new : ArchiveView S) (member token : List ℕ)
+    (known before now : Option (List ℕ)) (answer : Result (Unit {0}) ArchiveStop) → IsSettled g old
+    → Deposits g old new member token known before now answer
+    → IsDepositSafe g old new member token known before now answer
 deposit_safe g old new member token known before now answer settled (inl unasked) = inl unasked
 deposit_safe g old new member token known before now answer settled (inr once) =
     inr (once, crash_safe old new (ask.Deposit member token once.file ∷ []) (once.reply ∷ []) settled once.answered)

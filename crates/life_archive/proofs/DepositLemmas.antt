@@ -1,5 +1,6 @@
 -- What is taken of a stream, and what is put of a line.
-use Rattle.std.proofs.Common.{◌≡◌, ◌≤◌, ℕ, List, [], ◌++◌, length, take, Option, None, Some, refl, sym, ◌∙◌, ap, append_assoc, append-nil}
+use Rattle.std.proofs.Common.{◌≡◌, ◌≤◌, ℕ, List, [], ◌++◌, length, take, Option, None, Some, refl, sym, ◌∙◌, ap}
+use Rattle.std.proofs.Common.{append_assoc, append-nil}
 use Rattle.std.proofs.lemmas.List.{take_all}
 use Rattle.std.proofs.Math.Seq.{take-append_seam}
 use Rattle.life_rle.specs.Stream.{Loses, IsEnded, Gains, GainsSome}
@@ -21,7 +22,8 @@ loses_more (Some a) (Some b) None x y p q = absurd q
 loses_more (Some a) (Some b) (Some c) x y p q = p ∙ ap (λ (l : List ℕ). x ++ l) q ∙ sym (append_assoc x y c)
 
 -- all were taken, and they are no more than a file and a byte
-pub taken_all : (old now : Option (List ℕ)) (file : List ℕ) → Loses old now file → IsEnded now → length file ≤ 1048577 → IsFileTaken old file
+pub taken_all : (old now : Option (List ℕ)) (file : List ℕ) → Loses old now file → IsEnded now
+    → length file ≤ 1048577 → IsFileTaken old file
 taken_all None now file p ended few = tt
 taken_all (Some a) None file p ended few = absurd p
 taken_all (Some a) (Some b) file p ended few =
@@ -29,7 +31,8 @@ taken_all (Some a) (Some b) file p ended few =
     sym (ap (λ (l : List ℕ). take 1048577 l) is ∙ take_all 1048577 file few)
 
 -- a file and a byte were taken
-pub taken_full : (old now : Option (List ℕ)) (file : List ℕ) → Loses old now file → length file ≡ 1048577 → IsFileTaken old file
+pub taken_full : (old now : Option (List ℕ)) (file : List ℕ) → Loses old now file → length file ≡ 1048577
+    → IsFileTaken old file
 taken_full None now file p full = tt
 taken_full (Some a) None file p full = absurd p
 taken_full (Some a) (Some b) file p full =

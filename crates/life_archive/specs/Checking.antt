@@ -1,5 +1,6 @@
 -- What the program prints of a check of the file of a path, and the job that opens the file next.
-use Rattle.std.specs.Prelude.{◌≡◌, ◌⊎◌, ◌∷◌, ◌++◌, [], ℕ, Bool, false, List, length, codes, Option, Some, Result, Ok, Err}
+use Rattle.std.specs.Prelude.{◌≡◌, ◌⊎◌, ◌∷◌, ◌++◌, [], ℕ, Bool, false, List, length, codes, Option, Some, Result, Ok}
+use Rattle.std.specs.Prelude.{Err}
 use Rattle.std.specs.Fmt.{decimal}
 use Rattle.std.specs.List.{flat_map}
 use Rattle.life_core.specs.Ascii.{line_feed}
@@ -35,7 +36,8 @@ wrong_words wrong.Tables = codes "the tables are not those of an archive"
 wrong_words wrong.Layout = codes "layout: its row is wrong or missing"
 wrong_words (wrong.Deposit id) = codes "deposit " ++ decimal id ++ codes ": its row is wrong or missing"
 wrong_words (wrong.DepositNames id) = codes "deposit " ++ decimal id ++ codes ": its row is wrong or missing"
-wrong_words (wrong.Census id) = codes "census " ++ decimal id ++ codes ": its row, its counts or its flag are wrong or missing"
+wrong_words (wrong.Census id) =
+    codes "census " ++ decimal id ++ codes ": its row, its counts or its flag are wrong or missing"
 
 -- its line
 abbrev pub error_line : Wrong → List ℕ
@@ -44,7 +46,8 @@ error_line w = wrong_words w ++ line_feed ∷ []
 -- the result of a check
 abbrev pub verdict_words : Verdict → List ℕ
 verdict_words (Sound d c) = codes "sound: " ++ (decimal d ++ (codes " deposits, " ++ (decimal c ++ codes " censuses")))
-verdict_words (SoundButForCounts d c) = codes "sound but for counts: " ++ (decimal d ++ (codes " deposits, " ++ (decimal c ++ codes " censuses")))
+verdict_words (SoundButForCounts d c) =
+    codes "sound but for counts: " ++ (decimal d ++ (codes " deposits, " ++ (decimal c ++ codes " censuses")))
 verdict_words (NotSound w) = wrong_words w
 
 -- its line
@@ -61,14 +64,18 @@ answer_of (Sound d c) = Ok tt
 answer_of (SoundButForCounts d c) = Ok tt
 answer_of (NotSound w) = Err stops.NotSound
 
--- What is put and answered for the result and the errors after the first: their lines; a prefix of them, if a put failed; or nothing, if memory ran out.
-abbrev pub PutsVerdict : Verdict → List Wrong → Option (List ℕ) → Option (List ℕ) → Result (Unit {0}) ArchiveStop → Type 0
+-- What is put and answered for the result and the errors after the first: their lines; a prefix of them, if a put
+-- failed; or nothing, if memory ran out.
+abbrev pub PutsVerdict : Verdict → List Wrong → Option (List ℕ) → Option (List ℕ)
+    → Result (Unit {0}) ArchiveStop → Type 0
 PutsVerdict v further before after answer =
     ((answer ≡ answer_of v) × Gains before after (checked_lines v further))
-    ⊎ (((answer ≡ Err (stops.Job Unwritable)) × GainsSome before after (checked_lines v further)) ⊎ (answer ≡ Err (stops.Job Unavailable)))
+    ⊎ (((answer ≡ Err (stops.Job Unwritable)) × GainsSome before after (checked_lines v further))
+    ⊎ (answer ≡ Err (stops.Job Unavailable)))
 
 -- The same of a check that gave no result.
-abbrev pub PutsChecked : Result Verdict Failed → List Wrong → Option (List ℕ) → Option (List ℕ) → Result (Unit {0}) ArchiveStop → Type 0
+abbrev pub PutsChecked : Result Verdict Failed → List Wrong → Option (List ℕ) → Option (List ℕ)
+    → Result (Unit {0}) ArchiveStop → Type 0
 PutsChecked (Ok v) further before after answer = PutsVerdict v further before after answer
 PutsChecked (Err e) further before after answer = answer ≡ Err (stops.Job Unavailable)
 
@@ -80,23 +87,30 @@ by_output answer = by_streams answer
 -- ---- the files of a path
 
 -- The file could not be opened, and nothing was put; or it was checked, and what was found was put.
-abbrev pub ChecksAt : {D : Type 0} → Bool → disk.Ghosts D → Image → ℕ → Option (List ℕ) → Option (List ℕ) → Result (Unit {0}) ArchiveStop → Option (Files D) → Type 0
+abbrev pub ChecksAt : {D : Type 0} → Bool → disk.Ghosts D → Image → ℕ → Option (List ℕ) → Option (List ℕ)
+    → Result (Unit {0}) ArchiveStop → Option (Files D) → Type 0
 ChecksAt quick g image capacity before after answer left =
-    (checked : Result Verdict Failed) × (further : List Wrong) × ChecksPath quick g image capacity checked further left × AreFurther checked further × PutsChecked checked further before after answer
+    (checked : Result Verdict Failed) × (further : List Wrong) × ChecksPath quick g image capacity checked further left
+    × AreFurther checked further × PutsChecked checked further before after answer
 
--- Files were checked, with each census counted again, and the answer Ok, and `life serve` or `life deposit` opens them next, maybe on another disk, or what a crash left of them. If the disk was
--- honest, there is an archive A with which that job begins: what it leaves it leaves of A, under its own capacity. The line that was put has the numbers of deposits and
--- censuses of A. Nothing is supposed about who wrote the files.
+-- Files were checked, with each census counted again, and the answer Ok, and `life serve` or `life deposit` opens them
+-- next, maybe on another disk, or what a crash left of them. If the disk was honest, there is an archive A with which
+-- that job begins: what it leaves it leaves of A, under its own capacity. The line that was put has the numbers of
+-- deposits and censuses of A. Nothing is supposed about who wrote the files.
 abbrev pub CheckedFilesBegin : {D E : Type 0} → disk.Ghosts D → disk.Ghosts E → Type 0
 CheckedFilesBegin {D} {E} g h =
-    (image again : Image) (capacity next : ℕ) (before after : Option (List ℕ)) (files : Files D) (left : Result (Files E) (Files E))
-    → ChecksAt false g image capacity before after (Ok tt) (Some files) → (two : PathJob h again next left) → AreClean g files.log files.db → outcomes g files.log files.db again
-    → (A : Archive) × Gains before after (verdict_line (Sound (length A.deposits) (length A.censuses))) × LeavesOne h (BecomesBy two (under next A)) left
+    (image again : Image) (capacity next : ℕ) (before after : Option (List ℕ)) (files : Files D)
+    (left : Result (Files E) (Files E))
+    → ChecksAt false g image capacity before after (Ok tt) (Some files) → (two : PathJob h again next left)
+    → AreClean g files.log files.db → outcomes g files.log files.db again
+    → (A : Archive) × Gains before after (verdict_line (Sound (length A.deposits) (length A.censuses)))
+    × LeavesOne h (BecomesBy two (under next A)) left
 
 -- ---- what the program prints
 
 -- A check, with the line that is printed if it stops.
-pub record AnswersCheck {D O : Type 0} (quick : Bool) (g : disk.Ghosts D) (o : outlet.Ghosts O) (image : Image) (capacity : ℕ) (output sent : O) (line : Option (List ℕ)) : Type 0 where
+pub record AnswersCheck {D O : Type 0} (quick : Bool) (g : disk.Ghosts D) (o : outlet.Ghosts O)
+    (image : Image) (capacity : ℕ) (output sent : O) (line : Option (List ℕ)) : Type 0 where
   pub answer : Result (Unit {0}) ArchiveStop
   pub left : Option (Files D)
   pub checks : ChecksAt quick g image capacity (o.already output) (o.already sent) answer left

@@ -16,7 +16,8 @@ use Rattle.life_jobs.specs.declared.stop.Stop.TheVariants.{BadPattern, Unreadabl
 use Rattle.life_archive.specs.declared.stop.ArchiveStop.{ArchiveStop}
 use Rattle.life_archive.specs.declared.stop.ArchiveStop.TheVariants.{Job, Desk}
 
--- the file is all the bytes that come in; of more than a file may have, one byte too many is taken, and the archive refuses it
+-- the file is all the bytes that come in; of more than a file may have, one byte too many is taken, and the archive
+-- refuses it
 abbrev pub IsFileTaken : Option (List ℕ) → List ℕ → Type 0
 IsFileTaken None file = Unit {0}
 IsFileTaken (Some bytes) file = file ≡ take 1048577 bytes
@@ -31,7 +32,8 @@ desk_stop (refusals.BadPattern fault) = Job (BadPattern fault)
 desk_stop refusals.Unavailable = Job Unavailable
 desk_stop refusal = Desk refusal
 
--- what is put and answered for a reply: the line of its number, of which a put that fails leaves a beginning, or nothing and the refusal
+-- what is put and answered for a reply: the line of its number, of which a put that fails leaves a beginning, or
+-- nothing and the refusal
 abbrev pub PutsReply : Reply → Option (List ℕ) → Option (List ℕ) → Result (Unit {0}) ArchiveStop → Type 0
 PutsReply (says.Deposited id) old new (Ok done) = Gains old new (deposit_line id)
 PutsReply (says.Deposited id) old new (Err stop) = (stop ≡ Job Unwritable) × GainsSome old new (deposit_line id)
@@ -39,14 +41,16 @@ PutsReply (says.Refused refusal) old new answer = answer ≡ Err (desk_stop refu
 -- to a deposit no other reply comes
 PutsReply reply old new answer = answer ≡ Err (Job Unavailable)
 
--- the answer as the streams of the job see it: what the archive refuses comes of no stream, and neither does out of memory
+-- the answer as the streams of the job see it: what the archive refuses comes of no stream, and neither does out of
+-- memory
 abbrev pub by_streams : {X : Type 0} → Result X ArchiveStop → Result X Stop
 by_streams (Ok x) = Ok x
 by_streams (Err (Job stop)) = Err stop
 by_streams (Err stop) = Err Unavailable
 
 -- the archive was asked once, to keep the file under the member and the token, and its reply was put
-pub record AsksOnce {S : Type 0} (g : Ghosts S) (old new : ArchiveView S) (member token : List ℕ) (known before after : Option (List ℕ)) (answer : Result (Unit {0}) ArchiveStop) : Type 0 where
+pub record AsksOnce {S : Type 0} (g : Ghosts S) (old new : ArchiveView S) (member token : List ℕ)
+    (known before after : Option (List ℕ)) (answer : Result (Unit {0}) ArchiveStop) : Type 0 where
   pub file : List ℕ
   pub reply : Reply
   pub taken : IsFileTaken known file
@@ -60,15 +64,19 @@ IsUnasked (Err (Job Unavailable)) = Unit {0}
 IsUnasked answer = ⊥
 
 -- what `deposit` answers and does: it stops before the archive is asked, which stays as it is, or asks it once
-abbrev pub Deposits : {S : Type 0} → Ghosts S → ArchiveView S → ArchiveView S → List ℕ → List ℕ → Option (List ℕ) → Option (List ℕ) → Option (List ℕ) → Result (Unit {0}) ArchiveStop → Type 0
+abbrev pub Deposits : {S : Type 0} → Ghosts S → ArchiveView S → ArchiveView S → List ℕ → List ℕ
+    → Option (List ℕ) → Option (List ℕ) → Option (List ℕ) → Result (Unit {0}) ArchiveStop → Type 0
 Deposits g old new member token known before after answer =
     (IsUnasked answer × (new ≡ old)) ⊎ AsksOnce g old new member token known before after answer
 
 -- ---- crashes
 
--- If the archive was asked: the database was healthy and its disk has returned what was written, then a crash during the job leaves the archive as it was
--- or with the deposit of the file that was asked for; and if the reply whose number was put says that it is stored, it is there.
-abbrev pub IsDepositSafe : {S : Type 0} → Ghosts S → ArchiveView S → ArchiveView S → List ℕ → List ℕ → Option (List ℕ) → Option (List ℕ) → Option (List ℕ) → Result (Unit {0}) ArchiveStop → Type 0
+-- If the archive was asked: the database was healthy and its disk has returned what was written, then a crash during
+-- the job leaves the archive as it was or with the deposit of the file that was asked for; and if the reply whose
+-- number was put says that it is stored, it is there.
+abbrev pub IsDepositSafe : {S : Type 0} → Ghosts S → ArchiveView S → ArchiveView S → List ℕ
+    → List ℕ → Option (List ℕ) → Option (List ℕ) → Option (List ℕ) → Result (Unit {0}) ArchiveStop → Type 0
 IsDepositSafe g old new member token known before after answer =
     (IsUnasked answer × (new ≡ old))
-    ⊎ ((once : AsksOnce g old new member token known before after answer) × IsCrashSafe g old new (ask.Deposit member token once.file ∷ []) (once.reply ∷ []))
+    ⊎ ((once : AsksOnce g old new member token known before after answer)
+    × IsCrashSafe g old new (ask.Deposit member token once.file ∷ []) (once.reply ∷ []))

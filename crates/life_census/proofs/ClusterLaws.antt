@@ -4,7 +4,8 @@ use Rattle.std.proofs.Common.{sym, ap, subst, ◌∙◌, inl, inr, arith}
 use Rattle.std.specs.Ordering.{is_lt}
 use Rattle.std.proofs.lemmas.Bool.{false≢true, cases_Bool}
 use Rattle.std.proofs.lemmas.Cmp.{tied_itself}
-use Rattle.std.proofs.lemmas.List.Elements.{All-from_recursion, Contains-append_left, Contains-append_right, Contains-push}
+use Rattle.std.proofs.lemmas.List.Elements.{All-from_recursion, Contains-append_left, Contains-append_right}
+use Rattle.std.proofs.lemmas.List.Elements.{Contains-push}
 use Rattle.std.specs.List.{All, AllByRecursion, Contains}
 use Rattle.std.specs.FinSet as set
 use Rattle.life_core.specs.declared.cell.Cell.{Cell}
@@ -17,7 +18,8 @@ use Rattle.life_census.specs.Cluster.{IsChain, AreJoined, IsCluster, IsBefore, A
 
 -- ---- chains
 
-chain_append : (X : Cells) (c d e : Cell) (xs ys : List Cell) → IsChain X c xs d → IsChain X d ys e → IsChain X c (xs ++ ys) e
+chain_append : (X : Cells) (c d e : Cell) (xs ys : List Cell) → IsChain X c xs d → IsChain X d ys e
+    → IsChain X c (xs ++ ys) e
 chain_append X c d e [] ys p q = subst (λ x. IsChain X x ys e) (sym p) q
 chain_append X c d e (x ∷ xs) ys p q = (p.0, p.1, chain_append X x d e xs ys p.2 q)
 
@@ -28,7 +30,8 @@ pub joined_trans : (X : Cells) (c d e : Cell) → AreJoined X c d → AreJoined 
 joined_trans X c d e p q = (p.0 ++ q.0, chain_append X c d e p.0 q.0 p.1 q.1)
 
 -- a chain, and one near cell more
-pub joined_then : (X : Cells) (c d e : Cell) → AreJoined X c d → set.contains X e ≡ true → near d e ≡ true → AreJoined X c e
+pub joined_then : (X : Cells) (c d e : Cell) → AreJoined X c d → set.contains X e ≡ true → near d e ≡ true
+    → AreJoined X c e
 joined_then X c d e p here close = joined_trans X c d e p (e ∷ [], (here, close, refl))
 
 chain_back : (X : Cells) (c d : Cell) (xs : List Cell) → set.contains X c ≡ true → IsChain X c xs d → AreJoined X d c
@@ -41,24 +44,30 @@ joined_back X c d here p = chain_back X c d p.0 here p.1
 -- ---- parts lie inside
 
 pub parts_within : (k : ℕ) (X : Cells) (Ps : List Cells) → AreClustersOf X Ps → IsWithin k X → All (IsWithin k) Ps
-parts_within k X Ps clusters_of room i d low c here = room c ((All-from_recursion (IsCluster X) Ps clusters_of.each i d low).inside c here)
+parts_within k X Ps clusters_of room i d low c here =
+    room c ((All-from_recursion (IsCluster X) Ps clusters_of.each i d low).inside c here)
 
 -- ---- two parts that share a cell are one
 
-pub near_stays : (X P : Cells) → IsCluster X P → (c d : Cell) → set.contains P c ≡ true → set.contains X d ≡ true → near c d ≡ true → set.contains P d ≡ true
+pub near_stays : (X P : Cells) → IsCluster X P → (c d : Cell) → set.contains P c ≡ true → set.contains X d ≡ true
+    → near c d ≡ true → set.contains P d ≡ true
 near_stays X P part c d here there close = elim (cases_Bool (set.contains P d)) [
   | inl held ↦ held
   | inr free ↦ absurd (false≢true (sym (part.apart c d here there free) ∙ close))
 ]
 
-chain_stays : (X P : Cells) → IsCluster X P → (c d : Cell) (es : List Cell) → set.contains P c ≡ true → IsChain X c es d → set.contains P d ≡ true
+chain_stays : (X P : Cells) → IsCluster X P → (c d : Cell) (es : List Cell) → set.contains P c ≡ true
+    → IsChain X c es d → set.contains P d ≡ true
 chain_stays X P part c d [] here e = ap (set.contains P) (sym e) ∙ here
 chain_stays X P part c d (e ∷ es) here h = chain_stays X P part e d es (near_stays X P part c e here h.0 h.1) h.2
 
-pub one_cluster : (X P Q : Cells) (c : Cell) → IsCluster X P → IsCluster X Q → set.contains P c ≡ true → set.contains Q c ≡ true → P ≡ Q
-one_cluster X P Q c p q in_P in_Q = cells_by_members P Q (λ d. same_answer _ _ (within P Q p q in_P in_Q d) (within Q P q p in_Q in_P d))
+pub one_cluster : (X P Q : Cells) (c : Cell) → IsCluster X P → IsCluster X Q → set.contains P c ≡ true
+    → set.contains Q c ≡ true → P ≡ Q
+one_cluster X P Q c p q in_P in_Q =
+    cells_by_members P Q (λ d. same_answer _ _ (within P Q p q in_P in_Q d) (within Q P q p in_Q in_P d))
   where
-    within : (P Q : Cells) → IsCluster X P → IsCluster X Q → set.contains P c ≡ true → set.contains Q c ≡ true → (d : Cell) → set.contains P d ≡ true → set.contains Q d ≡ true
+    within : (P Q : Cells) → IsCluster X P → IsCluster X Q → set.contains P c ≡ true → set.contains Q c ≡ true
+        → (d : Cell) → set.contains P d ≡ true → set.contains Q d ≡ true
     within P Q p q in_P in_Q d h = let chain = p.joined c d in_P h in chain_stays X Q q c d chain.0 in_Q chain.1
 
 -- ---- the order
@@ -87,7 +96,8 @@ all_from_in F [] h = tt
 all_from_in F (Q ∷ Qs) h = (h Q (inl refl), all_from_in F Qs (λ P k. h P (inr k)))
 
 -- two lists in order with the same members are one
-pub one_order : (Ps Qs : List Cells) → AreInOrder Ps → AreInOrder Qs → ((P : Cells) → IsIn Ps P → IsIn Qs P) → ((P : Cells) → IsIn Qs P → IsIn Ps P) → Ps ≡ Qs
+pub one_order : (Ps Qs : List Cells) → AreInOrder Ps → AreInOrder Qs → ((P : Cells) → IsIn Ps P → IsIn Qs P)
+    → ((P : Cells) → IsIn Qs P → IsIn Ps P) → Ps ≡ Qs
 one_order [] [] s t to from = refl
 one_order [] (Q ∷ Qs) s t to from = absurd (from Q (inl refl))
 one_order (P ∷ Ps) [] s t to from = absurd (to P (inl refl))
@@ -100,13 +110,17 @@ one_order (P ∷ Ps) (Q ∷ Qs) s t to from =
       | inl same ↦ same
       | inr later ↦ elim k [
         | inl same ↦ sym same
-        | inr after ↦ absurd (before_itself P (before_trans P Q P (all_in (IsBefore P) Ps Q s.0 later) (all_in (IsBefore Q) Qs P t.0 after)))
+        | inr after ↦
+            absurd (before_itself P (before_trans P Q P (all_in (IsBefore P) Ps Q s.0 later)
+            (all_in (IsBefore Q) Qs P t.0 after)))
       ]
     ]
 
-    tails : (P Q : Cells) (Ps Qs : List Cells) → P ≡ Q → AllByRecursion (IsBefore P) Ps → ((R : Cells) → IsIn (P ∷ Ps) R → IsIn (Q ∷ Qs) R) → (R : Cells) → IsIn Ps R → IsIn Qs R
+    tails : (P Q : Cells) (Ps Qs : List Cells) → P ≡ Q → AllByRecursion (IsBefore P) Ps
+        → ((R : Cells) → IsIn (P ∷ Ps) R → IsIn (Q ∷ Qs) R) → (R : Cells) → IsIn Ps R → IsIn Qs R
     tails P Q Ps Qs first before to R h = elim (to R (inr h)) [
-      | inl same ↦ absurd (before_itself P (subst (IsBefore P) (sym (first ∙ same)) (all_in (IsBefore P) Ps R before h)))
+      | inl same ↦
+          absurd (before_itself P (subst (IsBefore P) (sym (first ∙ same)) (all_in (IsBefore P) Ps R before h)))
       | inr rest ↦ rest
     ]
 

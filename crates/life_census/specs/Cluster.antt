@@ -1,5 +1,6 @@
--- Clusters of a set of cells: the classes of cells that chains of near cells connect. Cells at most 2 apart count as near, since they can have a common neighbour
--- (Life Lexicon, "cluster": each live cell is connected to every other by a path that does not pass through two consecutive dead cells).
+-- Clusters of a set of cells: the classes of cells that chains of near cells connect. Cells at most 2 apart count as
+-- near, since they can have a common neighbour (Life Lexicon, "cluster": each live cell is connected to every other by
+-- a path that does not pass through two consecutive dead cells).
 use Rattle.std.specs.Prelude.{◌≡◌, Bool, true, false, cond, not, List, [], ◌∷◌}
 use Rattle.std.specs.declared.cmp.Ordering.TheVariants.{Less}
 use Rattle.std.specs.List.{AllByRecursion, Contains, list_any, filter}
@@ -25,7 +26,8 @@ pub record IsCluster (X P : Cells) : Type 0 where
   pub inside : (c : Cell) → set.contains P c ≡ true → set.contains X c ≡ true
   pub cell : (c : Cell) × (set.contains P c ≡ true)
   pub joined : (c d : Cell) → set.contains P c ≡ true → set.contains P d ≡ true → AreJoined X c d
-  pub apart : (c d : Cell) → set.contains P c ≡ true → set.contains X d ≡ true → set.contains P d ≡ false → near c d ≡ false
+  pub apart : (c d : Cell) → set.contains P c ≡ true → set.contains X d ≡ true → set.contains P d ≡ false
+      → near c d ≡ false
 
 -- ---- the list of the clusters
 
@@ -60,7 +62,8 @@ abbrev pub joined_with : Cell → List Cells → Cells
 joined_with c [] = set.insert set.empty c
 joined_with c (P ∷ Ps) = cond (touches c P) (set.union P (joined_with c Ps)) (joined_with c Ps)
 
--- the clusters of the set of a sorted list's cells: those that the first cell is not near stay, and the others become one
+-- the clusters of the set of a sorted list's cells: those that the first cell is not near stay, and the others become
+-- one
 abbrev pub clusters_among : List Cell → List Cells
 clusters_among [] = []
 clusters_among (c ∷ cs) = joined_with c (clusters_among cs) ∷ filter (λ P. not (touches c P)) (clusters_among cs)

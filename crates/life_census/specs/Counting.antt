@@ -22,7 +22,8 @@ how_often t ts = count_by (eq_by_cmp row_cmp t) ts
 unfoldable pub occurrences_of : List (List ℕ) → List (List ℕ × ℕ)
 occurrences_of ts = table.entries (table.from_entries {R = row_cmp} (map (λ t. (t, how_often t ts)) ts))
 
--- the tally of a list of sets: each code that one of them has, with how many have it; how many have no code; and how many there are in all
+-- the tally of a list of sets: each code that one of them has, with how many have it; how many have no code; and how
+-- many there are in all
 pub record IsTally (code : Cells → Option (List ℕ)) (Ps : List Cells) (t : TallyCounts) : Type 0 where
   pub rows : t.rows ≡ occurrences_of (filter_map code Ps)
   pub unresolved : t.unresolved ≡ count_by (λ P. is_none (code P)) Ps
@@ -30,4 +31,8 @@ pub record IsTally (code : Cells → Option (List ℕ)) (Ps : List Cells) (t : T
 
 -- the tally of a list of sets
 abbrev pub tally_of : (Cells → Option (List ℕ)) → List Cells → TallyCounts
-tally_of code Ps = record { rows = occurrences_of (filter_map code Ps); unresolved = count_by (λ P. is_none (code P)) Ps; total = length Ps }
+tally_of code Ps = record {
+  rows = occurrences_of (filter_map code Ps);
+  unresolved = count_by (λ P. is_none (code P)) Ps;
+  total = length Ps;
+}

@@ -20,4 +20,5 @@ IsRowOf {A} rows t i = (i < length rows) × ((d : Row A) → row_cmp t (slice_in
 
 -- a row at place i, if there is one, has a greater code
 abbrev pub IsPlaceFor : {A : Type 0} → List (Row A) → List ℕ → ℕ → Type 0
-IsPlaceFor {A} rows t i = (i ≤ length rows) × (i < length rows → (d : Row A) → row_cmp t (slice_index_or rows i d).code ≡ Less)
+IsPlaceFor {A} rows t i =
+    (i ≤ length rows) × (i < length rows → (d : Row A) → row_cmp t (slice_index_or rows i d).code ≡ Less)

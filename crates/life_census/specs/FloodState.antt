@@ -1,5 +1,6 @@
 -- A flood fill: the cells that chains connect to a start move from one set to another, run by run.
-use Rattle.std.specs.Prelude.{◌≡◌, ◌⊎◌, ℕ, zero, suc, ◌+◌, ◌≤◌, ◌<◌, ℤ, pos, ◌+ℤ◌, ◌≤ℤ◌, ◌<ℤ◌, Bool, true, false, List, [], ◌∷◌, ◌++◌, length, slice_index_or, slice_set}
+use Rattle.std.specs.Prelude.{◌≡◌, ◌⊎◌, ℕ, zero, suc, ◌+◌, ◌≤◌, ◌<◌, ℤ, pos, ◌+ℤ◌, ◌≤ℤ◌, ◌<ℤ◌, Bool, true, false, List}
+use Rattle.std.specs.Prelude.{[], ◌∷◌, ◌++◌, length, slice_index_or, slice_set}
 use Rattle.std.specs.List.{All, Contains, count_by}
 use Rattle.std.specs.FinSet as set
 use Rattle.life_core.specs.declared.cell.Cell.{Cell}
@@ -67,11 +68,14 @@ pub record HasGrown (r : Run) (left cluster after grown : List Run) : Type 0 whe
   pub kept : AreKept left after
   pub as_many : count_by is_filled after + length grown ≡ count_by is_filled left + length cluster
   pub filled : All (λ s. 1 ≤ s.len) cluster → All (λ s. 1 ≤ s.len) grown
-  pub flood : (X : Cells) (start : Cell) → 1 ≤ r.len → Contains cluster r → IsFlood X start (cells_in cluster) (cells_in left) → IsFlood X start (cells_in grown) (cells_in after)
+  pub flood : (X : Cells) (start : Cell) → 1 ≤ r.len → Contains cluster r
+      → IsFlood X start (cells_in cluster) (cells_in left) → IsFlood X start (cells_in grown) (cells_in after)
 
 -- the run at place i of the first list has moved to the end of the second, unless it is empty
 abbrev pub IsTaken : Run → ℕ → List Run → List Run → List Run → List Run → Type 0
-IsTaken r i left cluster after grown = ((r.len ≡ 0) × (after ≡ left) × (grown ≡ cluster)) ⊎ ((1 ≤ r.len) × (after ≡ slice_set left i (emptied r)) × (grown ≡ cluster ++ r ∷ []))
+IsTaken r i left cluster after grown =
+    ((r.len ≡ 0) × (after ≡ left) × (grown ≡ cluster))
+    ⊎ ((1 ≤ r.len) × (after ≡ slice_set left i (emptied r)) × (grown ≡ cluster ++ r ∷ []))
 
 -- a run begins in an earlier row, or before the column of the row
 abbrev pub Begins : Run → ℤ → ℤ → Type 0

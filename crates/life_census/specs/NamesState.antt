@@ -10,4 +10,6 @@ pub record Naming : Type 0 where
 
 -- they are stored as the pair
 abbrev pub coded_naming : Coded Naming
-coded_naming = code_by (RuleSets × ℕ) (coded× coded_rule coded_ℕ) (λ a. (a.rule, a.limit)) (λ p. record { rule = p.0; limit = p.1 }) (λ _. refl)
+coded_naming =
+    code_by (RuleSets × ℕ) (coded× coded_rule coded_ℕ) (λ a. (a.rule, a.limit))
+    (λ p. record { rule = p.0; limit = p.1 }) (λ _. refl)

@@ -17,10 +17,12 @@ use Rattle.life_census.specs.Cluster.{IsCluster, touches, clusters_of}
 unfoldable pub Stays : RuleSets → ℕ → Cells → Type 0
 Stays r limit P = HasKind r P limit Still ⊎ ((p : ℕ) × HasKind r P limit (Oscillator p))
 
--- each cluster of X stays in place, and no phase of a cluster is near a phase of another; the phases of a cluster are its generations when it is alone
+-- each cluster of X stays in place, and no phase of a cluster is near a phase of another; the phases of a cluster are
+-- its generations when it is alone
 pub record IsSteady (r : RuleSets) (X : Cells) (limit : ℕ) : Type 0 where
   pub stay : (P : Cells) → IsCluster X P → Stays r limit P
-  pub apart : (P Q : Cells) → IsCluster X P → IsCluster X Q → P ≢ Q → (i j : ℕ) → AreApart (generation_of r P i) (generation_of r Q j)
+  pub apart : (P Q : Cells) → IsCluster X P → IsCluster X Q → P ≢ Q → (i j : ℕ)
+      → AreApart (generation_of r P i) (generation_of r Q j)
 
 -- ---- whether a field is steady, as a function
 
@@ -53,6 +55,7 @@ abbrev pub all_keep_apart : RuleSets → ℕ → List Cells → Bool
 all_keep_apart r n [] = true
 all_keep_apart r n (P ∷ Ps) = list_all (keep_apart r n P) Ps && all_keep_apart r n Ps
 
--- whether each cluster of X stays in place, and no two are near each other in their first generations up to the limit, which include all phases of those that stay
+-- whether each cluster of X stays in place, and no two are near each other in their first generations up to the limit,
+-- which include all phases of those that stay
 unfoldable pub is_steady : RuleSets → Cells → ℕ → Bool
 is_steady r X limit = list_all (stays r limit) (clusters_of X) && all_keep_apart r limit (clusters_of X)

@@ -27,8 +27,10 @@ IsVisitInPlane v = IsCellWithin PLANE v.cell
 
 -- the visits are those of all phases of the first n sets
 pub record AreVisits (r : RuleSets) (Ps : List Cells) (n : ℕ) (visits : List Visit) : Type 0 where
-  pub only : (v : Visit) → Contains visits v → (v.cluster < n) × ((i : ℕ) × ((d : Cells) → set.contains (generation_of r (slice_index_or Ps v.cluster d) i) v.cell ≡ true))
-  pub all : (number i : ℕ) (d : Cells) (c : Cell) → number < n → set.contains (generation_of r (slice_index_or Ps number d) i) c ≡ true → Contains visits (visit_of number c)
+  pub only : (v : Visit) → Contains visits v → (v.cluster < n)
+      × ((i : ℕ) × ((d : Cells) → set.contains (generation_of r (slice_index_or Ps v.cluster d) i) v.cell ≡ true))
+  pub all : (number i : ℕ) (d : Cells) (c : Cell) → number < n
+      → set.contains (generation_of r (slice_index_or Ps number d) i) c ≡ true → Contains visits (visit_of number c)
 
 -- visits of two clusters are to cells that are not near
 abbrev pub KeepApart : Visit → Visit → Type 0
@@ -44,7 +46,8 @@ KeepApartUpTo last v w = is_lt (cell_cmp last w.cell) ≡ false → KeepApart v 
 
 -- visits of different clusters to cells this many rows apart are to cells that are not near
 abbrev pub AreRowsApart : ℤ → List Visit → Type 0
-AreRowsApart rows visits = (v w : Visit) → Contains visits v → Contains visits w → w.cell.row ≡ v.cell.row +ℤ rows → KeepApart v w
+AreRowsApart rows visits =
+    (v w : Visit) → Contains visits v → Contains visits w → w.cell.row ≡ v.cell.row +ℤ rows → KeepApart v w
 
 -- all visits of different clusters are to cells that are not near
 abbrev pub AreAllApart : List Visit → Type 0

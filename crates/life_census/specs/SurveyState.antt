@@ -1,5 +1,6 @@
 -- The known shapes of clusters.
-use Rattle.std.specs.Prelude.{◌≡◌, ℕ, zero, suc, ◌≤◌, ◌<◌, Bool, IsTrue, List, [], ◌++◌, length, slice_index_or, Option, MatchOption}
+use Rattle.std.specs.Prelude.{◌≡◌, ℕ, zero, suc, ◌≤◌, ◌<◌, Bool, IsTrue, List, [], ◌++◌, length, slice_index_or, Option}
+use Rattle.std.specs.Prelude.{MatchOption}
 use Rattle.std.specs.List.{All}
 use Rattle.life_core.specs.declared.cell.Cell.{Cell}
 use Rattle.life_core.specs.Cell.{moved_cell}
@@ -27,10 +28,12 @@ pub record StaysFor (r : RuleSets) (limit : ℕ) (P : Cells) (p : ℕ) : Type 0 
 abbrev pub ArePhases : RuleSets → ℕ → Cells → List Cell → Type 0
 ArePhases r limit P cells = (p : ℕ) × StaysFor r limit P p × (cells ≡ phases_of r P p)
 
--- an entry for a shape: the code of its first cluster and, if they are listed, the cells of its phases, or no cells if it does not stay in place
+-- an entry for a shape: the code of its first cluster and, if they are listed, the cells of its phases, or no cells if
+-- it does not stay in place
 pub record IsShape {A : Type 0} (r : RuleSets) (limit : ℕ) (listed : Bool) (s : Shape A) : Type 0 where
   pub code : s.code ≡ code_of r s.cluster limit
-  pub phases : IsTrue listed → MatchOption s.phases (Stays r limit s.cluster → ⊥) (λ v. ArePhases r limit s.cluster v.items)
+  pub phases : IsTrue listed → MatchOption s.phases (Stays r limit s.cluster → ⊥)
+      (λ v. ArePhases r limit s.cluster v.items)
 
 -- the shapes come from a survey under a rule and a valid limit
 pub record IsSurvey {A : Type 0} (r : RuleSets) (limit : ℕ) (listed : Bool) (shapes : List (Shape A)) : Type 0 where
@@ -40,7 +43,8 @@ pub record IsSurvey {A : Type 0} (r : RuleSets) (limit : ℕ) (listed : Bool) (s
 
 -- X is the first cluster of the shape at place i, moved by the columns and rows of v
 abbrev pub HasShapeAt : {A : Type 0} → List (Shape A) → Cells → ℕ → Cell → Type 0
-HasShapeAt {A} shapes X i v = (i < length shapes) × ((d : Shape A) → X ≡ image (moved_cell v.column v.row) (slice_index_or shapes i d).cluster)
+HasShapeAt {A} shapes X i v =
+    (i < length shapes) × ((d : Shape A) → X ≡ image (moved_cell v.column v.row) (slice_index_or shapes i d).cluster)
 
 -- the shape at place i has this code, or no code
 abbrev pub HasCodeAt : {A : Type 0} → List (Shape A) → Option (List ℕ) → ℕ → Type 0

@@ -11,7 +11,8 @@ line text n = text ++ comma ∷ decimal n ++ line_feed ∷ []
 
 -- a header, a line for each code with its count, and a line with how many clusters have no code
 abbrev pub lines : List (List ℕ × ℕ) → ℕ → List ℕ
-lines rows unresolved = codes "code,count" ++ line_feed ∷ flat_map (λ row. line row.0 row.1) rows ++ line (codes "unresolved") unresolved
+lines rows unresolved =
+    codes "code,count" ++ line_feed ∷ flat_map (λ row. line row.0 row.1) rows ++ line (codes "unresolved") unresolved
 
 -- the text of a tally
 abbrev pub csv_text : TallyCounts → List ℕ

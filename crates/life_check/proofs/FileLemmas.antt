@@ -16,12 +16,25 @@ use Rattle.life_check.specs.declared.judging.Wrong.{Wrong}
 use Rattle.life_check.specs.Sound.{RepresentsSome}
 use Rattle.life_check.specs.Files.{EndsCheck, IsFoundAt, FindsIn, IsPathCheck}
 
-module _ {D : Type 0} {g : disk.Ghosts D} (quick : Bool) (a : ArchiveView (FileStore D g)) (checked : Result Verdict Unavailable) (further : List Wrong) (files : Files D) (ends : EndsCheck quick g a checked further files) (image : Image) (capacity : ℕ) (opens : IsFoundAt image capacity a) where
+module _ {D : Type 0} {g : disk.Ghosts D} (quick : Bool) (a : ArchiveView (FileStore D g))
+    (checked : Result Verdict Unavailable) (further : List Wrong) (files : Files D)
+    (ends : EndsCheck quick g a checked further files) (image : Image) (capacity : ℕ)
+    (opens : IsFoundAt image capacity a) where
   still_healthy : AreClean g files.log files.db → IsTrue a.tables.is_healthy
   still_healthy clean = opens.healthy (ends.honest clean)
 
-  finds_in : (r : Result Verdict Unavailable) → AreClean g files.log files.db → IfOk r (RepresentsSome quick a) → IfOk r (FindsIn quick files a)
-  finds_in (Ok (Sound d c)) clean it = (it.0, it.1, it.2, it.3, ends.held (kept_of it.0) (still_healthy clean) (holds_of a it.0 it.1) clean, it.4, it.5, it.6)
+  finds_in : (r : Result Verdict Unavailable) → AreClean g files.log files.db → IfOk r (RepresentsSome quick a)
+      → IfOk r (FindsIn quick files a)
+  finds_in (Ok (Sound d c)) clean it = (
+    it.0,
+    it.1,
+    it.2,
+    it.3,
+    ends.held (kept_of it.0) (still_healthy clean) (holds_of a it.0 it.1) clean,
+    it.4,
+    it.5,
+    it.6,
+  )
   finds_in (Ok (SoundButForCounts d c)) clean it = it
   finds_in (Ok (NotSound w)) clean it = it
   finds_in (Err e) clean it = tt

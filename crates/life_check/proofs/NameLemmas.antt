@@ -1,5 +1,6 @@
 -- Members and tokens that a request may have.
-use Rattle.std.proofs.Common.{◌≡◌, ◌↔◌, List, [], ℕ, Bool, true, false, Result, Ok, Err, IsTrue, refl, sym, subst, subst₂}
+use Rattle.std.proofs.Common.{◌≡◌, ◌↔◌, List, [], ℕ, Bool, true, false, Result, Ok, Err, IsTrue, refl, sym, subst}
+use Rattle.std.proofs.Common.{subst₂}
 use Rattle.std.specs.Prelude.{is_ok, if◌then◌else◌}
 use Rattle.life_desk.specs.declared.refusal.Refusal.{Refusal}
 use Rattle.life_desk.specs.declared.refusal.Refusal.TheVariants.{BadMember, BadToken}
@@ -10,7 +11,9 @@ use Rattle.life_check.specs.ReadState.{AreNames}
 no_truth : IsTrue false → ⊥
 no_truth it = cc
 
-by_tests : {J : Type 0} (x y : Bool) (word : J) (r : Result (Unit {0}) Refusal) → IsChecked r (if x then (if y then Ok word else Err BadToken) else Err BadMember) → IsTrue (is_ok r) ↔ (IsTrue x × IsTrue y)
+by_tests : {J : Type 0} (x y : Bool) (word : J) (r : Result (Unit {0}) Refusal)
+    → IsChecked r (if x then (if y then Ok word else Err BadToken) else Err BadMember)
+    → IsTrue (is_ok r) ↔ (IsTrue x × IsTrue y)
 by_tests true true word (Ok u) it = (λ ok. (refl, refl), λ names. refl)
 by_tests true true word (Err e) it = absurd cc
 by_tests true false word (Ok u) it = absurd cc
@@ -19,6 +22,9 @@ by_tests false y word (Ok u) it = absurd cc
 by_tests false y word (Err e) it = (λ ok. absurd (no_truth ok), λ names. absurd (no_truth names.0))
 
 -- the check of a deposit's fields passes exactly valid ones
-pub names_checked : (m t member token : List ℕ) (r : Result (Unit {0}) Refusal) (b : Bool) → m ≡ member → t ≡ token → ((file : List ℕ) → IsChecked r (validated (ask.Deposit m t file))) → b ≡ is_ok r → IsTrue b ↔ AreNames member token
+pub names_checked : (m t member token : List ℕ) (r : Result (Unit {0}) Refusal) (b : Bool)
+    → m ≡ member → t ≡ token → ((file : List ℕ) → IsChecked r (validated (ask.Deposit m t file)))
+    → b ≡ is_ok r → IsTrue b ↔ AreNames member token
 names_checked m t member token r b first second checked is =
-    subst₂ (λ (x y : List ℕ). IsTrue b ↔ AreNames x y) first second (subst (λ (x : Bool). IsTrue x ↔ AreNames m t) (sym is) (by_tests (is_member m) (is_token t) _ r (checked [])))
+    subst₂ (λ (x y : List ℕ). IsTrue b ↔ AreNames x y) first second
+    (subst (λ (x : Bool). IsTrue x ↔ AreNames m t) (sym is) (by_tests (is_member m) (is_token t) _ r (checked [])))

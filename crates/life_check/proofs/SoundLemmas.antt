@@ -1,5 +1,6 @@
 -- Tables whose rows were read and judged represent an archive.
-use Rattle.std.proofs.Common.{◌≡◌, ◌<◌, ◌≤◌, ◌∙◌, ℕ, suc, ◌^◌, List, [], ◌∷◌, length, map, Bool, true, false, Option, None, Some, Result, Ok, Err, refl, sym, ap₂, subst, arith}
+use Rattle.std.proofs.Common.{◌≡◌, ◌<◌, ◌≤◌, ◌∙◌, ℕ, suc, ◌^◌, List, [], ◌∷◌, length, map, Bool, true, false, Option}
+use Rattle.std.proofs.Common.{None, Some, Result, Ok, Err, refl, sym, ap₂, subst, arith}
 use Rattle.std.specs.Prelude.{IsSome, IfOk, OnOk}
 use Rattle.std.specs.List.{AllByRecursion, Contains, filter_map}
 use Rattle.sqlite_trees.specs.Tree.{Trees}
@@ -24,22 +25,26 @@ use Rattle.life_store.specs.Layout.{archive_schema}
 use Rattle.life_store.specs.TreesOf.{AreTreesOf}
 use Rattle.life_check.specs.declared.judging.Verdict.{Verdict}
 use Rattle.life_check.specs.declared.judging.Verdict.TheVariants.{Sound, SoundButForCounts, NotSound}
-use Rattle.life_check.specs.Sound.{AreSound, FindsSound, FindsWrong, IsAskedFor, HasUniqueTokens, RepresentsButForCounts, RepresentsSome, RepresentsNone}
+use Rattle.life_check.specs.Sound.{AreSound, FindsSound, FindsWrong, IsAskedFor, HasUniqueTokens}
+use Rattle.life_check.specs.Sound.{RepresentsButForCounts, RepresentsSome, RepresentsNone}
 use Rattle.life_check.specs.declared.judging.Wrong.{Wrong}
 use Rattle.life_check.specs.declared.judging.Wrong.TheVariants as wrong
 use Rattle.life_check.proofs.WalkLemmas.{all_more}
 use Rattle.life_check.proofs.TokenLemmas.{unique_deposits, unique_censuses}
 
 -- what is counted anew is what was counted
-same_tallied : (ds : List Deposit) (ts : List Tallied) → AllByRecursion (IsCounted false ds) ts → map (tallied ds) (map (λ (t : Tallied). t.census) ts) ≡ ts
+same_tallied : (ds : List Deposit) (ts : List Tallied) → AllByRecursion (IsCounted false ds) ts
+    → map (tallied ds) (map (λ (t : Tallied). t.census) ts) ≡ ts
 same_tallied ds [] all = refl
 same_tallied ds (t ∷ ts) all = ap₂ (λ x xs. x ∷ xs) (sym (all.0.is refl)) (same_tallied ds ts all.1)
 
-each_there : (quick : Bool) (ds : List Deposit) (ts : List Tallied) → AllByRecursion (IsCounted quick ds) ts → EachHasDeposit ds (map (λ (t : Tallied). t.census) ts)
+each_there : (quick : Bool) (ds : List Deposit) (ts : List Tallied) → AllByRecursion (IsCounted quick ds) ts
+    → EachHasDeposit ds (map (λ (t : Tallied). t.census) ts)
 each_there quick ds [] all = tt
 each_there quick ds (t ∷ ts) all = (subst IsSome (sym all.0.there) refl, each_there quick ds ts all.1)
 
-all_askable : (quick : Bool) (ds : List Deposit) (ts : List Tallied) → AllByRecursion (IsCounted quick ds) ts → AllByRecursion IsAskable (map (λ (t : Tallied). t.census) ts)
+all_askable : (quick : Bool) (ds : List Deposit) (ts : List Tallied) → AllByRecursion (IsCounted quick ds) ts
+    → AllByRecursion IsAskable (map (λ (t : Tallied). t.census) ts)
 all_askable quick ds [] all = tt
 all_askable quick ds (t ∷ ts) all = (all.0.askable, all_askable quick ds ts all.1)
 
@@ -48,14 +53,16 @@ many_mapped f [] = refl
 many_mapped f (x ∷ xs) = omega (arith, many_mapped f xs)
 
 -- the archive of what was read, which requests can ask for
-module _ {S : Type 0} (a : ArchiveView S) (trees : Trees) (quick : Bool) (d c : ℕ) (schema : a.tables.schema ≡ archive_schema) (has : AreTreesOf a.tables trees) (sound : AreSound quick trees d c) where
+module _ {S : Type 0} (a : ArchiveView S) (trees : Trees) (quick : Bool) (d c : ℕ) (schema : a.tables.schema
+    ≡ archive_schema) (has : AreTreesOf a.tables trees) (sound : AreSound quick trees d c) where
   filed : AllByRecursion IsFiled sound.filed.0
   filed = all_more IsNamed IsFiled (λ x named. named.filed) sound.filed.0 sound.filed.2
 
   abbrev read : AreCounted quick trees sound.filed.0 c
   read = sound.counted sound.filed.0 (sound.filed.1, filed)
 
-  holds_read : AllByRecursion (λ (t : Tallied). HasOrder t.tally) read.censuses → Holds a.tables (record { deposits = sound.filed.0; censuses = read.censuses })
+  holds_read : AllByRecursion (λ (t : Tallied). HasOrder t.tally) read.censuses
+      → Holds a.tables (record { deposits = sound.filed.0; censuses = read.censuses })
   holds_read ordered = record {
     schema = schema;
     committed = has.committed;
@@ -71,34 +78,48 @@ module _ {S : Type 0} (a : ArchiveView S) (trees : Trees) (quick : Bool) (d c : 
   }
 
   abbrev archive : Archive
-  archive = record { deposits = sound.filed.0; censuses = map (λ (t : Tallied). t.census) read.censuses; capacity = a.capacity }
+  archive = record {
+    deposits = sound.filed.0;
+    censuses = map (λ (t : Tallied). t.census) read.censuses;
+    capacity = a.capacity;
+  }
 
   asked_for : IsAskedFor archive
   asked_for = record {
-    deposits = all_more IsNamed (λ (x : Deposit). AreNames x.member x.token) (λ x named. named.named) sound.filed.0 sound.filed.2;
+    deposits =
+        all_more IsNamed (λ (x : Deposit). AreNames x.member x.token)
+        (λ x named. named.named) sound.filed.0 sound.filed.2;
     censuses = all_askable quick sound.filed.0 read.censuses read.good;
   }
 
   unique_tokens : HasUniqueTokens archive
   unique_tokens =
       let unique = subst (λ s. Keeps Unique s trees) schema (has.obeys.obeys.rules Unique) in
-      record { deposits = unique_deposits trees unique sound.filed.0 sound.filed.1; censuses = unique_censuses trees unique read.censuses read.rows }
+      record {
+        deposits = unique_deposits trees unique sound.filed.0 sound.filed.1;
+        censuses = unique_censuses trees unique read.censuses read.rows;
+      }
 
   many_censuses : length archive.censuses ≡ c
   many_censuses = many_mapped (λ (t : Tallied). t.census) read.censuses ∙ read.many
 
-pub represented : {S : Type 0} (a : ArchiveView S) (trees : Trees) (d c : ℕ) → a.tables.schema ≡ archive_schema → AreTreesOf a.tables trees → AreSound false trees d c
-    → (A : Archive) × Represents a A × (length A.deposits ≡ d) × (length A.censuses ≡ c) × IsAskedFor A × HasUniqueTokens A
+pub represented : {S : Type 0} (a : ArchiveView S) (trees : Trees) (d c : ℕ) → a.tables.schema ≡ archive_schema
+    → AreTreesOf a.tables trees → AreSound false trees d c
+    → (A : Archive) × Represents a A × (length A.deposits ≡ d) × (length A.censuses ≡ c) × IsAskedFor A
+    × HasUniqueTokens A
 unfolding Represents
 represented a trees d c schema has sound =
     let ds = sound.filed.0 in
     let it = read a trees false d c schema has sound in
-    let ordered = all_more (IsCounted false ds) (λ (t : Tallied). HasOrder t.tally) (λ t counted. counted.ordered refl) it.censuses it.good in (
+    let ordered = all_more (IsCounted false ds) (λ (t : Tallied). HasOrder t.tally)
+    (λ t counted. counted.ordered refl) it.censuses it.good in (
       archive a trees false d c schema has sound,
       record {
         capacity = refl;
         each = each_there false ds it.censuses it.good;
-        holds = subst (λ (all : List Tallied). Holds a.tables (record { deposits = ds; censuses = all })) (sym (same_tallied ds it.censuses it.good)) (holds_read a trees false d c schema has sound ordered);
+        holds =
+            subst (λ (all : List Tallied). Holds a.tables (record { deposits = ds; censuses = all }))
+            (sym (same_tallied ds it.censuses it.good)) (holds_read a trees false d c schema has sound ordered);
       },
       sound.filed.3,
       many_censuses a trees false d c schema has sound,
@@ -106,8 +127,10 @@ represented a trees d c schema has sound =
       unique_tokens a trees false d c schema has sound,
     )
 
-pub represented_uncounted : {S : Type 0} (a : ArchiveView S) (trees : Trees) (d c : ℕ) → a.tables.schema ≡ archive_schema → AreTreesOf a.tables trees → AreSound true trees d c
-    → (A : Archive) × RepresentsButForCounts a A × (length A.deposits ≡ d) × (length A.censuses ≡ c) × IsAskedFor A × HasUniqueTokens A
+pub represented_uncounted : {S : Type 0} (a : ArchiveView S) (trees : Trees) (d c : ℕ)
+    → a.tables.schema ≡ archive_schema → AreTreesOf a.tables trees → AreSound true trees d c
+    → (A : Archive) × RepresentsButForCounts a A × (length A.deposits ≡ d) × (length A.censuses ≡ c)
+    × IsAskedFor A × HasUniqueTokens A
 represented_uncounted a trees d c schema has sound =
     let ds = sound.filed.0 in
     let it = read a trees true d c schema has sound in (
@@ -117,7 +140,9 @@ represented_uncounted a trees d c schema has sound =
         each = each_there true ds it.censuses it.good;
         counts = it.censuses;
         are = refl;
-        add_up = all_more (IsCounted true ds) (λ (t : Tallied). AddsUp t.tally) (λ t counted. counted.adds_up) it.censuses it.good;
+        add_up =
+            all_more (IsCounted true ds) (λ (t : Tallied). AddsUp t.tally)
+            (λ t counted. counted.adds_up) it.censuses it.good;
         holds = holds_read a trees true d c schema has sound;
       },
       sound.filed.3,
@@ -127,7 +152,8 @@ represented_uncounted a trees d c schema has sound =
     )
 
 -- the deposits of an archive, with what a table keeps of them
-all_named : (ds : List Deposit) → AllByRecursion IsFiled ds → AllByRecursion (λ (d : Deposit). AreNames d.member d.token) ds → AllByRecursion IsNamed ds
+all_named : (ds : List Deposit) → AllByRecursion IsFiled ds
+    → AllByRecursion (λ (d : Deposit). AreNames d.member d.token) ds → AllByRecursion IsNamed ds
 all_named [] kept names = tt
 all_named (d ∷ ds) kept names = (record { filed = kept.0; named = names.0 }, all_named ds kept.1 names.1)
 
@@ -135,33 +161,47 @@ all_named (d ∷ ds) kept names = (record { filed = kept.0; named = names.0 }, a
 
 all_some : (xs : List (List ℕ × ℕ)) → ((code : List ℕ) (n : ℕ) → Contains xs (code, n) → 1 ≤ n) → AreSome xs
 all_some [] some = tt
-all_some (x ∷ xs) some = (some x.0 x.1 (0, omega arith, refl), all_some xs (λ code n it. some code n (suc it.0, omega (arith, it.1), it.2)))
+all_some (x ∷ xs) some =
+    (some x.0 x.1 (0, omega arith, refl), all_some xs (λ code n it. some code n (suc it.0, omega (arith, it.1), it.2)))
 
 tally_adds_up : (c : Census) (o : Option Deposit) → AddsUp (tally_for c o)
 tally_adds_up c None = refl
 tally_adds_up c (Some d) =
-    adds_up (λ P. code_of d.content.rule P c.limit) (clusters_of (generation_of d.content.rule d.content.cells c.generation)) (tally_for c (Some d)) (record { rows = refl; unresolved = refl; total = refl })
+    adds_up (λ P. code_of d.content.rule P c.limit)
+    (clusters_of (generation_of d.content.rule d.content.cells c.generation)) (tally_for c (Some d))
+    (record { rows = refl; unresolved = refl; total = refl })
 
 tally_is_some : (c : Census) (o : Option Deposit) → AreSome (tally_for c o).rows
 tally_is_some c None = tt
 tally_is_some c (Some d) =
-    let codes = filter_map (λ P. code_of d.content.rule P c.limit) (clusters_of (generation_of d.content.rule d.content.cells c.generation)) in
+    let codes = filter_map (λ P. code_of d.content.rule P c.limit)
+    (clusters_of (generation_of d.content.rule d.content.cells c.generation)) in
     all_some (occurrences_of codes) (λ code n it. ((rows_are_counts codes code n).0 it).1)
 
-all_tallied : (ds : List Deposit) (cs : List Census) → EachHasDeposit ds cs → AllByRecursion IsAskable cs → AllByRecursion (IsTallied ds) (map (tallied ds) cs)
+all_tallied : (ds : List Deposit) (cs : List Census) → EachHasDeposit ds cs → AllByRecursion IsAskable cs
+    → AllByRecursion (IsTallied ds) (map (tallied ds) cs)
 all_tallied ds [] each askable = tt
 all_tallied ds (c ∷ cs) each askable = (
-  record { askable = askable.0; there = each.0; is = refl; adds_up = tally_adds_up c (numbered ds c.deposit); some = tally_is_some c (numbered ds c.deposit) },
+  record {
+    askable = askable.0;
+    there = each.0;
+    is = refl;
+    adds_up = tally_adds_up c (numbered ds c.deposit);
+    some = tally_is_some c (numbered ds c.deposit);
+  },
   all_tallied ds cs each.1 askable.1,
 )
 
 -- what is wrong with the trees is wrong with every archive
-none_is : {S : Type 0} (a : ArchiveView S) (trees : Trees) (w : Wrong) → AreTreesOf a.tables trees → FindsWrong trees w → RepresentsNone a w
+none_is : {S : Type 0} (a : ArchiveView S) (trees : Trees) (w : Wrong) → AreTreesOf a.tables trees
+    → FindsWrong trees w → RepresentsNone a w
 unfolding Represents
 none_is a trees wrong.Tables has bad = absurd bad
 none_is a trees wrong.Layout has bad = λ A m. bad (sym has.layout ∙ m.holds.layout)
 none_is a trees (wrong.Deposit id) has bad = λ A m. bad A.deposits (sym has.deposits ∙ m.holds.deposits) m.holds.filed
-none_is a trees (wrong.DepositNames id) has bad = λ A asked m. bad A.deposits (sym has.deposits ∙ m.holds.deposits) (all_named A.deposits m.holds.filed asked.deposits)
+none_is a trees (wrong.DepositNames id) has bad =
+    λ A asked m. bad A.deposits (sym has.deposits ∙ m.holds.deposits)
+    (all_named A.deposits m.holds.filed asked.deposits)
 none_is a trees (wrong.Census id) has bad = λ A asked m.
     bad A.deposits (sym has.deposits ∙ m.holds.deposits, m.holds.filed) (record {
       censuses = map (tallied A.deposits) A.censuses;
@@ -172,17 +212,25 @@ none_is a trees (wrong.Census id) has bad = λ A asked m.
     })
 
 -- other tables are not those of an archive
-pub other_tables : {S : Type 0} (a : ArchiveView S) → (a.tables.schema ≡ archive_schema → ⊥) → RepresentsNone a wrong.Tables
+pub other_tables : {S : Type 0} (a : ArchiveView S) → (a.tables.schema ≡ archive_schema → ⊥)
+    → RepresentsNone a wrong.Tables
 unfolding Represents
 other_tables a other = λ A m. other m.holds.schema
 
 -- what was found of the trees, said of the archive
-pub sound_is : {S : Type 0} (quick : Bool) (a : ArchiveView S) (trees : Trees) (v : Verdict) → a.tables.schema ≡ archive_schema → AreTreesOf a.tables trees → FindsSound quick trees v → RepresentsSome quick a v
-sound_is quick a trees (Sound d c) schema has it = let found = represented a trees d c schema has (subst (λ q. AreSound q trees d c) it.1 it.0) in (found.0, found.1, found.2, found.3, found.4, found.5, it.1)
-sound_is quick a trees (SoundButForCounts d c) schema has it = let found = represented_uncounted a trees d c schema has (subst (λ q. AreSound q trees d c) it.1 it.0) in (found.0, found.1, found.2, found.3, found.4, found.5, it.1)
+pub sound_is : {S : Type 0} (quick : Bool) (a : ArchiveView S) (trees : Trees) (v : Verdict)
+    → a.tables.schema ≡ archive_schema → AreTreesOf a.tables trees → FindsSound quick trees v → RepresentsSome quick a v
+sound_is quick a trees (Sound d c) schema has it =
+    let found = represented a trees d c schema has (subst (λ q. AreSound q trees d c) it.1 it.0) in
+    (found.0, found.1, found.2, found.3, found.4, found.5, it.1)
+sound_is quick a trees (SoundButForCounts d c) schema has it =
+    let found = represented_uncounted a trees d c schema has (subst (λ q. AreSound q trees d c) it.1 it.0) in
+    (found.0, found.1, found.2, found.3, found.4, found.5, it.1)
 sound_is quick a trees (NotSound w) schema has it = none_is a trees w has it
 
-pub ok_sound : {S E : Type 0} (quick : Bool) (a : ArchiveView S) (trees : Trees) (r : Result Verdict E) → a.tables.schema ≡ archive_schema → OnOk r (AreTreesOf a.tables trees) → IfOk r (FindsSound quick trees) → IfOk r (RepresentsSome quick a)
+pub ok_sound : {S E : Type 0} (quick : Bool) (a : ArchiveView S) (trees : Trees) (r : Result Verdict E)
+    → a.tables.schema ≡ archive_schema → OnOk r (AreTreesOf a.tables trees) → IfOk r (FindsSound quick trees)
+    → IfOk r (RepresentsSome quick a)
 ok_sound quick a trees (Ok v) schema has it = sound_is quick a trees v schema has it
 ok_sound quick a trees (Err e) schema has it = tt
 

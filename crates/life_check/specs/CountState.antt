@@ -1,5 +1,6 @@
 -- The state while the censuses of an archive are read, with the rows of their tallies and their flags, and the results.
-use Rattle.std.specs.Prelude.{◌≡◌, ◌<◌, ◌≤◌, ◌+◌, ◌^◌, ◌==◌, ℕ, Bool, false, List, [], ◌∷◌, ◌++◌, length, sum_by, Some, IsSome}
+use Rattle.std.specs.Prelude.{◌≡◌, ◌<◌, ◌≤◌, ◌+◌, ◌^◌, ◌==◌, ℕ, Bool, false, List, [], ◌∷◌, ◌++◌, length, sum_by, Some}
+use Rattle.std.specs.Prelude.{IsSome}
 use Rattle.std.specs.List.{AllByRecursion}
 use Rattle.sqlite_value.specs.Order.{Row}
 use Rattle.sqlite_trees.specs.Tree.{Trees}
@@ -7,7 +8,8 @@ use Rattle.sqlite_trees.specs.View.{View}
 use Rattle.life_census.specs.Rows.{TallyCounts}
 use Rattle.life_store.specs.declared.kept.Deposit.{Deposit}
 use Rattle.life_store.specs.Kept.{Tallied, numbered}
-use Rattle.life_store.specs.Stored.{IsFiled, rows_by, deposit_cells, census_cells, count_cells, flag_cells, tagged, counts_from}
+use Rattle.life_store.specs.Stored.{IsFiled, rows_by, deposit_cells, census_cells, count_cells, flag_cells, tagged}
+use Rattle.life_store.specs.Stored.{counts_from}
 use Rattle.life_store.specs.Tables.{HasOrder}
 use Rattle.life_desk.specs.Represents.{tallied}
 use Rattle.life_check.specs.declared.walk.FoundCensuses.{FoundCensuses}
@@ -18,8 +20,8 @@ use Rattle.life_check.specs.ReadState.{census_row, flag_row, IsAskable}
 abbrev pub AddsUp : TallyCounts → Type 0
 AddsUp t = sum_by (λ (row : List ℕ × ℕ). row.1) t.rows + t.unresolved ≡ t.total
 
--- A request can ask for the census, its deposit exists, and its tally adds up. Unless the check is quick, its tally and its flag are those of its generation,
--- and the rows of the tally are in order.
+-- A request can ask for the census, its deposit exists, and its tally adds up. Unless the check is quick, its tally and
+-- its flag are those of its generation, and the rows of the tally are in order.
 pub record IsCounted (quick : Bool) (ds : List Deposit) (t : Tallied) : Type 0 where
   pub askable : IsAskable t.census
   pub deposit : Deposit
@@ -41,7 +43,8 @@ pub record AreCounted (quick : Bool) (trees : Trees) (ds : List Deposit) (n : �
 abbrev pub AreSome : List (List ℕ × ℕ) → Type 0
 AreSome rows = AllByRecursion (λ row. 1 ≤ row.1) rows
 
--- A request can ask for the census, its deposit exists, and its tally and its flag are those of its generation. Such a tally adds up.
+-- A request can ask for the census, its deposit exists, and its tally and its flag are those of its generation. Such a
+-- tally adds up.
 pub record IsTallied (ds : List Deposit) (t : Tallied) : Type 0 where
   pub askable : IsAskable t.census
   pub there : IsSome (numbered ds t.census.deposit)
@@ -61,9 +64,11 @@ pub record AreTallied (trees : Trees) (ds : List Deposit) : Type 0 where
 abbrev pub AreFiled : Trees → List Deposit → Type 0
 AreFiled trees ds = (trees 1 ≡ rows_by deposit_cells 1 ds) × AllByRecursion IsFiled ds
 
--- the result for the three tables: the censuses of all rows; or that no censuses that requests can ask for have these rows
+-- the result for the three tables: the censuses of all rows; or that no censuses that requests can ask for have these
+-- rows
 abbrev pub FindsCounted : Bool → Trees → FoundCensuses → Type 0
-FindsCounted quick trees (All n) = ((ds : List Deposit) → AreFiled trees ds → AreCounted quick trees ds n) × (n < 2 ^ 63)
+FindsCounted quick trees (All n) =
+    ((ds : List Deposit) → AreFiled trees ds → AreCounted quick trees ds n) × (n < 2 ^ 63)
 FindsCounted quick trees (Wrong n) = (ds : List Deposit) → AreFiled trees ds → AreTallied trees ds → ⊥
 
 -- The cursor is going to give these rows next.

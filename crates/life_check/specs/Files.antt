@@ -19,31 +19,38 @@ use Rattle.life_check.specs.declared.judging.Wrong.{Wrong}
 use Rattle.life_check.specs.Listed.{AreWrongThere}
 use Rattle.life_check.specs.Sound.{IsAskedFor, HasUniqueTokens, RepresentsSome, RepresentsNone}
 
--- An archive over files that is checked and let go. If the disk has returned what was written up to the end, the result is that of `check`, each further
--- error is one, and each
+-- An archive over files that is checked and let go. If the disk has returned what was written up to the end, the result
+-- is that of `check`, each further error is one, and each
 -- image that a crash may leave of the files, and the one that they show, holds what the archive held.
-pub record EndsCheck {D : Type 0} (quick : Bool) (g : disk.Ghosts D) (a : ArchiveView (FileStore D g)) (checked : Result Verdict Unavailable) (further : List Wrong) (files : Files D) : Type 0 where
+pub record EndsCheck {D : Type 0} (quick : Bool) (g : disk.Ghosts D) (a : ArchiveView (FileStore D g))
+    (checked : Result Verdict Unavailable) (further : List Wrong) (files : Files D) : Type 0 where
   pub honest : AreClean g files.log files.db → IsHonest over_files a
   pub finds : AreClean g files.log files.db → IfOk checked (RepresentsSome quick a)
   pub lists : AreClean g files.log files.db → AreWrongThere a.tables.deposits further
-  pub held : (k : Kept) → IsTrue a.tables.is_healthy → Holds a.tables k → AreClean g files.log files.db → LeftHold g files k
+  pub held : (k : Kept) → IsTrue a.tables.is_healthy → Holds a.tables k → AreClean g files.log files.db
+      → LeftHold g files k
 
--- What is in files of this image, opened as it is: the tables represent what the files hold. The database is healthy, unless the disk has returned
--- other than what was written.
-pub record IsFoundAt {D : Type 0} {g : disk.Ghosts D} (image : Image) (most : ℕ) (a : ArchiveView (FileStore D g)) : Type 0 where
+-- What is in files of this image, opened as it is: the tables represent what the files hold. The database is healthy,
+-- unless the disk has returned other than what was written.
+pub record IsFoundAt {D : Type 0} {g : disk.Ghosts D} (image : Image) (most : ℕ)
+    (a : ArchiveView (FileStore D g)) : Type 0 where
   pub capacity : a.capacity ≡ most
   pub healthy : IsHealthyIfClean over_files a
   pub found : (k : Kept) → IsTrue a.tables.is_healthy → FilesHold image k → Holds a.tables k
 
--- Sound: an archive with this many deposits and this many censuses, which each image that a crash may leave of the files holds; or, of a quick check, an archive
--- but for its counts. Otherwise: no archive, or none that requests can ask for.
+-- Sound: an archive with this many deposits and this many censuses, which each image that a crash may leave of the
+-- files holds; or, of a quick check, an archive but for its counts. Otherwise: no archive, or none that requests can
+-- ask for.
 abbrev pub FindsIn : {D : Type 0} {g : disk.Ghosts D} → Bool → Files D → ArchiveView (FileStore D g) → Verdict → Type 0
-FindsIn {D} {g} quick files a (Sound d c) = (A : Archive) × Represents a A × (length A.deposits ≡ d) × (length A.censuses ≡ c) × LeftHold g files (kept_of A) × IsAskedFor A × HasUniqueTokens A × (quick ≡ false)
+FindsIn {D} {g} quick files a (Sound d c) =
+    (A : Archive) × Represents a A × (length A.deposits ≡ d) × (length A.censuses ≡ c) × LeftHold g files (kept_of A)
+    × IsAskedFor A × HasUniqueTokens A × (quick ≡ false)
 FindsIn quick files a (SoundButForCounts d c) = RepresentsSome quick a (SoundButForCounts d c)
 FindsIn quick files a (NotSound w) = RepresentsNone a w
 
 -- A check over the files of a path: what was found, and what the files hold then: what they held before.
-pub record IsPathCheck {D : Type 0} (quick : Bool) (g : disk.Ghosts D) (image : Image) (capacity : ℕ) (checked : Result Verdict Unavailable) (further : List Wrong) (files : Files D) : Type 0 where
+pub record IsPathCheck {D : Type 0} (quick : Bool) (g : disk.Ghosts D) (image : Image) (capacity : ℕ)
+    (checked : Result Verdict Unavailable) (further : List Wrong) (files : Files D) : Type 0 where
   pub opened : ArchiveView (FileStore D g)
   pub opens : IsFoundAt image capacity opened
   pub finds : AreClean g files.log files.db → IfOk checked (FindsIn quick files opened)
@@ -51,6 +58,8 @@ pub record IsPathCheck {D : Type 0} (quick : Bool) (g : disk.Ghosts D) (image : 
   pub keeps : AreClean g files.log files.db → (k : Kept) → FilesHold image k → LeftHold g files k
 
 -- The file could not be opened; or it was checked.
-abbrev pub ChecksPath : {D : Type 0} → Bool → disk.Ghosts D → Image → ℕ → Result Verdict Unavailable → List Wrong → Option (Files D) → Type 0
+abbrev pub ChecksPath : {D : Type 0} → Bool → disk.Ghosts D → Image → ℕ → Result Verdict Unavailable
+    → List Wrong → Option (Files D) → Type 0
 ChecksPath {D} quick g image capacity checked further left =
-    ((e : Unavailable) × (checked ≡ Err e)) ⊎ ((files : Files D) × (left ≡ Some files) × IsPathCheck quick g image capacity checked further files)
+    ((e : Unavailable) × (checked ≡ Err e))
+    ⊎ ((files : Files D) × (left ≡ Some files) × IsPathCheck quick g image capacity checked further files)

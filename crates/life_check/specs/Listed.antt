@@ -12,11 +12,13 @@ use Rattle.life_check.specs.declared.judging.Wrong.{Wrong}
 use Rattle.life_check.specs.declared.judging.Wrong.TheVariants as wrong
 use Rattle.life_check.specs.ReadState.{IsNamed, deposit_row}
 
--- The row of `deposits` with this number is not that of a deposit, or not of one that a request can ask for. Nothing is said of censuses. Nothing else
--- is listed.
+-- The row of `deposits` with this number is not that of a deposit, or not of one that a request can ask for. Nothing is
+-- said of censuses. Nothing else is listed.
 abbrev pub IsWrongThere : List Row → Wrong → Type 0
-IsWrongThere deposits (wrong.Deposit id) = (d : Deposit) → IsFiled d → Finds deposits (pos id) (deposit_row id d) true → ⊥
-IsWrongThere deposits (wrong.DepositNames id) = (d : Deposit) → IsNamed d → Finds deposits (pos id) (deposit_row id d) true → ⊥
+IsWrongThere deposits (wrong.Deposit id) =
+    (d : Deposit) → IsFiled d → Finds deposits (pos id) (deposit_row id d) true → ⊥
+IsWrongThere deposits (wrong.DepositNames id) =
+    (d : Deposit) → IsNamed d → Finds deposits (pos id) (deposit_row id d) true → ⊥
 IsWrongThere deposits (wrong.Census id) = ⊤
 IsWrongThere deposits wrong.Layout = ⊥
 IsWrongThere deposits wrong.Tables = ⊥

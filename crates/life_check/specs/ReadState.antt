@@ -9,7 +9,8 @@ use Rattle.life_store.specs.Kept.{Tallied}
 use Rattle.life_store.specs.Stored.{IsFiled, rows_by, deposit_cells, census_cells, count_cells, flag_cells, flag_number}
 use Rattle.life_desk.specs.Validation.{is_member, is_token}
 
--- The first n rows are those of n elements, under the ids from 1 on, and P holds for each element. The other rows are left.
+-- The first n rows are those of n elements, under the ids from 1 on, and P holds for each element. The other rows are
+-- left.
 pub record IsReadUpTo {X : Type 0} (f : X → Row) (P : X → Type 0) (n : ℕ) (rows left : List Row) : Type 0 where
   pub done : List X
   pub many : length done ≡ n
@@ -51,7 +52,11 @@ count_row at r = Int (pos at) ∷ count_cells r
 
 -- the same, by a census and how many clusters there are, and how many of them have no code
 abbrev pub census_row_of : ℕ → Census → ℕ → ℕ → Row
-census_row_of id c total unresolved = census_row id (record { census = c; tally = record { rows = []; unresolved = unresolved; total = total }; steady = false })
+census_row_of id c total unresolved = census_row id (record {
+  census = c;
+  tally = record { rows = []; unresolved = unresolved; total = total };
+  steady = false;
+})
 
 -- the row of the flag of a census under its number
 abbrev pub flag_row : ℕ → Tallied → Row

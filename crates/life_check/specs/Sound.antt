@@ -15,7 +15,8 @@ use Rattle.life_check.specs.declared.judging.Wrong.TheVariants as wrong
 use Rattle.life_check.specs.ReadState.{AreOf, AreNone, AreNames, IsAskable, IsNamed}
 use Rattle.life_check.specs.CountState.{AddsUp, AreFiled, AreCounted, AreTallied}
 
--- The result for the trees: they are those of this many deposits and this many censuses, correctly counted unless the check is quick.
+-- The result for the trees: they are those of this many deposits and this many censuses, correctly counted unless the
+-- check is quick.
 pub record AreSound (quick : Bool) (trees : Trees) (deposits censuses : ℕ) : Type 0 where
   pub version : trees 0 ≡ version_2
   pub filed : AreOf deposit_cells IsNamed (trees 1) deposits
@@ -43,22 +44,24 @@ pub record IsAskedFor (A : Archive) : Type 0 where
 
 -- no two have the same member and the same token
 abbrev pub AreUnique : {X : Type 0} → (X → List ℕ × List ℕ) → List X → Type 0
-AreUnique {X} names xs = (i j : ℕ) (x y : X) → slice_get xs i ≡ Some x → slice_get xs j ≡ Some y → names x ≡ names y → i ≡ j
+AreUnique {X} names xs =
+    (i j : ℕ) (x y : X) → slice_get xs i ≡ Some x → slice_get xs j ≡ Some y → names x ≡ names y → i ≡ j
 
 -- A member's token is that of one deposit, and that of one census. The two are independent.
 pub record HasUniqueTokens (A : Archive) : Type 0 where
   pub deposits : AreUnique (λ d. (d.member, d.token)) A.deposits
   pub censuses : AreUnique (λ c. (c.member, c.token)) A.censuses
 
--- The tables represent the archive but for the counts of its censuses: each has some tally that adds up, and some flag. The order of a tally's rows is not
--- looked at.
+-- The tables represent the archive but for the counts of its censuses: each has some tally that adds up, and some flag.
+-- The order of a tally's rows is not looked at.
 pub record RepresentsButForCounts {S : Type 0} (a : ArchiveView S) (A : Archive) : Type 0 where
   pub capacity : a.capacity ≡ A.capacity
   pub each : EachHasDeposit A.deposits A.censuses
   pub counts : List Tallied
   pub are : map (λ (t : Tallied). t.census) counts ≡ A.censuses
   pub add_up : AllByRecursion (λ t. AddsUp t.tally) counts
-  pub holds : AllByRecursion (λ t. HasOrder t.tally) counts → Holds a.tables (record { deposits = A.deposits; censuses = counts })
+  pub holds : AllByRecursion (λ t. HasOrder t.tally) counts
+      → Holds a.tables (record { deposits = A.deposits; censuses = counts })
 
 -- No archive is represented, or none of what requests can ask for.
 abbrev pub RepresentsNone : {S : Type 0} → ArchiveView S → Wrong → Type 0
@@ -68,8 +71,13 @@ RepresentsNone a (wrong.Deposit id) = (A : Archive) → Represents a A → ⊥
 RepresentsNone a (wrong.DepositNames id) = (A : Archive) → IsAskedFor A → Represents a A → ⊥
 RepresentsNone a (wrong.Census id) = (A : Archive) → IsAskedFor A → Represents a A → ⊥
 
--- the tables represent an archive with this many deposits and censuses, but for its counts if the check is quick; or no archive
+-- the tables represent an archive with this many deposits and censuses, but for its counts if the check is quick; or no
+-- archive
 abbrev pub RepresentsSome : {S : Type 0} → Bool → ArchiveView S → Verdict → Type 0
-RepresentsSome quick a (Sound d c) = (A : Archive) × Represents a A × (length A.deposits ≡ d) × (length A.censuses ≡ c) × IsAskedFor A × HasUniqueTokens A × (quick ≡ false)
-RepresentsSome quick a (SoundButForCounts d c) = (A : Archive) × RepresentsButForCounts a A × (length A.deposits ≡ d) × (length A.censuses ≡ c) × IsAskedFor A × HasUniqueTokens A × (quick ≡ true)
+RepresentsSome quick a (Sound d c) =
+    (A : Archive) × Represents a A × (length A.deposits ≡ d) × (length A.censuses ≡ c) × IsAskedFor A
+    × HasUniqueTokens A × (quick ≡ false)
+RepresentsSome quick a (SoundButForCounts d c) =
+    (A : Archive) × RepresentsButForCounts a A × (length A.deposits ≡ d) × (length A.censuses ≡ c)
+    × IsAskedFor A × HasUniqueTokens A × (quick ≡ true)
 RepresentsSome quick a (NotSound w) = RepresentsNone a w

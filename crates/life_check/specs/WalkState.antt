@@ -9,7 +9,8 @@ use Rattle.life_check.specs.declared.walk.Found.TheVariants.{All, Wrong, Misname
 use Rattle.life_store.specs.Stored.{IsFiled, deposit_cells}
 use Rattle.life_check.specs.ReadState.{IsReadUpTo, AreOf, AreNone, IsNamed}
 
--- If the disk has returned what was written until now, it had done so before; a crash leaves nothing that it could not leave before.
+-- If the disk has returned what was written until now, it had done so before; a crash leaves nothing that it could not
+-- leave before.
 pub record IsCalm {S : Type 0} (g : Ghosts S) (old new : S) : Type 0 where
   pub clean : doubt (g.view old).is_clean ≤ doubt (g.view new).is_clean
   pub outcomes : (db : Trees) → g.recovers new db → g.recovers old db
@@ -20,7 +21,8 @@ pub record KeepsTrees (old new : View) : Type 0 where
   pub trees : new.trees ≡ old.trees
   pub unbroken : old.is_broken ≡ false
 
--- the deposits of all rows of the table, whose number is an SQL integer; or that no archive has these rows, or none of what requests can ask for
+-- the deposits of all rows of the table, whose number is an SQL integer; or that no archive has these rows, or none of
+-- what requests can ask for
 abbrev pub FindsDeposits : List Row → Found → Type 0
 FindsDeposits rows (All n) = AreOf deposit_cells IsNamed rows n × (n < 2 ^ 63)
 FindsDeposits rows (Wrong n) = AreNone deposit_cells IsFiled rows

@@ -1,5 +1,6 @@
 -- Orbits: what their search keeps, and when two of them are never near.
-use Rattle.std.specs.Prelude.{◌≡◌, ◌≢◌, ℕ, zero, suc, ◌+◌, ◌/◌, ◌%◌, ◌<◌, ◌≤◌, ℤ, pos, ◌+ℤ◌, ◌-ℤ◌, ◌*ℤ◌, ◌≤ℤ◌, List, refl}
+use Rattle.std.specs.Prelude.{◌≡◌, ◌≢◌, ℕ, zero, suc, ◌+◌, ◌/◌, ◌%◌, ◌<◌, ◌≤◌, ℤ, pos, ◌+ℤ◌, ◌-ℤ◌, ◌*ℤ◌, ◌≤ℤ◌, List}
+use Rattle.std.specs.Prelude.{refl}
 use Rattle.std.specs.List.{All}
 use Rattle.std.proofs.Common.{sym, ap, subst, ◌∙◌, inl, inr, ⊎_elim, arith}
 use Rattle.std.proofs.Math.IntN.{suc_ℤ-*ℤ, zero-*ℤ}
@@ -23,7 +24,8 @@ use Rattle.life_code.specs.declared.apart.Orbit.{Orbit}
 use Rattle.life_code.specs.declared.frames.Frame.{Frame}
 use Rattle.life_code.specs.declared.period.TheConstants.{PERIOD_LIMIT}
 use Rattle.life_code.specs.Apart.{near, AreApart}
-use Rattle.life_code.specs.ApartState.{IsOrbit, ComesNoNearer, KeepsLeft, KeepsAbove, KeepsUpperLeft, KeepsUpperRight, KeepsAside, KeepApart}
+use Rattle.life_code.specs.ApartState.{IsOrbit, ComesNoNearer, KeepsLeft, KeepsAbove, KeepsUpperLeft, KeepsUpperRight}
+use Rattle.life_code.specs.ApartState.{KeepsAside, KeepApart}
 use Rattle.life_code.specs.FramesState.{IsInFrame, IsWider, HasMoved}
 use Rattle.life_code.proofs.ApartNear.{near_within, near_symmetric}
 use Rattle.life_code.proofs.FramesLemmas.{wider_has, moved_has}
@@ -33,26 +35,42 @@ use Rattle.life_code.proofs.PeriodLemmas.{many, phase_mod, generation-moved, ret
 -- ---- the search
 
 -- each generation of a part lies on the plane
-pub orbit_room : (r : RuleSets) (X Y : Cells) → IsWithin 500000000 X → (p : ℕ) → p ≤ PERIOD_LIMIT → Y ≡ generation_of r X p → IsWithin 999999999 Y
-orbit_room r X Y h p few is = subst (IsWithin 999999999) (sym is) (within_more (500000000 + p) 999999999 (generation_of r X p) (omega arith) (generation_within r 500000000 X p h))
+pub orbit_room : (r : RuleSets) (X Y : Cells) → IsWithin 500000000 X → (p : ℕ) → p ≤ PERIOD_LIMIT
+    → Y ≡ generation_of r X p → IsWithin 999999999 Y
+orbit_room r X Y h p few is =
+    subst (IsWithin 999999999) (sym is)
+    (within_more (500000000 + p) 999999999 (generation_of r X p) (omega arith) (generation_within r 500000000 X p h))
 
 -- a box that has the listed cells of X has all
-pub has_all : (X : Cells) (f : Frame) (cs : List Cell) → cs ≡ in_order X → All (IsInFrame f) cs → (c : Cell) → Has X c → IsInFrame f c
+pub has_all : (X : Cells) (f : Frame) (cs : List Cell) → cs ≡ in_order X → All (IsInFrame f) cs
+    → (c : Cell) → Has X c → IsInFrame f c
 has_all X f cs listed all c has =
-    All-contains (IsInFrame f) cs c all (Contains-from_any same_cell-true c cs (sym (contains-list cs c) ∙ ap (λ Y. set.contains Y c) (from_list_of X cs listed) ∙ has))
+    All-contains (IsInFrame f) cs c all (Contains-from_any same_cell-true c cs
+    (sym (contains-list cs c) ∙ ap (λ Y. set.contains Y c) (from_list_of X cs listed) ∙ has))
 
 -- one generation more in the box
-pub has_more : (r : RuleSets) (X : Cells) (f g : Frame) (p : ℕ) → ((i : ℕ) (c : Cell) → i < p → Has (generation_of r X i) c → IsInFrame f c) → IsWider f g
-    → ((c : Cell) → Has (generation_of r X p) c → IsInFrame g c) → (i : ℕ) (c : Cell) → i < p + 1 → Has (generation_of r X i) c → IsInFrame g c
+pub has_more : (r : RuleSets) (X : Cells) (f g : Frame) (p : ℕ)
+    → ((i : ℕ) (c : Cell) → i < p → Has (generation_of r X i) c → IsInFrame f c) → IsWider f g
+    → ((c : Cell) → Has (generation_of r X p) c → IsInFrame g c) → (i : ℕ) (c : Cell) → i < p + 1
+    → Has (generation_of r X i) c → IsInFrame g c
 has_more r X f g p before wider here i c below has =
-    ⊎_elim (λ h. wider_has f g c wider (before i c h has)) (λ h. here c (subst (λ k. Has (generation_of r X k) c) (let e : i ≡ p = omega arith in e) has)) (cases_lt i p)
+    ⊎_elim (λ h. wider_has f g c wider (before i c h has))
+    (λ h. here c (subst (λ k. Has (generation_of r X k) c) (let e : i ≡ p = omega arith in e) has)) (cases_lt i p)
 
 -- x and y are the move as the code gives it on
-pub orbit_found : (r : RuleSets) (X Y Z : Cells) (p : ℕ) (dx dy x y : ℤ) (f : Frame) → x ≡ dx → y ≡ dy → Y ≡ X → Z ≡ generation_of r X p → Y ≢ set.empty → image (moved_cell dx dy) Y ≡ Z → 1 ≤ p
-    → ((i : ℕ) (c : Cell) → i < p → Has (generation_of r X i) c → IsInFrame f c) → IsOrbit r X (record { period = p; dx = x; dy = y; frame = f })
+pub orbit_found : (r : RuleSets) (X Y Z : Cells) (p : ℕ) (dx dy x y : ℤ) (f : Frame) → x ≡ dx
+    → y ≡ dy → Y ≡ X → Z ≡ generation_of r X p → Y ≢ set.empty → image (moved_cell dx dy) Y ≡ Z → 1 ≤ p
+    → ((i : ℕ) (c : Cell) → i < p → Has (generation_of r X i) c → IsInFrame f c)
+    → IsOrbit r X (record { period = p; dx = x; dy = y; frame = f })
 orbit_found r X Y Z p dx dy x y f columns rows start now some move from inside =
-    subst (λ (v : ℤ × ℤ). IsOrbit r X (record { period = p; dx = v.0; dy = v.1; frame = f })) (λ i. (sym columns i, sym rows i))
-    (record { some = λ none. some (start ∙ none); from = from; back = sym now ∙ sym move ∙ ap (image (moved_cell dx dy)) start; inside = inside })
+    subst (λ (v : ℤ × ℤ). IsOrbit r X (record { period = p; dx = v.0; dy = v.1; frame = f }))
+    (λ i. (sym columns i, sym rows i))
+    (record {
+      some = λ none. some (start ∙ none);
+      from = from;
+      back = sym now ∙ sym move ∙ ap (image (moved_cell dx dy)) start;
+      inside = inside;
+    })
 
 -- ---- orbits that are never near
 
@@ -80,15 +98,19 @@ no_nearer p q k a b (inl away) =
     let e = no_move (k / p) in
     let h = no_move (k / q) in
     omega (arith, ints)
-no_nearer p q k a b (inr along) = subst (λ n. (pos (k / p) *ℤ a) ≤ℤ (pos (k / n) *ℤ b)) along.0 (no_further (k / p) a b along.1)
+no_nearer p q k a b (inr along) =
+    subst (λ n. (pos (k / p) *ℤ a) ≤ℤ (pos (k / n) *ℤ b)) along.0 (no_further (k / p) a b along.1)
 
 -- where a cell of generation k lies in the orbit's box
-before_moves : (r : RuleSets) (X : Cells) (o : Orbit) → IsOrbit r X o → (k : ℕ) (c : Cell) → Has (generation_of r X k) c → IsInFrame o.frame (plus c (minus (many (k / o.period) (cell_at (o.dx, o.dy)))))
+before_moves : (r : RuleSets) (X : Cells) (o : Orbit) → IsOrbit r X o → (k : ℕ) (c : Cell)
+    → Has (generation_of r X k) c → IsInFrame o.frame (plus c (minus (many (k / o.period) (cell_at (o.dx, o.dy)))))
 before_moves r X o orbit k c has =
     let v = cell_at (o.dx, o.dy) in
     let u = many (k / o.period) v in
-    let there : Has (moved u (generation_of r X (k % o.period))) c = subst (λ Y. Has Y c) (phase_mod r X o.period v orbit.from orbit.back k) has in
-    orbit.inside (k % o.period) (plus c (minus u)) (small k o.period orbit.from) (sym (contains-placed O0 u (generation_of r X (k % o.period)) c) ∙ there)
+    let there : Has (moved u (generation_of r X (k % o.period))) c =
+    subst (λ Y. Has Y c) (phase_mod r X o.period v orbit.from orbit.back k) has in
+    orbit.inside (k % o.period) (plus c (minus u)) (small k o.period orbit.from)
+    (sym (contains-placed O0 u (generation_of r X (k % o.period)) c) ∙ there)
   where
     small : (k p : ℕ) → 1 ≤ p → k % p < p
     small k p h = omega arith
@@ -185,17 +207,22 @@ apart_symmetric : (X Y : Cells) → AreApart X Y → AreApart Y X
 apart_symmetric X Y apart c d h g = near_symmetric c d ∙ apart d c g h
 
 -- orbits that keep apart
-pub orbits_apart : (r : RuleSets) (X Y : Cells) (o p : Orbit) → IsOrbit r X o → IsOrbit r Y p → KeepApart o p → (k : ℕ) → AreApart (generation_of r X k) (generation_of r Y k)
+pub orbits_apart : (r : RuleSets) (X Y : Cells) (o p : Orbit) → IsOrbit r X o → IsOrbit r Y p
+    → KeepApart o p → (k : ℕ) → AreApart (generation_of r X k) (generation_of r Y k)
 orbits_apart r X Y o p first second (inl before) k = aside_apart r X Y o p first second k before
 orbits_apart r X Y o p first second (inr after) k = apart_symmetric _ _ (aside_apart r Y X p o second first k after)
 
 -- the orbit of a set that is moved
-pub orbit_moved : (r : RuleSets) (X Y : Cells) (o : Orbit) (v : Cell) (f : Frame) → IsOrbit r X o → HasMoved o.frame v f → moved v X ≡ Y → IsOrbit r Y (record { period = o.period; dx = o.dx; dy = o.dy; frame = f })
-orbit_moved r X Y o v f orbit moves is = subst (λ (Z : Cells). IsOrbit r Z (record { period = o.period; dx = o.dx; dy = o.dy; frame = f })) is (record {
-  some = λ none. some_len X orbit.some (sym (len-placed O0 v X) ∙ ap set.len none ∙ set.len-empty cell_cmp);
-  from = orbit.from;
-  back = return_of_placed r X o.period (cell_at (o.dx, o.dy)) O0 v orbit.back;
-  inside = λ i c below has.
-      let before : Has (generation_of r X i) (plus c (minus v)) = sym (contains-placed O0 v (generation_of r X i) c) ∙ subst (λ (Z : Cells). Has Z c) (generation-moved r v X i) has in
-      subst (IsInFrame f) (plus_minus c v) (moved_has o.frame f v (plus c (minus v)) moves (orbit.inside i (plus c (minus v)) below before));
-})
+pub orbit_moved : (r : RuleSets) (X Y : Cells) (o : Orbit) (v : Cell) (f : Frame) → IsOrbit r X o
+    → HasMoved o.frame v f → moved v X ≡ Y → IsOrbit r Y (record { period = o.period; dx = o.dx; dy = o.dy; frame = f })
+orbit_moved r X Y o v f orbit moves is =
+    subst (λ (Z : Cells). IsOrbit r Z (record { period = o.period; dx = o.dx; dy = o.dy; frame = f })) is (record {
+      some = λ none. some_len X orbit.some (sym (len-placed O0 v X) ∙ ap set.len none ∙ set.len-empty cell_cmp);
+      from = orbit.from;
+      back = return_of_placed r X o.period (cell_at (o.dx, o.dy)) O0 v orbit.back;
+      inside = λ i c below has.
+          let before : Has (generation_of r X i) (plus c (minus v)) = sym (contains-placed O0 v (generation_of r X i) c)
+          ∙ subst (λ (Z : Cells). Has Z c) (generation-moved r v X i) has in
+          subst (IsInFrame f) (plus_minus c v)
+          (moved_has o.frame f v (plus c (minus v)) moves (orbit.inside i (plus c (minus v)) below before));
+    })

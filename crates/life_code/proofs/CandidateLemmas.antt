@@ -1,5 +1,6 @@
 -- The candidates of a pattern, and the least of them.
-use Rattle.std.proofs.Common.{Option, Some, None, ◌≡◌, ℕ, ◌+◌, ◌<◌, true, false, cond, List, [], ◌∷◌, refl, sym, subst, arith, inl, ⊎_elim}
+use Rattle.std.proofs.Common.{Option, Some, None, ◌≡◌, ℕ, ◌+◌, ◌<◌, true, false, cond, List, [], ◌∷◌, refl, sym, subst}
+use Rattle.std.proofs.Common.{arith, inl, ⊎_elim}
 use Rattle.std.specs.List.{range_with_len}
 use Rattle.std.specs.Prelude.{MatchOption}
 use Rattle.std.specs.Ordering.{is_gt}
@@ -9,7 +10,8 @@ use Rattle.life_core.specs.Generations.{generation_of}
 use Rattle.life_code.specs.Wechsler.{wechsler}
 use Rattle.life_code.specs.Codes.{text_cmp, orientations, fits, shape, text_of, texts_of, candidates, least_text}
 use Rattle.life_code.specs.Laws.{IsCandidate, LeastIsLeast}
-use Rattle.life_code.proofs.TextLists.{least_is, IsLeastText, In, one_flat, flat_one, one_some, each_orientation, range_one, one_range}
+use Rattle.life_code.proofs.TextLists.{least_is, IsLeastText, In, one_flat, flat_one, one_some, each_orientation}
+use Rattle.life_code.proofs.TextLists.{range_one, one_range}
 
 -- a set has a text exactly if its box is small enough, and one only
 in_text_of : (X : Cells) (t : List ℕ) → In t (text_of X) → (fits X ≡ true) × (wechsler X ≡ t)
@@ -28,9 +30,11 @@ text_of_in X t e is = subst (λ b. In t (cond b (wechsler X ∷ []) [])) (sym e)
 pub in_candidates : (r : RuleSets) (X : Cells) (p : ℕ) (t : List ℕ) → In t (candidates r X p) → IsCandidate r X p t
 unfolding candidates
 in_candidates r X p t h =
-    let i = one_range (λ i. In t (texts_of (generation_of r X i))) 0 p (flat_one (λ u. u ≡ t) (λ i. texts_of (generation_of r X i)) (range_with_len 0 p) h) in
+    let i = one_range (λ i. In t (texts_of (generation_of r X i))) 0 p
+    (flat_one (λ u. u ≡ t) (λ i. texts_of (generation_of r X i)) (range_with_len 0 p) h) in
     let phase = generation_of r X (0 + i.0) in
-    let o = one_some (λ o. In t (text_of (shape o phase))) orientations (flat_one (λ u. u ≡ t) (λ o. text_of (shape o phase)) orientations i.2) in
+    let o = one_some (λ o. In t (text_of (shape o phase))) orientations
+    (flat_one (λ u. u ≡ t) (λ o. text_of (shape o phase)) orientations i.2) in
     let found = in_text_of (shape o.0 phase) t o.1 in
     (0 + i.0, lower i.0 p i.1, o.0, found.0, found.1)
   where
@@ -44,13 +48,18 @@ candidates_in r X p t (i, below, o, f, is) =
     (range_one (λ i. In t (texts_of (generation_of r X i))) 0 p i below
     (one_flat (λ u. u ≡ t) (λ o. text_of (shape o (generation_of r X (0 + i)))) orientations
     (each_orientation (λ o. In t (text_of (shape o (generation_of r X (0 + i))))) o
-    (subst (λ k. In t (text_of (shape o (generation_of r X k)))) (let e : i ≡ 0 + i = omega arith in e) (text_of_in (shape o (generation_of r X i)) t f is)))))
+    (subst (λ k. In t (text_of (shape o (generation_of r X k)))) (let e : i ≡ 0 + i = omega arith in e)
+    (text_of_in (shape o (generation_of r X i)) t f is)))))
 
 -- the least candidate is one that no other undercuts
-pub least_candidate : (r : RuleSets) (X : Cells) (p : ℕ) → MatchOption (least_text (candidates r X p)) ((t : List ℕ) → ¬ IsCandidate r X p t) (λ t. IsCandidate r X p t × ((u : List ℕ) → IsCandidate r X p u → is_gt (text_cmp t u) ≡ false))
+pub least_candidate : (r : RuleSets) (X : Cells) (p : ℕ)
+    → MatchOption (least_text (candidates r X p)) ((t : List ℕ) → ¬ IsCandidate r X p t)
+    (λ t. IsCandidate r X p t × ((u : List ℕ) → IsCandidate r X p u → is_gt (text_cmp t u) ≡ false))
 least_candidate r X p = by (least_text (candidates r X p)) (least_is (candidates r X p))
   where
-    by : (o : Option (List ℕ)) → MatchOption o (candidates r X p ≡ []) (λ t. IsLeastText (candidates r X p) t) → MatchOption o ((t : List ℕ) → ¬ IsCandidate r X p t) (λ t. IsCandidate r X p t × ((u : List ℕ) → IsCandidate r X p u → is_gt (text_cmp t u) ≡ false))
+    by : (o : Option (List ℕ)) → MatchOption o (candidates r X p ≡ []) (λ t. IsLeastText (candidates r X p) t)
+        → MatchOption o ((t : List ℕ) → ¬ IsCandidate r X p t)
+        (λ t. IsCandidate r X p t × ((u : List ℕ) → IsCandidate r X p u → is_gt (text_cmp t u) ≡ false))
     by None none = λ t c. subst (λ ts. In t ts) none (candidates_in r X p t c)
     by (Some t) (has, low) = (in_candidates r X p t has, λ u c. low u (candidates_in r X p u c))
 

@@ -33,23 +33,27 @@ module _ (r : RuleSets) (X : Cells) (v : Cell) (limit : ℕ) (full : X ≢ set.e
   same_period : period_of r (moved v X) limit ≡ period_of r X limit
   same_period = λ i. find (λ q. returns-moved r X v q i) (range_with_len 1 limit)
 
-  by_period : (o : Option ℕ) → period_of r X limit ≡ o → Found r X limit o → code_of r (moved v X) limit ≡ code_of r X limit
+  by_period : (o : Option ℕ) → period_of r X limit ≡ o → Found r X limit o
+      → code_of r (moved v X) limit ≡ code_of r X limit
   by_period None is found =
       code_by_period r (moved v X) limit full_moved
       ∙ ap (λ o. code_by_kind r (moved v X) (kind_at r (moved v X) o)) (same_period ∙ is)
       ∙ sym (ap (λ o. code_by_kind r X (kind_at r X o)) is)
       ∙ sym (code_by_period r X limit full)
   by_period (Some p) is (from, below, passes, before) =
-      code_taken r (moved v X) X full_moved full p (move_at r X p) from (move_at-Returns r X p passes) (0, O0, v, refl) limit
+      code_taken r (moved v X) X full_moved full p (move_at r X p) from (move_at-Returns r X p passes)
+      (0, O0, v, refl) limit
 
 -- a move changes no code
 pub code_moved : (r : RuleSets) (X : Cells) (v : Cell) (limit : ℕ) → code_of r (moved v X) limit ≡ code_of r X limit
 code_moved r X v limit = ⊎_elim some none (cases_cells X)
   where
     none : ((c : Cell) → set.contains X c ≡ false) → code_of r (moved v X) limit ≡ code_of r X limit
-    none h = ap (λ Z. code_of r Z limit) (cells_by_members (moved v X) X (λ c. contains-placed O0 v X c ∙ h _ ∙ sym (h c)))
+    none h =
+        ap (λ Z. code_of r Z limit) (cells_by_members (moved v X) X (λ c. contains-placed O0 v X c ∙ h _ ∙ sym (h c)))
 
     some : ((c : Cell) × Has X c) → code_of r (moved v X) limit ≡ code_of r X limit
     some (d, has) =
-        by_period r X v limit (λ e. false≢true (sym (set.contains-empty cell_cmp d) ∙ ap (λ (Z : Cells). set.contains Z d) (sym e) ∙ has))
+        by_period r X v limit
+        (λ e. false≢true (sym (set.contains-empty cell_cmp d) ∙ ap (λ (Z : Cells). set.contains Z d) (sym e) ∙ has))
         (period_of r X limit) refl (find_from (returns r X) 1 limit)

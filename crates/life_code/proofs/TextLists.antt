@@ -1,5 +1,7 @@
 -- Members of a list of texts, and the least of them.
-use Rattle.std.proofs.Common.{append-nil, ◌≡◌, ℕ, zero, suc, ◌+◌, ◌<◌, true, false, cond, Option, Some, None, List, [], ◌∷◌, ◌++◌, length, refl, sym, ap, ◌∙◌, subst, arith, true≢false, ◌⊎◌, inl, inr, ⊎_elim, add-zero}
+use Rattle.std.proofs.Common.{append-nil, ◌≡◌, ℕ, zero, suc, ◌+◌, ◌<◌, true, false, cond, Option, Some, None, List, []}
+use Rattle.std.proofs.Common.{◌∷◌, ◌++◌, length, refl, sym, ap, ◌∙◌, subst, arith, true≢false, ◌⊎◌, inl, inr, ⊎_elim}
+use Rattle.std.proofs.Common.{add-zero}
 use Rattle.std.specs.Prelude.{MatchOption}
 use Rattle.std.specs.List.{flat_map, range_with_len}
 use Rattle.std.specs.declared.cmp.Ordering.{Ordering}
@@ -35,13 +37,15 @@ module _ {X : Type 0} (P : X → Type 0) where
 
   one_cases : (xs ys : List X) → OneOf P (xs ++ ys) → OneOf P xs ⊎ OneOf P ys
   one_cases [] ys h = inr h
-  one_cases (x ∷ xs) ys h = ⊎_elim (λ g. inl (inl g)) (λ g. ⊎_elim (λ k. inl (inr k)) (λ k. inr k) (one_cases xs ys g)) h
+  one_cases (x ∷ xs) ys h =
+      ⊎_elim (λ g. inl (inl g)) (λ g. ⊎_elim (λ k. inl (inr k)) (λ k. inr k) (one_cases xs ys g)) h
 
   module _ {A : Type 0} (f : A → List X) where
     -- the elements of `flat_map f xs` are those of the lists that f gives
     pub one_flat : (xs : List A) → OneOf (λ a. OneOf P (f a)) xs → OneOf P (flat_map f xs)
     one_flat [] h = absurd h
-    one_flat (a ∷ xs) h = ⊎_elim (λ g. one_left (f a) (flat_map f xs) g) (λ g. one_right (f a) (flat_map f xs) (one_flat xs g)) h
+    one_flat (a ∷ xs) h =
+        ⊎_elim (λ g. one_left (f a) (flat_map f xs) g) (λ g. one_right (f a) (flat_map f xs) (one_flat xs g)) h
 
     pub flat_one : (xs : List A) → OneOf P (flat_map f xs) → OneOf (λ a. OneOf P (f a)) xs
     flat_one [] h = h
@@ -67,14 +71,16 @@ each_orientation P O7 h = inr (inr (inr (inr (inr (inr (inr (inl h)))))))
 pub range_one : (P : ℕ → Type 0) (a n i : ℕ) → i < n → P (a + i) → OneOf P (range_with_len a n)
 range_one P a zero i h at = absurd (omega arith)
 range_one P a (suc n) zero h at = inl (subst P (add-zero a) at)
-range_one P a (suc n) (suc i) h at = inr (range_one P (a + 1) n i (omega arith) (subst P (let e : a + suc i ≡ a + 1 + i = omega arith in e) at))
+range_one P a (suc n) (suc i) h at =
+    inr (range_one P (a + 1) n i (omega arith) (subst P (let e : a + suc i ≡ a + 1 + i = omega arith in e) at))
 
 pub one_range : (P : ℕ → Type 0) (a n : ℕ) → OneOf P (range_with_len a n) → (i : ℕ) × (i < n) × P (a + i)
 one_range P a zero h = absurd h
 one_range P a (suc n) h =
     ⊎_elim
     (λ g. (0, omega arith, subst P (sym (add-zero a)) g))
-    (λ g. let rest = one_range P (a + 1) n g in (suc rest.0, omega arith, subst P (let e : a + 1 + rest.0 ≡ a + suc rest.0 = omega arith in e) rest.2))
+    (λ g. let rest = one_range P (a + 1) n g in
+    (suc rest.0, omega arith, subst P (let e : a + 1 + rest.0 ≡ a + suc rest.0 = omega arith in e) rest.2))
     h
 
 -- ---- the least text
@@ -113,17 +119,30 @@ unfolding least_text
 least_is [] = refl
 least_is (a ∷ others) = by (least_text others) (least_is others)
   where
-    by : (o : Option (List ℕ)) → MatchOption o (others ≡ []) (λ t. IsLeastText others t) → IsLeastText (a ∷ others) (lesser a o)
-    by None e = (inl refl, λ u h. ⊎_elim (λ g. subst (λ z. is_gt (text_cmp a z) ≡ false) g (not_above_itself a)) (λ g. absurd (subst (λ z. In u z) e g)) h)
+    by : (o : Option (List ℕ)) → MatchOption o (others ≡ []) (λ t. IsLeastText others t)
+        → IsLeastText (a ∷ others) (lesser a o)
+    by None e = (
+      inl refl,
+      λ u h. ⊎_elim (λ g. subst (λ z. is_gt (text_cmp a z) ≡ false) g (not_above_itself a))
+          (λ g. absurd (subst (λ z. In u z) e g)) h,
+    )
     by (Some b) (has, low) =
         elim (is_gt (text_cmp a b)) as (λ t. is_gt (text_cmp a b) ≡ t → IsLeastText (a ∷ others) (cond t b a)) [
-          | true ↦ λ e. (inr has, λ u h. ⊎_elim (λ g. subst (λ z. is_gt (text_cmp b z) ≡ false) g (below_back a b e)) (λ g. low u g) h)
-          | false ↦ λ e. (inl refl, λ u h. ⊎_elim (λ g. subst (λ z. is_gt (text_cmp a z) ≡ false) g (not_above_itself a)) (λ g. upto text_total a b u e (low u g)) h)
+          | true ↦ λ e. (
+            inr has,
+            λ u h. ⊎_elim (λ g. subst (λ z. is_gt (text_cmp b z) ≡ false) g (below_back a b e)) (λ g. low u g) h,
+          )
+          | false ↦ λ e. (
+            inl refl,
+            λ u h. ⊎_elim (λ g. subst (λ z. is_gt (text_cmp a z) ≡ false) g (not_above_itself a))
+                (λ g. upto text_total a b u e (low u g)) h,
+          )
         ] refl
 
 -- there is but one least
 least_one : (ts : List (List ℕ)) (a b : List ℕ) → IsLeastText ts a → IsLeastText ts b → a ≡ b
-least_one ts a b (has, low) (also, under) = text_antisymmetric a b (by (text_cmp a b) (low b also) (sym (ap is_gt (text_total.antisymm b a)) ∙ under a has))
+least_one ts a b (has, low) (also, under) =
+    text_antisymmetric a b (by (text_cmp a b) (low b also) (sym (ap is_gt (text_total.antisymm b a)) ∙ under a has))
   where
     by : (o : Ordering) → is_gt o ≡ false → is_gt (ordering_reverse o) ≡ false → o ≡ Equal
     by Less e h = absurd (true≢false h)
@@ -131,10 +150,12 @@ least_one ts a b (has, low) (also, under) = text_antisymmetric a b (by (text_cmp
     by Greater e h = absurd (true≢false e)
 
 -- lists with the same members have one least
-pub least_same : (ss ts : List (List ℕ)) → ((t : List ℕ) → In t ss → In t ts) → ((t : List ℕ) → In t ts → In t ss) → least_text ss ≡ least_text ts
+pub least_same : (ss ts : List (List ℕ)) → ((t : List ℕ) → In t ss → In t ts) → ((t : List ℕ) → In t ts → In t ss)
+    → least_text ss ≡ least_text ts
 least_same ss ts to back = by (least_text ss) (least_text ts) (least_is ss) (least_is ts)
   where
-    by : (o u : Option (List ℕ)) → MatchOption o (ss ≡ []) (λ t. IsLeastText ss t) → MatchOption u (ts ≡ []) (λ t. IsLeastText ts t) → o ≡ u
+    by : (o u : Option (List ℕ)) → MatchOption o (ss ≡ []) (λ t. IsLeastText ss t)
+        → MatchOption u (ts ≡ []) (λ t. IsLeastText ts t) → o ≡ u
     by None None e h = refl
     by None (Some b) e h = absurd (subst (λ z. In b z) e (back b h.0))
     by (Some a) None e h = absurd (subst (λ z. In a z) h (to a e.0))
@@ -151,8 +172,10 @@ in_right t ss ts h = one_right (λ u. u ≡ t) ss ts h
 -- where in the list a text stands plays no part
 least_moved : (a : List ℕ) (ss ts : List (List ℕ)) → least_text ((a ∷ ss) ++ ts) ≡ least_text (ss ++ a ∷ ts)
 least_moved a ss ts = least_same _ _
-    (λ t h. ⊎_elim (λ e. in_right t ss (a ∷ ts) (inl e)) (λ g. ⊎_elim (λ k. in_left t ss (a ∷ ts) k) (λ k. in_right t ss (a ∷ ts) (inr k)) (one_cases (λ u. u ≡ t) ss ts g)) h)
-    (λ t h. ⊎_elim (λ k. inr (in_left t ss ts k)) (λ k. ⊎_elim (λ e. inl e) (λ g. inr (in_right t ss ts g)) k) (one_cases (λ u. u ≡ t) ss (a ∷ ts) h))
+    (λ t h. ⊎_elim (λ e. in_right t ss (a ∷ ts) (inl e)) (λ g. ⊎_elim (λ k. in_left t ss (a ∷ ts) k)
+    (λ k. in_right t ss (a ∷ ts) (inr k)) (one_cases (λ u. u ≡ t) ss ts g)) h)
+    (λ t h. ⊎_elim (λ k. inr (in_left t ss ts k)) (λ k. ⊎_elim (λ e. inl e) (λ g. inr (in_right t ss ts g)) k)
+    (one_cases (λ u. u ≡ t) ss (a ∷ ts) h))
 
 least_more : (a : List ℕ) (ss : List (List ℕ)) → Some (lesser a (least_text ss)) ≡ least_text (a ∷ ss)
 unfolding least_text
@@ -164,7 +187,8 @@ keep_on ss [] = ap least_text (sym (append-nil ss))
 keep_on ss (a ∷ ts) = ap (λ b. kept_least b ts) (least_more a ss) ∙ keep_on (a ∷ ss) ts ∙ least_moved a ss ts
 
 -- texts can be taken in two parts
-pub keep-append : (best : Option (List ℕ)) (ss ts : List (List ℕ)) → kept_least best (ss ++ ts) ≡ kept_least (kept_least best ss) ts
+pub keep-append : (best : Option (List ℕ)) (ss ts : List (List ℕ))
+    → kept_least best (ss ++ ts) ≡ kept_least (kept_least best ss) ts
 keep-append best [] ts = refl
 keep-append best (a ∷ ss) ts = keep-append (Some (lesser a best)) ss ts
 

@@ -1,9 +1,12 @@
 -- The text of a set spells its cells, so two normal sets have two texts.
-use Rattle.std.proofs.Common.{◌≡◌, ℕ, zero, suc, ◌+◌, ◌-◌, ◌*◌, ◌/◌, ◌%◌, ◌^◌, ◌<◌, ◌≤◌, Bool, true, false, cond, List, [], ◌∷◌, ◌++◌, map, get_or, ℤ, pos, negsuc, nat_abs, ◌≤ℤ◌, refl, sym, ap, ◌∙◌, arith, ⊎_elim, append-nil, add-zero}
+use Rattle.std.proofs.Common.{◌≡◌, ℕ, zero, suc, ◌+◌, ◌-◌, ◌*◌, ◌/◌, ◌%◌, ◌^◌, ◌<◌, ◌≤◌, Bool, true, false, cond, List}
+use Rattle.std.proofs.Common.{[], ◌∷◌, ◌++◌, map, get_or, ℤ, pos, negsuc, nat_abs, ◌≤ℤ◌, refl, sym, ap, ◌∙◌, arith}
+use Rattle.std.proofs.Common.{⊎_elim, append-nil, add-zero}
 use Rattle.std.specs.Prelude.{codes, nat_eq, nat_le}
 use Rattle.std.specs.List.{range_with_len, join_with_byte}
 use Rattle.std.specs.FinSet as set
-use Rattle.std.proofs.lemmas.Bool.{le-ltb, lt-ltb, cond-true, cond-false, cases_lt, leb-true, and_parts, false_from_ne_true}
+use Rattle.std.proofs.lemmas.Bool.{le-ltb, lt-ltb, cond-true, cond-false, cases_lt, leb-true, and_parts}
+use Rattle.std.proofs.lemmas.Bool.{false_from_ne_true}
 use Rattle.std.proofs.lemmas.Int.{ints}
 use Rattle.std.proofs.lemmas.List.{get_or_past}
 use Rattle.std.proofs.lemmas.List.FromFn.{get_or-map-range_with_len, length-map-range_with_len}
@@ -16,7 +19,8 @@ use Rattle.life_code.specs.Wechsler.{width, height, spelled, column_value, strip
 use Rattle.life_code.specs.Codes.{fits}
 use Rattle.life_code.specs.DecodeState.{spells_cell, has_bit}
 use Rattle.life_code.specs.Laws.{TextsTellApart}
-use Rattle.life_code.proofs.WechslerReading.{AllColumns, read_spelled, read_spelled_other, bit_zero, read_end, read_strip_end}
+use Rattle.life_code.proofs.WechslerReading.{AllColumns, read_spelled, read_spelled_other, bit_zero, read_end}
+use Rattle.life_code.proofs.WechslerReading.{read_strip_end}
 
 -- the cell in column x and row y
 abbrev pub cell : ℕ → ℕ → Cell
@@ -52,10 +56,16 @@ column_small X s x =
 
 module _ (f : ℕ → Bool) (s : ℕ) where
   abbrev sum5 : ℕ
-  sum5 = cond (f (5 * s)) 1 0 + 2 * cond (f (5 * s + 1)) 1 0 + 4 * cond (f (5 * s + 2)) 1 0 + 8 * cond (f (5 * s + 3)) 1 0 + 16 * cond (f (5 * s + 4)) 1 0
+  sum5 =
+      cond (f (5 * s)) 1 0 + 2 * cond (f (5 * s + 1)) 1 0 + 4 * cond (f (5 * s + 2)) 1 0 + 8
+      * cond (f (5 * s + 3)) 1 0 + 16 * cond (f (5 * s + 4)) 1 0
 
-  each_bit : (sum5 / 2 ^ 0 % 2 ≡ cond (f (5 * s)) 1 0) × (sum5 / 2 ^ 1 % 2 ≡ cond (f (5 * s + 1)) 1 0) × (sum5 / 2 ^ 2 % 2 ≡ cond (f (5 * s + 2)) 1 0) × (sum5 / 2 ^ 3 % 2 ≡ cond (f (5 * s + 3)) 1 0) × (sum5 / 2 ^ 4 % 2 ≡ cond (f (5 * s + 4)) 1 0)
-  each_bit = bits _ _ _ _ _ (small_bit (f (5 * s))) (small_bit (f (5 * s + 1))) (small_bit (f (5 * s + 2))) (small_bit (f (5 * s + 3))) (small_bit (f (5 * s + 4)))
+  each_bit : (sum5 / 2 ^ 0 % 2 ≡ cond (f (5 * s)) 1 0) × (sum5 / 2 ^ 1 % 2 ≡ cond (f (5 * s + 1)) 1 0)
+      × (sum5 / 2 ^ 2 % 2 ≡ cond (f (5 * s + 2)) 1 0) × (sum5 / 2 ^ 3 % 2 ≡ cond (f (5 * s + 3)) 1 0)
+      × (sum5 / 2 ^ 4 % 2 ≡ cond (f (5 * s + 4)) 1 0)
+  each_bit =
+      bits _ _ _ _ _ (small_bit (f (5 * s))) (small_bit (f (5 * s + 1))) (small_bit (f (5 * s + 2)))
+      (small_bit (f (5 * s + 3))) (small_bit (f (5 * s + 4)))
 
   bit_at : (y : ℕ) → y < 5 → has_bit y sum5 ≡ f (5 * s + y)
   bit_at zero below = ap (λ n. nat_eq n 1) each_bit.0 ∙ bit_is (f (5 * s)) ∙ ap f (sym (add-zero (5 * s)))
@@ -85,31 +95,40 @@ pub columns_small : (X : Cells) (s a n : ℕ) → AllColumns (map (column_value 
 columns_small X s a zero = tt
 columns_small X s a (suc n) = (column_small X s a, columns_small X s (a + 1) n)
 
-column_of : (X : Cells) (s x y : ℕ) → y < 5 → has_bit y (get_or (map (column_value X s) (range_with_len 0 (width X))) x 0) ≡ set.contains X (cell x (5 * s + y))
+column_of : (X : Cells) (s x y : ℕ) → y < 5
+    → has_bit y (get_or (map (column_value X s) (range_with_len 0 (width X))) x 0) ≡ set.contains X (cell x (5 * s + y))
 column_of X s x y below = ⊎_elim
-    (λ h. ap (has_bit y) (get_or-map-range_with_len (column_value X s) 0 (width X) x x 0 h (omega arith)) ∙ column_bit X s x y below)
+    (λ h. ap (has_bit y) (get_or-map-range_with_len (column_value X s) 0 (width X) x x 0 h (omega arith))
+    ∙ column_bit X s x y below)
     (λ h.
-    let e : get_or (map (column_value X s) (range_with_len 0 (width X))) x 0 ≡ 0 = get_or_past _ x 0 (let e = length-map-range_with_len (column_value X s) 0 (width X) in omega arith) in
-    ap (has_bit y) e ∙ bit_zero y ∙ sym (false_from_ne_true _ (λ has. let g = within_width X (cell x (5 * s + y)) has in omega arith)))
+    let e : get_or (map (column_value X s) (range_with_len 0 (width X))) x 0 ≡ 0 =
+    get_or_past _ x 0 (let e = length-map-range_with_len (column_value X s) 0 (width X) in omega arith) in
+    ap (has_bit y) e ∙ bit_zero y ∙ sym
+    (false_from_ne_true _ (λ has. let g = within_width X (cell x (5 * s + y)) has in omega arith)))
     (cases_lt x (width X))
 
 strips : Cells → ℕ → ℕ → List ℕ
 strips X a n = join_with_byte 122 (map (strip X) (range_with_len a n))
 
-strip_past : (X : Cells) → width X ≤ 40 → (s k : ℕ) (text : List ℕ) (x y : ℕ) (r : Bool) → 5 ≤ y → ((m : ℕ) → spells_cell m false text x y ≡ r) → spells_cell k false (strip X s ++ text) x y ≡ r
+strip_past : (X : Cells) → width X ≤ 40 → (s k : ℕ) (text : List ℕ) (x y : ℕ) (r : Bool) → 5 ≤ y
+    → ((m : ℕ) → spells_cell m false text x y ≡ r) → spells_cell k false (strip X s ++ text) x y ≡ r
 unfolding strip
 strip_past X narrow s k text x y r from rest =
-    read_spelled_other (map (column_value X s) (range_with_len 0 (width X))) 0 k text x y r (columns_small X s 0 (width X))
+    read_spelled_other (map (column_value X s) (range_with_len 0 (width X))) 0 k text x y r
+    (columns_small X s 0 (width X))
     (let e = length-map-range_with_len (column_value X s) 0 (width X) in omega arith) from rest
 
-strip_in : (X : Cells) → width X ≤ 40 → (s : ℕ) (text : List ℕ) (x y : ℕ) → y < 5 → ((m : ℕ) → spells_cell m false text x y ≡ false) → spells_cell 0 false (strip X s ++ text) x y ≡ set.contains X (cell x (5 * s + y))
+strip_in : (X : Cells) → width X ≤ 40 → (s : ℕ) (text : List ℕ) (x y : ℕ)
+    → y < 5 → ((m : ℕ) → spells_cell m false text x y ≡ false)
+    → spells_cell 0 false (strip X s ++ text) x y ≡ set.contains X (cell x (5 * s + y))
 unfolding strip
 strip_in X narrow s text x y below rest =
     read_spelled (map (column_value X s) (range_with_len 0 (width X))) 0 0 text x y x (columns_small X s 0 (width X))
     (let e = length-map-range_with_len (column_value X s) 0 (width X) in omega arith) below (omega arith) rest
     ∙ column_of X s x y below
 
-read_strips : (X : Cells) → width X ≤ 40 → (n a x y : ℕ) → y < 5 * n → spells_cell 0 false (strips X a n) x y ≡ set.contains X (cell x (5 * a + y))
+read_strips : (X : Cells) → width X ≤ 40 → (n a x y : ℕ) → y < 5 * n
+    → spells_cell 0 false (strips X a n) x y ≡ set.contains X (cell x (5 * a + y))
 unfolding strips
 read_strips X narrow zero a x y h = absurd (omega arith)
 read_strips X narrow (suc zero) a x y h =
@@ -130,15 +149,19 @@ read_past X narrow (suc zero) a x y h =
     ap (λ s. spells_cell 0 false s x y) (sym (append-nil (strip X a)))
     ∙ strip_past X narrow a 0 [] x y false (omega arith) (λ m. read_end m x y)
 read_past X narrow (suc (suc n)) a x y h =
-    strip_past X narrow a 0 _ x y _ (omega arith) (λ m. read_strip_end m _ x y ∙ cond-false _ _ _ (le-ltb y 5 (omega arith)))
+    strip_past X narrow a 0 _ x y _ (omega arith)
+    (λ m. read_strip_end m _ x y ∙ cond-false _ _ _ (le-ltb y 5 (omega arith)))
     ∙ read_past X narrow (suc n) (a + 1) x (y - 5) (omega arith)
 
 -- the text of a set spells its cells in columns and rows from 0 on
-pub read_wechsler : (X : Cells) → width X ≤ 40 → (x y : ℕ) → spells_cell 0 false (wechsler X) x y ≡ set.contains X (cell x y)
+pub read_wechsler : (X : Cells) → width X ≤ 40 → (x y : ℕ)
+    → spells_cell 0 false (wechsler X) x y ≡ set.contains X (cell x y)
 unfolding wechsler strips
 read_wechsler X narrow x y = ⊎_elim
-    (λ h. read_strips X narrow ((height X + 4) / 5) 0 x y h ∙ ap (λ t. set.contains X (cell x t)) (let e : 5 * 0 + y ≡ y = omega arith in e))
-    (λ h. read_past X narrow ((height X + 4) / 5) 0 x y h ∙ sym (false_from_ne_true _ (λ has. let g = within_height X (cell x y) has in omega arith)))
+    (λ h. read_strips X narrow ((height X + 4) / 5) 0 x y h
+    ∙ ap (λ t. set.contains X (cell x t)) (let e : 5 * 0 + y ≡ y = omega arith in e))
+    (λ h. read_past X narrow ((height X + 4) / 5) 0 x y h
+    ∙ sym (false_from_ne_true _ (λ has. let g = within_height X (cell x y) has in omega arith)))
     (cases_lt y (5 * ((height X + 4) / 5)))
 
 pub negative : (n : ℕ) → pos 0 ≤ℤ negsuc n → ⊥
@@ -152,24 +175,30 @@ pub low : (X : Cells) → fits X ≡ true → height X ≤ 40
 low X e = leb-true (height X) 40 (and_parts (nat_le (width X) 40) (nat_le (height X) 40) e).1
 
 -- two normal sets with the same cells in columns and rows from 0 on are one
-same_from_origin : (X Y : Cells) → ((x y : ℕ) → set.contains (normal X) (cell x y) ≡ set.contains (normal Y) (cell x y)) → normal X ≡ normal Y
+same_from_origin : (X Y : Cells) → ((x y : ℕ) → set.contains (normal X) (cell x y) ≡ set.contains (normal Y) (cell x y))
+    → normal X ≡ normal Y
 same_from_origin X Y same = cells_by_members (normal X) (normal Y) (λ c. each c.row c.column)
   where
     none_above : (Z : Cells) (n : ℕ) (b : ℤ) → set.contains (normal Z) (record { row = negsuc n; column = b }) ≡ false
-    none_above Z n b = false_from_ne_true _ (λ has. negative n (normal_low Z (record { row = negsuc n; column = b }) has).1)
+    none_above Z n b =
+        false_from_ne_true _ (λ has. negative n (normal_low Z (record { row = negsuc n; column = b }) has).1)
 
     none_left : (Z : Cells) (a : ℤ) (n : ℕ) → set.contains (normal Z) (record { row = a; column = negsuc n }) ≡ false
-    none_left Z a n = false_from_ne_true _ (λ has. negative n (normal_low Z (record { row = a; column = negsuc n }) has).0)
+    none_left Z a n =
+        false_from_ne_true _ (λ has. negative n (normal_low Z (record { row = a; column = negsuc n }) has).0)
 
-    each : (row column : ℤ) → set.contains (normal X) (record { row = row; column = column }) ≡ set.contains (normal Y) (record { row = row; column = column })
+    each : (row column : ℤ) → set.contains (normal X) (record { row = row; column = column })
+        ≡ set.contains (normal Y) (record { row = row; column = column })
     each (pos y) (pos x) = same x y
     each (negsuc y) b = none_above X y b ∙ sym (none_above Y y b)
     each (pos y) (negsuc x) = none_left X (pos y) x ∙ sym (none_left Y (pos y) x)
 
 -- two normal sets with one text are one
-pub text_one : (X Y : Cells) → fits (normal X) ≡ true → fits (normal Y) ≡ true → wechsler (normal X) ≡ wechsler (normal Y) → normal X ≡ normal Y
+pub text_one : (X Y : Cells) → fits (normal X) ≡ true → fits (normal Y) ≡ true
+    → wechsler (normal X) ≡ wechsler (normal Y) → normal X ≡ normal Y
 text_one X Y f g e = same_from_origin X Y (λ x y.
-    sym (read_wechsler (normal X) (narrow (normal X) f) x y) ∙ ap (λ t. spells_cell 0 false t x y) e ∙ read_wechsler (normal Y) (narrow (normal Y) g) x y)
+    sym (read_wechsler (normal X) (narrow (normal X) f) x y) ∙ ap (λ t. spells_cell 0 false t x y) e
+    ∙ read_wechsler (normal Y) (narrow (normal Y) g) x y)
 
 -- two normal sets of at most 40 by 40 have two texts
 pub texts_tell_apart : TextsTellApart

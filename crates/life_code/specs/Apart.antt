@@ -1,5 +1,5 @@
--- Near cells and sets that are apart. Cells at most 2 apart can have a neighbour in common; sets without near cells have none, so each evolves for itself
--- (Life Lexicon, "cluster" and "interaction").
+-- Near cells and sets that are apart. Cells at most 2 apart can have a neighbour in common; sets without near cells
+-- have none, so each evolves for itself (Life Lexicon, "cluster" and "interaction").
 use Rattle.std.specs.Prelude.{◌≡◌, ℤ, pos, ◌+ℤ◌, Bool, true, false, ◌&&◌, int_le, List, [], ◌∷◌}
 use Rattle.std.specs.List.{AllByRecursion}
 use Rattle.std.specs.FinSet as set

@@ -26,7 +26,8 @@ ComesNoNearer p dx q ex = ((dx ≤ℤ pos 0) × (pos 0 ≤ℤ ex)) ⊎ ((p ≡ q
 
 -- the first stays more than 2 columns to the left of the second ..
 abbrev pub KeepsLeft : Orbit → Orbit → Type 0
-KeepsLeft o p = ((o.frame.columns.greatest +ℤ pos 2) <ℤ p.frame.columns.least) × ComesNoNearer o.period o.dx p.period p.dx
+KeepsLeft o p =
+    ((o.frame.columns.greatest +ℤ pos 2) <ℤ p.frame.columns.least) × ComesNoNearer o.period o.dx p.period p.dx
 
 -- .. or more than 2 rows above it ..
 abbrev pub KeepsAbove : Orbit → Orbit → Type 0
@@ -34,11 +35,15 @@ KeepsAbove o p = ((o.frame.rows.greatest +ℤ pos 2) <ℤ p.frame.rows.least) ×
 
 -- .. or beyond a diagonal: its sums of row and column stay more than 4 below ..
 abbrev pub KeepsUpperLeft : Orbit → Orbit → Type 0
-KeepsUpperLeft o p = ((o.frame.sums.greatest +ℤ pos 4) <ℤ p.frame.sums.least) × ComesNoNearer o.period (o.dy +ℤ o.dx) p.period (p.dy +ℤ p.dx)
+KeepsUpperLeft o p =
+    ((o.frame.sums.greatest +ℤ pos 4) <ℤ p.frame.sums.least)
+    × ComesNoNearer o.period (o.dy +ℤ o.dx) p.period (p.dy +ℤ p.dx)
 
 -- .. or its differences row - column do
 abbrev pub KeepsUpperRight : Orbit → Orbit → Type 0
-KeepsUpperRight o p = ((o.frame.differences.greatest +ℤ pos 4) <ℤ p.frame.differences.least) × ComesNoNearer o.period (o.dy -ℤ o.dx) p.period (p.dy -ℤ p.dx)
+KeepsUpperRight o p =
+    ((o.frame.differences.greatest +ℤ pos 4) <ℤ p.frame.differences.least)
+    × ComesNoNearer o.period (o.dy -ℤ o.dx) p.period (p.dy -ℤ p.dx)
 
 -- the first stays on one side of the second
 abbrev pub KeepsAside : Orbit → Orbit → Type 0
@@ -50,7 +55,8 @@ KeepApart o p = KeepsAside o p ⊎ KeepsAside p o
 
 -- in as many generations they don't move by as much
 abbrev pub MoveDifferently : Orbit → Orbit → Type 0
-MoveDifferently o p = ¬ (((pos p.period *ℤ o.dx) ≡ (pos o.period *ℤ p.dx)) × ((pos p.period *ℤ o.dy) ≡ (pos o.period *ℤ p.dy)))
+MoveDifferently o p =
+    ¬ (((pos p.period *ℤ o.dx) ≡ (pos o.period *ℤ p.dx)) × ((pos p.period *ℤ o.dy) ≡ (pos o.period *ℤ p.dy)))
 
 -- the part goes its orbit
 abbrev pub IsMoving : {A : Type 0} → RuleSets → Moving A → Type 0
@@ -79,4 +85,5 @@ pub record PartWays {A : Type 0} (parts : List (Moving A)) : Type 0 where
 
 -- the cells are those of the two lists
 abbrev pub AreParted : List Cell → List Cell → List Cell → Type 0
-AreParted cells inside outside = set.from_list {R = cell_cmp} cells ≡ set.union (set.from_list inside) (set.from_list outside)
+AreParted cells inside outside =
+    set.from_list {R = cell_cmp} cells ≡ set.union (set.from_list inside) (set.from_list outside)

@@ -1,6 +1,7 @@
--- Codes of periodic patterns (LifeWiki, "Apgcode"). The choice among phases, orientations and texts is this project's: the shortest text, and
--- of texts as long the least by bytes.
-use Rattle.std.specs.Prelude.{◌≡◌, ◌≢◌, ℕ, ◌<◌, Bool, ◌&&◌, nat_le, if◌then◌else◌, Option, Some, None, ℤ, List, [], ◌∷◌, ◌++◌, length, codes}
+-- Codes of periodic patterns (LifeWiki, "Apgcode"). The choice among phases, orientations and texts is this project's:
+-- the shortest text, and of texts as long the least by bytes.
+use Rattle.std.specs.Prelude.{◌≡◌, ◌≢◌, ℕ, ◌<◌, Bool, ◌&&◌, nat_le, if◌then◌else◌, Option, Some, None, ℤ, List, [], ◌∷◌}
+use Rattle.std.specs.Prelude.{◌++◌, length, codes}
 use Rattle.std.specs.List.{range_with_len, flat_map}
 use Rattle.std.specs.Fmt.{decimal}
 use Rattle.std.specs.declared.cmp.Ordering.{Ordering}

@@ -1,5 +1,6 @@
 -- Which cells a Wechsler text spells.
-use Rattle.std.specs.Prelude.{◌≡◌, ℕ, ◌+◌, ◌-◌, ◌*◌, ◌/◌, ◌%◌, ◌^◌, ◌<◌, ◌≤◌, Bool, true, false, ◌&&◌, ◌||◌, ◌==◌, nat_lt, nat_le, if◌then◌else◌, List, [], ◌∷◌, map, get_or, pos}
+use Rattle.std.specs.Prelude.{◌≡◌, ℕ, ◌+◌, ◌-◌, ◌*◌, ◌/◌, ◌%◌, ◌^◌, ◌<◌, ◌≤◌, Bool, true, false, ◌&&◌, ◌||◌, ◌==◌}
+use Rattle.std.specs.Prelude.{nat_lt, nat_le, if◌then◌else◌, List, [], ◌∷◌, map, get_or, pos}
 use Rattle.std.specs.List.{filter, range_with_len}
 use Rattle.std.specs.FinSet as set
 use Rattle.life_core.specs.Ascii.{digit_0, letter_x, letter_y, letter_z}
@@ -12,7 +13,8 @@ use Rattle.life_code.specs.Wechsler.{value_of}
 abbrev pub has_bit : ℕ → ℕ → Bool
 has_bit n value = ((value / 2 ^ n) % 2) == 1
 
--- whether a text spells the cell in column x and row y, counted from the top of a strip; the text continues at column k of that strip, after a `y` if the flag is set
+-- whether a text spells the cell in column x and row y, counted from the top of a strip; the text continues at column k
+-- of that strip, after a `y` if the flag is set
 unfoldable pub spells_cell : ℕ → Bool → List ℕ → ℕ → ℕ → Bool
 spells_cell k after_y [] x y = false
 spells_cell k true (c ∷ text) x y = spells_cell (k + 4 + value_of c) false text x y
@@ -31,17 +33,21 @@ cell_of_index i = cell_at (pos (i % 40), pos (i / 40))
 
 -- the cells of the box of 40 by 40 that a text spells
 unfoldable pub decoded : List ℕ → Cells
-decoded text = set.from_list (map cell_of_index (filter (λ i. spells_cell 0 false text (i % 40) (i / 40)) (range_with_len 0 1600)))
+decoded text =
+    set.from_list (map cell_of_index (filter (λ i. spells_cell 0 false text (i % 40) (i / 40)) (range_with_len 0 1600)))
 
 -- ---- reading a text once
 
--- whether the cell in column x and row y of the box is live, if these are the values of its columns: 40 of each strip of five rows, from the top
+-- whether the cell in column x and row y of the box is live, if these are the values of its columns: 40 of each strip
+-- of five rows, from the top
 abbrev pub is_live : List ℕ → ℕ → ℕ → Bool
 is_live columns x y = has_bit (y % 5) (get_or columns (40 * (y / 5) + x) 0)
 
--- the same, if these are the values so far and the text continues at column k of strip s, after a `y` if the flag is set
+-- the same, if these are the values so far and the text continues at column k of strip s, after a `y` if the flag is
+-- set
 abbrev pub awaited_cell : List ℕ → ℕ → ℕ → Bool → List ℕ → ℕ → ℕ → Bool
-awaited_cell columns s k after_y text x y = is_live columns x y || (nat_le (5 * s) y && spells_cell k after_y text x (y - 5 * s))
+awaited_cell columns s k after_y text x y =
+    is_live columns x y || (nat_le (5 * s) y && spells_cell k after_y text x (y - 5 * s))
 
 -- the columns from column k of strip s on are zero
 abbrev pub AreBlank : List ℕ → ℕ → ℕ → Type 0

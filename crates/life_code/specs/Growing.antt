@@ -13,8 +13,8 @@ pub record IsAlone (X : Cells) (x y : ℤ) : Type 0 where
   pub right : set.contains X (cell_at (x +ℤ pos 2, y)) ≡ false
   pub second_right : set.contains X (cell_at (x +ℤ pos 3, y)) ≡ false
 
--- The cells at columns x and x + 1 of row y are live, and they stand alone there if three live neighbours give no birth: `2o` has such a pair
--- under B2/S and under B23/S, `3o` only under B23/S.
+-- The cells at columns x and x + 1 of row y are live, and they stand alone there if three live neighbours give no
+-- birth: `2o` has such a pair under B2/S and under B23/S, `3o` only under B23/S.
 pub record HasPair (r : RuleSets) (X : Cells) (x y : ℤ) : Type 0 where
   pub left : set.contains X (cell_at (x, y)) ≡ true
   pub right : set.contains X (cell_at (x +ℤ pos 1, y)) ≡ true

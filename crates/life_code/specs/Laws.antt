@@ -1,5 +1,6 @@
 -- What makes the definitions of kinds and codes believable, and what a code is good for.
-use Rattle.std.specs.Prelude.{◌≡◌, ◌≢◌, ◌↔◌, ℕ, ◌+◌, ◌<◌, ◌≤◌, ◌%◌, ◌==◌, if◌then◌else◌, MatchOption, ℤ, pos, ◌*ℤ◌, Bool, true, false, None, Some, List, [], ◌∷◌, ◌++◌, map, replicate}
+use Rattle.std.specs.Prelude.{◌≡◌, ◌≢◌, ◌↔◌, ℕ, ◌+◌, ◌<◌, ◌≤◌, ◌%◌, ◌==◌, if◌then◌else◌, MatchOption, ℤ, pos, ◌*ℤ◌}
+use Rattle.std.specs.Prelude.{Bool, true, false, None, Some, List, [], ◌∷◌, ◌++◌, map, replicate}
 use Rattle.std.specs.List.{range_with_len, last_or, Contains}
 use Rattle.std.specs.Ordering.{is_gt}
 use Rattle.std.specs.FinSet as set
@@ -23,43 +24,57 @@ OneKind = (r : RuleSets) (X : Cells) (limit : ℕ) (k : Kind) → HasKind r X li
 
 -- The phases of a periodic set form one cycle: generation i is generation i % p, moved ..
 abbrev pub PhasesComeAgain : Type 0
-PhasesComeAgain = (r : RuleSets) (X : Cells) (p : ℕ) (dx dy : ℤ) → HasPeriod r X p dx dy → (i : ℕ) → (ex : ℤ) × (ey : ℤ) × (generation_of r X i ≡ image (moved_cell ex ey) (generation_of r X (i % p)))
+PhasesComeAgain =
+    (r : RuleSets) (X : Cells) (p : ℕ) (dx dy : ℤ) → HasPeriod r X p dx dy → (i : ℕ)
+    → (ex : ℤ) × (ey : ℤ) × (generation_of r X i ≡ image (moved_cell ex ey) (generation_of r X (i % p)))
 
 -- .. and no two of the first p are one but for a move.
 abbrev pub PhasesDiffer : Type 0
-PhasesDiffer = (r : RuleSets) (X : Cells) (p : ℕ) (dx dy : ℤ) → HasPeriod r X p dx dy → (i j : ℕ) → i < j → j < p → (ex ey : ℤ) → ¬ (generation_of r X j ≡ image (moved_cell ex ey) (generation_of r X i))
+PhasesDiffer =
+    (r : RuleSets) (X : Cells) (p : ℕ) (dx dy : ℤ) → HasPeriod r X p dx dy → (i j : ℕ) → i < j
+    → j < p → (ex ey : ℤ) → ¬ (generation_of r X j ≡ image (moved_cell ex ey) (generation_of r X i))
 
 -- Under a rule with a birth at one neighbour, and none at no neighbour, no set with a cell comes back.
 abbrev pub BirthAtOneNeverReturns : Type 0
-BirthAtOneNeverReturns = (r : RuleSets) (X : Cells) (p : ℕ) (dx dy : ℤ) → set.contains r.birth 0 ≡ false → set.contains r.birth 1 ≡ true → X ≢ set.empty → 1 ≤ p → ¬ Returns r X p dx dy
+BirthAtOneNeverReturns =
+    (r : RuleSets) (X : Cells) (p : ℕ) (dx dy : ℤ) → set.contains r.birth 0 ≡ false → set.contains r.birth 1 ≡ true
+    → X ≢ set.empty → 1 ≤ p → ¬ Returns r X p dx dy
 
--- Under a rule with a birth at two neighbours, and none at fewer, a set with a lasting pair in its first row and one in its last row reaches
--- one row further on both sides in each generation, so it never comes back.
+-- Under a rule with a birth at two neighbours, and none at fewer, a set with a lasting pair in its first row and one in
+-- its last row reaches one row further on both sides in each generation, so it never comes back.
 abbrev pub PairsNeverReturn : Type 0
 PairsNeverReturn =
-    (r : RuleSets) (X : Cells) (x z top bottom : ℤ) (p : ℕ) (dx dy : ℤ) → set.contains r.birth 0 ≡ false → set.contains r.birth 1 ≡ false → set.contains r.birth 2 ≡ true →
+    (r : RuleSets) (X : Cells) (x z top bottom : ℤ) (p : ℕ) (dx dy : ℤ) → set.contains r.birth 0 ≡ false
+    → set.contains r.birth 1 ≡ false → set.contains r.birth 2 ≡ true →
     LiesInRows X top bottom → HasPair r X x top → HasPair r X z bottom → 1 ≤ p → ¬ Returns r X p dx dy
 
 -- If no two sets are ever near each other at the same time, each evolves as if it were alone ..
 abbrev pub ApartGoOnAlone : Type 0
 ApartGoOnAlone =
-    (r : RuleSets) (Ps : List Cells) → set.contains r.birth 0 ≡ false → ((k : ℕ) → AreAllApart (map (λ P. generation_of r P k) Ps)) →
+    (r : RuleSets) (Ps : List Cells) → set.contains r.birth 0 ≡ false
+    → ((k : ℕ) → AreAllApart (map (λ P. generation_of r P k) Ps)) →
     (k : ℕ) → generation_of r (union_of Ps) k ≡ union_of (map (λ P. generation_of r P k) Ps)
 
--- .. and where two of them come back, one p generations later and one q, but not moved by as much in p * q generations, the whole never comes back.
+-- .. and where two of them come back, one p generations later and one q, but not moved by as much in p * q generations,
+-- the whole never comes back.
 abbrev pub PartingNeverReturns : Type 0
 PartingNeverReturns =
-    (r : RuleSets) (Ps : List Cells) → set.contains r.birth 0 ≡ false → ((k : ℕ) → AreAllApart (map (λ P. generation_of r P k) Ps)) →
-    (P Q : Cells) (p q : ℕ) (dx dy ex ey : ℤ) → Contains Ps P → Contains Ps Q → P ≢ set.empty → Q ≢ set.empty → 1 ≤ p → 1 ≤ q →
+    (r : RuleSets) (Ps : List Cells) → set.contains r.birth 0 ≡ false
+    → ((k : ℕ) → AreAllApart (map (λ P. generation_of r P k) Ps)) →
+    (P Q : Cells) (p q : ℕ) (dx dy ex ey : ℤ) → Contains Ps P → Contains Ps Q → P ≢ set.empty
+    → Q ≢ set.empty → 1 ≤ p → 1 ≤ q →
     Returns r P p dx dy → Returns r Q q ex ey → ¬ ((pos q *ℤ dx ≡ pos p *ℤ ex) × (pos q *ℤ dy ≡ pos p *ℤ ey)) →
     (n : ℕ) → 1 ≤ n → (fx fy : ℤ) → ¬ Returns r (union_of Ps) n fx fy
 
 -- The columns and rows of a normal set's text are those of its box.
 abbrev pub BoxesHaveOneSize : Type 0
-BoxesHaveOneSize = (X : Cells) (left top : ℤ) (columns rows : ℕ) → normal X ≡ X → IsBox X left top columns rows → (width X ≡ columns) × (height X ≡ rows)
+BoxesHaveOneSize =
+    (X : Cells) (left top : ℤ) (columns rows : ℕ) → normal X ≡ X → IsBox X left top columns rows
+    → (width X ≡ columns) × (height X ≡ rows)
 
--- the columns that the text of a strip stands for: `0`, `w` and `x` for one, two and three of zero, `y` and a character for four more than
--- it says, and another character for a column of its value; the flag says that the character before was `y`
+-- the columns that the text of a strip stands for: `0`, `w` and `x` for one, two and three of zero, `y` and a character
+-- for four more than it says, and another character for a column of its value; the flag says that the character before
+-- was `y`
 unfoldable pub columns_of : Bool → List ℕ → List ℕ
 columns_of after_y [] = []
 columns_of true (c ∷ text) = replicate (4 + value_of c) 0 ++ columns_of false text
@@ -80,19 +95,27 @@ StripsAreTheirColumns =
 
 -- Two normal sets of at most 40 by 40 have two texts.
 abbrev pub TextsTellApart : Type 0
-TextsTellApart = (X Y : Cells) → normal X ≡ X → normal Y ≡ Y → fits X ≡ true → fits Y ≡ true → wechsler X ≡ wechsler Y → X ≡ Y
+TextsTellApart =
+    (X Y : Cells) → normal X ≡ X → normal Y ≡ Y → fits X ≡ true → fits Y ≡ true → wechsler X ≡ wechsler Y → X ≡ Y
 
 -- a text is the one of a phase in an orientation
 abbrev pub IsCandidate : RuleSets → Cells → ℕ → List ℕ → Type 0
-IsCandidate r X p text = (i : ℕ) × (i < p) × (o : Orientation) × (fits (shape o (generation_of r X i)) ≡ true) × (wechsler (shape o (generation_of r X i)) ≡ text)
+IsCandidate r X p text =
+    (i : ℕ) × (i < p) × (o : Orientation) × (fits (shape o (generation_of r X i)) ≡ true)
+    × (wechsler (shape o (generation_of r X i)) ≡ text)
 
 -- The least candidate is a candidate that no other undercuts, and there is none only if there is no candidate.
 abbrev pub LeastIsLeast : Type 0
-LeastIsLeast = (r : RuleSets) (X : Cells) (p : ℕ) → MatchOption (least_text (candidates r X p)) ((text : List ℕ) → ¬ IsCandidate r X p text) (λ text. IsCandidate r X p text × ((other : List ℕ) → IsCandidate r X p other → is_gt (text_cmp text other) ≡ false))
+LeastIsLeast =
+    (r : RuleSets) (X : Cells) (p : ℕ)
+    → MatchOption (least_text (candidates r X p)) ((text : List ℕ) → ¬ IsCandidate r X p text) (λ text.
+    IsCandidate r X p text × ((other : List ℕ) → IsCandidate r X p other → is_gt (text_cmp text other) ≡ false))
 
 -- To be one object is an equivalence of periodic sets.
 abbrev pub SameIsEquivalence : Type 0
-SameIsEquivalence = (r : RuleSets) → ((X : Cells) → IsPeriodic r X → Same r X X) × ((X Y : Cells) → Same r X Y → Same r Y X) × ((X Y Z : Cells) → Same r X Y → Same r Y Z → Same r X Z)
+SameIsEquivalence =
+    (r : RuleSets) → ((X : Cells) → IsPeriodic r X → Same r X X) × ((X Y : Cells) → Same r X Y → Same r Y X)
+    × ((X Y Z : Cells) → Same r X Y → Same r Y Z → Same r X Z)
 
 -- Sets that are one object have one code, or none both.
 abbrev pub CodeIsInvariant : Type 0
@@ -100,11 +123,16 @@ CodeIsInvariant = (r : RuleSets) (X Y : Cells) (limit : ℕ) → Same r X Y → 
 
 -- Two codes are equal exactly if the sets are one object, whatever the limits.
 abbrev pub CodeIsComplete : Type 0
-CodeIsComplete = (r : RuleSets) (X Y : Cells) (limit other : ℕ) (s t : List ℕ) → code_of r X limit ≡ Some s → code_of r Y other ≡ Some t → (s ≡ t) ↔ Same r X Y
+CodeIsComplete =
+    (r : RuleSets) (X Y : Cells) (limit other : ℕ) (s t : List ℕ) → code_of r X limit ≡ Some s
+    → code_of r Y other ≡ Some t → (s ≡ t) ↔ Same r X Y
 
--- A code spells a set, which has that code. A number in a code has six digits at most (Open.antt), so no longer limit is spoken of.
+-- A code spells a set, which has that code. A number in a code has six digits at most (Open.antt), so no longer limit
+-- is spoken of.
 abbrev pub CodeSpells : Type 0
-CodeSpells = (r : RuleSets) (X : Cells) (limit : ℕ) (text : List ℕ) → limit ≤ 999999 → code_of r X limit ≡ Some text → (Y : Cells) × Spells text Y × (code_of r Y limit ≡ Some text)
+CodeSpells =
+    (r : RuleSets) (X : Cells) (limit : ℕ) (text : List ℕ) → limit ≤ 999999 → code_of r X limit ≡ Some text
+    → (Y : Cells) × Spells text Y × (code_of r Y limit ≡ Some text)
 
 -- A text spells one set at most.
 abbrev pub SpellsOne : Type 0
@@ -112,4 +140,6 @@ SpellsOne = (text : List ℕ) (X Y : Cells) → Spells text X → Spells text Y 
 
 -- A code under a limit of the period is the code under each greater one.
 abbrev pub CodeStays : Type 0
-CodeStays = (r : RuleSets) (X : Cells) (limit other : ℕ) (text : List ℕ) → limit ≤ other → code_of r X limit ≡ Some text → code_of r X other ≡ Some text
+CodeStays =
+    (r : RuleSets) (X : Cells) (limit other : ℕ) (text : List ℕ) → limit ≤ other → code_of r X limit ≡ Some text
+    → code_of r X other ≡ Some text

@@ -22,4 +22,5 @@ bit_of flags i = if get_or flags i false then 1 else 0
 -- the value of column x of strip s, by the flags
 abbrev pub shown_value : List Bool → ℕ → ℕ → ℕ
 shown_value flags s x =
-    bit_of flags (200 * s + x) + 2 * bit_of flags (200 * s + 40 + x) + 4 * bit_of flags (200 * s + 80 + x) + 8 * bit_of flags (200 * s + 120 + x) + 16 * bit_of flags (200 * s + 160 + x)
+    bit_of flags (200 * s + x) + 2 * bit_of flags (200 * s + 40 + x) + 4 * bit_of flags (200 * s + 80 + x)
+    + 8 * bit_of flags (200 * s + 120 + x) + 16 * bit_of flags (200 * s + 160 + x)

@@ -1,5 +1,6 @@
 -- Which set of cells a code spells, and what a refusal of a code says.
-use Rattle.std.specs.Prelude.{◌≡◌, ◌≢◌, ◌⊎◌, ℕ, Bool, true, false, not, ◌&&◌, ◌==◌, nat_le, Some, List, [], ◌∷◌, ◌++◌, length, codes}
+use Rattle.std.specs.Prelude.{◌≡◌, ◌≢◌, ◌⊎◌, ℕ, Bool, true, false, not, ◌&&◌, ◌==◌, nat_le, Some, List, [], ◌∷◌, ◌++◌}
+use Rattle.std.specs.Prelude.{length, codes}
 use Rattle.std.specs.Char.{is_ascii_digit}
 use Rattle.std.specs.List.{list_all}
 use Rattle.std.specs.FinSet as set
@@ -20,7 +21,8 @@ IsPrefix prefix = (prefix ≡ codes "xs") ⊎ ((prefix ≡ codes "xp") ⊎ (pref
 -- a number in a code: one to six digits, the first of them not `0`
 abbrev pub is_number : List ℕ → Bool
 is_number [] = false
-is_number (digit ∷ digits) = not (digit == digit_0) && nat_le (length digits) 5 && list_all is_ascii_digit (digit ∷ digits)
+is_number (digit ∷ digits) =
+    not (digit == digit_0) && nat_le (length digits) 5 && list_all is_ascii_digit (digit ∷ digits)
 
 -- a prefix and a number
 pub record IsFront (front : List ℕ) : Type 0 where
@@ -45,9 +47,11 @@ pub record Spells (text : List ℕ) (X : Cells) : Type 0 where
   pub is_wechsler : IsWechsler back X
   pub parts : text ≡ front ++ underscore ∷ back
 
--- what a refusal of a code says: it spells no set; the set that it spells has no period within the limit; or that set has another code, or none
+-- what a refusal of a code says: it spells no set; the set that it spells has no period within the limit; or that set
+-- has another code, or none
 abbrev pub Refuses : RuleSets → List ℕ → ℕ → CodeFault → Type 0
 Refuses r text limit BadText = (X : Cells) → ¬ Spells text X
 Refuses r text limit NotWithinLimit = (X : Cells) × Spells text X × (kind_of r X limit ≡ Unresolved)
-Refuses r text limit NotCanonical = (X : Cells) × Spells text X × (kind_of r X limit ≢ Unresolved) × (code_of r X limit ≢ Some text)
+Refuses r text limit NotCanonical =
+    (X : Cells) × Spells text X × (kind_of r X limit ≢ Unresolved) × (code_of r X limit ≢ Some text)
 Refuses r text limit Memory = Unit {0}

@@ -1,5 +1,6 @@
 -- Periods and kinds of patterns (LifeWiki, "Period", "Still life", "Oscillator" and "Spaceship").
-use Rattle.std.specs.Prelude.{◌≡◌, ◌≢◌, ℕ, ◌<◌, ◌≤◌, Bool, ◌&&◌, ◌==◌, if◌then◌else◌, Option, Some, None, Result, IfOk, ℤ, pos, ◌-ℤ◌}
+use Rattle.std.specs.Prelude.{◌≡◌, ◌≢◌, ℕ, ◌<◌, ◌≤◌, Bool, ◌&&◌, ◌==◌, if◌then◌else◌, Option, Some, None, Result, IfOk}
+use Rattle.std.specs.Prelude.{ℤ, pos, ◌-ℤ◌}
 use Rattle.std.specs.List.{find, range_with_len}
 use Rattle.std.specs.Ordering.{int_eq}
 use Rattle.std.specs.FinSet as set
@@ -17,7 +18,8 @@ use Rattle.life_code.specs.declared.period.TheConstants.{PERIOD_LIMIT}
 abbrev pub Returns : RuleSets → Cells → ℕ → ℤ → ℤ → Type 0
 Returns r X p dx dy = generation_of r X p ≡ image (moved_cell dx dy) X
 
--- the period of X is p, in which it moves by dx and dy: the least number of generations, from 1 on, after which it is X moved
+-- the period of X is p, in which it moves by dx and dy: the least number of generations, from 1 on, after which it is X
+-- moved
 abbrev pub HasPeriod : RuleSets → Cells → ℕ → ℤ → ℤ → Type 0
 HasPeriod r X p dx dy = (1 ≤ p) × Returns r X p dx dy × ((q : ℕ) → 1 ≤ q → q < p → (ex ey : ℤ) → ¬ Returns r X q ex ey)
 
@@ -26,7 +28,8 @@ abbrev pub HasKind : RuleSets → Cells → ℕ → Kind → Type 0
 HasKind r X limit Empty = X ≡ set.empty
 HasKind r X limit Still = (X ≢ set.empty) × (1 ≤ limit) × HasPeriod r X 1 (pos 0) (pos 0)
 HasKind r X limit (Oscillator p) = (X ≢ set.empty) × (p ≤ limit) × (1 < p) × HasPeriod r X p (pos 0) (pos 0)
-HasKind r X limit (Ship p dx dy) = (X ≢ set.empty) × (p ≤ limit) × ¬ ((dx ≡ pos 0) × (dy ≡ pos 0)) × HasPeriod r X p dx dy
+HasKind r X limit (Ship p dx dy) =
+    (X ≢ set.empty) × (p ≤ limit) × ¬ ((dx ≡ pos 0) × (dy ≡ pos 0)) × HasPeriod r X p dx dy
 HasKind r X limit Unresolved = (X ≢ set.empty) × ((p : ℕ) → 1 ≤ p → p ≤ limit → (dx dy : ℤ) → ¬ Returns r X p dx dy)
 
 -- ---- the kind
@@ -45,12 +48,15 @@ period_of r X limit = find (returns r X) (range_with_len 1 limit)
 
 -- the kind of a pattern of period p that moves by dx and dy in it
 abbrev pub kind_of_period : ℕ → ℤ → ℤ → Kind
-kind_of_period p dx dy = if int_eq dx (pos 0) && int_eq dy (pos 0) then (if p == 1 then Still else Oscillator p) else Ship p dx dy
+kind_of_period p dx dy =
+    if int_eq dx (pos 0) && int_eq dy (pos 0) then (if p == 1 then Still else Oscillator p) else Ship p dx dy
 
 -- the kind by the period, if there is one; the move is that of the corner
 abbrev pub kind_at : RuleSets → Cells → Option ℕ → Kind
 kind_at r X None = Unresolved
-kind_at r X (Some p) = kind_of_period p ((corner (generation_of r X p)).column -ℤ (corner X).column) ((corner (generation_of r X p)).row -ℤ (corner X).row)
+kind_at r X (Some p) =
+    kind_of_period p ((corner (generation_of r X p)).column -ℤ (corner X).column)
+    ((corner (generation_of r X p)).row -ℤ (corner X).row)
 
 -- the kind of X under a limit of the period
 unfoldable pub kind_of : RuleSets → Cells → ℕ → Kind
@@ -58,7 +64,8 @@ kind_of r X limit = if set.len X == 0 then Empty else kind_at r X (period_of r X
 
 -- ---- what a call asks and gives
 
--- A period of X can be searched for: the limit is valid, and X lies so far inside the plane that no generation up to the limit leaves it.
+-- A period of X can be searched for: the limit is valid, and X lies so far inside the plane that no generation up to
+-- the limit leaves it.
 pub record IsSearchable (limit : ℕ) (X : Cells) : Type 0 where
   pub from_one : 1 ≤ limit
   pub few : limit ≤ PERIOD_LIMIT

@@ -1,5 +1,5 @@
--- The extended Wechsler text of a normal set (LifeWiki, "Apgcode": the set is cut into strips of five rows, each column of a strip is one
--- character, and runs of empty columns have characters of their own).
+-- The extended Wechsler text of a normal set (LifeWiki, "Apgcode": the set is cut into strips of five rows, each column
+-- of a strip is one character, and runs of empty columns have characters of their own).
 use Rattle.std.specs.Prelude.{ℕ, ◌+◌, ◌-◌, ◌*◌, ◌/◌, ◌==◌, nat_lt, if◌then◌else◌, List, [], ◌∷◌, ◌++◌, map, pos}
 use Rattle.std.specs.List.{range_with_len, join_with_byte}
 use Rattle.std.specs.FinSet as set
@@ -27,7 +27,8 @@ character n = if nat_lt n 10 then 48 + n else 87 + n
 abbrev pub value_of : ℕ → ℕ
 value_of c = if nat_lt c 58 then c - 48 else c - 87
 
--- a run of n zero columns before another column: `0`, `w` and `x` for one, two and three, and `y` with a character for 4 to 39
+-- a run of n zero columns before another column: `0`, `w` and `x` for one, two and three, and `y` with a character for
+-- 4 to 39
 abbrev pub zero_run : ℕ → List ℕ
 zero_run n =
     if n == 0 then []
@@ -39,7 +40,8 @@ zero_run n =
 -- the columns of a strip, spelled after n zero columns: those of zero at the end are left out
 unfoldable pub spelled : ℕ → List ℕ → List ℕ
 spelled n [] = []
-spelled n (value ∷ columns) = if value == 0 then spelled (n + 1) columns else zero_run n ++ character value ∷ spelled 0 columns
+spelled n (value ∷ columns) =
+    if value == 0 then spelled (n + 1) columns else zero_run n ++ character value ∷ spelled 0 columns
 
 -- ---- the text
 
@@ -50,7 +52,8 @@ bit_at X x y = if set.contains X (cell_at (pos x, pos y)) then 1 else 0
 -- the value of column x of strip s: its top row is the bit of value 1
 unfoldable pub column_value : Cells → ℕ → ℕ → ℕ
 column_value X s x =
-    bit_at X x (5 * s) + 2 * bit_at X x (5 * s + 1) + 4 * bit_at X x (5 * s + 2) + 8 * bit_at X x (5 * s + 3) + 16 * bit_at X x (5 * s + 4)
+    bit_at X x (5 * s) + 2 * bit_at X x (5 * s + 1) + 4 * bit_at X x (5 * s + 2) + 8 * bit_at X x (5 * s + 3)
+    + 16 * bit_at X x (5 * s + 4)
 
 -- the text of strip s
 unfoldable pub strip : Cells → ℕ → List ℕ

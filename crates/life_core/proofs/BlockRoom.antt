@@ -1,5 +1,6 @@
 -- The room that sets have in frames of whole blocks.
-use Rattle.std.specs.Prelude.{◌≡◌, ◌⊎◌, ℕ, pos, zero, suc, ◌+◌, ◌-◌, ◌*◌, ◌/◌, ◌<◌, ◌≤◌, ◌+ℤ◌, true, List, length, nat_eq, refl}
+use Rattle.std.specs.Prelude.{◌≡◌, ◌⊎◌, ℕ, pos, zero, suc, ◌+◌, ◌-◌, ◌*◌, ◌/◌, ◌<◌, ◌≤◌, ◌+ℤ◌, true, List, length}
+use Rattle.std.specs.Prelude.{nat_eq, refl}
 use Rattle.std.proofs.Common.{◌∙◌, inl, inr, arith}
 use Rattle.std.proofs.lemmas.Bool.Decides.{nat_tests}
 use Rattle.std.proofs.lemmas.Int.{ints}
@@ -18,11 +19,17 @@ use Rattle.life_core.proofs.FlatSteps.{HasDeadEdges}
 use Rattle.life_core.proofs.BlockGenerations.{edges_by_room}
 
 -- room for one cell between the first and the last line of blocks
-pub room_of : (f : Frame) (n : ℕ) (X : Cells) → HasSlack f n X → HasRoom f.left (f.top +ℤ pos 16) (64 * f.words) (f.height - 32) X
+pub room_of : (f : Frame) (n : ℕ) (X : Cells) → HasSlack f n X
+    → HasRoom f.left (f.top +ℤ pos 16) (64 * f.words) (f.height - 32) X
 room_of f n X room = record {
   inner = λ c h.
       let a = room.away c h in
-      record { from_left = omega (arith, ints, a.from_left); to_right = omega (arith, ints, a.to_right); from_top = omega (arith, ints, a.from_top); to_bottom = omega (arith, ints, a.from_top, a.to_bottom) };
+      record {
+        from_left = omega (arith, ints, a.from_left);
+        to_right = omega (arith, ints, a.to_right);
+        from_top = omega (arith, ints, a.from_top);
+        to_bottom = omega (arith, ints, a.from_top, a.to_bottom);
+      };
 }
 
 -- room for fewer generations
@@ -30,14 +37,20 @@ pub slack_of_more : (f : Frame) (m n : ℕ) (X : Cells) → HasSlack f n X → m
 slack_of_more f m n X room less = record {
   away = λ c h.
       let a = room.away c h in
-      record { from_left = omega (arith, ints, a.from_left, less); to_right = omega (arith, ints, a.to_right, less); from_top = omega (arith, ints, a.from_top, less); to_bottom = omega (arith, ints, a.to_bottom, less) };
+      record {
+        from_left = omega (arith, ints, a.from_left, less);
+        to_right = omega (arith, ints, a.to_right, less);
+        from_top = omega (arith, ints, a.from_top, less);
+        to_bottom = omega (arith, ints, a.to_bottom, less);
+      };
 }
 
 -- a generation later there is room for one less
 pub slack_less : (r : RuleSets) (f : Frame) (n : ℕ) (X : Cells) → HasSlack f n X → 1 ≤ n → HasSlack f (n - 1) (next r X)
 slack_less r f n X room some = record {
   away = λ c h.
-      let i = next_in r (f.left +ℤ pos n) (f.top +ℤ pos (16 + n)) (64 * f.words - 2 * n) (f.height - (32 + 2 * n)) X inner c h in
+      let i = next_in r (f.left +ℤ pos n) (f.top +ℤ pos (16 + n)) (64 * f.words - 2 * n)
+      (f.height - (32 + 2 * n)) X inner c h in
       record {
         from_left = omega (arith, ints, i.from_left, some);
         to_right = omega (arith, ints, i.from_left, i.to_right, some);
@@ -61,8 +74,10 @@ slack_less r f n X room some = record {
 -- ---- rows
 
 -- no cell in the first and the last column
-pub dead_edges : (f : Frame) (rows : List ℕ) (n : ℕ) → 0 < f.words → f.height * f.words ≡ length rows → HasSlack f n (framed f rows) → HasDeadEdges (64 * f.words) f.height rows
-dead_edges f rows n wide size room = edges_by_room f rows (f.top +ℤ pos 16) (f.height - 32) wide size (room_of f n (framed f rows) room)
+pub dead_edges : (f : Frame) (rows : List ℕ) (n : ℕ) → 0 < f.words → f.height * f.words ≡ length rows
+    → HasSlack f n (framed f rows) → HasDeadEdges (64 * f.words) f.height rows
+dead_edges f rows n wide size room =
+    edges_by_room f rows (f.top +ℤ pos 16) (f.height - 32) wide size (room_of f n (framed f rows) room)
 
 not_one : (b : ℕ) → b < 2 → (nat_eq b 1 ≡ true → ⊥) → b ≡ 0
 not_one zero lt never = refl
@@ -70,8 +85,10 @@ not_one (suc zero) lt never = absurd (never refl)
 not_one (suc (suc b)) lt never = absurd (omega arith)
 
 -- no cell in the first and the last line of blocks
-pub dead_guards : (f : Frame) (rows : List ℕ) (n : ℕ) → 0 < f.words → f.height * f.words ≡ length rows → HasSlack f n (framed f rows)
-    → (x y : ℕ) → x < 64 * f.words → y < f.height → (y < 16) ⊎ (f.height ≤ y + 16) → place rows (y * (64 * f.words) + x) ≡ 0
+pub dead_guards : (f : Frame) (rows : List ℕ) (n : ℕ) → 0 < f.words → f.height * f.words ≡ length rows
+    → HasSlack f n (framed f rows)
+    → (x y : ℕ) → x < 64 * f.words → y < f.height → (y < 16) ⊎ (f.height ≤ y + 16)
+    → place rows (y * (64 * f.words) + x) ≡ 0
 dead_guards f rows n wide size room x y narrow low guard = not_one _ (place-lt rows (y * (64 * f.words) + x)) (λ h.
     let a = room.away (cell_in f.left f.top x y) (place_is_live f rows wide size x y narrow low ∙ h) in
     elim guard [

@@ -1,5 +1,6 @@
 -- Blocks that are written row by row.
-use Rattle.std.proofs.Common.{◌≡◌, ◌⊎◌, ℕ, ◌+◌, ◌*◌, ◌/◌, ◌<◌, ◌≤◌, max, List, length, get_or, bit_or, sym, ap, ◌∙◌, inl, inr, arith}
+use Rattle.std.proofs.Common.{◌≡◌, ◌⊎◌, ℕ, ◌+◌, ◌*◌, ◌/◌, ◌<◌, ◌≤◌, max, List, length, get_or, bit_or, sym, ap, ◌∙◌}
+use Rattle.std.proofs.Common.{inl, inr, arith}
 use Rattle.std.specs.Simd.Lanes.{zip2}
 use Rattle.std.proofs.lemmas.Bool.{cases_lt}
 use Rattle.std.proofs.lemmas.Nat.{mul-le}
@@ -13,16 +14,20 @@ apart i n words lt = omega (arith, mul-le (i + 1) words n words (omega arith) (o
 
 -- what stands beside one row more stays
 pub rest_more : (width : ℕ) (at words n k : ℕ) (old mid new : List ℕ) → k ≡ at + n * words
-    → ((j : ℕ) → IsOutside width at words n j → get_or mid j 0 ≡ get_or old j 0) → ((j : ℕ) → (j < k) ⊎ (k + width ≤ j) → get_or new j 0 ≡ get_or mid j 0)
+    → ((j : ℕ) → IsOutside width at words n j → get_or mid j 0 ≡ get_or old j 0)
+    → ((j : ℕ) → (j < k) ⊎ (k + width ≤ j) → get_or new j 0 ≡ get_or mid j 0)
     → (j : ℕ) → IsOutside width at words (n + 1) j → get_or new j 0 ≡ get_or old j 0
-rest_more width at words n k old mid new is done row j outside = row j (aside (outside n (omega arith))) ∙ done j (λ i lt. outside i (omega arith))
+rest_more width at words n k old mid new is done row j outside =
+    row j (aside (outside n (omega arith))) ∙ done j (λ i lt. outside i (omega arith))
   where
     aside : (j < at + n * words) ⊎ (at + n * words + width ≤ j) → (j < k) ⊎ (k + width ≤ j)
     aside (inl low) = inl (omega (arith, is, low))
     aside (inr high) = inr (omega (arith, is, high))
 
 -- what stands beside the first row stays
-pub rest_first : (width : ℕ) (at words : ℕ) (old new : List ℕ) → ((j : ℕ) → (j < at) ⊎ (at + width ≤ j) → get_or new j 0 ≡ get_or old j 0) → (j : ℕ) → IsOutside width at words 1 j → get_or new j 0 ≡ get_or old j 0
+pub rest_first : (width : ℕ) (at words : ℕ) (old new : List ℕ)
+    → ((j : ℕ) → (j < at) ⊎ (at + width ≤ j) → get_or new j 0 ≡ get_or old j 0) → (j : ℕ) → IsOutside width at words 1 j
+    → get_or new j 0 ≡ get_or old j 0
 rest_first width at words old new row j outside = row j (aside (outside 0 (omega arith)))
   where
     aside : (j < at + 0 * words) ⊎ (at + 0 * words + width ≤ j) → (j < at) ⊎ (at + width ≤ j)
@@ -30,8 +35,10 @@ rest_first width at words old new row j outside = row j (aside (outside 0 (omega
     aside (inr high) = inr (omega (arith, high))
 
 -- one more row is written
-pub block_more : (width : ℕ) (N : ℕ → ℕ) (at words n k : ℕ) (old mid new all changed : List ℕ) → width ≤ words → k ≡ at + n * words → length all ≡ length changed
-    → IsBlockStep width N at words n old mid all → IsRowStep width N k mid new changed → IsBlockStep width N at words (n + 1) old new (zip2 bit_or all changed)
+pub block_more : (width : ℕ) (N : ℕ → ℕ) (at words n k : ℕ) (old mid new all changed : List ℕ)
+    → width ≤ words → k ≡ at + n * words → length all ≡ length changed
+    → IsBlockStep width N at words n old mid all → IsRowStep width N k mid new changed
+    → IsBlockStep width N at words (n + 1) old new (zip2 bit_or all changed)
 block_more width N at words n k old mid new all changed wide is size done row = record {
   long = row.long ∙ done.long;
   next = λ i p lt narrow. elim (cases_lt i n) [
@@ -46,36 +53,49 @@ block_more width N at words n k old mid new all changed wide is size done row = 
         | inr last ↦
             let e = here i p lt last in
             ap (place new) (sym e) ∙ row.same p narrow (omega (arith, both)) ∙ ap (place mid) e
-            ∙ place_word mid old (64 * (at + i * words) + p) (done.rest ((64 * (at + i * words) + p) / 64) (λ m below. let far = apart m i words (omega arith) in inr (omega (arith, far, wide))))
+            ∙ place_word mid old (64 * (at + i * words) + p) (done.rest ((64 * (at + i * words) + p) / 64)
+            (λ m below. let far = apart m i words (omega arith) in inr (omega (arith, far, wide))))
       ];
 }
   where
     here : (i p : ℕ) → i < n + 1 → n ≤ i → 64 * k + p ≡ 64 * (at + i * words) + p
     here i p lt le = let same : i ≡ n = omega arith in omega (arith, is, ap (λ m. m * words) same)
 
-    kept : (i p : ℕ) → i < n → p < 64 * width → place new (64 * (at + i * words) + p) ≡ place mid (64 * (at + i * words) + p)
-    kept i p lt narrow = let far = apart i n words lt in place_word new mid (64 * (at + i * words) + p) (row.rest ((64 * (at + i * words) + p) / 64) (inl (omega (arith, far, wide, is))))
+    kept : (i p : ℕ) → i < n → p < 64 * width
+        → place new (64 * (at + i * words) + p) ≡ place mid (64 * (at + i * words) + p)
+    kept i p lt narrow =
+        let far = apart i n words lt in
+        place_word new mid (64 * (at + i * words) + p)
+        (row.rest ((64 * (at + i * words) + p) / 64) (inl (omega (arith, far, wide, is))))
 
 -- the first row
-pub block_first : (width : ℕ) (N : ℕ → ℕ) (at words : ℕ) (old new changed : List ℕ) → IsRowStep width N at old new changed → IsBlockStep width N at words 1 old new changed
+pub block_first : (width : ℕ) (N : ℕ → ℕ) (at words : ℕ) (old new changed : List ℕ)
+    → IsRowStep width N at old new changed → IsBlockStep width N at words 1 old new changed
 block_first width N at words old new changed row = record {
   long = row.long;
   next = λ i p lt narrow. let e = first i p lt in ap (place new) (sym e) ∙ row.next p narrow ∙ ap N e;
   rest = rest_first width at words old new row.rest;
-  same = λ i p lt narrow blank. let e = first i p lt in ap (place new) (sym e) ∙ row.same p narrow blank ∙ ap (place old) e;
+  same =
+      λ i p lt narrow blank. let e = first i p lt in
+      ap (place new) (sym e) ∙ row.same p narrow blank ∙ ap (place old) e;
 }
   where
     first : (i p : ℕ) → i < 1 → 64 * at + p ≡ 64 * (at + i * words) + p
     first i p lt = let zero : i ≡ 0 = omega arith in omega (arith, ap (λ m. m * words) zero)
 
 -- where a further row did not change, it is what it was at first
-pub block_last : (width : ℕ) (N : ℕ → ℕ) (at words n k : ℕ) (old mid new all changed : List ℕ) → width ≤ words → k ≡ at + n * words
-    → IsBlockStep width N at words n old mid all → IsRowStep width N k mid new changed → (p : ℕ) → p < 64 * width → place changed p ≡ 0 → place new (64 * k + p) ≡ place old (64 * k + p)
+pub block_last : (width : ℕ) (N : ℕ → ℕ) (at words n k : ℕ) (old mid new all changed : List ℕ)
+    → width ≤ words → k ≡ at + n * words
+    → IsBlockStep width N at words n old mid all → IsRowStep width N k mid new changed → (p : ℕ)
+    → p < 64 * width → place changed p ≡ 0 → place new (64 * k + p) ≡ place old (64 * k + p)
 block_last width N at words n k old mid new all changed wide is done row p narrow blank =
-    row.same p narrow blank ∙ place_word mid old (64 * k + p) (done.rest ((64 * k + p) / 64) (λ m below. let far = apart m n words below in inr (omega (arith, far, wide, is))))
+    row.same p narrow blank ∙ place_word mid old (64 * k + p)
+    (done.rest ((64 * k + p) / 64) (λ m below. let far = apart m n words below in inr (omega (arith, far, wide, is))))
 
 -- a further row leaves the first
-pub block_top : (width : ℕ) (N : ℕ → ℕ) (at words n k : ℕ) (mid new changed : List ℕ) → width ≤ words → 1 ≤ n → k ≡ at + n * words → IsRowStep width N k mid new changed → (p : ℕ) → p < 64 * width → place new (64 * at + p) ≡ place mid (64 * at + p)
+pub block_top : (width : ℕ) (N : ℕ → ℕ) (at words n k : ℕ) (mid new changed : List ℕ) → width ≤ words
+    → 1 ≤ n → k ≡ at + n * words → IsRowStep width N k mid new changed → (p : ℕ) → p < 64 * width
+    → place new (64 * at + p) ≡ place mid (64 * at + p)
 block_top width N at words n k mid new changed wide some is row p narrow =
     let far = mul-le 1 words n words some (omega arith) in
     place_word new mid (64 * at + p) (row.rest ((64 * at + p) / 64) (inl (omega (arith, far, wide, is))))

@@ -42,16 +42,28 @@ row_of_place w h p wide lt = elim (cases_lt (p / (64 * w)) h) [
 ]
 
 -- the cells of a frame lie near the origin
-pub cell_near : (f : Frame) (p : ℕ) → IsFrame f → p < 64 * (f.height * f.words) → IsCellWithin 2000000000 (cell_of f.left f.top (64 * f.words) p)
+pub cell_near : (f : Frame) (p : ℕ) → IsFrame f → p < 64 * (f.height * f.words)
+    → IsCellWithin 2000000000 (cell_of f.left f.top (64 * f.words) p)
 cell_near f p h inside =
     let wide : 0 < 64 * f.words = omega (arith, h.wide) in
     let narrow : p % (64 * f.words) < 64 * f.words = omega arith in
     let low = row_of_place f.words f.height p h.wide inside in
-    record { top = omega (arith, ints, h.from_top); bottom = omega (arith, ints, low, h.to_bottom); left = omega (arith, ints, h.from_left); right = omega (arith, ints, narrow, h.to_right) }
+    record {
+      top = omega (arith, ints, h.from_top);
+      bottom = omega (arith, ints, low, h.to_bottom);
+      left = omega (arith, ints, h.from_left);
+      right = omega (arith, ints, narrow, h.to_right);
+    }
 
-pub cell_in_frame : (f : Frame) (p : ℕ) → IsFrame f → p < 64 * (f.height * f.words) → IsCellWithin 1100000000 (cell_of f.left f.top (64 * f.words) p)
+pub cell_in_frame : (f : Frame) (p : ℕ) → IsFrame f → p < 64 * (f.height * f.words)
+    → IsCellWithin 1100000000 (cell_of f.left f.top (64 * f.words) p)
 cell_in_frame f p h inside =
     let wide : 0 < 64 * f.words = omega (arith, h.wide) in
     let narrow : p % (64 * f.words) < 64 * f.words = omega arith in
     let low = row_of_place f.words f.height p h.wide inside in
-    record { top = omega (arith, ints, h.from_top); bottom = omega (arith, ints, low, h.to_bottom); left = omega (arith, ints, h.from_left); right = omega (arith, ints, narrow, h.to_right) }
+    record {
+      top = omega (arith, ints, h.from_top);
+      bottom = omega (arith, ints, low, h.to_bottom);
+      left = omega (arith, ints, h.from_left);
+      right = omega (arith, ints, narrow, h.to_right);
+    }

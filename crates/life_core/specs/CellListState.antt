@@ -18,7 +18,8 @@ mark X q = cond (set.contains X q) 1 0
 pub record AreRowCounts (X : Cells) (ws : List CellCount) : Type 0 where
   pub ascend : IsAscending ws
   pub own : (q : Cell) → own_at ws q ≡ mark X q
-  pub neighbours : (q : Cell) → neighbours_at ws q ≡ mark X (moved_cell (negsuc 0) (pos 0) q) + mark X (moved_cell (pos 1) (pos 0) q)
+  pub neighbours : (q : Cell) → neighbours_at ws q
+      ≡ mark X (moved_cell (negsuc 0) (pos 0) q) + mark X (moved_cell (pos 1) (pos 0) q)
   pub bounded : All (IsBounded PLANE 3) ws
 
 -- counts of X over all neighbours

@@ -1,5 +1,5 @@
--- Blocks of two or of four words by sixteen rows, in rows of words one after the other: place q of the list has its neighbours at q - 1 and q + 1, and
--- in the rows above and below, which are W places before and after.
+-- Blocks of two or of four words by sixteen rows, in rows of words one after the other: place q of the list has its
+-- neighbours at q - 1 and q + 1, and in the rows above and below, which are W places before and after.
 use Rattle.std.specs.Prelude.{◌≡◌, ◌⊎◌, ℕ, ◌+◌, ◌-◌, ◌*◌, ◌<◌, ◌≤◌, List, length, nat_eq, slice_index_or}
 use Rattle.life_core.specs.PackedRow.{place, one_if}
 use Rattle.life_core.specs.Rule.{RuleSets, lives_at}
@@ -12,7 +12,9 @@ use Rattle.life_core.specs.declared.packed.wide_blocks.WideChanges.{WideChanges}
 -- how many of the eight places around place q are set
 abbrev pub flat_count : List ℕ → ℕ → ℕ → ℕ
 flat_count rows W q =
-    (place rows (q - W - 1) + (place rows (q - W) + place rows (q - W + 1))) + ((place rows (q - 1) + place rows (q + 1)) + (place rows (q + W - 1) + (place rows (q + W) + place rows (q + W + 1))))
+    (place rows (q - W - 1) + (place rows (q - W) + place rows (q - W + 1)))
+    + ((place rows (q - 1) + place rows (q + 1))
+    + (place rows (q + W - 1) + (place rows (q + W) + place rows (q + W + 1))))
 
 -- 1 if place q is live next
 abbrev pub flat_next : RuleSets → List ℕ → ℕ → ℕ → ℕ
@@ -21,8 +23,10 @@ flat_next r rows W q = one_if (lives_at r (nat_eq (place rows q) 1) (flat_count 
 -- the sums of the two words from k on
 pub record AreSums (rows : List ℕ) (k : ℕ) (s : RowSums) : Type 0 where
   pub here : (p : ℕ) → p < 128 → place s.here p ≡ place rows (64 * k + p)
-  pub sides : (p : ℕ) → p < 128 → digits_at s.sides s.sides2 p ≡ place rows (64 * k + p - 1) + place rows (64 * k + p + 1)
-  pub all : (p : ℕ) → p < 128 → digits_at s.all s.all2 p ≡ place rows (64 * k + p - 1) + (place rows (64 * k + p) + place rows (64 * k + p + 1))
+  pub sides : (p : ℕ) → p < 128 → digits_at s.sides s.sides2 p
+      ≡ place rows (64 * k + p - 1) + place rows (64 * k + p + 1)
+  pub all : (p : ℕ) → p < 128 → digits_at s.all s.all2 p
+      ≡ place rows (64 * k + p - 1) + (place rows (64 * k + p) + place rows (64 * k + p + 1))
 
 -- the sums of four words of a row, given their left and right neighbours
 pub record AreSumsOf (left middle right : List ℕ) (s : WideSums) : Type 0 where
@@ -33,8 +37,10 @@ pub record AreSumsOf (left middle right : List ℕ) (s : WideSums) : Type 0 wher
 -- the sums of the four words from k on
 pub record AreWideSums (rows : List ℕ) (k : ℕ) (s : WideSums) : Type 0 where
   pub here : (p : ℕ) → p < 256 → place s.here p ≡ place rows (64 * k + p)
-  pub sides : (p : ℕ) → p < 256 → digits_at s.sides s.sides2 p ≡ place rows (64 * k + p - 1) + place rows (64 * k + p + 1)
-  pub all : (p : ℕ) → p < 256 → digits_at s.all s.all2 p ≡ place rows (64 * k + p - 1) + (place rows (64 * k + p) + place rows (64 * k + p + 1))
+  pub sides : (p : ℕ) → p < 256 → digits_at s.sides s.sides2 p
+      ≡ place rows (64 * k + p - 1) + place rows (64 * k + p + 1)
+  pub all : (p : ℕ) → p < 256 → digits_at s.all s.all2 p
+      ≡ place rows (64 * k + p - 1) + (place rows (64 * k + p) + place rows (64 * k + p + 1))
 
 -- the n words from k on were written: their places are those of N, and a place that `changed` lacks is unchanged
 pub record IsRowStep (n : ℕ) (N : ℕ → ℕ) (k : ℕ) (old new changed : List ℕ) : Type 0 where
@@ -52,16 +58,21 @@ pub record IsBlockStep (n : ℕ) (N : ℕ → ℕ) (at words m : ℕ) (old new c
   pub long : length new ≡ length old
   pub next : (i p : ℕ) → i < m → p < 64 * n → place new (64 * (at + i * words) + p) ≡ N (64 * (at + i * words) + p)
   pub rest : (j : ℕ) → IsOutside n at words m j → slice_index_or new j 0 ≡ slice_index_or old j 0
-  pub same : (i p : ℕ) → i < m → p < 64 * n → place changed p ≡ 0 → place new (64 * (at + i * words) + p) ≡ place old (64 * (at + i * words) + p)
+  pub same : (i p : ℕ) → i < m → p < 64 * n → place changed p ≡ 0
+      → place new (64 * (at + i * words) + p) ≡ place old (64 * (at + i * words) + p)
 
--- the block whose first word is `at` was written, and the result says where it changed: anywhere, in its first row, in its last row
+-- the block whose first word is `at` was written, and the result says where it changed: anywhere, in its first row, in
+-- its last row
 pub record IsBlock (N : ℕ → ℕ) (at words : ℕ) (old new : List ℕ) (c : Changes) : Type 0 where
   pub all : IsBlockStep 2 N at words 16 old new c.all
   pub top : (p : ℕ) → p < 128 → place c.top p ≡ 0 → place new (64 * at + p) ≡ place old (64 * at + p)
-  pub bottom : (p : ℕ) → p < 128 → place c.bottom p ≡ 0 → place new (64 * (at + 15 * words) + p) ≡ place old (64 * (at + 15 * words) + p)
+  pub bottom : (p : ℕ) → p < 128 → place c.bottom p ≡ 0
+      → place new (64 * (at + 15 * words) + p) ≡ place old (64 * (at + 15 * words) + p)
 
--- the two neighbouring blocks whose first word is `at` were written, and `c` has a bit for every cell that changed: in any row, in their first row, in their last row
+-- the two neighbouring blocks whose first word is `at` were written, and `c` has a bit for every cell that changed: in
+-- any row, in their first row, in their last row
 pub record IsWideBlock (N : ℕ → ℕ) (at words : ℕ) (old new : List ℕ) (c : WideChanges) : Type 0 where
   pub all : IsBlockStep 4 N at words 16 old new c.all
   pub top : (p : ℕ) → p < 256 → place c.top p ≡ 0 → place new (64 * at + p) ≡ place old (64 * at + p)
-  pub bottom : (p : ℕ) → p < 256 → place c.bottom p ≡ 0 → place new (64 * (at + 15 * words) + p) ≡ place old (64 * (at + 15 * words) + p)
+  pub bottom : (p : ℕ) → p < 256 → place c.bottom p ≡ 0
+      → place new (64 * (at + 15 * words) + p) ≡ place old (64 * (at + 15 * words) + p)

@@ -1,5 +1,6 @@
 -- Rows of packed words in a frame, and the set of cells that they represent.
-use Rattle.std.specs.Prelude.{◌≡◌, ℕ, ◌+◌, ◌*◌, ◌/◌, ◌%◌, ◌<◌, ℤ, pos, negsuc, ◌+ℤ◌, ◌≤ℤ◌, neg_ℤ, Bool, true, false, ◌&&◌, nat_eq, nat_lt, List, map, length}
+use Rattle.std.specs.Prelude.{◌≡◌, ℕ, ◌+◌, ◌*◌, ◌/◌, ◌%◌, ◌<◌, ℤ, pos, negsuc, ◌+ℤ◌, ◌≤ℤ◌, neg_ℤ, Bool, true, false}
+use Rattle.std.specs.Prelude.{◌&&◌, nat_eq, nat_lt, List, map, length}
 use Rattle.std.specs.List.{filter, range_with_len}
 use Rattle.std.specs.FinSet as set
 use Rattle.life_core.specs.declared.cell.Cell.{Cell}
@@ -61,6 +62,7 @@ pub record HasRoom (left top : ℤ) (width height : ℕ) (X : Cells) : Type 0 wh
 
 -- whether the place in column x and row y of the rows is set
 abbrev pub bit_in : ℕ → List ℕ → ℤ → ℤ → Bool
-bit_in width words (pos x) (pos y) = nat_lt x width && (nat_lt (y * width + x) (64 * length words) && nat_eq (place words (y * width + x)) 1)
+bit_in width words (pos x) (pos y) =
+    nat_lt x width && (nat_lt (y * width + x) (64 * length words) && nat_eq (place words (y * width + x)) 1)
 bit_in width words (pos x) (negsuc y) = false
 bit_in width words (negsuc x) y = false

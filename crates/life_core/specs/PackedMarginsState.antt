@@ -12,7 +12,8 @@ pub record IsWhole (f : Frame) : Type 0 where
   pub tall : f.height ≡ 16 * (f.height / 16)
   pub many : 3 ≤ f.height / 16
 
--- a cell lies in the frame, and more than n cells from the edges of the part without the first and the last line of blocks
+-- a cell lies in the frame, and more than n cells from the edges of the part without the first and the last line of
+-- blocks
 pub record IsAway (f : Frame) (n : ℕ) (c : Cell) : Type 0 where
   pub from_left : (f.left +ℤ pos (n + 1)) ≤ℤ c.column
   pub to_right : (c.column +ℤ pos (n + 2)) ≤ℤ (f.left +ℤ pos (64 * f.words))

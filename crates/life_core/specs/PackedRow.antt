@@ -1,5 +1,5 @@
--- Rows of packed words as rows of places: bit i of word j, the lowest bit first, is the place 64 j + i. Which places of a row are live one
--- generation later, with all places outside the three rows dead.
+-- Rows of packed words as rows of places: bit i of word j, the lowest bit first, is the place 64 j + i. Which places of
+-- a row are live one generation later, with all places outside the three rows dead.
 use Rattle.std.specs.Prelude.{ℕ, ◌+◌, ◌-◌, ◌/◌, ◌%◌, List, slice_index_or, cond, nat_lt, nat_eq, Bool, if◌then◌else◌}
 use Rattle.std.specs.Int.{bit_at}
 use Rattle.life_core.specs.Rule.{RuleSets, lives_at}
@@ -19,7 +19,8 @@ place_before ws p = cond (nat_lt 0 p) (place ws (p - 1)) 0
 -- how many of the eight places around place p of the middle row are set
 abbrev pub round_count : List ℕ → List ℕ → List ℕ → ℕ → ℕ
 round_count above here below p =
-    place_before above p + (place above p + (place above (p + 1) + (place_before here p + (place here (p + 1) + (place_before below p + (place below p + place below (p + 1)))))))
+    place_before above p + (place above p + (place above (p + 1)
+    + (place_before here p + (place here (p + 1) + (place_before below p + (place below p + place below (p + 1)))))))
 
 -- 1 if place p of the middle row is live next, with all places outside the three rows dead
 abbrev pub next_place : RuleSets → List ℕ → List ℕ → List ℕ → ℕ → ℕ

@@ -15,11 +15,13 @@ row_cells y ws = map (λ p. cell_at (pos p, y)) (filter (λ p. nat_eq (place ws 
 
 -- the cells of three rows of the plane: the middle one at height 0, one above it and one below
 abbrev pub cells_of_rows : List ℕ → List ℕ → List ℕ → Cells
-cells_of_rows above here below = set.from_list (row_cells (negsuc 0) above ++ (row_cells (pos 0) here ++ row_cells (pos 1) below))
+cells_of_rows above here below =
+    set.from_list (row_cells (negsuc 0) above ++ (row_cells (pos 0) here ++ row_cells (pos 1) below))
 
--- Under a rule without births from nothing, a place of the middle row is live next exactly if its cell is in the set one generation after
--- that of the three rows.
+-- Under a rule without births from nothing, a place of the middle row is live next exactly if its cell is in the set
+-- one generation after that of the three rows.
 abbrev pub PlacesAreNext : Type 0
 PlacesAreNext =
     (r : RuleSets) (above here below : List ℕ) (p : ℕ) → set.contains r.birth 0 ≡ false
-    → next_place r above here below p ≡ one_if (set.contains (next r (cells_of_rows above here below)) (cell_at (pos p, pos 0)))
+    → next_place r above here below p
+    ≡ one_if (set.contains (next r (cells_of_rows above here below)) (cell_at (pos p, pos 0)))

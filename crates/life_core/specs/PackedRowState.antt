@@ -14,5 +14,7 @@ pub record AreStepped (N : ℕ → ℕ) (from to : ℕ) (old new : List ℕ) : T
 -- the sums of the four words from k on, with dead cells outside the row
 pub record AreGroupSums (words : List ℕ) (k : ℕ) (s : WideSums) : Type 0 where
   pub here : (p : ℕ) → p < 256 → place s.here p ≡ place words (64 * k + p)
-  pub sides : (p : ℕ) → p < 256 → digits_at s.sides s.sides2 p ≡ place_before words (64 * k + p) + place words (64 * k + p + 1)
-  pub all : (p : ℕ) → p < 256 → digits_at s.all s.all2 p ≡ place_before words (64 * k + p) + (place words (64 * k + p) + place words (64 * k + p + 1))
+  pub sides : (p : ℕ) → p < 256 → digits_at s.sides s.sides2 p
+      ≡ place_before words (64 * k + p) + place words (64 * k + p + 1)
+  pub all : (p : ℕ) → p < 256 → digits_at s.all s.all2 p
+      ≡ place_before words (64 * k + p) + (place words (64 * k + p) + place words (64 * k + p + 1))

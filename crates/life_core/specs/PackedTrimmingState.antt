@@ -9,4 +9,5 @@ use Rattle.life_core.specs.PackedMarginsState.{IsWider}
 pub record IsNarrower (f : Frame) (rows : List ℕ) (n : Narrower) : Type 0 where
   pub frame : IsFrame n.frame
   pub wider : IsWider n.frame (record { frame = f; left = n.left; top = n.top })
-  pub blank : (y j : ℕ) → y < f.height → j < f.words → ((y < n.top) ⊎ (n.top + n.frame.height ≤ y)) ⊎ ((j < n.left) ⊎ (n.left + n.frame.words ≤ j)) → slice_index_or rows (y * f.words + j) 0 ≡ 0
+  pub blank : (y j : ℕ) → y < f.height → j < f.words → ((y < n.top) ⊎ (n.top + n.frame.height ≤ y))
+      ⊎ ((j < n.left) ⊎ (n.left + n.frame.words ≤ j)) → slice_index_or rows (y * f.words + j) 0 ≡ 0

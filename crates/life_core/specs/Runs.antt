@@ -1,5 +1,7 @@
--- Runs: adjacent cells of a row (as in run-length encoding, LifeWiki, "Run Length Encoded"), and lists of cells as their longest runs.
-use Rattle.std.specs.Prelude.{◌≡◌, ◌⊎◌, ℕ, zero, suc, ◌≤◌, ℤ, pos, neg_ℤ, ◌+ℤ◌, ◌-ℤ◌, ◌≤ℤ◌, ◌<ℤ◌, int_lt, int_le, Bool, ◌&&◌, List, [], ◌∷◌, ◌++◌, ⊤}
+-- Runs: adjacent cells of a row (as in run-length encoding, LifeWiki, "Run Length Encoded"), and lists of cells as
+-- their longest runs.
+use Rattle.std.specs.Prelude.{◌≡◌, ◌⊎◌, ℕ, zero, suc, ◌≤◌, ℤ, pos, neg_ℤ, ◌+ℤ◌, ◌-ℤ◌, ◌≤ℤ◌, ◌<ℤ◌, int_lt, int_le, Bool}
+use Rattle.std.specs.Prelude.{◌&&◌, List, [], ◌∷◌, ◌++◌, ⊤}
 use Rattle.std.specs.List.{flat_map, list_any, AllPairs}
 use Rattle.std.specs.FinSet as set
 use Rattle.std.specs.Ordering.{int_eq, eq_by_cmp}

@@ -1,5 +1,6 @@
 -- The states of lists of runs and of the functions on them.
-use Rattle.std.specs.Prelude.{◌≡◌, ℕ, ◌<◌, ◌+◌, ◌^◌, ℤ, pos, neg_ℤ, ◌+ℤ◌, ◌≤ℤ◌, int_lt, int_le, Bool, ◌||◌, ◌&&◌, List, [], ◌∷◌, ◌++◌, length}
+use Rattle.std.specs.Prelude.{◌≡◌, ℕ, ◌<◌, ◌+◌, ◌^◌, ℤ, pos, neg_ℤ, ◌+ℤ◌, ◌≤ℤ◌, int_lt, int_le, Bool, ◌||◌, ◌&&◌, List}
+use Rattle.std.specs.Prelude.{[], ◌∷◌, ◌++◌, length}
 use Rattle.std.specs.Coded.{Coded, coded_list}
 use Rattle.std.specs.Ordering.{int_eq}
 use Rattle.life_core.specs.declared.cell.Cell.{Cell}
@@ -41,4 +42,6 @@ pub record LastFits (rs : List Run) (n : ℕ) : Type 0 where
 
 -- the last run has grown by this many cells
 abbrev pub IsLonger : List Run → List Run → ℕ → Type 0
-IsLonger old new n = (front : List Run) (last : Run) → old ≡ front ++ last ∷ [] → new ≡ front ++ record { row = last.row; first = last.first; len = last.len + n } ∷ []
+IsLonger old new n =
+    (front : List Run) (last : Run) → old ≡ front ++ last ∷ []
+    → new ≡ front ++ record { row = last.row; first = last.first; len = last.len + n } ∷ []

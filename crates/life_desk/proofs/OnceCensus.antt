@@ -1,5 +1,6 @@
 -- A census that was answered by a number has it in every later archive, and acts once.
-use Rattle.std.proofs.Common.{◌≡◌, ◌&&◌, ℕ, List, Bool, true, false, Option, None, Some, Result, Ok, Err, refl, sym, ◌∙◌, ap, subst, arith, if◌then◌else◌}
+use Rattle.std.proofs.Common.{◌≡◌, ◌&&◌, ℕ, List, Bool, true, false, Option, None, Some, Result, Ok, Err, refl, sym}
+use Rattle.std.proofs.Common.{◌∙◌, ap, subst, arith, if◌then◌else◌}
 use Rattle.std.proofs.lemmas.Grind.{common_steps}
 use Rattle.std.proofs.lemmas.Bool.{and_parts, eqb-true}
 use Rattle.life_store.specs.declared.kept.Deposit.{Deposit}
@@ -13,7 +14,8 @@ use Rattle.life_desk.specs.declared.request.ValidRequest.TheVariants as good
 use Rattle.life_desk.specs.declared.request.Reply.TheVariants as says
 use Rattle.life_desk.specs.Archive.{Archive}
 use Rattle.life_desk.specs.Validation.{is_member, is_token, is_generation, is_limit}
-use Rattle.life_desk.specs.Replies.{is_same_census, has_room, census_of_deposit, census_reply, with_census, IsReply, after, IsReplyBy, after_by}
+use Rattle.life_desk.specs.Replies.{is_same_census, has_room, census_of_deposit, census_reply, with_census, IsReply}
+use Rattle.life_desk.specs.Replies.{after, IsReplyBy, after_by}
 use Rattle.life_desk.specs.Run.{IsLater}
 use Rattle.life_desk.specs.Laws.{CensusesActOnce, CensusesStay}
 use Rattle.life_desk.proofs.Later.{deposit_stays}
@@ -44,7 +46,8 @@ censuses = record {
 
 -- ---- what the archive is after it
 
-one_census : (c stored : Census) → is_census_of c.member c.token stored ≡ true → is_same_census stored c ≡ true → stored ≡ c
+one_census : (c stored : Census) → is_census_of c.member c.token stored ≡ true
+    → is_same_census stored c ≡ true → stored ≡ c
 one_census c stored under same =
     let words = both_are stored.member stored.token c.member c.token under in
     let last = and_parts _ _ same in
@@ -82,9 +85,12 @@ deposit_case A c n (Some d) is x y z h = record {
 
 -- what is validated of a census's own words
 abbrev Words : Census → Bool → Bool → Bool → Result ValidRequest Refusal
-Words c a b w = if a then (if b then (if w then Ok (good.Census c) else Err no.OutOfLimit) else Err no.BadToken) else Err no.BadMember
+Words c a b w =
+    if a then (if b then (if w then Ok (good.Census c) else Err no.OutOfLimit) else Err no.BadToken)
+    else Err no.BadMember
 
-words_case : (A : Archive) (c : Census) (n : ℕ) (a b w : Bool) → is_member c.member ≡ a → is_token c.token ≡ b → (is_generation c.generation && is_limit c.limit) ≡ w
+words_case : (A : Archive) (c : Census) (n : ℕ) (a b w : Bool) → is_member c.member ≡ a → is_token c.token ≡ b
+    → (is_generation c.generation && is_limit c.limit) ≡ w
     → IsReplyBy A (Words c a b w) (says.Counted n) → IsCounted (after_by A (Words c a b w)) c n
 words_case A c n true true true x y z h = deposit_case A c n (numbered A.deposits c.deposit) refl x y z h
 words_case A c n true true false x y z h = absurd cc
@@ -93,12 +99,16 @@ words_case A c n false b w x y z h = absurd cc
 
 -- the census that is asked for
 abbrev pub census_asked : List ℕ → List ℕ → ℕ → ℕ → ℕ → Census
-census_asked member token deposit generation limit = record { member = member; token = token; deposit = deposit; generation = generation; limit = limit }
+census_asked member token deposit generation limit =
+    record { member = member; token = token; deposit = deposit; generation = generation; limit = limit }
 
-pub counted : (A : Archive) (member token : List ℕ) (deposit generation limit n : ℕ) → IsReply A (ask.Census member token deposit generation limit) (says.Counted n)
-    → IsCounted (after A (ask.Census member token deposit generation limit)) (census_asked member token deposit generation limit) n
+pub counted : (A : Archive) (member token : List ℕ) (deposit generation limit n : ℕ)
+    → IsReply A (ask.Census member token deposit generation limit) (says.Counted n)
+    → IsCounted (after A (ask.Census member token deposit generation limit))
+    (census_asked member token deposit generation limit) n
 counted A member token deposit generation limit n h =
-    words_case A (census_asked member token deposit generation limit) n (is_member member) (is_token token) (is_generation generation && is_limit limit) refl refl refl h
+    words_case A (census_asked member token deposit generation limit) n (is_member member)
+    (is_token token) (is_generation generation && is_limit limit) refl refl refl h
 
 -- ---- later
 
@@ -109,24 +119,31 @@ counted_later A B c n later d = record {
   within = d.within;
   deposit = d.deposit;
   there = deposit_stays A B later c.deposit d.deposit d.there;
-  found = subst (λ cs. IsStored censuses cs c n) (sym later.censuses) (stored_longer censuses A.censuses later.new_censuses c n d.found);
+  found =
+      subst (λ cs. IsStored censuses cs c n) (sym later.censuses)
+      (stored_longer censuses A.censuses later.new_censuses c n d.found);
 }
 
 pub censuses_stay_lem : CensusesStay
 censuses_stay_lem A B member token deposit generation limit n h later =
-    let d = counted_later (after A (ask.Census member token deposit generation limit)) B (census_asked member token deposit generation limit) n later (counted A member token deposit generation limit n h) in
+    let d = counted_later (after A (ask.Census member token deposit generation limit)) B (census_asked member
+    token deposit generation limit) n later (counted A member token deposit generation limit n h) in
     let found = found_numbered (is_census_of member token) B.censuses (n, d.found.0) d.found.1 in
     found.1 ∙ ap Some (one_census (census_asked member token deposit generation limit) d.found.0 found.0 d.found.2)
 
 -- it is stored: the number is answered, and nothing changes
-pub by_deposit : (B : Archive) (c : Census) (n : ℕ) (d : Deposit) (o : Option Deposit) → o ≡ Some d → IsStored censuses B.censuses c n
+pub by_deposit : (B : Archive) (c : Census) (n : ℕ) (d : Deposit) (o : Option Deposit) → o ≡ Some d
+    → IsStored censuses B.censuses c n
     → (says.Counted n ≡ census_reply B (census_of_deposit B c o)) × (with_census B (census_of_deposit B c o) ≡ B)
 by_deposit B c n d o is found =
-    subst (λ x. (says.Counted n ≡ census_reply B (census_of_deposit B c x)) × (with_census B (census_of_deposit B c x) ≡ B)) (sym is)
-    (let repeats = stored_repeats censuses (has_room B B.censuses) B.censuses c n found in (repeats.0, ap (λ cs. record B { censuses = cs }) repeats.1))
+    subst (λ x. (says.Counted n ≡ census_reply B (census_of_deposit B c x))
+    × (with_census B (census_of_deposit B c x) ≡ B)) (sym is)
+    (let repeats = stored_repeats censuses (has_room B B.censuses) B.censuses c n found in
+    (repeats.0, ap (λ cs. record B { censuses = cs }) repeats.1))
 
 by_words : (B : Archive) (c : Census) (n : ℕ) (a b w : Bool) → a ≡ true → b ≡ true → w ≡ true
-    → (says.Counted n ≡ census_reply B (census_of_deposit B c (numbered B.deposits c.deposit))) × (with_census B (census_of_deposit B c (numbered B.deposits c.deposit)) ≡ B)
+    → (says.Counted n ≡ census_reply B (census_of_deposit B c (numbered B.deposits c.deposit)))
+    × (with_census B (census_of_deposit B c (numbered B.deposits c.deposit)) ≡ B)
     → IsReplyBy B (Words c a b w) (says.Counted n) × (after_by B (Words c a b w) ≡ B)
 by_words B c n true true true x y z h = h
 by_words B c n true true false x y z h = absurd cc
@@ -136,6 +153,8 @@ by_words B c n false b w x y z h = absurd cc
 pub censuses_act_once_lem : CensusesActOnce
 censuses_act_once_lem A B member token deposit generation limit n h later =
     let c : Census = census_asked member token deposit generation limit in
-    let d = counted_later (after A (ask.Census member token deposit generation limit)) B c n later (counted A member token deposit generation limit n h) in
-    by_words B c n (is_member member) (is_token token) (is_generation generation && is_limit limit) d.member_good d.token_good d.within
+    let d = counted_later (after A (ask.Census member token deposit generation limit)) B c n later
+    (counted A member token deposit generation limit n h) in
+    by_words B c n (is_member member) (is_token token)
+    (is_generation generation && is_limit limit) d.member_good d.token_good d.within
     (by_deposit B c n d.deposit (numbered B.deposits deposit) d.there d.found)

@@ -1,5 +1,6 @@
 -- Each request has one reply, so two runs of the same requests are equal.
-use Rattle.std.proofs.Common.{◌≡◌, ◌≤◌, ◌&&◌, ℕ, List, [], ◌∷◌, Bool, true, false, Result, Ok, Err, refl, sym, ◌∙◌, subst, arith, if◌then◌else◌}
+use Rattle.std.proofs.Common.{◌≡◌, ◌≤◌, ◌&&◌, ℕ, List, [], ◌∷◌, Bool, true, false, Result, Ok, Err, refl, sym, ◌∙◌}
+use Rattle.std.proofs.Common.{subst, arith, if◌then◌else◌}
 use Rattle.std.specs.Prelude.{nat_le}
 use Rattle.std.proofs.lemmas.Bool.{and_parts, leb-true}
 use Rattle.life_code.specs.declared.period.TheConstants.{PERIOD_LIMIT}
@@ -68,23 +69,29 @@ unfolding AreSmall
 there_by A (Ok j) small = there_to A j small
 there_by A (Err refusal) small = (says.Refused refusal, refl)
 
-small_rule : (code : List ℕ) (limit : ℕ) (r : Result RuleSets RuleFault) → limit ≤ PERIOD_LIMIT → AreSmall (validated_rule code limit r)
+small_rule : (code : List ℕ) (limit : ℕ) (r : Result RuleSets RuleFault) → limit ≤ PERIOD_LIMIT
+    → AreSmall (validated_rule code limit r)
 unfolding AreSmall IsSmall
 small_rule code limit (Ok rule) small = small
 small_rule code limit (Err fault) small = tt
 
-small_limit : (rule code : List ℕ) (limit : ℕ) (b : Bool) → is_limit limit ≡ b → AreSmall (if b then validated_rule code limit (read_rule rule) else Err no.OutOfLimit)
+small_limit : (rule code : List ℕ) (limit : ℕ) (b : Bool) → is_limit limit ≡ b
+    → AreSmall (if b then validated_rule code limit (read_rule rule) else Err no.OutOfLimit)
 unfolding AreSmall
-small_limit rule code limit true is = small_rule code limit (read_rule rule) (leb-true limit PERIOD_LIMIT (and_parts (nat_le 1 limit) (nat_le limit PERIOD_LIMIT) is).1)
+small_limit rule code limit true is =
+    small_rule code limit (read_rule rule)
+    (leb-true limit PERIOD_LIMIT (and_parts (nat_le 1 limit) (nat_le limit PERIOD_LIMIT) is).1)
 small_limit rule code limit false is = tt
 
-two : (q : Request) (a b : Bool) (j : ValidRequest) → IsSmall j → AreSmall (if a then (if b then Ok j else Err no.BadToken) else Err no.BadMember)
+two : (q : Request) (a b : Bool) (j : ValidRequest) → IsSmall j
+    → AreSmall (if a then (if b then Ok j else Err no.BadToken) else Err no.BadMember)
 unfolding AreSmall
 two q true true j small = small
 two q true false j small = tt
 two q false b j small = tt
 
-three : (a b c : Bool) (j : ValidRequest) → IsSmall j → AreSmall (if a then (if b then (if c then Ok j else Err no.OutOfLimit) else Err no.BadToken) else Err no.BadMember)
+three : (a b c : Bool) (j : ValidRequest) → IsSmall j → AreSmall
+    (if a then (if b then (if c then Ok j else Err no.OutOfLimit) else Err no.BadToken) else Err no.BadMember)
 unfolding AreSmall
 three true true true j small = small
 three true true false j small = tt
@@ -98,19 +105,23 @@ one false j small = tt
 
 validated_small : (q : Request) → AreSmall (validated q)
 unfolding AreSmall IsSmall
-validated_small (ask.Deposit member token file) = two (ask.Deposit member token file) (is_member member) (is_token token) (good.Deposit member token file) tt
+validated_small (ask.Deposit member token file) =
+    two (ask.Deposit member token file) (is_member member) (is_token token) (good.Deposit member token file) tt
 validated_small (ask.Show id) = tt
 validated_small (ask.ListAfter id) = tt
 validated_small (ask.At id n) = one (is_generation n) (good.At id n) tt
 validated_small (ask.KindOf id limit) = one (is_limit limit) (good.KindOf id limit) tt
 validated_small (ask.Census member token id n limit) =
-    three (is_member member) (is_token token) (is_generation n && is_limit limit) (good.Census (record { member = member; token = token; deposit = id; generation = n; limit = limit })) tt
+    three (is_member member) (is_token token) (is_generation n && is_limit limit)
+    (good.Census (record { member = member; token = token; deposit = id; generation = n; limit = limit })) tt
 validated_small (ask.ShowCensus id) = tt
 validated_small (ask.CensusCsv id) = tt
 validated_small (ask.Total rule code limit) = small_limit rule code limit (is_limit limit) refl
 
 pub one_reply : OneReply
-one_reply A q = let there = there_by A (validated q) (validated_small q) in (there.0, there.1, λ other is. one_by A (validated q) there.0 other there.1 is)
+one_reply A q =
+    let there = there_by A (validated q) (validated_small q) in
+    (there.0, there.1, λ other is. one_by A (validated q) there.0 other there.1 is)
 
 -- ---- two runs are one
 

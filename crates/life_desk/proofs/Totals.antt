@@ -1,5 +1,6 @@
 -- A request for a total has exactly one reply.
-use Rattle.std.proofs.Common.{◌≡◌, ◌≢◌, ◌≤◌, ◌⊎◌, inl, inr, ℕ, List, [], ◌∷◌, ◌++◌, Bool, true, false, ◌==◌, Option, None, Some, refl, sym, ◌∙◌, ap, subst, if◌then◌else◌, true≢false}
+use Rattle.std.proofs.Common.{◌≡◌, ◌≢◌, ◌≤◌, ◌⊎◌, inl, inr, ℕ, List, [], ◌∷◌, ◌++◌, Bool, true, false, ◌==◌, Option}
+use Rattle.std.proofs.Common.{None, Some, refl, sym, ◌∙◌, ap, subst, if◌then◌else◌, true≢false}
 use Rattle.std.specs.Str.{bytes_eq}
 use Rattle.std.proofs.lemmas.Bool.{eqb-true}
 use Rattle.std.proofs.lemmas.Slice.Eq.{bytes_eq-Decides}
@@ -24,24 +25,28 @@ behind : List ℕ → List ℕ
 behind [] = []
 behind (c ∷ cs) = if c == 95 then cs else behind cs
 
-behind_other : (c : ℕ) (cs : List ℕ) (b : Bool) → (c == 95) ≡ b → (c ≡ 95 → ⊥) → (if b then cs else behind cs) ≡ behind cs
+behind_other : (c : ℕ) (cs : List ℕ) (b : Bool) → (c == 95) ≡ b → (c ≡ 95 → ⊥)
+    → (if b then cs else behind cs) ≡ behind cs
 behind_other c cs true is other = absurd (other (eqb-true c 95 is))
 behind_other c cs false is other = refl
 
 behind_front : (front back : List ℕ) → NoMark front → behind (front ++ 95 ∷ back) ≡ back
 unfolding behind
 behind_front [] back none = refl
-behind_front (c ∷ front) back none = behind_other c (front ++ 95 ∷ back) (c == 95) refl none.0 ∙ behind_front front back none.1
+behind_front (c ∷ front) back none =
+    behind_other c (front ++ 95 ∷ back) (c == 95) refl none.0 ∙ behind_front front back none.1
 
 -- the one set that can have the code
 spelled : List ℕ → Cells
 spelled text = decoded (behind text)
 
-has_spelled : (rule : RuleSets) (text : List ℕ) (limit : ℕ) (X : Cells) → limit ≤ 999999 → code_of rule X limit ≡ Some text → code_of rule (spelled text) limit ≡ Some text
+has_spelled : (rule : RuleSets) (text : List ℕ) (limit : ℕ) (X : Cells) → limit ≤ 999999
+    → code_of rule X limit ≡ Some text → code_of rule (spelled text) limit ≡ Some text
 unfolding spelled
 has_spelled rule text limit X small is =
     let s = codes_spell rule X limit text small is in
-    let back : behind text ≡ s.1.back = ap behind s.1.parts ∙ behind_front s.1.front s.1.back (front_unmarked s.1.front s.1.is_front) in
+    let back : behind text ≡ s.1.back = ap behind s.1.parts
+    ∙ behind_front s.1.front s.1.back (front_unmarked s.1.front s.1.is_front) in
     let same : decoded (behind text) ≡ s.0 = ap decoded back ∙ decoded_is s.1.back s.0 s.1.is_wechsler in
     ap (λ Y. code_of rule Y limit) same ∙ s.2
 
@@ -54,17 +59,22 @@ tells (Some t) text =
       | false ↦ λ is. inr (λ e. let same : t ≡ text = cc in true≢false (sym ((bytes_eq-Decides t text).1 same) ∙ is))
     ] refl
 
-total_case : (A : Archive) (rule : RuleSets) (text : List ℕ) (limit : ℕ) → limit ≤ 999999 → (code_of rule (spelled text) limit ≡ Some text) ⊎ (code_of rule (spelled text) limit ≢ Some text)
+total_case : (A : Archive) (rule : RuleSets) (text : List ℕ) (limit : ℕ) → limit ≤ 999999
+    → (code_of rule (spelled text) limit ≡ Some text) ⊎ (code_of rule (spelled text) limit ≢ Some text)
     → (r : Reply) × IsTotal A rule text limit r
 total_case A rule text limit small (inl has) = (says.Total (clusters_with A rule text), (spelled text, has, refl))
-total_case A rule text limit small (inr none) = (says.Refused no.BadCode, λ X is. none (has_spelled rule text limit X small is))
+total_case A rule text limit small (inr none) =
+    (says.Refused no.BadCode, λ X is. none (has_spelled rule text limit X small is))
 
-pub total_there : (A : Archive) (rule : RuleSets) (text : List ℕ) (limit : ℕ) → limit ≤ 999999 → (r : Reply) × IsTotal A rule text limit r
-total_there A rule text limit small = total_case A rule text limit small (tells (code_of rule (spelled text) limit) text)
+pub total_there : (A : Archive) (rule : RuleSets) (text : List ℕ) (limit : ℕ) → limit ≤ 999999
+    → (r : Reply) × IsTotal A rule text limit r
+total_there A rule text limit small =
+    total_case A rule text limit small (tells (code_of rule (spelled text) limit) text)
 
 -- ---- no two
 
-with_refusal : (A : Archive) (rule : RuleSets) (text : List ℕ) (limit n : ℕ) (refusal : Refusal) → IsTotal A rule text limit (says.Total n) → IsTotal A rule text limit (says.Refused refusal) → ⊥
+with_refusal : (A : Archive) (rule : RuleSets) (text : List ℕ) (limit n : ℕ) (refusal : Refusal)
+    → IsTotal A rule text limit (says.Total n) → IsTotal A rule text limit (says.Refused refusal) → ⊥
 with_refusal A rule text limit n no.BadCode one other = other one.0 one.1
 with_refusal A rule text limit n no.NoSuchDeposit one other = other
 with_refusal A rule text limit n no.NoSuchCensus one other = other
@@ -78,7 +88,8 @@ with_refusal A rule text limit n no.Full one other = other
 with_refusal A rule text limit n no.Unavailable one other = other
 
 -- a refusal of a total is that of the code
-refusal_is : (A : Archive) (rule : RuleSets) (text : List ℕ) (limit : ℕ) (refusal : Refusal) → IsTotal A rule text limit (says.Refused refusal) → refusal ≡ no.BadCode
+refusal_is : (A : Archive) (rule : RuleSets) (text : List ℕ) (limit : ℕ) (refusal : Refusal)
+    → IsTotal A rule text limit (says.Refused refusal) → refusal ≡ no.BadCode
 refusal_is A rule text limit no.BadCode is = refl
 refusal_is A rule text limit no.NoSuchDeposit is = absurd is
 refusal_is A rule text limit no.NoSuchCensus is = absurd is
@@ -104,17 +115,23 @@ total_kind A rule text limit (says.Counted n) is = absurd is
 total_kind A rule text limit (says.Shown shown) is = absurd is
 total_kind A rule text limit (says.Csv bytes) is = absurd is
 
-pub total_one : (A : Archive) (rule : RuleSets) (text : List ℕ) (limit : ℕ) (r s : Reply) → IsTotal A rule text limit r → IsTotal A rule text limit s → s ≡ r
-total_one A rule text limit r s one other = by (total_kind A rule text limit r one) (total_kind A rule text limit s other)
+pub total_one : (A : Archive) (rule : RuleSets) (text : List ℕ) (limit : ℕ) (r s : Reply) → IsTotal A rule text limit r
+    → IsTotal A rule text limit s → s ≡ r
+total_one A rule text limit r s one other =
+    by (total_kind A rule text limit r one) (total_kind A rule text limit s other)
   where
-    by : ((n : ℕ) × (r ≡ says.Total n)) ⊎ ((refusal : Refusal) × (r ≡ says.Refused refusal)) → ((n : ℕ) × (s ≡ says.Total n)) ⊎ ((refusal : Refusal) × (s ≡ says.Refused refusal)) → s ≡ r
+    by : ((n : ℕ) × (r ≡ says.Total n)) ⊎ ((refusal : Refusal) × (r ≡ says.Refused refusal))
+        → ((n : ℕ) × (s ≡ says.Total n)) ⊎ ((refusal : Refusal) × (s ≡ says.Refused refusal)) → s ≡ r
     by (inl a) (inl b) =
         let x : IsTotal A rule text limit (says.Total a.0) = subst (λ y. IsTotal A rule text limit y) a.1 one in
         let z : IsTotal A rule text limit (says.Total b.0) = subst (λ y. IsTotal A rule text limit y) b.1 other in
         b.1 ∙ ap says.Total (z.2 ∙ sym x.2) ∙ sym a.1
     by (inl a) (inr b) =
-        absurd (with_refusal A rule text limit a.0 b.0 (subst (λ y. IsTotal A rule text limit y) a.1 one) (subst (λ y. IsTotal A rule text limit y) b.1 other))
+        absurd (with_refusal A rule text limit a.0 b.0 (subst (λ y. IsTotal A rule text limit y) a.1 one)
+        (subst (λ y. IsTotal A rule text limit y) b.1 other))
     by (inr a) (inl b) =
-        absurd (with_refusal A rule text limit b.0 a.0 (subst (λ y. IsTotal A rule text limit y) b.1 other) (subst (λ y. IsTotal A rule text limit y) a.1 one))
+        absurd (with_refusal A rule text limit b.0 a.0 (subst (λ y. IsTotal A rule text limit y) b.1 other)
+        (subst (λ y. IsTotal A rule text limit y) a.1 one))
     by (inr a) (inr b) =
-        b.1 ∙ ap says.Refused (refusal_is A rule text limit b.0 (subst (λ y. IsTotal A rule text limit y) b.1 other) ∙ sym (refusal_is A rule text limit a.0 (subst (λ y. IsTotal A rule text limit y) a.1 one))) ∙ sym a.1
+        b.1 ∙ ap says.Refused (refusal_is A rule text limit b.0 (subst (λ y. IsTotal A rule text limit y) b.1 other)
+        ∙ sym (refusal_is A rule text limit a.0 (subst (λ y. IsTotal A rule text limit y) a.1 one))) ∙ sym a.1

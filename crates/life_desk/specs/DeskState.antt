@@ -15,28 +15,35 @@ use Rattle.life_desk.specs.Replies.{acknowledges}
 
 -- what a call leaves, if the database is healthy after it and the tables represented an archive:
 -- this reply and this archive, or Err and the same archive
-abbrev pub Acts : {S : Type 0} → ArchiveView S → ArchiveView S → Result Reply Unavailable → (Archive → Reply → Type 0) → (Archive → Archive) → Type 0
+abbrev pub Acts : {S : Type 0} → ArchiveView S → ArchiveView S → Result Reply Unavailable → (Archive → Reply → Type 0)
+    → (Archive → Archive) → Type 0
 Acts old new result gives leaves =
-    (A : Archive) → IsTrue new.tables.is_healthy → Represents old A → MatchResult result (λ r. gives A r × Represents new (leaves A)) (λ _. Represents new A)
+    (A : Archive) → IsTrue new.tables.is_healthy → Represents old A
+    → MatchResult result (λ r. gives A r × Represents new (leaves A)) (λ _. Represents new A)
 
 -- the same, if this holds of the archive
-abbrev pub ActsIf : {S : Type 0} → ArchiveView S → ArchiveView S → Result Reply Unavailable → (Archive → Type 0) → (Archive → Reply → Type 0) → (Archive → Archive) → Type 0
+abbrev pub ActsIf : {S : Type 0} → ArchiveView S → ArchiveView S → Result Reply Unavailable
+    → (Archive → Type 0) → (Archive → Reply → Type 0) → (Archive → Archive) → Type 0
 ActsIf old new result where_this gives leaves =
-    (A : Archive) → IsTrue new.tables.is_healthy → Represents old A → where_this A → MatchResult result (λ r. gives A r × Represents new (leaves A)) (λ _. Represents new A)
+    (A : Archive) → IsTrue new.tables.is_healthy → Represents old A → where_this A
+    → MatchResult result (λ r. gives A r × Represents new (leaves A)) (λ _. Represents new A)
 
 -- the reply is the one that each archive gives, and each stays unchanged
 abbrev pub IsGivenByAll : (Archive → Reply → Type 0) → (Archive → Archive) → Reply → Type 0
 IsGivenByAll gives leaves r = (A : Archive) → gives A r × (leaves A ≡ A)
 
 -- the answer came from a database that is healthy unless its disk has lied, or does not depend on what is stored
-abbrev pub SpeaksIfHealthy : {S : Type 0} → Ghosts S → ArchiveView S → Result Reply Unavailable → (Archive → Reply → Type 0) → (Archive → Archive) → Type 0
+abbrev pub SpeaksIfHealthy : {S : Type 0} → Ghosts S → ArchiveView S → Result Reply Unavailable
+    → (Archive → Reply → Type 0) → (Archive → Archive) → Type 0
 SpeaksIfHealthy g new result gives leaves = IfOk result (λ r. IsHealthyIfClean g new ⊎ IsGivenByAll gives leaves r)
 
 -- ---- what a crash may leave of such a call
 
--- the database was healthy, and if this holds of an archive that its tables represented, the trees represent what the change makes of it
+-- the database was healthy, and if this holds of an archive that its tables represented, the trees represent what the
+-- change makes of it
 abbrev pub RepresentChangedIf : {S : Type 0} → ArchiveView S → (Archive → Type 0) → (Archive → Archive) → Left → Type 0
-RepresentChangedIf old where_this change found = IsTrue old.tables.is_healthy × ((A : Archive) → Represents old A → where_this A → LeftRepresents found (change A))
+RepresentChangedIf old where_this change found =
+    IsTrue old.tables.is_healthy × ((A : Archive) → Represents old A → where_this A → LeftRepresents found (change A))
 
 -- the same for every archive
 abbrev pub RepresentChanged : {S : Type 0} → ArchiveView S → (Archive → Archive) → Left → Type 0
@@ -55,8 +62,10 @@ reused_reply (Some d) = says.Refused no.TokenReused
 
 -- ---- calls that only show something
 
--- A crash leaves what it might have left before, the database that answers is healthy unless its disk has lied, and the reply is this one, while the archive stays.
-pub record OnlyShows {S : Type 0} (g : Ghosts S) (old new : ArchiveView S) (result : Result Reply Unavailable) (gives : Archive → Reply → Type 0) : Type 0 where
+-- A crash leaves what it might have left before, the database that answers is healthy unless its disk has lied, and the
+-- reply is this one, while the archive stays.
+pub record OnlyShows {S : Type 0} (g : Ghosts S) (old new : ArchiveView S) (result : Result Reply Unavailable)
+    (gives : Archive → Reply → Type 0) : Type 0 where
   pub transition : IsTransition g NoMore old new
   pub promised : Promises g new result
   pub healthy : OnOk result (IsHealthyIfClean g new)

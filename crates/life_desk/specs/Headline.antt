@@ -1,5 +1,6 @@
 -- The headline of the archive: what the replies of a run say about sets of live cells.
-use Rattle.std.specs.Prelude.{◌≡◌, ◌↔◌, ◌+◌, ◌≤◌, ◌⊎◌, ℕ, List, Option, Some, Ok, IsTrue, length, sum_by, count_by, is_none}
+use Rattle.std.specs.Prelude.{◌≡◌, ◌↔◌, ◌+◌, ◌≤◌, ◌⊎◌, ℕ, List, Option, Some, Ok, IsTrue, length, sum_by, count_by}
+use Rattle.std.specs.Prelude.{is_none}
 use Rattle.std.specs.List.{Contains, filter_map}
 use Rattle.sqlite_trees.specs.declared.store.Store.{Ghosts}
 use Rattle.life_core.specs.Rule.{RuleSets}
@@ -30,56 +31,71 @@ use Rattle.life_desk.specs.Archive.{Archive, clusters_with}
 use Rattle.life_desk.specs.Represents.{IsRepresentable, Represents}
 use Rattle.life_desk.specs.Run.{RequestRun, IsAnswered, IsLater}
 
--- The tally counts every cluster of X once, under its code or as unresolved. The clusters are `clusters_of X`. By the laws `OneClusterEach` and
--- `OneListOfClusters` of life_census, each live cell is in exactly one of them, and there is no other such list. A row says how many have its
--- code; the rows and the unresolved clusters add up to the total.
+-- The tally counts every cluster of X once, under its code or as unresolved. The clusters are `clusters_of X`. By the
+-- laws `OneClusterEach` and `OneListOfClusters` of life_census, each live cell is in exactly one of them, and there is
+-- no other such list. A row says how many have its code; the rows and the unresolved clusters add up to the total.
 pub record CountsEachOnce (rule : RuleSets) (X : Cells) (limit : ℕ) (tally : TallyCounts) : Type 0 where
-  pub rows : (code : List ℕ) (n : ℕ) → Contains tally.rows (code, n) ↔ ((n ≡ how_often code (filter_map (λ P. code_of rule P limit) (clusters_of X))) × (1 ≤ n))
+  pub rows : (code : List ℕ) (n : ℕ) → Contains tally.rows (code, n)
+      ↔ ((n ≡ how_often code (filter_map (λ P. code_of rule P limit) (clusters_of X))) × (1 ≤ n))
   pub unresolved : tally.unresolved ≡ count_by (λ P. is_none (code_of rule P limit)) (clusters_of X)
   pub total : tally.total ≡ length (clusters_of X)
   pub adds_up : sum_by (λ (row : List ℕ × ℕ). row.1) tally.rows + tally.unresolved ≡ tally.total
 
--- The census of the number is shown: its deposit, generation and limit, its tally, and whether what was counted is steady, that is, whether
--- its clusters are still lifes and oscillators that never meet.
+-- The census of the number is shown: its deposit, generation and limit, its tally, and whether what was counted is
+-- steady, that is, whether its clusters are still lifes and oscillators that never meet.
 pub record ShowsCensus (B : Archive) (id : ℕ) (shown : Shown) : Type 0 where
   pub census : Census
   pub deposit : Deposit
   pub stored : numbered B.censuses id ≡ Some census
   pub counted : numbered B.deposits census.deposit ≡ Some deposit
-  pub numbers : (shown.census ≡ id) × (shown.deposit ≡ census.deposit) × (shown.generation ≡ census.generation) × (shown.limit ≡ census.limit)
-  pub tally : CountsEachOnce deposit.content.rule (generation_of deposit.content.rule deposit.content.cells census.generation) census.limit shown.tally
-  pub steady : IsTrue shown.steady ↔ IsSteady deposit.content.rule (generation_of deposit.content.rule deposit.content.cells census.generation) census.limit
+  pub numbers : (shown.census ≡ id) × (shown.deposit ≡ census.deposit) × (shown.generation ≡ census.generation)
+      × (shown.limit ≡ census.limit)
+  pub tally : CountsEachOnce deposit.content.rule
+      (generation_of deposit.content.rule deposit.content.cells census.generation) census.limit shown.tally
+  pub steady : IsTrue shown.steady ↔ IsSteady deposit.content.rule
+      (generation_of deposit.content.rule deposit.content.cells census.generation) census.limit
 
 -- What the replies of a run from A to B say. The numbers of deposits and censuses are those in B.
 pub record Headline (A : Archive) (qs : List Request) (rs : List Reply) (B : Archive) : Type 0 where
   -- nothing that A has is lost or changed
   pub later : IsLater A B
   -- the number of a deposit names what was deposited
-  pub deposited : (member token file : List ℕ) (n : ℕ) → IsAnswered qs rs (ask.Deposit member token file) (says.Deposited n)
-      → (content : Contents) × (files.file file ≡ Ok content) × (numbered B.deposits n ≡ Some (record { member = member; token = token; content = content }))
+  pub deposited : (member token file : List ℕ) (n : ℕ)
+      → IsAnswered qs rs (ask.Deposit member token file) (says.Deposited n)
+      → (content : Contents) × (files.file file ≡ Ok content)
+      × (numbered B.deposits n ≡ Some (record { member = member; token = token; content = content }))
   -- the file that is shown is the text of what was deposited
   pub shows : (id : ℕ) (bytes : List ℕ) → IsAnswered qs rs (ask.Show id) (says.File bytes)
       → (d : Deposit) × (numbered B.deposits id ≡ Some d) × (bytes ≡ writer.text d.content)
   -- generation n is the rule applied n times
   pub generations : (id n : ℕ) (bytes : List ℕ) → IsAnswered qs rs (ask.At id n) (says.File bytes)
-      → (d : Deposit) × (numbered B.deposits id ≡ Some d) × (bytes ≡ writer.text (plain d.content.rule (generation_of d.content.rule d.content.cells n)))
+      → (d : Deposit) × (numbered B.deposits id ≡ Some d)
+      × (bytes ≡ writer.text (plain d.content.rule (generation_of d.content.rule d.content.cells n)))
   -- the kind and the code are those of the deposit's pattern
-  pub kinds : (id limit : ℕ) (k : Kind) (code : Option (List ℕ)) → IsAnswered qs rs (ask.KindOf id limit) (says.Kinded k code)
-      → (d : Deposit) × (numbered B.deposits id ≡ Some d) × (k ≡ kind_of d.content.rule d.content.cells limit) × (code ≡ code_of d.content.rule d.content.cells limit)
-  -- two coded patterns of one rule share a code exactly if a translation, rotation or reflection takes one to a phase of the other
+  pub kinds : (id limit : ℕ) (k : Kind) (code : Option (List ℕ))
+      → IsAnswered qs rs (ask.KindOf id limit) (says.Kinded k code)
+      → (d : Deposit) × (numbered B.deposits id ≡ Some d) × (k ≡ kind_of d.content.rule d.content.cells limit)
+      × (code ≡ code_of d.content.rule d.content.cells limit)
+  -- two coded patterns of one rule share a code exactly if a translation, rotation or reflection takes one to a phase
+  -- of the other
   pub codes : (i j limit other : ℕ) (k l : Kind) (s t : List ℕ) (d e : Deposit)
-      → IsAnswered qs rs (ask.KindOf i limit) (says.Kinded k (Some s)) → IsAnswered qs rs (ask.KindOf j other) (says.Kinded l (Some t))
+      → IsAnswered qs rs (ask.KindOf i limit) (says.Kinded k (Some s))
+      → IsAnswered qs rs (ask.KindOf j other) (says.Kinded l (Some t))
       → numbered B.deposits i ≡ Some d → numbered B.deposits j ≡ Some e → d.content.rule ≡ e.content.rule
       → (s ≡ t) ↔ Same d.content.rule d.content.cells e.content.cells
   -- a census counts every cluster once, under its code or as unresolved
-  pub censuses : (id : ℕ) (shown : Shown) → IsAnswered qs rs (ask.ShowCensus id) (says.Shown shown) → ShowsCensus B id shown
+  pub censuses : (id : ℕ) (shown : Shown) → IsAnswered qs rs (ask.ShowCensus id) (says.Shown shown)
+      → ShowsCensus B id shown
   -- a total is how many clusters have the code in all censuses at that moment, of deposits with the rule
   pub totals : (text code : List ℕ) (limit n : ℕ) → IsAnswered qs rs (ask.Total text code limit) (says.Total n)
-      → (rule : RuleSets) × (M : Archive) × (read_rule text ≡ Ok rule) × IsLater A M × IsLater M B × (n ≡ clusters_with M rule code)
+      → (rule : RuleSets) × (M : Archive) × (read_rule text ≡ Ok rule) × IsLater A M × IsLater M B
+      × (n ≡ clusters_with M rule code)
 
 -- The headline holds for every run from an archive that tables can represent.
 abbrev pub HeadlineHolds : Type 0
-HeadlineHolds = (A B : Archive) (qs : List Request) (rs : List Reply) → IsRepresentable A → RequestRun A qs rs B → Headline A qs rs B
+HeadlineHolds =
+    (A B : Archive) (qs : List Request) (rs : List Reply) → IsRepresentable A → RequestRun A qs rs B
+    → Headline A qs rs B
 
 -- A run took A to an archive that the tables represent, and the headline holds for these replies.
 abbrev pub IsTakenByRun : {S : Type 0} → Archive → ArchiveView S → List Request → List Reply → Type 0
@@ -93,11 +109,14 @@ IsTheArchive old new qs rs = (A : Archive) → IsTrue new.tables.is_healthy → 
 abbrev pub AreOfARun : Archive → List Request → List Reply → Type 0
 AreOfARun A qs rs = (B : Archive) × RequestRun A qs rs B × Headline A qs rs B
 
--- If the database is healthy at the start, it is healthy at the end, and a run began at A; or the disk failed during the call. In that case too the replies
--- are those of a run, unless the disk did not return what was written; the clause on crashes says which archive is left.
-abbrev pub IsTheArchiveOrFaults : {S : Type 0} → Ghosts S → ArchiveView S → ArchiveView S → List Request → List Reply → Type 0
+-- If the database is healthy at the start, it is healthy at the end, and a run began at A; or the disk failed during
+-- the call. In that case too the replies are those of a run, unless the disk did not return what was written; the
+-- clause on crashes says which archive is left.
+abbrev pub IsTheArchiveOrFaults : {S : Type 0} → Ghosts S → ArchiveView S → ArchiveView S → List Request
+    → List Reply → Type 0
 IsTheArchiveOrFaults g old new qs rs = (A : Archive) → IsTrue old.tables.is_healthy → Represents old A
-    → (IsTrue new.tables.is_healthy × IsTakenByRun A new qs rs) ⊎ (HasFailed old.tables new.tables × (IsHonest g new → AreOfARun A qs rs))
+    → (IsTrue new.tables.is_healthy × IsTakenByRun A new qs rs)
+    ⊎ (HasFailed old.tables new.tables × (IsHonest g new → AreOfARun A qs rs))
 
 -- If the database is in memory, this holds without a premise.
 abbrev pub IsTheArchiveInMemory : {S : Type 0} → ArchiveView S → ArchiveView S → List Request → List Reply → Type 0

@@ -1,5 +1,5 @@
--- What makes the definitions of the archive believable: one reply to each request, numbers that stay, repeats that act once, flags
--- that say what is steady.
+-- What makes the definitions of the archive believable: one reply to each request, numbers that stay, repeats that act
+-- once, flags that say what is steady.
 use Rattle.std.specs.Prelude.{◌≡◌, ◌≢◌, ◌↔◌, true, ℕ, List, Ok, Some, IsTrue, bytes_eq}
 use Rattle.std.specs.List.{AllByRecursion}
 use Rattle.life_core.specs.Generations.{generation_of}
@@ -26,7 +26,8 @@ FilesAreReadAgain = (bytes : List ℕ) (r : Contents) → files.file bytes ≡ O
 
 -- .. and the texts of such records are equal exactly if the records are.
 abbrev pub EqualTexts : Type 0
-EqualTexts = (a b : Contents) → IsReadAgain a → IsReadAgain b → (bytes_eq (writer.text a) (writer.text b) ≡ true) ↔ (a ≡ b)
+EqualTexts =
+    (a b : Contents) → IsReadAgain a → IsReadAgain b → (bytes_eq (writer.text a) (writer.text b) ≡ true) ↔ (a ≡ b)
 
 -- Each request has one reply: something is its reply, and nothing else is.
 abbrev pub OneReply : Type 0
@@ -36,34 +37,49 @@ OneReply = (A : Archive) (q : Request) → (r : Reply) × IsReply A q r × ((oth
 abbrev pub NothingIsLost : Type 0
 NothingIsLost = (A B : Archive) (qs : List Request) (rs : List Reply) → RequestRun A qs rs B → IsLater A B
 
--- The number that answers a deposit names it, then and in every later archive: the member, the token, and the record of the file.
+-- The number that answers a deposit names it, then and in every later archive: the member, the token, and the record of
+-- the file.
 abbrev pub DepositsStay : Type 0
-DepositsStay = (A B : Archive) (member token file : List ℕ) (n : ℕ) → EachIsReadAgain A.deposits → IsReply A (ask.Deposit member token file) (says.Deposited n) → IsLater (after A (ask.Deposit member token file)) B
-    → (content : Contents) × (files.file file ≡ Ok content) × (numbered B.deposits n ≡ Some (record { member = member; token = token; content = content }))
+DepositsStay =
+    (A B : Archive) (member token file : List ℕ) (n : ℕ) → EachIsReadAgain A.deposits
+    → IsReply A (ask.Deposit member token file) (says.Deposited n) → IsLater (after A (ask.Deposit member token file)) B
+    → (content : Contents) × (files.file file ≡ Ok content)
+    × (numbered B.deposits n ≡ Some (record { member = member; token = token; content = content }))
 
 -- The same of a census.
 abbrev pub CensusesStay : Type 0
-CensusesStay = (A B : Archive) (member token : List ℕ) (deposit generation limit n : ℕ) → IsReply A (ask.Census member token deposit generation limit) (says.Counted n)
+CensusesStay =
+    (A B : Archive) (member token : List ℕ) (deposit generation limit n : ℕ)
+    → IsReply A (ask.Census member token deposit generation limit) (says.Counted n)
     → IsLater (after A (ask.Census member token deposit generation limit)) B
-    → numbered B.censuses n ≡ Some (record { member = member; token = token; deposit = deposit; generation = generation; limit = limit })
+    → numbered B.censuses n ≡ Some
+    (record { member = member; token = token; deposit = deposit; generation = generation; limit = limit })
 
--- If a deposit was answered with a number, and is sent again, then or later, with a file of the same content, the answer is that
--- number, and nothing changes.
+-- If a deposit was answered with a number, and is sent again, then or later, with a file of the same content, the
+-- answer is that number, and nothing changes.
 abbrev pub DepositsActOnce : Type 0
-DepositsActOnce = (A B : Archive) (member token file again : List ℕ) (n : ℕ) → IsReply A (ask.Deposit member token file) (says.Deposited n)
+DepositsActOnce =
+    (A B : Archive) (member token file again : List ℕ) (n : ℕ)
+    → IsReply A (ask.Deposit member token file) (says.Deposited n)
     → IsLater (after A (ask.Deposit member token file)) B → files.file again ≡ files.file file
     → IsReply B (ask.Deposit member token again) (says.Deposited n) × (after B (ask.Deposit member token again) ≡ B)
 
 -- The same of a census.
 abbrev pub CensusesActOnce : Type 0
-CensusesActOnce = (A B : Archive) (member token : List ℕ) (deposit generation limit n : ℕ) → IsReply A (ask.Census member token deposit generation limit) (says.Counted n)
+CensusesActOnce =
+    (A B : Archive) (member token : List ℕ) (deposit generation limit n : ℕ)
+    → IsReply A (ask.Census member token deposit generation limit) (says.Counted n)
     → IsLater (after A (ask.Census member token deposit generation limit)) B
-    → IsReply B (ask.Census member token deposit generation limit) (says.Counted n) × (after B (ask.Census member token deposit generation limit) ≡ B)
+    → IsReply B (ask.Census member token deposit generation limit) (says.Counted n)
+    × (after B (ask.Census member token deposit generation limit) ≡ B)
 
 -- The flag that a census is shown with is true exactly if its generation of its deposit is steady under its limit.
 abbrev pub FlagTellsSteady : Type 0
-FlagTellsSteady = (A : Archive) (id : ℕ) (shown : Shown) (d : Deposit) → IsReply A (ask.ShowCensus id) (says.Shown shown) → numbered A.deposits shown.deposit ≡ Some d
-    → IsTrue shown.steady ↔ IsSteady d.content.rule (generation_of d.content.rule d.content.cells shown.generation) shown.limit
+FlagTellsSteady =
+    (A : Archive) (id : ℕ) (shown : Shown) (d : Deposit) → IsReply A (ask.ShowCensus id) (says.Shown shown)
+    → numbered A.deposits shown.deposit ≡ Some d
+    → IsTrue shown.steady ↔ IsSteady d.content.rule
+    (generation_of d.content.rule d.content.cells shown.generation) shown.limit
 
 -- nothing was answered unavailable
 abbrev pub AllAnswered : List Reply → Type 0
@@ -71,4 +87,6 @@ AllAnswered rs = AllByRecursion (λ r. r ≢ says.Refused no.Unavailable) rs
 
 -- Two runs of the same requests from the same archive, in which nothing was answered unavailable, are equal.
 abbrev pub SameReplies : Type 0
-SameReplies = (A B C : Archive) (qs : List Request) (rs ss : List Reply) → RequestRun A qs rs B → RequestRun A qs ss C → AllAnswered rs → AllAnswered ss → (rs ≡ ss) × (B ≡ C)
+SameReplies =
+    (A B C : Archive) (qs : List Request) (rs ss : List Reply) → RequestRun A qs rs B → RequestRun A qs ss C
+    → AllAnswered rs → AllAnswered ss → (rs ≡ ss) × (B ≡ C)

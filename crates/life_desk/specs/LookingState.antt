@@ -14,9 +14,10 @@ ForAllRepresented old new P = (A : Archive) → IsTrue new.tables.is_healthy →
 abbrev pub RepresentsTheSame : {S : Type 0} → ArchiveView S → ArchiveView S → Type 0
 RepresentsTheSame old new = (A : Archive) → IsTrue new.tables.is_healthy → Represents old A → Represents new A
 
--- A crash leaves what it might have left before, the database that answers is healthy unless its disk has lied, the tables represent what they did,
--- and the answer is what `Tells` says of that.
-pub record LooksUp {S X E : Type 0} (g : Ghosts S) (old new : ArchiveView S) (result : Result X E) (Tells : Archive → X → Type 0) : Type 0 where
+-- A crash leaves what it might have left before, the database that answers is healthy unless its disk has lied, the
+-- tables represent what they did, and the answer is what `Tells` says of that.
+pub record LooksUp {S X E : Type 0} (g : Ghosts S) (old new : ArchiveView S) (result : Result X E)
+    (Tells : Archive → X → Type 0) : Type 0 where
   pub transition : IsTransition g NoMore old new
   pub healthy : OnOk result (IsHealthyIfClean g new)
   pub same : RepresentsTheSame old new

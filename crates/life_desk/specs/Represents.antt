@@ -1,5 +1,6 @@
--- When the tables of a store represent an archive: their rows represent its deposits and its censuses, each census with the tally of its
--- generation of its deposit, and with whether that generation is steady. The archive of the model itself has neither tallies nor flags.
+-- When the tables of a store represent an archive: their rows represent its deposits and its censuses, each census with
+-- the tally of its generation of its deposit, and with whether that generation is steady. The archive of the model
+-- itself has neither tallies nor flags.
 use Rattle.std.specs.Prelude.{◌≡◌, ℕ, List, [], Ok, map, IsSome}
 use Rattle.std.specs.List.{AllByRecursion}
 use Rattle.life_rle.specs.File.{kept}
@@ -54,8 +55,13 @@ LeftRepresents found A = LeftHolds found (kept_of A)
 
 -- A new archive has neither deposits nor censuses.
 abbrev pub NewIsEmpty : Type 0
-NewIsEmpty = (t : Tables) (capacity : ℕ) → Holds t nothing_kept → IsRepresented t capacity (record { deposits = []; censuses = []; capacity = capacity })
+NewIsEmpty =
+    (t : Tables) (capacity : ℕ) → Holds t nothing_kept
+    → IsRepresented t capacity (record { deposits = []; censuses = []; capacity = capacity })
 
--- An archive of schema version 1 that was migrated as it was opened is the archive that it was: each flag is what the archive computes.
+-- An archive of schema version 1 that was migrated as it was opened is the archive that it was: each flag is what the
+-- archive computes.
 abbrev pub MigratedIsTheSame : Type 0
-MigratedIsTheSame = (t : Tables) (capacity : ℕ) (A : Archive) → capacity ≡ A.capacity → EachHasDeposit A.deposits A.censuses → Migrated t (kept_of A) → IsRepresented t capacity A
+MigratedIsTheSame =
+    (t : Tables) (capacity : ℕ) (A : Archive) → capacity ≡ A.capacity → EachHasDeposit A.deposits A.censuses
+    → Migrated t (kept_of A) → IsRepresented t capacity A

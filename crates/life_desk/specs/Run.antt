@@ -1,5 +1,5 @@
--- Runs: lists of requests with their replies, and the archive after them. A run is the life of an archive: `answer` makes one
--- step of it, `answer_all` a list of steps.
+-- Runs: lists of requests with their replies, and the archive after them. A run is the life of an archive: `answer`
+-- makes one step of it, `answer_all` a list of steps.
 use Rattle.std.specs.Prelude.{◌≡◌, ◌∷◌, [], ◌++◌, ◌⊎◌, false, List, IsOk, IsTrue, ⊤}
 use Rattle.std.specs.List.{AllByRecursion}
 use Rattle.sqlite_trees.specs.declared.store.Store.{Ghosts}
@@ -50,8 +50,8 @@ pub record IsLater (A B : Archive) : Type 0 where
 abbrev pub PromiseNothing : List Reply → Type 0
 PromiseNothing rs = AllByRecursion (λ r. acknowledges r ≡ false) rs
 
--- The trees represent the archive after the first requests of a run from A, or after one request more; and only the replies to the
--- first requests say that something is stored.
+-- The trees represent the archive after the first requests of a run from A, or after one request more; and only the
+-- replies to the first requests say that something is stored.
 pub record IsCrashOf (A : Archive) (qs : List Request) (rs : List Reply) (found : Left) : Type 0 where
   pub front : List Request
   pub back : List Request
@@ -61,33 +61,44 @@ pub record IsCrashOf (A : Archive) (qs : List Request) (rs : List Reply) (found 
   pub replies : rs ≡ given ++ rest
   pub mid : Archive
   pub run : RequestRun A front given mid
-  pub left : LeftRepresents found mid ⊎ ((next : Request) × (more : List Request) × (back ≡ next ∷ more) × LeftRepresents found (after mid next))
+  pub left : LeftRepresents found mid
+      ⊎ ((next : Request) × (more : List Request) × (back ≡ next ∷ more) × LeftRepresents found (after mid next))
   pub unpromised : PromiseNothing rest
 
--- What a crash may leave of requests: what it might have left before them, if no reply says that something is stored; or the database was
--- healthy, and the trees are what a crash leaves of a run from any archive that its tables represented.
+-- What a crash may leave of requests: what it might have left before them, if no reply says that something is stored;
+-- or the database was healthy, and the trees are what a crash leaves of a run from any archive that its tables
+-- represented.
 abbrev pub MayBeLeftOf : {S : Type 0} → Ghosts S → ArchiveView S → List Request → List Reply → Left → Type 0
-MayBeLeftOf g old qs rs found = (MayBeLeft g old found × PromiseNothing rs) ⊎ (IsTrue old.tables.is_healthy × ((A : Archive) → Represents old A → IsCrashOf A qs rs found))
+MayBeLeftOf g old qs rs found =
+    (MayBeLeft g old found × PromiseNothing rs)
+    ⊎ (IsTrue old.tables.is_healthy × ((A : Archive) → Represents old A → IsCrashOf A qs rs found))
 
--- The requests were answered by the store. If the database is healthy at the end, it was healthy at the start, and from each archive that the
--- tables represented, a run leads to one that they represent now. If it was healthy at the start and its disk has returned what was written, the
--- replies are those of a run even if the disk failed on the way; if it was not healthy, no reply says anything about what is stored.
--- The last clause says what a crash leaves.
-pub record Answered {S : Type 0} (g : Ghosts S) (old new : ArchiveView S) (qs : List Request) (rs : List Reply) : Type 0 where
+-- The requests were answered by the store. If the database is healthy at the end, it was healthy at the start, and from
+-- each archive that the tables represented, a run leads to one that they represent now. If it was healthy at the start
+-- and its disk has returned what was written, the replies are those of a run even if the disk failed on the way; if it
+-- was not healthy, no reply says anything about what is stored. The last clause says what a crash leaves.
+pub record Answered {S : Type 0} (g : Ghosts S) (old new : ArchiveView S) (qs : List Request)
+    (rs : List Reply) : Type 0 where
   pub transition : IsTransition g (λ db. ⊤) old new
-  pub run : IsTrue new.tables.is_healthy → (A : Archive) → Represents old A → (B : Archive) × RequestRun A qs rs B × Represents new B
-  pub replied : IsHonest g new → IsTrue old.tables.is_healthy → (A : Archive) → Represents old A → (B : Archive) × RequestRun A qs rs B × (IsTrue new.tables.is_healthy → Represents new B)
+  pub run : IsTrue new.tables.is_healthy → (A : Archive) → Represents old A
+      → (B : Archive) × RequestRun A qs rs B × Represents new B
+  pub replied : IsHonest g new → IsTrue old.tables.is_healthy → (A : Archive) → Represents old A
+      → (B : Archive) × RequestRun A qs rs B × (IsTrue new.tables.is_healthy → Represents new B)
   pub shut : IsHonest g new → old.tables.is_healthy ≡ false → (A : Archive) → RequestRun A qs rs A
   pub left : IsHonest g new → (found : Left) → MayBeLeft g new found → MayBeLeftOf g old qs rs found
 
 -- ---- crashes
 
 module _ {S : Type 0} (g : Ghosts S) where
-  -- If the database was healthy and its disk has returned what was written, a crash during the call leaves the archive after
-  -- a prefix of the requests, or after one request more; and whatever was acknowledged is there.
+  -- If the database was healthy and its disk has returned what was written, a crash during the call leaves the archive
+  -- after a prefix of the requests, or after one request more; and whatever was acknowledged is there.
   abbrev pub IsCrashSafe : ArchiveView S → ArchiveView S → List Request → List Reply → Type 0
-  IsCrashSafe old new qs rs = (A : Archive) → IsTrue old.tables.is_healthy → Represents old A → IsHonest g new → (found : Left) → MayBeLeft g new found → IsCrashOf A qs rs found
+  IsCrashSafe old new qs rs =
+      (A : Archive) → IsTrue old.tables.is_healthy → Represents old A → IsHonest g new → (found : Left)
+      → MayBeLeft g new found → IsCrashOf A qs rs found
 
   -- If the database is healthy, a crash leaves the archive that the tables represent, and nothing else.
   abbrev pub IsDurable : ArchiveView S → Type 0
-  IsDurable new = (B : Archive) → IsTrue new.tables.is_healthy → Represents new B → (found : Left) → MayBeLeft g new found → LeftRepresents found B
+  IsDurable new =
+      (B : Archive) → IsTrue new.tables.is_healthy → Represents new B → (found : Left) → MayBeLeft g new found
+      → LeftRepresents found B

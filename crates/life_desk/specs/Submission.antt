@@ -1,4 +1,5 @@
--- A submission under a member and a token. It is refused, or it repeats what is stored under that token, or it is added.
+-- A submission under a member and a token. It is refused, or it repeats what is stored under that token, or it is
+-- added.
 use Rattle.std.specs.Prelude.{ℕ, ◌+◌, ◌++◌, Bool, List, [], ◌∷◌, length, Option, None, Some, if◌then◌else◌}
 use Rattle.life_desk.specs.declared.refusal.Refusal.{Refusal}
 use Rattle.life_desk.specs.declared.refusal.Refusal.TheVariants as no
@@ -14,8 +15,8 @@ pub data Verdict (X : Type 0) : Type 0 where
   -- it is new, and there is room
   Adds : X → Verdict X
 
--- The verdict on x, given what is stored under its token and the number of that: if it is the same, x repeats it; if it differs, x is
--- refused. A new one is added if there is room.
+-- The verdict on x, given what is stored under its token and the number of that: if it is the same, x repeats it; if it
+-- differs, x is refused. A new one is added if there is room.
 abbrev pub by_token : {X : Type 0} → (X → X → Bool) → Bool → X → Option (ℕ × X) → Verdict X
 by_token is_same has_room x (Some stored) = if is_same stored.1 x then Repeats stored.0 else Refuses no.TokenReused
 by_token is_same has_room x None = if has_room then Adds x else Refuses no.Full

@@ -1,6 +1,7 @@
--- Validation of a request's own fields, before the archive is asked, in the order member, token, limits, rule. The result is the same request
--- with its rule parsed, or the refusal for the first invalid field.
-use Rattle.std.specs.Prelude.{◌≡◌, ◌⊎◌, ◌==◌, ◌&&◌, ◌||◌, ℕ, Bool, List, length, Result, Ok, Err, IsOk, nat_le, if◌then◌else◌}
+-- Validation of a request's own fields, before the archive is asked, in the order member, token, limits, rule. The
+-- result is the same request with its rule parsed, or the refusal for the first invalid field.
+use Rattle.std.specs.Prelude.{◌≡◌, ◌⊎◌, ◌==◌, ◌&&◌, ◌||◌, ℕ, Bool, List, length, Result, Ok, Err, IsOk, nat_le}
+use Rattle.std.specs.Prelude.{if◌then◌else◌}
 use Rattle.std.specs.List.{list_all}
 use Rattle.life_core.specs.Ascii.{hyphen, digit_0, digit_9, letter_a, letter_z}
 use Rattle.life_core.specs.declared.generations.TheConstants.{GENERATION_LIMIT}
@@ -44,7 +45,8 @@ validated_rule code limit (Err fault) = Err BadRule
 
 abbrev pub validated : Request → Result ValidRequest Refusal
 validated (ask.Deposit member token file) =
-    if is_member member then (if is_token token then Ok (good.Deposit member token file) else Err BadToken) else Err BadMember
+    if is_member member then (if is_token token then Ok (good.Deposit member token file) else Err BadToken)
+    else Err BadMember
 validated (ask.Show id) = Ok (good.Show id)
 validated (ask.ListAfter id) = Ok (good.ListAfter id)
 validated (ask.At id n) = if is_generation n then Ok (good.At id n) else Err OutOfLimit
@@ -59,7 +61,8 @@ validated (ask.Census member token id n limit) =
     else Err BadMember
 validated (ask.ShowCensus id) = Ok (good.ShowCensus id)
 validated (ask.CensusCsv id) = Ok (good.CensusCsv id)
-validated (ask.Total rule code limit) = if is_limit limit then validated_rule code limit (read_rule rule) else Err OutOfLimit
+validated (ask.Total rule code limit) =
+    if is_limit limit then validated_rule code limit (read_rule rule) else Err OutOfLimit
 
 -- a check of a request's fields returns the result of validation
 abbrev pub IsChecked : {J : Type 0} → Result (Unit {0}) Refusal → Result J Refusal → Type 0

@@ -1,5 +1,6 @@
 -- The rows of a haul, as what is found in them.
-use Rattle.std.specs.Prelude.{◌≡◌, ◌⊎◌, ℕ, ◌+◌, Bool, true, false, cond, T, ◌||◌, List, [], ◌∷◌, ◌++◌, Option, None, Some, option_map, refl}
+use Rattle.std.specs.Prelude.{◌≡◌, ◌⊎◌, ℕ, ◌+◌, Bool, true, false, cond, T, ◌||◌, List, [], ◌∷◌, ◌++◌, Option, None}
+use Rattle.std.specs.Prelude.{Some, option_map, refl}
 use Rattle.std.proofs.Common.{sym, ap, ◌∙◌, subst, inl, inr, arith}
 use Rattle.std.specs.Ordering.{is_eq}
 use Rattle.std.specs.List.{filter_map, list_any, cons_option}
@@ -26,7 +27,8 @@ found q es = table.find row_cmp q es
 pub rows_are : (es fs : Rows) → IsSorted es → IsSorted fs → ((q : List ℕ) → found q es ≡ found q fs) → es ≡ fs
 rows_are es fs h g same =
     sym (table.entries-from_sorted row_cmp es h)
-    ∙ ap table.entries (table.same_map row_cmp_total row_cmp_exact (table.from_sorted es) (table.from_sorted fs) (λ q. table.get-from_sorted row_cmp es q h ∙ same q ∙ sym (table.get-from_sorted row_cmp fs q g)))
+    ∙ ap table.entries (table.same_map row_cmp_total row_cmp_exact (table.from_sorted es) (table.from_sorted fs)
+    (λ q. table.get-from_sorted row_cmp es q h ∙ same q ∙ sym (table.get-from_sorted row_cmp fs q g)))
     ∙ table.entries-from_sorted row_cmp fs g
 
 module _ (es : Rows) (sorted : IsSorted es) (k : List ℕ) (v : Sighting) where
@@ -34,7 +36,9 @@ module _ (es : Rows) (sorted : IsSorted es) (k : List ℕ) (v : Sighting) where
   M = table.from_sorted es
 
   entries_of_put : table.entries (table.insert M k v) ≡ table.put row_cmp k v es
-  entries_of_put = table.entries-insert row_cmp_total M k v ∙ ap (table.put row_cmp k v) (table.entries-from_sorted row_cmp es sorted)
+  entries_of_put =
+      table.entries-insert row_cmp_total M k v
+      ∙ ap (table.put row_cmp k v) (table.entries-from_sorted row_cmp es sorted)
 
   pub sorted-put : IsSorted (table.put row_cmp k v es)
   sorted-put = subst IsSorted entries_of_put (table.entries_sorted (table.insert M k v))
@@ -42,7 +46,8 @@ module _ (es : Rows) (sorted : IsSorted es) (k : List ℕ) (v : Sighting) where
   pub found-put : (q : List ℕ) → found q (table.put row_cmp k v es) ≡ cond (same_text q k) (Some v) (found q es)
   found-put q =
       ap (found q) (sym entries_of_put) ∙ sym (table.get-entries (table.insert M k v) q)
-      ∙ table.get-insert row_cmp_total M k v q ∙ ap (cond (same_text q k) (Some v)) (table.get-from_sorted row_cmp es q sorted)
+      ∙ table.get-insert row_cmp_total M k v q
+      ∙ ap (cond (same_text q k) (Some v)) (table.get-from_sorted row_cmp es q sorted)
 
 -- ---- rows by a function
 
@@ -58,8 +63,10 @@ module _ (f : List ℕ → Option Sighting) where
       missing true none = refl
       missing false none = sym none
 
-      go : (o : Option Sighting) → f t ≡ o → (same_text q t ≡ true) ⊎ (same_text q t ≡ false) → found q (filter_map told ts) ≡ cond (list_any (same_text q) ts) (f q) None
-          → found q (cons_option (option_map (λ s. (t, s)) o) (filter_map told ts)) ≡ cond (same_text q t || list_any (same_text q) ts) (f q) None
+      go : (o : Option Sighting) → f t ≡ o → (same_text q t ≡ true) ⊎ (same_text q t ≡ false)
+          → found q (filter_map told ts) ≡ cond (list_any (same_text q) ts) (f q) None
+          → found q (cons_option (option_map (λ s. (t, s)) o) (filter_map told ts))
+          ≡ cond (same_text q t || list_any (same_text q) ts) (f q) None
       go None is (inl same) rest =
           rest ∙ missing (list_any (same_text q) ts) (ap f (same_text_is q t same) ∙ is)
           ∙ sym (ap (λ b. cond (b || list_any (same_text q) ts) (f q) None) same)
@@ -77,13 +84,17 @@ module _ (f : List ℕ → Option Sighting) where
 
   found-rows : (ts : Texts) (q : List ℕ) → found q (rows_by f ts) ≡ cond (list_any (same_text q) ts) (f q) None
   unfolding rows_by
-  found-rows ts q = sym (table.get-entries (table.from_entries {R = row_cmp} (filter_map told ts)) q) ∙ table.get-from_entries row_cmp_total (filter_map told ts) q ∙ found_told ts q
+  found-rows ts q =
+      sym (table.get-entries (table.from_entries {R = row_cmp} (filter_map told ts)) q)
+      ∙ table.get-from_entries row_cmp_total (filter_map told ts) q ∙ found_told ts q
 
   -- if nothing is said of other texts, what is found is what is said
-  pub rows_say : (ts : Texts) (q : List ℕ) → (list_any (same_text q) ts ≡ false → f q ≡ None) → found q (rows_by f ts) ≡ f q
+  pub rows_say : (ts : Texts) (q : List ℕ) → (list_any (same_text q) ts ≡ false → f q ≡ None)
+      → found q (rows_by f ts) ≡ f q
   rows_say ts q others = found-rows ts q ∙ go (cases_Bool (list_any (same_text q) ts))
     where
-      go : (list_any (same_text q) ts ≡ true) ⊎ (list_any (same_text q) ts ≡ false) → cond (list_any (same_text q) ts) (f q) None ≡ f q
+      go : (list_any (same_text q) ts ≡ true) ⊎ (list_any (same_text q) ts ≡ false)
+          → cond (list_any (same_text q) ts) (f q) None ≡ f q
       go (inl some) = ap (λ b. cond b (f q) None) some
       go (inr none) = ap (λ b. cond b (f q) None) none ∙ sym (others none)
 

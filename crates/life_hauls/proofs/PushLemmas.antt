@@ -1,5 +1,6 @@
 -- A haul with one soup more.
-use Rattle.std.specs.Prelude.{◌≡◌, ℕ, ◌+◌, true, false, cond, List, [], ◌∷◌, ◌++◌, fold, length, count_by, is_none, Option, None, Some, ◌⊎◌, refl}
+use Rattle.std.specs.Prelude.{◌≡◌, ℕ, ◌+◌, true, false, cond, List, [], ◌∷◌, ◌++◌, fold, length, count_by, is_none}
+use Rattle.std.specs.Prelude.{Option, None, Some, ◌⊎◌, refl}
 use Rattle.std.proofs.Common.{sym, ap, subst, ◌∙◌, inl, inr, arith}
 use Rattle.std.specs.List.{flat_map, list_any}
 use Rattle.std.proofs.lemmas.Bool.{cases_Bool, or_parts}
@@ -12,11 +13,13 @@ use Rattle.life_hauls.specs.declared.rows.Sighting.{Sighting}
 use Rattle.life_hauls.specs.Hauls.{HaulCounts, seen, more, joined, texts_in, rows_by, counts_over}
 use Rattle.life_hauls.specs.HaulsState.{once, noted, with_code, with_codes, with_soup}
 use Rattle.life_hauls.proofs.SeenLemmas.{seen-none, seen-one, seen-append, seen-push, sighted, sighted-more}
-use Rattle.life_hauls.proofs.HaulRows.{Rows, IsSorted, found, rows_are, sorted-put, found-put, sorted-rows, rows_say, how_often_push}
+use Rattle.life_hauls.proofs.HaulRows.{Rows, IsSorted, found, rows_are, sorted-put, found-put, sorted-rows, rows_say}
+use Rattle.life_hauls.proofs.HaulRows.{how_often_push}
 
 -- ---- what with_codes does to each part
 
-pub with_codes-rows : (i : ℕ) (os : List (Option (List ℕ))) (h : HaulCounts) → (with_codes i h os).rows ≡ fold (noted i) h.rows (texts_in os)
+pub with_codes-rows : (i : ℕ) (os : List (Option (List ℕ))) (h : HaulCounts)
+    → (with_codes i h os).rows ≡ fold (noted i) h.rows (texts_in os)
 with_codes-rows i [] h = refl
 with_codes-rows i (None ∷ os) h = with_codes-rows i os (with_code i h None)
 with_codes-rows i (Some t ∷ os) h = with_codes-rows i os (with_code i h (Some t))
@@ -26,12 +29,15 @@ with_codes-soups i [] h = refl
 with_codes-soups i (None ∷ os) h = with_codes-soups i os (with_code i h None)
 with_codes-soups i (Some t ∷ os) h = with_codes-soups i os (with_code i h (Some t))
 
-pub with_codes-total : (i : ℕ) (os : List (Option (List ℕ))) (h : HaulCounts) → (with_codes i h os).total ≡ h.total + length os
+pub with_codes-total : (i : ℕ) (os : List (Option (List ℕ))) (h : HaulCounts)
+    → (with_codes i h os).total ≡ h.total + length os
 with_codes-total i [] h = omega arith
 with_codes-total i (None ∷ os) h = let rest = with_codes-total i os (with_code i h None) in omega (arith, rest)
 with_codes-total i (Some t ∷ os) h = let rest = with_codes-total i os (with_code i h (Some t)) in omega (arith, rest)
 
-pub with_codes-unresolved : (i : ℕ) (os : List (Option (List ℕ))) (h : HaulCounts) (x : Option Sighting) (n : ℕ) → h.unresolved ≡ joined x (sighted n i) → (with_codes i h os).unresolved ≡ joined x (sighted (n + count_by is_none os) i)
+pub with_codes-unresolved : (i : ℕ) (os : List (Option (List ℕ))) (h : HaulCounts) (x : Option Sighting) (n : ℕ)
+    → h.unresolved ≡ joined x (sighted n i)
+    → (with_codes i h os).unresolved ≡ joined x (sighted (n + count_by is_none os) i)
 with_codes-unresolved i [] h x n is = is ∙ ap (λ k. joined x (sighted k i)) (nothing n)
   where
     nothing : (n : ℕ) → n ≡ n + 0
@@ -53,22 +59,26 @@ abbrev IsPartial : (List ℕ → Option Sighting) → ℕ → Texts → Rows →
 IsPartial f i ts es = IsSorted es × ((q : List ℕ) → found q es ≡ joined (f q) (sighted (how_often q ts) i))
 
 module _ (f : List ℕ → Option Sighting) (i : ℕ) where
-  partial_more : (ts : Texts) (t : List ℕ) (es : Rows) → IsPartial f i ts es → IsPartial f i (ts ++ t ∷ []) (noted i es t)
+  partial_more : (ts : Texts) (t : List ℕ) (es : Rows) → IsPartial f i ts es
+      → IsPartial f i (ts ++ t ∷ []) (noted i es t)
   partial_more ts t es is = (
     sorted-put es is.0 t (more (found t es) (once i)),
     λ q. found-put es is.0 t (more (found t es) (once i)) q ∙ go q (cases_Bool (same_text q t)),
   )
     where
       go : (q : List ℕ) → (same_text q t ≡ true) ⊎ (same_text q t ≡ false)
-          → cond (same_text q t) (Some (more (found t es) (once i))) (found q es) ≡ joined (f q) (sighted (how_often q (ts ++ t ∷ [])) i)
+          → cond (same_text q t) (Some (more (found t es) (once i))) (found q es)
+          ≡ joined (f q) (sighted (how_often q (ts ++ t ∷ [])) i)
       go q (inl same) =
-          let count : how_often q (ts ++ t ∷ []) ≡ how_often q ts + 1 = how_often_push ts t q ∙ ap (λ b. how_often q ts + one_if b) same in
+          let count : how_often q (ts ++ t ∷ []) ≡ how_often q ts + 1 = how_often_push ts t q
+          ∙ ap (λ b. how_often q ts + one_if b) same in
           ap (λ b. cond b (Some (more (found t es) (once i))) (found q es)) same
           ∙ ap (λ u. Some (more (found u es) (once i))) (sym (same_text_is q t same))
           ∙ ap (λ o. Some (more o (once i))) (is.1 q) ∙ sighted-more (f q) (how_often q ts) i
           ∙ ap (λ n. joined (f q) (sighted n i)) (sym count)
       go q (inr other) =
-          let count : how_often q (ts ++ t ∷ []) ≡ how_often q ts = how_often_push ts t q ∙ ap (λ b. how_often q ts + one_if b) other ∙ nothing (how_often q ts) in
+          let count : how_often q (ts ++ t ∷ []) ≡ how_often q ts = how_often_push ts t q
+          ∙ ap (λ b. how_often q ts + one_if b) other ∙ nothing (how_often q ts) in
           ap (λ b. cond b (Some (more (found t es) (once i))) (found q es)) other ∙ is.1 q
           ∙ ap (λ n. joined (f q) (sighted n i)) (sym count)
         where
@@ -77,7 +87,9 @@ module _ (f : List ℕ → Option Sighting) (i : ℕ) where
 
   partial_all : (us ts : Texts) (es : Rows) → IsPartial f i ts es → IsPartial f i (ts ++ us) (fold (noted i) es us)
   partial_all [] ts es is = subst (λ vs. IsPartial f i vs es) (sym (append-nil ts)) is
-  partial_all (u ∷ us) ts es is = subst (λ vs. IsPartial f i vs (fold (noted i) (noted i es u) us)) (shift ts u us) (partial_all us (ts ++ u ∷ []) (noted i es u) (partial_more ts u es is))
+  partial_all (u ∷ us) ts es is =
+      subst (λ vs. IsPartial f i vs (fold (noted i) (noted i es u) us)) (shift ts u us)
+      (partial_all us (ts ++ u ∷ []) (noted i es u) (partial_more ts u es is))
     where
       shift : (xs : Texts) (y : List ℕ) (ys : Texts) → (xs ++ y ∷ []) ++ ys ≡ xs ++ y ∷ ys
       shift [] y ys = refl
@@ -86,10 +98,12 @@ module _ (f : List ℕ → Option Sighting) (i : ℕ) where
 -- ---- the texts of many soups
 
 module _ (texts : ℕ → Texts) where
-  pub none_seen : (ns : List ℕ) (q : List ℕ) → list_any (same_text q) (flat_map texts ns) ≡ false → seen (λ i. how_often q (texts i)) ns ≡ None
+  pub none_seen : (ns : List ℕ) (q : List ℕ) → list_any (same_text q) (flat_map texts ns) ≡ false
+      → seen (λ i. how_often q (texts i)) ns ≡ None
   none_seen [] q none = seen-none (λ i. how_often q (texts i))
   none_seen (n ∷ ns) q none =
-      let both = or_parts (list_any (same_text q) (texts n)) (list_any (same_text q) (flat_map texts ns)) (sym (list_any-append (same_text q) (texts n) (flat_map texts ns)) ∙ none) in
+      let both = or_parts (list_any (same_text q) (texts n)) (list_any (same_text q) (flat_map texts ns))
+      (sym (list_any-append (same_text q) (texts n) (flat_map texts ns)) ∙ none) in
       let here : sighted (how_often q (texts n)) n ≡ None = ap (λ k. sighted k n) (how_often_none (texts n) q both.0) in
       seen-append (λ i. how_often q (texts i)) (n ∷ []) ns
       ∙ (λ k. joined ((seen-one (λ i. how_often q (texts i)) n ∙ here) k) (none_seen ns q both.1 k))
@@ -113,7 +127,8 @@ module _ (texts : ℕ → Texts) where
 
 -- ---- the whole haul
 
-pub counts-push : (codes : ℕ → List (Option (List ℕ))) (ns : List ℕ) (i : ℕ) → with_soup i (counts_over codes ns) (codes i) ≡ counts_over codes (ns ++ i ∷ [])
+pub counts-push : (codes : ℕ → List (Option (List ℕ))) (ns : List ℕ) (i : ℕ)
+    → with_soup i (counts_over codes ns) (codes i) ≡ counts_over codes (ns ++ i ∷ [])
 unfolding counts_over
 counts-push codes ns i =
     let h = counts_over codes ns in
@@ -121,7 +136,8 @@ counts-push codes ns i =
     let rows = with_codes-rows i (codes i) h ∙ rows-push texts ns i in
     let nothing : 0 + count_by is_none (codes i) ≡ count_by is_none (codes i) = omega arith in
     let before : Option Sighting = seen (λ j. count_by is_none (codes j)) ns in
-    let unresolved = with_codes-unresolved i (codes i) h before 0 refl ∙ ap (λ k. joined before (sighted k i)) nothing ∙ sym (seen-push (λ j. count_by is_none (codes j)) ns i) in
+    let unresolved = with_codes-unresolved i (codes i) h before 0 refl ∙ ap (λ k. joined before (sighted k i)) nothing
+    ∙ sym (seen-push (λ j. count_by is_none (codes j)) ns i) in
     let soups = sym (length_push ns i) in
     let total = with_codes-total i (codes i) h ∙ sym (sum_by_push (λ j. length (codes j)) ns i) in
     λ k. record { rows = rows k; unresolved = unresolved k; soups = soups k; total = total k }
@@ -130,10 +146,12 @@ pub sorted-haul : (codes : ℕ → List (Option (List ℕ))) (ns : List ℕ) →
 unfolding counts_over
 sorted-haul codes ns = sorted-over (λ j. texts_in (codes j)) ns
 
-pub no-soups : (codes : ℕ → List (Option (List ℕ))) → counts_over codes [] ≡ record { rows = []; unresolved = None; soups = 0; total = 0 }
+pub no-soups : (codes : ℕ → List (Option (List ℕ)))
+    → counts_over codes [] ≡ record { rows = []; unresolved = None; soups = 0; total = 0 }
 unfolding counts_over
 no-soups codes =
-    let rows = rows_are (rows_over (λ j. texts_in (codes j)) []) [] (sorted-over (λ j. texts_in (codes j)) []) tt (λ q. found-over (λ j. texts_in (codes j)) [] q ∙ seen-none (λ i. how_often q (texts_in (codes i)))) in
+    let rows = rows_are (rows_over (λ j. texts_in (codes j)) []) [] (sorted-over (λ j. texts_in (codes j)) []) tt
+    (λ q. found-over (λ j. texts_in (codes j)) [] q ∙ seen-none (λ i. how_often q (texts_in (codes i)))) in
     λ k. record { rows = rows k; unresolved = seen-none (λ i. count_by is_none (codes i)) k; soups = 0; total = 0 }
 
 -- sorted rows stay so

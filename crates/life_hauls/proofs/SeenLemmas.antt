@@ -1,5 +1,6 @@
 -- What is seen over two lists of soups, and what one more cluster adds.
-use Rattle.std.specs.Prelude.{◌≡◌, ℕ, zero, suc, ◌+◌, min, Bool, true, false, cond, List, [], ◌∷◌, ◌++◌, filter, sum_by, Option, None, Some, option_map, refl}
+use Rattle.std.specs.Prelude.{◌≡◌, ℕ, zero, suc, ◌+◌, min, Bool, true, false, cond, List, [], ◌∷◌, ◌++◌, filter, sum_by}
+use Rattle.std.specs.Prelude.{Option, None, Some, option_map, refl}
 use Rattle.std.proofs.Common.{sym, ap, ◌∙◌, arith}
 use Rattle.std.proofs.lemmas.Bool.{false≢true}
 use Rattle.std.proofs.lemmas.List.Elements.{filter-append}
@@ -26,7 +27,8 @@ lesser_more a (Some n) (Some m) = ap Some (min_assoc a n m)
 
 least-append : (ms ns : List ℕ) → least_number (ms ++ ns) ≡ lesser (least_number ms) (least_number ns)
 least-append [] ns = refl
-least-append (m ∷ ms) ns = ap (λ o. Some (lesser_number m o)) (least-append ms ns) ∙ lesser_more m (least_number ms) (least_number ns)
+least-append (m ∷ ms) ns =
+    ap (λ o. Some (lesser_number m o)) (least-append ms ns) ∙ lesser_more m (least_number ms) (least_number ns)
 
 module _ (f : ℕ → ℕ) where
   abbrev pub has : ℕ → Bool
@@ -48,14 +50,19 @@ module _ (f : ℕ → ℕ) where
   none_are_none [] none = refl
   none_are_none (n ∷ ns) none = go (has n) refl none (sum_by-cons f n ns) (none_are_none ns)
     where
-      go : (b : Bool) → has n ≡ b → least_number (cond b (n ∷ filter has ns) (filter has ns)) ≡ None → sum_by f (n ∷ ns) ≡ f n + sum_by f ns → (least_number (filter has ns) ≡ None → sum_by f ns ≡ 0) → sum_by f (n ∷ ns) ≡ 0
+      go : (b : Bool) → has n ≡ b → least_number (cond b (n ∷ filter has ns) (filter has ns)) ≡ None → sum_by f (n ∷ ns)
+          ≡ f n + sum_by f ns → (least_number (filter has ns) ≡ None → sum_by f ns ≡ 0) → sum_by f (n ∷ ns) ≡ 0
       go true is none whole rest = absurd (not_none none)
-      go false is none whole rest = let here = nothing (f n) is in let there = rest none in omega (arith, whole, here, there)
+      go false is none whole rest =
+          let here = nothing (f n) is in let there = rest none in omega (arith, whole, here, there)
 
-  joins : (a b : ℕ) (x y : Option ℕ) → (x ≡ None → a ≡ 0) → (y ≡ None → b ≡ 0) → sighting (a + b) (lesser x y) ≡ joined (sighting a x) (sighting b y)
+  joins : (a b : ℕ) (x y : Option ℕ) → (x ≡ None → a ≡ 0) → (y ≡ None → b ≡ 0)
+      → sighting (a + b) (lesser x y) ≡ joined (sighting a x) (sighting b y)
   joins a b None None first second = refl
-  joins a b None (Some m) first second = let e : a + b ≡ b = let z = first refl in omega (arith, z) in ap (λ n. Some (record { count = n; first = m })) e
-  joins a b (Some n) None first second = let e : a + b ≡ a = let z = second refl in omega (arith, z) in ap (λ k. Some (record { count = k; first = n })) e
+  joins a b None (Some m) first second =
+      let e : a + b ≡ b = let z = first refl in omega (arith, z) in ap (λ n. Some (record { count = n; first = m })) e
+  joins a b (Some n) None first second =
+      let e : a + b ≡ a = let z = second refl in omega (arith, z) in ap (λ k. Some (record { count = k; first = n })) e
   joins a b (Some n) (Some m) first second = refl
 
   -- what is seen over two lists is what is seen over each
@@ -65,7 +72,8 @@ module _ (f : ℕ → ℕ) where
       ap (λ n. sighting n (least_number (filter has (ms ++ ns)))) (sum_by-append f ms ns)
       ∙ ap (λ is. sighting (sum_by f ms + sum_by f ns) (least_number is)) (filter-append has ms ns)
       ∙ ap (sighting (sum_by f ms + sum_by f ns)) (least-append (filter has ms) (filter has ns))
-      ∙ joins (sum_by f ms) (sum_by f ns) (least_number (filter has ms)) (least_number (filter has ns)) (none_are_none ms) (none_are_none ns)
+      ∙ joins (sum_by f ms) (sum_by f ns) (least_number (filter has ms)) (least_number (filter has ns))
+      (none_are_none ms) (none_are_none ns)
 
   pub seen-none : seen f [] ≡ None
   unfolding seen
@@ -78,12 +86,15 @@ sighted (suc n) i = Some (record { count = suc n; first = i })
 
 pub seen-one : (f : ℕ → ℕ) (i : ℕ) → seen f (i ∷ []) ≡ sighted (f i) i
 unfolding seen
-seen-one f i = ap (λ k. option_map (λ j. record { count = k; first = j }) (least_number (cond (is_positive (f i)) (i ∷ []) []))) (sum_by-cons f i [] ∙ alone (f i)) ∙ go (f i)
+seen-one f i =
+    ap (λ k. option_map (λ j. record { count = k; first = j }) (least_number (cond (is_positive (f i)) (i ∷ []) [])))
+    (sum_by-cons f i [] ∙ alone (f i)) ∙ go (f i)
   where
     alone : (n : ℕ) → n + 0 ≡ n
     alone n = omega arith
 
-    go : (n : ℕ) → option_map (λ j. record { count = n; first = j }) (least_number (cond (is_positive n) (i ∷ []) [])) ≡ sighted n i
+    go : (n : ℕ) → option_map (λ j. record { count = n; first = j })
+        (least_number (cond (is_positive n) (i ∷ []) [])) ≡ sighted n i
     go zero = refl
     go (suc n) = refl
 
@@ -92,7 +103,8 @@ pub seen-push : (f : ℕ → ℕ) (ns : List ℕ) (i : ℕ) → seen f (ns ++ i 
 seen-push f ns i = seen-append f ns (i ∷ []) ∙ ap (joined (seen f ns)) (seen-one f i)
 
 -- one more in soup i
-pub sighted-more : (x : Option Sighting) (n i : ℕ) → Some (more (joined x (sighted n i)) (once i)) ≡ joined x (sighted (n + 1) i)
+pub sighted-more : (x : Option Sighting) (n i : ℕ)
+    → Some (more (joined x (sighted n i)) (once i)) ≡ joined x (sighted (n + 1) i)
 sighted-more x n i = go x n ∙ ap (λ k. joined x (sighted k i)) (next n)
   where
     next : (n : ℕ) → suc n ≡ n + 1
@@ -101,7 +113,9 @@ sighted-more x n i = go x n ∙ ap (λ k. joined x (sighted k i)) (next n)
     go : (x : Option Sighting) (n : ℕ) → Some (more (joined x (sighted n i)) (once i)) ≡ joined x (sighted (suc n) i)
     go None zero = refl
     go (Some s) zero = refl
-    go None (suc n) = let count : suc n + 1 ≡ suc (suc n) = omega arith in λ j. Some (record { count = count j; first = min_same i j })
+    go None (suc n) =
+        let count : suc n + 1 ≡ suc (suc n) = omega arith in
+        λ j. Some (record { count = count j; first = min_same i j })
     go (Some s) (suc n) =
         let first : min (min s.first i) i ≡ min s.first i = omega arith in
         let count : (s.count + suc n) + 1 ≡ s.count + suc (suc n) = omega arith in

@@ -1,5 +1,6 @@
 -- What a sighting says: a sum, and the least number of a soup that has one.
-use Rattle.std.specs.Prelude.{◌≡◌, ◌⊎◌, ℕ, zero, suc, ◌≤◌, min, Bool, true, false, cond, List, [], ◌∷◌, filter, sum_by, Option, None, Some, refl}
+use Rattle.std.specs.Prelude.{◌≡◌, ◌⊎◌, ℕ, zero, suc, ◌≤◌, min, Bool, true, false, cond, List, [], ◌∷◌, filter, sum_by}
+use Rattle.std.specs.Prelude.{Option, None, Some, refl}
 use Rattle.std.proofs.Common.{sym, ap, subst, ◌∙◌, inl, inr, arith}
 use Rattle.std.specs.List.{Contains}
 use Rattle.std.proofs.lemmas.Bool.{false≢true, cases_lt}
@@ -20,7 +21,8 @@ least_in [] m h = absurd (none_some h)
     none_some h = cc
 least_in (n ∷ ns) m h = go (least_number ns) refl h (least_in ns)
   where
-    go : (o : Option ℕ) → least_number ns ≡ o → Some (lesser_number n o) ≡ Some m → ((k : ℕ) → least_number ns ≡ Some k → IsIn ns k) → (n ≡ m) ⊎ IsIn ns m
+    go : (o : Option ℕ) → least_number ns ≡ o → Some (lesser_number n o) ≡ Some m
+        → ((k : ℕ) → least_number ns ≡ Some k → IsIn ns k) → (n ≡ m) ⊎ IsIn ns m
     go None is h rest = inl (let e : n ≡ m = cc in e)
     go (Some k) is h rest =
         let e : min n k ≡ m = cc in
@@ -40,7 +42,8 @@ least_below (n ∷ ns) m i h there = go (least_number ns) refl h there (least_be
         some_none : Some (lesser_number k (least_number ks)) ≡ None → ⊥
         some_none h = cc
 
-    go : (o : Option ℕ) → least_number ns ≡ o → Some (lesser_number n o) ≡ Some m → (n ≡ i) ⊎ IsIn ns i → ((k j : ℕ) → least_number ns ≡ Some k → IsIn ns j → k ≤ j) → m ≤ i
+    go : (o : Option ℕ) → least_number ns ≡ o → Some (lesser_number n o) ≡ Some m → (n ≡ i) ⊎ IsIn ns i
+        → ((k j : ℕ) → least_number ns ≡ Some k → IsIn ns j → k ≤ j) → m ≤ i
     go None is h (inl same) rest = let e : n ≡ m = cc in omega (arith, e, same)
     go None is h (inr there) rest = absurd (none_in ns is there)
     go (Some k) is h (inl same) rest = let e : min n k ≡ m = cc in omega (arith, e, same)
@@ -52,7 +55,8 @@ in_filter : (p : ℕ → Bool) (ns : List ℕ) (i : ℕ) → IsIn (filter p ns) 
 in_filter p [] i h = absurd h
 in_filter p (n ∷ ns) i h = go (p n) refl h (in_filter p ns i)
   where
-    go : (b : Bool) → p n ≡ b → IsIn (cond b (n ∷ filter p ns) (filter p ns)) i → (IsIn (filter p ns) i → IsIn ns i × (p i ≡ true)) → ((n ≡ i) ⊎ IsIn ns i) × (p i ≡ true)
+    go : (b : Bool) → p n ≡ b → IsIn (cond b (n ∷ filter p ns) (filter p ns)) i
+        → (IsIn (filter p ns) i → IsIn ns i × (p i ≡ true)) → ((n ≡ i) ⊎ IsIn ns i) × (p i ≡ true)
     go true is (inl same) rest = (inl same, ap p (sym same) ∙ is)
     go true is (inr there) rest = let found = rest there in (inr found.0, found.1)
     go false is there rest = let found = rest there in (inr found.0, found.1)
@@ -61,7 +65,8 @@ filter_in : (p : ℕ → Bool) (ns : List ℕ) (i : ℕ) → IsIn ns i → p i �
 filter_in p [] i h passes = absurd h
 filter_in p (n ∷ ns) i h passes = go (p n) refl h (λ there. filter_in p ns i there passes)
   where
-    go : (b : Bool) → p n ≡ b → (n ≡ i) ⊎ IsIn ns i → (IsIn ns i → IsIn (filter p ns) i) → IsIn (cond b (n ∷ filter p ns) (filter p ns)) i
+    go : (b : Bool) → p n ≡ b → (n ≡ i) ⊎ IsIn ns i → (IsIn ns i → IsIn (filter p ns) i)
+        → IsIn (cond b (n ∷ filter p ns) (filter p ns)) i
     go true is (inl same) rest = inl same
     go true is (inr there) rest = inr (rest there)
     go false is (inl same) rest = absurd (false≢true (sym is ∙ ap p same ∙ passes))
@@ -81,7 +86,9 @@ pub seen_is_least : SeenIsLeast
 unfolding seen
 seen_is_least f ns s h = go (least_number (filter (has f) ns)) refl h
   where
-    go : (o : Option ℕ) → least_number (filter (has f) ns) ≡ o → sighting f (sum_by f ns) o ≡ Some s → (s.count ≡ sum_by f ns) × Contains ns s.first × (1 ≤ f s.first) × ((i : ℕ) → Contains ns i → 1 ≤ f i → s.first ≤ i)
+    go : (o : Option ℕ) → least_number (filter (has f) ns) ≡ o → sighting f (sum_by f ns) o ≡ Some s
+        → (s.count ≡ sum_by f ns) × Contains ns s.first × (1 ≤ f s.first)
+        × ((i : ℕ) → Contains ns i → 1 ≤ f i → s.first ≤ i)
     go None is h = absurd (none_some h)
       where
         none_some : None ≡ Some s → ⊥
@@ -93,7 +100,8 @@ seen_is_least f ns s h = go (least_number (filter (has f) ns)) refl h
           sym (ap (λ (t : Sighting). t.count) whole),
           subst (Contains ns) first (contains_from_in ns m there.0),
           subst (λ i. 1 ≤ f i) first (positive_is (f m) there.1),
-          λ i member some. subst (λ k. k ≤ i) first (least_below (filter (has f) ns) m i is (filter_in (has f) ns i (in_from_contains ns i member) (is_positive_from (f i) some))),
+          λ i member some. subst (λ k. k ≤ i) first (least_below (filter (has f) ns) m i is
+              (filter_in (has f) ns i (in_from_contains ns i member) (is_positive_from (f i) some))),
         )
 
 zero_none : (f : ℕ → ℕ) (ns : List ℕ) → sum_by f ns ≡ 0 → seen f ns ≡ None

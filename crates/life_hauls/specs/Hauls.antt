@@ -1,5 +1,7 @@
--- Hauls: how often each code occurs in the fields of many soups, and the first soup that has it (Catagolue, "haul" and "census").
-use Rattle.std.specs.Prelude.{ℕ, zero, suc, ◌+◌, min, Bool, true, false, List, [], ◌∷◌, ◌++◌, map, length, sum_by, count_by, filter, Option, None, Some, option_map, is_none, refl}
+-- Hauls: how often each code occurs in the fields of many soups, and the first soup that has it (Catagolue, "haul" and
+-- "census").
+use Rattle.std.specs.Prelude.{ℕ, zero, suc, ◌+◌, min, Bool, true, false, List, [], ◌∷◌, ◌++◌, map, length, sum_by}
+use Rattle.std.specs.Prelude.{count_by, filter, Option, None, Some, option_map, is_none, refl}
 use Rattle.std.specs.Coded.{Coded, code_by, coded×, coded_ℕ, coded_list, coded_option}
 use Rattle.std.specs.List.{filter_map, flat_map, range_with_len}
 use Rattle.std.specs.FinMap as table
@@ -28,13 +30,16 @@ pub record HaulCounts : Type 0 where
 
 -- a sighting is stored as the pair of its parts
 abbrev pub coded_sighting : Coded Sighting
-coded_sighting = code_by (ℕ × ℕ) (coded× coded_ℕ coded_ℕ) (λ s. (s.count, s.first)) (λ p. record { count = p.0; first = p.1 }) (λ _. refl)
+coded_sighting =
+    code_by (ℕ × ℕ) (coded× coded_ℕ coded_ℕ) (λ s. (s.count, s.first))
+    (λ p. record { count = p.0; first = p.1 }) (λ _. refl)
 
 -- and so are the counts
 abbrev pub coded_counts : Coded HaulCounts
 coded_counts =
     code_by (List (List ℕ × Sighting) × (Option Sighting × (ℕ × ℕ)))
-    (coded× (coded_list (coded× (coded_list coded_ℕ) coded_sighting)) (coded× (coded_option coded_sighting) (coded× coded_ℕ coded_ℕ)))
+    (coded× (coded_list (coded× (coded_list coded_ℕ) coded_sighting))
+    (coded× (coded_option coded_sighting) (coded× coded_ℕ coded_ℕ)))
     (λ h. (h.rows, (h.unresolved, (h.soups, h.total))))
     (λ p. record { rows = p.0; unresolved = p.1.0; soups = p.1.1.0; total = p.1.1.1 })
     (λ _. refl)
@@ -56,9 +61,11 @@ abbrev pub is_positive : ℕ → Bool
 is_positive zero = false
 is_positive (suc n) = true
 
--- if soup i has f i of something: how many the soups with these numbers have, and the least number whose soup has one; None if no soup has any
+-- if soup i has f i of something: how many the soups with these numbers have, and the least number whose soup has one;
+-- None if no soup has any
 unfoldable pub seen : (ℕ → ℕ) → List ℕ → Option Sighting
-seen f ns = option_map (λ i. record { count = sum_by f ns; first = i }) (least_number (filter (λ i. is_positive (f i)) ns))
+seen f ns =
+    option_map (λ i. record { count = sum_by f ns; first = i }) (least_number (filter (λ i. is_positive (f i)) ns))
 
 -- each text of a list for which f has a value, with that value, in byte order and each once
 unfoldable pub rows_by : (List ℕ → Option Sighting) → List (List ℕ) → List (List ℕ × Sighting)
@@ -82,7 +89,8 @@ joined a (Some s) = Some (more a s)
 abbrev pub texts_in : List (Option (List ℕ)) → List (List ℕ)
 texts_in os = filter_map (λ o. o) os
 
--- the counts over the soups with these numbers; `codes i` is the list of the codes of the clusters of soup i, with None for a cluster without a code
+-- the counts over the soups with these numbers; `codes i` is the list of the codes of the clusters of soup i, with None
+-- for a cluster without a code
 unfoldable pub counts_over : (ℕ → List (Option (List ℕ))) → List ℕ → HaulCounts
 counts_over codes ns = record {
   rows = rows_by (λ t. seen (λ i. how_often t (texts_in (codes i))) ns) (flat_map (λ i. texts_in (codes i)) ns);
@@ -94,7 +102,9 @@ counts_over codes ns = record {
 -- the sum of two hauls, for hauls that several machines have counted
 unfoldable pub together : HaulCounts → HaulCounts → HaulCounts
 together a b = record {
-  rows = rows_by (λ t. joined (table.find row_cmp t a.rows) (table.find row_cmp t b.rows)) (map (λ e. e.0) (a.rows ++ b.rows));
+  rows =
+      rows_by (λ t. joined (table.find row_cmp t a.rows) (table.find row_cmp t b.rows))
+      (map (λ e. e.0) (a.rows ++ b.rows));
   unresolved = joined a.unresolved b.unresolved;
   soups = a.soups + b.soups;
   total = a.total + b.total;
@@ -102,7 +112,8 @@ together a b = record {
 
 -- the codes of the clusters of generation n of soup i
 abbrev pub soup_codes : Symmetry → List ℕ → RuleSets → ℕ → ℕ → ℕ → List (Option (List ℕ))
-soup_codes s root rule n limit i = map (λ P. code_of rule P limit) (clusters_of (generation_of rule (soup_of s root i) n))
+soup_codes s root rule n limit i =
+    map (λ P. code_of rule P limit) (clusters_of (generation_of rule (soup_of s root i) n))
 
 -- the haul over this many soups, from a first number on
 abbrev pub haul_of : Symmetry → List ℕ → RuleSets → ℕ → ℕ → ℕ → ℕ → HaulCounts

@@ -34,7 +34,8 @@ AreBelow {A} rows t i = (k : ℕ) (d : HaulRow A) → k < i → row_cmp t (slice
 
 -- the rows from place i on have no smaller codes
 abbrev pub AreNotBelow : {A : Type 0} → List (HaulRow A) → List ℕ → ℕ → Type 0
-AreNotBelow {A} rows t i = (k : ℕ) (d : HaulRow A) → i ≤ k → k < length rows → row_cmp t (slice_index_or rows k d).code ≢ Greater
+AreNotBelow {A} rows t i =
+    (k : ℕ) (d : HaulRow A) → i ≤ k → k < length rows → row_cmp t (slice_index_or rows k d).code ≢ Greater
 
 -- the row at place i has this code
 abbrev pub IsRowOf : {A : Type 0} → List (HaulRow A) → List ℕ → ℕ → Type 0
@@ -42,4 +43,5 @@ IsRowOf {A} rows t i = (i < length rows) × ((d : HaulRow A) → row_cmp t (slic
 
 -- a row at place i, if there is one, has a greater code
 abbrev pub IsPlaceFor : {A : Type 0} → List (HaulRow A) → List ℕ → ℕ → Type 0
-IsPlaceFor {A} rows t i = (i ≤ length rows) × (i < length rows → (d : HaulRow A) → row_cmp t (slice_index_or rows i d).code ≡ Less)
+IsPlaceFor {A} rows t i =
+    (i ≤ length rows) × (i < length rows → (d : HaulRow A) → row_cmp t (slice_index_or rows i d).code ≡ Less)

@@ -34,7 +34,9 @@ pub record MayBeAsked (words : HaulWords) : Type 0 where
 
 -- the table of the haul with these arguments under a rule
 abbrev pub haul_text : HaulWords → RuleSets → List ℕ
-haul_text words rule = csv_text words.symmetry words.root.now rule words.n words.limit words.first (haul_of words.symmetry words.root.now rule words.n words.limit words.first words.count)
+haul_text words rule =
+    csv_text words.symmetry words.root.now rule words.n words.limit words.first
+    (haul_of words.symmetry words.root.now rule words.n words.limit words.first words.count)
 
 -- valid arguments of a soup, apart from its rule: a haul may count this soup
 pub record MaySoupBeAsked (words : SoupWords) : Type 0 where
@@ -45,13 +47,17 @@ pub record MaySoupBeAsked (words : SoupWords) : Type 0 where
 abbrev pub soup_text : SoupWords → RuleSets → List ℕ
 soup_text words rule = text (plain rule (soup_of words.symmetry words.root.now words.number))
 
--- what a job with valid arguments puts, given the text of a rule: the wanted text under this rule, or a prefix of it before a put that failed
-abbrev pub PutsUnderRule : Type 0 → List ℕ → (RuleSets → List ℕ) → Option (List ℕ) → Option (List ℕ) → Result (Unit {0}) Stop → Type 0
-PutsUnderRule MayBe rule wanted old new (Ok done) = MayBe × ((sets : RuleSets) × (read_rule rule ≡ Ok sets) × Gains old new (wanted sets))
+-- what a job with valid arguments puts, given the text of a rule: the wanted text under this rule, or a prefix of it
+-- before a put that failed
+abbrev pub PutsUnderRule : Type 0 → List ℕ → (RuleSets → List ℕ) → Option (List ℕ) → Option (List ℕ)
+    → Result (Unit {0}) Stop → Type 0
+PutsUnderRule MayBe rule wanted old new (Ok done) =
+    MayBe × ((sets : RuleSets) × (read_rule rule ≡ Ok sets) × Gains old new (wanted sets))
 PutsUnderRule MayBe rule wanted old new (Err OutOfLimit) = ¬ MayBe
 PutsUnderRule MayBe rule wanted old new (Err BadRule) = MayBe × RefusesRule rule
 PutsUnderRule MayBe rule wanted old new (Err Unavailable) = Unit {0}
-PutsUnderRule MayBe rule wanted old new (Err Unwritable) = MayBe × ((sets : RuleSets) × (read_rule rule ≡ Ok sets) × GainsSome old new (wanted sets))
+PutsUnderRule MayBe rule wanted old new (Err Unwritable) =
+    MayBe × ((sets : RuleSets) × (read_rule rule ≡ Ok sets) × GainsSome old new (wanted sets))
 PutsUnderRule MayBe rule wanted old new (Err stop) = ⊥
 
 -- what is put for the arguments of a haul: its table

@@ -19,11 +19,15 @@ use Rattle.life_hauls.specs.Soups.{soup_of}
 
 -- The haul over two adjacent ranges is the sum of the hauls over each ..
 abbrev pub HaulsAddUp : Type 0
-HaulsAddUp = (s : Symmetry) (root : List ℕ) (rule : RuleSets) (n limit first a b : ℕ) → haul_of s root rule n limit first (a + b) ≡ together (haul_of s root rule n limit first a) (haul_of s root rule n limit (first + a) b)
+HaulsAddUp =
+    (s : Symmetry) (root : List ℕ) (rule : RuleSets) (n limit first a b : ℕ) → haul_of s root rule n limit first (a + b)
+    ≡ together (haul_of s root rule n limit first a) (haul_of s root rule n limit (first + a) b)
 
 -- .. which joins the sightings of each code: the counts add up, and the first soup is the smaller ..
 abbrev pub TogetherByCodes : Type 0
-TogetherByCodes = (a b : HaulCounts) (code : List ℕ) → table.find row_cmp code (together a b).rows ≡ joined (table.find row_cmp code a.rows) (table.find row_cmp code b.rows)
+TogetherByCodes =
+    (a b : HaulCounts) (code : List ℕ) → table.find row_cmp code (together a b).rows
+    ≡ joined (table.find row_cmp code a.rows) (table.find row_cmp code b.rows)
 
 -- .. in either order ..
 abbrev pub TogetherInAnyOrder : Type 0
@@ -42,7 +46,9 @@ count_of (Some s) = s.count
 
 -- The count is the sum over the soups; the first soup has one, and no soup with a smaller number does ..
 abbrev pub SeenIsLeast : Type 0
-SeenIsLeast = (f : ℕ → ℕ) (ns : List ℕ) (s : Sighting) → seen f ns ≡ Some s → (s.count ≡ sum_by f ns) × Contains ns s.first × (1 ≤ f s.first) × ((i : ℕ) → Contains ns i → 1 ≤ f i → s.first ≤ i)
+SeenIsLeast =
+    (f : ℕ → ℕ) (ns : List ℕ) (s : Sighting) → seen f ns ≡ Some s → (s.count ≡ sum_by f ns)
+    × Contains ns s.first × (1 ≤ f s.first) × ((i : ℕ) → Contains ns i → 1 ≤ f i → s.first ≤ i)
 
 -- .. and there is no sighting exactly if the sum is 0.
 abbrev pub NothingIsSeen : Type 0
@@ -52,7 +58,8 @@ NothingIsSeen = (f : ℕ → ℕ) (ns : List ℕ) → (seen f ns ≡ None) ↔ (
 
 -- the tally of generation n of soup i
 abbrev pub soup_tally : Symmetry → List ℕ → RuleSets → ℕ → ℕ → ℕ → TallyCounts
-soup_tally s root rule n limit i = tally_of (λ P. code_of rule P limit) (clusters_of (generation_of rule (soup_of s root i) n))
+soup_tally s root rule n limit i =
+    tally_of (λ P. code_of rule P limit) (clusters_of (generation_of rule (soup_of s root i) n))
 
 -- how many clusters of a tally have a code
 abbrev pub count_in : List ℕ → TallyCounts → ℕ
@@ -61,26 +68,34 @@ count_in code t = unwrap_or (table.find row_cmp code t.rows) 0
 -- The row of a code is its sighting in the tallies of the soups; there is no row if no tally has the code ..
 abbrev pub RowsAreOfTallies : Type 0
 RowsAreOfTallies = (s : Symmetry) (root : List ℕ) (rule : RuleSets) (n limit first count : ℕ) (code : List ℕ)
-    → table.find row_cmp code (haul_of s root rule n limit first count).rows ≡ seen (λ i. count_in code (soup_tally s root rule n limit i)) (range_with_len first count)
+    → table.find row_cmp code (haul_of s root rule n limit first count).rows
+    ≡ seen (λ i. count_in code (soup_tally s root rule n limit i)) (range_with_len first count)
 
 -- .. the rows ascend by their codes, byte by byte ..
 abbrev pub RowsAscend : Type 0
-RowsAscend = (s : Symmetry) (root : List ℕ) (rule : RuleSets) (n limit first count : ℕ) → IsStrictlySortedBy row_cmp (map (λ (row : List ℕ × Sighting). row.0) (haul_of s root rule n limit first count).rows)
+RowsAscend =
+    (s : Symmetry) (root : List ℕ) (rule : RuleSets) (n limit first count : ℕ) → IsStrictlySortedBy row_cmp
+    (map (λ (row : List ℕ × Sighting). row.0) (haul_of s root rule n limit first count).rows)
 
 -- .. the sighting without a code is that of the tallies ..
 abbrev pub UnresolvedAreOfTallies : Type 0
 UnresolvedAreOfTallies = (s : Symmetry) (root : List ℕ) (rule : RuleSets) (n limit first count : ℕ)
-    → (haul_of s root rule n limit first count).unresolved ≡ seen (λ i. (soup_tally s root rule n limit i).unresolved) (range_with_len first count)
+    → (haul_of s root rule n limit first count).unresolved
+    ≡ seen (λ i. (soup_tally s root rule n limit i).unresolved) (range_with_len first count)
 
 -- .. and each cluster of each soup is counted once.
 abbrev pub ClustersCountOnce : Type 0
 ClustersCountOnce = (s : Symmetry) (root : List ℕ) (rule : RuleSets) (n limit first count : ℕ)
-    → (sum_by (λ (row : List ℕ × Sighting). row.1.count) (haul_of s root rule n limit first count).rows + count_of (haul_of s root rule n limit first count).unresolved
+    → (sum_by (λ (row : List ℕ × Sighting). row.1.count) (haul_of s root rule n limit first count).rows
+    + count_of (haul_of s root rule n limit first count).unresolved
     ≡ sum_by (λ i. (soup_tally s root rule n limit i).total) (range_with_len first count))
-    × ((haul_of s root rule n limit first count).total ≡ sum_by (λ i. (soup_tally s root rule n limit i).total) (range_with_len first count))
+    × ((haul_of s root rule n limit first count).total
+    ≡ sum_by (λ i. (soup_tally s root rule n limit i).total) (range_with_len first count))
 
--- The sums of a table are right: the clusters are the sum of all rows, including those without a code, and the soups are those of the range.
+-- The sums of a table are right: the clusters are the sum of all rows, including those without a code, and the soups
+-- are those of the range.
 abbrev pub SumsAreCounts : Type 0
 SumsAreCounts = (s : Symmetry) (root : List ℕ) (rule : RuleSets) (n limit first count : ℕ)
-    → ((haul_of s root rule n limit first count).total ≡ sum_by (λ (row : List ℕ × Sighting). row.1.count) (haul_of s root rule n limit first count).rows + count_of (haul_of s root rule n limit first count).unresolved)
+    → ((haul_of s root rule n limit first count).total ≡ sum_by (λ (row : List ℕ × Sighting). row.1.count)
+    (haul_of s root rule n limit first count).rows + count_of (haul_of s root rule n limit first count).unresolved)
     × ((haul_of s root rule n limit first count).soups ≡ count)

@@ -1,5 +1,8 @@
--- Soups: random fields as soup search programs make them (apgsearch, Catagolue: the SHA-256 digest of a seed, bit by bit), with their symmetries.
-use Rattle.std.specs.Prelude.{◌≡◌, ◌⊎◌, ◌<◌, ℕ, ◌+◌, ◌-◌, ◌*◌, ◌/◌, ◌%◌, ◌^◌, pos, negsuc, neg_ℤ, ◌-ℤ◌, Bool, true, ◌==◌, if◌then◌else◌, List, ◌++◌, map, filter, slice_index, Option, None, Some, codes, bytes_eq}
+-- Soups: random fields as soup search programs make them (apgsearch, Catagolue: the SHA-256 digest of a seed, bit by
+-- bit), with their symmetries.
+use Rattle.std.specs.Prelude.{◌≡◌, ◌⊎◌, ◌<◌, ℕ, ◌+◌, ◌-◌, ◌*◌, ◌/◌, ◌%◌, ◌^◌, pos, negsuc, neg_ℤ, ◌-ℤ◌, Bool, true}
+use Rattle.std.specs.Prelude.{◌==◌, if◌then◌else◌, List, ◌++◌, map, filter, slice_index, Option, None, Some, codes}
+use Rattle.std.specs.Prelude.{bytes_eq}
 use Rattle.std.specs.Fmt.{decimal}
 use Rattle.std.specs.List.{range_with_len}
 use Rattle.std.specs.FinSet as set
@@ -7,7 +10,8 @@ use Rattle.sha2.specs.Sha256.{sha256}
 use Rattle.life_core.specs.declared.cell.Cell.{Cell}
 use Rattle.life_core.specs.Pattern.{Cells}
 use Rattle.life_hauls.specs.declared.symmetry.Symmetry.{Symmetry}
-use Rattle.life_hauls.specs.declared.symmetry.Symmetry.TheVariants.{C1, EightRows, FourRows, TwoRows, OneRow, D2Plus1, D2Plus2}
+use Rattle.life_hauls.specs.declared.symmetry.Symmetry.TheVariants.{C1, EightRows, FourRows, TwoRows, OneRow, D2Plus1}
+use Rattle.life_hauls.specs.declared.symmetry.Symmetry.TheVariants.{D2Plus2}
 use Rattle.life_hauls.specs.declared.symmetry.Mirror.{Mirror}
 use Rattle.life_hauls.specs.declared.symmetry.Mirror.TheVariants.{OnRow, BetweenRows}
 
@@ -77,7 +81,8 @@ with_images (Some m) cs = cs ++ map (mirrored m) cs
 abbrev pub soup_cells : Symmetry → List ℕ → List Cell
 soup_cells s digest = with_images (mirror s) (live_cells (width s) digest 256)
 
--- soup i of a root text: the cells whose bits are 1 in the digest of the root and the decimal digits of i, with their mirror images if the symmetry has a mirror
+-- soup i of a root text: the cells whose bits are 1 in the digest of the root and the decimal digits of i, with their
+-- mirror images if the symmetry has a mirror
 unfoldable pub soup_of : Symmetry → List ℕ → ℕ → Cells
 soup_of s root i = set.from_list (soup_cells s (sha256 (root ++ decimal i)))
 
@@ -98,11 +103,14 @@ row_bytes s = width s / 8
 -- If b bytes are a row, bit k of byte j, the highest bit first, is the cell at column k + 8 * (j % b) of row j / b ..
 abbrev pub BitsAreCells : Type 0
 BitsAreCells = (s : Symmetry) (root : List ℕ) (i j k : ℕ) → j < 32 → k < 8
-    → set.contains (soup_of s root i) (record { row = pos (j / row_bytes s); column = pos (k + 8 * (j % row_bytes s)) }) ≡ ((slice_index (sha256 (root ++ decimal i)) j / 2 ^ (7 - k)) % 2 == 1)
+    → set.contains (soup_of s root i) (record { row = pos (j / row_bytes s); column = pos (k + 8 * (j % row_bytes s)) })
+    ≡ ((slice_index (sha256 (root ++ decimal i)) j / 2 ^ (7 - k)) % 2 == 1)
 
 -- .. a soup with a mirror is its own mirror image ..
 abbrev pub MirrorsKeepSoups : Type 0
-MirrorsKeepSoups = (s : Symmetry) (m : Mirror) (root : List ℕ) (i : ℕ) (c : Cell) → mirror s ≡ Some m → set.contains (soup_of s root i) (mirrored m c) ≡ set.contains (soup_of s root i) c
+MirrorsKeepSoups =
+    (s : Symmetry) (m : Mirror) (root : List ℕ) (i : ℕ) (c : Cell) → mirror s ≡ Some m
+    → set.contains (soup_of s root i) (mirrored m c) ≡ set.contains (soup_of s root i) c
 
 -- a cell is this one, or its mirror image, if there is a mirror
 abbrev pub IsCellOrImage : Option Mirror → Cell → Cell → Type 0
@@ -112,4 +120,5 @@ IsCellOrImage (Some m) d c = (c ≡ d) ⊎ (c ≡ mirrored m d)
 -- .. and all cells lie in the field of 256 cells or are mirror images of such cells.
 abbrev pub SoupsAreFields : Type 0
 SoupsAreFields = (s : Symmetry) (root : List ℕ) (i : ℕ) (c : Cell) → set.contains (soup_of s root i) c ≡ true
-    → (x : ℕ) × (y : ℕ) × (x < width s) × (y < 256 / width s) × IsCellOrImage (mirror s) (record { row = pos y; column = pos x }) c
+    → (x : ℕ) × (y : ℕ) × (x < width s) × (y < 256 / width s)
+    × IsCellOrImage (mirror s) (record { row = pos y; column = pos x }) c

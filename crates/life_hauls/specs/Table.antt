@@ -1,4 +1,5 @@
--- The table of a haul: its arguments, the counts as comma-separated values (RFC 4180, with a header line; lines end in a line feed alone), and the sums.
+-- The table of a haul: its arguments, the counts as comma-separated values (RFC 4180, with a header line; lines end in
+-- a line feed alone), and the sums.
 use Rattle.std.specs.Prelude.{ℕ, List, [], ◌∷◌, ◌++◌, codes, Option, None, Some}
 use Rattle.std.specs.Fmt.{decimal}
 use Rattle.std.specs.List.{flat_map}
@@ -20,9 +21,12 @@ unfoldable pub symmetry_line : Symmetry → List ℕ
 symmetry_line C1 = []
 symmetry_line s = named (codes "# symmetry ") (symmetry_name s)
 
--- the arguments of a haul, a line each: the root, the text of the rule, the generation, the limit on the period, and the symmetry
+-- the arguments of a haul, a line each: the root, the text of the rule, the generation, the limit on the period, and
+-- the symmetry
 abbrev pub heading : Symmetry → List ℕ → List ℕ → ℕ → ℕ → List ℕ
-heading s root rule n limit = named (codes "# root ") root ++ named (codes "# rule ") rule ++ named (codes "# generation ") (decimal n) ++ named (codes "# limit ") (decimal limit) ++ symmetry_line s
+heading s root rule n limit =
+    named (codes "# root ") root ++ named (codes "# rule ") rule ++ named (codes "# generation ") (decimal n)
+    ++ named (codes "# limit ") (decimal limit) ++ symmetry_line s
 
 -- a count, a comma, and the number of the first soup
 abbrev pub sighting_text : Sighting → List ℕ
@@ -39,11 +43,14 @@ line row = row.0 ++ comma ∷ sighting_text row.1 ++ line_feed ∷ []
 
 -- a header, a line for each code with its sighting, and a line with the sighting of clusters without a code
 abbrev pub counts_text : HaulCounts → List ℕ
-counts_text h = codes "code,count,first\n" ++ flat_map line h.rows ++ codes "unresolved," ++ unresolved_text h.unresolved ++ codes "\n"
+counts_text h =
+    codes "code,count,first\n" ++ flat_map line h.rows ++ codes "unresolved,"
+    ++ unresolved_text h.unresolved ++ codes "\n"
 
 -- the number of clusters; and the number of soups, with that of the first
 abbrev pub sums_text : ℕ → HaulCounts → List ℕ
-sums_text first h = codes "clusters," ++ decimal h.total ++ codes ",\nsoups," ++ decimal h.soups ++ comma ∷ decimal first ++ codes "\n"
+sums_text first h =
+    codes "clusters," ++ decimal h.total ++ codes ",\nsoups," ++ decimal h.soups ++ comma ∷ decimal first ++ codes "\n"
 
 -- the whole table
 abbrev pub csv_text : Symmetry → List ℕ → RuleSets → ℕ → ℕ → ℕ → HaulCounts → List ℕ

@@ -1,7 +1,8 @@
 -- The arguments of `life-haul`, and the job that they name.
 -- The kit's `clap` defines what a command is, which arguments it takes and what it reads in them; the names of the
 -- arguments are the program's own.
-use Rattle.std.specs.Prelude.{ℕ, Bool, true, ◌||◌, is_some, if◌then◌else◌, List, Option, None, Some, option_and_then, codes, bytes_eq}
+use Rattle.std.specs.Prelude.{ℕ, Bool, true, ◌||◌, is_some, if◌then◌else◌, List, Option, None, Some, option_and_then}
+use Rattle.std.specs.Prelude.{codes, bytes_eq}
 use Rattle.clap.specs.Words.{App, Row, Rule, Text, new_app, new_rule, with_rule, with_subcommand}
 use Rattle.clap.specs.Simple.{on_top}
 use Rattle.life_words.specs.Words.{with_version, number_rule, text_rule, number_at, text_at, matches_in, if_all}
@@ -21,18 +22,24 @@ symmetry_rule = record (new_rule (codes "NAME")) { long = Some (codes "symmetry"
 
 -- `soup ROOT NUMBER --rule RULE --symmetry NAME`
 abbrev pub soup_app : App
-soup_app = with_rule (with_rule (with_rule (with_rule (new_app (codes "soup")) (text_rule (codes "ROOT"))) (number_rule (codes "NUMBER"))) rule_rule) symmetry_rule
+soup_app =
+    with_rule (with_rule (with_rule (with_rule (new_app (codes "soup")) (text_rule (codes "ROOT")))
+    (number_rule (codes "NUMBER"))) rule_rule) symmetry_rule
 
 -- the program's name; with a subcommand it requires no arguments of its own, and it has no subcommand `help`
 abbrev pub haul_alone : App
-haul_alone = on_top (λ top. record top { disable_help_subcommand = true }) (on_top (λ top. record top { subcommand_negates_reqs = true }) (with_version (new_app (codes "life-haul"))))
+haul_alone =
+    on_top (λ top. record top { disable_help_subcommand = true })
+    (on_top (λ top. record top { subcommand_negates_reqs = true }) (with_version (new_app (codes "life-haul"))))
 
 -- `life-haul ROOT FIRST COUNT N LIMIT --rule RULE --symmetry NAME`, and `life-haul soup`
 abbrev pub haul_app : App
 haul_app =
     with_subcommand
     (with_rule
-    (with_rule (with_rule (with_rule (with_rule (with_rule (with_rule haul_alone (text_rule (codes "ROOT"))) (number_rule (codes "FIRST"))) (number_rule (codes "COUNT"))) (number_rule (codes "N"))) (number_rule (codes "LIMIT"))) rule_rule)
+    (with_rule (with_rule (with_rule (with_rule (with_rule (with_rule haul_alone (text_rule (codes "ROOT")))
+    (number_rule (codes "FIRST"))) (number_rule (codes "COUNT"))) (number_rule (codes "N")))
+    (number_rule (codes "LIMIT"))) rule_rule)
     symmetry_rule)
     soup_app.top
 
@@ -45,7 +52,8 @@ pub data Asked : Type 0 where
 
 -- what a job asks for
 abbrev pub asked_by : Job → Asked
-asked_by (Haul words) = AsksHaul words.root.now words.first words.count words.rule.now words.symmetry words.n words.limit
+asked_by (Haul words) =
+    AsksHaul words.root.now words.first words.count words.rule.now words.symmetry words.n words.limit
 asked_by (Soup words) = AsksSoup words.root.now words.number words.rule.now words.symmetry
 
 -- the text of a rule, or that of Conway's Life if no rule is given
@@ -59,19 +67,24 @@ symmetry_or_c1 None = Some C1
 symmetry_or_c1 (Some name) = symmetry_named name
 
 -- the haul with these arguments, if all of them are given
-abbrev pub haul_of_words : Option Text → Option ℕ → Option ℕ → Text → Option Symmetry → Option ℕ → Option ℕ → Option Asked
-haul_of_words (Some root) (Some first) (Some count) rule (Some symmetry) (Some n) (Some limit) = Some (AsksHaul root first count rule symmetry n limit)
+abbrev pub haul_of_words : Option Text → Option ℕ → Option ℕ → Text → Option Symmetry → Option ℕ
+    → Option ℕ → Option Asked
+haul_of_words (Some root) (Some first) (Some count) rule (Some symmetry) (Some n) (Some limit) =
+    Some (AsksHaul root first count rule symmetry n limit)
 haul_of_words root first count rule symmetry n limit = None
 
 -- the haul of the arguments that were found
 abbrev pub haul_in : List Row → Option Asked
 haul_in rows =
-    haul_of_words (text_at (codes "ROOT") rows) (number_at (codes "FIRST") rows) (number_at (codes "COUNT") rows) (rule_or_life (text_at (codes "RULE") rows)) (symmetry_or_c1 (text_at (codes "NAME") rows)) (number_at (codes "N") rows) (number_at (codes "LIMIT") rows)
+    haul_of_words (text_at (codes "ROOT") rows) (number_at (codes "FIRST") rows) (number_at (codes "COUNT") rows)
+    (rule_or_life (text_at (codes "RULE") rows)) (symmetry_or_c1 (text_at (codes "NAME") rows))
+    (number_at (codes "N") rows) (number_at (codes "LIMIT") rows)
 
 -- the soup of the arguments that were found after the name of the subcommand
 abbrev pub soup_in : List Row → Option Asked
 soup_in rows =
-    if_all (λ root number symmetry. AsksSoup root number (rule_or_life (text_at (codes "RULE") rows)) symmetry) (text_at (codes "ROOT") rows) (number_at (codes "NUMBER") rows) (symmetry_or_c1 (text_at (codes "NAME") rows))
+    if_all (λ root number symmetry. AsksSoup root number (rule_or_life (text_at (codes "RULE") rows)) symmetry)
+    (text_at (codes "ROOT") rows) (number_at (codes "NUMBER") rows) (symmetry_or_c1 (text_at (codes "NAME") rows))
 
 -- the job of the subcommand of this name
 abbrev pub job_named : Text → List Row → Option Asked
@@ -79,7 +92,9 @@ job_named name rows = if bytes_eq name (codes "soup") then soup_in rows else Non
 
 -- whether there is a root, a rule or a symmetry
 abbrev pub is_any_before : List Row → Bool
-is_any_before rows = is_some (text_at (codes "ROOT") rows) || (is_some (text_at (codes "RULE") rows) || is_some (text_at (codes "NAME") rows))
+is_any_before rows =
+    is_some (text_at (codes "ROOT") rows)
+    || (is_some (text_at (codes "RULE") rows) || is_some (text_at (codes "NAME") rows))
 
 -- the job of the arguments that were found, and of the given subcommand, whose name has to come first
 abbrev pub job_of : List Row → Option (Text × List Row) → Option Asked

@@ -22,8 +22,10 @@ use Rattle.life_census.specs.Rows.{TallyCounts}
 use Rattle.life_census.specs.Counting.{IsTally, tally_of}
 use Rattle.life_census.specs.Table.{csv_text}
 use Rattle.life_jobs.specs.declared.stop.Stop.{Stop}
-use Rattle.life_jobs.specs.declared.stop.Stop.TheVariants.{OutOfLimit, BadPattern, BadRule, BadCode, Unreadable, Unavailable, Unwritable}
-use Rattle.life_jobs.specs.Jobs.{IsPeriodLimit, code_or_dash, file_text, census_table, PrintsObject, PutsObject, PutsKnown}
+use Rattle.life_jobs.specs.declared.stop.Stop.TheVariants.{OutOfLimit, BadPattern, BadRule, BadCode, Unreadable}
+use Rattle.life_jobs.specs.declared.stop.Stop.TheVariants.{Unavailable, Unwritable}
+use Rattle.life_jobs.specs.Jobs.{IsPeriodLimit, code_or_dash, file_text, census_table, PrintsObject, PutsObject}
+use Rattle.life_jobs.specs.Jobs.{PutsKnown}
 use Rattle.life_jobs.specs.JobsState.{code_stop}
 use Rattle.life_jobs.specs.Streams.{ReadsKnown, PutsText}
 
@@ -41,7 +43,8 @@ module _ (shown : Contents → List ℕ) where
   fault_of_file bytes fault is = ap (λ answer. answer >>= λ r. Ok (shown r)) is
 
   -- a job that stops where its input is read
-  pub stops_at_input : (known old new : Option (List ℕ)) (stop : Stop) → ReadsKnown known (Err stop) → PutsKnown (file_text shown) known old new (Err stop)
+  pub stops_at_input : (known old new : Option (List ℕ)) (stop : Stop) → ReadsKnown known (Err stop)
+      → PutsKnown (file_text shown) known old new (Err stop)
   stops_at_input None old new stop h = tt
   stops_at_input (Some bytes) old new OutOfLimit h = h
   stops_at_input (Some bytes) old new (BadPattern fault) h = fault_of_file bytes fault h
@@ -52,7 +55,8 @@ module _ (shown : Contents → List ℕ) where
   stops_at_input (Some bytes) old new Unwritable h = absurd h
 
   -- a job that puts the text of what it read
-  pub puts_text : (known old new : Option (List ℕ)) (r : Contents) (all : List ℕ) (answer : Result (Unit {0}) Stop) → ReadsKnown known (Ok r) → all ≡ shown r
+  pub puts_text : (known old new : Option (List ℕ)) (r : Contents) (all : List ℕ) (answer : Result (Unit {0}) Stop)
+      → ReadsKnown known (Ok r) → all ≡ shown r
       → PutsText old new all answer → PutsKnown (file_text shown) known old new answer
   puts_text None old new r all answer h is puts = tt
   puts_text (Some bytes) old new r all (Ok done) h is puts = (all, text_of_file bytes r h ∙ ap Ok (sym is), puts)
@@ -67,7 +71,8 @@ module _ (shown : Contents → List ℕ) where
 -- ---- the line of a kind
 
 -- there is no code without a cell or without a period
-pub no_code : (r : RuleSets) (X : Cells) (limit : ℕ) (k : Kind) → k ≡ kind_of r X limit → (k ≡ Empty) ⊎ (k ≡ Unresolved) → codes "-" ≡ code_or_dash (code_of r X limit)
+pub no_code : (r : RuleSets) (X : Cells) (limit : ℕ) (k : Kind) → k ≡ kind_of r X limit → (k ≡ Empty) ⊎ (k ≡ Unresolved)
+    → codes "-" ≡ code_or_dash (code_of r X limit)
 unfolding code_of
 no_code r X limit k is (inl empty) = ap (λ k. code_or_dash (code_by_kind r X k)) (sym empty ∙ is)
 no_code r X limit k is (inr unresolved) = ap (λ k. code_or_dash (code_by_kind r X k)) (sym unresolved ∙ is)
@@ -75,11 +80,14 @@ no_code r X limit k is (inr unresolved) = ap (λ k. code_or_dash (code_by_kind r
 -- ---- the table of a census
 
 -- what a tally is determines it
-tally_is : (code : Cells → Option (List ℕ)) (Ps : List Cells) (t : TallyCounts) → IsTally code Ps t → t ≡ tally_of code Ps
+tally_is : (code : Cells → Option (List ℕ)) (Ps : List Cells) (t : TallyCounts) → IsTally code Ps t
+    → t ≡ tally_of code Ps
 tally_is code Ps t is = λ i. record { rows = is.rows i; unresolved = is.unresolved i; total = is.total i }
 
 -- the table of the tally of a generation of a record
-pub table_of_record : (r s : Contents) (n limit : ℕ) (X : Cells) (t : TallyCounts) → r ≡ s → X ≡ generation_of r.rule r.cells n → IsTally (λ P. code_of r.rule P limit) (clusters_of X) t → csv_text t ≡ census_table n limit s
+pub table_of_record : (r s : Contents) (n limit : ℕ) (X : Cells) (t : TallyCounts) → r ≡ s
+    → X ≡ generation_of r.rule r.cells n → IsTally (λ P. code_of r.rule P limit) (clusters_of X) t
+    → csv_text t ≡ census_table n limit s
 table_of_record r s n limit X t same is tallied =
     ap csv_text (tally_is (λ P. code_of r.rule P limit) (clusters_of X) t tallied)
     ∙ ap (λ Y. csv_text (tally_of (λ P. code_of r.rule P limit) (clusters_of Y))) is
@@ -88,7 +96,8 @@ table_of_record r s n limit X t same is tallied =
 -- ---- the set of a code
 
 -- what holds of the stop for a code that is not opened
-pub by_fault : (P : Stop → Type 0) (fault : CodeFault) (stop : Stop) → stop ≡ code_stop fault → P Unavailable → (fault ≢ code_faults.Memory → P (BadCode fault)) → P stop
+pub by_fault : (P : Stop → Type 0) (fault : CodeFault) (stop : Stop) → stop ≡ code_stop fault
+    → P Unavailable → (fault ≢ code_faults.Memory → P (BadCode fault)) → P stop
 by_fault P fault stop is unavailable bad = subst P (sym is) (go fault bad)
   where
     go : (f : CodeFault) → (f ≢ code_faults.Memory → P (BadCode f)) → P (code_stop f)
@@ -97,14 +106,17 @@ by_fault P fault stop is unavailable bad = subst P (sym is) (go fault bad)
     go code_faults.NotWithinLimit bad = bad (λ e. cc)
     go code_faults.Memory bad = unavailable
 
-module _ (rule code text : List ℕ) (limit m : ℕ) (r : RuleSets) (rule_is : read_rule rule ≡ Ok r) (limit_is : m ≡ limit) (code_is : text ≡ code) where
+module _ (rule code text : List ℕ) (limit m : ℕ) (r : RuleSets) (rule_is : read_rule rule ≡ Ok r)
+    (limit_is : m ≡ limit) (code_is : text ≡ code) where
   -- what holds under the limit and for the code that a job took holds for its words
   for_words : (P : List ℕ → ℕ → Type 0) → P text m → P code limit
   for_words P holds = subst (P code) limit_is (subst (λ t. P t m) code_is holds)
 
   -- what a job answers to a code that is not opened
-  pub refuses_code : (old new : Option (List ℕ)) (fault : CodeFault) (stop : Stop) → stop ≡ code_stop fault → IsPeriodLimit limit
-      → Refuses r text m fault → (fault ≢ code_faults.Memory → (X : Cells) → code_of r X m ≢ Some text) → PutsObject rule code limit old new (Err stop)
+  pub refuses_code : (old new : Option (List ℕ)) (fault : CodeFault) (stop : Stop) → stop ≡ code_stop fault
+      → IsPeriodLimit limit
+      → Refuses r text m fault → (fault ≢ code_faults.Memory → (X : Cells) → code_of r X m ≢ Some text)
+      → PutsObject rule code limit old new (Err stop)
   refuses_code old new fault stop is within refuses none =
       by_fault (λ stop. PutsObject rule code limit old new (Err stop)) fault stop is tt (λ judged. (
         within,
@@ -132,7 +144,8 @@ module _ (rule code text : List ℕ) (limit m : ℕ) (r : RuleSets) (rule_is : r
   }
 
   -- what a job answers where the text of an object is put
-  pub puts_object : (old new : Option (List ℕ)) (all : List ℕ) (answer : Result (Unit {0}) Stop) → Shown all → PutsText old new all answer → PutsObject rule code limit old new answer
+  pub puts_object : (old new : Option (List ℕ)) (all : List ℕ) (answer : Result (Unit {0}) Stop)
+      → Shown all → PutsText old new all answer → PutsObject rule code limit old new answer
   puts_object old new all (Ok done) shown puts = (all, prints all shown, puts)
   puts_object old new all (Err OutOfLimit) shown puts = absurd puts
   puts_object old new all (Err (BadPattern fault)) shown puts = puts

@@ -26,7 +26,8 @@ use Rattle.life_census.specs.Cluster.{clusters_of}
 use Rattle.life_census.specs.Counting.{tally_of}
 use Rattle.life_census.specs.Table.{csv_text}
 use Rattle.life_jobs.specs.declared.stop.Stop.{Stop}
-use Rattle.life_jobs.specs.declared.stop.Stop.TheVariants.{OutOfLimit, BadPattern, BadRule, BadCode, Unreadable, Unavailable, Unwritable}
+use Rattle.life_jobs.specs.declared.stop.Stop.TheVariants.{OutOfLimit, BadPattern, BadRule, BadCode, Unreadable}
+use Rattle.life_jobs.specs.declared.stop.Stop.TheVariants.{Unavailable, Unwritable}
 
 -- ---- what is printed for a file
 
@@ -51,12 +52,15 @@ abbrev pub code_or_dash : Option (List ℕ) → List ℕ
 code_or_dash None = codes "-"
 code_or_dash (Some code) = code
 
--- the printed form of a kind: its name and, if it has them, the period, the columns and rows of its movement, and the code
+-- the printed form of a kind: its name and, if it has them, the period, the columns and rows of its movement, and the
+-- code
 abbrev pub kind_words : Kind → Option (List ℕ) → List ℕ
 kind_words Empty code = codes "empty"
 kind_words Still code = codes "still " ++ code_or_dash code
 kind_words (Oscillator p) code = codes "oscillator " ++ decimal p ++ codes " " ++ code_or_dash code
-kind_words (Ship p dx dy) code = codes "ship " ++ decimal p ++ codes " " ++ signed_decimal dx ++ codes " " ++ signed_decimal dy ++ codes " " ++ code_or_dash code
+kind_words (Ship p dx dy) code =
+    codes "ship " ++ decimal p ++ codes " " ++ signed_decimal dx ++ codes " " ++ signed_decimal dy
+    ++ codes " " ++ code_or_dash code
 kind_words Unresolved code = codes "unresolved"
 
 -- the line of a set's kind under a rule and a limit
@@ -73,7 +77,8 @@ AreCensusNumbers n limit = (n ≤ GENERATION_LIMIT) × IsPeriodLimit limit
 
 -- the CSV of the tally of the clusters of generation n of a record
 abbrev pub census_table : ℕ → ℕ → Contents → List ℕ
-census_table n limit r = csv_text (tally_of (λ P. code_of r.rule P limit) (clusters_of (generation_of r.rule r.cells n)))
+census_table n limit r =
+    csv_text (tally_of (λ P. code_of r.rule P limit) (clusters_of (generation_of r.rule r.cells n)))
 
 -- what `census n limit` prints for a file
 abbrev pub census_text : ℕ → ℕ → List ℕ → Result (List ℕ) RleFault
@@ -109,13 +114,15 @@ PutsObject rule code limit old new (Err OutOfLimit) = ¬ IsPeriodLimit limit
 PutsObject rule code limit old new (Err BadRule) = IsPeriodLimit limit × RefusesRule rule
 PutsObject rule code limit old new (Err (BadCode fault)) = IsPeriodLimit limit × RefusesCode rule code limit fault
 PutsObject rule code limit old new (Err Unavailable) = Unit {0}
-PutsObject rule code limit old new (Err Unwritable) = (all : List ℕ) × PrintsObject rule code limit all × GainsSome old new all
+PutsObject rule code limit old new (Err Unwritable) =
+    (all : List ℕ) × PrintsObject rule code limit all × GainsSome old new all
 PutsObject rule code limit old new (Err stop) = ⊥
 
 -- ---- answers
 
 -- what a job that prints `wanted` for a file answers to these bytes
-abbrev pub PutsBytes : (List ℕ → Result (List ℕ) RleFault) → List ℕ → Option (List ℕ) → Option (List ℕ) → Result (Unit {0}) Stop → Type 0
+abbrev pub PutsBytes : (List ℕ → Result (List ℕ) RleFault) → List ℕ → Option (List ℕ) → Option (List ℕ)
+    → Result (Unit {0}) Stop → Type 0
 PutsBytes wanted bytes old new (Ok done) = (all : List ℕ) × (wanted bytes ≡ Ok all) × Gains old new all
 PutsBytes wanted bytes old new (Err (BadPattern fault)) = wanted bytes ≡ Err fault
 PutsBytes wanted bytes old new (Err Unreadable) = Unit {0}
@@ -124,6 +131,7 @@ PutsBytes wanted bytes old new (Err Unwritable) = (all : List ℕ) × (wanted by
 PutsBytes wanted bytes old new (Err stop) = ⊥
 
 -- the same, if the input bytes are known
-abbrev pub PutsKnown : (List ℕ → Result (List ℕ) RleFault) → Option (List ℕ) → Option (List ℕ) → Option (List ℕ) → Result (Unit {0}) Stop → Type 0
+abbrev pub PutsKnown : (List ℕ → Result (List ℕ) RleFault) → Option (List ℕ) → Option (List ℕ)
+    → Option (List ℕ) → Result (Unit {0}) Stop → Type 0
 PutsKnown wanted None old new answer = Unit {0}
 PutsKnown wanted (Some bytes) old new answer = PutsBytes wanted bytes old new answer

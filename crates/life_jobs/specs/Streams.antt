@@ -34,9 +34,10 @@ ReportsFailures old new (Ok x) = new ≡ old
 ReportsFailures old new (Err Unreadable) = new ≡ raised old
 ReportsFailures old new (Err stop) = new ≡ old
 
--- what a job does with the input, given its bytes and how often a take failed and the end was found, before and after: it takes at most one byte
--- more than a file may have, and nothing after the end
-pub record TakesFile {X : Type 0} (known_old known_new : Option (List ℕ)) (failed_old failed_new : ℕ) (ends_old ends_new last : ℕ) (answer : Result X Stop) : Type 0 where
+-- what a job does with the input, given its bytes and how often a take failed and the end was found, before and after:
+-- it takes at most one byte more than a file may have, and nothing after the end
+pub record TakesFile {X : Type 0} (known_old known_new : Option (List ℕ)) (failed_old failed_new : ℕ)
+    (ends_old ends_new last : ℕ) (answer : Result X Stop) : Type 0 where
   pub on_failed_take : ReportsFailures failed_old failed_new answer
   pub few : LosesUpTo 1048577 known_old known_new
   pub ended : EndsLast ends_old ends_new last
@@ -56,9 +57,10 @@ IsSilent old new (Ok done) = Unit {0}
 IsSilent old new (Err Unwritable) = Unit {0}
 IsSilent old new (Err stop) = new ≡ old
 
--- what a job does with the output, given how often it failed before and after, and whether the last put failed: if the job succeeds, no put failed;
--- the answer is Unwritable only if one did, and nothing was put after it
-pub record PutsOnce {O : Type 0} (old new : O) (failed_old failed_new : ℕ) (last : Bool) (answer : Result (Unit {0}) Stop) : Type 0 where
+-- what a job does with the output, given how often it failed before and after, and whether the last put failed: if the
+-- job succeeds, no put failed; the answer is Unwritable only if one did, and nothing was put after it
+pub record PutsOnce {O : Type 0} (old new : O) (failed_old failed_new : ℕ) (last : Bool)
+    (answer : Result (Unit {0}) Stop) : Type 0 where
   pub silent : IsSilent old new answer
   pub put : OnOk answer (failed_new ≡ failed_old)
   pub unwritable : answer ≡ Err Unwritable → FailsLast failed_old failed_new last

@@ -17,15 +17,20 @@ use Rattle.life_pages.specs.Message.{AnswersAsked}
 
 module _ {D : Type 0} (answers : D → Request → Reply → D → Type 0) where
   pub written : (old new : D) (q : Request) (r : Reply) (bytes : List ℕ) → answers old q r new
-      → (is_shown r ≡ true → answers old q (says.Refused refusals.Unavailable) new) → Writes r bytes → AnswersAsked answers old (Ok q) bytes new
+      → (is_shown r ≡ true → answers old q (says.Refused refusals.Unavailable) new) → Writes r bytes
+      → AnswersAsked answers old (Ok q) bytes new
   written old new q r bytes a may_be_unavailable (inl e) = (r, a, e)
-  written old new q r bytes a may_be_unavailable (inr p) = (says.Refused refusals.Unavailable, may_be_unavailable p.0, p.1)
+  written old new q r bytes a may_be_unavailable (inr p) =
+      (says.Refused refusals.Unavailable, may_be_unavailable p.0, p.1)
 
-  pub message_refused : (d : D) (u : Unasked) (refusal : MessageRefusal) (bytes : List ℕ) → u ≡ unasked.Message refusal → bytes ≡ message_refusal_bytes refusal
+  pub message_refused : (d : D) (u : Unasked) (refusal : MessageRefusal) (bytes : List ℕ) → u ≡ unasked.Message refusal
+      → bytes ≡ message_refusal_bytes refusal
       → (read : Result Request MessageRefusal) → IsAsked (Err u) read → AnswersAsked answers d read bytes d
   message_refused d u refusal bytes e made read asked = let is = rw e at asked in rw is (made, refl)
 
   pub request_refused : (d : D) (u : Unasked) (refusal : Refusal) (bytes : List ℕ) → u ≡ unasked.Request refusal
-      → ((q : Request) (r : Refusal) → MayRefuse (validated q) r → answers d q (says.Refused r) d) → bytes ≡ bytes_of (says.Refused refusal)
+      → ((q : Request) (r : Refusal) → MayRefuse (validated q) r → answers d q (says.Refused r) d)
+      → bytes ≡ bytes_of (says.Refused refusal)
       → (read : Result Request MessageRefusal) → IsAsked (Err u) read → AnswersAsked answers d read bytes d
-  request_refused d u refusal bytes e law made read asked = let it = rw e at asked in rw it.1 (says.Refused refusal, law it.0 refusal it.2, made)
+  request_refused d u refusal bytes e law made read asked =
+      let it = rw e at asked in rw it.1 (says.Refused refusal, law it.0 refusal it.2, made)

@@ -12,7 +12,8 @@ use Rattle.life_pages.proofs.ArchiveRuns.{run_answered, by_taken, left_safely}
 use Rattle.life_pages.proofs.FirmReplies.{firm_run}
 
 module _ {S : Type 0} (g : Ghosts S) (old new : ArchiveView S) (law : IsSettled g old) where
-  pub is_answered : (are : List Message → Type 0) (puts : List ℕ → Type 0) (ms : List Message) (bytes : List ℕ) → are ms → puts bytes → MessageRun (AnswersMessage (StoreAnswers g)) old ms bytes new
+  pub is_answered : (are : List Message → Type 0) (puts : List ℕ → Type 0) (ms : List Message) (bytes : List ℕ)
+      → are ms → puts bytes → MessageRun (AnswersMessage (StoreAnswers g)) old ms bytes new
       → IsAnswered g are puts old new
   is_answered are puts ms bytes is put run =
       let it = run_answered g old new ms bytes run in
@@ -27,10 +28,15 @@ module _ {S : Type 0} (g : Ghosts S) (old new : ArchiveView S) (law : IsSettled 
         crash = left_safely g old new ms bytes law it;
       }
 
-  pub first_answered : (stream x y : Option (List ℕ)) → RepliesCutShort (AnswersMessage (StoreAnswers g)) stream old new x y → IsAnswered g (AreFirstOf stream) (GainsSome x y) old new
-  first_answered stream x y some = is_answered (AreFirstOf stream) (GainsSome x y) some.done some.bytes some.messages some.put some.run
+  pub first_answered : (stream x y : Option (List ℕ))
+      → RepliesCutShort (AnswersMessage (StoreAnswers g)) stream old new x y
+      → IsAnswered g (AreFirstOf stream) (GainsSome x y) old new
+  first_answered stream x y some =
+      is_answered (AreFirstOf stream) (GainsSome x y) some.done some.bytes some.messages some.put some.run
 
-  pub all_answered : (stream x y : Option (List ℕ)) (r : Result (Unit {0}) IoFault) → OnOk r (Served (AnswersMessage (StoreAnswers g)) stream old new x y)
+  pub all_answered : (stream x y : Option (List ℕ)) (r : Result (Unit {0}) IoFault)
+      → OnOk r (Served (AnswersMessage (StoreAnswers g)) stream old new x y)
       → OnOk r (IsAnswered g (AreAllOf stream) (Gains x y) old new)
   all_answered stream x y (Err fault) all = tt
-  all_answered stream x y (Ok done) all = is_answered (AreAllOf stream) (Gains x y) all.done all.bytes all.messages all.put all.run
+  all_answered stream x y (Ok done) all =
+      is_answered (AreAllOf stream) (Gains x y) all.done all.bytes all.messages all.put all.run

@@ -15,31 +15,47 @@ use Rattle.life_pages.specs.Message.{Message, good, bad, AnswersAsked, AnswersMe
 use Rattle.life_pages.specs.Reply.{bytes_of, bad_bytes}
 use Rattle.life_pages.specs.Archive.{SaysNothing, SayNothing, IsServedUntil}
 
--- What a crash leaves of one message whose request is x and whose reply is these bytes: the archive after it; or, if the bytes say
--- nothing of what is kept, the one before it or the one after its request.
+-- What a crash leaves of one message whose request is x and whose reply is these bytes: the archive after it; or, if
+-- the bytes say nothing of what is kept, the one before it or the one after its request.
 abbrev pub LeftOfOne : Archive → Result Request MessageRefusal → List ℕ → Trees → Type 0
 LeftOfOne A x bytes db =
     ((B : Archive) × AnswersAsked RequestStep A x bytes B × LeftRepresents db B)
-    ⊎ (SaysNothing bytes × (LeftRepresents db A ⊎ ((next : Request) × (x ≡ Ok next) × LeftRepresents db (after A next))))
+    ⊎ (SaysNothing bytes × (LeftRepresents db A
+    ⊎ ((next : Request) × (x ≡ Ok next) × LeftRepresents db (after A next))))
 
 module _ (A : Archive) (q : Request) (r : Reply) (bytes : List ℕ) (made : bytes ≡ bytes_of r) (db : Trees) where
   says_nothing : PromiseNothing (r ∷ []) → SaysNothing bytes
   says_nothing none = inl (r, none.0, made)
 
-  of_parts : (front back : List Request) (given rest : List Reply) (mid : Archive) → q ∷ [] ≡ front ++ back → r ∷ [] ≡ given ++ rest → RequestRun A front given mid
-      → LeftRepresents db mid ⊎ ((next : Request) × (more : List Request) × (back ≡ next ∷ more) × LeftRepresents db (after mid next)) → PromiseNothing rest → LeftOfOne A (Ok q) bytes db
-  of_parts [] back [] rest mid e f run (inl mean) none = inr (says_nothing (subst PromiseNothing (sym f) none), inl (subst (λ X. LeftRepresents db X) run mean))
+  of_parts : (front back : List Request) (given rest : List Reply) (mid : Archive) → q ∷ [] ≡ front ++ back
+      → r ∷ [] ≡ given ++ rest → RequestRun A front given mid
+      → LeftRepresents db mid ⊎ ((next : Request) × (more : List Request) × (back ≡ next ∷ more)
+      × LeftRepresents db (after mid next)) → PromiseNothing rest → LeftOfOne A (Ok q) bytes db
+  of_parts [] back [] rest mid e f run (inl mean) none =
+      inr (says_nothing (subst PromiseNothing (sym f) none), inl (subst (λ X. LeftRepresents db X) run mean))
   of_parts [] back [] rest mid e f run (inr (next, more, is, mean)) none =
       let both = e ∙ is in
       let same : q ≡ next = cc in
-      inr (says_nothing (subst PromiseNothing (sym f) none), inr (next, ap Ok same, subst (λ X. LeftRepresents db (after X next)) run mean))
+      inr (
+        says_nothing (subst PromiseNothing (sym f) none),
+        inr (next, ap Ok same, subst (λ X. LeftRepresents db (after X next)) run mean),
+      )
   of_parts [] back (s ∷ given) rest mid e f run left none = absurd run
   of_parts (p ∷ front) back [] rest mid e f run left none = absurd run
   of_parts (p ∷ []) back (s ∷ []) rest mid e f (next, step, run) (inl mean) none =
       let same : q ≡ p = cc in
       let reply : r ≡ s = let h = f in cc in
-      inl (next, (r, subst (λ x. RequestStep A q x next) (sym reply) (subst (λ x. RequestStep A x s next) (sym same) step), made), subst (λ X. LeftRepresents db X) run mean)
-  of_parts (p ∷ []) back (s ∷ []) rest mid e f (next, step, run) (inr (n, more, is, mean)) none = absurd (let empty : [] ≡ back = cc in let bad = empty ∙ is in cc)
+      inl (
+        next,
+        (
+          r,
+          subst (λ x. RequestStep A q x next) (sym reply) (subst (λ x. RequestStep A x s next) (sym same) step),
+          made,
+        ),
+        subst (λ X. LeftRepresents db X) run mean,
+      )
+  of_parts (p ∷ []) back (s ∷ []) rest mid e f (next, step, run) (inr (n, more, is, mean)) none =
+      absurd (let empty : [] ≡ back = cc in let bad = empty ∙ is in cc)
   of_parts (p ∷ []) back (s ∷ t ∷ given) rest mid e f (next, step, run) left none = absurd run
   of_parts (p ∷ x ∷ front) back (s ∷ given) rest mid e f run left none = absurd cc
 
@@ -49,12 +65,25 @@ module _ (A : Archive) (q : Request) (r : Reply) (bytes : List ℕ) (made : byte
 -- ---- messages
 
 -- nothing was answered
-pub until_begun : (A : Archive) (ms : List Message) (bytes : List ℕ) (db : Trees) → SayNothing ms bytes → LeftRepresents db A → IsServedUntil A ms bytes db
-until_begun A ms bytes db none mean = record { front = []; back = ms; given = []; rest = bytes; messages = refl; replies = refl; mid = A; run = (refl, refl); left = inl mean; unpromised = none }
+pub until_begun : (A : Archive) (ms : List Message) (bytes : List ℕ) (db : Trees) → SayNothing ms bytes
+    → LeftRepresents db A → IsServedUntil A ms bytes db
+until_begun A ms bytes db none mean = record {
+  front = [];
+  back = ms;
+  given = [];
+  rest = bytes;
+  messages = refl;
+  replies = refl;
+  mid = A;
+  run = (refl, refl);
+  left = inl mean;
+  unpromised = none;
+}
 
 module _ (A : Archive) where
   -- the first was answered
-  pub until_after_good : (B : Archive) (said : Head) (body : List ℕ) (ms : List Message) (reply later bytes : List ℕ) (db : Trees) → AnswersMessage RequestStep A said body reply B → bytes ≡ reply ++ later
+  pub until_after_good : (B : Archive) (said : Head) (body : List ℕ) (ms : List Message) (reply later bytes : List ℕ)
+      (db : Trees) → AnswersMessage RequestStep A said body reply B → bytes ≡ reply ++ later
       → IsServedUntil B ms later db → IsServedUntil A (good said body ∷ ms) bytes db
   until_after_good B said body ms reply later bytes db answered is it = record {
     front = good said body ∷ it.front;
@@ -70,10 +99,13 @@ module _ (A : Archive) where
   }
 
   -- the first was being answered, and nothing after it says that something is kept
-  pub until_first : (said : Head) (body : List ℕ) (ms : List Message) (reply later bytes : List ℕ) (db : Trees) → bytes ≡ reply ++ later → SayNothing ms later → LeftOfOne A (asked said body) reply db
+  pub until_first : (said : Head) (body : List ℕ) (ms : List Message) (reply later bytes : List ℕ) (db : Trees)
+      → bytes ≡ reply ++ later → SayNothing ms later → LeftOfOne A (asked said body) reply db
       → IsServedUntil A (good said body ∷ ms) bytes db
-  until_first said body ms reply later bytes db is none (inl (B, answered, mean)) = until_after_good B said body ms reply later bytes db answered is (until_begun B ms later db none mean)
-  until_first said body ms reply later bytes db is none (inr (says, inl mean)) = until_begun A (good said body ∷ ms) bytes db (reply, later, says, is, none) mean
+  until_first said body ms reply later bytes db is none (inl (B, answered, mean)) =
+      until_after_good B said body ms reply later bytes db answered is (until_begun B ms later db none mean)
+  until_first said body ms reply later bytes db is none (inr (says, inl mean)) =
+      until_begun A (good said body ∷ ms) bytes db (reply, later, says, is, none) mean
   until_first said body ms reply later bytes db is none (inr (says, inr (next, of, mean))) = record {
     front = [];
     back = good said body ∷ ms;
@@ -88,7 +120,8 @@ module _ (A : Archive) where
   }
 
   -- the first was bad
-  pub until_after_bad : (ms : List Message) (later bytes : List ℕ) (db : Trees) → bytes ≡ bad_bytes ++ later → IsServedUntil A ms later db → IsServedUntil A (bad ∷ ms) bytes db
+  pub until_after_bad : (ms : List Message) (later bytes : List ℕ) (db : Trees) → bytes ≡ bad_bytes ++ later
+      → IsServedUntil A ms later db → IsServedUntil A (bad ∷ ms) bytes db
   until_after_bad ms later bytes db is it = record {
     front = bad ∷ it.front;
     back = it.back;

@@ -16,7 +16,8 @@ use Rattle.life_pages.specs.Requests.{requests_of, ServesTheHeadline}
 use Rattle.life_pages.proofs.RequestRuns.{as_requests}
 
 -- what follows for each archive that was meant
-by_more : {S : Type 0} (g : Ghosts S) (P Q : Archive → Archive → Type 0) (old new : ArchiveView S) → ((A B : Archive) → Represents old A → P A B → Q A B) → ByArchive g P old new → ByArchive g Q old new
+by_more : {S : Type 0} (g : Ghosts S) (P Q : Archive → Archive → Type 0) (old new : ArchiveView S)
+    → ((A B : Archive) → Represents old A → P A B → Q A B) → ByArchive g P old new → ByArchive g Q old new
 by_more g P Q old new more by = record {
   transition = by.transition;
   run = λ healthy A m. let done = by.run healthy A m in (done.0, more A done.0 m done.1, done.2);
@@ -27,21 +28,36 @@ by_more g P Q old new more by = record {
 }
 
 module _ (law : HeadlineHolds) (are : List Message → Type 0) (puts : List ℕ → Type 0) where
-  says : (A B : Archive) (ms : List Message) (bytes : List ℕ) → IsRepresentable A → are ms → MessageRun (AnswersMessage RequestStep) A ms bytes B → puts bytes
+  says : (A B : Archive) (ms : List Message) (bytes : List ℕ) → IsRepresentable A → are ms
+      → MessageRun (AnswersMessage RequestStep) A ms bytes B → puts bytes
       → ServesTheHeadline are puts A B
   says A B ms bytes can begun run put =
       let it = as_requests A B ms bytes run in
-      record { done = ms; replies = it.0; messages = begun; put = subst puts it.2 put; run = it.1; headline = law A B (requests_of ms) it.0 can it.1 }
+      record {
+        done = ms;
+        replies = it.0;
+        messages = begun;
+        put = subst puts it.2 put;
+        run = it.1;
+        headline = law A B (requests_of ms) it.0 can it.1;
+      }
 
-module _ {S : Type 0} (g : Ghosts S) (law : HeadlineHolds) (stream : Option (List ℕ)) (old new : ArchiveView S) (x y : Option (List ℕ)) where
-  pub headline_first : ByArchive g (λ A B. RepliesCutShort (AnswersMessage RequestStep) stream A B x y) old new → ByArchive g (ServesTheHeadline (AreFirstOf stream) (GainsSome x y)) old new
+module _ {S : Type 0} (g : Ghosts S) (law : HeadlineHolds) (stream : Option (List ℕ)) (old new : ArchiveView S)
+    (x y : Option (List ℕ)) where
+  pub headline_first : ByArchive g (λ A B. RepliesCutShort (AnswersMessage RequestStep) stream A B x y) old new
+      → ByArchive g (ServesTheHeadline (AreFirstOf stream) (GainsSome x y)) old new
   headline_first by =
-      by_more g (λ A B. RepliesCutShort (AnswersMessage RequestStep) stream A B x y) (ServesTheHeadline (AreFirstOf stream) (GainsSome x y)) old new
-      (λ A B m b. says law (AreFirstOf stream) (GainsSome x y) A B b.done b.bytes (representable_of old A m) b.messages b.run b.put) by
+      by_more g (λ A B. RepliesCutShort (AnswersMessage RequestStep) stream A B x y)
+      (ServesTheHeadline (AreFirstOf stream) (GainsSome x y)) old new
+      (λ A B m b. says law (AreFirstOf stream) (GainsSome x y) A B b.done b.bytes
+      (representable_of old A m) b.messages b.run b.put) by
 
-  pub headline_all : (r : Result (Unit {0}) IoFault) → OnOk r (ByArchive g (λ A B. Served (AnswersMessage RequestStep) stream A B x y) old new)
+  pub headline_all : (r : Result (Unit {0}) IoFault)
+      → OnOk r (ByArchive g (λ A B. Served (AnswersMessage RequestStep) stream A B x y) old new)
       → OnOk r (ByArchive g (ServesTheHeadline (AreAllOf stream) (Gains x y)) old new)
   headline_all (Err fault) by = tt
   headline_all (Ok u) by =
-      by_more g (λ A B. Served (AnswersMessage RequestStep) stream A B x y) (ServesTheHeadline (AreAllOf stream) (Gains x y)) old new
-      (λ A B m b. says law (AreAllOf stream) (Gains x y) A B b.done b.bytes (representable_of old A m) b.messages b.run b.put) by
+      by_more g (λ A B. Served (AnswersMessage RequestStep) stream A B x y)
+      (ServesTheHeadline (AreAllOf stream) (Gains x y)) old new
+      (λ A B m b. says law (AreAllOf stream) (Gains x y) A B b.done b.bytes
+      (representable_of old A m) b.messages b.run b.put) by

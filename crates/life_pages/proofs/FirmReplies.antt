@@ -15,34 +15,47 @@ use Rattle.life_pages.specs.Serving.{RepliesCutShort}
 use Rattle.life_pages.specs.Archive.{StoreAnswers, AnswersFirmly}
 
 -- what is refused for its own words is not shown
-pub shown_not_refused : {J : Type 0} (x : Result J Refusal) (r s : Reply) (P : Type 0) → is_shown r ≡ true → IfErr x (λ refusal. (r ≡ says.Refused refusal) × P)
+pub shown_not_refused : {J : Type 0} (x : Result J Refusal) (r s : Reply) (P : Type 0) → is_shown r ≡ true
+    → IfErr x (λ refusal. (r ≡ says.Refused refusal) × P)
     → IfErr x (λ refusal. (s ≡ says.Refused refusal) × P)
 shown_not_refused (Ok j) r s P shown it = tt
 shown_not_refused (Err own) r s P shown it = let bad = rw it.0 at shown in absurd (cc)
 
 -- what is refused unasked is refused for its own words, if they are not good
-pub unasked_firm : {D J : Type 0} (d : D) (x : Result J Refusal) (refusal : Refusal) → MayRefuse x refusal → IfErr x (λ own. (says.Refused refusal ≡ says.Refused own) × (d ≡ d))
+pub unasked_firm : {D J : Type 0} (d : D) (x : Result J Refusal) (refusal : Refusal) → MayRefuse x refusal
+    → IfErr x (λ own. (says.Refused refusal ≡ says.Refused own) × (d ≡ d))
 unasked_firm d (Ok j) refusal may = tt
 unasked_firm d (Err own) refusal (inl is) = let same : refusal ≡ own = cc in (ap says.Refused same, refl)
 unasked_firm d (Err own) refusal (inr (fine, is)) = absurd (cc)
 
-firm_reply : {J : Type 0} (x : Result J Refusal) (r : Reply) (P : Type 0) → IfErr x (λ refusal. (r ≡ says.Refused refusal) × P) → IfErr x (λ refusal. r ≡ says.Refused refusal)
+firm_reply : {J : Type 0} (x : Result J Refusal) (r : Reply) (P : Type 0)
+    → IfErr x (λ refusal. (r ≡ says.Refused refusal) × P) → IfErr x (λ refusal. r ≡ says.Refused refusal)
 firm_reply (Ok j) r P it = tt
 firm_reply (Err own) r P it = it.0
 
 module _ {S : Type 0} (g : Ghosts S) where
-  firm_one : (old new : ArchiveView S) (x : Result Request MessageRefusal) (bytes : List ℕ) → AnswersAsked (StoreAnswers g) old x bytes new → AnswersAsked AnswersFirmly tt x bytes tt
+  firm_one : (old new : ArchiveView S) (x : Result Request MessageRefusal) (bytes : List ℕ)
+      → AnswersAsked (StoreAnswers g) old x bytes new → AnswersAsked AnswersFirmly tt x bytes tt
   unfolding StoreAnswers
-  firm_one old new (Ok q) bytes (reply, answered, is) = (reply, firm_reply (validated q) reply (new ≡ old) answered.1, is)
+  firm_one old new (Ok q) bytes (reply, answered, is) =
+      (reply, firm_reply (validated q) reply (new ≡ old) answered.1, is)
   firm_one old new (Err refusal) bytes (is, same) = (is, refl)
 
-  pub firm_run : (old new : ArchiveView S) (ms : List Message) (bytes : List ℕ) → MessageRun (AnswersMessage (StoreAnswers g)) old ms bytes new
+  pub firm_run : (old new : ArchiveView S) (ms : List Message) (bytes : List ℕ)
+      → MessageRun (AnswersMessage (StoreAnswers g)) old ms bytes new
       → MessageRun (AnswersMessage AnswersFirmly) tt ms bytes tt
   firm_run old new [] bytes run = (run.0, refl)
   firm_run old new (bad ∷ ms) bytes (later, is, run) = (later, is, firm_run old new ms later run)
   firm_run old new (good said body ∷ ms) bytes (reply, later, mid, answered, is, run) =
       (reply, later, tt, firm_one old mid (asked said body) reply answered, is, firm_run mid new ms later run)
 
-  pub firm_replies : (stream : Option (List ℕ)) (old new : ArchiveView S) (x y : Option (List ℕ)) → RepliesCutShort (AnswersMessage (StoreAnswers g)) stream old new x y
+  pub firm_replies : (stream : Option (List ℕ)) (old new : ArchiveView S) (x y : Option (List ℕ))
+      → RepliesCutShort (AnswersMessage (StoreAnswers g)) stream old new x y
       → RepliesCutShort (AnswersMessage AnswersFirmly) stream tt tt x y
-  firm_replies stream old new x y b = record { done = b.done; bytes = b.bytes; messages = b.messages; run = firm_run old new b.done b.bytes b.run; put = b.put }
+  firm_replies stream old new x y b = record {
+    done = b.done;
+    bytes = b.bytes;
+    messages = b.messages;
+    run = firm_run old new b.done b.bytes b.run;
+    put = b.put;
+  }

@@ -1,13 +1,18 @@
 -- What is at the front of the held bytes, from what the head reader says about their first 8,192.
-use Rattle.std.proofs.Common.{◌≡◌, ℕ, ◌+◌, ◌-◌, ◌<◌, ◌≤◌, ◌==◌, ◌||◌, ◌&&◌, nat_le, nat_lt, map, codes, Bool, true, false, List, [], ◌∷◌, ◌++◌, length, take, drop, Option, None, Some, option_map, if◌then◌else◌, min, refl, sym, ◌∙◌, ap, subst, inl, inr, append_assoc, append-nil, length-append, length-drop, length-take-le, arith}
+use Rattle.std.proofs.Common.{◌≡◌, ℕ, ◌+◌, ◌-◌, ◌<◌, ◌≤◌, ◌==◌, ◌||◌, ◌&&◌, nat_le, nat_lt, map, codes, Bool, true}
+use Rattle.std.proofs.Common.{false, List, [], ◌∷◌, ◌++◌, length, take, drop, Option, None, Some, option_map}
+use Rattle.std.proofs.Common.{if◌then◌else◌, min, refl, sym, ◌∙◌, ap, subst, inl, inr, append_assoc, append-nil}
+use Rattle.std.proofs.Common.{length-append, length-drop, length-take-le, arith}
 use Rattle.std.proofs.lemmas.List.{take-append-drop, take_at, drop_at, take-append-le, drop-drop}
 use Rattle.std.proofs.lemmas.Bool.{leb-true}
 use Rattle.std.proofs.lemmas.Grind.{common_steps}
 use Rattle.std.specs.List.{list_all}
-use Rattle.httparse.specs.Grammar.{RequestHead, ReadsRequest, HasNoRequest, MayBecomeRequest, print_request, print_blank, print_version, print_end, print_section}
+use Rattle.httparse.specs.Grammar.{RequestHead, ReadsRequest, HasNoRequest, MayBecomeRequest, print_request}
+use Rattle.httparse.specs.Grammar.{print_blank, print_version, print_end, print_section}
 use Rattle.httparse.proofs.GrammarLemmas.{request_unique, ReadsRequest-append, print_request-append}
 use Rattle.httparse.specs.Spans.{name_and_value}
-use Rattle.life_pages.specs.Head.{Head, head_of, said_by, head_with, has_some, values_of, HeaderLine, line_limit, body_length, within_limit, parsed_number, body_limit}
+use Rattle.life_pages.specs.Head.{Head, head_of, said_by, head_with, has_some, values_of, HeaderLine, line_limit}
+use Rattle.life_pages.specs.Head.{body_length, within_limit, parsed_number, body_limit}
 use Rattle.life_pages.specs.HeadState.{BeginsWith, NeverBegins, said}
 use Rattle.life_pages.specs.declared.head.GoodHead.{GoodHead}
 use Rattle.life_pages.specs.Message.{HasMessageInFront, HasNone, HasHeadAlone, are_line_breaks, head_limit}
@@ -16,20 +21,24 @@ use Rattle.life_pages.specs.MessageState.{NeverHas, held_limit, IsWanting, Wants
 -- a front that is no longer than another front of the same list is its front
 pub front_of : (a x c d : List ℕ) → a ++ x ≡ c ++ d → length a ≤ length c → c ≡ a ++ drop (length a) c
 front_of a x c d e h =
-    let t : take (length a) c ≡ a = sym (take-append-le (length a) c d h) ∙ ap (take (length a)) (sym e) ∙ take_at a x (length a) refl in
+    let t : take (length a) c ≡ a = sym (take-append-le (length a) c d h) ∙ ap (take (length a)) (sym e)
+    ∙ take_at a x (length a) refl in
     sym (take-append-drop (length a) c) ∙ ap (λ (l : List ℕ). l ++ drop (length a) c) t
 
 -- the bytes as their first n and what follows
 cut : (held more : List ℕ) (n : ℕ) → held ++ more ≡ take n held ++ (drop n held ++ more)
-cut held more n = ap (λ (l : List ℕ). l ++ more) (sym (take-append-drop n held)) ∙ append_assoc (take n held) (drop n held) more
+cut held more n =
+    ap (λ (l : List ℕ). l ++ more) (sym (take-append-drop n held)) ∙ append_assoc (take n held) (drop n held) more
 
 -- the front is bad
 pub never_begins : (held : List ℕ) (n : ℕ) → NeverBegins (take n held) → NeverHas held
 never_begins held n never more said body rest s =
-    never (drop n held ++ more) said (body ++ rest) (record { head = s.head; reads = (s.is_head, sym (cut held more n) ∙ s.bytes_are); says = s.says })
+    never (drop n held ++ more) said (body ++ rest)
+    (record { head = s.head; reads = (s.is_head, sym (cut held more n) ∙ s.bytes_are); says = s.says })
 
 -- the front is full, and holds no head
-pub never_within : (held : List ℕ) (n : ℕ) → length (take n held) ≡ head_limit → HasNoRequest (take n held) → NeverHas held
+pub never_within : (held : List ℕ) (n : ℕ) → length (take n held) ≡ head_limit
+    → HasNoRequest (take n held) → NeverHas held
 never_within held n full none more said body rest s =
     let same = sym s.bytes_are ∙ cut held more n in
     let short = s.short in
@@ -41,7 +50,8 @@ pub none_yet : (held : List ℕ) → HasNoRequest held → HasNone held
 none_yet held none said body rest s = none s.head (body ++ rest) (s.is_head, s.bytes_are)
 
 -- a head may come, and there is room for it
-pub wants_head : (held : List ℕ) (n : ℕ) → n ≡ min (length held) head_limit → length held < head_limit → HasNoRequest (take n held) → MayBecomeRequest (take n held)
+pub wants_head : (held : List ℕ) (n : ℕ) → n ≡ min (length held) head_limit → length held < head_limit
+    → HasNoRequest (take n held) → MayBecomeRequest (take n held)
     → IsWanting held
 wants_head held n e short none may =
     let all : n ≡ length held = omega arith in
@@ -50,9 +60,11 @@ wants_head held n e short none may =
     (none_yet held none_here, inr (omega arith), inr (inl (none_here, subst MayBecomeRequest same may, short)))
 
 -- how long a head is that a reading found
-pub head_length : (p : List ℕ) (h : RequestHead) (len : ℕ) → len ≤ length p → p ≡ print_request h ++ drop len p → length (print_request h) ≡ len
+pub head_length : (p : List ℕ) (h : RequestHead) (len : ℕ) → len ≤ length p → p ≡ print_request h ++ drop len p
+    → length (print_request h) ≡ len
 head_length p h len within e =
-    let l : length p ≡ length (print_request h) + length (drop len p) = ap length e ∙ length-append (print_request h) (drop len p) in
+    let l : length p ≡ length (print_request h) + length (drop len p) = ap length e
+    ∙ length-append (print_request h) (drop len p) in
     let d : length (drop len p) ≡ length p - len = length-drop len p in
     omega arith
 
@@ -64,7 +76,8 @@ head_in held n len h reads =
     (r.0, sym (take-append-drop n held) ∙ r.1)
 
 -- the whole message has not come
-pub body_short : (held : List ℕ) (n : ℕ) (g : GoodHead) → g.len ≤ length (take n held) → BeginsWith (take n held) (said g) (drop g.len (take n held))
+pub body_short : (held : List ℕ) (n : ℕ) (g : GoodHead) → g.len ≤ length (take n held)
+    → BeginsWith (take n held) (said g) (drop g.len (take n held))
     → length held - g.len < g.body → HasNone held
 body_short held n g within begins less said2 body rest s =
     let len = head_length (take n held) begins.head g.len within begins.reads.1 in
@@ -73,19 +86,23 @@ body_short held n g within begins less said2 body rest s =
     let says : Some (said g) ≡ Some said2 = sym begins.says ∙ ap head_of same.0 ∙ s.says in
     let bodies : g.body ≡ said2.body = cc in
     let long : length held ≡ length (print_request s.head) + (length body + length rest) =
-    ap length s.bytes_are ∙ length-append (print_request s.head) (body ++ rest) ∙ ap (λ (k : ℕ). length (print_request s.head) + k) (length-append body rest) in
-    let head_is : length (print_request begins.head) ≡ length (print_request s.head) = ap (λ (h : RequestHead). length (print_request h)) same.0 in
+    ap length s.bytes_are ∙ length-append (print_request s.head) (body ++ rest)
+    ∙ ap (λ (k : ℕ). length (print_request s.head) + k) (length-append body rest) in
+    let head_is : length (print_request begins.head) ≡ length (print_request s.head) =
+    ap (λ (h : RequestHead). length (print_request h)) same.0 in
     let whole = s.whole in
     absurd (omega arith)
 
 -- a good head stands, and its body has not come
-pub body_alone : (held : List ℕ) (n : ℕ) (g : GoodHead) → g.len ≤ length (take n held) → length (take n held) ≤ head_limit
+pub body_alone : (held : List ℕ) (n : ℕ) (g : GoodHead) → g.len ≤ length (take n held)
+    → length (take n held) ≤ head_limit
     → BeginsWith (take n held) (said g) (drop g.len (take n held)) → length held - g.len < g.body → HasHeadAlone held
 body_alone held n g within limit begins less =
     let len = head_length (take n held) begins.head g.len within begins.reads.1 in
     let inside = head_in held n g.len begins.head begins.reads in
     let rest : List ℕ = drop g.len (take n held) ++ drop n held in
-    let all : length held ≡ length (print_request begins.head) + length rest = ap length inside.1 ∙ length-append (print_request begins.head) rest in
+    let all : length held ≡ length (print_request begins.head) + length rest = ap length inside.1
+    ∙ length-append (print_request begins.head) rest in
     record {
       head = begins.head;
       is_head = begins.reads.0;
@@ -98,7 +115,8 @@ body_alone held n g within limit begins less =
     }
 
 -- the whole message has come
-pub body_whole : (held : List ℕ) (n : ℕ) (g : GoodHead) → g.len ≤ length (take n held) → length (take n held) ≤ head_limit
+pub body_whole : (held : List ℕ) (n : ℕ) (g : GoodHead) → g.len ≤ length (take n held)
+    → length (take n held) ≤ head_limit
     → BeginsWith (take n held) (said g) (drop g.len (take n held)) → g.len + g.body ≤ length held
     → HasMessageInFront held (said g) (take g.body (drop g.len held)) (drop (g.len + g.body) held)
 body_whole held n g within limit begins fits =
@@ -107,7 +125,8 @@ body_whole held n g within limit begins fits =
     let after : drop g.len held ≡ drop g.len (take n held) ++ drop n held =
     ap (drop g.len) inside.1 ∙ drop_at (print_request begins.head) _ g.len len in
     let rest : drop g.len held ≡ take g.body (drop g.len held) ++ drop (g.len + g.body) held =
-    sym (take-append-drop g.body (drop g.len held)) ∙ ap (λ (l : List ℕ). take g.body (drop g.len held) ++ l) (drop-drop g.body g.len held) in
+    sym (take-append-drop g.body (drop g.len held))
+    ∙ ap (λ (l : List ℕ). take g.body (drop g.len held) ++ l) (drop-drop g.body g.len held) in
     record {
       head = begins.head;
       is_head = begins.reads.0;
@@ -160,9 +179,11 @@ with_other p [] b x e = rw e refl
 with_other p (y ∷ a) b x e = and_false (p y) (list_all p (a ++ x ∷ b)) (with_other p a b x e)
 
 -- a head has a byte that ends no line
-pub not_blank : (bytes : List ℕ) (h : RequestHead) (rest : List ℕ) → bytes ≡ print_request h ++ rest → are_line_breaks bytes ≡ false
+pub not_blank : (bytes : List ℕ) (h : RequestHead) (rest : List ℕ) → bytes ≡ print_request h ++ rest
+    → are_line_breaks bytes ≡ false
 not_blank bytes h rest e =
-    let later : List ℕ = h.target ++ 32 ∷ (print_version h.minor ++ (print_end h.line_end ++ (print_section h.fields h.last ++ rest))) in
+    let later : List ℕ = h.target ++ 32
+    ∷ (print_version h.minor ++ (print_end h.line_end ++ (print_section h.fields h.last ++ rest))) in
     let shape : bytes ≡ (print_blank h.blank ++ h.method) ++ 32 ∷ later =
     e ∙ print_request-append h rest ∙ sym (append_assoc (print_blank h.blank) h.method (32 ∷ later)) in
     ap are_line_breaks shape ∙ with_other (λ b. b == 13 || b == 10) (print_blank h.blank ++ h.method) later 32 refl
@@ -191,7 +212,8 @@ head_some p g within begins =
     omega arith
 
 -- held bytes that want more have room for it
-pub has_room : (held p : List ℕ) (g : GoodHead) → g.len ≤ length p → length p ≤ head_limit → BeginsWith p (said g) (drop g.len p)
+pub has_room : (held p : List ℕ) (g : GoodHead) → g.len ≤ length p → length p ≤ head_limit
+    → BeginsWith p (said g) (drop g.len p)
     → length held - g.len < g.body → length held < held_limit
 has_room held p g within limit begins less =
     let bound = body_within begins.head (said g) begins.says in
@@ -208,13 +230,15 @@ wants_now wanted held wants less =
     subst (λ (l : List ℕ). IsWanting l) same (wants [] (rw same less))
 
 -- more bytes after those that are held
-pub wants_more : (wanted : ℕ) (held some all : List ℕ) → WantsUntil wanted held → all ≡ held ++ some → WantsUntil wanted all
+pub wants_more : (wanted : ℕ) (held some all : List ℕ) → WantsUntil wanted held → all ≡ held ++ some
+    → WantsUntil wanted all
 wants_more wanted held some all wants is = λ more less.
     let same : all ++ more ≡ held ++ (some ++ more) = ap (λ (l : List ℕ). l ++ more) is ∙ append_assoc held some more in
     subst (λ (l : List ℕ). IsWanting l) (sym same) (wants (some ++ more) (rw (← same) less))
 
 -- a good head stands at the front: the message wants as many bytes as the head and the body have
-pub wants_until : (held : List ℕ) (n : ℕ) (g : GoodHead) (wanted : ℕ) → n ≤ length held → g.len ≤ length (take n held) → length (take n held) ≤ head_limit
+pub wants_until : (held : List ℕ) (n : ℕ) (g : GoodHead) (wanted : ℕ) → n ≤ length held → g.len ≤ length (take n held)
+    → length (take n held) ≤ head_limit
     → BeginsWith (take n held) (said g) (drop g.len (take n held)) → wanted ≤ g.len + g.body → WantsUntil wanted held
 wants_until held n g wanted fits within limit begins at_most = λ more less.
     let same : take n (held ++ more) ≡ take n held = take-append-le n held more fits in

@@ -1,5 +1,8 @@
--- A stream of replies can be read in one way: a reply's head has no CR within its lines, and it names the length of the body.
-use Rattle.std.proofs.Common.{◌≡◌, ◌≢◌, ℕ, zero, suc, ◌+◌, ◌^◌, ◌<◌, ◌≤◌, ◌==◌, Bool, true, false, if◌then◌else◌, List, [], ◌∷◌, ◌++◌, length, codes, map, refl, sym, ap, ◌∙◌, subst, inl, inr, arith, append_assoc}
+-- A stream of replies can be read in one way: a reply's head has no CR within its lines, and it names the length of the
+-- body.
+use Rattle.std.proofs.Common.{◌≡◌, ◌≢◌, ℕ, zero, suc, ◌+◌, ◌^◌, ◌<◌, ◌≤◌, ◌==◌, Bool, true, false, if◌then◌else◌, List}
+use Rattle.std.proofs.Common.{[], ◌∷◌, ◌++◌, length, codes, map, refl, sym, ap, ◌∙◌, subst, inl, inr, arith}
+use Rattle.std.proofs.Common.{append_assoc}
 use Rattle.std.specs.Fmt.{decimal}
 use Rattle.std.specs.List.{AllByRecursion}
 use Rattle.std.proofs.lemmas.List.{append_cancel_left, append_cancel_right, length-append}
@@ -7,13 +10,16 @@ use Rattle.std.proofs.lemmas.Fmt.{decimal_injective, decimal_digit, decimal-digi
 use Rattle.std.specs.Int.Digits.{digits_of}
 use Rattle.http.specs.StatusCode.{code_digits}
 use Rattle.life_desk.specs.declared.refusal.Refusal.{Refusal}
-use Rattle.life_desk.specs.declared.refusal.Refusal.TheVariants.{NoSuchDeposit, NoSuchCensus, BadMember, BadToken, TokenReused, OutOfLimit, BadPattern, BadRule, BadCode, Full, Unavailable}
+use Rattle.life_desk.specs.declared.refusal.Refusal.TheVariants.{NoSuchDeposit, NoSuchCensus, BadMember, BadToken}
+use Rattle.life_desk.specs.declared.refusal.Refusal.TheVariants.{TokenReused, OutOfLimit, BadPattern, BadRule, BadCode}
+use Rattle.life_desk.specs.declared.refusal.Refusal.TheVariants.{Full, Unavailable}
 use Rattle.life_desk.specs.declared.request.Reply.{Reply}
 use Rattle.life_desk.specs.declared.request.Reply.TheVariants as replies
 use Rattle.life_pages.specs.declared.fault.MessageRefusal.{MessageRefusal}
 use Rattle.life_pages.specs.declared.fault.MessageRefusal.TheVariants.{NoSuchRoute, BadMethod, BadMessage}
 use Rattle.life_pages.specs.Fault.{label_of}
-use Rattle.life_pages.specs.Reply.{phrase, refusal_body, reply_bytes, message_refusal_bytes, refusal_status, reply_status, type_of, reply_body, page_status, json}
+use Rattle.life_pages.specs.Reply.{phrase, refusal_body, reply_bytes, message_refusal_bytes, refusal_status}
+use Rattle.life_pages.specs.Reply.{reply_status, type_of, reply_body, page_status, json}
 use Rattle.life_pages.specs.Laws.{AreReplyBytes, RepliesAreReadInOneWay}
 
 -- ---- the first CR
@@ -88,9 +94,12 @@ record IsReadable (bytes : List ℕ) : Type 0 where
 
 -- its bytes, with others after them, cut at the CRs of its head
 abbrev lines_of : List ℕ → List ℕ → List ℕ → List ℕ → List ℕ → List ℕ
-lines_of line kind digits body more = line ++ 13 ∷ ((codes "\ncontent-type: " ++ kind) ++ 13 ∷ ((codes "\ncontent-length: " ++ digits) ++ 13 ∷ (codes "\n\r\n" ++ body ++ more)))
+lines_of line kind digits body more =
+    line ++ 13 ∷ ((codes "\ncontent-type: " ++ kind) ++ 13
+    ∷ ((codes "\ncontent-length: " ++ digits) ++ 13 ∷ (codes "\n\r\n" ++ body ++ more)))
 
-regroup : (l a k b d e t x : List ℕ) → (l ++ a ++ k ++ b ++ d ++ e ++ t) ++ x ≡ l ++ (a ++ (k ++ (b ++ (d ++ (e ++ (t ++ x))))))
+regroup : (l a k b d e t x : List ℕ)
+    → (l ++ a ++ k ++ b ++ d ++ e ++ t) ++ x ≡ l ++ (a ++ (k ++ (b ++ (d ++ (e ++ (t ++ x))))))
 regroup l a k b d e t x =
     append_assoc (l ++ a ++ k ++ b ++ d ++ e) t x
     ∙ append_assoc (l ++ a ++ k ++ b ++ d) e (t ++ x)
@@ -99,25 +108,37 @@ regroup l a k b d e t x =
     ∙ append_assoc (l ++ a) k (b ++ (d ++ (e ++ (t ++ x))))
     ∙ append_assoc l a (k ++ (b ++ (d ++ (e ++ (t ++ x)))))
 
-in_lines : (status : ℕ) (kind body more : List ℕ) → reply_bytes status kind body ++ more ≡ lines_of (first_line status) kind (decimal (length body)) body more
+in_lines : (status : ℕ) (kind body more : List ℕ)
+    → reply_bytes status kind body ++ more ≡ lines_of (first_line status) kind (decimal (length body)) body more
 unfolding reply_bytes
 in_lines status kind body more =
-    regroup (first_line status) (codes "\r\ncontent-type: ") kind (codes "\r\ncontent-length: ") (decimal (length body)) (codes "\r\n\r\n") body more
+    regroup (first_line status) (codes "\r\ncontent-type: ") kind (codes "\r\ncontent-length: ")
+    (decimal (length body)) (codes "\r\n\r\n") body more
 
 apart : (a b x y : List ℕ) → IsReadable a → IsReadable b → a ++ x ≡ b ++ y → (a ≡ b) × (x ≡ y)
 apart a b x y one two same =
-    let cut : lines_of (first_line one.status) one.kind (decimal (length one.body)) one.body x ≡ lines_of (first_line two.status) two.kind (decimal (length two.body)) two.body y =
-    sym (ap (λ (z : List ℕ). z ++ x) one.is ∙ in_lines one.status one.kind one.body x) ∙ same ∙ (ap (λ (z : List ℕ). z ++ y) two.is ∙ in_lines two.status two.kind two.body y) in
-    let types = cut_at_cr (first_line one.status) (first_line two.status) _ _ (free_no_cr (first_line one.status) one.line) (free_no_cr (first_line two.status) two.line) cut in
+    let cut : lines_of (first_line one.status) one.kind (decimal (length one.body)) one.body x
+    ≡ lines_of (first_line two.status) two.kind (decimal (length two.body)) two.body y =
+    sym (ap (λ (z : List ℕ). z ++ x) one.is ∙ in_lines one.status one.kind one.body x) ∙ same
+    ∙ (ap (λ (z : List ℕ). z ++ y) two.is ∙ in_lines two.status two.kind two.body y) in
+    let types = cut_at_cr (first_line one.status) (first_line two.status) _ _
+    (free_no_cr (first_line one.status) one.line) (free_no_cr (first_line two.status) two.line) cut in
     let lengths = cut_at_cr (codes "\ncontent-type: " ++ one.kind) (codes "\ncontent-type: " ++ two.kind) _ _
-    (both_no_cr (codes "\ncontent-type: ") one.kind (free_no_cr (codes "\ncontent-type: ") refl) (free_no_cr one.kind one.type))
-    (both_no_cr (codes "\ncontent-type: ") two.kind (free_no_cr (codes "\ncontent-type: ") refl) (free_no_cr two.kind two.type)) types.1 in
-    let bodies = cut_at_cr (codes "\ncontent-length: " ++ decimal (length one.body)) (codes "\ncontent-length: " ++ decimal (length two.body)) _ _
-    (both_no_cr (codes "\ncontent-length: ") (decimal (length one.body)) (free_no_cr (codes "\ncontent-length: ") refl) (decimal_no_cr (length one.body) one.short))
-    (both_no_cr (codes "\ncontent-length: ") (decimal (length two.body)) (free_no_cr (codes "\ncontent-length: ") refl) (decimal_no_cr (length two.body) two.short)) lengths.1 in
+    (both_no_cr (codes "\ncontent-type: ") one.kind (free_no_cr (codes "\ncontent-type: ") refl)
+    (free_no_cr one.kind one.type))
+    (both_no_cr (codes "\ncontent-type: ") two.kind (free_no_cr (codes "\ncontent-type: ") refl)
+    (free_no_cr two.kind two.type)) types.1 in
+    let bodies = cut_at_cr (codes "\ncontent-length: " ++ decimal (length one.body))
+    (codes "\ncontent-length: " ++ decimal (length two.body)) _ _
+    (both_no_cr (codes "\ncontent-length: ") (decimal (length one.body)) (free_no_cr (codes "\ncontent-length: ") refl)
+    (decimal_no_cr (length one.body) one.short))
+    (both_no_cr (codes "\ncontent-length: ") (decimal (length two.body)) (free_no_cr (codes "\ncontent-length: ") refl)
+    (decimal_no_cr (length two.body) two.short)) lengths.1 in
     let long : length one.body ≡ length two.body =
-    decimal_injective (length one.body) (length two.body) one.short two.short (append_cancel_left (codes "\ncontent-length: ") (decimal (length one.body)) (decimal (length two.body)) bodies.0) in
-    let rest = front_same one.body two.body x y long (append_cancel_left (codes "\n\r\n") (one.body ++ x) (two.body ++ y) bodies.1) in
+    decimal_injective (length one.body) (length two.body) one.short two.short (append_cancel_left
+    (codes "\ncontent-length: ") (decimal (length one.body)) (decimal (length two.body)) bodies.0) in
+    let rest = front_same one.body two.body x y long
+    (append_cancel_left (codes "\n\r\n") (one.body ++ x) (two.body ++ y) bodies.1) in
     let more : x ≡ y = rest.1 in
     (append_cancel_right a b y (subst (λ (z : List ℕ). a ++ z ≡ b ++ y) more same), more)
 
@@ -171,7 +192,12 @@ page_line BadMessage = refl
 
 -- a number of two digits at most, before the end of a body
 number_short : (n : ℕ) → n < 100 → length (decimal n ++ [] ++ codes "}") ≤ 3
-number_short n few = omega (arith, length-append (decimal n ++ []) (codes "}"), length-append (decimal n) [], length-decimal-le 2 n (omega arith) (omega (arith, few)) (omega (arith, few)))
+number_short n few = omega (
+  arith,
+  length-append (decimal n ++ []) (codes "}"),
+  length-append (decimal n) [],
+  length-decimal-le 2 n (omega arith) (omega (arith, few)) (omega (arith, few)),
+)
 
 page_short : (refusal : MessageRefusal) → length (page_body refusal) < 2 ^ 64
 unfolding refusal_body
@@ -179,13 +205,30 @@ page_short NoSuchRoute = omega (arith, number_short (label_of NoSuchRoute).numbe
 page_short BadMethod = omega (arith, number_short (label_of BadMethod).number (omega arith))
 page_short BadMessage = omega (arith, number_short (label_of BadMessage).number (omega arith))
 
-page_is : (refusal : MessageRefusal) → message_refusal_bytes refusal ≡ reply_bytes (page_status refusal) json (page_body refusal)
+page_is : (refusal : MessageRefusal)
+    → message_refusal_bytes refusal ≡ reply_bytes (page_status refusal) json (page_body refusal)
 unfolding message_refusal_bytes
 page_is refusal = refl
 
 readable : (bytes : List ℕ) → AreReplyBytes bytes → IsReadable bytes
-readable bytes (inl it) = record { status = reply_status it.0; kind = type_of it.0; body = reply_body it.0; is = it.2; line = reply_line it.0; type = reply_type it.0; short = it.1 }
-readable bytes (inr it) = record { status = page_status it.0; kind = json; body = page_body it.0; is = it.1 ∙ page_is it.0; line = page_line it.0; type = refl; short = page_short it.0 }
+readable bytes (inl it) = record {
+  status = reply_status it.0;
+  kind = type_of it.0;
+  body = reply_body it.0;
+  is = it.2;
+  line = reply_line it.0;
+  type = reply_type it.0;
+  short = it.1;
+}
+readable bytes (inr it) = record {
+  status = page_status it.0;
+  kind = json;
+  body = page_body it.0;
+  is = it.1 ∙ page_is it.0;
+  line = page_line it.0;
+  type = refl;
+  short = page_short it.0;
+}
 
 pub replies_apart : RepliesAreReadInOneWay
 replies_apart a b x y one two same = apart a b x y (readable a one) (readable b two) same

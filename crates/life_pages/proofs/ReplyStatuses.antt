@@ -1,7 +1,9 @@
 -- The bytes of a reply tell by its status whether it says that something is kept.
 use Rattle.std.proofs.Common.{◌≡◌, ℕ, ◌==◌, Bool, false, List, [], ◌∷◌, drop, refl, sym, ◌∙◌, ap}
 use Rattle.life_desk.specs.declared.refusal.Refusal.{Refusal}
-use Rattle.life_desk.specs.declared.refusal.Refusal.TheVariants.{NoSuchDeposit, NoSuchCensus, BadMember, BadToken, TokenReused, OutOfLimit, BadPattern, BadRule, BadCode, Full, Unavailable}
+use Rattle.life_desk.specs.declared.refusal.Refusal.TheVariants.{NoSuchDeposit, NoSuchCensus, BadMember, BadToken}
+use Rattle.life_desk.specs.declared.refusal.Refusal.TheVariants.{TokenReused, OutOfLimit, BadPattern, BadRule, BadCode}
+use Rattle.life_desk.specs.declared.refusal.Refusal.TheVariants.{Full, Unavailable}
 use Rattle.life_desk.specs.declared.request.Reply.{Reply}
 use Rattle.life_desk.specs.declared.request.Reply.TheVariants as replies
 use Rattle.life_desk.specs.Replies.{acknowledges}

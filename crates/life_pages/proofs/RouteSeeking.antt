@@ -1,11 +1,14 @@
 -- The route that a walk over sorted rows finds is the first that the path matches.
-use Rattle.std.proofs.Common.{◌≡◌, ◌≢◌, ℕ, zero, suc, ◌-◌, ◌<◌, ◌≤◌, ◌==◌, ◌&&◌, ◌||◌, not, Bool, true, false, cond, ltb, leb, List, [], ◌∷◌, length, drop, Option, None, Some, refl, sym, ◌∙◌, ap, true≢false, nat_eq, arith}
+use Rattle.std.proofs.Common.{◌≡◌, ◌≢◌, ℕ, zero, suc, ◌-◌, ◌<◌, ◌≤◌, ◌==◌, ◌&&◌, ◌||◌, not, Bool, true, false, cond}
+use Rattle.std.proofs.Common.{ltb, leb, List, [], ◌∷◌, length, drop, Option, None, Some, refl, sym, ◌∙◌, ap, true≢false}
+use Rattle.std.proofs.Common.{nat_eq, arith}
 use Rattle.std.proofs.lemmas.Bool.Decides.{nat_tests}
 use Rattle.std.specs.List.{ends_with}
 use Rattle.std.specs.Cmp.Lexicographic.{pointwise}
 use Rattle.life_pages.specs.Path.{from_slash}
 use Rattle.matchit.specs.Rows.{RowsOf, comes_before}
-use Rattle.matchit.specs.Seek.{segment, has_slash, cuts, own, step, or_else, longest_from, with_suffix, param_step, seek}
+use Rattle.matchit.specs.Seek.{segment, has_slash, cuts, own, step, or_else, longest_from, with_suffix, param_step}
+use Rattle.matchit.specs.Seek.{seek}
 
 -- the path matches these tokens: each byte itself, and a parameter one byte or more that are no slash
 abbrev pub matched : List ℕ → List ℕ → Bool
@@ -48,7 +51,8 @@ pub slash_front : (p : List ℕ) → has_slash p ≡ true → (q : List ℕ) × 
 slash_front [] e = absurd (true≢false (sym e))
 slash_front (b ∷ p) e = by (b == 47) refl (λ h. slash_front p h) e
   where
-    by : (v : Bool) → (b == 47) ≡ v → (has_slash p ≡ true → (q : List ℕ) × (from_slash p ≡ 47 ∷ q)) → cond v true (has_slash p) ≡ true
+    by : (v : Bool) → (b == 47) ≡ v → (has_slash p ≡ true → (q : List ℕ) × (from_slash p ≡ 47 ∷ q))
+        → cond v true (has_slash p) ≡ true
         → (q : List ℕ) × (cond v (b ∷ p) (from_slash p) ≡ 47 ∷ q)
     by true is ih e = (p, ap (λ (x : ℕ). x ∷ p) (same_nat b 47 is))
     by false is ih e = ih e
@@ -57,7 +61,8 @@ pub no_slash_front : (p : List ℕ) → has_slash p ≡ false → from_slash p �
 no_slash_front [] e = refl
 no_slash_front (b ∷ p) e = by (b == 47) (λ h. no_slash_front p h) e
   where
-    by : (v : Bool) → (has_slash p ≡ false → from_slash p ≡ []) → cond v true (has_slash p) ≡ false → cond v (b ∷ p) (from_slash p) ≡ []
+    by : (v : Bool) → (has_slash p ≡ false → from_slash p ≡ []) → cond v true (has_slash p) ≡ false
+        → cond v (b ∷ p) (from_slash p) ≡ []
     by true ih e = absurd (true≢false e)
     by false ih e = ih e
 
@@ -65,7 +70,8 @@ no_slash_segment : (p : List ℕ) → has_slash p ≡ false → segment p ≡ p
 no_slash_segment [] e = refl
 no_slash_segment (b ∷ p) e = by (b == 47) (λ h. no_slash_segment p h) e
   where
-    by : (v : Bool) → (has_slash p ≡ false → segment p ≡ p) → cond v true (has_slash p) ≡ false → cond v (b ∷ []) (b ∷ segment p) ≡ b ∷ p
+    by : (v : Bool) → (has_slash p ≡ false → segment p ≡ p) → cond v true (has_slash p) ≡ false
+        → cond v (b ∷ []) (b ∷ segment p) ≡ b ∷ p
     by true ih e = absurd (true≢false e)
     by false ih e = ap (λ (l : List ℕ). b ∷ l) (ih e)
 
@@ -99,7 +105,8 @@ drop_name : (p : List ℕ) → has_slash p ≡ true → drop (length (segment p)
 drop_name [] e = absurd (true≢false (sym e))
 drop_name (b ∷ p) e = by (b == 47) (λ h. drop_name p h) e
   where
-    by : (v : Bool) → (has_slash p ≡ true → drop (length (segment p) - 1) p ≡ from_slash p) → cond v true (has_slash p) ≡ true
+    by : (v : Bool) → (has_slash p ≡ true → drop (length (segment p) - 1) p ≡ from_slash p)
+        → cond v true (has_slash p) ≡ true
         → drop (length (cond v (b ∷ []) (b ∷ segment p)) - 1) (b ∷ p) ≡ cond v (b ∷ p) (from_slash p)
     by true ih e = refl
     by false ih e = behind_one b p (segment p) (some_segment p e) ∙ ih e
@@ -116,7 +123,8 @@ ends_slash : (c : ℕ) (p : List ℕ) → has_slash p ≡ true → ends_with nat
 ends_slash c [] e = absurd (true≢false (sym e))
 ends_slash c (d ∷ p) e = by (d == 47) refl (λ h. ends_slash d p h) e
   where
-    by : (v : Bool) → (d == 47) ≡ v → (has_slash p ≡ true → ends_with nat_eq (d ∷ segment p) (47 ∷ []) ≡ true) → cond v true (has_slash p) ≡ true
+    by : (v : Bool) → (d == 47) ≡ v → (has_slash p ≡ true → ends_with nat_eq (d ∷ segment p) (47 ∷ []) ≡ true)
+        → cond v true (has_slash p) ≡ true
         → ends_with nat_eq (c ∷ cond v (d ∷ []) (d ∷ segment p)) (47 ∷ []) ≡ true
     by true is ih e = rw (same_nat d 47 is) refl
     by false is ih e = ends_later c d (segment p) ∙ ih e
@@ -125,7 +133,9 @@ ends_other : (c : ℕ) (p : List ℕ) → (c == 47) ≡ false → has_slash p �
 ends_other c [] n e = rw (distinct 47 c (λ q. other_nat c 47 n (sym q))) refl
 ends_other c (d ∷ p) n e = by (d == 47) refl (λ is h. ends_other d p is h) e
   where
-    by : (v : Bool) → (d == 47) ≡ v → ((d == 47) ≡ false → has_slash p ≡ false → ends_with nat_eq (d ∷ p) (47 ∷ []) ≡ false) → cond v true (has_slash p) ≡ false
+    by : (v : Bool) → (d == 47) ≡ v
+        → ((d == 47) ≡ false → has_slash p ≡ false → ends_with nat_eq (d ∷ p) (47 ∷ []) ≡ false)
+        → cond v true (has_slash p) ≡ false
         → ends_with nat_eq (c ∷ d ∷ p) (47 ∷ []) ≡ false
     by true is ih e = absurd (true≢false e)
     by false is ih e = ends_later c d p ∙ ih is e
@@ -185,7 +195,8 @@ module _ {K : Type 0} where
   unfolding seek
   seek_none k [] = refl
   seek_none (suc k) (b ∷ p) = seek_none k p
-  seek_none zero (b ∷ p) = simp (seek_none 0 p, param_none (b ∷ p), seek_none (((param_step {K = K} [] (b ∷ p)).0) - 1) p)
+  seek_none zero (b ∷ p) =
+      simp (seek_none 0 p, param_none (b ∷ p), seek_none (((param_step {K = K} [] (b ∷ p)).0) - 1) p)
 
   seek_later : (k : ℕ) (r : RowsOf K) (p : List ℕ) → seek k r p ≡ seek 0 r (drop k p)
   unfolding seek
@@ -214,7 +225,8 @@ module _ {K : Type 0} where
       let h = and_split (comes_before (b ∷ t) (x ∷ u)) (all_after (b ∷ t) rs) a in
       by (x == b) refl h.0 (step_after b t rs h.1)
     where
-      by : (v : Bool) → (x == b) ≡ v → comes_before (b ∷ t) (x ∷ u) ≡ true → all_after t (step b rs) ≡ true → all_after t (cond v ((u, k) ∷ step b rs) (step b rs)) ≡ true
+      by : (v : Bool) → (x == b) ≡ v → comes_before (b ∷ t) (x ∷ u) ≡ true → all_after t (step b rs) ≡ true
+          → all_after t (cond v ((u, k) ∷ step b rs) (step b rs)) ≡ true
       by true e c more =
           let same : x ≡ b = same_nat x b e in
           let less : ltb b b ≡ false = grind (arith, nat_tests) in
@@ -230,7 +242,8 @@ module _ {K : Type 0} where
       let h = and_split (all_after (x ∷ t) rs) (sorted_rows rs) s in
       by (x == b) refl h.0 (step_sorted b rs h.1)
     where
-      by : (v : Bool) → (x == b) ≡ v → all_after (x ∷ t) rs ≡ true → sorted_rows (step b rs) ≡ true → sorted_rows (cond v ((t, k) ∷ step b rs) (step b rs)) ≡ true
+      by : (v : Bool) → (x == b) ≡ v → all_after (x ∷ t) rs ≡ true → sorted_rows (step b rs) ≡ true
+          → sorted_rows (cond v ((t, k) ∷ step b rs) (step b rs)) ≡ true
       by true e a more = let same : x ≡ b = same_nat x b e in rw (step_after b t rs (rw same at a)) more
       by false e a more = more
 
@@ -243,7 +256,8 @@ module _ {K : Type 0} where
       let j = and_split (cond (x == 256) (slash_or_end t) true) (good_tokens t) i.1 in
       by (x == 256) j.0 (step_ends rs h.1)
     where
-      by : (v : Bool) → cond v (slash_or_end t) true ≡ true → slashed_or_end (step 256 rs) ≡ true → slashed_or_end (cond v ((t, k) ∷ step 256 rs) (step 256 rs)) ≡ true
+      by : (v : Bool) → cond v (slash_or_end t) true ≡ true → slashed_or_end (step 256 rs) ≡ true
+          → slashed_or_end (cond v ((t, k) ∷ step 256 rs) (step 256 rs)) ≡ true
       by true e more = rw e more
       by false e more = more
 
@@ -279,14 +293,16 @@ module _ {K : Type 0} where
       let h = and_split (x == 47) (slashed_or_end rs) e in
       rw (same_nat x 47 h.0) (longest_kept seg rs h.1)
 
-  longest_slash : (seg : List ℕ) (rs : RowsOf K) → cuts seg (47 ∷ []) ≡ true → slashed_or_end rs ≡ true → longest_from seg [] rs ≡ cond (has_slashed rs) (47 ∷ []) []
+  longest_slash : (seg : List ℕ) (rs : RowsOf K) → cuts seg (47 ∷ []) ≡ true → slashed_or_end rs ≡ true
+      → longest_from seg [] rs ≡ cond (has_slashed rs) (47 ∷ []) []
   longest_slash seg [] c e = refl
   longest_slash seg (([], k) ∷ rs) c e = longest_slash seg rs c e
   longest_slash seg ((x ∷ t, k) ∷ rs) c e =
       let h = and_split (x == 47) (slashed_or_end rs) e in
       rw (same_nat x 47 h.0) (rw c (longest_kept seg rs h.1))
 
-  longest_end : (seg : List ℕ) (rs : RowsOf K) → cuts seg (47 ∷ []) ≡ false → slashed_or_end rs ≡ true → longest_from seg [] rs ≡ []
+  longest_end : (seg : List ℕ) (rs : RowsOf K) → cuts seg (47 ∷ []) ≡ false → slashed_or_end rs ≡ true
+      → longest_from seg [] rs ≡ []
   longest_end seg [] c e = refl
   longest_end seg (([], k) ∷ rs) c e = longest_end seg rs c e
   longest_end seg ((x ∷ t, k) ∷ rs) c e =
@@ -303,12 +319,14 @@ module _ {K : Type 0} where
   slashed_good : (rs : RowsOf K) → good_rows rs ≡ true → good_rows (slashed rs) ≡ true
   slashed_good [] g = refl
   slashed_good (([], k) ∷ rs) g = slashed_good rs g
-  slashed_good ((x ∷ t, k) ∷ rs) g = let h = and_split (good_tokens (x ∷ t)) (good_rows rs) g in rw h.0 (slashed_good rs h.1)
+  slashed_good ((x ∷ t, k) ∷ rs) g =
+      let h = and_split (good_tokens (x ∷ t)) (good_rows rs) g in rw h.0 (slashed_good rs h.1)
 
   slashed_after : (u : List ℕ) (rs : RowsOf K) → all_after u rs ≡ true → all_after u (slashed rs) ≡ true
   slashed_after u [] a = refl
   slashed_after u (([], k) ∷ rs) a = slashed_after u rs (and_split (comes_before u []) (all_after u rs) a).1
-  slashed_after u ((x ∷ t, k) ∷ rs) a = let h = and_split (comes_before u (x ∷ t)) (all_after u rs) a in rw h.0 (slashed_after u rs h.1)
+  slashed_after u ((x ∷ t, k) ∷ rs) a =
+      let h = and_split (comes_before u (x ∷ t)) (all_after u rs) a in rw h.0 (slashed_after u rs h.1)
 
   slashed_sorted : (rs : RowsOf K) → sorted_rows rs ≡ true → sorted_rows (slashed rs) ≡ true
   slashed_sorted [] s = refl
@@ -320,7 +338,8 @@ module _ {K : Type 0} where
   first_slashed : (rs : RowsOf K) (q : List ℕ) → first_of (slashed rs) (47 ∷ q) ≡ first_of rs (47 ∷ q)
   first_slashed [] q = refl
   first_slashed (([], k) ∷ rs) q = first_slashed rs q
-  first_slashed ((x ∷ t, k) ∷ rs) q = ap (λ (o : Option K). cond (matched (x ∷ t) (47 ∷ q)) (Some k) o) (first_slashed rs q)
+  first_slashed ((x ∷ t, k) ∷ rs) q =
+      ap (λ (o : Option K). cond (matched (x ∷ t) (47 ∷ q)) (Some k) o) (first_slashed rs q)
 
   none_slashed : (rs : RowsOf K) (q : List ℕ) → has_slashed rs ≡ false → first_of rs (47 ∷ q) ≡ None
   none_slashed [] q e = refl
@@ -329,31 +348,37 @@ module _ {K : Type 0} where
 
   -- ---- a parameter
 
-  param_goes : (P F : RowsOf K) (path p : List ℕ) (n : ℕ) → param_step P path ≡ (n, F) → seek ((param_step P path).0 - 1) (param_step P path).1 p ≡ seek 0 F (drop (n - 1) p)
+  param_goes : (P F : RowsOf K) (path p : List ℕ) (n : ℕ) → param_step P path ≡ (n, F)
+      → seek ((param_step P path).0 - 1) (param_step P path).1 p ≡ seek 0 F (drop (n - 1) p)
   param_goes P F path p n e = ap (λ (a : ℕ × RowsOf K). seek (a.0 - 1) a.1 p) e ∙ seek_later (n - 1) F p
 
   param_at_slash : (P : RowsOf K) (p : List ℕ) → slashed_or_end P ≡ true → param_step P (47 ∷ p) ≡ (0, [])
   unfolding param_step
   param_at_slash P p e = let l : longest_from (47 ∷ []) [] P ≡ [] = longest_end (47 ∷ []) P refl e in rw l refl
 
-  param_to_end : (P : RowsOf K) (b : ℕ) (p : List ℕ) → (b == 47) ≡ false → has_slash p ≡ false → slashed_or_end P ≡ true → param_step P (b ∷ p) ≡ (length (b ∷ p), P)
+  param_to_end : (P : RowsOf K) (b : ℕ) (p : List ℕ) → (b == 47) ≡ false → has_slash p ≡ false
+      → slashed_or_end P ≡ true → param_step P (b ∷ p) ≡ (length (b ∷ p), P)
   unfolding param_step
   param_to_end P b p n lacks e =
       let l : longest_from (b ∷ p) [] P ≡ [] = longest_end (b ∷ p) P (cuts_other b p n lacks) e in
       rw (n, no_slash_segment p lacks, l, lacks) refl
 
-  param_to_slash : (P : RowsOf K) (b : ℕ) (p : List ℕ) → (b == 47) ≡ false → has_slash p ≡ true → slashed_or_end P ≡ true → has_slashed P ≡ true
+  param_to_slash : (P : RowsOf K) (b : ℕ) (p : List ℕ) → (b == 47) ≡ false → has_slash p ≡ true
+      → slashed_or_end P ≡ true → has_slashed P ≡ true
       → param_step P (b ∷ p) ≡ (length (b ∷ segment p) - 1, slashed P)
   unfolding param_step
   param_to_slash P b p n has e some =
-      let l : longest_from (b ∷ segment p) [] P ≡ 47 ∷ [] = rw some at (longest_slash (b ∷ segment p) P (cuts_slash b p has) e) in
+      let l : longest_from (b ∷ segment p) [] P ≡ 47 ∷ [] =
+      rw some at (longest_slash (b ∷ segment p) P (cuts_slash b p has) e) in
       rw (n, l, with_slash P e) refl
 
-  param_no_slash : (P : RowsOf K) (b : ℕ) (p : List ℕ) → (b == 47) ≡ false → has_slash p ≡ true → slashed_or_end P ≡ true → has_slashed P ≡ false
+  param_no_slash : (P : RowsOf K) (b : ℕ) (p : List ℕ) → (b == 47) ≡ false → has_slash p ≡ true
+      → slashed_or_end P ≡ true → has_slashed P ≡ false
       → param_step P (b ∷ p) ≡ (0, [])
   unfolding param_step
   param_no_slash P b p n has e none =
-      let l : longest_from (b ∷ segment p) [] P ≡ [] = rw none at (longest_slash (b ∷ segment p) P (cuts_slash b p has) e) in
+      let l : longest_from (b ∷ segment p) [] P ≡ [] =
+      rw none at (longest_slash (b ∷ segment p) P (cuts_slash b p has) e) in
       rw (n, l, has) refl
 
   -- ---- what a parameter finds
@@ -362,7 +387,8 @@ module _ {K : Type 0} where
   unfolding seek
   seek_end P = refl
 
-  part_slash : (P : RowsOf K) (p : List ℕ) → slashed_or_end P ≡ true → seek ((param_step P (47 ∷ p)).0 - 1) (param_step P (47 ∷ p)).1 p ≡ None
+  part_slash : (P : RowsOf K) (p : List ℕ) → slashed_or_end P ≡ true
+      → seek ((param_step P (47 ∷ p)).0 - 1) (param_step P (47 ∷ p)).1 p ≡ None
   part_slash P p e = param_goes P [] (47 ∷ p) p 0 (param_at_slash P p e) ∙ seek_none 0 (drop (0 - 1) p)
 
   part_end : (P : RowsOf K) (b : ℕ) (p : List ℕ) → (b == 47) ≡ false → has_slash p ≡ false → slashed_or_end P ≡ true
@@ -372,23 +398,28 @@ module _ {K : Type 0} where
       ∙ ap (λ (q : List ℕ). seek 0 P q) (ap (λ k. drop k p) (less_one (length p)) ∙ drop_all p)
       ∙ seek_end P ∙ own_first P ∙ ap (λ (q : List ℕ). first_of P q) (sym (no_slash_front p lacks))
 
-  part_none : (P : RowsOf K) (b : ℕ) (p : List ℕ) → (b == 47) ≡ false → has_slash p ≡ true → slashed_or_end P ≡ true → has_slashed P ≡ false
+  part_none : (P : RowsOf K) (b : ℕ) (p : List ℕ) → (b == 47) ≡ false → has_slash p ≡ true
+      → slashed_or_end P ≡ true → has_slashed P ≡ false
       → seek ((param_step P (b ∷ p)).0 - 1) (param_step P (b ∷ p)).1 p ≡ first_of P (from_slash p)
   part_none P b p n has e none =
       let f = slash_front p has in
       param_goes P [] (b ∷ p) p 0 (param_no_slash P b p n has e none) ∙ seek_none 0 (drop (0 - 1) p)
       ∙ sym (ap (λ (q : List ℕ). first_of P q) f.1 ∙ none_slashed P f.0 none)
 
-  part_behind : (P : RowsOf K) (b : ℕ) (p : List ℕ) → (b == 47) ≡ false → has_slash p ≡ true → slashed_or_end P ≡ true → has_slashed P ≡ true
+  part_behind : (P : RowsOf K) (b : ℕ) (p : List ℕ) → (b == 47) ≡ false → has_slash p ≡ true
+      → slashed_or_end P ≡ true → has_slashed P ≡ true
       → seek 0 (slashed P) (from_slash p) ≡ first_of (slashed P) (from_slash p)
       → seek ((param_step P (b ∷ p)).0 - 1) (param_step P (b ∷ p)).1 p ≡ first_of P (from_slash p)
   part_behind P b p n has e some ih =
       let f = slash_front p has in
       param_goes P (slashed P) (b ∷ p) p (length (b ∷ segment p) - 1) (param_to_slash P b p n has e some)
-      ∙ ap (λ (q : List ℕ). seek 0 (slashed P) q) (ap (λ k. drop (k - 1) p) (less_one (length (segment p))) ∙ drop_name p has)
-      ∙ ih ∙ ap (λ (q : List ℕ). first_of (slashed P) q) f.1 ∙ first_slashed P f.0 ∙ ap (λ (q : List ℕ). first_of P q) (sym f.1)
+      ∙ ap (λ (q : List ℕ). seek 0 (slashed P) q)
+      (ap (λ k. drop (k - 1) p) (less_one (length (segment p))) ∙ drop_name p has)
+      ∙ ih ∙ ap (λ (q : List ℕ). first_of (slashed P) q) f.1 ∙ first_slashed P f.0
+      ∙ ap (λ (q : List ℕ). first_of P q) (sym f.1)
 
-  param_part : (P : RowsOf K) (b : ℕ) (p : List ℕ) → slashed_or_end P ≡ true → seek 0 (slashed P) (from_slash p) ≡ first_of (slashed P) (from_slash p)
+  param_part : (P : RowsOf K) (b : ℕ) (p : List ℕ) → slashed_or_end P ≡ true
+      → seek 0 (slashed P) (from_slash p) ≡ first_of (slashed P) (from_slash p)
       → seek ((param_step P (b ∷ p)).0 - 1) (param_step P (b ∷ p)).1 p ≡ cond (b == 47) None (first_of P (from_slash p))
   param_part P b p e ih = at (b == 47) refl
     where
@@ -398,13 +429,15 @@ module _ {K : Type 0} where
       behind n true has true some = part_behind P b p n has e some ih
       behind n true has false none = part_none P b p n has e none
 
-      at : (v : Bool) → (b == 47) ≡ v → seek ((param_step P (b ∷ p)).0 - 1) (param_step P (b ∷ p)).1 p ≡ cond v None (first_of P (from_slash p))
+      at : (v : Bool) → (b == 47) ≡ v
+          → seek ((param_step P (b ∷ p)).0 - 1) (param_step P (b ∷ p)).1 p ≡ cond v None (first_of P (from_slash p))
       at true is = rw (same_nat b 47 is) (part_slash P p e)
       at false n = behind n (has_slash p) refl (has_slashed P) refl
 
   -- ---- a byte and a parameter together
 
-  step_past : (b : ℕ) (t : List ℕ) (rs : RowsOf K) → (b == 256) ≡ false → good_rows rs ≡ true → all_after (256 ∷ t) rs ≡ true → step b rs ≡ []
+  step_past : (b : ℕ) (t : List ℕ) (rs : RowsOf K) → (b == 256) ≡ false → good_rows rs ≡ true
+      → all_after (256 ∷ t) rs ≡ true → step b rs ≡ []
   step_past b t [] n g a = refl
   step_past b t (([], k) ∷ rs) n g a = step_past b t rs n g a
   step_past b t ((x ∷ u, k) ∷ rs) n g a =
@@ -419,17 +452,20 @@ module _ {K : Type 0} where
   or_none true = refl
   or_none false = refl
 
-  by_param : (w m : Bool) (A B R : Option K) (k : K) → A ≡ None → R ≡ or_else A (cond w None B) → cond (not w && m) (Some k) R ≡ or_else A (cond w None (cond m (Some k) B))
+  by_param : (w m : Bool) (A B R : Option K) (k : K) → A ≡ None → R ≡ or_else A (cond w None B)
+      → cond (not w && m) (Some k) R ≡ or_else A (cond w None (cond m (Some k) B))
   by_param true m A B R k none is = is
   by_param false true A B R k none is = rw none refl
   by_param false false A B R k none is = is
 
-  by_byte : (m : Bool) (A C R : Option K) (k : K) → R ≡ or_else A C → cond (true && m) (Some k) R ≡ or_else (cond m (Some k) A) C
+  by_byte : (m : Bool) (A C R : Option K) (k : K) → R ≡ or_else A C
+      → cond (true && m) (Some k) R ≡ or_else (cond m (Some k) A) C
   by_byte true A C R k is = refl
   by_byte false A C R k is = is
 
   first_byte : (b : ℕ) (p : List ℕ) (rs : RowsOf K) → (b == 256) ≡ false → good_rows rs ≡ true → sorted_rows rs ≡ true
-      → first_of rs (b ∷ p) ≡ or_else (first_of (step b rs) p) (cond (b == 47) None (first_of (step 256 rs) (from_slash p)))
+      → first_of rs (b ∷ p) ≡ or_else (first_of (step b rs) p)
+      (cond (b == 47) None (first_of (step 256 rs) (from_slash p)))
   first_byte b p [] n g s = or_none (b == 47)
   first_byte b p (([], k) ∷ rs) n g s = first_byte b p rs n g (and_split (all_after [] rs) (sorted_rows rs) s).1
   first_byte b p ((x ∷ t, k) ∷ rs) n g s =
@@ -438,15 +474,21 @@ module _ {K : Type 0} where
       at (x == 256) refl (x == b) refl h.1 i.0 (first_byte b p rs n h.1 i.1)
     where
       at : (v : Bool) → (x == 256) ≡ v → (w : Bool) → (x == b) ≡ w → good_rows rs ≡ true → all_after (x ∷ t) rs ≡ true
-          → first_of rs (b ∷ p) ≡ or_else (first_of (step b rs) p) (cond (b == 47) None (first_of (step 256 rs) (from_slash p)))
+          → first_of rs (b ∷ p) ≡ or_else (first_of (step b rs) p)
+          (cond (b == 47) None (first_of (step 256 rs) (from_slash p)))
           → cond (cond v (not (b == 47) && matched t (from_slash p)) (w && matched t p)) (Some k) (first_of rs (b ∷ p))
-          ≡ or_else (first_of (cond w ((t, k) ∷ step b rs) (step b rs)) p) (cond (b == 47) None (first_of (cond v ((t, k) ∷ step 256 rs) (step 256 rs)) (from_slash p)))
-      at true e true f g a ih = absurd (let one = same_nat x 256 e in let two = same_nat x b f in other_nat b 256 n (sym two ∙ one))
+          ≡ or_else (first_of (cond w ((t, k) ∷ step b rs) (step b rs)) p)
+          (cond (b == 47) None (first_of (cond v ((t, k) ∷ step 256 rs) (step 256 rs)) (from_slash p)))
+      at true e true f g a ih =
+          absurd (let one = same_nat x 256 e in let two = same_nat x b f in other_nat b 256 n (sym two ∙ one))
       at true e false f g a ih =
           let one = same_nat x 256 e in
           let past : step b rs ≡ [] = step_past b t rs n g (rw one at a) in
-          by_param (b == 47) (matched t (from_slash p)) (first_of (step b rs) p) (first_of (step 256 rs) (from_slash p)) (first_of rs (b ∷ p)) k (ap (λ (r : RowsOf K). first_of r p) past) ih
-      at false e true f g a ih = by_byte (matched t p) (first_of (step b rs) p) (cond (b == 47) None (first_of (step 256 rs) (from_slash p))) (first_of rs (b ∷ p)) k ih
+          by_param (b == 47) (matched t (from_slash p)) (first_of (step b rs) p) (first_of (step 256 rs) (from_slash p))
+          (first_of rs (b ∷ p)) k (ap (λ (r : RowsOf K). first_of r p) past) ih
+      at false e true f g a ih =
+          by_byte (matched t p) (first_of (step b rs) p) (cond (b == 47) None (first_of (step 256 rs) (from_slash p)))
+          (first_of rs (b ∷ p)) k ih
       at false e false f g a ih = ih
 
   first_param : (p : List ℕ) (rs : RowsOf K) → first_of rs (256 ∷ p) ≡ first_of (step 256 rs) (from_slash p)
@@ -455,11 +497,13 @@ module _ {K : Type 0} where
   first_param p ((x ∷ t, k) ∷ rs) = at (x == 256) (first_param p rs)
     where
       at : (v : Bool) → first_of rs (256 ∷ p) ≡ first_of (step 256 rs) (from_slash p)
-          → cond (cond v (not (256 == 47) && matched t (from_slash p)) (v && matched t p)) (Some k) (first_of rs (256 ∷ p)) ≡ first_of (cond v ((t, k) ∷ step 256 rs) (step 256 rs)) (from_slash p)
+          → cond (cond v (not (256 == 47) && matched t (from_slash p)) (v && matched t p))
+          (Some k) (first_of rs (256 ∷ p)) ≡ first_of (cond v ((t, k) ∷ step 256 rs) (step 256 rs)) (from_slash p)
       at true ih = ap (λ (o : Option K). cond (matched t (from_slash p)) (Some k) o) ih
       at false ih = ih
 
-  other_none : (P : RowsOf K) (c : ℕ) (r : List ℕ) → (c == 47) ≡ false → slashed_or_end P ≡ true → first_of P (c ∷ r) ≡ None
+  other_none : (P : RowsOf K) (c : ℕ) (r : List ℕ) → (c == 47) ≡ false → slashed_or_end P ≡ true
+      → first_of P (c ∷ r) ≡ None
   other_none [] c r n e = refl
   other_none (([], k) ∷ rs) c r n e = other_none rs c r n e
   other_none ((x ∷ t, k) ∷ rs) c r n e =
@@ -471,18 +515,21 @@ module _ {K : Type 0} where
   or_same None = refl
   or_same (Some k) = refl
 
-  first_both : (P : RowsOf K) (p : List ℕ) → slashed_or_end P ≡ true → or_else (first_of P p) (first_of P (from_slash p)) ≡ first_of P (from_slash p)
+  first_both : (P : RowsOf K) (p : List ℕ) → slashed_or_end P ≡ true
+      → or_else (first_of P p) (first_of P (from_slash p)) ≡ first_of P (from_slash p)
   first_both P [] e = or_same (first_of P [])
   first_both P (c ∷ r) e = at (c == 47) refl
     where
-      at : (v : Bool) → (c == 47) ≡ v → or_else (first_of P (c ∷ r)) (first_of P (cond v (c ∷ r) (from_slash r))) ≡ first_of P (cond v (c ∷ r) (from_slash r))
+      at : (v : Bool) → (c == 47) ≡ v → or_else (first_of P (c ∷ r)) (first_of P (cond v (c ∷ r) (from_slash r)))
+          ≡ first_of P (cond v (c ∷ r) (from_slash r))
       at true is = or_same (first_of P (c ∷ r))
       at false n = ap (λ (o : Option K). or_else o (first_of P (from_slash r))) (other_none P c r n e)
 
   -- ---- all
 
   seek_on : (rs : RowsOf K) (b : ℕ) (p : List ℕ) → seek 0 rs (b ∷ p)
-      ≡ or_else (seek 0 (step b rs) p) (or_else (seek ((param_step (step 256 rs) (b ∷ p)).0 - 1) (param_step (step 256 rs) (b ∷ p)).1 p) (own (step 257 rs)))
+      ≡ or_else (seek 0 (step b rs) p) (or_else
+      (seek ((param_step (step 256 rs) (b ∷ p)).0 - 1) (param_step (step 256 rs) (b ∷ p)).1 p) (own (step 257 rs)))
   unfolding seek
   seek_on rs b p = refl
 
@@ -492,18 +539,22 @@ module _ {K : Type 0} where
 
   all_three : (a x c y d : Option K) → a ≡ x → c ≡ y → d ≡ None → or_else a (or_else c d) ≡ or_else x y
   all_three a x c y d e f g =
-      ap (λ (u : Option K). or_else u (or_else c d)) e ∙ ap (λ (u : Option K). or_else x (or_else u d)) f ∙ ap (λ (u : Option K). or_else x (or_else y u)) g
+      ap (λ (u : Option K). or_else u (or_else c d)) e ∙ ap (λ (u : Option K). or_else x (or_else u d)) f
+      ∙ ap (λ (u : Option K). or_else x (or_else y u)) g
       ∙ ap (λ (u : Option K). or_else x u) (or_nothing y)
 
   found_by : (rs : RowsOf K) (b : ℕ) (p : List ℕ) → good_rows rs ≡ true → sorted_rows rs ≡ true
-      → or_else (first_of (step b rs) p) (cond (b == 47) None (first_of (step 256 rs) (from_slash p))) ≡ first_of rs (b ∷ p)
+      → or_else (first_of (step b rs) p) (cond (b == 47) None (first_of (step 256 rs) (from_slash p)))
+      ≡ first_of rs (b ∷ p)
   found_by rs b p g s = at (b == 256) refl
     where
-      at : (v : Bool) → (b == 256) ≡ v → or_else (first_of (step b rs) p) (cond (b == 47) None (first_of (step 256 rs) (from_slash p))) ≡ first_of rs (b ∷ p)
+      at : (v : Bool) → (b == 256) ≡ v → or_else (first_of (step b rs) p)
+          (cond (b == 47) None (first_of (step 256 rs) (from_slash p))) ≡ first_of rs (b ∷ p)
       at false n = sym (first_byte b p rs n g s)
       at true is = rw (same_nat b 256 is) (first_both (step 256 rs) p (step_ends rs g) ∙ sym (first_param p rs))
 
-  pub seek_is : (n : ℕ) (rs : RowsOf K) (path : List ℕ) → length path < n → good_rows rs ≡ true → sorted_rows rs ≡ true → seek 0 rs path ≡ first_of rs path
+  pub seek_is : (n : ℕ) (rs : RowsOf K) (path : List ℕ) → length path < n → good_rows rs ≡ true
+      → sorted_rows rs ≡ true → seek 0 rs path ≡ first_of rs path
   seek_is zero rs path less g s = absurd (omega (arith, less))
   seek_is (suc n) rs [] less g s = seek_end rs ∙ own_first rs
   seek_is (suc n) rs (b ∷ p) less g s =
@@ -512,9 +563,11 @@ module _ {K : Type 0} where
       let ends = step_ends rs g in
       let short = shorter_front p in
       seek_on rs b p
-      ∙ all_three (seek 0 (step b rs) p) (first_of (step b rs) p) (seek ((param_step (step 256 rs) (b ∷ p)).0 - 1) (param_step (step 256 rs) (b ∷ p)).1 p)
+      ∙ all_three (seek 0 (step b rs) p) (first_of (step b rs) p)
+      (seek ((param_step (step 256 rs) (b ∷ p)).0 - 1) (param_step (step 256 rs) (b ∷ p)).1 p)
       (cond (b == 47) None (first_of (step 256 rs) (from_slash p))) (own (step 257 rs))
       (seek_is n (step b rs) p (omega (arith, less)) (step_good b rs g) (step_sorted b rs s))
-      (param_part (step 256 rs) b p ends (seek_is n (slashed (step 256 rs)) (from_slash p) (omega (arith, less, short)) (slashed_good (step 256 rs) good) (slashed_sorted (step 256 rs) sorted)))
+      (param_part (step 256 rs) b p ends (seek_is n (slashed (step 256 rs)) (from_slash p)
+      (omega (arith, less, short)) (slashed_good (step 256 rs) good) (slashed_sorted (step 256 rs) sorted)))
       (ap (λ (r : RowsOf K). own r) (step_no_rest rs g))
       ∙ found_by rs b p g s

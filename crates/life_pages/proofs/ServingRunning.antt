@@ -1,20 +1,24 @@
 -- Runs over messages, one after another.
-use Rattle.std.proofs.Common.{◌≡◌, ℕ, ◌&&◌, Bool, true, false, List, [], ◌∷◌, ◌++◌, Option, refl, sym, ◌∙◌, ap, append_assoc, append-nil}
+use Rattle.std.proofs.Common.{◌≡◌, ℕ, ◌&&◌, Bool, true, false, List, [], ◌∷◌, ◌++◌, Option, refl, sym, ◌∙◌, ap}
+use Rattle.std.proofs.Common.{append_assoc, append-nil}
 use Rattle.std.proofs.lemmas.List.Folds.{list_all-append}
 use Rattle.httparse.specs.Grammar.{print_request}
 use Rattle.life_pages.specs.Head.{Head}
 use Rattle.life_rle.specs.Stream.{Gains, GainsSome}
 use Rattle.life_rle.proofs.StreamLemmas.{gains_more, gains_none}
 use Rattle.life_pages.specs.Reply.{bad_bytes}
-use Rattle.life_pages.specs.Message.{Message, good, bad, Messages, Front, Starts, MessageRun, HasMessageInFront, are_line_breaks}
+use Rattle.life_pages.specs.Message.{Message, good, bad, Messages, Front, Starts, MessageRun, HasMessageInFront}
+use Rattle.life_pages.specs.Message.{are_line_breaks}
 use Rattle.life_pages.specs.MessageState.{NeverHas}
 use Rattle.life_pages.specs.Serving.{AreFirstUpTo, RepliesCutShort, LastReplyCutShort}
 use Rattle.life_pages.specs.ServingState.{Went, Ended}
 
-pub stands_append : (bytes : List ℕ) (said : Head) (body rest more : List ℕ) → HasMessageInFront bytes said body rest → HasMessageInFront (bytes ++ more) said body (rest ++ more)
+pub stands_append : (bytes : List ℕ) (said : Head) (body rest more : List ℕ) → HasMessageInFront bytes said body rest
+    → HasMessageInFront (bytes ++ more) said body (rest ++ more)
 stands_append bytes said body rest more s =
     let shape : (print_request s.head ++ (body ++ rest)) ++ more ≡ print_request s.head ++ (body ++ (rest ++ more)) =
-    append_assoc (print_request s.head) (body ++ rest) more ∙ ap (λ (l : List ℕ). print_request s.head ++ l) (append_assoc body rest more) in
+    append_assoc (print_request s.head) (body ++ rest) more
+    ∙ ap (λ (l : List ℕ). print_request s.head ++ l) (append_assoc body rest more) in
     record {
       head = s.head;
       is_head = s.is_head;
@@ -24,7 +28,8 @@ stands_append bytes said body rest more s =
       whole = s.whole;
     }
 
-pub front_append : (bytes : List ℕ) (ms : List Message) (rest more : List ℕ) → Front bytes ms rest → Front (bytes ++ more) ms (rest ++ more)
+pub front_append : (bytes : List ℕ) (ms : List Message) (rest more : List ℕ) → Front bytes ms rest
+    → Front (bytes ++ more) ms (rest ++ more)
 front_append bytes [] rest more f = ap (λ (l : List ℕ). l ++ more) f
 front_append bytes (bad ∷ ms) rest more f = absurd f
 front_append bytes (good said body ∷ ms) rest more f =
@@ -38,25 +43,36 @@ front_then a (good said body ∷ ms) ns b c f h = (f.0, f.1, f.2, front_then f.0
 closes_not : (b : Bool) (P : Type 0) → b ≡ false → b ≡ true → P
 closes_not b P e f = let bad : false ≡ true = sym e ∙ f in absurd (cc)
 
-pub front_messages : (a : List ℕ) (ms ns : List Message) (b : List ℕ) → Front a ms b → Messages b ns → Messages a (ms ++ ns)
+pub front_messages : (a : List ℕ) (ms ns : List Message) (b : List ℕ) → Front a ms b → Messages b ns
+    → Messages a (ms ++ ns)
 front_messages a [] ns b f m = rw f m
 front_messages a (bad ∷ ms) ns b f m = absurd f
 front_messages a (good said body ∷ ms) ns b f m =
     (f.0, f.1, (λ t. closes_not said.closes _ f.2 t), (λ _. front_messages f.0 ms ns b f.3 m))
 
 module _ {D : Type 0} (answers : D → Head → List ℕ → List ℕ → D → Type 0) where
-  pub run_then : (old mid new : D) (ms ns : List Message) (x y : List ℕ) → MessageRun answers old ms x mid → MessageRun answers mid ns y new → MessageRun answers old (ms ++ ns) (x ++ y) new
+  pub run_then : (old mid new : D) (ms ns : List Message) (x y : List ℕ) → MessageRun answers old ms x mid
+      → MessageRun answers mid ns y new → MessageRun answers old (ms ++ ns) (x ++ y) new
   run_then old mid new [] ns x y r q = rw (r.0) (rw (← r.1) q)
   run_then old mid new (bad ∷ ms) ns x y r q =
       (r.0 ++ y, ap (λ (l : List ℕ). l ++ y) r.1 ∙ append_assoc bad_bytes r.0 y, run_then old mid new ms ns r.0 y r.2 q)
-  run_then old mid new (good said body ∷ ms) ns x y r q =
-      (r.0, r.1 ++ y, r.2, r.3, ap (λ (l : List ℕ). l ++ y) r.4 ∙ append_assoc r.0 r.1 y, run_then r.2 mid new ms ns r.1 y r.5 q)
+  run_then old mid new (good said body ∷ ms) ns x y r q = (
+    r.0,
+    r.1 ++ y,
+    r.2,
+    r.3,
+    ap (λ (l : List ℕ). l ++ y) r.4 ∙ append_assoc r.0 r.1 y,
+    run_then r.2 mid new ms ns r.1 y r.5 q,
+  )
 
   pub went_none : (held : List ℕ) (old : D) (before : Option (List ℕ)) → Went answers held held old old before before
-  went_none held old before = record { done = []; bytes = []; front = refl; run = (refl, refl); put = gains_none before }
+  went_none held old before =
+      record { done = []; bytes = []; front = refl; run = (refl, refl); put = gains_none before }
 
-  pub went_one : (held : List ℕ) (said : Head) (body rest : List ℕ) (old new : D) (reply : List ℕ) (before after : Option (List ℕ))
-      → HasMessageInFront held said body rest → said.closes ≡ false → answers old said body reply new → Gains before after reply → Went answers held rest old new before after
+  pub went_one : (held : List ℕ) (said : Head) (body rest : List ℕ) (old new : D) (reply : List ℕ)
+      (before after : Option (List ℕ))
+      → HasMessageInFront held said body rest → said.closes ≡ false → answers old said body reply new
+      → Gains before after reply → Went answers held rest old new before after
   went_one held said body rest old new reply before after s e a p = record {
     done = good said body ∷ [];
     bytes = reply;
@@ -65,27 +81,40 @@ module _ {D : Type 0} (answers : D → Head → List ℕ → List ℕ → D → 
     put = p;
   }
 
-  pub ended_one : (held : List ℕ) (said : Head) (body rest : List ℕ) (old new : D) (reply : List ℕ) (before after : Option (List ℕ))
-      → HasMessageInFront held said body rest → said.closes ≡ true → answers old said body reply new → Gains before after reply → Ended answers held old new before after
+  pub ended_one : (held : List ℕ) (said : Head) (body rest : List ℕ) (old new : D) (reply : List ℕ)
+      (before after : Option (List ℕ))
+      → HasMessageInFront held said body rest → said.closes ≡ true → answers old said body reply new
+      → Gains before after reply → Ended answers held old new before after
   ended_one held said body rest old new reply before after s e a p = record {
     done = good said body ∷ [];
     bytes = reply;
-    messages = λ more. (rest ++ more, stands_append held said body rest more s, (λ _. refl), (λ f. closes_not said.closes _ f e));
+    messages = λ more. (
+      rest ++ more,
+      stands_append held said body rest more s,
+      (λ _. refl),
+      (λ f. closes_not said.closes _ f e),
+    );
     run = (reply, [], new, a, sym (append-nil reply), (refl, refl));
     put = p;
   }
 
-  pub ended_bad : (held : List ℕ) (old : D) (before after : Option (List ℕ)) → NeverHas held → are_line_breaks held ≡ false → Gains before after bad_bytes
+  pub ended_bad : (held : List ℕ) (old : D) (before after : Option (List ℕ)) → NeverHas held
+      → are_line_breaks held ≡ false → Gains before after bad_bytes
       → Ended answers held old old before after
   ended_bad held old before after never not_blank p = record {
     done = bad ∷ [];
     bytes = bad_bytes;
-    messages = λ more. (list_all-append _ held more ∙ ap (λ (b : Bool). b && are_line_breaks more) not_blank, never more, refl);
+    messages = λ more. (
+      list_all-append _ held more ∙ ap (λ (b : Bool). b && are_line_breaks more) not_blank,
+      never more,
+      refl,
+    );
     run = ([], sym (append-nil bad_bytes), (refl, refl));
     put = p;
   }
 
-  pub cut_one : (held : List ℕ) (said : Head) (body rest : List ℕ) (old new : D) (reply : List ℕ) (before after : Option (List ℕ))
+  pub cut_one : (held : List ℕ) (said : Head) (body rest : List ℕ) (old new : D) (reply : List ℕ)
+      (before after : Option (List ℕ))
       → HasMessageInFront held said body rest → answers old said body reply new → GainsSome before after reply
       → LastReplyCutShort answers (λ ms. (more : List ℕ) → Starts (held ++ more) ms) old new before after
   cut_one held said body rest old new reply before after s a p = record {
@@ -102,7 +131,8 @@ module _ {D : Type 0} (answers : D → Head → List ℕ → List ℕ → D → 
     some = p;
   }
 
-  pub cut_bad : (held : List ℕ) (old : D) (before after : Option (List ℕ)) → NeverHas held → are_line_breaks held ≡ false → GainsSome before after bad_bytes
+  pub cut_bad : (held : List ℕ) (old : D) (before after : Option (List ℕ)) → NeverHas held
+      → are_line_breaks held ≡ false → GainsSome before after bad_bytes
       → LastReplyCutShort answers (λ ms. (more : List ℕ) → Starts (held ++ more) ms) old old before after
   cut_bad held old before after never not_blank p = record {
     done = [];
@@ -111,7 +141,11 @@ module _ {D : Type 0} (answers : D → Head → List ℕ → List ℕ → D → 
     reply = bad_bytes;
     mid = old;
     whole = before;
-    begun = λ more. (list_all-append _ held more ∙ ap (λ (b : Bool). b && are_line_breaks more) not_blank, never more, refl);
+    begun = λ more. (
+      list_all-append _ held more ∙ ap (λ (b : Bool). b && are_line_breaks more) not_blank,
+      never more,
+      refl,
+    );
     run = (refl, refl);
     step = ([], sym (append-nil bad_bytes), (refl, refl));
     put = gains_none before;
@@ -133,14 +167,16 @@ messages_first bytes (good said body ∷ ms) m = (m.0, m.1, m.2, λ transition. 
 pub front_first : (a : List ℕ) (ms : List Message) (b : List ℕ) → Front a ms b → Starts a ms
 front_first a [] b f = tt
 front_first a (bad ∷ ms) b f = absurd f
-front_first a (good said body ∷ ms) b f = (f.0, f.1, (λ t. closes_not said.closes _ f.2 t), (λ _. front_first f.0 ms b f.3))
+front_first a (good said body ∷ ms) b f =
+    (f.0, f.1, (λ t. closes_not said.closes _ f.2 t), (λ _. front_first f.0 ms b f.3))
 
 pub some_more : (a b c : Option (List ℕ)) (x y : List ℕ) → Gains a b x → GainsSome b c y → GainsSome a c (x ++ y)
 some_more a b c x y p (front, rest, e, q) =
     (x ++ front, rest, ap (λ (l : List ℕ). x ++ l) e ∙ sym (append_assoc x front rest), gains_more a b c x front p q)
 
 module _ {D : Type 0} (answers : D → Head → List ℕ → List ℕ → D → Type 0) where
-  pub went_then : (a b c : List ℕ) (old mid new : D) (x y z : Option (List ℕ)) → Went answers a b old mid x y → Went answers b c mid new y z
+  pub went_then : (a b c : List ℕ) (old mid new : D) (x y z : Option (List ℕ)) → Went answers a b old mid x y
+      → Went answers b c mid new y z
       → Went answers a c old new x z
   went_then a b c old mid new x y z f h = record {
     done = f.done ++ h.done;
@@ -150,19 +186,25 @@ module _ {D : Type 0} (answers : D → Head → List ℕ → List ℕ → D → 
     put = gains_more x y z f.bytes h.bytes f.put h.put;
   }
 
-  pub went_ended : (a b : List ℕ) (old mid new : D) (x y z : Option (List ℕ)) → Went answers a b old mid x y → Ended answers b mid new y z
+  pub went_ended : (a b : List ℕ) (old mid new : D) (x y z : Option (List ℕ)) → Went answers a b old mid x y
+      → Ended answers b mid new y z
       → Ended answers a old new x z
   went_ended a b old mid new x y z f h = record {
     done = f.done ++ h.done;
     bytes = f.bytes ++ h.bytes;
-    messages = λ more. front_messages (a ++ more) f.done h.done (b ++ more) (front_append a f.done b more f.front) (h.messages more);
+    messages =
+        λ more. front_messages (a ++ more) f.done h.done (b ++ more) (front_append a f.done b more f.front)
+        (h.messages more);
     run = run_then answers old mid new f.done h.done f.bytes h.bytes f.run h.run;
     put = gains_more x y z f.bytes h.bytes f.put h.put;
   }
 
   -- a cut after messages that were answered whole
-  pub then_cut : (P Q : List Message → Type 0) (done : List Message) (bytes : List ℕ) (old mid new : D) (x y z : Option (List ℕ))
-      → MessageRun answers old done bytes mid → Gains x y bytes → ((ms : List Message) (last : Message) → P (ms ++ last ∷ []) → Q (done ++ (ms ++ last ∷ []))) → LastReplyCutShort answers P mid new y z → LastReplyCutShort answers Q old new x z
+  pub then_cut : (P Q : List Message → Type 0) (done : List Message) (bytes : List ℕ) (old mid new : D)
+      (x y z : Option (List ℕ))
+      → MessageRun answers old done bytes mid → Gains x y bytes
+      → ((ms : List Message) (last : Message) → P (ms ++ last ∷ []) → Q (done ++ (ms ++ last ∷ [])))
+      → LastReplyCutShort answers P mid new y z → LastReplyCutShort answers Q old new x z
   then_cut P Q done bytes old mid new x y z r g begins c = record {
     done = done ++ c.done;
     last = c.last;
@@ -178,13 +220,18 @@ module _ {D : Type 0} (answers : D → Head → List ℕ → List ℕ → D → 
   }
 
   pub went_cut : (a b : List ℕ) (old mid new : D) (x y z : Option (List ℕ)) → Went answers a b old mid x y
-      → LastReplyCutShort answers (λ ms. (more : List ℕ) → Starts (b ++ more) ms) mid new y z → LastReplyCutShort answers (λ ms. (more : List ℕ) → Starts (a ++ more) ms) old new x z
+      → LastReplyCutShort answers (λ ms. (more : List ℕ) → Starts (b ++ more) ms) mid new y z
+      → LastReplyCutShort answers (λ ms. (more : List ℕ) → Starts (a ++ more) ms) old new x z
   went_cut a b old mid new x y z f c =
-      then_cut (λ ms. (more : List ℕ) → Starts (b ++ more) ms) (λ ms. (more : List ℕ) → Starts (a ++ more) ms) f.done f.bytes old mid new x y z f.run f.put
-      (λ ms last h more. front_starts (a ++ more) f.done (ms ++ last ∷ []) (b ++ more) (front_append a f.done b more f.front) (h more)) c
+      then_cut (λ ms. (more : List ℕ) → Starts (b ++ more) ms)
+      (λ ms. (more : List ℕ) → Starts (a ++ more) ms) f.done f.bytes old mid new x y z f.run f.put
+      (λ ms last h more. front_starts (a ++ more) f.done (ms ++ last ∷ []) (b ++ more)
+      (front_append a f.done b more f.front) (h more)) c
 
   -- what a cut put is a prefix of the replies
-  pub cut_broke : {last : ℕ} (stream left : Option (List ℕ)) (old new : D) (x y : Option (List ℕ)) → LastReplyCutShort answers (AreFirstUpTo stream left last) old new x y → RepliesCutShort answers stream old new x y
+  pub cut_broke : {last : ℕ} (stream left : Option (List ℕ)) (old new : D) (x y : Option (List ℕ))
+      → LastReplyCutShort answers (AreFirstUpTo stream left last) old new x y
+      → RepliesCutShort answers stream old new x y
   cut_broke stream left old new x y c = record {
     done = c.done ++ c.last ∷ [];
     bytes = c.bytes ++ c.reply;

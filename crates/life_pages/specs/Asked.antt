@@ -1,4 +1,5 @@
--- What a good message asks for: a request to the archive, unless no route has its path, or the route wants another method.
+-- What a good message asks for: a request to the archive, unless no route has its path, or the route wants another
+-- method.
 use Rattle.std.specs.Prelude.{ℕ, if◌then◌else◌, List, Option, None, Some, Result, Ok, Err, codes}
 use Rattle.std.specs.Str.{bytes_eq}
 use Rattle.life_desk.specs.declared.request.Request.{Request}
@@ -32,7 +33,8 @@ request_of (routes.Total rule code limit) said body = ask.Total rule code limit
 -- the route is validated first, and then the method
 abbrev pub asked_at : Option Route → Head → List ℕ → Result Request MessageRefusal
 asked_at None said body = Err NoSuchRoute
-asked_at (Some route) said body = if bytes_eq said.method (method_of route) then Ok (request_of route said body) else Err BadMethod
+asked_at (Some route) said body =
+    if bytes_eq said.method (method_of route) then Ok (request_of route said body) else Err BadMethod
 
 -- what a message with this head and this body asks for
 abbrev pub asked : Head → List ℕ → Result Request MessageRefusal

@@ -16,4 +16,5 @@ GivesRequest (Err refusal) request = MayRefuse (validated request) refusal
 abbrev pub IsAsked : Result Request Unasked → Result Request MessageRefusal → Type 0
 IsAsked (Ok request) read = read ≡ Ok request
 IsAsked (Err (unasked.Message refusal)) read = read ≡ Err refusal
-IsAsked (Err (unasked.Request refusal)) read = (request : Request) × (read ≡ Ok request) × MayRefuse (validated request) refusal
+IsAsked (Err (unasked.Request refusal)) read =
+    (request : Request) × (read ≡ Ok request) × MayRefuse (validated request) refusal

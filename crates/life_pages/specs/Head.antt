@@ -1,5 +1,6 @@
 -- What the head of a request says of its message (RFC 9112, sections 3, 5 and 6; the grammar itself is `httparse`'s).
-use Rattle.std.specs.Prelude.{ℕ, ◌-◌, ◌^◌, ◌==◌, ◌&&◌, ◌||◌, nat_lt, nat_le, min, Bool, true, false, if◌then◌else◌, List, [], ◌∷◌, length, map, filter, Option, None, Some, option_map, unwrap_or, codes}
+use Rattle.std.specs.Prelude.{ℕ, ◌-◌, ◌^◌, ◌==◌, ◌&&◌, ◌||◌, nat_lt, nat_le, min, Bool, true, false, if◌then◌else◌}
+use Rattle.std.specs.Prelude.{List, [], ◌∷◌, length, map, filter, Option, None, Some, option_map, unwrap_or, codes}
 use Rattle.std.specs.List.{list_any, list_all}
 use Rattle.std.specs.Char.{is_ascii_digit}
 use Rattle.std.specs.Str.{str_eq_ignore_ascii_case}
@@ -51,11 +52,13 @@ onto_first b (p ∷ ps) = (b ∷ p) ∷ ps
 
 abbrev pub parts_between_commas : List ℕ → List (List ℕ)
 parts_between_commas [] = [] ∷ []
-parts_between_commas (b ∷ rest) = if b == comma then [] ∷ parts_between_commas rest else onto_first b (parts_between_commas rest)
+parts_between_commas (b ∷ rest) =
+    if b == comma then [] ∷ parts_between_commas rest else onto_first b (parts_between_commas rest)
 
 -- one of the parts is the word close
 abbrev pub says_close : List ℕ → Bool
-says_close value = list_any (λ part. str_eq_ignore_ascii_case (trim_ows part) (codes "close")) (parts_between_commas value)
+says_close value =
+    list_any (λ part. str_eq_ignore_ascii_case (trim_ows part) (codes "close")) (parts_between_commas value)
 
 -- what the head of a good message says
 pub record Head : Type 0 where
@@ -94,4 +97,5 @@ line_limit = 32
 -- what the head says, if it is not bad
 abbrev pub head_of : RequestHead → Option Head
 head_of h =
-    if nat_lt line_limit (length h.fields) then None else said_by h.method h.target h.minor (map name_and_value h.fields)
+    if nat_lt line_limit (length h.fields) then None
+    else said_by h.method h.target h.minor (map name_and_value h.fields)

@@ -11,7 +11,8 @@ abbrev pub kind_members : Kind → Members
 kind_members Empty = member (codes "kind") (string (codes "empty")) no_members
 kind_members Unresolved = member (codes "kind") (string (codes "unresolved")) no_members
 kind_members Still = member (codes "kind") (string (codes "still")) no_members
-kind_members (Oscillator period) = member (codes "kind") (string (codes "oscillator")) (member (codes "period") (count period) no_members)
+kind_members (Oscillator period) =
+    member (codes "kind") (string (codes "oscillator")) (member (codes "period") (count period) no_members)
 kind_members (Ship period dx dy) =
     member (codes "dx") (number (of_integer dx)) (member (codes "dy") (number (of_integer dy))
     (member (codes "kind") (string (codes "ship")) (member (codes "period") (count period) no_members)))

@@ -24,13 +24,17 @@ AcknowledgementsAreKnown = (r q : Reply) → bytes_of r ≡ bytes_of q → ackno
 
 -- .. and those of a message's refusal do not say so.
 abbrev pub PagesAcknowledgeNothing : Type 0
-PagesAcknowledgeNothing = (r : Reply) (refusal : MessageRefusal) → bytes_of r ≡ message_refusal_bytes refusal → acknowledges r ≡ false
+PagesAcknowledgeNothing =
+    (r : Reply) (refusal : MessageRefusal) → bytes_of r ≡ message_refusal_bytes refusal → acknowledges r ≡ false
 
 -- the bytes of a reply of the archive, with a body that fits into memory, or of the refusal of a message
 abbrev pub AreReplyBytes : List ℕ → Type 0
-AreReplyBytes bytes = ((r : Reply) × (length (reply_body r) < 2 ^ 64) × (bytes ≡ bytes_of r)) ⊎ ((refusal : MessageRefusal) × (bytes ≡ message_refusal_bytes refusal))
+AreReplyBytes bytes =
+    ((r : Reply) × (length (reply_body r) < 2 ^ 64) × (bytes ≡ bytes_of r))
+    ⊎ ((refusal : MessageRefusal) × (bytes ≡ message_refusal_bytes refusal))
 
--- No reply is a prefix of another: a stream of replies can be read in one way, reply after reply, so a peer knows which is which.
+-- No reply is a prefix of another: a stream of replies can be read in one way, reply after reply, so a peer knows which
+-- is which.
 abbrev pub RepliesAreReadInOneWay : Type 0
 RepliesAreReadInOneWay = (a b x y : List ℕ) → AreReplyBytes a → AreReplyBytes b → a ++ x ≡ b ++ y → (a ≡ b) × (x ≡ y)
 
@@ -42,7 +46,9 @@ HasNoComma part = AllByRecursion (λ b. (b == comma) ≡ false) part
 
 -- The parts of a header's value, joined by commas, are the value, and none has a comma.
 abbrev pub PartsAreTheValue : Type 0
-PartsAreTheValue = (value : List ℕ) → (join_with_byte comma (parts_between_commas value) ≡ value) × AllByRecursion HasNoComma (parts_between_commas value)
+PartsAreTheValue =
+    (value : List ℕ) → (join_with_byte comma (parts_between_commas value) ≡ value)
+    × AllByRecursion HasNoComma (parts_between_commas value)
 
 -- the path that a template's pieces spell, with these texts for its parameters
 abbrev pub filled : List Piece → List (List ℕ) → List ℕ
@@ -58,7 +64,9 @@ pub record IsParameter (text : List ℕ) : Type 0 where
 
 -- What a template captures of a path, put back into it, is the path.
 abbrev pub CapturesAreThePath : Type 0
-CapturesAreThePath = (pieces : List Piece) (path : List ℕ) (texts : List (List ℕ)) → captured pieces path ≡ Some texts → (filled pieces texts ≡ path) × AllByRecursion IsParameter texts
+CapturesAreThePath =
+    (pieces : List Piece) (path : List ℕ) (texts : List (List ℕ)) → captured pieces path ≡ Some texts
+    → (filled pieces texts ≡ path) × AllByRecursion IsParameter texts
 
 -- the templates alone
 abbrev pub template_texts : List (List ℕ)
@@ -70,4 +78,6 @@ Fits template path = (texts : List (List ℕ)) × (captured (pieces_of template)
 
 -- A path fits one template at most, so their order plays no part.
 abbrev pub OneTemplate : Type 0
-OneTemplate = (path one two : List ℕ) → Contains template_texts one → Contains template_texts two → Fits one path → Fits two path → one ≡ two
+OneTemplate =
+    (path one two : List ℕ) → Contains template_texts one → Contains template_texts two → Fits one path
+    → Fits two path → one ≡ two

@@ -1,5 +1,6 @@
 -- The messages of a stream, and a run over them (RFC 9112).
-use Rattle.std.specs.Prelude.{◌≡◌, ◌⊎◌, ℕ, ◌<◌, ◌≤◌, ◌==◌, ◌||◌, Bool, true, false, List, [], ◌∷◌, ◌++◌, length, Result, Ok, Err, Some}
+use Rattle.std.specs.Prelude.{◌≡◌, ◌⊎◌, ℕ, ◌<◌, ◌≤◌, ◌==◌, ◌||◌, Bool, true, false, List, [], ◌∷◌, ◌++◌, length, Result}
+use Rattle.std.specs.Prelude.{Ok, Err, Some}
 use Rattle.std.specs.List.{list_all}
 use Rattle.life_core.specs.Ascii.{line_feed, carriage_return}
 use Rattle.httparse.specs.Grammar.{RequestHead, IsRequestHead, HasNoRequest, MayBecomeRequest, print_request}
@@ -84,7 +85,8 @@ module _ {D : Type 0} (answers : D → Head → List ℕ → List ℕ → D → 
   MessageRun old [] bytes new = (bytes ≡ []) × (new ≡ old)
   MessageRun old (bad ∷ ms) bytes new = (later : List ℕ) × (bytes ≡ bad_bytes ++ later) × MessageRun old ms later new
   MessageRun old (good said body ∷ ms) bytes new =
-      (reply : List ℕ) × (later : List ℕ) × (mid : D) × answers old said body reply mid × (bytes ≡ reply ++ later) × MessageRun mid ms later new
+      (reply : List ℕ) × (later : List ℕ) × (mid : D) × answers old said body reply mid × (bytes ≡ reply ++ later)
+      × MessageRun mid ms later new
 
 -- how a good message is answered, where requests are answered by these replies
 module _ {D : Type 0} (answers : D → Request → Reply → D → Type 0) where

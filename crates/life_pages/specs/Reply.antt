@@ -4,7 +4,9 @@ use Rattle.http.specs.StatusCode.{code_digits, reason_phrase}
 use Rattle.serde_json.specs.Written.{compact_text}
 use Rattle.life_rle.specs.Fault.{fault_number}
 use Rattle.life_desk.specs.declared.refusal.Refusal.{Refusal}
-use Rattle.life_desk.specs.declared.refusal.Refusal.TheVariants.{NoSuchDeposit, NoSuchCensus, BadMember, BadToken, TokenReused, OutOfLimit, BadPattern, BadRule, BadCode, Full, Unavailable}
+use Rattle.life_desk.specs.declared.refusal.Refusal.TheVariants.{NoSuchDeposit, NoSuchCensus, BadMember, BadToken}
+use Rattle.life_desk.specs.declared.refusal.Refusal.TheVariants.{TokenReused, OutOfLimit, BadPattern, BadRule, BadCode}
+use Rattle.life_desk.specs.declared.refusal.Refusal.TheVariants.{Full, Unavailable}
 use Rattle.life_desk.specs.declared.request.Reply.{Reply}
 use Rattle.life_desk.specs.declared.request.Reply.TheVariants as says
 use Rattle.life_desk.specs.Refusals as refusals
@@ -43,8 +45,8 @@ fault_part _ = []
 
 -- ---- the replies of the archive
 
--- the status of a refusal: what was asked for is not there, the request is no good, what is stored forbids it, what was sent is no
--- pattern, or the archive cannot now (RFC 9110, section 15.5 and 15.6)
+-- the status of a refusal: what was asked for is not there, the request is no good, what is stored forbids it, what was
+-- sent is no pattern, or the archive cannot now (RFC 9110, section 15.5 and 15.6)
 abbrev pub refusal_status : Refusal → ℕ
 refusal_status NoSuchDeposit = 404
 refusal_status NoSuchCensus = 404
@@ -73,7 +75,8 @@ abbrev pub reply_body : Reply → List ℕ
 reply_body (says.Deposited id) = number_body (codes "deposit") id
 reply_body (says.Counted id) = number_body (codes "census") id
 reply_body (says.Total n) = number_body (codes "total") n
-reply_body (says.Refused refusal) = refusal_body (refusals.name_of refusal) (refusals.number_of refusal) (fault_part refusal)
+reply_body (says.Refused refusal) =
+    refusal_body (refusals.name_of refusal) (refusals.number_of refusal) (fault_part refusal)
 reply_body (says.File bytes) = bytes
 reply_body (says.Csv bytes) = bytes
 reply_body (says.Deposits lines) = compact_text (list_data lines)
@@ -91,7 +94,8 @@ page_status BadMethod = 405
 page_status BadMessage = 400
 
 unfoldable pub message_refusal_bytes : MessageRefusal → List ℕ
-message_refusal_bytes refusal = reply_bytes (page_status refusal) json (refusal_body (label_of refusal).name (label_of refusal).number [])
+message_refusal_bytes refusal =
+    reply_bytes (page_status refusal) json (refusal_body (label_of refusal).name (label_of refusal).number [])
 
 -- the reply to a bad message
 abbrev pub bad_bytes : List ℕ

@@ -21,8 +21,8 @@ requests_of [] = []
 requests_of (bad ∷ ms) = requests_of ms
 requests_of (good said body ∷ ms) = with_request (asked said body) (requests_of ms)
 
--- the bytes of a message's reply, which is the first of these if the message makes a request, and after them those of the others; if there is no reply
--- for a request, none (a run has as many replies as requests)
+-- the bytes of a message's reply, which is the first of these if the message makes a request, and after them those of
+-- the others; if there is no reply for a request, none (a run has as many replies as requests)
 abbrev pub with_reply : Result Request MessageRefusal → (List Reply → List ℕ) → List Reply → List ℕ
 with_reply (Ok request) later (r ∷ rs) = bytes_of r ++ later rs
 with_reply (Ok request) later [] = []
@@ -36,7 +36,8 @@ reply_bytes_of (good said body ∷ ms) rs = with_reply (asked said body) (reply_
 
 -- A run over messages is a run of their requests, and puts the bytes of the replies ..
 abbrev pub MessagesRunAsRequests : Type 0
-MessagesRunAsRequests = (A B : Archive) (ms : List Message) (bytes : List ℕ) → MessageRun (AnswersMessage RequestStep) A ms bytes B
+MessagesRunAsRequests =
+    (A B : Archive) (ms : List Message) (bytes : List ℕ) → MessageRun (AnswersMessage RequestStep) A ms bytes B
     → (rs : List Reply) × RequestRun A (requests_of ms) rs B × (bytes ≡ reply_bytes_of ms rs)
 
 -- .. and each run of their requests is one over the messages.
@@ -44,8 +45,9 @@ abbrev pub RequestsRunAsMessages : Type 0
 RequestsRunAsMessages = (A B : Archive) (ms : List Message) (rs : List Reply) → RequestRun A (requests_of ms) rs B
     → MessageRun (AnswersMessage RequestStep) A ms (reply_bytes_of ms rs) B
 
--- The requests of such messages were answered by a run from A to B, what was put is the bytes of its replies, and what these say holds:
--- generation n is the rule applied n times, codes are one exactly for one object, and a census counts every cluster once.
+-- The requests of such messages were answered by a run from A to B, what was put is the bytes of its replies, and what
+-- these say holds: generation n is the rule applied n times, codes are one exactly for one object, and a census counts
+-- every cluster once.
 pub record ServesTheHeadline (are : List Message → Type 0) (puts : List ℕ → Type 0) (A B : Archive) : Type 0 where
   pub done : List Message
   pub replies : List Reply

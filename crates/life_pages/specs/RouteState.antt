@@ -9,7 +9,17 @@ use Rattle.matchit.specs.declared.error.InsertError.{InsertError}
 use Rattle.life_pages.specs.declared.route.Route.{Route}
 use Rattle.life_pages.specs.declared.route.Route.TheVariants as routes
 use Rattle.life_pages.specs.declared.route.Template.{Template}
-use Rattle.life_pages.specs.declared.route.Template.TheVariants.{Deposits, Deposit, After, At, Kind, Censuses, Census, CensusCsv, Total}
+use Rattle.life_pages.specs.declared.route.Template.TheVariants.{
+  Deposits,
+  Deposit,
+  After,
+  At,
+  Kind,
+  Censuses,
+  Census,
+  CensusCsv,
+  Total,
+}
 use Rattle.life_pages.specs.Route.{names, text, number}
 
 -- the rows with one more route, if its text reads well

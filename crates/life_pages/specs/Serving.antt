@@ -1,5 +1,6 @@
 -- What serving a stream does.
-use Rattle.std.specs.Prelude.{◌≡◌, Bool, ℕ, ◌+◌, ◌*◌, ◌≤◌, List, [], ◌∷◌, ◌++◌, length, Option, None, Some, Result, Ok, Err, OnOk, IfSome}
+use Rattle.std.specs.Prelude.{◌≡◌, Bool, ℕ, ◌+◌, ◌*◌, ◌≤◌, List, [], ◌∷◌, ◌++◌, length, Option, None, Some, Result, Ok}
+use Rattle.std.specs.Prelude.{Err, OnOk, IfSome}
 use Rattle.life_rle.specs.declared.stream.Inlet as inlet
 use Rattle.life_rle.specs.declared.stream.Outlet as outlet
 use Rattle.life_rle.specs.Stream.{raised, EndsLast, FailedBetween, FailsLast, Loses, LosesUpTo, Gains, GainsSome}
@@ -26,7 +27,8 @@ AreFirstOf stream ms = IfSome stream (λ bytes. Starts bytes ms)
 
 module _ {D : Type 0} (answers : D → Head → List ℕ → List ℕ → D → Type 0) where
   -- messages were answered: the replies to all but the last were put whole, and of the last a beginning
-  pub record LastReplyCutShort (begins : List Message → Type 0) (old new : D) (before after : Option (List ℕ)) : Type 0 where
+  pub record LastReplyCutShort (begins : List Message → Type 0) (old new : D)
+      (before after : Option (List ℕ)) : Type 0 where
     pub done : List Message
     pub last : Message
     pub bytes : List ℕ
@@ -61,8 +63,8 @@ Fronts None done held left = Unit {0}
 Fronts (Some stream) done held None = ⊥
 Fronts (Some stream) done held (Some left) = Front stream done (held ++ left)
 
--- Without the last take, of this many bytes and at most 4,096, the bytes taken held no whole message that is not one of the first of these; and that
--- is not all of them.
+-- Without the last take, of this many bytes and at most 4,096, the bytes taken held no whole message that is not one of
+-- the first of these; and that is not all of them.
 pub record WholeBefore (stream left : Option (List ℕ)) (last : ℕ) (ms : List Message) : Type 0 where
   pub front : List Message
   pub next : Message
@@ -76,7 +78,8 @@ pub record WholeBefore (stream left : Option (List ℕ)) (last : ℕ) (ms : List
   pub taken : Loses before left piece
   pub short : (length piece ≤ 4096) × (length piece ≤ last)
 
--- the first messages of a stream, all but the last of which were answered before the last take, if they had come completely
+-- the first messages of a stream, all but the last of which were answered before the last take, if they had come
+-- completely
 abbrev pub AreFirstUpTo : Option (List ℕ) → Option (List ℕ) → ℕ → List Message → Type 0
 AreFirstUpTo stream left last ms = AreFirstOf stream ms × WholeBefore stream left last ms
 
@@ -118,22 +121,29 @@ ReportsPutFailures old new last (Err Memory) = new ≡ old
 
 -- ---- a call
 
--- What a call does to what answers the messages. `by P` says that this went from what it was before the call to what it is after it as P says: a desk that
--- was old and is new by λ P. P old new, and an archive in a database by `ByArchive` or `InMemory`.
-pub record IsServed {D I O : Type 0} (answers : D → Head → List ℕ → List ℕ → D → Type 0) (by : (D → D → Type 0) → Type 0) (i : inlet.Ghosts I) (o : outlet.Ghosts O) (input rest : I) (output sent : O) (result : Result (Unit {0}) IoFault) : Type 0 where
+-- What a call does to what answers the messages. `by P` says that this went from what it was before the call to what it
+-- is after it as P says: a desk that was old and is new by λ P. P old new, and an archive in a database by `ByArchive`
+-- or `InMemory`.
+pub record IsServed {D I O : Type 0} (answers : D → Head → List ℕ → List ℕ → D → Type 0)
+    (by : (D → D → Type 0) → Type 0) (i : inlet.Ghosts I) (o : outlet.Ghosts O) (input rest : I)
+    (output sent : O) (result : Result (Unit {0}) IoFault) : Type 0 where
   -- Ok: all messages of the stream were answered, and what was put is their replies.
   pub known : OnOk result (by (λ A B. Served answers (i.to_come input) A B (o.already output) (o.already sent)))
   -- Whatever the answer: the first of them were answered, and no more than their replies was put.
   pub some : by (λ A B. RepliesCutShort answers (i.to_come input) A B (o.already output) (o.already sent))
   -- A failed take: what was taken whole was answered, and the replies were put whole.
-  pub on_read_failure : result ≡ Err Read → by (λ A B. ServedSoFar answers (i.to_come input) (i.to_come rest) A B (o.already output) (o.already sent))
+  pub on_read_failure : result ≡ Err Read
+      → by (λ A B. ServedSoFar answers (i.to_come input) (i.to_come rest) A B (o.already output) (o.already sent))
   -- The same if one more take would be too many.
-  pub on_too_many_reads : result ≡ Err TooManyReads → by (λ A B. ServedSoFar answers (i.to_come input) (i.to_come rest) A B (o.already output) (o.already sent))
+  pub on_too_many_reads : result ≡ Err TooManyReads
+      → by (λ A B. ServedSoFar answers (i.to_come input) (i.to_come rest) A B (o.already output) (o.already sent))
   -- A failed put: of the last reply a beginning was put, and those before it whole.
-  pub on_write_failure : result ≡ Err Write → by (λ A B. LastReplyCutShort answers (AreFirstUpTo (i.to_come input) (i.to_come rest) (i.last_take rest)) A B (o.already output) (o.already sent))
+  pub on_write_failure : result ≡ Err Write → by (λ A B. LastReplyCutShort answers
+      (AreFirstUpTo (i.to_come input) (i.to_come rest) (i.last_take rest)) A B (o.already output) (o.already sent))
 
 -- What a call does to its streams, whatever answers the messages.
-pub record UsesStreams {I O : Type 0} (i : inlet.Ghosts I) (o : outlet.Ghosts O) (input rest : I) (output sent : O) (result : Result (Unit {0}) IoFault) : Type 0 where
+pub record UsesStreams {I O : Type 0} (i : inlet.Ghosts I) (o : outlet.Ghosts O) (input rest : I)
+    (output sent : O) (result : Result (Unit {0}) IoFault) : Type 0 where
   -- Too many takes: at least 1,048,576 known bytes were taken.
   pub many : result ≡ Err TooManyReads → LosesAtLeast most_takes (i.to_come input) (i.to_come rest)
   -- What is put only grows: what was put before the call is a prefix of what is put after it.

@@ -1,5 +1,6 @@
 -- What the private calls that serve a stream do, one after the other.
-use Rattle.std.specs.Prelude.{◌≡◌, ◌⊎◌, ℕ, ◌<◌, ◌≤◌, Bool, true, false, List, [], ◌++◌, length, Option, None, Some, Result, Ok, Err}
+use Rattle.std.specs.Prelude.{◌≡◌, ◌⊎◌, ℕ, ◌<◌, ◌≤◌, Bool, true, false, List, [], ◌++◌, length, Option, None, Some}
+use Rattle.std.specs.Prelude.{Result, Ok, Err}
 use Rattle.life_rle.specs.Stream.{raised, Loses, Gains, GainsSome, IsEnded}
 use Rattle.life_pages.specs.declared.fault.IoFault.{IoFault}
 use Rattle.life_pages.specs.declared.fault.IoFault.TheVariants as faults
@@ -16,7 +17,8 @@ use Rattle.life_pages.specs.Serving.{most_takes, AreFirstUpTo, LastReplyCutShort
 -- a take of more bytes after those that are held
 abbrev pub Feeds : {E : Type 0} → Option (List ℕ) → Option (List ℕ) → List ℕ → List ℕ → Result ℕ E → Type 0
 Feeds old new held all (Ok k) =
-    (some : List ℕ) × Loses old new some × (all ≡ held ++ some) × (k ≡ 0 → (some ≡ []) × IsEnded old) × (length some ≡ k)
+    (some : List ℕ) × Loses old new some × (all ≡ held ++ some) × (k ≡ 0 → (some ≡ []) × IsEnded old)
+    × (length some ≡ k)
 Feeds old new held all (Err e) = Loses old new [] × (all ≡ held)
 
 module _ {D : Type 0} (answers : D → Head → List ℕ → List ℕ → D → Type 0) where
@@ -37,45 +39,55 @@ module _ {D : Type 0} (answers : D → Head → List ℕ → List ℕ → D → 
     pub put : Gains before after bytes
 
   -- one message
-  abbrev pub IsStep : {E : Type 0} → Result Step E → List ℕ → List ℕ → D → D → Option (List ℕ) → Option (List ℕ) → Type 0
+  abbrev pub IsStep : {E : Type 0} → Result Step E → List ℕ → List ℕ → D → D → Option (List ℕ)
+      → Option (List ℕ) → Type 0
   IsStep (Ok Wants) held rest old new before after =
       Went held rest old new before after × IsWanting rest
   IsStep (Ok Goes) held rest old new before after = Went held rest old new before after × (length rest < length held)
   IsStep (Ok Ends) held rest old new before after = Ended held old new before after
-  IsStep (Err e) held rest old new before after = LastReplyCutShort answers (λ ms. (more : List ℕ) → Starts (held ++ more) ms) old new before after
+  IsStep (Err e) held rest old new before after =
+      LastReplyCutShort answers (λ ms. (more : List ℕ) → Starts (held ++ more) ms) old new before after
 
   -- all the messages that are held
-  abbrev pub IsHeldServed : {E : Type 0} → Result Bool E → List ℕ → List ℕ → D → D → Option (List ℕ) → Option (List ℕ) → Type 0
+  abbrev pub IsHeldServed : {E : Type 0} → Result Bool E → List ℕ → List ℕ → D → D → Option (List ℕ)
+      → Option (List ℕ) → Type 0
   IsHeldServed (Ok false) held rest old new before after =
       Went held rest old new before after × IsWanting rest
   IsHeldServed (Ok true) held rest old new before after = Ended held old new before after
-  IsHeldServed (Err e) held rest old new before after = LastReplyCutShort answers (λ ms. (more : List ℕ) → Starts (held ++ more) ms) old new before after
+  IsHeldServed (Err e) held rest old new before after =
+      LastReplyCutShort answers (λ ms. (more : List ℕ) → Starts (held ++ more) ms) old new before after
 
   -- at the end of the input
   abbrev pub AtEnd : Result (Unit {0}) IoFault → List ℕ → D → Option (List ℕ) → Option (List ℕ) → Type 0
   AtEnd (Ok u) held desk before after = Served answers (Some held) desk desk before after
-  AtEnd (Err faults.Write) held desk before after = LastReplyCutShort answers (λ ms. Starts held ms) desk desk before after
+  AtEnd (Err faults.Write) held desk before after =
+      LastReplyCutShort answers (λ ms. Starts held ms) desk desk before after
   AtEnd (Err faults.Read) held desk before after = ⊥
   AtEnd (Err faults.TooManyReads) held desk before after = ⊥
   AtEnd (Err faults.Memory) held desk before after = ⊥
 
   -- what became of a stream
-  abbrev pub IsOutcome : Result (Unit {0}) IoFault → Option (List ℕ) → Option (List ℕ) → ℕ → D → D → Option (List ℕ) → Option (List ℕ) → Type 0
+  abbrev pub IsOutcome : Result (Unit {0}) IoFault → Option (List ℕ) → Option (List ℕ) → ℕ
+      → D → D → Option (List ℕ) → Option (List ℕ) → Type 0
   IsOutcome (Ok u) stream left last old new before after = Served answers stream old new before after
-  IsOutcome (Err faults.Read) stream left last old new before after = ServedSoFar answers stream left old new before after
+  IsOutcome (Err faults.Read) stream left last old new before after =
+      ServedSoFar answers stream left old new before after
   IsOutcome (Err faults.TooManyReads) stream left last old new before after =
       ServedSoFar answers stream left old new before after × LosesAtLeast most_takes stream left
-  IsOutcome (Err faults.Write) stream left last old new before after = LastReplyCutShort answers (AreFirstUpTo stream left last) old new before after
+  IsOutcome (Err faults.Write) stream left last old new before after =
+      LastReplyCutShort answers (AreFirstUpTo stream left last) old new before after
   IsOutcome (Err faults.Memory) stream left last old new before after = ⊥
 
 -- at least this many bytes were taken, all of them CR and LF
 abbrev pub PassesBlank : ℕ → Option (List ℕ) → Option (List ℕ) → Type 0
-PassesBlank least old new = (bytes : List ℕ) × (least ≤ length bytes) × (are_line_breaks bytes ≡ true) × Loses old new bytes
+PassesBlank least old new =
+    (bytes : List ℕ) × (least ≤ length bytes) × (are_line_breaks bytes ≡ true) × Loses old new bytes
 
 -- bytes were taken, all of them CR and LF, and then those of one take of this many
 abbrev pub PassesThen : ℕ → Option (List ℕ) → Option (List ℕ) → Type 0
 PassesThen last old new =
-    (blank : List ℕ) × (mid : Option (List ℕ)) × (piece : List ℕ) × (are_line_breaks blank ≡ true) × Loses old mid blank × Loses mid new piece × (length piece ≤ 4096) × (length piece ≤ last)
+    (blank : List ℕ) × (mid : Option (List ℕ)) × (piece : List ℕ) × (are_line_breaks blank ≡ true)
+    × Loses old mid blank × Loses mid new piece × (length piece ≤ 4096) × (length piece ≤ last)
 
 -- whether what is left of known bytes is CR and LF alone
 abbrev pub IsBlankRest : Option (List ℕ) → Bool → Type 0
@@ -97,10 +109,12 @@ HearsPassed old new passed.Failed = new ≡ raised old
 HearsPassed old new passed.TooMany = new ≡ old
 
 -- the result for a stream after as many of them as a head may have, in at most this many takes
-abbrev pub IsBlankEnd : Result (Unit {0}) IoFault → ℕ → ℕ → Option (List ℕ) → Option (List ℕ) → Option (List ℕ) → Option (List ℕ) → Type 0
+abbrev pub IsBlankEnd : Result (Unit {0}) IoFault → ℕ → ℕ → Option (List ℕ) → Option (List ℕ)
+    → Option (List ℕ) → Option (List ℕ) → Type 0
 IsBlankEnd (Ok u) takes last old new before after =
     (IsBlankRest old true × (after ≡ before)) ⊎ (IsBlankRest old false × Gains before after bad_bytes)
-IsBlankEnd (Err faults.Write) takes last old new before after = IsBlankRest old false × PassesThen last old new × GainsSome before after bad_bytes
+IsBlankEnd (Err faults.Write) takes last old new before after =
+    IsBlankRest old false × PassesThen last old new × GainsSome before after bad_bytes
 IsBlankEnd (Err faults.Read) takes last old new before after = PassesBlank 0 old new × (after ≡ before)
 IsBlankEnd (Err faults.TooManyReads) takes last old new before after = PassesBlank takes old new × (after ≡ before)
 IsBlankEnd (Err faults.Memory) takes last old new before after = ⊥

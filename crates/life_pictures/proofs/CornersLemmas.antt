@@ -1,5 +1,6 @@
 -- The corners of the box of two sets together, and what they tell of a set.
-use Rattle.std.specs.Prelude.{◌≡◌, ◌≤ℤ◌, ◌-ℤ◌, ◌+ℤ◌, ℤ, pos, neg_ℤ, Bool, true, false, ◌||◌, ◌⊎◌, Option, None, Some, List, [], ◌∷◌, IfSome}
+use Rattle.std.specs.Prelude.{◌≡◌, ◌≤ℤ◌, ◌-ℤ◌, ◌+ℤ◌, ℤ, pos, neg_ℤ, Bool, true, false, ◌||◌, ◌⊎◌, Option, None, Some}
+use Rattle.std.specs.Prelude.{List, [], ◌∷◌, IfSome}
 use Rattle.std.proofs.Common.{w64, to_z, of_z, ℕ, map, sym, ap, subst, ◌∙◌, inl, inr, arith, refl}
 use Rattle.std.specs.Int.{int_min, int_max}
 use Rattle.std.proofs.lemmas.Int.{ints, clamps, to_z-of_z}
@@ -26,15 +27,19 @@ same : (v : ℤ) → neg_ℤ (pos 4096) ≤ℤ v → v ≤ℤ pos 4096 → to_z 
 same v low high = to_z-of_z w64 v (near_fits v (omega (arith, ints, low)) (omega (arith, ints, high)))
 
 -- the lesser of two near scalars
-pub lesser : (r a b : ℤ) → neg_ℤ (pos 4096) ≤ℤ a → a ≤ℤ pos 4096 → neg_ℤ (pos 4096) ≤ℤ b → b ≤ℤ pos 4096 → r ≡ int_min (to_z w64 (of_z w64 a)) (to_z w64 (of_z w64 b)) → to_z w64 (of_z w64 r) ≡ int_min a b
+pub lesser : (r a b : ℤ) → neg_ℤ (pos 4096) ≤ℤ a → a ≤ℤ pos 4096 → neg_ℤ (pos 4096) ≤ℤ b → b ≤ℤ pos 4096
+    → r ≡ int_min (to_z w64 (of_z w64 a)) (to_z w64 (of_z w64 b)) → to_z w64 (of_z w64 r) ≡ int_min a b
 lesser r a b la ha lb hb is =
-    let e : r ≡ int_min a b = is ∙ ap (λ (x : ℤ). int_min x (to_z w64 (of_z w64 b))) (same a la ha) ∙ ap (int_min a) (same b lb hb) in
+    let e : r ≡ int_min a b = is ∙ ap (λ (x : ℤ). int_min x (to_z w64 (of_z w64 b))) (same a la ha)
+    ∙ ap (int_min a) (same b lb hb) in
     same r (omega (arith, ints, clamps, e, la, lb)) (omega (arith, ints, clamps, e, ha, hb)) ∙ e
 
 -- the greater of two near scalars
-pub greater : (r a b : ℤ) → neg_ℤ (pos 4096) ≤ℤ a → a ≤ℤ pos 4096 → neg_ℤ (pos 4096) ≤ℤ b → b ≤ℤ pos 4096 → r ≡ int_max (to_z w64 (of_z w64 a)) (to_z w64 (of_z w64 b)) → to_z w64 (of_z w64 r) ≡ int_max a b
+pub greater : (r a b : ℤ) → neg_ℤ (pos 4096) ≤ℤ a → a ≤ℤ pos 4096 → neg_ℤ (pos 4096) ≤ℤ b → b ≤ℤ pos 4096
+    → r ≡ int_max (to_z w64 (of_z w64 a)) (to_z w64 (of_z w64 b)) → to_z w64 (of_z w64 r) ≡ int_max a b
 greater r a b la ha lb hb is =
-    let e : r ≡ int_max a b = is ∙ ap (λ (x : ℤ). int_max x (to_z w64 (of_z w64 b))) (same a la ha) ∙ ap (int_max a) (same b lb hb) in
+    let e : r ≡ int_max a b = is ∙ ap (λ (x : ℤ). int_max x (to_z w64 (of_z w64 b))) (same a la ha)
+    ∙ ap (int_max a) (same b lb hb) in
     same r (omega (arith, ints, clamps, e, la, lb)) (omega (arith, ints, clamps, e, ha, hb)) ∙ e
 
 -- ---- two sets together
@@ -71,17 +76,26 @@ module _ (f : Cell → ℤ) (X Y Z : Cells) (both : AreTogether X Y Z) where
       greatest_one a b = grind (arith, ints, clamps)
 
 -- the corners of two sets together
-pub corners_together : (X Y Z : Cells) (one other e : Corners) → AreTogether X Y Z → AreCorners one X → AreCorners other Y
+pub corners_together : (X Y Z : Cells) (one other e : Corners) → AreTogether X Y Z → AreCorners one X
+    → AreCorners other Y
     → e.first.column ≡ int_min one.first.column other.first.column → e.first.row ≡ int_min one.first.row other.first.row
-    → e.last.column ≡ int_max one.last.column other.last.column → e.last.row ≡ int_max one.last.row other.last.row → AreCorners e Z
+    → e.last.column ≡ int_max one.last.column other.last.column → e.last.row ≡ int_max one.last.row other.last.row
+    → AreCorners e Z
 corners_together X Y Z one other e both own new left top right bottom =
     let a = own.near in
     let b = new.near in
     record {
-      left = subst (IsLeast (λ (c : Cell). c.column) Z) (sym left) (least_of_both (λ c. c.column) X Y Z both _ _ own.left new.left);
-      right = subst (IsGreatest (λ (c : Cell). c.column) Z) (sym right) (greatest_of_both (λ c. c.column) X Y Z both _ _ own.right new.right);
-      top = subst (IsLeast (λ (c : Cell). c.row) Z) (sym top) (least_of_both (λ c. c.row) X Y Z both _ _ own.top new.top);
-      bottom = subst (IsGreatest (λ (c : Cell). c.row) Z) (sym bottom) (greatest_of_both (λ c. c.row) X Y Z both _ _ own.bottom new.bottom);
+      left =
+          subst (IsLeast (λ (c : Cell). c.column) Z) (sym left)
+          (least_of_both (λ c. c.column) X Y Z both _ _ own.left new.left);
+      right =
+          subst (IsGreatest (λ (c : Cell). c.column) Z) (sym right)
+          (greatest_of_both (λ c. c.column) X Y Z both _ _ own.right new.right);
+      top =
+          subst (IsLeast (λ (c : Cell). c.row) Z) (sym top) (least_of_both (λ c. c.row) X Y Z both _ _ own.top new.top);
+      bottom =
+          subst (IsGreatest (λ (c : Cell). c.row) Z) (sym bottom)
+          (greatest_of_both (λ c. c.row) X Y Z both _ _ own.bottom new.bottom);
       near = record {
         left = omega (arith, ints, clamps, left, a.left, b.left);
         across = omega (arith, ints, clamps, left, right, a.across, b.across);
@@ -93,26 +107,33 @@ corners_together X Y Z one other e both own new left top right bottom =
     }
 
 alone : (X Y Z : Cells) → AreTogether X Y Z → Y ≡ set.empty → Z ≡ X
-alone X Y Z both none = cells_by_members Z X (λ c. both c ∙ ap (λ (W : Cells). set.contains X c || set.contains W c) none ∙ ap (λ b. set.contains X c || b) (set.contains-empty cell_cmp c) ∙ or_false (set.contains X c))
+alone X Y Z both none =
+    cells_by_members Z X (λ c. both c ∙ ap (λ (W : Cells). set.contains X c || set.contains W c) none
+    ∙ ap (λ b. set.contains X c || b) (set.contains-empty cell_cmp c) ∙ or_false (set.contains X c))
   where
     or_false : (b : Bool) → (b || false) ≡ b
     or_false true = refl
     or_false false = refl
 
 other_alone : (X Y Z : Cells) → AreTogether X Y Z → X ≡ set.empty → Z ≡ Y
-other_alone X Y Z both none = cells_by_members Z Y (λ c. both c ∙ ap (λ (W : Cells). set.contains W c || set.contains Y c) none ∙ ap (λ b. b || set.contains Y c) (set.contains-empty cell_cmp c))
+other_alone X Y Z both none =
+    cells_by_members Z Y (λ c. both c ∙ ap (λ (W : Cells). set.contains W c || set.contains Y c) none
+    ∙ ap (λ b. b || set.contains Y c) (set.contains-empty cell_cmp c))
 
 -- a set with an empty one
 pub corners_left : (X Y Z : Cells) (e : Corners) → AreTogether X Y Z → AreCorners e X → Y ≡ set.empty → AreCorners e Z
 corners_left X Y Z e both own none = subst (AreCorners e) (sym (alone X Y Z both none)) own
 
 -- an empty set with another
-pub corners_right : (X Y Z : Cells) (e : Option Corners) → AreTogether X Y Z → X ≡ set.empty → HasCorners Y e → HasCorners Z e
+pub corners_right : (X Y Z : Cells) (e : Option Corners) → AreTogether X Y Z → X ≡ set.empty
+    → HasCorners Y e → HasCorners Z e
 corners_right X Y Z e both none other = subst (λ (W : Cells). HasCorners W e) (sym (other_alone X Y Z both none)) other
 
 -- the first corner
 pub first_is : (X : Cells) (e : Corners) → AreCorners e X → e.first ≡ corner X
-first_is X e are = same_coordinates _ _ (sym (least_is (λ c. c.row) X e.first.row are.top)) (sym (least_is (λ c. c.column) X e.first.column are.left))
+first_is X e are =
+    same_coordinates _ _ (sym (least_is (λ c. c.row) X e.first.row are.top))
+    (sym (least_is (λ c. c.column) X e.first.column are.left))
 
 -- a list that has no cell
 none_in : (cs : List Cell) → ((c : Cell) → has_cell cs c ≡ false) → cs ≡ []
@@ -120,11 +141,15 @@ none_in [] none = refl
 none_in (c ∷ cs) none = absurd (false≢true (sym (none c) ∙ or_left (same_cell c c) (has_cell cs c) (same_cell-self c)))
 
 no_items : (X : Cells) → X ≡ set.empty → set.items X ≡ []
-no_items X is = none_in (set.items X) (λ c. sym (contains-items X c) ∙ ap (λ (Y : Cells). set.contains Y c) is ∙ set.contains-empty cell_cmp c)
+no_items X is =
+    none_in (set.items X)
+    (λ c. sym (contains-items X c) ∙ ap (λ (Y : Cells). set.contains Y c) is ∙ set.contains-empty cell_cmp c)
 
 -- an empty set has the origin for its corner
 pub first_of_none : (X : Cells) → X ≡ set.empty → record { row = pos 0; column = pos 0 } ≡ corner X
-first_of_none X is = same_coordinates _ _ (ap (least_in (λ c. c.row)) (sym (no_items X is))) (ap (least_in (λ c. c.column)) (sym (no_items X is)))
+first_of_none X is =
+    same_coordinates _ _ (ap (least_in (λ c. c.row)) (sym (no_items X is)))
+    (ap (least_in (λ c. c.column)) (sym (no_items X is)))
 
 -- the corners of a set's box are near
 pub near_of : (X : Cells) (e : Option Corners) → HasCorners X e → IfSome e AreNear
@@ -133,7 +158,12 @@ near_of X (Some e) has = has.near
 
 -- the first corner lies near
 pub first_within : (X : Cells) (e : Option Corners) → HasCorners X e → IsCellWithin 4096 (corner X)
-first_within X None has = subst (IsCellWithin 4096) (first_of_none X has) (record { top = omega (arith, ints); bottom = omega (arith, ints); left = omega (arith, ints); right = omega (arith, ints) })
+first_within X None has = subst (IsCellWithin 4096) (first_of_none X has) (record {
+  top = omega (arith, ints);
+  bottom = omega (arith, ints);
+  left = omega (arith, ints);
+  right = omega (arith, ints);
+})
 first_within X (Some e) has =
     let near = has.near in
     subst (IsCellWithin 4096) (first_is X e has) (record {
@@ -154,35 +184,54 @@ module _ (f : Cell → ℤ) (sums : (c d : Cell) → f (plus c d) ≡ f c +ℤ f
 
   least_moved : IsLeast f X a → IsLeast f (moved v X) (a +ℤ f v)
   least_moved low = record {
-    below = λ c h. let under = low.below (plus c (minus v)) (sym (contains-placed O0 v X c) ∙ h) in let sum = back c in omega (arith, ints, under, sum);
-    reached = (plus low.reached.0 v, there low.reached.0 low.reached.1, sums low.reached.0 v ∙ ap (λ z. z +ℤ f v) low.reached.2);
+    below =
+        λ c h. let under = low.below (plus c (minus v)) (sym (contains-placed O0 v X c) ∙ h) in
+        let sum = back c in omega (arith, ints, under, sum);
+    reached = (
+      plus low.reached.0 v,
+      there low.reached.0 low.reached.1,
+      sums low.reached.0 v ∙ ap (λ z. z +ℤ f v) low.reached.2,
+    );
   }
 
   greatest_moved : IsGreatest f X a → IsGreatest f (moved v X) (a +ℤ f v)
   greatest_moved high = record {
-    above = λ c h. let over = high.above (plus c (minus v)) (sym (contains-placed O0 v X c) ∙ h) in let sum = back c in omega (arith, ints, over, sum);
-    reached = (plus high.reached.0 v, there high.reached.0 high.reached.1, sums high.reached.0 v ∙ ap (λ z. z +ℤ f v) high.reached.2);
+    above =
+        λ c h. let over = high.above (plus c (minus v)) (sym (contains-placed O0 v X c) ∙ h) in
+        let sum = back c in omega (arith, ints, over, sum);
+    reached = (
+      plus high.reached.0 v,
+      there high.reached.0 high.reached.1,
+      sums high.reached.0 v ∙ ap (λ z. z +ℤ f v) high.reached.2,
+    );
   }
 
 -- the box of the normal form has the same size
-pub normal_box : (X : Cells) (e : Corners) (width height : ℕ) → AreCorners e X → (e.first.column +ℤ pos width) -ℤ pos 1 ≡ e.last.column → (e.first.row +ℤ pos height) -ℤ pos 1 ≡ e.last.row
+pub normal_box : (X : Cells) (e : Corners) (width height : ℕ) → AreCorners e X
+    → (e.first.column +ℤ pos width) -ℤ pos 1 ≡ e.last.column → (e.first.row +ℤ pos height) -ℤ pos 1 ≡ e.last.row
     → IsBox (normal X) (e.first.column +ℤ neg_ℤ (corner X).column) (e.first.row +ℤ neg_ℤ (corner X).row) width height
 normal_box X e width height are wide high =
     let v = minus (corner X) in
-    let right : e.last.column +ℤ v.column ≡ ((e.first.column +ℤ v.column) +ℤ pos width) -ℤ pos 1 = omega (arith, ints, wide) in
+    let right : e.last.column +ℤ v.column ≡ ((e.first.column +ℤ v.column) +ℤ pos width) -ℤ pos 1 =
+    omega (arith, ints, wide) in
     let bottom : e.last.row +ℤ v.row ≡ ((e.first.row +ℤ v.row) +ℤ pos height) -ℤ pos 1 = omega (arith, ints, high) in
     record {
       from_column = least_moved (λ c. c.column) (λ c d. refl) X v e.first.column are.left;
-      to_column = subst (IsGreatest (λ (c : Cell). c.column) (normal X)) right (greatest_moved (λ c. c.column) (λ c d. refl) X v e.last.column are.right);
+      to_column =
+          subst (IsGreatest (λ (c : Cell). c.column) (normal X)) right
+          (greatest_moved (λ c. c.column) (λ c d. refl) X v e.last.column are.right);
       from_row = least_moved (λ c. c.row) (λ c d. refl) X v e.first.row are.top;
-      to_row = subst (IsGreatest (λ (c : Cell). c.row) (normal X)) bottom (greatest_moved (λ c. c.row) (λ c d. refl) X v e.last.row are.bottom);
+      to_row =
+          subst (IsGreatest (λ (c : Cell). c.row) (normal X)) bottom
+          (greatest_moved (λ c. c.row) (λ c d. refl) X v e.last.row are.bottom);
     }
 
 -- the set without cells has no pairs
 no_pairs : (X : Cells) → X ≡ set.empty → pairs_of (normal X) ≡ []
 no_pairs X is =
     let same : normal X ≡ set.empty = ap (λ (W : Cells). normal W) is ∙ normal-empty in
-    ap (map coordinates) (none_in (in_order (normal X)) (λ c. has_cell-in_order (normal X) c ∙ ap (λ (W : Cells). set.contains W c) same ∙ set.contains-empty cell_cmp c))
+    ap (map coordinates) (none_in (in_order (normal X))
+    (λ c. has_cell-in_order (normal X) c ∙ ap (λ (W : Cells). set.contains W c) same ∙ set.contains-empty cell_cmp c))
 
 pub no_width : (X : Cells) → X ≡ set.empty → 0 ≡ width_of (pairs_of (normal X))
 no_width X is = sym (ap width_of (no_pairs X is))
@@ -194,8 +243,10 @@ is_record : (X : Cells) → IsRecord (plain (record { birth = set.empty; surviva
 is_record X = record { name = tt; author = tt; comments = tt; few = omega arith; cells = normal-normal X }
 
 -- the size of the box is that of the normal form
-pub box_is_extent : (X : Cells) (e : Corners) (width height : ℕ) → AreCorners e X → (e.first.column +ℤ pos width) -ℤ pos 1 ≡ e.last.column → (e.first.row +ℤ pos height) -ℤ pos 1 ≡ e.last.row
+pub box_is_extent : (X : Cells) (e : Corners) (width height : ℕ) → AreCorners e X
+    → (e.first.column +ℤ pos width) -ℤ pos 1 ≡ e.last.column → (e.first.row +ℤ pos height) -ℤ pos 1 ≡ e.last.row
     → (width ≡ width_of (pairs_of (normal X))) × (height ≡ height_of (pairs_of (normal X)))
 box_is_extent X e width height are wide high =
-    let sizes = headers_give_the_box (plain (record { birth = set.empty; survival = set.empty }) X) _ _ width height (is_record X) (normal_box X e width height are wide high) in
+    let sizes = headers_give_the_box (plain (record { birth = set.empty; survival = set.empty }) X) _ _ width height
+    (is_record X) (normal_box X e width height are wide high) in
     (sym sizes.0, sym sizes.1)

@@ -7,13 +7,21 @@ use Rattle.life_core.specs.declared.cell.Cell.{Cell}
 use Rattle.life_core.specs.declared.cell.TheConstants.{PLANE}
 use Rattle.life_rle.specs.Writer.{coordinates, width_of, height_of, IsQuarterCell}
 
-columns : (n : ℕ) (cs : List Cell) → n ≤ PLANE + 1 → All IsQuarterCell cs → fold (λ m (p : ℕ × ℕ). max m (p.0 + 1)) n (map coordinates cs) ≤ PLANE + 1
+columns : (n : ℕ) (cs : List Cell) → n ≤ PLANE + 1 → All IsQuarterCell cs
+    → fold (λ m (p : ℕ × ℕ). max m (p.0 + 1)) n (map coordinates cs) ≤ PLANE + 1
 columns n [] low all = low
-columns n (c ∷ cs) low all = let here = All-head IsQuarterCell c cs all in columns (max n ((coordinates c).0 + 1)) cs (omega (arith, ints, low, here.column_high, here.column_low)) (All-tail IsQuarterCell c cs all)
+columns n (c ∷ cs) low all =
+    let here = All-head IsQuarterCell c cs all in
+    columns (max n ((coordinates c).0 + 1)) cs (omega (arith, ints, low, here.column_high, here.column_low))
+    (All-tail IsQuarterCell c cs all)
 
-rows : (n : ℕ) (cs : List Cell) → n ≤ PLANE + 1 → All IsQuarterCell cs → fold (λ m (p : ℕ × ℕ). max m (p.1 + 1)) n (map coordinates cs) ≤ PLANE + 1
+rows : (n : ℕ) (cs : List Cell) → n ≤ PLANE + 1 → All IsQuarterCell cs
+    → fold (λ m (p : ℕ × ℕ). max m (p.1 + 1)) n (map coordinates cs) ≤ PLANE + 1
 rows n [] low all = low
-rows n (c ∷ cs) low all = let here = All-head IsQuarterCell c cs all in rows (max n ((coordinates c).1 + 1)) cs (omega (arith, ints, low, here.row_high, here.row_low)) (All-tail IsQuarterCell c cs all)
+rows n (c ∷ cs) low all =
+    let here = All-head IsQuarterCell c cs all in
+    rows (max n ((coordinates c).1 + 1)) cs (omega (arith, ints, low, here.row_high, here.row_low))
+    (All-tail IsQuarterCell c cs all)
 
 pub width_bounded : (cs : List Cell) → All IsQuarterCell cs → width_of (map coordinates cs) ≤ PLANE + 1
 width_bounded cs all = columns 0 cs (omega arith) all

@@ -15,8 +15,10 @@ module _ (o₀ o₁ o₂ o₃ a b c : List ℕ) (first : o₁ ≡ o₀ ++ a) (se
       ∙ ap (λ o. o ++ e) (fourth ∙ ap (λ o. o ++ d) three_parts ∙ append_assoc o₀ ((a ++ b) ++ c) d)
       ∙ append_assoc o₀ (((a ++ b) ++ c) ++ d) e
 
-  pub seven_parts : (o₄ o₅ o₆ o₇ d e f h : List ℕ) → o₄ ≡ o₃ ++ d → o₅ ≡ o₄ ++ e → o₆ ≡ o₅ ++ f → o₇ ≡ o₆ ++ h → o₇ ≡ o₀ ++ ((((((a ++ b) ++ c) ++ d) ++ e) ++ f) ++ h)
+  pub seven_parts : (o₄ o₅ o₆ o₇ d e f h : List ℕ) → o₄ ≡ o₃ ++ d → o₅ ≡ o₄ ++ e → o₆ ≡ o₅ ++ f
+      → o₇ ≡ o₆ ++ h → o₇ ≡ o₀ ++ ((((((a ++ b) ++ c) ++ d) ++ e) ++ f) ++ h)
   seven_parts o₄ o₅ o₆ o₇ d e f h fourth fifth sixth seventh =
       seventh
-      ∙ ap (λ o. o ++ h) (sixth ∙ ap (λ o. o ++ f) (five_parts o₄ o₅ d e fourth fifth) ∙ append_assoc o₀ ((((a ++ b) ++ c) ++ d) ++ e) f)
+      ∙ ap (λ o. o ++ h) (sixth ∙ ap (λ o. o ++ f) (five_parts o₄ o₅ d e fourth fifth)
+      ∙ append_assoc o₀ ((((a ++ b) ++ c) ++ d) ++ e) f)
       ∙ append_assoc o₀ (((((a ++ b) ++ c) ++ d) ++ e) ++ f) h

@@ -24,16 +24,27 @@ encoded c other k d lt = λ is.
     other (inside_one c [] (encode_utf8 c) k (sym (append-nil (encode_utf8 c))) lt (omega arith) ∙ same)
 
 by_tests : (c : ℕ) (and less more return valid : Bool) → (less ≡ false → c ≢ 60)
-    → All IsOther (cond and (codes "&amp;") (cond less (codes "&lt;") (cond more (codes "&gt;") (cond return (codes "&#13;") (cond valid (encode_utf8 c) (encode_utf8 0xFFFD))))))
-by_tests c true less more return valid other = All-from_recursion IsOther (codes "&amp;") (λ e. omega arith, (λ e. omega arith, (λ e. omega arith, (λ e. omega arith, (λ e. omega arith, tt)))))
-by_tests c false true more return valid other = All-from_recursion IsOther (codes "&lt;") (λ e. omega arith, (λ e. omega arith, (λ e. omega arith, (λ e. omega arith, tt))))
-by_tests c false false true return valid other = All-from_recursion IsOther (codes "&gt;") (λ e. omega arith, (λ e. omega arith, (λ e. omega arith, (λ e. omega arith, tt))))
-by_tests c false false false true valid other = All-from_recursion IsOther (codes "&#13;") (λ e. omega arith, (λ e. omega arith, (λ e. omega arith, (λ e. omega arith, (λ e. omega arith, tt)))))
+    → All IsOther (cond and (codes "&amp;") (cond less (codes "&lt;")
+    (cond more (codes "&gt;") (cond return (codes "&#13;") (cond valid (encode_utf8 c) (encode_utf8 0xFFFD))))))
+by_tests c true less more return valid other =
+    All-from_recursion IsOther (codes "&amp;")
+    (λ e. omega arith, (λ e. omega arith, (λ e. omega arith, (λ e. omega arith, (λ e. omega arith, tt)))))
+by_tests c false true more return valid other =
+    All-from_recursion IsOther (codes "&lt;")
+    (λ e. omega arith, (λ e. omega arith, (λ e. omega arith, (λ e. omega arith, tt))))
+by_tests c false false true return valid other =
+    All-from_recursion IsOther (codes "&gt;")
+    (λ e. omega arith, (λ e. omega arith, (λ e. omega arith, (λ e. omega arith, tt))))
+by_tests c false false false true valid other =
+    All-from_recursion IsOther (codes "&#13;")
+    (λ e. omega arith, (λ e. omega arith, (λ e. omega arith, (λ e. omega arith, (λ e. omega arith, tt)))))
 by_tests c false false false false true other = encoded c (other refl)
 by_tests c false false false false false other = encoded 0xFFFD (λ e. omega arith)
 
 escaped_one : (c : ℕ) → All IsOther (escaped c)
-escaped_one c = by_tests c (eqb c 38) (eqb c 60) (eqb c 62) (eqb c 13) (is_xml_char c) (λ none same. absurd (false≢true (sym none ∙ eq-eqb c 60 same)))
+escaped_one c =
+    by_tests c (eqb c 38) (eqb c 60) (eqb c 62) (eqb c 13) (is_xml_char c)
+    (λ none same. absurd (false≢true (sym none ∙ eq-eqb c 60 same)))
 
 escaped_all : (cs : List ℕ) → All IsOther (flat_map escaped cs)
 escaped_all [] = All-nil IsOther

@@ -1,5 +1,5 @@
--- Animations as SVG documents: one path, whose data change to those of the next generation, frame after frame (W3C, "Scalable Vector
--- Graphics 2", "Path data"; "SVG Animations Level 2", "The 'animate' element").
+-- Animations as SVG documents: one path, whose data change to those of the next generation, frame after frame (W3C,
+-- "Scalable Vector Graphics 2", "Path data"; "SVG Animations Level 2", "The 'animate' element").
 use Rattle.std.specs.Prelude.{ℕ, ◌+◌, ◌*◌, neg_ℤ, List, ◌++◌, codes, Option}
 use Rattle.std.specs.List.{flat_map, range_with_len}
 use Rattle.std.specs.FinSet as set
@@ -32,14 +32,16 @@ frame at X = codes "M0 0" ++ path (in_box at X)
 
 -- the frames of this many generations after X, with a semicolon before each
 abbrev pub next_frames : RuleSets → Cells → Cell → ℕ → List ℕ
-next_frames rule X at count = flat_map (λ k. codes ";" ++ frame at (generation_of rule X (k + 1))) (range_with_len 0 count)
+next_frames rule X at count =
+    flat_map (λ k. codes ";" ++ frame at (generation_of rule X (k + 1))) (range_with_len 0 count)
 
 -- a path that shows the frames of X and of this many generations after it, each for 125 milliseconds, in a loop
 unfoldable pub animated_path : RuleSets → Cells → Cell → ℕ → List ℕ
 animated_path rule X at more =
     codes "<path d=\"" ++ frame at X
     ++ with_number (codes "\"><animate attributeName=\"d\" calcMode=\"discrete\" dur=\"") (125 * (more + 1))
-    ++ codes "ms\" repeatCount=\"indefinite\" values=\"" ++ frame at X ++ next_frames rule X at more ++ codes "\"/></path>\n"
+    ++ codes "ms\" repeatCount=\"indefinite\" values=\"" ++ frame at X ++ next_frames rule X at more
+    ++ codes "\"/></path>\n"
 
 -- the document of X and this many generations after it, in the box of all of them
 unfoldable pub moving : Option (List ℕ) → RuleSets → Cells → ℕ → List ℕ

@@ -35,4 +35,5 @@ abbrev pub path_of_frames : Cell → Cells → List Cells → List ℕ
 path_of_frames at X later =
     codes "<path d=\"" ++ frame at X
     ++ with_number (codes "\"><animate attributeName=\"d\" calcMode=\"discrete\" dur=\"") (125 * (length later + 1))
-    ++ codes "ms\" repeatCount=\"indefinite\" values=\"" ++ frame at X ++ flat_map (λ Y. codes ";" ++ frame at Y) later ++ codes "\"/></path>\n"
+    ++ codes "ms\" repeatCount=\"indefinite\" values=\"" ++ frame at X ++ flat_map (λ Y. codes ";" ++ frame at Y) later
+    ++ codes "\"/></path>\n"

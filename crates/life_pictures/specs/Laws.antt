@@ -20,7 +20,8 @@ DeadAreLeftOut = (all : List (Bool × Bool)) → (n : ℕ) × (trimmed all ++ re
 
 -- .. and all of them: if it shows cells, one of the last two is live.
 abbrev pub LinesEndLive : Type 0
-LinesEndLive = (all front : List (Bool × Bool)) (last : Bool × Bool) → trimmed all ≡ front ++ last ∷ [] → (last.0 || last.1) ≡ true
+LinesEndLive =
+    (all front : List (Bool × Bool)) (last : Bool × Bool) → trimmed all ≡ front ++ last ∷ [] → (last.0 || last.1) ≡ true
 
 -- ---- paths
 
@@ -32,7 +33,9 @@ RunsAreTheCells = (cells : List (ℕ × ℕ)) → flat_map cells_of_run (runs_of
 abbrev pub AreMaximalRuns : List Run → Type 0
 AreMaximalRuns [] = Unit {0}
 AreMaximalRuns (run ∷ []) = 0 < run.length
-AreMaximalRuns (run ∷ next ∷ runs) = (0 < run.length) × (is_right_of (run.column + (run.length - 1), run.row) next ≡ false) × AreMaximalRuns (next ∷ runs)
+AreMaximalRuns (run ∷ next ∷ runs) =
+    (0 < run.length) × (is_right_of (run.column + (run.length - 1), run.row) next ≡ false)
+    × AreMaximalRuns (next ∷ runs)
 
 -- No two neighbouring runs could be one.
 abbrev pub RunsAreLongest : Type 0
@@ -42,7 +45,9 @@ RunsAreLongest = (cells : List (ℕ × ℕ)) → AreMaximalRuns (runs_of cells)
 
 -- Each cell of a frame is in the set whose box is the view box.
 abbrev pub FramesAreInTheBox : Type 0
-FramesAreInTheBox = (rule : RuleSets) (X : Cells) (more k : ℕ) (c : Cell) → k ≤ more → set.contains (in_box (corner (trail rule X (more + 1))) (generation_of rule X k)) c ≡ true
+FramesAreInTheBox =
+    (rule : RuleSets) (X : Cells) (more k : ℕ) (c : Cell) → k ≤ more
+    → set.contains (in_box (corner (trail rule X (more + 1))) (generation_of rule X k)) c ≡ true
     → set.contains (normal (trail rule X (more + 1))) c ≡ true
 
 -- ---- titles

@@ -1,4 +1,5 @@
--- A name as the text of an XML element (W3C, "Extensible Markup Language (XML) 1.0", "Characters" and "Character Data and Markup").
+-- A name as the text of an XML element (W3C, "Extensible Markup Language (XML) 1.0", "Characters" and "Character Data
+-- and Markup").
 use Rattle.std.specs.Prelude.{ℕ, Bool, ◌||◌, ◌==◌, if◌then◌else◌, List, [], ◌++◌, codes, Option, None, Some}
 use Rattle.std.specs.List.{flat_map}
 use Rattle.std.specs.Char.{encode_utf8}
@@ -9,7 +10,9 @@ use Rattle.life_core.specs.Ascii.{tab, line_feed, carriage_return, space}
 
 -- a character that XML allows
 abbrev pub is_xml_char : ℕ → Bool
-is_xml_char c = c == tab || c == line_feed || c == carriage_return || is_in_range space 0xD7FF c || is_in_range 0xE000 0xFFFD c || is_in_range 0x10000 0x10FFFF c
+is_xml_char c =
+    c == tab || c == line_feed || c == carriage_return || is_in_range space 0xD7FF c || is_in_range 0xE000 0xFFFD c
+    || is_in_range 0x10000 0x10FFFF c
 
 -- a character as XML text: `&`, `<`, `>` and the carriage return as references, and U+FFFD for one that XML forbids
 abbrev pub escaped : ℕ → List ℕ

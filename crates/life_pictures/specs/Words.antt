@@ -18,7 +18,8 @@ svg_app = new_app (codes "svg")
 
 -- `animation FIRST LAST`
 abbrev pub animation_app : App
-animation_app = with_rule (with_rule (new_app (codes "animation")) (number_rule (codes "FIRST"))) (number_rule (codes "LAST"))
+animation_app =
+    with_rule (with_rule (new_app (codes "animation")) (number_rule (codes "FIRST"))) (number_rule (codes "LAST"))
 
 -- the program's name, which requires a subcommand
 abbrev pub draw_alone : App
@@ -33,7 +34,8 @@ abbrev pub picture_named : Text → List Row → Option Picture
 picture_named name rows =
     if bytes_eq name (codes "text") then Some picture.Text
     else (if bytes_eq name (codes "svg") then Some picture.Svg
-    else (if bytes_eq name (codes "animation") then if_both picture.Animation (number_at (codes "FIRST") rows) (number_at (codes "LAST") rows)
+    else (if bytes_eq name (codes "animation")
+    then if_both picture.Animation (number_at (codes "FIRST") rows) (number_at (codes "LAST") rows)
     else None))
 
 -- the picture that the arguments name, the program's name first

@@ -1,5 +1,5 @@
--- What the job that the arguments name does: the text that it writes, and the line that is printed if it stops. `Answers` of life_words says which job the
--- arguments name.
+-- What the job that the arguments name does: the text that it writes, and the line that is printed if it stops.
+-- `Answers` of life_words says which job the arguments name.
 use Rattle.std.specs.Prelude.{◌≡◌, ◌↔◌, ◌<◌, ◌≤◌, ℕ, Bool, List, Option, None, Some, Result, Ok, Err, IfErr}
 use Rattle.life_rle.specs.declared.stream.Inlet as inlet
 use Rattle.life_rle.specs.declared.stream.Outlet as outlet
@@ -10,24 +10,30 @@ use Rattle.clap.specs.declared.error.kind.ErrorKind.{ErrorKind}
 use Rattle.clap.specs.declared.error.kind.ErrorKind.TheVariants.{DisplayVersion}
 use Rattle.life_words.specs.declared.fault.WordFault.{WordFault}
 use Rattle.life_words.specs.declared.fault.WordFault.TheVariants.{BadWords, Memory}
-use Rattle.life_words.specs.Words.{Answers, asked_by, Asked, AsksGeneration, AsksKind, AsksObject, AsksCensus, AsksDeposit, AsksServe, AsksCheck, AsksExplain}
+use Rattle.life_words.specs.Words.{Answers, asked_by, Asked, AsksGeneration, AsksKind, AsksObject, AsksCensus}
+use Rattle.life_words.specs.Words.{AsksDeposit, AsksServe, AsksCheck, AsksExplain}
 use Rattle.life_jobs.specs.declared.stop.Stop.{Stop}
 use Rattle.life_jobs.specs.declared.stop.Stop.TheVariants.{OutOfLimit, Unwritable}
 use Rattle.life_jobs.specs.Stop.{line_of}
 use Rattle.life_words.specs.Explain.{explanation_text}
-use Rattle.life_jobs.specs.Jobs.{generation_text, kind_text, census_text, IsPeriodLimit, AreCensusNumbers, PutsKnown, PutsObject}
+use Rattle.life_jobs.specs.Jobs.{generation_text, kind_text, census_text, IsPeriodLimit, AreCensusNumbers, PutsKnown}
+use Rattle.life_jobs.specs.Jobs.{PutsObject}
 use Rattle.life_jobs.specs.Streams.{PutsText, TakesFile, PutsOnce}
 
 -- a job over a file, a code or a name: its numbers are checked first, and then it writes its text or says why it can't
 abbrev pub DoesFileJob : Asked → Option (List ℕ) → Option (List ℕ) → Option (List ℕ) → Result (Unit {0}) Stop → Type 0
-DoesFileJob (AsksGeneration n) known old new answer = ((answer ≡ Err OutOfLimit) ↔ (2048 < n)) × (n ≤ 2048 → PutsKnown (generation_text n) known old new answer)
+DoesFileJob (AsksGeneration n) known old new answer =
+    ((answer ≡ Err OutOfLimit) ↔ (2048 < n)) × (n ≤ 2048 → PutsKnown (generation_text n) known old new answer)
 DoesFileJob (AsksKind limit) known old new answer =
-    ((answer ≡ Err OutOfLimit) ↔ ¬ IsPeriodLimit limit) × (IsPeriodLimit limit → PutsKnown (kind_text limit) known old new answer)
+    ((answer ≡ Err OutOfLimit) ↔ ¬ IsPeriodLimit limit)
+    × (IsPeriodLimit limit → PutsKnown (kind_text limit) known old new answer)
 DoesFileJob (AsksCensus n limit) known old new answer =
-    ((answer ≡ Err OutOfLimit) ↔ ¬ AreCensusNumbers n limit) × (AreCensusNumbers n limit → PutsKnown (census_text n limit) known old new answer)
+    ((answer ≡ Err OutOfLimit) ↔ ¬ AreCensusNumbers n limit)
+    × (AreCensusNumbers n limit → PutsKnown (census_text n limit) known old new answer)
 DoesFileJob (AsksObject rule code limit) known old new answer = PutsObject rule code limit old new answer
 -- an explanation needs no memory, so it stops only if a put fails
-DoesFileJob (AsksExplain name) known old new answer = PutsText old new (explanation_text name) answer × IfErr answer (λ stop. stop ≡ Unwritable)
+DoesFileJob (AsksExplain name) known old new answer =
+    PutsText old new (explanation_text name) answer × IfErr answer (λ stop. stop ≡ Unwritable)
 -- no other is a job over a file
 DoesFileJob asked known old new answer = Unit {0}
 
@@ -38,10 +44,13 @@ line_after (Err stop) = Some (line_of stop)
 
 -- ---- with its streams
 
--- What a job does with its streams. It takes at most one byte more than a file may have, and nothing after the end or after a take that failed. If it
--- stops, it puts nothing, unless a put failed, and nothing after that. If its numbers are refused, it takes nothing.
-pub record UsesStreams {I O : Type 0} (i : inlet.Ghosts I) (o : outlet.Ghosts O) (input rest : I) (output sent : O) (answer : Result (Unit {0}) Stop) : Type 0 where
-  pub takes : TakesFile (i.to_come input) (i.to_come rest) (i.failures input) (i.failures rest) (i.ends input) (i.ends rest) (i.last_take rest) answer
+-- What a job does with its streams. It takes at most one byte more than a file may have, and nothing after the end or
+-- after a take that failed. If it stops, it puts nothing, unless a put failed, and nothing after that. If its numbers
+-- are refused, it takes nothing.
+pub record UsesStreams {I O : Type 0} (i : inlet.Ghosts I) (o : outlet.Ghosts O) (input rest : I)
+    (output sent : O) (answer : Result (Unit {0}) Stop) : Type 0 where
+  pub takes : TakesFile (i.to_come input) (i.to_come rest) (i.failures input) (i.failures rest)
+      (i.ends input) (i.ends rest) (i.last_take rest) answer
   pub once : PutsOnce output sent (o.failures output) (o.failures sent) (o.last_failed sent) answer
   pub untouched : answer ≡ Err OutOfLimit → rest ≡ input
 
@@ -51,8 +60,10 @@ TakesNothing (AsksObject rule code limit) input rest = rest ≡ input
 TakesNothing (AsksExplain name) input rest = rest ≡ input
 TakesNothing asked input rest = Unit {0}
 
--- A job over a file or a code, with the line that is printed if it stops: what it writes, and what it does with its streams.
-pub record AnswersFileJob {I O : Type 0} (i : inlet.Ghosts I) (o : outlet.Ghosts O) (asked : Asked) (input rest : I) (output sent : O) (line : Option (List ℕ)) : Type 0 where
+-- A job over a file or a code, with the line that is printed if it stops: what it writes, and what it does with its
+-- streams.
+pub record AnswersFileJob {I O : Type 0} (i : inlet.Ghosts I) (o : outlet.Ghosts O) (asked : Asked)
+    (input rest : I) (output sent : O) (line : Option (List ℕ)) : Type 0 where
   pub answer : Result (Unit {0}) Stop
   pub does : DoesFileJob asked (i.to_come input) (o.already output) (o.already sent) answer
   pub streams : UsesStreams i o input rest output sent answer
@@ -61,7 +72,9 @@ pub record AnswersFileJob {I O : Type 0} (i : inlet.Ghosts I) (o : outlet.Ghosts
 
 -- What a deposit does: a relation of its file, member and token, its streams before and after, and the line.
 abbrev pub Depositing : Type 1
-Depositing = (I O : Type 0) → inlet.Ghosts I → outlet.Ghosts O → List ℕ → List ℕ → List ℕ → I → I → O → O → Option (List ℕ) → Type 0
+Depositing =
+    (I O : Type 0) → inlet.Ghosts I → outlet.Ghosts O → List ℕ → List ℕ → List ℕ → I → I → O
+    → O → Option (List ℕ) → Type 0
 
 -- What serving does: a relation of its file, port, number of connections, and the line.
 abbrev pub Serving : Type 1
@@ -71,13 +84,19 @@ Serving = List ℕ → ℕ → ℕ → Option (List ℕ) → Type 0
 abbrev pub Checking : Type 1
 Checking = (O : Type 0) → outlet.Ghosts O → List ℕ → Bool → O → O → Option (List ℕ) → Type 0
 
--- what a job does, and the line that is printed if it stops: the program's archive decides about a deposit, given its file, member and token, about
--- serving, given its file, port and number of connections, and about a check, given its file and whether it is quick; serving uses neither of these streams, and a check no input
-abbrev pub DoesJob : {I O : Type 0} → inlet.Ghosts I → outlet.Ghosts O → Depositing → Serving → Checking → Asked → I → I → O → O → Option (List ℕ) → Type 0
-DoesJob {I} {O} i o deposits serves checks (AsksDeposit file member token) input rest output sent line = deposits I O i o file member token input rest output sent line
-DoesJob i o deposits serves checks (AsksServe file port connections) input rest output sent line = serves file port connections line × (rest ≡ input) × (sent ≡ output)
-DoesJob {I} {O} i o deposits serves checks (AsksCheck file quick) input rest output sent line = checks O o file quick output sent line × (rest ≡ input)
-DoesJob i o deposits serves checks asked input rest output sent line = AnswersFileJob i o asked input rest output sent line
+-- what a job does, and the line that is printed if it stops: the program's archive decides about a deposit, given its
+-- file, member and token, about serving, given its file, port and number of connections, and about a check, given its
+-- file and whether it is quick; serving uses neither of these streams, and a check no input
+abbrev pub DoesJob : {I O : Type 0} → inlet.Ghosts I → outlet.Ghosts O → Depositing → Serving
+    → Checking → Asked → I → I → O → O → Option (List ℕ) → Type 0
+DoesJob {I} {O} i o deposits serves checks (AsksDeposit file member token) input rest output sent line =
+    deposits I O i o file member token input rest output sent line
+DoesJob i o deposits serves checks (AsksServe file port connections) input rest output sent line =
+    serves file port connections line × (rest ≡ input) × (sent ≡ output)
+DoesJob {I} {O} i o deposits serves checks (AsksCheck file quick) input rest output sent line =
+    checks O o file quick output sent line × (rest ≡ input)
+DoesJob i o deposits serves checks asked input rest output sent line =
+    AnswersFileJob i o asked input rest output sent line
 
 -- ---- from the arguments to the status
 
@@ -101,9 +120,14 @@ abbrev pub IsStatus : {E : Type 0} → Result ExitCode E → ℕ → Type 0
 IsStatus (Ok code) status = exit_status code ≡ status
 IsStatus (Err e) status = Unit {0}
 
--- The outcome for arguments that name this job, or none. The job was done on these streams, and the status is that of its line; or no job was done,
--- nothing was taken or put, and the status is that of the fault, which is out of memory or, exactly if they name no job, a usage error.
-pub data WordsEnd {I O E : Type 0} (i : inlet.Ghosts I) (o : outlet.Ghosts O) (deposits : Depositing) (serves : Serving) (checks : Checking) (words : Option Asked) (input rest : I) (output sent : O) (result : Result ExitCode E) : Type 0 where
-  does : (asked : Asked) (line : Option (List ℕ)) → words ≡ Some asked → DoesJob i o deposits serves checks asked input rest output sent line → IsStatus result (status_after line)
+-- The outcome for arguments that name this job, or none. The job was done on these streams, and the status is that of
+-- its line; or no job was done, nothing was taken or put, and the status is that of the fault, which is out of memory
+-- or, exactly if they name no job, a usage error.
+pub data WordsEnd {I O E : Type 0} (i : inlet.Ghosts I) (o : outlet.Ghosts O) (deposits : Depositing)
+    (serves : Serving) (checks : Checking) (words : Option Asked) (input rest : I) (output sent : O)
+    (result : Result ExitCode E) : Type 0 where
+  does : (asked : Asked) (line : Option (List ℕ)) → words ≡ Some asked
+      → DoesJob i o deposits serves checks asked input rest output sent line → IsStatus result (status_after line)
       → WordsEnd i o deposits serves checks words input rest output sent result
-  has_fault : (fault : WordFault) → Answers asked_by words (Err fault) → rest ≡ input → sent ≡ output → IsStatus result (status_by fault) → WordsEnd i o deposits serves checks words input rest output sent result
+  has_fault : (fault : WordFault) → Answers asked_by words (Err fault) → rest ≡ input → sent ≡ output
+      → IsStatus result (status_by fault) → WordsEnd i o deposits serves checks words input rest output sent result

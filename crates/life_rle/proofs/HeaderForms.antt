@@ -1,5 +1,6 @@
 -- A header without blanks is read exactly if it has the form of one.
-use Rattle.std.proofs.Common.{◌≡◌, ℕ, true, false, cond, inl, inr, List, [], ◌∷◌, ◌++◌, length, map, Option, Some, None, refl, sym, ap, ap₂, subst, ◌∙◌, arith, eq-eqb, ne_eqb}
+use Rattle.std.proofs.Common.{◌≡◌, ℕ, true, false, cond, inl, inr, List, [], ◌∷◌, ◌++◌, length, map, Option, Some, None}
+use Rattle.std.proofs.Common.{refl, sym, ap, ap₂, subst, ◌∙◌, arith, eq-eqb, ne_eqb}
 use Rattle.std.specs.Prelude.{codes}
 use Rattle.std.specs.Char.{is_ascii_digit, to_ascii_lowercase}
 use Rattle.std.specs.List.{AllByRecursion}
@@ -10,7 +11,8 @@ use Rattle.life_rle.specs.Laws.{IsNumber, IsRuleEnd, HasHeaderForm, HeadersAreRe
 
 -- ---- words
 
-words_there : (words spelled rest : List ℕ) → map to_ascii_lowercase spelled ≡ words → after_words words (spelled ++ rest) ≡ Some rest
+words_there : (words spelled rest : List ℕ) → map to_ascii_lowercase spelled ≡ words
+    → after_words words (spelled ++ rest) ≡ Some rest
 words_there [] [] rest is = refl
 words_there [] (s ∷ ss) rest is = absurd cc
 words_there (w ∷ ws) [] rest is = absurd cc
@@ -30,7 +32,9 @@ words_from (w ∷ ws) (b ∷ text) rest is = elim (cases_eq (to_ascii_lowercase 
   | inl same ↦
       let more = words_from ws text rest (sym (ap (λ t. cond t (after_words ws text) None) (eq-eqb _ _ same)) ∙ is) in
       (b ∷ more.0, ap₂ (λ x xs. x ∷ xs) same more.1, ap (λ xs. b ∷ xs) more.2)
-  | inr other ↦ absurd (let bad : None ≡ Some rest = sym (ap (λ t. cond t (after_words ws text) None) (ne_eqb _ _ other)) ∙ is in cc)
+  | inr other ↦
+      absurd (let bad : None ≡ Some rest =
+      sym (ap (λ t. cond t (after_words ws text) None) (ne_eqb _ _ other)) ∙ is in cc)
 ]
 
 -- ---- numbers
@@ -46,11 +50,14 @@ NoDigit (b ∷ text) = is_ascii_digit b ≡ false
 past_there : (ds rest : List ℕ) → AreDigits ds → NoDigit rest → past_digits (ds ++ rest) ≡ rest
 past_there [] [] all stop = refl
 past_there [] (b ∷ rest) all stop = ap (λ t. cond t (past_digits rest) (b ∷ rest)) stop
-past_there (d ∷ ds) rest all stop = ap (λ t. cond t (past_digits (ds ++ rest)) (d ∷ ds ++ rest)) all.0 ∙ past_there ds rest all.1 stop
+past_there (d ∷ ds) rest all stop =
+    ap (λ t. cond t (past_digits (ds ++ rest)) (d ∷ ds ++ rest)) all.0 ∙ past_there ds rest all.1 stop
 
 number_there : (ds rest : List ℕ) → IsNumber ds → NoDigit rest → after_number (ds ++ rest) ≡ Some rest
 number_there [] rest number stop = absurd (omega (arith, number.some))
-number_there (d ∷ ds) rest number stop = ap (λ t. cond t (Some (past_digits (ds ++ rest))) None) number.digits.0 ∙ ap Some (past_there ds rest number.digits.1 stop)
+number_there (d ∷ ds) rest number stop =
+    ap (λ t. cond t (Some (past_digits (ds ++ rest))) None) number.digits.0
+    ∙ ap Some (past_there ds rest number.digits.1 stop)
 
 past_from : (text : List ℕ) → (ds : List ℕ) × AreDigits ds × (text ≡ ds ++ past_digits text)
 past_from [] = ([], tt, refl)
@@ -70,15 +77,21 @@ number_from : (text rest : List ℕ) → after_number text ≡ Some rest → Beg
 number_from [] rest is = absurd cc
 number_from (b ∷ text) rest is = elim (cases_Bool (is_ascii_digit b)) [
   | inl digit ↦
-      let past : past_digits text ≡ rest = (let e : Some (past_digits text) ≡ Some rest = sym (ap (λ t. cond t (Some (past_digits text)) None) digit) ∙ is in cc) in
-      let more = past_from text in
-      (b ∷ more.0, record { some = omega arith; digits = (digit, more.1) }, ap (λ xs. b ∷ xs) (more.2 ∙ ap (λ xs. more.0 ++ xs) past))
-  | inr other ↦ absurd (let bad : None ≡ Some rest = sym (ap (λ t. cond t (Some (past_digits text)) None) other) ∙ is in cc)
+      let past : past_digits text ≡ rest = (let e : Some (past_digits text) ≡ Some rest =
+      sym (ap (λ t. cond t (Some (past_digits text)) None) digit) ∙ is in cc) in
+      let more = past_from text in (
+        b ∷ more.0,
+        record { some = omega arith; digits = (digit, more.1) },
+        ap (λ xs. b ∷ xs) (more.2 ∙ ap (λ xs. more.0 ++ xs) past),
+      )
+  | inr other ↦
+      absurd (let bad : None ≡ Some rest = sym (ap (λ t. cond t (Some (past_digits text)) None) other) ∙ is in cc)
 ]
 
 -- ---- the parts, one after another
 
-both : {A B : Type 0} (o : Option A) (f : A → Option B) (b : B) → (o >>= f) ≡ Some b → (a : A) × (o ≡ Some a) × (f a ≡ Some b)
+both : {A B : Type 0} (o : Option A) (f : A → Option B) (b : B) → (o >>= f) ≡ Some b
+    → (a : A) × (o ≡ Some a) × (f a ≡ Some b)
 both (Some a) f b is = (a, refl, is)
 both None f b is = absurd cc
 
@@ -98,18 +111,21 @@ end_there (Some rule) end is =
     let stop = subst NoDigit (sym is.2) (no_digit is.0 _ rule is.1) in
     (ap rule_part is.2 ∙ spelled is.0 is.1 read, stop)
   where
-    spelled : (words : List ℕ) → map to_ascii_lowercase words ≡ codes ",rule=" → after_words (codes ",rule=") (words ++ rule) ≡ Some rule → rule_part (words ++ rule) ≡ Some (Some rule)
+    spelled : (words : List ℕ) → map to_ascii_lowercase words ≡ codes ",rule="
+        → after_words (codes ",rule=") (words ++ rule) ≡ Some rule → rule_part (words ++ rule) ≡ Some (Some rule)
     spelled [] none read = absurd cc
     spelled (w ∷ ws) some read =
         let part : Option (Option (List ℕ)) = after_words (codes ",rule=") (w ∷ ws ++ rule) >>= (λ r. Some (Some r)) in
-        ap (λ t. cond t (Some None) part) (ne_eqb (length (w ∷ ws ++ rule)) 0 (λ e. omega arith)) ∙ ap (λ (o : Option (List ℕ)). o >>= (λ r. Some (Some r))) read
+        ap (λ t. cond t (Some None) part) (ne_eqb (length (w ∷ ws ++ rule)) 0 (λ e. omega arith))
+        ∙ ap (λ (o : Option (List ℕ)). o >>= (λ r. Some (Some r))) read
 
 end_from : (end : List ℕ) (rule : Option (List ℕ)) → rule_part end ≡ Some rule → IsRuleEnd rule end
 unfolding rule_part
 end_from [] rule is = let none : None ≡ rule = cc in subst (λ r. IsRuleEnd r []) none refl
 end_from (b ∷ end) rule is =
     let part : Option (Option (List ℕ)) = after_words (codes ",rule=") (b ∷ end) >>= (λ r. Some (Some r)) in
-    let read : part ≡ Some rule = sym (ap (λ t. cond t (Some None) part) (ne_eqb (length (b ∷ end)) 0 (λ e. omega arith))) ∙ is in
+    let read : part ≡ Some rule = sym
+    (ap (λ t. cond t (Some None) part) (ne_eqb (length (b ∷ end)) 0 (λ e. omega arith))) ∙ is in
     let it = both (after_words (codes ",rule=") (b ∷ end)) (λ r. Some (Some r)) rule read in
     let some : Some it.0 ≡ rule = (let e = it.2 in cc) in
     subst (λ r. IsRuleEnd r (b ∷ end)) some (words_from (codes ",rule=") (b ∷ end) it.0 it.1)
@@ -120,7 +136,8 @@ form_there text rule h =
     let end = end_there rule h.end h.rule_is in
     let height = number_there h.height h.end h.height_is end.1 in
     let y = words_there (codes ",y=") h.y (h.height ++ h.end) h.y_is in
-    let width = number_there h.width (h.y ++ (h.height ++ h.end)) h.width_is (no_digit h.y _ (h.height ++ h.end) h.y_is) in
+    let width = number_there h.width (h.y ++ (h.height ++ h.end)) h.width_is
+    (no_digit h.y _ (h.height ++ h.end) h.y_is) in
     let x = words_there (codes "x=") h.x (h.width ++ (h.y ++ (h.height ++ h.end))) h.x_is in
     ap header_form h.is ∙ rw (x, width, y, height) end.0
 

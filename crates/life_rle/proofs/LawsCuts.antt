@@ -1,5 +1,6 @@
 -- Nothing is lost where bytes are cut into lines, items and runs, and a header gives the size of the box.
-use Rattle.std.proofs.Common.{◌≡◌, ℕ, ◌<◌, ◌≤◌, ◌+◌, max, ℤ, nat_abs, Bool, true, false, cond, eqb, List, [], ◌∷◌, ◌++◌, map, replicate, Some, refl, ap, ◌∙◌, sym, subst, arith, add-one, inl, inr}
+use Rattle.std.proofs.Common.{◌≡◌, ℕ, ◌<◌, ◌≤◌, ◌+◌, max, ℤ, nat_abs, Bool, true, false, cond, eqb, List, [], ◌∷◌, ◌++◌}
+use Rattle.std.proofs.Common.{map, replicate, Some, refl, ap, ◌∙◌, sym, subst, arith, add-one, inl, inr}
 use Rattle.std.specs.List.{AllByRecursion, flat_map, fold, join_with_byte}
 use Rattle.std.specs.Char.{is_ascii_digit}
 use Rattle.std.proofs.lemmas.List.{append_assoc, append-nil}
@@ -31,10 +32,15 @@ first_by false line next on has = has
 first_line : (bytes line : List ℕ) → HasFirst (lines_after line bytes)
 unfolding lines_after
 first_line [] line = (line, [], refl)
-first_line (b ∷ bytes) line = first_by (eqb b 10) line (lines_after [] bytes) (lines_after (line ++ b ∷ []) bytes) (first_line bytes (line ++ b ∷ []))
+first_line (b ∷ bytes) line =
+    first_by (eqb b 10) line (lines_after [] bytes) (lines_after (line ++ b ∷ []) bytes)
+    (first_line bytes (line ++ b ∷ []))
 
-join_front : (line : List ℕ) (lines : List (List ℕ)) (first : List ℕ) (rest : List (List ℕ)) → lines ≡ first ∷ rest → join_with_byte 10 (line ∷ lines) ≡ line ++ 10 ∷ join_with_byte 10 lines
-join_front line lines first rest is = ap (λ (ls : List (List ℕ)). join_with_byte 10 (line ∷ ls)) is ∙ ap (λ (ls : List (List ℕ)). line ++ 10 ∷ join_with_byte 10 ls) (sym is)
+join_front : (line : List ℕ) (lines : List (List ℕ)) (first : List ℕ) (rest : List (List ℕ))
+    → lines ≡ first ∷ rest → join_with_byte 10 (line ∷ lines) ≡ line ++ 10 ∷ join_with_byte 10 lines
+join_front line lines first rest is =
+    ap (λ (ls : List (List ℕ)). join_with_byte 10 (line ∷ ls)) is
+    ∙ ap (λ (ls : List (List ℕ)). line ++ 10 ∷ join_with_byte 10 ls) (sym is)
 
 joined_by : (t : Bool) (b : ℕ) (line bytes : List ℕ) → eqb b 10 ≡ t → join_with_byte 10 (lines_after [] bytes) ≡ bytes
     → join_with_byte 10 (lines_after (line ++ b ∷ []) bytes) ≡ (line ++ b ∷ []) ++ bytes
@@ -51,7 +57,8 @@ unfolding lines_after
 joined [] line = sym (append-nil line)
 joined (b ∷ bytes) line = joined_by (eqb b 10) b line bytes refl (joined bytes []) (joined bytes (line ++ b ∷ []))
 
-pub lines_are_the_file : (bytes : List ℕ) → (join_with_byte 10 (lines_of bytes) ≡ bytes) × AllByRecursion HasNoLineEnd (lines_of bytes)
+pub lines_are_the_file : (bytes : List ℕ)
+    → (join_with_byte 10 (lines_of bytes) ≡ bytes) × AllByRecursion HasNoLineEnd (lines_of bytes)
 lines_are_the_file bytes = (joined bytes [], lines_no_end bytes [] tt)
 
 -- ---- items
@@ -70,12 +77,15 @@ digit_push (d ∷ ds) b all h = (all.0, digit_push ds b all.1 h)
 abbrev Cuts : List ℕ → List ℕ → List Item → Type 0
 Cuts digits body items = (bytes_in items ≡ digits ++ body) × AllByRecursion IsCut items
 
-cuts_by : (t : Bool) (b : ℕ) (digits bytes : List ℕ) → is_ascii_digit b ≡ t → AreDigits digits → Cuts [] bytes (items_after [] bytes)
+cuts_by : (t : Bool) (b : ℕ) (digits bytes : List ℕ) → is_ascii_digit b ≡ t → AreDigits digits
+    → Cuts [] bytes (items_after [] bytes)
     → (is_ascii_digit b ≡ true → Cuts (digits ++ b ∷ []) bytes (items_after (digits ++ b ∷ []) bytes))
-    → Cuts digits (b ∷ bytes) (cond t (items_after (digits ++ b ∷ []) bytes) (record { digits = digits; tag = Some b } ∷ items_after [] bytes))
+    → Cuts digits (b ∷ bytes) (cond t (items_after (digits ++ b ∷ []) bytes)
+    (record { digits = digits; tag = Some b } ∷ items_after [] bytes))
 cuts_by true b digits bytes h all next on = ((on h).0 ∙ append_assoc digits (b ∷ []) bytes, (on h).1)
 cuts_by false b digits bytes h all next on = (
-  flat_map-cons (λ (i : Item). i.digits ++ tag_bytes i.tag) (record { digits = digits; tag = Some b }) (items_after [] bytes)
+  flat_map-cons (λ (i : Item). i.digits ++ tag_bytes i.tag) (record { digits = digits; tag = Some b })
+      (items_after [] bytes)
       ∙ ap (λ (rest : List ℕ). (digits ++ b ∷ []) ++ rest) next.0
       ∙ append_assoc digits (b ∷ []) bytes,
   (record { digits = all; tag = (h, tt) }, next.1),
@@ -85,7 +95,8 @@ cuts : (body digits : List ℕ) → AreDigits digits → Cuts digits body (items
 unfolding items_after
 cuts [] digits all = (append-nil (digits ++ []), (record { digits = all; tag = tt }, tt))
 cuts (b ∷ bytes) digits all =
-    cuts_by (is_ascii_digit b) b digits bytes refl all (cuts bytes [] tt) (λ h. cuts bytes (digits ++ b ∷ []) (digit_push digits b all h))
+    cuts_by (is_ascii_digit b) b digits bytes refl all (cuts bytes [] tt)
+    (λ h. cuts bytes (digits ++ b ∷ []) (digit_push digits b all h))
 
 pub items_are_the_body : (body : List ℕ) → Cuts [] body (items_of body)
 items_are_the_body body = cuts body [] tt
@@ -102,22 +113,26 @@ AreRuns tags runs = (spelled_out runs ≡ tags) × AreMaximalRuns runs
 one_more : (n tag : ℕ) → replicate (n + 1) tag ≡ tag ∷ replicate n tag
 one_more n tag = ap (λ k. replicate k tag) (add-one n)
 
-apart_longer : (n k tag : ℕ) (runs : List (ℕ × ℕ)) → 0 < k → AreMaximalRuns ((n, tag) ∷ runs) → AreMaximalRuns ((k, tag) ∷ runs)
+apart_longer : (n k tag : ℕ) (runs : List (ℕ × ℕ)) → 0 < k → AreMaximalRuns ((n, tag) ∷ runs)
+    → AreMaximalRuns ((k, tag) ∷ runs)
 apart_longer n k tag [] some apart = some
 apart_longer n k tag (run ∷ runs) some apart = (some, apart.1, apart.2)
 
-onto_by : (t : Bool) (tag : ℕ) (tags : List ℕ) (n other : ℕ) (runs : List (ℕ × ℕ)) → eqb other tag ≡ t → AreRuns tags ((n, other) ∷ runs)
+onto_by : (t : Bool) (tag : ℕ) (tags : List ℕ) (n other : ℕ) (runs : List (ℕ × ℕ)) → eqb other tag ≡ t
+    → AreRuns tags ((n, other) ∷ runs)
     → AreRuns (tag ∷ tags) (cond t ((n + 1, tag) ∷ runs) ((1, tag) ∷ (n, other) ∷ runs))
 onto_by true tag tags n other runs h are =
     let same : other ≡ tag = eqb-true other tag h in (
       flat_map-cons (λ (run : ℕ × ℕ). replicate run.0 run.1) (n + 1, tag) runs
           ∙ ap (λ (front : List ℕ). front ++ spelled_out runs) (one_more n tag)
           ∙ ap (λ k. tag ∷ (replicate n k ++ spelled_out runs)) (sym same)
-          ∙ ap (λ (rest : List ℕ). tag ∷ rest) (sym (flat_map-cons (λ (run : ℕ × ℕ). replicate run.0 run.1) (n, other) runs) ∙ are.0),
+          ∙ ap (λ (rest : List ℕ). tag ∷ rest)
+          (sym (flat_map-cons (λ (run : ℕ × ℕ). replicate run.0 run.1) (n, other) runs) ∙ are.0),
       apart_longer n (n + 1) tag runs (omega arith) (subst (λ k. AreMaximalRuns ((n, k) ∷ runs)) same are.1),
     )
 onto_by false tag tags n other runs h are = (
-  flat_map-cons (λ (run : ℕ × ℕ). replicate run.0 run.1) (1, tag) ((n, other) ∷ runs) ∙ ap (λ (rest : List ℕ). tag ∷ rest) are.0,
+  flat_map-cons (λ (run : ℕ × ℕ). replicate run.0 run.1) (1, tag) ((n, other) ∷ runs)
+      ∙ ap (λ (rest : List ℕ). tag ∷ rest) are.0,
   (omega arith, (λ same. eqb-false other tag h (sym same)), are.1),
 )
 
@@ -132,11 +147,13 @@ runs_are_longest (tag ∷ tags) = onto tag tags (runs_of tags) (runs_are_longest
 
 -- ---- boxes
 
-width_from : (n : ℕ) (cs : List Cell) → fold (λ n (cell : ℕ × ℕ). max n (cell.0 + 1)) n (map coordinates cs) ≡ past_from (λ (c : Cell). c.column) n cs
+width_from : (n : ℕ) (cs : List Cell)
+    → fold (λ n (cell : ℕ × ℕ). max n (cell.0 + 1)) n (map coordinates cs) ≡ past_from (λ (c : Cell). c.column) n cs
 width_from n [] = refl
 width_from n (c ∷ cs) = width_from (max n (nat_abs c.column + 1)) cs
 
-height_from : (n : ℕ) (cs : List Cell) → fold (λ n (cell : ℕ × ℕ). max n (cell.1 + 1)) n (map coordinates cs) ≡ past_from (λ (c : Cell). c.row) n cs
+height_from : (n : ℕ) (cs : List Cell)
+    → fold (λ n (cell : ℕ × ℕ). max n (cell.1 + 1)) n (map coordinates cs) ≡ past_from (λ (c : Cell). c.row) n cs
 height_from n [] = refl
 height_from n (c ∷ cs) = height_from (max n (nat_abs c.row + 1)) cs
 
@@ -145,17 +162,23 @@ module _ (f : Cell → ℤ) where
   past_le : (cs ds : List Cell) → ((c : Cell) → has_cell cs c ≡ has_cell ds c) → past_from f 0 cs ≤ past_from f 0 ds
   past_le cs ds same = elim (past_from-reached f 0 cs) [
     | inl none ↦ omega arith
-    | inr found ↦ let below : nat_abs (f found.0) < past_from f 0 ds = past_from-above f 0 ds found.0 (sym (same found.0) ∙ found.1) in omega (arith, found.2)
+    | inr found ↦
+        let below : nat_abs (f found.0) < past_from f 0 ds =
+        past_from-above f 0 ds found.0 (sym (same found.0) ∙ found.1) in
+        omega (arith, found.2)
   ]
 
   past_in_order : (X : Cells) → past_from f 0 (in_order X) ≡ past_greatest f X
   past_in_order X =
-      let same : (c : Cell) → has_cell (in_order X) c ≡ has_cell (set.items X) c = λ c. has_cell-in_order X c ∙ contains-items X c in
+      let same : (c : Cell) → has_cell (in_order X) c ≡ has_cell (set.items X) c =
+      λ c. has_cell-in_order X c ∙ contains-items X c in
       let there = past_le (in_order X) (set.items X) same in
       let back = past_le (set.items X) (in_order X) (λ c. sym (same c)) in
       omega arith
 
-pub headers_give_the_box : (r : Contents) (left top : ℤ) (width height : ℕ) → IsRecord r → IsBox r.cells left top width height → (width_of (pairs_of r.cells) ≡ width) × (height_of (pairs_of r.cells) ≡ height)
+pub headers_give_the_box : (r : Contents) (left top : ℤ) (width height : ℕ)
+    → IsRecord r → IsBox r.cells left top width height
+    → (width_of (pairs_of r.cells) ≡ width) × (height_of (pairs_of r.cells) ≡ height)
 headers_give_the_box r left top width height is box =
     let sizes = box_extents r.cells left top width height is.cells box in (
       width_from 0 (in_order r.cells) ∙ past_in_order (λ (c : Cell). c.column) r.cells ∙ sizes.0,

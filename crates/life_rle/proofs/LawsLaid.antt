@@ -1,5 +1,6 @@
 -- The lines of a canonical body are as full as they can be.
-use Rattle.std.proofs.Common.{◌≡◌, ℕ, ◌<◌, ◌≤◌, ◌+◌, ◌^◌, Bool, true, false, cond, List, [], ◌∷◌, ◌++◌, length, map, refl, ap, ◌∙◌, sym, subst, arith, inl, inr}
+use Rattle.std.proofs.Common.{◌≡◌, ℕ, ◌<◌, ◌≤◌, ◌+◌, ◌^◌, Bool, true, false, cond, List, [], ◌∷◌, ◌++◌, length, map}
+use Rattle.std.proofs.Common.{refl, ap, ◌∙◌, sym, subst, arith, inl, inr}
 use Rattle.std.specs.List.{AllByRecursion, flat_map}
 use Rattle.std.specs.Fmt.{decimal}
 use Rattle.std.proofs.lemmas.List.{append_assoc, append-nil, length-append}
@@ -30,29 +31,35 @@ used line = length (spelled_runs line)
 
 pub used_push : (line : List (ℕ × ℕ)) (run : ℕ × ℕ) → used (line ++ run ∷ []) ≡ used line + length (item_text run)
 used_push line run =
-    ap length (flat_map-append item_text line (run ∷ []) ∙ ap (λ t. spelled_runs line ++ t) (append-nil (item_text run)))
+    ap length (flat_map-append item_text line (run ∷ [])
+    ∙ ap (λ t. spelled_runs line ++ t) (append-nil (item_text run)))
     ∙ length-append (spelled_runs line) (item_text run)
 
 used_one : (run : ℕ × ℕ) → used (run ∷ []) ≡ length (item_text run)
 used_one run = ap length (append-nil (item_text run))
 
-pub laid_here : (run : ℕ × ℕ) (line : List (ℕ × ℕ)) (items : List (List ℕ)) → used line + length (item_text run) ≤ 70 → laid (used line) (item_text run ∷ items) ≡ item_text run ++ laid (used (line ++ run ∷ [])) items
+pub laid_here : (run : ℕ × ℕ) (line : List (ℕ × ℕ)) (items : List (List ℕ)) → used line + length (item_text run) ≤ 70
+    → laid (used line) (item_text run ∷ items) ≡ item_text run ++ laid (used (line ++ run ∷ [])) items
 unfolding laid
 laid_here run line items fits =
-    ap (λ t. cond t (item_text run ++ laid (used line + length (item_text run)) items) (10 ∷ item_text run ++ laid (length (item_text run)) items)) (le-leb (used line + length (item_text run)) 70 fits)
+    ap (λ t. cond t (item_text run ++ laid (used line + length (item_text run)) items)
+    (10 ∷ item_text run ++ laid (length (item_text run)) items)) (le-leb (used line + length (item_text run)) 70 fits)
     ∙ ap (λ n. item_text run ++ laid n items) (sym (used_push line run))
 
-pub laid_below : (run : ℕ × ℕ) (line : List (ℕ × ℕ)) (items : List (List ℕ)) → 70 < used line + length (item_text run) → laid (used line) (item_text run ∷ items) ≡ 10 ∷ item_text run ++ laid (used (run ∷ [])) items
+pub laid_below : (run : ℕ × ℕ) (line : List (ℕ × ℕ)) (items : List (List ℕ)) → 70 < used line + length (item_text run)
+    → laid (used line) (item_text run ∷ items) ≡ 10 ∷ item_text run ++ laid (used (run ∷ [])) items
 unfolding laid
 laid_below run line items past =
-    ap (λ t. cond t (item_text run ++ laid (used line + length (item_text run)) items) (10 ∷ item_text run ++ laid (length (item_text run)) items)) (lt-leb (used line + length (item_text run)) 70 past)
+    ap (λ t. cond t (item_text run ++ laid (used line + length (item_text run)) items)
+    (10 ∷ item_text run ++ laid (length (item_text run)) items)) (lt-leb (used line + length (item_text run)) 70 past)
     ∙ ap (λ n. 10 ∷ item_text run ++ laid n items) (sym (used_one run))
 
 pub laid_none : (n : ℕ) → laid n [] ≡ 10 ∷ []
 unfolding laid
 laid_none n = refl
 
-laid_here_all : (run : ℕ × ℕ) (runs line : List (ℕ × ℕ)) → used line + length (item_text run) ≤ 70 → Laid (line ++ run ∷ []) runs → Laid line (run ∷ runs)
+laid_here_all : (run : ℕ × ℕ) (runs line : List (ℕ × ℕ)) → used line + length (item_text run) ≤ 70
+    → Laid (line ++ run ∷ []) runs → Laid line (run ∷ runs)
 laid_here_all run runs line fits on = record {
   rest = run ∷ on.rest;
   lines = on.lines;
@@ -64,7 +71,8 @@ laid_here_all run runs line fits on = record {
   full = subst (λ first. AreFull (first ∷ on.lines)) (append_assoc line (run ∷ []) on.rest) on.full;
 }
 
-laid_below_all : (run : ℕ × ℕ) (runs line : List (ℕ × ℕ)) → used line ≤ 70 → 70 < used line + length (item_text run) → Laid (run ∷ []) runs → Laid line (run ∷ runs)
+laid_below_all : (run : ℕ × ℕ) (runs line : List (ℕ × ℕ)) → used line ≤ 70 → 70 < used line + length (item_text run)
+    → Laid (run ∷ []) runs → Laid line (run ∷ runs)
 laid_below_all run runs line fits past on = record {
   rest = [];
   lines = (run ∷ on.rest) ∷ on.lines;
@@ -85,8 +93,10 @@ lay [] line short fits = record {
   full = subst (λ first. AreFull (first ∷ [])) (sym (append-nil line)) fits;
 }
 lay (run ∷ runs) line short fits = elim (cases_lt 70 (used line + length (item_text run))) [
-  | inl past ↦ laid_below_all run runs line fits past (lay runs (run ∷ []) short.1 (omega (arith, used_one run, short.0)))
-  | inr here ↦ laid_here_all run runs line here (lay runs (line ++ run ∷ []) short.1 (omega (arith, used_push line run)))
+  | inl past ↦
+      laid_below_all run runs line fits past (lay runs (run ∷ []) short.1 (omega (arith, used_one run, short.0)))
+  | inr here ↦
+      laid_here_all run runs line here (lay runs (line ++ run ∷ []) short.1 (omega (arith, used_push line run)))
 ]
 
 -- runs laid into lines
@@ -104,4 +114,5 @@ in_lines runs short =
 -- a count of at most twenty digits fits
 pub fits_by : (n tag : ℕ) (t : Bool) → n < 2 ^ 64 → length (cond t [] (decimal n) ++ tag ∷ []) ≤ 70
 fits_by n tag true small = omega arith
-fits_by n tag false small = omega (arith, length-append (decimal n) (tag ∷ []), length-decimal-le 20 n (omega arith) (omega arith) small)
+fits_by n tag false small =
+    omega (arith, length-append (decimal n) (tag ∷ []), length-decimal-le 20 n (omega arith) (omega arith) small)

@@ -1,5 +1,7 @@
--- Reading line by line gives what the lines are read as: one more line before the header, the header, and the end before it.
-use Rattle.std.proofs.Common.{◌≡◌, ℕ, suc, ◌+◌, Bool, true, false, not, cond, List, [], ◌∷◌, take, drop, map, refl, ap, ◌∙◌, sym, subst, arith, Result, Ok, Err, Option, inl, inr}
+-- Reading line by line gives what the lines are read as: one more line before the header, the header, and the end
+-- before it.
+use Rattle.std.proofs.Common.{◌≡◌, ℕ, suc, ◌+◌, Bool, true, false, not, cond, List, [], ◌∷◌, take, drop, map, refl, ap}
+use Rattle.std.proofs.Common.{◌∙◌, sym, subst, arith, Result, Ok, Err, Option, inl, inr}
 use Rattle.std.specs.List.{All, flat_map, position_or_len}
 use Rattle.std.specs.FinSet as set
 use Rattle.life_core.specs.declared.cell.Cell.{Cell}
@@ -29,31 +31,39 @@ use Rattle.life_rle.proofs.RecordCells.{normal_inside}
 use Rattle.life_rle.proofs.RecordPairs.{placed_back}
 
 by_place : Notes → List (List ℕ) → ℕ → Result Contents RleFault
-by_place before lines n = cond (is_past_limit (notes_of before (take n lines))) (Err TextLimit) (after_front (notes_of before (take n lines)) (drop n lines))
+by_place before lines n =
+    cond (is_past_limit (notes_of before (take n lines))) (Err TextLimit)
+    (after_front (notes_of before (take n lines)) (drop n lines))
 
-read_lines_is : (before : Notes) (lines : List (List ℕ)) → read_lines before lines ≡ by_place before lines (position_or_len is_header lines)
+read_lines_is : (before : Notes) (lines : List (List ℕ))
+    → read_lines before lines ≡ by_place before lines (position_or_len is_header lines)
 unfolding read_lines by_place
 read_lines_is before lines = refl
 
 -- a line that is no header
-pub read_lines_front : (before : Notes) (line : List ℕ) (lines : List (List ℕ)) → is_header line ≡ false → read_lines before (line ∷ lines) ≡ read_lines (with_line before (line_kind line)) lines
+pub read_lines_front : (before : Notes) (line : List ℕ) (lines : List (List ℕ)) → is_header line ≡ false
+    → read_lines before (line ∷ lines) ≡ read_lines (with_line before (line_kind line)) lines
 unfolding by_place
 read_lines_front before line lines h =
     read_lines_is before (line ∷ lines)
     ∙ ap (λ b. by_place before (line ∷ lines) (cond (not b) (1 + position_or_len is_header lines) 0)) h
-    ∙ ap (λ n. by_place before (line ∷ lines) n) (let e : 1 + position_or_len is_header lines ≡ suc (position_or_len is_header lines) = omega arith in e)
+    ∙ ap (λ n. by_place before (line ∷ lines) n)
+    (let e : 1 + position_or_len is_header lines ≡ suc (position_or_len is_header lines) = omega arith in e)
     ∙ sym (read_lines_is (with_line before (line_kind line)) lines)
 
 sides : (t : Bool) (given : Result (Option (List ℕ)) RleFault) (before : Notes) (lines : List (List ℕ)) →
-    cond t (Err TextLimit) (given >>= λ g. chosen_rule g before.rule >>= λ rule. body_cells (flat_map body_part lines) >>= λ cells. Ok (contents before rule cells))
-    ≡ cond t (Err TextLimit) (given >>= λ g. chosen_rule g before.rule) >>= λ rule. body_cells (flat_map body_part lines) >>= λ cells. Ok (contents before rule cells)
+    cond t (Err TextLimit) (given >>= λ g. chosen_rule g before.rule >>=
+    λ rule. body_cells (flat_map body_part lines) >>= λ cells. Ok (contents before rule cells))
+    ≡ cond t (Err TextLimit) (given >>= λ g. chosen_rule g before.rule) >>=
+    λ rule. body_cells (flat_map body_part lines) >>= λ cells. Ok (contents before rule cells)
 sides true given before lines = refl
 sides false (Err fault) before lines = refl
 sides false (Ok g) before lines = refl
 
 -- the header line
 pub read_lines_header : (before : Notes) (line : List ℕ) (lines : List (List ℕ)) → is_header line ≡ true →
-    read_lines before (line ∷ lines) ≡ front_rule before (without_blanks line) >>= λ rule. body_cells (flat_map body_part lines) >>= λ cells. Ok (contents before rule cells)
+    read_lines before (line ∷ lines) ≡ front_rule before (without_blanks line) >>=
+    λ rule. body_cells (flat_map body_part lines) >>= λ cells. Ok (contents before rule cells)
 unfolding by_place after_front front_rule
 read_lines_header before line lines h =
     read_lines_is before (line ∷ lines)
@@ -61,7 +71,8 @@ read_lines_header before line lines h =
     ∙ sides (is_past_limit before) (header_rule (without_blanks line)) before lines
 
 -- a line that the code finds to be no header
-pub not_header : (k : LineKind) (line : List ℕ) → kind_of k ≡ line_kind line → (k ≡ kinds.Header → ⊥) → is_header line ≡ false
+pub not_header : (k : LineKind) (line : List ℕ) → kind_of k ≡ line_kind line → (k ≡ kinds.Header → ⊥)
+    → is_header line ≡ false
 not_header kinds.Header line h other = absurd (other refl)
 not_header kinds.Passed line h other = ap is_header_kind (sym h)
 not_header (kinds.Name t) line h other = ap is_header_kind (sym h)
@@ -69,7 +80,8 @@ not_header (kinds.Author t) line h other = ap is_header_kind (sym h)
 not_header (kinds.Comment t) line h other = ap is_header_kind (sym h)
 not_header (kinds.Rule t) line h other = ap is_header_kind (sym h)
 
-pub front_more : {A : Type 0} (old new : Reader A) (line : List ℕ) (lines : List (List ℕ)) → old.stage ≡ stages.Front → new.stage ≡ old.stage → (kind : LineKind) → kind_of kind ≡ line_kind line → (kind ≡ kinds.Header → ⊥) →
+pub front_more : {A : Type 0} (old new : Reader A) (line : List ℕ) (lines : List (List ℕ)) → old.stage ≡ stages.Front
+    → new.stage ≡ old.stage → (kind : LineKind) → kind_of kind ≡ line_kind line → (kind ≡ kinds.Header → ⊥) →
     notes new.notes ≡ with_line (notes old.notes) (kind_of kind) → resumed new lines ≡ resumed old (line ∷ lines)
 front_more old new line lines front same kind is other after =
     ap (λ s. resumed_at s new lines) (same ∙ front)
@@ -77,38 +89,57 @@ front_more old new line lines front same kind is other after =
     ∙ sym (read_lines_front (notes old.notes) line lines (not_header kind line is other))
     ∙ ap (λ s. resumed_at s old (line ∷ lines)) (sym front)
 
-pub header_more : {A : Type 0} (old : Reader A) (body : BodyReader A) (rule : RuleSets) (line text : List ℕ) (lines : List (List ℕ)) → old.stage ≡ stages.Front → line_kind line ≡ header → text ≡ without_blanks line →
+pub header_more : {A : Type 0} (old : Reader A) (body : BodyReader A) (rule : RuleSets) (line text : List ℕ)
+    (lines : List (List ℕ)) → old.stage ≡ stages.Front → line_kind line ≡ header → text ≡ without_blanks line →
     ((rest : List ℕ) → outcome body rest ≡ body_from start rest) → front_rule (notes old.notes) text ≡ Ok rule →
-    (outcome body (flat_map body_part lines) >>= λ cells. Ok (contents (notes old.notes) rule cells)) ≡ resumed old (line ∷ lines)
+    (outcome body (flat_map body_part lines) >>= λ cells. Ok (contents (notes old.notes) rule cells))
+    ≡ resumed old (line ∷ lines)
 header_more old body rule line text lines front is same begins judged =
-    ap (λ cells. cells >>= λ cells. Ok (contents (notes old.notes) rule cells)) (begins (flat_map body_part lines) ∙ body_from_start (flat_map body_part lines))
-    ∙ ap (λ r. r >>= λ rule. body_cells (flat_map body_part lines) >>= λ cells. Ok (contents (notes old.notes) rule cells)) (sym judged ∙ ap (λ t. front_rule (notes old.notes) t) same)
+    ap (λ cells. cells >>= λ cells. Ok (contents (notes old.notes) rule cells))
+    (begins (flat_map body_part lines) ∙ body_from_start (flat_map body_part lines))
+    ∙ ap
+    (λ r. r >>= λ rule. body_cells (flat_map body_part lines) >>= λ cells. Ok (contents (notes old.notes) rule cells))
+    (sym judged ∙ ap (λ t. front_rule (notes old.notes) t) same)
     ∙ sym (read_lines_header (notes old.notes) line lines (ap is_header_kind is))
     ∙ ap (λ s. resumed_at s old (line ∷ lines)) (sym front)
 
-fails_is : {X : Type 0} (fault : RleFault) (read : Result X RleFault) → (fault ≡ Memory → ⊥) → Fails fault read → Err fault ≡ read
+fails_is : {X : Type 0} (fault : RleFault) (read : Result X RleFault) → (fault ≡ Memory → ⊥)
+    → Fails fault read → Err fault ≡ read
 fails_is fault read other (inl memory) = absurd (other memory)
 fails_is fault read other (inr e) = sym e
 
-pub header_fault : {A : Type 0} (old : Reader A) (fault : RleFault) (line text : List ℕ) (lines : List (List ℕ)) → old.stage ≡ stages.Front → line_kind line ≡ header → text ≡ without_blanks line →
+pub header_fault : {A : Type 0} (old : Reader A) (fault : RleFault) (line text : List ℕ) (lines : List (List ℕ))
+    → old.stage ≡ stages.Front → line_kind line ≡ header → text ≡ without_blanks line →
     (fault ≡ Memory → ⊥) → Fails fault (front_rule (notes old.notes) text) → Err fault ≡ resumed old (line ∷ lines)
 header_fault old fault line text lines front is same other judged =
-    ap (λ r. r >>= λ rule. body_cells (flat_map body_part lines) >>= λ cells. Ok (contents (notes old.notes) rule cells)) (fails_is fault (front_rule (notes old.notes) text) other judged ∙ ap (λ t. front_rule (notes old.notes) t) same)
+    ap
+    (λ r. r >>= λ rule. body_cells (flat_map body_part lines) >>= λ cells. Ok (contents (notes old.notes) rule cells))
+    (fails_is fault (front_rule (notes old.notes) text) other judged ∙ ap (λ t. front_rule (notes old.notes) t) same)
     ∙ sym (read_lines_header (notes old.notes) line lines (ap is_header_kind is))
     ∙ ap (λ s. resumed_at s old (line ∷ lines)) (sym front)
 
 -- ---- the end
 
-pub body_end : {A : Type 0} (r : Reader A) (cells : List (ℕ × ℕ)) → r.stage ≡ stages.Body → outcome r.body [] ≡ Ok cells → resumed r [] ≡ Ok (contents (notes r.notes) r.rule cells)
+pub body_end : {A : Type 0} (r : Reader A) (cells : List (ℕ × ℕ)) → r.stage ≡ stages.Body → outcome r.body [] ≡ Ok cells
+    → resumed r [] ≡ Ok (contents (notes r.notes) r.rule cells)
 body_end r cells body read =
     ap (λ s. resumed_at s r []) body ∙ ap (λ a. a >>= λ cells. Ok (contents (notes r.notes) r.rule cells)) read
 
 -- the record of the cells that the code made
-pub is_record_with : (n : Notes) (rule : RuleSets) (pairs : List (ℕ × ℕ)) (X : Cells) → X ≡ normal (set.from_list (map cell_of pairs)) → IsRecord (contents n rule pairs) →
+pub is_record_with : (n : Notes) (rule : RuleSets) (pairs : List (ℕ × ℕ)) (X : Cells)
+    → X ≡ normal (set.from_list (map cell_of pairs)) → IsRecord (contents n rule pairs) →
     IsRecord (record { name = n.name; author = n.author; comments = n.comments; rule = rule; cells = X })
 is_record_with n rule pairs X is h =
-    subst (λ (Y : Cells). IsRecord (record { name = n.name; author = n.author; comments = n.comments; rule = rule; cells = Y })) (sym is) h
+    subst (λ (Y : Cells). IsRecord (record {
+      name = n.name;
+      author = n.author;
+      comments = n.comments;
+      rule = rule;
+      cells = Y;
+    })) (sym is) h
 
-pub is_inside_with : (cs : List Cell) (X : Cells) → X ≡ normal (set.from_list (map cell_of (map coordinates cs))) → All IsPlaced cs → IsInside 1024 X
+pub is_inside_with : (cs : List Cell) (X : Cells) → X ≡ normal (set.from_list (map cell_of (map coordinates cs)))
+    → All IsPlaced cs → IsInside 1024 X
 is_inside_with cs X is all =
-    subst (λ (Y : Cells). IsInside 1024 Y) (sym (is ∙ ap (λ ds. normal (set.from_list ds)) (placed_back cs all))) (normal_inside cs all)
+    subst (λ (Y : Cells). IsInside 1024 Y) (sym (is ∙ ap (λ ds. normal (set.from_list ds)) (placed_back cs all)))
+    (normal_inside cs all)

@@ -1,5 +1,8 @@
--- What a file is read as is a record: its texts are within their limits, without line ends and without blanks at their ends.
-use Rattle.std.proofs.Common.{◌≡◌, ◌≢◌, ℕ, zero, suc, Bool, true, false, cond, eqb, ltb, not, ◌||◌, List, [], ◌∷◌, ◌++◌, length, reverse, take, drop, nat_eq, map, refl, sym, subst, Option, Some, None, is_some, Result, Ok, Err, arith}
+-- What a file is read as is a record: its texts are within their limits, without line ends and without blanks at their
+-- ends.
+use Rattle.std.proofs.Common.{◌≡◌, ◌≢◌, ℕ, zero, suc, Bool, true, false, cond, eqb, ltb, not, ◌||◌, List, [], ◌∷◌, ◌++◌}
+use Rattle.std.proofs.Common.{length, reverse, take, drop, nat_eq, map, refl, sym, subst, Option, Some, None, is_some}
+use Rattle.std.proofs.Common.{Result, Ok, Err, arith}
 use Rattle.std.specs.Prelude.{slice_index, codes}
 use Rattle.std.specs.List.{AllByRecursion, flat_map, list_any, starts_with}
 use Rattle.std.proofs.lemmas.List.{reverse-append}
@@ -11,12 +14,15 @@ use Rattle.life_core.specs.RuleText.{is_blank, without_blanks}
 use Rattle.life_rle.specs.declared.fault.RleFault.{RleFault}
 use Rattle.life_rle.specs.declared.fault.RleFault.TheVariants.{TextLimit}
 use Rattle.life_rle.specs.Fault.{◌>>=◌}
-use Rattle.life_rle.specs.Lines.{lines_of, trim_start, trim, Line, passed, named, authored, comment, ruled, header, marked, line_kind}
-use Rattle.life_rle.specs.Notes.{Notes, no_notes, with_comment, with_line, notes_of, is_long, is_long_text, is_past_limit}
+use Rattle.life_rle.specs.Lines.{lines_of, trim_start, trim, Line, passed, named, authored, comment, ruled, header}
+use Rattle.life_rle.specs.Lines.{marked, line_kind}
+use Rattle.life_rle.specs.Notes.{Notes, no_notes, with_comment, with_line, notes_of, is_long, is_long_text}
+use Rattle.life_rle.specs.Notes.{is_past_limit}
 use Rattle.life_rle.specs.Header.{header_rule}
 use Rattle.life_rle.specs.Body.{body_cells}
 use Rattle.life_rle.specs.Record.{Contents, HasNoLineEnd, IsText, IsName, IsRecord, plain}
-use Rattle.life_rle.specs.File.{cell_of, front_lines, header_lines, chosen_rule, body_part, contents, after_front, read_lines, kept}
+use Rattle.life_rle.specs.File.{cell_of, front_lines, header_lines, chosen_rule, body_part, contents, after_front}
+use Rattle.life_rle.specs.File.{read_lines, kept}
 use Rattle.life_rle.proofs.LinesLaws.{no_end_push, lines_no_end, trim_twice}
 use Rattle.life_rle.proofs.RecordCells.{normal-normal}
 
@@ -35,7 +41,8 @@ IsLineKind (comment text) = IsLineText text
 IsLineKind (ruled text) = Unit {0}
 IsLineKind header = Unit {0}
 
-no_end_trimmed_by : (t : Bool) (b : ℕ) (bytes : List ℕ) → HasNoLineEnd (b ∷ bytes) → HasNoLineEnd (trim_start bytes) → HasNoLineEnd (cond t (trim_start bytes) (b ∷ bytes))
+no_end_trimmed_by : (t : Bool) (b : ℕ) (bytes : List ℕ) → HasNoLineEnd (b ∷ bytes) → HasNoLineEnd (trim_start bytes)
+    → HasNoLineEnd (cond t (trim_start bytes) (b ∷ bytes))
 no_end_trimmed_by true b bytes p rest = rest
 no_end_trimmed_by false b bytes p rest = p
 
@@ -45,7 +52,9 @@ no_end_trim_start (b ∷ bytes) p = no_end_trimmed_by (is_blank b) b bytes p (no
 
 no_end_reverse : (bytes : List ℕ) → HasNoLineEnd bytes → HasNoLineEnd (reverse bytes)
 no_end_reverse [] p = p
-no_end_reverse (b ∷ bytes) p = subst HasNoLineEnd (sym (reverse-append (b ∷ []) bytes)) (no_end_push (reverse bytes) b (no_end_reverse bytes p.1) p.0)
+no_end_reverse (b ∷ bytes) p =
+    subst HasNoLineEnd (sym (reverse-append (b ∷ []) bytes))
+    (no_end_push (reverse bytes) b (no_end_reverse bytes p.1) p.0)
 
 no_end_trim : (bytes : List ℕ) → HasNoLineEnd bytes → HasNoLineEnd (trim bytes)
 no_end_trim bytes p = no_end_reverse _ (no_end_trim_start _ (no_end_reverse _ (no_end_trim_start bytes p)))
@@ -61,17 +70,22 @@ either_kind false a b p q = q
 
 marked_kind : (letter : ℕ) (text : List ℕ) → IsLineText text → IsLineKind (marked letter text)
 marked_kind letter text p =
-    either_kind (eqb letter 78) _ _ p (either_kind (eqb letter 79) _ _ p (either_kind (eqb letter 67 || eqb letter 99) _ _ p (either_kind (eqb letter 114) (ruled text) passed tt tt)))
+    either_kind (eqb letter 78) _ _ p (either_kind (eqb letter 79) _ _ p
+    (either_kind (eqb letter 67 || eqb letter 99) _ _ p (either_kind (eqb letter 114) (ruled text) passed tt tt)))
 
 line_is : (line : List ℕ) → HasNoLineEnd line → IsLineKind (line_kind line)
 unfolding line_kind
 line_is line p =
     let front : List ℕ = trim_start line in
     let text : List ℕ = trim (drop 2 front) in
-    let is_text : IsLineText text = record { line = no_end_trim (drop 2 front) (no_end_behind front (no_end_trim_start line p)); trimmed = trim_twice (drop 2 front) } in
+    let is_text : IsLineText text = record {
+      line = no_end_trim (drop 2 front) (no_end_behind front (no_end_trim_start line p));
+      trimmed = trim_twice (drop 2 front);
+    } in
     either_kind (eqb (length front) 0) passed _ tt
     (either_kind (not (eqb (slice_index front 0) 35)) header _ tt
-    (either_kind (starts_with nat_eq front (codes "#CXRLE")) passed _ tt (marked_kind (slice_index front 1) text is_text)))
+    (either_kind (starts_with nat_eq front (codes "#CXRLE")) passed _ tt
+    (marked_kind (slice_index front 1) text is_text)))
 
 -- ---- notes
 
@@ -84,7 +98,8 @@ record AreNotes (n : Notes) : Type 0 where
   author : IsLineName n.author
   comments : AllByRecursion IsLineText n.comments
 
-all_push : (texts : List (List ℕ)) (text : List ℕ) → AllByRecursion IsLineText texts → IsLineText text → AllByRecursion IsLineText (texts ++ text ∷ [])
+all_push : (texts : List (List ℕ)) (text : List ℕ) → AllByRecursion IsLineText texts → IsLineText text
+    → AllByRecursion IsLineText (texts ++ text ∷ [])
 all_push [] text all p = (p, tt)
 all_push (x ∷ texts) text all p = (all.0, all_push texts text all.1 p)
 
@@ -98,20 +113,27 @@ either_notes false a b p q = q refl
 noted_line : (n : Notes) (line : Line) → AreNotes n → IsLineKind line → AreNotes (with_line n line)
 noted_line n passed h p = h
 noted_line n (named text) h p =
-    either_notes (eqb (length text) 0) n _ h (λ some. either_notes (is_some n.name) (with_comment n text) _ (noted_comment n text h p)
+    either_notes (eqb (length text) 0) n _ h
+    (λ some. either_notes (is_some n.name) (with_comment n text) _ (noted_comment n text h p)
     (λ _. record { name = (p, eqb-false (length text) 0 some); author = h.author; comments = h.comments }))
 noted_line n (authored text) h p =
-    either_notes (eqb (length text) 0) n _ h (λ some. either_notes (is_some n.author) (with_comment n text) _ (noted_comment n text h p)
+    either_notes (eqb (length text) 0) n _ h
+    (λ some. either_notes (is_some n.author) (with_comment n text) _ (noted_comment n text h p)
     (λ _. record { name = h.name; author = (p, eqb-false (length text) 0 some); comments = h.comments }))
 noted_line n (comment text) h p = noted_comment n text h p
-noted_line n (ruled text) h p = either_notes (eqb (length text) 0 || is_some n.rule) n _ h (λ _. record { name = h.name; author = h.author; comments = h.comments })
+noted_line n (ruled text) h p =
+    either_notes (eqb (length text) 0 || is_some n.rule) n _ h
+    (λ _. record { name = h.name; author = h.author; comments = h.comments })
 noted_line n header h p = h
 
-noted_lines : (lines : List (List ℕ)) (n : Notes) → AreNotes n → AllByRecursion HasNoLineEnd lines → AreNotes (notes_of n lines)
+noted_lines : (lines : List (List ℕ)) (n : Notes) → AreNotes n → AllByRecursion HasNoLineEnd lines
+    → AreNotes (notes_of n lines)
 noted_lines [] n h all = h
-noted_lines (line ∷ lines) n h all = noted_lines lines (with_line n (line_kind line)) (noted_line n (line_kind line) h (line_is line all.0)) all.1
+noted_lines (line ∷ lines) n h all =
+    noted_lines lines (with_line n (line_kind line)) (noted_line n (line_kind line) h (line_is line all.0)) all.1
 
-take_lines : (n : ℕ) (lines : List (List ℕ)) → AllByRecursion HasNoLineEnd lines → AllByRecursion HasNoLineEnd (take n lines)
+take_lines : (n : ℕ) (lines : List (List ℕ)) → AllByRecursion HasNoLineEnd lines
+    → AllByRecursion HasNoLineEnd (take n lines)
 take_lines zero lines all = tt
 take_lines (suc n) [] all = tt
 take_lines (suc n) (line ∷ lines) all = (all.0, take_lines n lines all.1)
@@ -125,13 +147,18 @@ short_name : (name : Option (List ℕ)) → IsLineName name → is_long_text nam
 short_name None p short = tt
 short_name (Some bytes) p short = (short_text bytes p.0 short, p.1)
 
-short_comments : (texts : List (List ℕ)) → AllByRecursion IsLineText texts → list_any is_long texts ≡ false → AllByRecursion IsText texts
+short_comments : (texts : List (List ℕ)) → AllByRecursion IsLineText texts → list_any is_long texts ≡ false
+    → AllByRecursion IsText texts
 short_comments [] all short = tt
-short_comments (text ∷ texts) all short = let both = or_parts (is_long text) (list_any is_long texts) short in (short_text text all.0 both.0, short_comments texts all.1 both.1)
+short_comments (text ∷ texts) all short =
+    let both = or_parts (is_long text) (list_any is_long texts) short in
+    (short_text text all.0 both.0, short_comments texts all.1 both.1)
 
-contents_is : (n : Notes) (rule : RuleSets) (cells : List (ℕ × ℕ)) → AreNotes n → is_past_limit n ≡ false → IsRecord (contents n rule cells)
+contents_is : (n : Notes) (rule : RuleSets) (cells : List (ℕ × ℕ)) → AreNotes n → is_past_limit n ≡ false
+    → IsRecord (contents n rule cells)
 contents_is n rule cells h limit =
-    let first = or_parts (is_long_text n.name || is_long_text n.author || list_any is_long n.comments) (ltb 64 (length n.comments)) limit in
+    let first = or_parts (is_long_text n.name || is_long_text n.author || list_any is_long n.comments)
+    (ltb 64 (length n.comments)) limit in
     let second = or_parts (is_long_text n.name || is_long_text n.author) (list_any is_long n.comments) first.0 in
     let third = or_parts (is_long_text n.name) (is_long_text n.author) second.0 in
     record {
@@ -145,11 +172,13 @@ contents_is n rule cells h limit =
 -- ---- files
 
 -- what follows was given something that was read
-pub bind_ok : {A B : Type 0} (a : Result A RleFault) (f : A → Result B RleFault) (b : B) → (a >>= f) ≡ Ok b → (x : A) × (a ≡ Ok x) × (f x ≡ Ok b)
+pub bind_ok : {A B : Type 0} (a : Result A RleFault) (f : A → Result B RleFault) (b : B) → (a >>= f) ≡ Ok b
+    → (x : A) × (a ≡ Ok x) × (f x ≡ Ok b)
 bind_ok (Ok x) f b h = (x, refl, h)
 bind_ok (Err fault) f b h = absurd cc
 
-after_front_is : (n : Notes) (lines : List (List ℕ)) (r : Contents) → AreNotes n → is_past_limit n ≡ false → after_front n lines ≡ Ok r → IsRecord r
+after_front_is : (n : Notes) (lines : List (List ℕ)) (r : Contents) → AreNotes n → is_past_limit n ≡ false
+    → after_front n lines ≡ Ok r → IsRecord r
 unfolding after_front
 after_front_is n [] r h limit read = absurd cc
 after_front_is n (line ∷ lines) r h limit read =
@@ -159,7 +188,8 @@ after_front_is n (line ∷ lines) r h limit read =
     let same : contents n rule.0 cells.0 ≡ r = cc in
     subst IsRecord same (contents_is n rule.0 cells.0 h limit)
 
-by_limit : (t : Bool) (n : Notes) (lines : List (List ℕ)) (r : Contents) → is_past_limit n ≡ t → AreNotes n → cond t (Err TextLimit) (after_front n lines) ≡ Ok r → IsRecord r
+by_limit : (t : Bool) (n : Notes) (lines : List (List ℕ)) (r : Contents) → is_past_limit n ≡ t
+    → AreNotes n → cond t (Err TextLimit) (after_front n lines) ≡ Ok r → IsRecord r
 by_limit true n lines r limit h read = absurd cc
 by_limit false n lines r limit h read = after_front_is n lines r h limit read
 
@@ -168,13 +198,28 @@ pub kept_is_record : (bytes : List ℕ) (r : Contents) → kept bytes ≡ Ok r �
 unfolding kept read_lines
 kept_is_record bytes r read =
     let notes : Notes = notes_of no_notes (front_lines (lines_of bytes)) in
-    let noted : AreNotes notes = noted_lines (front_lines (lines_of bytes)) no_notes (record { name = tt; author = tt; comments = tt }) (take_lines _ (lines_of bytes) (lines_no_end bytes [] tt)) in
+    let noted : AreNotes notes = noted_lines (front_lines (lines_of bytes)) no_notes
+    (record { name = tt; author = tt; comments = tt }) (take_lines _ (lines_of bytes) (lines_no_end bytes [] tt)) in
     by_limit (is_past_limit notes) notes (header_lines (lines_of bytes)) r refl noted read
 
 -- a normal set without texts is a record
-pub plain_is_record : (rule : RuleSets) (X : Cells) (comments : List (List ℕ)) (cells : Cells) → comments ≡ [] → cells ≡ normal X →
+pub plain_is_record : (rule : RuleSets) (X : Cells) (comments : List (List ℕ)) (cells : Cells)
+    → comments ≡ [] → cells ≡ normal X →
     IsRecord (record { name = None; author = None; comments = comments; rule = rule; cells = cells })
 plain_is_record rule X comments cells none is =
-    let h : IsRecord (plain rule X) = record { name = tt; author = tt; comments = tt; few = omega arith; cells = normal-normal X } in
-    subst (λ (texts : List (List ℕ)). IsRecord (record { name = None; author = None; comments = texts; rule = rule; cells = cells })) (sym none)
-    (subst (λ (Y : Cells). IsRecord (record { name = None; author = None; comments = []; rule = rule; cells = Y })) (sym is) h)
+    let h : IsRecord (plain rule X) = record {
+      name = tt;
+      author = tt;
+      comments = tt;
+      few = omega arith;
+      cells = normal-normal X;
+    } in
+    subst (λ (texts : List (List ℕ)). IsRecord (record {
+      name = None;
+      author = None;
+      comments = texts;
+      rule = rule;
+      cells = cells;
+    })) (sym none)
+    (subst (λ (Y : Cells). IsRecord (record { name = None; author = None; comments = []; rule = rule; cells = Y }))
+    (sym is) h)

@@ -1,5 +1,6 @@
 -- Bytes taken and put one after another.
-use Rattle.std.proofs.Common.{◌≡◌, ℕ, ◌+◌, List, [], ◌++◌, length, take, drop, Option, None, Some, refl, ◌∙◌, sym, ap, append_assoc, append-nil, ◌-◌, ◌≤◌, ◌≢◌, zero, suc, inr, Ok, arith}
+use Rattle.std.proofs.Common.{◌≡◌, ℕ, ◌+◌, List, [], ◌++◌, length, take, drop, Option, None, Some, refl, ◌∙◌, sym, ap}
+use Rattle.std.proofs.Common.{append_assoc, append-nil, ◌-◌, ◌≤◌, ◌≢◌, zero, suc, inr, Ok, arith}
 use Rattle.std.proofs.lemmas.Grind.{common_steps}
 use Rattle.std.proofs.lemmas.List.{take-append-drop, length-append}
 use Rattle.std.proofs.Math.Seq.{take-add}
@@ -27,7 +28,8 @@ gains_on old mid new bytes at k p q =
     rw (take-add at k bytes) (gains_more old mid new _ _ p q2)
 
 -- a beginning was put, and then nothing
-pub gains_some : (old mid new : Option (List ℕ)) (bytes : List ℕ) (at : ℕ) → Gains old mid (take at bytes) → Gains mid new []
+pub gains_some : (old mid new : Option (List ℕ)) (bytes : List ℕ) (at : ℕ) → Gains old mid (take at bytes)
+    → Gains mid new []
     → GainsSome old new bytes
 gains_some old mid new bytes at p q =
     (take at bytes ++ [], drop at bytes, rw (append-nil, take-append-drop) refl, gains_more old mid new _ _ p q)
@@ -46,7 +48,8 @@ loses_none None = ([], omega arith, tt)
 loses_none (Some a) = ([], omega arith, refl)
 
 -- at most so many were taken, and then some more
-pub loses_on : (old now new : Option (List ℕ)) (n k most : ℕ) (piece : List ℕ) → LosesUpTo n old now → Loses now new piece → length piece ≤ k → n + k ≤ most → LosesUpTo most old new
+pub loses_on : (old now new : Option (List ℕ)) (n k most : ℕ) (piece : List ℕ) → LosesUpTo n old now
+    → Loses now new piece → length piece ≤ k → n + k ≤ most → LosesUpTo most old new
 loses_on old now new n k most piece taken more short few =
     let both : length (taken.0 ++ piece) ≡ length taken.0 + length piece = length-append taken.0 piece in
     (taken.0 ++ piece, omega (arith, taken.1), loses_more old now new taken.0 piece taken.2 more)
@@ -57,6 +60,7 @@ ended_more E n zero some = absurd (some refl)
 ended_more E n (suc k) some = refl
 
 -- a take of no bytes found it, and was the last
-pub ends_now : (E : Type 0) (old now new k last : ℕ) → now ≡ old → k ≡ 0 → new ≡ ended {E = E} now (Ok k) → last ≡ k → EndsLast old new last
+pub ends_now : (E : Type 0) (old now new k last : ℕ) → now ≡ old → k ≡ 0 → new ≡ ended {E = E} now (Ok k)
+    → last ≡ k → EndsLast old new last
 ends_now E old now new zero last same none e gave = inr (rw (← same) e, gave)
 ends_now E old now new (suc k) last same none e gave = absurd (omega (arith, none))

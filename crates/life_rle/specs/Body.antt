@@ -1,5 +1,7 @@
--- The items of a body, their positions, the cells that they place, and the first faulty one (LifeWiki, "Run Length Encoded").
-use Rattle.std.specs.Prelude.{ℕ, pos, ◌≤ℤ◌, zero, suc, Bool, true, false, not, ◌&&◌, ◌||◌, List, [], ◌∷◌, ◌++◌, ◌+◌, ◌==◌, nat_lt, if◌then◌else◌, Option, Some, None, Result, Ok, Err}
+-- The items of a body, their positions, the cells that they place, and the first faulty one (LifeWiki, "Run Length
+-- Encoded").
+use Rattle.std.specs.Prelude.{ℕ, pos, ◌≤ℤ◌, zero, suc, Bool, true, false, not, ◌&&◌, ◌||◌, List, [], ◌∷◌, ◌++◌, ◌+◌}
+use Rattle.std.specs.Prelude.{◌==◌, nat_lt, if◌then◌else◌, Option, Some, None, Result, Ok, Err}
 use Rattle.std.specs.List.{sum_by, filter, after_last}
 use Rattle.std.specs.Char.{is_ascii_digit}
 use Rattle.std.specs.Str.Parse.{digits_value}

@@ -1,5 +1,7 @@
 -- Reading a body byte by byte: the position of the next item, and what the body is read as if these bytes are left.
-use Rattle.std.specs.Prelude.{◌≡◌, map, ℕ, ◌+◌, ◌*◌, ◌-◌, min, Bool, true, false, not, ◌||◌, ◌==◌, nat_lt, if◌then◌else◌, List, [], ◌∷◌, ◌++◌, Option, Some, None, is_some, unwrap_or, Result, Ok, Err, MatchResult}
+use Rattle.std.specs.Prelude.{◌≡◌, map, ℕ, ◌+◌, ◌*◌, ◌-◌, min, Bool, true, false, not, ◌||◌, ◌==◌, nat_lt}
+use Rattle.std.specs.Prelude.{if◌then◌else◌, List, [], ◌∷◌, ◌++◌, Option, Some, None, is_some, unwrap_or, Result, Ok}
+use Rattle.std.specs.Prelude.{Err, MatchResult}
 use Rattle.std.specs.Char.{is_ascii_digit}
 use Rattle.life_rle.specs.Tags.{dead_tag, end_tag, live_tag, row_end_tag}
 use Rattle.life_rle.specs.declared.fault.RleFault.{RleFault}
@@ -11,7 +13,8 @@ use Rattle.life_rle.specs.declared.body.BodyReader.{BodyReader}
 use Rattle.life_rle.specs.Body.{run, is_bad_number}
 use Rattle.life_rle.specs.Writer.{coordinates}
 
--- the position of the next item, the count so far, and the cells placed so far. A row or a column past 1023 is 1024, and a count over 1,000,000 is 1,000,001.
+-- the position of the next item, the count so far, and the cells placed so far. A row or a column past 1023 is 1024,
+-- and a count over 1,000,000 is 1,000,001.
 pub record Position : Type 0 where
   pub row : ℕ
   pub column : ℕ
@@ -66,7 +69,8 @@ step p b =
     else (if b == end_tag then (if is_some p.count then fails BadCount else ends p.cells)
     else item_step p (unwrap_or p.count 1) b))
 
--- What the function of a step returned, with the place that it left. If there is a place to continue at, memory may run out.
+-- What the function of a step returned, with the place that it left. If there is a place to continue at, memory may run
+-- out.
 abbrev pub Took : Step → Position → Result Bool RleFault → Type 0
 Took (goes q) new answer = MatchResult answer (λ ended. (ended ≡ false) × (new ≡ q)) (λ e. e ≡ Memory)
 Took (ends cells) new answer = (answer ≡ Ok true) × (new.cells ≡ cells)

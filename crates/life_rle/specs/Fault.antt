@@ -4,7 +4,8 @@ use Rattle.life_core.specs.Fault.{Label, label}
 use Rattle.life_core.specs.declared.rule_text.RuleFault.{RuleFault}
 use Rattle.life_core.specs.declared.rule_text.RuleFault.TheVariants as rule_faults
 use Rattle.life_rle.specs.declared.fault.RleFault.{RleFault}
-use Rattle.life_rle.specs.declared.fault.RleFault.TheVariants.{TooLong, TextLimit, NoHeader, BadHeader, BadRule, BirthZero, OtherTag, BadCount, TooWide, NoEnd, Memory}
+use Rattle.life_rle.specs.declared.fault.RleFault.TheVariants.{TooLong, TextLimit, NoHeader, BadHeader, BadRule}
+use Rattle.life_rle.specs.declared.fault.RleFault.TheVariants.{BirthZero, OtherTag, BadCount, TooWide, NoEnd, Memory}
 use Rattle.life_rle.specs.declared.fault.ReadFault.{ReadFault}
 use Rattle.life_rle.specs.declared.fault.ReadFault.TheVariants.{Rle, Unreadable}
 use Rattle.life_rle.specs.declared.fault.WriteFault.{WriteFault}

@@ -1,5 +1,6 @@
 -- What a file is read as: a record, or its first fault (LifeWiki, "Run Length Encoded"; Golly's help, "File formats").
-use Rattle.std.specs.Prelude.{ℕ, pos, map, List, [], ◌∷◌, length, take, drop, nat_lt, if◌then◌else◌, Option, Some, None, Result, Ok, Err}
+use Rattle.std.specs.Prelude.{ℕ, pos, map, List, [], ◌∷◌, length, take, drop, nat_lt, if◌then◌else◌, Option, Some, None}
+use Rattle.std.specs.Prelude.{Result, Ok, Err}
 use Rattle.std.specs.List.{flat_map, position_or_len}
 use Rattle.std.specs.FinSet as set
 use Rattle.life_core.specs.declared.cell.Cell.{Cell}
@@ -38,10 +39,17 @@ body_part line = if is_mark_line line then [] else without_blanks line
 abbrev pub cell_of : ℕ × ℕ → Cell
 cell_of p = cell_at (pos p.0, pos p.1)
 
--- the record of these texts, this rule and the cells that a body places, moved so that the least column and the least row are 0
+-- the record of these texts, this rule and the cells that a body places, moved so that the least column and the least
+-- row are 0
 abbrev pub contents : Notes → RuleSets → List (ℕ × ℕ) → Contents
 contents notes rule cells =
-    record { name = notes.name; author = notes.author; comments = notes.comments; rule = rule; cells = normal (set.from_list (map cell_of cells)) }
+    record {
+      name = notes.name;
+      author = notes.author;
+      comments = notes.comments;
+      rule = rule;
+      cells = normal (set.from_list (map cell_of cells));
+    }
 
 -- what the lines from the header on are read as, by the texts before them
 unfoldable pub after_front : Notes → List (List ℕ) → Result Contents RleFault

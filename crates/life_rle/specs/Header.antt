@@ -1,5 +1,6 @@
 -- The form of the header line: `x = W, y = H`, and `, rule = R` where a rule is given (LifeWiki, "Run Length Encoded").
-use Rattle.std.specs.Prelude.{ℕ, codes, Bool, not, ◌||◌, List, [], ◌∷◌, length, ◌==◌, if◌then◌else◌, slice_index, Option, Some, None, Result, Ok, Err}
+use Rattle.std.specs.Prelude.{ℕ, codes, Bool, not, ◌||◌, List, [], ◌∷◌, length, ◌==◌, if◌then◌else◌, slice_index}
+use Rattle.std.specs.Prelude.{Option, Some, None, Result, Ok, Err}
 use Rattle.std.specs.Char.{is_ascii_digit, to_ascii_lowercase}
 use Rattle.life_core.specs.Ascii.{capital_x, letter_x}
 use Rattle.life_core.specs.RuleText.{after_while, ◌>>=◌}

@@ -1,6 +1,8 @@
--- What makes the definitions of files believable: what a canonical body is and what the lines before the header leave, said without the
--- way in which they are computed; whatever is read is a record, and what is written is read as the record again.
-use Rattle.std.specs.Prelude.{◌≡◌, ◌≢◌, ◌↔◌, ◌⊎◌, ◌≤◌, ◌<◌, ◌+◌, ◌^◌, ℕ, codes, ℤ, Bool, true, false, ◌||◌, if◌then◌else◌, List, [], ◌∷◌, ◌++◌, length, replicate, map, Option, Some, None, Ok}
+-- What makes the definitions of files believable: what a canonical body is and what the lines before the header leave,
+-- said without the way in which they are computed; whatever is read is a record, and what is written is read as the
+-- record again.
+use Rattle.std.specs.Prelude.{◌≡◌, ◌≢◌, ◌↔◌, ◌⊎◌, ◌≤◌, ◌<◌, ◌+◌, ◌^◌, ℕ, codes, ℤ, Bool, true, false, ◌||◌}
+use Rattle.std.specs.Prelude.{if◌then◌else◌, List, [], ◌∷◌, ◌++◌, length, replicate, map, Option, Some, None, Ok}
 use Rattle.std.specs.List.{AllByRecursion, flat_map, filter, find, join_with_byte}
 use Rattle.std.specs.Option.{option_map}
 use Rattle.std.specs.Char.{is_ascii_digit, to_ascii_lowercase}
@@ -21,7 +23,9 @@ use Rattle.life_rle.specs.Writer.{runs_of, item_text, item_texts, laid, pairs_of
 
 -- The lines of a file, joined by line feeds, are its bytes, and no line has a line feed.
 abbrev pub LinesAreTheFile : Type 0
-LinesAreTheFile = (bytes : List ℕ) → (join_with_byte line_feed (lines_of bytes) ≡ bytes) × AllByRecursion HasNoLineEnd (lines_of bytes)
+LinesAreTheFile =
+    (bytes : List ℕ) → (join_with_byte line_feed (lines_of bytes) ≡ bytes)
+    × AllByRecursion HasNoLineEnd (lines_of bytes)
 
 -- the byte of an item, if it has one
 abbrev pub tag_bytes : Option ℕ → List ℕ
@@ -35,7 +39,9 @@ pub record IsCut (item : Item) : Type 0 where
 
 -- The digits and the bytes of a body's items, one after the other, are the body.
 abbrev pub ItemsAreTheBody : Type 0
-ItemsAreTheBody = (body : List ℕ) → (flat_map (λ (i : Item). i.digits ++ tag_bytes i.tag) (items_of body) ≡ body) × AllByRecursion IsCut (items_of body)
+ItemsAreTheBody =
+    (body : List ℕ) → (flat_map (λ (i : Item). i.digits ++ tag_bytes i.tag) (items_of body) ≡ body)
+    × AllByRecursion IsCut (items_of body)
 
 -- each run has a tag, and neighbours have different ones
 abbrev pub AreMaximalRuns : List (ℕ × ℕ) → Type 0
@@ -45,11 +51,15 @@ AreMaximalRuns (run ∷ next ∷ runs) = (0 < run.0) × (run.1 ≢ next.1) × Ar
 
 -- The runs of tags, spelled out, are the tags, and no two neighbouring runs could be one.
 abbrev pub RunsAreLongest : Type 0
-RunsAreLongest = (tags : List ℕ) → (flat_map (λ (run : ℕ × ℕ). replicate run.0 run.1) (runs_of tags) ≡ tags) × AreMaximalRuns (runs_of tags)
+RunsAreLongest =
+    (tags : List ℕ) → (flat_map (λ (run : ℕ × ℕ). replicate run.0 run.1) (runs_of tags) ≡ tags)
+    × AreMaximalRuns (runs_of tags)
 
 -- The width and the height that a header gives are those of the box of the record's cells.
 abbrev pub HeadersGiveTheBox : Type 0
-HeadersGiveTheBox = (r : Contents) (left top : ℤ) (width height : ℕ) → IsRecord r → IsBox r.cells left top width height → (width_of (pairs_of r.cells) ≡ width) × (height_of (pairs_of r.cells) ≡ height)
+HeadersGiveTheBox =
+    (r : Contents) (left top : ℤ) (width height : ℕ) → IsRecord r → IsBox r.cells left top width height
+    → (width_of (pairs_of r.cells) ≡ width) × (height_of (pairs_of r.cells) ≡ height)
 
 -- ---- the header line
 
@@ -63,7 +73,8 @@ abbrev pub IsRuleEnd : Option (List ℕ) → List ℕ → Type 0
 IsRuleEnd None end = end ≡ []
 IsRuleEnd (Some rule) end = (words : List ℕ) × (map to_ascii_lowercase words ≡ codes ",rule=") × (end ≡ words ++ rule)
 
--- The form of a header without blanks, with its rule text if it has one: `x=`, a number, `,y=`, a number, and its end. Letters are of either case.
+-- The form of a header without blanks, with its rule text if it has one: `x=`, a number, `,y=`, a number, and its end.
+-- Letters are of either case.
 pub record HasHeaderForm (text : List ℕ) (rule : Option (List ℕ)) : Type 0 where
   pub x : List ℕ
   pub width : List ℕ
@@ -96,7 +107,8 @@ first_length (run ∷ runs) = length (item_text run)
 abbrev pub AreFull : List (List (ℕ × ℕ)) → Type 0
 AreFull [] = Unit {0}
 AreFull (line ∷ []) = length (spelled_runs line) ≤ 70
-AreFull (line ∷ next ∷ lines) = (length (spelled_runs line) ≤ 70) × (70 < length (spelled_runs line) + first_length next) × AreFull (next ∷ lines)
+AreFull (line ∷ next ∷ lines) =
+    (length (spelled_runs line) ≤ 70) × (70 < length (spelled_runs line) + first_length next) × AreFull (next ∷ lines)
 
 -- a row end, `$`, a dead cell, `b`, or a live cell, `o`
 abbrev pub IsTag : ℕ → Type 0
@@ -116,7 +128,8 @@ pub record IsCanonical (cells : List (ℕ × ℕ)) (body : List ℕ) : Type 0 wh
   pub spells : body ≡ flat_map (λ line. spelled_runs line ++ codes "\n") lines
   pub ends : flat_map (λ line. line) lines ≡ runs ++ (1, 33) ∷ []
   pub full : AreFull lines
-  -- the runs are of row ends, dead and live cells, counted in 64 bits; no two neighbours could be one, and none is there in vain
+  -- the runs are of row ends, dead and live cells, counted in 64 bits; no two neighbours could be one, and none is
+  -- there in vain
   pub kinds : AllByRecursion (λ run. IsTag run.1) runs
   pub counts : AllByRecursion (λ run. run.0 < 2 ^ 64) runs
   pub apart : AreMaximalRuns runs
@@ -130,11 +143,13 @@ body_of_record r = laid 0 (item_texts (pairs_of r.cells))
 
 -- The body of a record's text is canonical ..
 abbrev pub BodiesAreCanonical : Type 0
-BodiesAreCanonical = (r : Contents) → IsRecord r → IsWithin PLANE r.cells → IsCanonical (pairs_of r.cells) (body_of_record r)
+BodiesAreCanonical =
+    (r : Contents) → IsRecord r → IsWithin PLANE r.cells → IsCanonical (pairs_of r.cells) (body_of_record r)
 
 -- .. and cells have one canonical body at most, so that what is said of it here is all of it.
 abbrev pub OneCanonicalBody : Type 0
-OneCanonicalBody = (cells : List (ℕ × ℕ)) (body other : List ℕ) → IsCanonical cells body → IsCanonical cells other → body ≡ other
+OneCanonicalBody =
+    (cells : List (ℕ × ℕ)) (body other : List ℕ) → IsCanonical cells body → IsCanonical cells other → body ≡ other
 
 -- ---- texts
 
@@ -175,19 +190,26 @@ abbrev pub without_first : (Line → Bool) → List Line → List Line
 without_first p [] = []
 without_first p (line ∷ lines) = if p line then lines else line ∷ without_first p lines
 
--- the texts of lines: the first name, the first author, and as comments all other names, authors and comments in their order
+-- the texts of lines: the first name, the first author, and as comments all other names, authors and comments in their
+-- order
 pub record AreTextsOf (lines : List Line) (name author : Option (List ℕ)) (comments : List (List ℕ)) : Type 0 where
   pub name_first : name ≡ first_text is_name lines
   pub author_first : author ≡ first_text is_author lines
-  pub others : comments ≡ map text_of_line (without_first is_name (without_first is_author (filter (λ line. is_name line || is_author line || is_comment line) lines)))
+  pub others : comments ≡ map text_of_line (without_first is_name
+      (without_first is_author (filter (λ line. is_name line || is_author line || is_comment line) lines)))
 
 -- What is kept of lines is their texts and the first rule ..
 abbrev pub NotesAreTheLines : Type 0
-NotesAreTheLines = (lines : List (List ℕ)) → let notes = notes_of no_notes lines in let kinds = map line_kind lines in AreTextsOf kinds notes.name notes.author notes.comments × (notes.rule ≡ first_text is_rule kinds)
+NotesAreTheLines =
+    (lines : List (List ℕ)) → let notes = notes_of no_notes lines in
+    let kinds = map line_kind lines in
+    AreTextsOf kinds notes.name notes.author notes.comments × (notes.rule ≡ first_text is_rule kinds)
 
 -- .. and a record that is read has the texts of the lines before its file's header.
 abbrev pub TextsAreTheFile : Type 0
-TextsAreTheFile = (bytes : List ℕ) (r : Contents) → kept bytes ≡ Ok r → AreTextsOf (map line_kind (front_lines (lines_of bytes))) r.name r.author r.comments
+TextsAreTheFile =
+    (bytes : List ℕ) (r : Contents) → kept bytes ≡ Ok r
+    → AreTextsOf (map line_kind (front_lines (lines_of bytes))) r.name r.author r.comments
 
 -- ---- reading and writing
 
@@ -201,4 +223,6 @@ IsReadAgain = (r : Contents) → IsRecord r → IsRule r.rule → IsInside 1024 
 
 -- .. and, if it is not too long for a file, so is the file.
 abbrev pub IsFileAgain : Type 0
-IsFileAgain = (r : Contents) → IsRecord r → IsRule r.rule → IsInside 1024 r.cells → length (text r) ≤ 1048576 → file (text r) ≡ Ok r
+IsFileAgain =
+    (r : Contents) → IsRecord r → IsRule r.rule → IsInside 1024 r.cells → length (text r) ≤ 1048576
+    → file (text r) ≡ Ok r

@@ -1,13 +1,16 @@
 -- The lines of a file, and what each of them is (LifeWiki, "Run Length Encoded": lines that begin with `#`).
-use Rattle.std.specs.Prelude.{ℕ, codes, not, ◌||◌, List, [], ◌∷◌, ◌++◌, reverse, length, drop, ◌==◌, if◌then◌else◌, slice_index, nat_eq, Bool}
+use Rattle.std.specs.Prelude.{ℕ, codes, not, ◌||◌, List, [], ◌∷◌, ◌++◌, reverse, length, drop, ◌==◌, if◌then◌else◌}
+use Rattle.std.specs.Prelude.{slice_index, nat_eq, Bool}
 use Rattle.std.specs.List.{starts_with}
 use Rattle.life_core.specs.Ascii.{line_feed, hash, capital_n, capital_o}
 use Rattle.life_core.specs.RuleText.{is_blank}
 
--- the lines of these bytes, with the part of the first that came before them; after a final line feed there is an empty line, which has no meaning
+-- the lines of these bytes, with the part of the first that came before them; after a final line feed there is an empty
+-- line, which has no meaning
 unfoldable pub lines_after : List ℕ → List ℕ → List (List ℕ)
 lines_after line [] = line ∷ []
-lines_after line (b ∷ bytes) = if b == line_feed then line ∷ lines_after [] bytes else lines_after (line ++ b ∷ []) bytes
+lines_after line (b ∷ bytes) =
+    if b == line_feed then line ∷ lines_after [] bytes else lines_after (line ++ b ∷ []) bytes
 
 -- the lines of these bytes
 abbrev pub lines_of : List ℕ → List (List ℕ)

@@ -23,13 +23,15 @@ IsSound m = (bytes : List ℕ) (r : Contents) → awaited m bytes ≡ Ok r → I
 abbrev pub Followed : {A : Type 0} → Option (List ℕ) → Option (List ℕ) → Machine A → ℕ → Type 0
 Followed None now machine taken = Unit {0}
 Followed (Some bytes) now machine taken =
-    (now ≡ Some (drop taken bytes)) × (taken ≤ length bytes) × ((more : List ℕ) → awaited machine more ≡ kept (take taken bytes ++ more))
+    (now ≡ Some (drop taken bytes)) × (taken ≤ length bytes)
+    × ((more : List ℕ) → awaited machine more ≡ kept (take taken bytes ++ more))
 
 -- the machine has read all the known bytes, or one more than a file may have
 abbrev pub IsFollowed : {A : Type 0} → Option (List ℕ) → Machine A → ℕ → Type 0
 IsFollowed None machine taken = Unit {0}
 IsFollowed (Some bytes) machine taken =
-    (taken ≤ length bytes) × (taken ≤ 1048577) × (taken < 1048577 → taken ≡ length bytes) × ((more : List ℕ) → awaited machine more ≡ kept (take taken bytes ++ more))
+    (taken ≤ length bytes) × (taken ≤ 1048577) × (taken < 1048577 → taken ≡ length bytes)
+    × ((more : List ℕ) → awaited machine more ≡ kept (take taken bytes ++ more))
 
 -- what following the known bytes answers, with the counts of failures before and after it
 abbrev pub FollowGives : {A : Type 0} → Option (List ℕ) → ℕ → ℕ → Machine A → Result ℕ ReadFault → Type 0

@@ -1,5 +1,6 @@
 -- What the lines before the header say: a name, an author, comments and a rule (LifeWiki, "Run Length Encoded").
-use Rattle.std.specs.Prelude.{ℕ, Bool, true, false, ◌||◌, List, [], ◌∷◌, ◌++◌, length, ◌==◌, nat_lt, if◌then◌else◌, Option, Some, None, is_some}
+use Rattle.std.specs.Prelude.{ℕ, Bool, true, false, ◌||◌, List, [], ◌∷◌, ◌++◌, length, ◌==◌, nat_lt, if◌then◌else◌}
+use Rattle.std.specs.Prelude.{Option, Some, None, is_some}
 use Rattle.std.specs.List.{fold, list_any}
 use Rattle.life_rle.specs.declared.notes.Notes as code
 use Rattle.life_rle.specs.Lines.{Line, passed, named, authored, comment, ruled, header, line_kind}
@@ -19,7 +20,8 @@ no_notes = record { name = None; author = None; comments = []; rule = None }
 abbrev pub with_comment : Notes → List ℕ → Notes
 with_comment notes text = record notes { comments = notes.comments ++ text ∷ [] }
 
--- The first name and the first author are kept, later ones as comments, and empty ones not at all; the first rule alone is kept.
+-- The first name and the first author are kept, later ones as comments, and empty ones not at all; the first rule alone
+-- is kept.
 abbrev pub with_line : Notes → Line → Notes
 with_line notes passed = notes
 with_line notes (named text) =
@@ -61,7 +63,9 @@ is_long_text (Some text) = is_long text
 
 -- a kept text of more than 200 bytes, or more than 64 comments
 abbrev pub is_past_limit : Notes → Bool
-is_past_limit notes = is_long_text notes.name || is_long_text notes.author || list_any is_long notes.comments || nat_lt 64 (length notes.comments)
+is_past_limit notes =
+    is_long_text notes.name || is_long_text notes.author || list_any is_long notes.comments
+    || nat_lt 64 (length notes.comments)
 
 -- the texts that the code has so far
 abbrev pub notes : {A : Type 0} → code.Notes A → Notes

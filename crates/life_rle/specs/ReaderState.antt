@@ -25,7 +25,8 @@ front_rule notes text =
 -- what the file is read as by how far it has come, if these lines are what is left
 abbrev pub resumed_at : {A : Type 0} → Stage → Reader A → List (List ℕ) → Result Contents RleFault
 resumed_at stages.Front r lines = read_lines (notes r.notes) lines
-resumed_at stages.Body r lines = outcome r.body (flat_map body_part lines) >>= λ cells. Ok (contents (notes r.notes) r.rule cells)
+resumed_at stages.Body r lines =
+    outcome r.body (flat_map body_part lines) >>= λ cells. Ok (contents (notes r.notes) r.rule cells)
 resumed_at (stages.Failed fault) r lines = Err fault
 
 -- what the file is read as, if these lines are what is left

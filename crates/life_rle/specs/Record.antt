@@ -19,7 +19,8 @@ pub record Contents : Type 0 where
 abbrev pub coded_contents : Coded Contents
 coded_contents =
     code_by (Option (List ℕ) × (Option (List ℕ) × (List (List ℕ) × (RuleSets × Cells))))
-    (coded× (coded_option (coded_list coded_ℕ)) (coded× (coded_option (coded_list coded_ℕ)) (coded× (coded_list (coded_list coded_ℕ)) (coded× coded_rule coded_cells))))
+    (coded× (coded_option (coded_list coded_ℕ)) (coded× (coded_option (coded_list coded_ℕ))
+    (coded× (coded_list (coded_list coded_ℕ)) (coded× coded_rule coded_cells))))
     (λ r. (r.name, (r.author, (r.comments, (r.rule, r.cells)))))
     (λ p. record { name = p.0; author = p.1.0; comments = p.1.1.0; rule = p.1.1.1.0; cells = p.1.1.1.1 })
     (λ _. refl)
@@ -47,7 +48,8 @@ pub record IsRecord (r : Contents) : Type 0 where
   pub few : length r.comments ≤ 64
   pub cells : normal r.cells ≡ r.cells
 
--- A normal set lies in a box of at most k by k: its coordinates, which are at least 0, are below k. `Pattern::within(k - 1)` tests it.
+-- A normal set lies in a box of at most k by k: its coordinates, which are at least 0, are below k. `Pattern::within(k
+-- - 1)` tests it.
 abbrev pub IsInside : ℕ → Cells → Type 0
 IsInside k X = IsWithin (k - 1) X
 

@@ -1,5 +1,6 @@
 -- What a take and a put do to the known bytes of a stream, and to its count of failures.
-use Rattle.std.specs.Prelude.{◌≡◌, ℕ, zero, suc, ◌+◌, ◌-◌, ◌^◌, ◌<◌, ◌≤◌, ◌⊎◌, min, List, [], ◌++◌, length, take, Option, None, Some, Result, Ok, Err, ⊤, Bool, true, false, IsTrue}
+use Rattle.std.specs.Prelude.{◌≡◌, ℕ, zero, suc, ◌+◌, ◌-◌, ◌^◌, ◌<◌, ◌≤◌, ◌⊎◌, min, List, [], ◌++◌, length, take}
+use Rattle.std.specs.Prelude.{Option, None, Some, Result, Ok, Err, ⊤, Bool, true, false, IsTrue}
 
 -- the greatest count
 abbrev pub last_count : ℕ

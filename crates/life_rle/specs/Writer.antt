@@ -1,6 +1,7 @@
--- The one text of a record: its texts, its header, and the longest runs of its cells in lines of at most 70 bytes (LifeWiki, "Run Length
--- Encoded": "lines should be no more than 70 characters").
-use Rattle.std.specs.Prelude.{◌≤◌, ◌≤ℤ◌, ℕ, pos, codes, ◌+◌, ◌-◌, ◌==◌, max, nat_le, if◌then◌else◌, nat_abs, List, [], ◌∷◌, ◌++◌, length, replicate, map, Option, Some, None}
+-- The one text of a record: its texts, its header, and the longest runs of its cells in lines of at most 70 bytes
+-- (LifeWiki, "Run Length Encoded": "lines should be no more than 70 characters").
+use Rattle.std.specs.Prelude.{◌≤◌, ◌≤ℤ◌, ℕ, pos, codes, ◌+◌, ◌-◌, ◌==◌, max, nat_le, if◌then◌else◌, nat_abs, List, []}
+use Rattle.std.specs.Prelude.{◌∷◌, ◌++◌, length, replicate, map, Option, Some, None}
 use Rattle.std.specs.List.{flat_map, fold}
 use Rattle.std.specs.Fmt.{decimal}
 use Rattle.life_core.specs.Ascii.{capital_n, capital_o}
@@ -13,11 +14,13 @@ use Rattle.life_core.specs.RuleText.{rule_text}
 use Rattle.life_core.specs.Runs.{first_cell}
 use Rattle.life_rle.specs.Record.{Contents}
 
--- one tag for each step that a reader at this row and column takes to the cells, which are in the order of rows and columns: `$`, `b` or `o`
+-- one tag for each step that a reader at this row and column takes to the cells, which are in the order of rows and
+-- columns: `$`, `b` or `o`
 unfoldable pub tags_from : ℕ → ℕ → List (ℕ × ℕ) → List ℕ
 tags_from row column [] = []
 tags_from row column (cell ∷ cells) =
-    replicate (cell.1 - row) row_end_tag ++ replicate (cell.0 - (if cell.1 == row then column else 0)) dead_tag ++ live_tag ∷ tags_from cell.1 (cell.0 + 1) cells
+    replicate (cell.1 - row) row_end_tag ++ replicate (cell.0 - (if cell.1 == row then column else 0)) dead_tag
+    ++ live_tag ∷ tags_from cell.1 (cell.0 + 1) cells
 
 -- one more tag in front of runs: a run is a count and a tag
 abbrev pub onto_run : ℕ → List (ℕ × ℕ) → List (ℕ × ℕ)
@@ -37,7 +40,8 @@ item_text run = (if run.0 == 1 then [] else decimal run.0) ++ run.1 ∷ []
 abbrev pub item_texts : List (ℕ × ℕ) → List (List ℕ)
 item_texts cells = map item_text (runs_of (tags_from 0 0 cells)) ++ codes "!" ∷ []
 
--- the items laid into lines, after a line that has this many bytes: a line takes the next item if it then has at most 70
+-- the items laid into lines, after a line that has this many bytes: a line takes the next item if it then has at most
+-- 70
 unfoldable pub laid : ℕ → List (List ℕ) → List ℕ
 laid used [] = codes "\n"
 laid used (item ∷ items) =

@@ -1,5 +1,6 @@
 -- Cells that are written in their order, their runs, and the items that they make.
-use Rattle.std.specs.Prelude.{ℕ, List, ◌++◌, ◌≡◌, ◌⊎◌, ◌≤◌, ◌<◌, ◌+◌, ◌==◌, if◌then◌else◌, nat_abs, [], ◌∷◌, replicate, map}
+use Rattle.std.specs.Prelude.{ℕ, List, ◌++◌, ◌≡◌, ◌⊎◌, ◌≤◌, ◌<◌, ◌+◌, ◌==◌, if◌then◌else◌, nat_abs, [], ◌∷◌, replicate}
+use Rattle.std.specs.Prelude.{map}
 use Rattle.life_rle.specs.Tags.{live_tag}
 use Rattle.life_rle.specs.Writer.{item_text, runs_of, tags_from, IsQuarterRun}
 use Rattle.life_core.specs.declared.runs.Run.{Run}
@@ -7,7 +8,8 @@ use Rattle.life_core.specs.declared.runs.Run.{Run}
 -- the cells are in the order of rows and columns, from this row and column on, each once
 abbrev pub InOrder : ℕ → ℕ → List (ℕ × ℕ) → Type 0
 InOrder row column [] = Unit {0}
-InOrder row column (cell ∷ cells) = (row ≤ cell.1) × (row ≡ cell.1 → column ≤ cell.0) × InOrder cell.1 (cell.0 + 1) cells
+InOrder row column (cell ∷ cells) =
+    (row ≤ cell.1) × (row ≡ cell.1 → column ≤ cell.0) × InOrder cell.1 (cell.0 + 1) cells
 
 -- the items' texts at a place after this many live cells
 abbrev pub texts_from : ℕ → ℕ → ℕ → List (ℕ × ℕ) → List (List ℕ)
@@ -25,7 +27,8 @@ column_of r = nat_abs r.first
 abbrev pub row_of : Run → ℕ
 row_of r = nat_abs r.row
 
--- a run that may follow this many live cells, which end in this row at this column: it comes later in the order of rows and columns, and if there are such cells, it does not touch them
+-- a run that may follow this many live cells, which end in this row at this column: it comes later in the order of rows
+-- and columns, and if there are such cells, it does not touch them
 pub record IsNextRun (row column live : ℕ) (r : Run) : Type 0 where
   pub cells : IsQuarterRun r
   pub below : row ≤ row_of r
@@ -35,4 +38,5 @@ pub record IsNextRun (row column live : ℕ) (r : Run) : Type 0 where
 -- runs that follow one another so, the first of them after these live cells
 abbrev pub AreNextRuns : ℕ → ℕ → ℕ → List Run → Type 0
 AreNextRuns row column live [] = Unit {0}
-AreNextRuns row column live (r ∷ rs) = IsNextRun row column live r × AreNextRuns (row_of r) (column_of r + r.len) r.len rs
+AreNextRuns row column live (r ∷ rs) =
+    IsNextRun row column live r × AreNextRuns (row_of r) (column_of r + r.len) r.len rs

@@ -1,5 +1,6 @@
 -- How long a database that is healthy stays healthy.
-use Rattle.std.proofs.Common.{arith, ◌≡◌, ◌≤◌, ◌+◌, ◌-◌, ◌^◌, ◌⊎◌, inl, inr, ℕ, Bool, true, false, refl, sym, subst, ◌∙◌, min}
+use Rattle.std.proofs.Common.{arith, ◌≡◌, ◌≤◌, ◌+◌, ◌-◌, ◌^◌, ◌⊎◌, inl, inr, ℕ, Bool, true, false, refl, sym, subst}
+use Rattle.std.proofs.Common.{◌∙◌, min}
 use Rattle.sqlite_trees.specs.Tree.{Trees}
 use Rattle.sqlite_trees.specs.View.{doubt, IsClean}
 use Rattle.sqlite.specs.State.{State, Survives}
@@ -47,7 +48,8 @@ count_in_doubt a b m n top later was is = omega (arith, later, was, is)
 count_clean : (a b m n top : ℕ) → min (a + 1) top ≤ b → m ≡ 0 → n ≡ 0 → min (a + m + 1) top ≤ b + n
 count_clean a b m n top more was is = omega (arith, more, was, is)
 
-pub lasts_by : (old new : State) (Commits : Trees → Type 0) → Survives old new Commits → StaysHealthy (tables_of old) (tables_of new)
+pub lasts_by : (old new : State) (Commits : Trees → Type 0) → Survives old new Commits
+    → StaysHealthy (tables_of old) (tables_of new)
 unfolding StaysHealthy
 lasts_by old new Commits it = record {
   faults = omega (arith, it.counts, it.clean);
@@ -56,23 +58,34 @@ lasts_by old new Commits it = record {
       elim (clean_or_not new.is_clean) [
         | inl clean ↦ elim (it.closes clean was.1) [
           | inl up ↦ inl (healthy_from new clean up)
-          | inr more ↦ inr (count_clean old.faults new.faults (doubt old.is_clean) (doubt new.is_clean) (2 ^ 64 - 1) more was.0 clean)
+          | inr more ↦
+              inr (count_clean old.faults new.faults (doubt old.is_clean) (doubt new.is_clean)
+              (2 ^ 64 - 1) more was.0 clean)
         ]
-        | inr dirty ↦ inr (count_in_doubt old.faults new.faults (doubt old.is_clean) (doubt new.is_clean) (2 ^ 64 - 1) it.counts was.0 dirty)
+        | inr dirty ↦
+            inr (count_in_doubt old.faults new.faults (doubt old.is_clean) (doubt new.is_clean)
+            (2 ^ 64 - 1) it.counts was.0 dirty)
       ];
 }
 
 -- a transaction that begins
-pub lasts_begun : {S : Type 0} (g : Ghosts S) (old new : Held S) → new ≡ record old { in_transaction = true } → StaysHealthy (tables_of (state g old)) (tables_of (state g new))
+pub lasts_begun : {S : Type 0} (g : Ghosts S) (old new : Held S) → new ≡ record old { in_transaction = true }
+    → StaysHealthy (tables_of (state g old)) (tables_of (state g new))
 lasts_begun {S} g old new is =
     subst (λ (h : Held S). StaysHealthy (tables_of (state g old)) (tables_of (state g h))) (sym is)
     (lasts_same (tables_of (state g old)) (tables_of (state g (record old { in_transaction = true }))) refl refl)
 
 pub goes_none : {S : Type 0} {g : Ghosts S} {Adds : Trees → Type 0} → (s : ArchiveView S) → IsTransition g Adds s s
-goes_none s = record { was_healthy = λ healthy. healthy; lasts = lasts_none s.tables; capacity = refl; crash = crash_none s.store }
+goes_none s = record {
+  was_healthy = λ healthy. healthy;
+  lasts = lasts_none s.tables;
+  capacity = refl;
+  crash = crash_none s.store;
+}
 
 -- what two calls add is said of the tables before the first
-pub goes_both : {S : Type 0} {g : Ghosts S} {First Last Adds : Trees → Type 0} (a b c : ArchiveView S) → ((db : Trees) → First db → Adds db) → (IsClean (g.view b.store) → (db : Trees) → Last db → Adds db)
+pub goes_both : {S : Type 0} {g : Ghosts S} {First Last Adds : Trees → Type 0} (a b c : ArchiveView S)
+    → ((db : Trees) → First db → Adds db) → (IsClean (g.view b.store) → (db : Trees) → Last db → Adds db)
     → IsTransition g First a b → IsTransition g Last b c → IsTransition g Adds a c
 goes_both a b c one two first second = record {
   was_healthy = λ healthy. first.was_healthy (second.was_healthy healthy);
@@ -82,17 +95,22 @@ goes_both a b c one two first second = record {
 }
 
 -- a call that adds nothing, and one that may add
-pub goes_last : {S : Type 0} {g : Ghosts S} {Last Adds : Trees → Type 0} (a b c : ArchiveView S) → (IsClean (g.view b.store) → (db : Trees) → Last db → Adds db) → IsTransition g NoMore a b → IsTransition g Last b c
+pub goes_last : {S : Type 0} {g : Ghosts S} {Last Adds : Trees → Type 0} (a b c : ArchiveView S)
+    → (IsClean (g.view b.store) → (db : Trees) → Last db → Adds db) → IsTransition g NoMore a b
+    → IsTransition g Last b c
     → IsTransition g Adds a c
 goes_last a b c two first second = goes_both a b c (λ db none. absurd none) two first second
 
-pub goes_then : {S : Type 0} {g : Ghosts S} {Adds : Trees → Type 0} (a b c : ArchiveView S) → IsTransition g NoMore a b → IsTransition g Adds b c → IsTransition g Adds a c
+pub goes_then : {S : Type 0} {g : Ghosts S} {Adds : Trees → Type 0} (a b c : ArchiveView S)
+    → IsTransition g NoMore a b → IsTransition g Adds b c → IsTransition g Adds a c
 goes_then a b c first second = goes_last a b c (λ clean db more. more) first second
 
 -- what a call adds, said otherwise
-pub goes_as : {S : Type 0} {g : Ghosts S} {Last Adds : Trees → Type 0} (a b : ArchiveView S) → (IsClean (g.view a.store) → (db : Trees) → Last db → Adds db) → IsTransition g Last a b → IsTransition g Adds a b
+pub goes_as : {S : Type 0} {g : Ghosts S} {Last Adds : Trees → Type 0} (a b : ArchiveView S)
+    → (IsClean (g.view a.store) → (db : Trees) → Last db → Adds db) → IsTransition g Last a b → IsTransition g Adds a b
 goes_as a b says it = goes_last a a b says (goes_none a) it
 
 -- a call that adds nothing adds no more than another may
-pub goes_more : {S : Type 0} {g : Ghosts S} {Adds : Trees → Type 0} (a b : ArchiveView S) → IsTransition g NoMore a b → IsTransition g Adds a b
+pub goes_more : {S : Type 0} {g : Ghosts S} {Adds : Trees → Type 0} (a b : ArchiveView S) → IsTransition g NoMore a b
+    → IsTransition g Adds a b
 goes_more a b it = goes_as a b (λ clean db none. absurd none) it

@@ -31,16 +31,22 @@ pub same_store : {D : Type 0} {g : Ghosts D} (a b : FileStore D g) (db : Trees) 
 same_store {D} {g} a b db is may = subst (λ (s : FileStore D g). recovers s db) is may
 
 -- the store of a healthy archive, whatever it is over
-pub open_below : {S : Type 0} (g : stores.Ghosts S) (conn : Held S) (t : Tables) (s : S) → tables_of (state_by g conn) ≡ t → conn.store ≡ s → IsTrue t.is_healthy → IsTrue (g.view s).is_open
+pub open_below : {S : Type 0} (g : stores.Ghosts S) (conn : Held S) (t : Tables) (s : S)
+    → tables_of (state_by g conn) ≡ t → conn.store ≡ s → IsTrue t.is_healthy → IsTrue (g.view s).is_open
 open_below {S} g conn t s tables store healthy =
-    subst (λ (x : S). IsTrue (g.view x).is_open) store (healthy_is (state_by g conn) (subst (λ (x : Tables). IsTrue x.is_healthy) (sym tables) healthy)).1
+    subst (λ (x : S). IsTrue (g.view x).is_open) store
+    (healthy_is (state_by g conn) (subst (λ (x : Tables). IsTrue x.is_healthy) (sym tables) healthy)).1
 
-pub open_store : {D : Type 0} {g : Ghosts D} (conn : Held (FileStore D g)) (t : Tables) (s : FileStore D g) → tables_of (file_state conn) ≡ t → conn.store ≡ s → IsTrue t.is_healthy → IsTrue (view s).is_open
+pub open_store : {D : Type 0} {g : Ghosts D} (conn : Held (FileStore D g)) (t : Tables) (s : FileStore D g)
+    → tables_of (file_state conn) ≡ t → conn.store ≡ s → IsTrue t.is_healthy → IsTrue (view s).is_open
 open_store {D} {g} conn t s tables store healthy =
-    subst (λ (x : FileStore D g). IsTrue (view x).is_open) store (healthy_is (file_state conn) (subst (λ (x : Tables). IsTrue x.is_healthy) (sym tables) healthy)).1
+    subst (λ (x : FileStore D g). IsTrue (view x).is_open) store
+    (healthy_is (file_state conn) (subst (λ (x : Tables). IsTrue x.is_healthy) (sym tables) healthy)).1
 
 -- a disk that is clean at the end was clean
-pub left_honest : {D : Type 0} {g : Ghosts D} (conn was last : FileStore D g) (files : Files D) → (files.log, files.db) ≡ shown.files last → conn ≡ was → doubt (view conn).is_clean ≤ doubt (view last).is_clean → AreClean g files.log files.db
+pub left_honest : {D : Type 0} {g : Ghosts D} (conn was last : FileStore D g) (files : Files D)
+    → (files.log, files.db) ≡ shown.files last → conn ≡ was → doubt (view conn).is_clean ≤ doubt (view last).is_clean
+    → AreClean g files.log files.db
     → IsClean (view was)
 left_honest {D} {g} conn was last files is same later clean =
     let none : IsClean (view last) = no_doubt _ (clean_is last.pool ∙ subst (λ p. AreClean g p.0 p.1) is clean) in
@@ -48,13 +54,15 @@ left_honest {D} {g} conn was last files is same later clean =
     subst (λ (s : FileStore D g). IsClean (view s)) same before
 
 -- each image that a crash may leave of a store reads as a database that it allows, whether it is numbered or not
-reads_again : {D : Type 0} {g : Ghosts D} (it : FileStore D g) → AreDatabases (recovers it) → (left : Image) → (state it).may_leave left → ∥ ((db : Trees) × recovers it db × ReadsAs left db) ∥₁
+reads_again : {D : Type 0} {g : Ghosts D} (it : FileStore D g) → AreDatabases (recovers it)
+    → (left : Image) → (state it).may_leave left → ∥ ((db : Trees) × recovers it db × ReadsAs left db) ∥₁
 reads_again {D} {g} it sound left may = ∥∥₁_elim it.safe squash₁ (λ all.
     let found = all left may in
     let db = reading it found.0 in
     let allowed : recovers it db = (left, found.0, may, ∣ found.1 ∣₁, refl) in
     let schema = sound db allowed in
-    ∥∥₁_elim (size_is_allowed it.pool) squash₁ (λ size. ∥∥₁_map found.2 (λ ours. let r : (x : Trees) × recovers it x × ReadsAs left x = (
+    ∥∥₁_elim (size_is_allowed it.pool) squash₁
+    (λ size. ∥∥₁_map found.2 (λ ours. let r : (x : Trees) × recovers it x × ReadsAs left x = (
       db,
       allowed,
       record {
@@ -72,26 +80,35 @@ reads_again {D} {g} it sound left may = ∥∥₁_elim it.safe squash₁ (λ all
     ) in r)))
 
 module _ {D : Type 0} {g : Ghosts D} (was last : FileStore D g) (files : Files D) where
-  pub left_allowed : (files.log, files.db) ≡ shown.files last → (IsClean (view last) → IsTrue (view last).is_numbered) → (IsClean (view last) → AreDatabases (recovers last)) → ((db : Trees) → recovers last db → recovers was db)
+  pub left_allowed : (files.log, files.db) ≡ shown.files last → (IsClean (view last) → IsTrue (view last).is_numbered)
+      → (IsClean (view last) → AreDatabases (recovers last)) → ((db : Trees) → recovers last db → recovers was db)
       → AreLeftOf was files
   left_allowed is numbered sound fewer clean image may =
-      let healthy_now : AreClean g (shown.files last).0 (shown.files last).1 = subst (λ p. AreClean g p.0 p.1) is clean in
+      let healthy_now : AreClean g (shown.files last).0 (shown.files last).1 =
+      subst (λ p. AreClean g p.0 p.1) is clean in
       let none : IsClean (view last) = no_doubt _ (clean_is last.pool ∙ healthy_now) in
-      ∥∥₁_map (opens_again last (numbered none) (sound none) image (may_leave_is last.pool image healthy_now (subst (λ p. outcomes g p.0 p.1 image) is may)))
-      (λ found. let r : (db : Trees) × recovers was db × HoldsDatabase image db = (found.0, fewer found.0 found.1, found.2) in r)
+      ∥∥₁_map (opens_again last (numbered none) (sound none) image
+      (may_leave_is last.pool image healthy_now (subst (λ p. outcomes g p.0 p.1 image) is may)))
+      (λ found. let r : (db : Trees) × recovers was db
+      × HoldsDatabase image db = (found.0, fewer found.0 found.1, found.2) in r)
 
-  pub left_read : (files.log, files.db) ≡ shown.files last → (IsClean (view last) → AreDatabases (recovers last)) → ((db : Trees) → recovers last db → recovers was db) → AreReadOf was files
+  pub left_read : (files.log, files.db) ≡ shown.files last → (IsClean (view last) → AreDatabases (recovers last))
+      → ((db : Trees) → recovers last db → recovers was db) → AreReadOf was files
   left_read is sound fewer clean image may =
-      let healthy_now : AreClean g (shown.files last).0 (shown.files last).1 = subst (λ p. AreClean g p.0 p.1) is clean in
+      let healthy_now : AreClean g (shown.files last).0 (shown.files last).1 =
+      subst (λ p. AreClean g p.0 p.1) is clean in
       let none : IsClean (view last) = no_doubt _ (clean_is last.pool ∙ healthy_now) in
-      ∥∥₁_map (reads_again last (sound none) image (may_leave_is last.pool image healthy_now (subst (λ p. outcomes g p.0 p.1 image) is may)))
-      (λ found. let r : (db : Trees) × recovers was db × ReadsAs image db = (found.0, fewer found.0 found.1, found.2) in r)
+      ∥∥₁_map (reads_again last (sound none) image
+      (may_leave_is last.pool image healthy_now (subst (λ p. outcomes g p.0 p.1 image) is may)))
+      (λ found. let r : (db : Trees) × recovers was db × ReadsAs image db = (found.0, fewer found.0 found.1, found.2) in
+      r)
 
   clean_last : (files.log, files.db) ≡ shown.files last → AreClean g files.log files.db → IsClean (view last)
   clean_last is clean = no_doubt _ (clean_is last.pool ∙ subst (λ p. AreClean g p.0 p.1) is clean)
 
   -- a store that was let go without a checkpoint, or whose checkpoint was refused
-  pub let_go : (files.log, files.db) ≡ shown.files last → IsQuiet view shown.faults recovers shown.is_shielded was last → (IsClean (view last) → AreDatabases (recovers last))
+  pub let_go : (files.log, files.db) ≡ shown.files last → IsQuiet view shown.faults recovers shown.is_shielded was last
+      → (IsClean (view last) → AreDatabases (recovers last))
       → (IsClean (view last) → IsTrue (view last).is_open → IsTrue (view last).is_numbered) → AreLetGo was files
   let_go is quiet sound numbered = record {
     honest = λ clean. let now = clean_last is clean in omega (arith, quiet.clean, now);
@@ -104,22 +121,30 @@ module _ {D : Type 0} {g : Ghosts D} (was last : FileStore D g) (files : Files D
         ];
   }
 
-  pub let_go_numbered : (files.log, files.db) ≡ shown.files last → IsQuiet view shown.faults recovers shown.is_shielded was last → (IsClean (view last) → AreDatabases (recovers last)) → (IsClean (view last) → IsTrue (view last).is_numbered)
+  pub let_go_numbered : (files.log, files.db) ≡ shown.files last
+      → IsQuiet view shown.faults recovers shown.is_shielded was last
+      → (IsClean (view last) → AreDatabases (recovers last)) → (IsClean (view last) → IsTrue (view last).is_numbered)
       → AreLetGo was files
   let_go_numbered is quiet sound numbered = let_go is quiet sound (λ none up. numbered none)
 
-  pub left_held : (k : Kept) → SeenMayStay g → IsTrue (view was).is_open → ((db : Trees) → recovers was db → TreesHold db k) → AreLeftOf was files → AreClean g files.log files.db → LeftHold g files k
+  pub left_held : (k : Kept) → SeenMayStay g → IsTrue (view was).is_open
+      → ((db : Trees) → recovers was db → TreesHold db k) → AreLeftOf was files → AreClean g files.log files.db
+      → LeftHold g files k
   left_held k stays up trees allowed clean image may =
       let hold = trees (view was).committed (stays_at was stays up) in
       record {
         trees = (view was).committed;
-        held = ∥∥₁_map (allowed clean image may) (λ found. subst (HoldsDatabase image) (settled_at was stays found.0 up found.1) found.2);
+        held =
+            ∥∥₁_map (allowed clean image may)
+            (λ found. subst (HoldsDatabase image) (settled_at was stays found.0 up found.1) found.2);
         sound = hold.sound;
         holds = hold.holds;
       }
 
 -- what an archive held, after a close that was refused
-pub kept_unless_failed : {D : Type 0} {g : Ghosts D} (was : FileStore D g) (files : Files D) (k : Kept) → SeenMayStay g → IsTrue (view was).is_open → ((db : Trees) → recovers was db → TreesHold db k) → AreLetGo was files → AreClean g files.log files.db
+pub kept_unless_failed : {D : Type 0} {g : Ghosts D} (was : FileStore D g) (files : Files D) (k : Kept)
+    → SeenMayStay g → IsTrue (view was).is_open → ((db : Trees) → recovers was db → TreesHold db k)
+    → AreLetGo was files → AreClean g files.log files.db
     → LeftHold g files k ⊎ HaveFailedSince was files
 kept_unless_failed was files k stays up trees gone clean = elim (gone.left clean up) [
   | inl allowed ↦ inl (left_held was was files k stays up trees allowed clean)

@@ -1,4 +1,5 @@
--- The texts of the statements, and what they compile to under the tables of Layout.antt (SQLite's "CREATE TABLE", "SELECT", "INSERT" and "UPDATE").
+-- The texts of the statements, and what they compile to under the tables of Layout.antt (SQLite's "CREATE TABLE",
+-- "SELECT", "INSERT" and "UPDATE").
 use Rattle.std.specs.Prelude.{true, false, [], ◌∷◌, Some, None, codes, List, ℕ, pos, negsuc}
 use Rattle.sqlite_value.specs.declared.keys.Collation.TheVariants.{Binary}
 use Rattle.sqlite_value.specs.declared.value.Value.TheVariants.{Null, Int}
@@ -17,16 +18,24 @@ abbrev pub layout_text : List ℕ
 layout_text = codes "CREATE TABLE layout (version INTEGER NOT NULL) STRICT"
 
 abbrev pub deposits_text : List ℕ
-deposits_text = codes "CREATE TABLE deposits (id INTEGER PRIMARY KEY, member TEXT NOT NULL, token TEXT NOT NULL, rule TEXT NOT NULL, population INTEGER NOT NULL CHECK (population >= 0), rle BLOB NOT NULL, UNIQUE (member, token)) STRICT"
+deposits_text =
+    codes
+    "CREATE TABLE deposits (id INTEGER PRIMARY KEY, member TEXT NOT NULL, token TEXT NOT NULL, rule TEXT NOT NULL, population INTEGER NOT NULL CHECK (population >= 0), rle BLOB NOT NULL, UNIQUE (member, token)) STRICT"
 
 abbrev pub censuses_text : List ℕ
-censuses_text = codes "CREATE TABLE censuses (id INTEGER PRIMARY KEY, member TEXT NOT NULL, token TEXT NOT NULL, deposit INTEGER NOT NULL REFERENCES deposits (id), gens INTEGER NOT NULL, lim INTEGER NOT NULL, clusters INTEGER NOT NULL, unresolved INTEGER NOT NULL, UNIQUE (member, token)) STRICT"
+censuses_text =
+    codes
+    "CREATE TABLE censuses (id INTEGER PRIMARY KEY, member TEXT NOT NULL, token TEXT NOT NULL, deposit INTEGER NOT NULL REFERENCES deposits (id), gens INTEGER NOT NULL, lim INTEGER NOT NULL, clusters INTEGER NOT NULL, unresolved INTEGER NOT NULL, UNIQUE (member, token)) STRICT"
 
 abbrev pub census_rows_text : List ℕ
-census_rows_text = codes "CREATE TABLE census_rows (census INTEGER NOT NULL REFERENCES censuses (id), code TEXT NOT NULL, n INTEGER NOT NULL CHECK (n > 0), PRIMARY KEY (census, code)) STRICT"
+census_rows_text =
+    codes
+    "CREATE TABLE census_rows (census INTEGER NOT NULL REFERENCES censuses (id), code TEXT NOT NULL, n INTEGER NOT NULL CHECK (n > 0), PRIMARY KEY (census, code)) STRICT"
 
 abbrev pub census_flags_text : List ℕ
-census_flags_text = codes "CREATE TABLE census_flags (census INTEGER PRIMARY KEY REFERENCES censuses (id), steady INTEGER NOT NULL CHECK (steady IN (0, 1))) STRICT"
+census_flags_text =
+    codes
+    "CREATE TABLE census_flags (census INTEGER PRIMARY KEY REFERENCES censuses (id), steady INTEGER NOT NULL CHECK (steady IN (0, 1))) STRICT"
 
 abbrev pub add_version_text : List ℕ
 add_version_text = codes "INSERT INTO layout (version) VALUES (2)"
@@ -40,13 +49,15 @@ abbrev pub deposit_text : List ℕ
 deposit_text = codes "SELECT id, member, token, rule, population, rle FROM deposits WHERE id = ?1 ORDER BY id"
 
 abbrev pub find_deposit_text : List ℕ
-find_deposit_text = codes "SELECT id, member, token, rule, population, rle FROM deposits WHERE member = ?1 AND token = ?2 ORDER BY id"
+find_deposit_text =
+    codes "SELECT id, member, token, rule, population, rle FROM deposits WHERE member = ?1 AND token = ?2 ORDER BY id"
 
 abbrev pub deposits_after_text : List ℕ
 deposits_after_text = codes "SELECT id, member, population, rule FROM deposits WHERE id > ?1 ORDER BY id LIMIT 100"
 
 abbrev pub add_deposit_text : List ℕ
-add_deposit_text = codes "INSERT INTO deposits (id, member, token, rule, population, rle) VALUES (?1, ?2, ?3, ?4, ?5, ?6)"
+add_deposit_text =
+    codes "INSERT INTO deposits (id, member, token, rule, population, rle) VALUES (?1, ?2, ?3, ?4, ?5, ?6)"
 
 -- ---- censuses
 
@@ -54,19 +65,26 @@ abbrev pub newest_census_text : List ℕ
 newest_census_text = codes "SELECT id FROM censuses ORDER BY id DESC LIMIT 1"
 
 abbrev pub census_text : List ℕ
-census_text = codes "SELECT id, member, token, deposit, gens, lim, clusters, unresolved FROM censuses WHERE id = ?1 ORDER BY id"
+census_text =
+    codes "SELECT id, member, token, deposit, gens, lim, clusters, unresolved FROM censuses WHERE id = ?1 ORDER BY id"
 
 abbrev pub find_census_text : List ℕ
-find_census_text = codes "SELECT id, member, token, deposit, gens, lim, clusters, unresolved FROM censuses WHERE member = ?1 AND token = ?2 ORDER BY id"
+find_census_text =
+    codes
+    "SELECT id, member, token, deposit, gens, lim, clusters, unresolved FROM censuses WHERE member = ?1 AND token = ?2 ORDER BY id"
 
 abbrev pub rows_text : List ℕ
 rows_text = codes "SELECT code, n FROM census_rows WHERE census = ?1 ORDER BY code"
 
 abbrev pub total_text : List ℕ
-total_text = codes "SELECT sum(n) FROM census_rows JOIN censuses ON census_rows.census = censuses.id JOIN deposits ON censuses.deposit = deposits.id WHERE rule = ?1 AND code = ?2"
+total_text =
+    codes
+    "SELECT sum(n) FROM census_rows JOIN censuses ON census_rows.census = censuses.id JOIN deposits ON censuses.deposit = deposits.id WHERE rule = ?1 AND code = ?2"
 
 abbrev pub add_census_text : List ℕ
-add_census_text = codes "INSERT INTO censuses (id, member, token, deposit, gens, lim, clusters, unresolved) VALUES (?1, ?2, ?3, ?4, ?5, ?6, ?7, ?8)"
+add_census_text =
+    codes
+    "INSERT INTO censuses (id, member, token, deposit, gens, lim, clusters, unresolved) VALUES (?1, ?2, ?3, ?4, ?5, ?6, ?7, ?8)"
 
 abbrev pub add_row_text : List ℕ
 add_row_text = codes "INSERT INTO census_rows (census, code, n) VALUES (?1, ?2, ?3)"
@@ -112,7 +130,8 @@ plain_query from filter project = record {
 
 -- a query over the table with this tree, ordered by one of its columns
 abbrev pub ordered_query : ℕ → List Term → List Term → Term → Key → Term → Query
-ordered_query tree filter project column key limit = record (plain_query (inner tree end) filter project) { order = (column, key) ∷ []; limit = limit }
+ordered_query tree filter project column key limit =
+    record (plain_query (inner tree end) filter project) { order = (column, key) ∷ []; limit = limit }
 
 abbrev pub by_id : Term
 by_id = col 1 0
@@ -173,14 +192,18 @@ abbrev pub joined_tables : Join
 joined_tables = inner 5 (inner 3 (inner 1 end))
 
 abbrev pub joined_terms : List Term
-joined_terms = equals (col 1 1) (col 2 0) ∷ equals (col 2 4) (col 3 0) ∷ equals (col 3 4) (col 0 0) ∷ equals (col 1 2) (col 0 1) ∷ []
+joined_terms =
+    equals (col 1 1) (col 2 0) ∷ equals (col 2 4) (col 3 0) ∷ equals (col 3 4) (col 0 0)
+    ∷ equals (col 1 2) (col 0 1) ∷ []
 
 abbrev pub sum_of_counts : Aggregate
 sum_of_counts = record { op = Sum; distinct = false; collation = Binary; argument = col 1 3 }
 
 -- one row: the aggregate over all matches
 abbrev pub total_over : Join → List Term → Aggregate → Query
-total_over from terms a = record (plain_query from terms (col 1 0 ∷ [])) { group = Some (record { keys = []; collations = []; aggregates = a ∷ []; having = [] }) }
+total_over from terms a = record (plain_query from terms (col 1 0 ∷ [])) {
+  group = Some (record { keys = []; collations = []; aggregates = a ∷ []; having = [] });
+}
 
 abbrev pub total_query : Query
 total_query = total_over joined_tables joined_terms sum_of_counts
@@ -195,7 +218,9 @@ abbrev pub listed_names : List (List ℕ)
 listed_names = codes "id" ∷ codes "member" ∷ codes "population" ∷ codes "rule" ∷ []
 
 abbrev pub census_names : List (List ℕ)
-census_names = codes "id" ∷ codes "member" ∷ codes "token" ∷ codes "deposit" ∷ codes "gens" ∷ codes "lim" ∷ codes "clusters" ∷ codes "unresolved" ∷ []
+census_names =
+    codes "id" ∷ codes "member" ∷ codes "token" ∷ codes "deposit" ∷ codes "gens" ∷ codes "lim"
+    ∷ codes "clusters" ∷ codes "unresolved" ∷ []
 
 abbrev pub row_names : List (List ℕ)
 row_names = codes "code" ∷ codes "n" ∷ []

@@ -25,14 +25,19 @@ both true true p q = refl
 both true false p q = absurd cc
 both false b p q = absurd cc
 
-pub given_up : {S : Type 0} (g : Ghosts S) (conn : Held S) (new : S) (t : Tables) → tables_of (state g conn) ≡ t → IsLive (state g conn) → conn.in_transaction ≡ false → (IsTrue (g.view conn.store).is_open → (state g conn).now ≡ (state g conn).committed)
-    → IsRolledBack (g.view conn.store) (g.view new) → doubt (g.view conn.store).is_clean ≤ doubt (g.view new).is_clean → ((g.view new).is_open ≡ false → IsTrue (g.view new).is_broken)
+pub given_up : {S : Type 0} (g : Ghosts S) (conn : Held S) (new : S) (t : Tables)
+    → tables_of (state g conn) ≡ t → IsLive (state g conn) → conn.in_transaction ≡ false
+    → (IsTrue (g.view conn.store).is_open → (state g conn).now ≡ (state g conn).committed)
+    → IsRolledBack (g.view conn.store) (g.view new) → doubt (g.view conn.store).is_clean ≤ doubt (g.view new).is_clean
+    → ((g.view new).is_open ≡ false → IsTrue (g.view new).is_broken)
     → IsClean (g.view new) → (g.view new).is_broken ≡ false → AreTreesOf t (g.view new).trees
 given_up g conn new t tables live none settled undone clean shut now sound =
     let up : (g.view new).is_open ≡ true = open_if (g.view new).is_open (g.view new).is_broken shut sound in
     let was_up : IsTrue (g.view conn.store).is_open = (undone.kept now).was_open up in
-    let was_clean : (g.view conn.store).is_clean ≡ true = sure (g.view conn.store).is_clean (omega (arith, clean, now)) in
-    let same : (g.view conn.store).trees ≡ (g.view new).trees = ap (λ (db : Database). db.trees) (settled was_up) ∙ sym (undone.undone up).0 in
+    let was_clean : (g.view conn.store).is_clean ≡ true =
+    sure (g.view conn.store).is_clean (omega (arith, clean, now)) in
+    let same : (g.view conn.store).trees ≡ (g.view new).trees = ap (λ (db : Database). db.trees) (settled was_up)
+    ∙ sym (undone.undone up).0 in
     subst (λ (x : Tables). AreTreesOf x (g.view new).trees) tables (record {
       healthy = both (g.view conn.store).is_clean (g.view conn.store).is_open was_clean was_up;
       committed = none;

@@ -1,4 +1,5 @@
--- Used by the contracts of the code alone: what the rows of the tables represent (Tables.antt), part by part, as a transaction writes them.
+-- Used by the contracts of the code alone: what the rows of the tables represent (Tables.antt), part by part, as a
+-- transaction writes them.
 use Rattle.std.specs.Prelude.{◌≡◌, ℕ, List, [], ◌∷◌, ◌++◌, Option, Result, OnOk, IsTrue}
 use Rattle.sqlite_value.specs.Order.{Row}
 use Rattle.sqlite_trees.specs.declared.store.Store.{Ghosts}
@@ -34,7 +35,8 @@ pub record HoldsParts (db : Database) (p : Parts) : Type 0 where
 -- a statement of a transaction takes tables whose rows represent the first to tables whose rows represent the second
 abbrev pub AddsInside : {S A E : Type 0} → Ghosts S → Held S → Held S → Result A E → Parts → Parts → Type 0
 AddsInside g old new result before after =
-    HasCleanDisk (state g new) → IsTrue old.in_transaction → HoldsParts (state g old).now before → OnOk result (IsTrue new.in_transaction × HoldsParts (state g new).now after)
+    HasCleanDisk (state g new) → IsTrue old.in_transaction → HoldsParts (state g old).now before
+    → OnOk result (IsTrue new.in_transaction × HoldsParts (state g new).now after)
 
 -- one census more, the last, with the rows of its tally under its number
 abbrev pub with_census : ℕ → Tallied → Parts → Parts

@@ -1,6 +1,7 @@
 -- What a crash leaves of a store of `sqlite`: its `recovers` is what an opening after a crash at this moment may find.
--- A crash during a call is read off the call's clause: the call that the crash cut off went as the same call does over a disk that fails from that
--- moment on. That call returns, and the clause speaks of it as of every call ("The crash argument" of the kit's `sqlite_wal`).
+-- A crash during a call is read off the call's clause: the call that the crash cut off went as the same call does over
+-- a disk that fails from that moment on. That call returns, and the clause speaks of it as of every call ("The crash
+-- argument" of the kit's `sqlite_wal`).
 use Rattle.std.specs.Prelude.{◌⊎◌}
 use Rattle.sqlite_trees.specs.declared.store.Store.{Ghosts}
 use Rattle.sqlite_trees.specs.Tree.{Trees}
@@ -10,7 +11,8 @@ use Rattle.sqlite_trees.specs.View.{IsClean}
 abbrev pub NoMore : Trees → Type 0
 NoMore db = ⊥
 
--- If the disk has returned what was written so far, it had before; and a crash now leaves what it might have left before, or trees of which `Adds` holds.
+-- If the disk has returned what was written so far, it had before; and a crash now leaves what it might have left
+-- before, or trees of which `Adds` holds.
 pub record CrashLeaves {S : Type 0} (g : Ghosts S) (Adds : Trees → Type 0) (old new : S) : Type 0 where
   pub honest : IsClean (g.view new) → IsClean (g.view old)
   pub found : IsClean (g.view new) → (db : Trees) → g.recovers new db → g.recovers old db ⊎ Adds db

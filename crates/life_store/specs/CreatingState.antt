@@ -19,4 +19,5 @@ pub record IsNewArchive (db : Database) : Type 0 where
 
 -- what the transaction that makes the tables commits, where there were none
 abbrev pub IsMadeAnew : Database → Trees → Type 0
-IsMadeAnew old db = HasTables no_schema [] old → (after : Database) × (db ≡ after.trees) × IsDatabase after × IsNewArchive after
+IsMadeAnew old db =
+    HasTables no_schema [] old → (after : Database) × (db ≡ after.trees) × IsDatabase after × IsNewArchive after

@@ -18,4 +18,6 @@ pub record AreValuesOf (d : Deposit) (r : List ℕ) (n : ℤ) (file : List ℕ) 
 
 -- what the INSERT of a deposit under a number does
 abbrev pub AddsUnder : {S A E : Type 0} → Ghosts S → ℤ → Deposit → Held S → Held S → Result A E → Type 0
-AddsUnder g id d old new result = AddsNext g (λ k. id ≡ pos (length k.deposits + 1)) (λ k. record k { deposits = k.deposits ++ d ∷ [] }) old new result
+AddsUnder g id d old new result =
+    AddsNext g (λ k. id ≡ pos (length k.deposits + 1))
+    (λ k. record k { deposits = k.deposits ++ d ∷ [] }) old new result

@@ -1,5 +1,6 @@
 -- What is kept: deposits, and censuses each with a tally and a flag. A number is a place in its list, from 1.
-use Rattle.std.specs.Prelude.{◌&&◌, ◌+◌, ℕ, zero, suc, Bool, List, [], ◌∷◌, Option, None, Some, map, filter, take, sum_by, slice_get, nat_lt, bytes_eq, false, if◌then◌else◌}
+use Rattle.std.specs.Prelude.{◌&&◌, ◌+◌, ℕ, zero, suc, Bool, List, [], ◌∷◌, Option, None, Some, map, filter, take}
+use Rattle.std.specs.Prelude.{sum_by, slice_get, nat_lt, bytes_eq, false, if◌then◌else◌}
 use Rattle.std.specs.FinSet as set
 use Rattle.life_core.specs.Rule.{RuleSets}
 use Rattle.life_core.specs.RuleEquality.{same_rule}
@@ -62,7 +63,8 @@ censuses_of k = map (λ (t : Tallied). t.census) k.censuses
 
 -- the line of a deposit: number, member, population, canonical rule text
 abbrev pub listed_as : ℕ × Deposit → Listed
-listed_as p = record { id = p.0; member = p.1.member; population = set.len p.1.content.cells; rule = rule_text p.1.content.rule }
+listed_as p =
+    record { id = p.0; member = p.1.member; population = set.len p.1.content.cells; rule = rule_text p.1.content.rule }
 
 -- the lines of the first 100 deposits with a greater number
 unfoldable pub listed_after : ℕ → List Deposit → List Listed

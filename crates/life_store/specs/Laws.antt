@@ -17,4 +17,6 @@ OneMeaning = (t : Tables) (a b : Kept) → Holds t a → Holds t b → a ≡ b
 
 -- So do those of schema version 1, but for the flags, which it does not have.
 abbrev pub OneFirstMeaning : Type 0
-OneFirstMeaning = (t : Tables) (a b : Kept) → HoldsFirst t a → HoldsFirst t b → (a.deposits ≡ b.deposits) × (map unflagged a.censuses ≡ map unflagged b.censuses)
+OneFirstMeaning =
+    (t : Tables) (a b : Kept) → HoldsFirst t a → HoldsFirst t b
+    → (a.deposits ≡ b.deposits) × (map unflagged a.censuses ≡ map unflagged b.censuses)

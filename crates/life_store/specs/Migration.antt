@@ -1,4 +1,5 @@
--- What archives of schema version 1 hold, and what they hold once they were opened: the same, in schema version 2 (the tables of docs/FORMATS.md).
+-- What archives of schema version 1 hold, and what they hold once they were opened: the same, in schema version 2 (the
+-- tables of docs/FORMATS.md).
 use Rattle.std.specs.Prelude.{◌≡◌, ◌<◌, ◌^◌, ◌↔◌, ℕ, true, false, pos, List, [], ◌∷◌, length, map, Some, IsTrue}
 use Rattle.std.specs.List.{AllByRecursion}
 use Rattle.sqlite_value.specs.declared.value.Value.TheVariants.{Int}
@@ -21,8 +22,8 @@ use Rattle.life_store.specs.Tables.{Tables, tables_in, HasOrder, Holds}
 abbrev pub version_1 : List Row
 version_1 = (Int (pos 1) ∷ Int (pos 1) ∷ []) ∷ []
 
--- The tables of schema version 1 represent these deposits and these censuses, each with its tally, and for no others (Tables.antt).
--- There is no table of flags, so the flags play no part: a database represents them whatever they are.
+-- The tables of schema version 1 represent these deposits and these censuses, each with its tally, and for no others
+-- (Tables.antt). There is no table of flags, so the flags play no part: a database represents them whatever they are.
 pub record HoldsFirst (t : Tables) (k : Kept) : Type 0 where
   pub schema : t.schema ≡ first_schema
   pub layout : t.layout ≡ version_1
@@ -42,13 +43,15 @@ generation_in c n = generation_of c.rule c.cells n
 pub record IsFlagged (ds : List Deposit) (t : Tallied) : Type 0 where
   pub deposit : Deposit
   pub is : numbered ds t.census.deposit ≡ Some deposit
-  pub flag : IsTrue t.steady ↔ IsSteady deposit.content.rule (generation_in deposit.content t.census.generation) t.census.limit
+  pub flag : IsTrue t.steady ↔ IsSteady deposit.content.rule
+      (generation_in deposit.content t.census.generation) t.census.limit
 
 -- a census and its tally, without the flag
 abbrev pub unflagged : Tallied → Census × TallyCounts
 unflagged t = (t.census, t.tally)
 
--- The tables represent the same deposits and the same censuses with the same tallies, and each flag is computed from its census's deposit.
+-- The tables represent the same deposits and the same censuses with the same tallies, and each flag is computed from
+-- its census's deposit.
 pub record Migrated (t : Tables) (k : Kept) : Type 0 where
   pub censuses : List Tallied
   pub same : map unflagged censuses ≡ map unflagged k.censuses

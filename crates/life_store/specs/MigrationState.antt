@@ -1,4 +1,5 @@
--- Used by the contracts of the code alone: the content of the tables while they are migrated, and while flags are added, census by census.
+-- Used by the contracts of the code alone: the content of the tables while they are migrated, and while flags are
+-- added, census by census.
 use Rattle.std.specs.Prelude.{◌≡◌, ℕ, List, map, take, IsTrue}
 use Rattle.std.specs.List.{AllByRecursion}
 use Rattle.sqlite_trees.specs.Tree.{Trees}
@@ -34,7 +35,9 @@ pub record IsMigrated (p : Parts) (db : Database) : Type 0 where
 
 -- what the transaction that carries tables of schema version 1 over commits
 abbrev pub IsCarriedOver : Database → Trees → Type 0
-IsCarriedOver old db = (p : Parts) → AllByRecursion IsFiled p.deposits → HoldsFirstParts old p → p.layout ≡ version_1 → (after : Database) × (db ≡ after.trees) × IsDatabase after × IsMigrated p after
+IsCarriedOver old db =
+    (p : Parts) → AllByRecursion IsFiled p.deposits → HoldsFirstParts old p → p.layout ≡ version_1
+    → (after : Database) × (db ≡ after.trees) × IsDatabase after × IsMigrated p after
 
 -- what an opening makes of the tables of schema version 1
 abbrev pub Carries : Tables → Tables → Type 0

@@ -1,5 +1,7 @@
--- What files hold before they are opened, and after they are closed. What a database is in files: SQLite's "Database File Format".
-use Rattle.std.specs.Prelude.{◌≡◌, ◌⊎◌, IsTrue, ◌&&◌, ℕ, Bool, true, false, nat_le, pos, List, [], ◌∷◌, map, Option, None, Some}
+-- What files hold before they are opened, and after they are closed. What a database is in files: SQLite's "Database
+-- File Format".
+use Rattle.std.specs.Prelude.{◌≡◌, ◌⊎◌, IsTrue, ◌&&◌, ℕ, Bool, true, false, nat_le, pos, List, [], ◌∷◌, map, Option}
+use Rattle.std.specs.Prelude.{None, Some}
 use Rattle.sqlite_value.specs.declared.value.Value.{Value}
 use Rattle.sqlite_value.specs.declared.value.Value.TheVariants.{Int}
 use Rattle.sqlite_value.specs.Order.{Row, column}
@@ -48,12 +50,13 @@ pub record FilesHold (image : Image) (k : Kept) : Type 0 where
   pub sound : IsSound archive_schema trees
   pub holds : Holds (tables_in true 0 false (record { schema = archive_schema; trees = trees })) k
 
--- Each image that a crash may leave of the two files, and the one that they show, holds these: so the next opening finds them.
+-- Each image that a crash may leave of the two files, and the one that they show, holds these: so the next opening
+-- finds them.
 abbrev pub LeftHold : {D : Type 0} → Ghosts D → Files D → Kept → Type 0
 LeftHold g files k = (image : Image) → outcomes g files.log files.db image → FilesHold image k
 
--- The files are recovered to these trees, which are a database. Files that an opening takes have one fact more: the rows of `sqlite_schema` number the trees
--- (`HoldsDatabase`).
+-- The files are recovered to these trees, which are a database. Files that an opening takes have one fact more: the
+-- rows of `sqlite_schema` number the trees (`HoldsDatabase`).
 pub record ReadsAs (image : Image) (db : Trees) : Type 0 where
   pub size : ℕ
   pub is_numbered : Bool
@@ -68,18 +71,24 @@ pub record ReadsAs (image : Image) (db : Trees) : Type 0 where
 
 -- If the disk has returned what was written, each such image reads as a database that the store allowed.
 abbrev pub AreReadOf : {D : Type 0} {g : Ghosts D} → FileStore D g → Files D → Type 0
-AreReadOf {D} {g} store files = AreClean g files.log files.db → (image : Image) → outcomes g files.log files.db image → ∥ ((db : Trees) × recovers store db × ReadsAs image db) ∥₁
+AreReadOf {D} {g} store files =
+    AreClean g files.log files.db → (image : Image) → outcomes g files.log files.db image
+    → ∥ ((db : Trees) × recovers store db × ReadsAs image db) ∥₁
 
 -- If the disk has returned what was written, each such image holds a database that the store allowed.
 abbrev pub AreLeftOf : {D : Type 0} {g : Ghosts D} → FileStore D g → Files D → Type 0
-AreLeftOf {D} {g} store files = AreClean g files.log files.db → (image : Image) → outcomes g files.log files.db image → ∥ ((db : Trees) × recovers store db × HoldsDatabase image db) ∥₁
+AreLeftOf {D} {g} store files =
+    AreClean g files.log files.db → (image : Image) → outcomes g files.log files.db image
+    → ∥ ((db : Trees) × recovers store db × HoldsDatabase image db) ∥₁
 
 -- A call of the disk failed since, or a limit of the format was met.
 abbrev pub HaveFailedSince : {D : Type 0} {g : Ghosts D} → FileStore D g → Files D → Type 0
-HaveFailedSince {D} {g} was files = (last : FileStore D g) × ((files.log, files.db) ≡ store.files last) × MoreFaults (store.faults was) (store.faults last)
+HaveFailedSince {D} {g} was files =
+    (last : FileStore D g) × ((files.log, files.db) ≡ store.files last)
+    × MoreFaults (store.faults was) (store.faults last)
 
--- What a refused close leaves of a store, if the disk has returned what was written. A crash then has no new outcome, and each is a database. Unless a call of the
--- disk failed in the close, or a limit was met, an opening takes each.
+-- What a refused close leaves of a store, if the disk has returned what was written. A crash then has no new outcome,
+-- and each is a database. Unless a call of the disk failed in the close, or a limit was met, an opening takes each.
 pub record AreLetGo {D : Type 0} {g : Ghosts D} (was : FileStore D g) (files : Files D) : Type 0 where
   pub honest : AreClean g files.log files.db → IsClean (view was)
   pub read : AreReadOf was files
@@ -104,20 +113,22 @@ ListNothing image = (db : Trees) → AreFoundIn image db → IsSound no_schema d
 
 -- ---- what a refused opening leaves
 
--- What the kit leaves of files that it does not open, in its own words: it has written nothing, or each image that a crash may leave represents what was there, or
--- has the trees that were found.
+-- What the kit leaves of files that it does not open, in its own words: it has written nothing, or each image that a
+-- crash may leave represents what was there, or has the trees that were found.
 abbrev pub AreLeftUnopened : {D : Type 0} → Ghosts D → Files D → Files D → Type 0
 AreLeftUnopened {D} g files now = (left : Leftover D g) × (files_left left ≡ (now.log, now.db)) × LeavesFiles files left
 
--- What is left of files whose database was opened: each image that a crash may leave holds the archive that they held; or, if they held one of schema version 1, that one or
--- what an opening makes of it.
+-- What is left of files whose database was opened: each image that a crash may leave holds the archive that they held;
+-- or, if they held one of schema version 1, that one or what an opening makes of it.
 pub record AreLeftOpened {D : Type 0} (g : Ghosts D) (before : Image) (now : Files D) : Type 0 where
   pub held : (k : Kept) → FilesHold before k → LeftHold g now k
-  pub first : (k : Kept) → FilesHoldFirst before k → (image : Image) → outcomes g now.log now.db image → ∥ FilesHoldFirst image k ⊎ FilesMigrated image k ∥₁
+  pub first : (k : Kept) → FilesHoldFirst before k → (image : Image) → outcomes g now.log now.db image
+      → ∥ FilesHoldFirst image k ⊎ FilesMigrated image k ∥₁
 
 -- one of the two, if the disk has returned what was written
 abbrev pub AreUnharmed : {D : Type 0} → Ghosts D → Files D → Files D → Type 0
-AreUnharmed g files now = AreClean g now.log now.db → AreLeftUnopened g files now ⊎ AreLeftOpened g (image_of g files) now
+AreUnharmed g files now =
+    AreClean g now.log now.db → AreLeftUnopened g files now ⊎ AreLeftOpened g (image_of g files) now
 
 -- ---- the version of the layout
 
@@ -128,7 +139,8 @@ versions_in rows = map (λ row. column row 1) rows
 -- The known layouts, each by its tables and by what `layout` names:
 -- the archive's tables with version 2 and no other, and those of schema version 1 with version 1 and no other.
 abbrev pub IsLayout : Schema → List Value → Type 0
-IsLayout schema own = ((schema ≡ archive_schema) × (own ≡ Int (pos 2) ∷ [])) ⊎ ((schema ≡ first_schema) × (own ≡ Int (pos 1) ∷ []))
+IsLayout schema own =
+    ((schema ≡ archive_schema) × (own ≡ Int (pos 2) ∷ [])) ⊎ ((schema ≡ first_schema) × (own ≡ Int (pos 1) ∷ []))
 
 -- The files hold a database that obeys these tables, and these are the versions in its table `layout`.
 pub record FilesHaveVersions (schema : Schema) (image : Image) (versions : List Value) : Type 0 where

@@ -1,4 +1,5 @@
--- Used by the contracts of the code alone: which tables exist in a database that is opened or closed, and the versions of its layout.
+-- Used by the contracts of the code alone: which tables exist in a database that is opened or closed, and the versions
+-- of its layout.
 use Rattle.std.specs.Prelude.{◌≡◌, ◌⊎◌, ◌||◌, ℕ, Bool, true, false, pos, codes, List, [], ◌∷◌, map, IsTrue}
 use Rattle.std.specs.List.{list_any}
 use Rattle.sqlite_value.specs.declared.value.Value.{Value}
@@ -37,7 +38,9 @@ has_name s name = has_table s.tables name || has_view s.views name
 
 -- some of the archive's tables exist
 abbrev pub has_some : Schema → Bool
-has_some s = has_name s (codes "layout") || (has_name s (codes "deposits") || (has_name s (codes "censuses") || (has_name s (codes "census_rows") || has_name s (codes "census_flags"))))
+has_some s =
+    has_name s (codes "layout") || (has_name s (codes "deposits")
+    || (has_name s (codes "censuses") || (has_name s (codes "census_rows") || has_name s (codes "census_flags"))))
 
 -- The tables are these, and these are the versions in the table `layout`.
 pub record HaveVersions (s : Schema) (t : Tables) (versions : List Value) : Type 0 where
@@ -80,12 +83,15 @@ pub record IsMadeOfOld (t : Tables) (db : Trees) : Type 0 where
   pub archive : (k : Kept) → Holds t k → ⊥
   pub carried : (k : Kept) → HoldsFirst t k → TreesMigrated db k
 
--- what an opening commits in a database with these tables: a new archive, if there is no table; what those of schema version 1 become; of an archive's nothing
+-- what an opening commits in a database with these tables: a new archive, if there is no table; what those of schema
+-- version 1 become; of an archive's nothing
 pub record IsMadeOf (t : Tables) (db : Trees) : Type 0 where
   pub old : IsMadeOfOld t db
   pub fresh : t.schema ≡ no_schema → TreesHold db nothing_kept
 
--- What a refused opening leaves of a database that it had opened: trees that the store allowed, or that it may have committed.
+-- What a refused opening leaves of a database that it had opened: trees that the store allowed, or that it may have
+-- committed.
 abbrev pub AreLeftMade : {D : Type 0} {g : Ghosts D} → Tables → FileStore D g → Files D → Type 0
 AreLeftMade {D} {g} t store files =
-    (image : Image) → outcomes g files.log files.db image → ∥ ((db : Trees) × (recovers store db ⊎ IsMadeOf t db) × (HoldsDatabase image db ⊎ (IsForeign t × ReadsAs image db))) ∥₁
+    (image : Image) → outcomes g files.log files.db image → ∥ ((db : Trees) × (recovers store db ⊎ IsMadeOf t db)
+    × (HoldsDatabase image db ⊎ (IsForeign t × ReadsAs image db))) ∥₁

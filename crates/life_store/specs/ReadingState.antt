@@ -17,7 +17,8 @@ newest_rows (suc n) = (Int (pos (suc n)) ∷ []) ∷ []
 
 abbrev pub deposit_shown : ℕ × Deposit → Row
 deposit_shown p =
-    Int (pos p.0) ∷ Text p.1.member ∷ Text p.1.token ∷ Text (rule_text p.1.content.rule) ∷ Int (pos (set.len p.1.content.cells)) ∷ Blob (text p.1.content) ∷ []
+    Int (pos p.0) ∷ Text p.1.member ∷ Text p.1.token ∷ Text (rule_text p.1.content.rule)
+    ∷ Int (pos (set.len p.1.content.cells)) ∷ Blob (text p.1.content) ∷ []
 
 -- the first row shows the deposit, or there is no row
 abbrev pub ShowsDeposit : Option (ℕ × Deposit) → List Row → Type 0
@@ -29,7 +30,8 @@ line_shown l = Int (pos l.id) ∷ Text l.member ∷ Int (pos l.population) ∷ T
 
 abbrev pub census_shown : ℕ × Tallied → Row
 census_shown p =
-    Int (pos p.0) ∷ Text p.1.census.member ∷ Text p.1.census.token ∷ Int (pos p.1.census.deposit) ∷ Int (pos p.1.census.generation) ∷ Int (pos p.1.census.limit)
+    Int (pos p.0) ∷ Text p.1.census.member ∷ Text p.1.census.token ∷ Int (pos p.1.census.deposit)
+    ∷ Int (pos p.1.census.generation) ∷ Int (pos p.1.census.limit)
     ∷ Int (pos p.1.tally.total) ∷ Int (pos p.1.tally.unresolved) ∷ []
 
 -- the first row shows the census, or there is no row

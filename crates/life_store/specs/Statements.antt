@@ -8,15 +8,17 @@ use Rattle.sqlite.specs.Held.{Held, state}
 use Rattle.sqlite.specs.State.{HasCleanDisk, KeepsCommit}
 use Rattle.life_store.specs.Crash.{NoMore, CrashLeaves}
 use Rattle.life_store.specs.Kept.{Kept}
-use Rattle.life_store.specs.Tables.{Tables, tables_of, Holds, TreesHold, WasHealthy, StaysHealthy, HoldsTheSame, ForAllHeld}
+use Rattle.life_store.specs.Tables.{Tables, tables_of, Holds, TreesHold, WasHealthy, StaysHealthy, HoldsTheSame}
+use Rattle.life_store.specs.Tables.{ForAllHeld}
 
--- Whatever the disk does in a step: a healthy database stays healthy unless the disk fails, and a crash leaves what it might have left before, or trees of which
--- `Adds` holds.
+-- Whatever the disk does in a step: a healthy database stays healthy unless the disk fails, and a crash leaves what it
+-- might have left before, or trees of which `Adds` holds.
 pub record Withstands {S : Type 0} (g : Ghosts S) (Adds : Trees → Type 0) (old new : Held S) : Type 0 where
   pub lasts : StaysHealthy (tables_of (state g old)) (tables_of (state g new))
   pub crash : CrashLeaves g Adds old.store new.store
 
--- A query outside a transaction: the tables represent afterwards what they did before. If it answers, the database is open.
+-- A query outside a transaction: the tables represent afterwards what they did before. If it answers, the database is
+-- open.
 pub record Looks {S A E : Type 0} (g : Ghosts S) (old new : Held S) (result : Result A E) : Type 0 where
   pub lost : WasHealthy (tables_of (state g old)) (tables_of (state g new))
   pub keeps : HoldsTheSame (tables_of (state g old)) (tables_of (state g new))
@@ -24,7 +26,8 @@ pub record Looks {S A E : Type 0} (g : Ghosts S) (old new : Held S) (result : Re
   pub withstands : Withstands g NoMore old new
 
 -- The same, and its answer is what `Tells` says of whatever the tables represented.
-pub record LooksFor {S A E : Type 0} (g : Ghosts S) (old new : Held S) (result : Result A E) (Tells : Kept → A → Type 0) : Type 0 where
+pub record LooksFor {S A E : Type 0} (g : Ghosts S) (old new : Held S) (result : Result A E)
+    (Tells : Kept → A → Type 0) : Type 0 where
   pub looks : Looks g old new result
   pub tells : ForAllHeld (tables_of (state g old)) (tables_of (state g new)) (λ k. IfOk result (Tells k))
 
@@ -32,19 +35,25 @@ pub record LooksFor {S A E : Type 0} (g : Ghosts S) (old new : Held S) (result :
 abbrev pub HoldNext : (Kept → Type 0) → (Kept → Kept) → Tables → Trees → Type 0
 HoldNext IsNext adds old db = (k : Kept) → Holds old k → IsNext k → TreesHold db (adds k)
 
--- What adds something under a number: an `Ok` has added it, if the number is the next one; an `Err` has changed nothing.
-pub record AddsNext {S A E : Type 0} (g : Ghosts S) (IsNext : Kept → Type 0) (adds : Kept → Kept) (old new : Held S) (result : Result A E) : Type 0 where
+-- What adds something under a number: an `Ok` has added it, if the number is the next one; an `Err` has changed
+-- nothing.
+pub record AddsNext {S A E : Type 0} (g : Ghosts S) (IsNext : Kept → Type 0) (adds : Kept → Kept)
+    (old new : Held S) (result : Result A E) : Type 0 where
   pub lost : WasHealthy (tables_of (state g old)) (tables_of (state g new))
   pub up : HasCleanDisk (state g new) → OnOk result (IsTrue (state g new).is_open)
   pub withstands : Withstands g (HoldNext IsNext adds (tables_of (state g old))) old new
-  pub ok : OnOk result ((k : Kept) → IsTrue (tables_of (state g new)).is_healthy → Holds (tables_of (state g old)) k → IsNext k → Holds (tables_of (state g new)) (adds k))
+  pub ok : OnOk result ((k : Kept) → IsTrue (tables_of (state g new)).is_healthy → Holds (tables_of (state g old)) k
+      → IsNext k → Holds (tables_of (state g new)) (adds k))
   pub err : OnErr result (HoldsTheSame (tables_of (state g old)) (tables_of (state g new)))
 
--- A statement inside a transaction: the transaction is the same, commits nothing, and if the statement succeeds, stays open.
+-- A statement inside a transaction: the transaction is the same, commits nothing, and if the statement succeeds, stays
+-- open.
 pub record StaysInside {S A E : Type 0} (g : Ghosts S) (old new : MutBor (Held S)) (result : Result A E) : Type 0 where
   pub same_reference : new.ghost_name ≡ old.ghost_name
-  pub inside : HasCleanDisk (state g new.now) → IsTrue old.now.in_transaction → OnOk result (IsTrue new.now.in_transaction)
-  pub kept : HasCleanDisk (state g new.now) → IsTrue old.now.in_transaction → KeepsCommit (state g old.now) (state g new.now)
+  pub inside : HasCleanDisk (state g new.now) → IsTrue old.now.in_transaction
+      → OnOk result (IsTrue new.now.in_transaction)
+  pub kept : HasCleanDisk (state g new.now) → IsTrue old.now.in_transaction
+      → KeepsCommit (state g old.now) (state g new.now)
   -- a disk that has returned what was written had done so before
   pub clean : doubt (state g old.now).is_clean ≤ doubt (state g new.now).is_clean
   -- a crash leaves nothing new

@@ -1,5 +1,6 @@
 -- The rows that deposits and censuses are kept as: the tables of docs/FORMATS.md, column by column.
--- As in SQLite's file format ("Representation Of SQL Tables") a row begins with its rowid, and where a column is that id (INTEGER PRIMARY KEY), its own place holds NULL.
+-- As in SQLite's file format ("Representation Of SQL Tables") a row begins with its rowid, and where a column is that
+-- id (INTEGER PRIMARY KEY), its own place holds NULL.
 use Rattle.std.specs.Prelude.{◌≡◌, ℕ, ◌+◌, pos, Ok, Bool, if◌then◌else◌, List, [], ◌∷◌, ◌++◌, map}
 use Rattle.std.specs.FinSet as set
 use Rattle.sqlite_value.specs.declared.value.Value.TheVariants.{Null, Int, Text, Blob}
@@ -18,7 +19,9 @@ rows_by f id (x ∷ xs) = (Int (pos id) ∷ f x) ∷ rows_by f (id + 1) xs
 
 -- deposits: id (in front), member, token, rule, population, rle
 abbrev pub deposit_cells : Deposit → Row
-deposit_cells d = Null ∷ Text d.member ∷ Text d.token ∷ Text (rule_text d.content.rule) ∷ Int (pos (set.len d.content.cells)) ∷ Blob (text d.content) ∷ []
+deposit_cells d =
+    Null ∷ Text d.member ∷ Text d.token ∷ Text (rule_text d.content.rule) ∷ Int (pos (set.len d.content.cells))
+    ∷ Blob (text d.content) ∷ []
 
 -- what each deposit keeps: its rule is one without births from nothing, and its file is read as its record again
 pub record IsFiled (d : Deposit) : Type 0 where
@@ -28,7 +31,8 @@ pub record IsFiled (d : Deposit) : Type 0 where
 -- censuses: id (in front), member, token, deposit, gens, lim, clusters, unresolved
 abbrev pub census_cells : Tallied → Row
 census_cells t =
-    Null ∷ Text t.census.member ∷ Text t.census.token ∷ Int (pos t.census.deposit) ∷ Int (pos t.census.generation) ∷ Int (pos t.census.limit)
+    Null ∷ Text t.census.member ∷ Text t.census.token ∷ Int (pos t.census.deposit) ∷ Int (pos t.census.generation)
+    ∷ Int (pos t.census.limit)
     ∷ Int (pos t.tally.total) ∷ Int (pos t.tally.unresolved) ∷ []
 
 -- census_rows: census, code, n. This table has no column for its ids.

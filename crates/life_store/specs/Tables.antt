@@ -1,6 +1,8 @@
--- What contracts see of an archive: its tables as they are, and what their rows represent (the tables of docs/FORMATS.md).
--- What a table is, its rows with their ids and its schema: the kit's `sqlite`, after SQLite's "Database File Format" and "CREATE TABLE".
-use Rattle.std.specs.Prelude.{◌≡◌, ◌<◌, ◌≤◌, ◌+◌, ◌^◌, ◌⊎◌, ◌&&◌, ◌++◌, ℕ, pos, Bool, true, false, List, [], ◌∷◌, length, map, IsTrue, refl}
+-- What contracts see of an archive: its tables as they are, and what their rows represent (the tables of
+-- docs/FORMATS.md). What a table is, its rows with their ids and its schema: the kit's `sqlite`, after SQLite's
+-- "Database File Format" and "CREATE TABLE".
+use Rattle.std.specs.Prelude.{◌≡◌, ◌<◌, ◌≤◌, ◌+◌, ◌^◌, ◌⊎◌, ◌&&◌, ◌++◌, ℕ, pos, Bool, true, false, List, [], ◌∷◌}
+use Rattle.std.specs.Prelude.{length, map, IsTrue, refl}
 use Rattle.std.specs.Coded.{Coded, code_by, coded×, coded_ℕ, coded_bool, coded_list}
 use Rattle.std.specs.List.{AllByRecursion}
 use Rattle.std.specs.List.Sorted.{IsStrictlySortedBy}
@@ -39,7 +41,8 @@ pub record Tables : Type 0 where
   pub census_rows : List Row
   pub census_flags : List Row
 
--- an archive: its tables, how many deposits and how many censuses it takes, and its store, which the clauses on crashes are about
+-- an archive: its tables, how many deposits and how many censuses it takes, and its store, which the clauses on crashes
+-- are about
 pub record ArchiveView (S : Type 0) : Type 0 where
   pub tables : Tables
   pub capacity : ℕ
@@ -52,8 +55,27 @@ coded_rows = coded_list (coded_list value.the_row.coded)
 abbrev pub coded_view : {S : Type 0} → Coded S → Coded (ArchiveView S)
 coded_view {S} store =
     code_by (Bool × (ℕ × (Bool × (Schema × (List Row × (List Row × (List Row × (List Row × (List Row × (ℕ × S))))))))))
-    (coded× coded_bool (coded× coded_ℕ (coded× coded_bool (coded× the_row.coded (coded× coded_rows (coded× coded_rows (coded× coded_rows (coded× coded_rows (coded× coded_rows (coded× coded_ℕ store))))))))))
-    (λ s. (s.tables.is_healthy, (s.tables.faults, (s.tables.in_transaction, (s.tables.schema, (s.tables.layout, (s.tables.deposits, (s.tables.censuses, (s.tables.census_rows, (s.tables.census_flags, (s.capacity, s.store)))))))))))
+    (coded× coded_bool (coded× coded_ℕ (coded× coded_bool (coded× the_row.coded (coded× coded_rows
+    (coded× coded_rows (coded× coded_rows (coded× coded_rows (coded× coded_rows (coded× coded_ℕ store))))))))))
+    (λ s. (
+      s.tables.is_healthy,
+      (
+        s.tables.faults,
+        (
+          s.tables.in_transaction,
+          (
+            s.tables.schema,
+            (
+              s.tables.layout,
+              (
+                s.tables.deposits,
+                (s.tables.censuses, (s.tables.census_rows, (s.tables.census_flags, (s.capacity, s.store)))),
+              ),
+            ),
+          ),
+        ),
+      ),
+    ))
     (λ p. record {
       tables = record {
         is_healthy = p.0;
@@ -71,7 +93,8 @@ coded_view {S} store =
     })
     (λ _. refl)
 
--- The tables have these numbers. A UNIQUE or PRIMARY KEY of two columns has an index, which takes the number after its table's.
+-- The tables have these numbers. A UNIQUE or PRIMARY KEY of two columns has an index, which takes the number after its
+-- table's.
 abbrev pub tables_in : Bool → ℕ → Bool → Database → Tables
 tables_in is_healthy faults in_transaction db = record {
   is_healthy = is_healthy;
@@ -99,7 +122,8 @@ HasOrder t = IsStrictlySortedBy row_cmp (map (λ (row : List ℕ × ℕ). row.0)
 
 -- The tables represent these deposits and these censuses, each with its tally and its flag, and for no others:
 -- the schema is the archive's, no transaction is open, `layout` names version 2,
--- and the rows of `deposits`, `censuses`, `census_rows` and `census_flags` are theirs, in this order, under the ids 1, 2, 3 and so on.
+-- and the rows of `deposits`, `censuses`, `census_rows` and `census_flags` are theirs, in this order, under the ids 1,
+-- 2, 3 and so on.
 pub record Holds (t : Tables) (k : Kept) : Type 0 where
   pub schema : t.schema ≡ archive_schema
   pub committed : t.in_transaction ≡ false
@@ -154,18 +178,21 @@ ForAllHeld old new P = (k : Kept) → IsTrue new.is_healthy → Holds old k → 
 
 -- the tables represent one deposit more, the last
 abbrev pub AddsDeposit : Tables → Tables → Deposit → Type 0
-AddsDeposit old new d = (k : Kept) → IsTrue new.is_healthy → Holds old k → Holds new (record k { deposits = k.deposits ++ d ∷ [] })
+AddsDeposit old new d =
+    (k : Kept) → IsTrue new.is_healthy → Holds old k → Holds new (record k { deposits = k.deposits ++ d ∷ [] })
 
 -- the tables represent one census more, the last
 abbrev pub AddsCensus : Tables → Tables → Tallied → Type 0
-AddsCensus old new t = (k : Kept) → IsTrue new.is_healthy → Holds old k → Holds new (record k { censuses = k.censuses ++ t ∷ [] })
+AddsCensus old new t =
+    (k : Kept) → IsTrue new.is_healthy → Holds old k → Holds new (record k { censuses = k.censuses ++ t ∷ [] })
 
 -- The database was healthy, and whatever its tables represented, the trees represent what the change makes of it.
 abbrev pub HoldChanged : Tables → (Kept → Kept) → Trees → Type 0
 HoldChanged old change db = IsTrue old.is_healthy × ((k : Kept) → Holds old k → TreesHold db (change k))
 
--- What each call keeps: a database that is healthy after it was healthy before it; one that was healthy before it is healthy after it unless the disk
--- failed in the call; the capacity is the one chosen at opening; and a crash leaves what it might have left before, or what `Adds` says.
+-- What each call keeps: a database that is healthy after it was healthy before it; one that was healthy before it is
+-- healthy after it unless the disk failed in the call; the capacity is the one chosen at opening; and a crash leaves
+-- what it might have left before, or what `Adds` says.
 pub record IsTransition {S : Type 0} (g : Ghosts S) (Adds : Trees → Type 0) (old new : ArchiveView S) : Type 0 where
   pub was_healthy : WasHealthy old.tables new.tables
   pub lasts : StaysHealthy old.tables new.tables

@@ -13,7 +13,8 @@ by_first row rows name true is below = rw is refl
 by_first row rows name false is below = rw is below
 
 -- a table has a text for a name exactly if one of its rows has the name
-is_some-text_in : (rows : Rows) (name : List ℕ) → is_some (text_in rows name) ≡ list_any (λ known. bytes_eq known name) (names_of rows)
+is_some-text_in : (rows : Rows) (name : List ℕ)
+    → is_some (text_in rows name) ≡ list_any (λ known. bytes_eq known name) (names_of rows)
 is_some-text_in [] name = refl
 is_some-text_in (row ∷ rows) name = by_first row rows name (bytes_eq row.0 name) refl (is_some-text_in rows name)
 

@@ -5,7 +5,8 @@ use Rattle.std.specs.Prelude.{◌≡◌, ℕ, ◌^◌, ◌-◌, Bool, true, if�
 use Rattle.std.specs.Prelude.{option_map, option_and_then, codes, bytes_eq, false, IfOk, Result, Ok, Err}
 use Rattle.std.specs.Str.Parse.{digits_value, without_leading_plus}
 use Rattle.clap.specs.Words.{App, Row, Rule, Text, Kinds, app_of, new_app, new_rule, with_rule, with_subcommand}
-use Rattle.clap.specs.Words.{fault_of, first_of, found_of, matches_of, one_of, rows_of, subcommand_of, subcommand_rows_of}
+use Rattle.clap.specs.Words.{fault_of, first_of, found_of, matches_of, one_of, rows_of, subcommand_of}
+use Rattle.clap.specs.Words.{subcommand_rows_of}
 use Rattle.clap.specs.Simple.{on_top}
 use Rattle.clap.specs.ValueTests.{is_unsigned_in}
 use Rattle.clap.specs.declared.builder.command.Command.{Command}
@@ -15,7 +16,8 @@ use Rattle.clap.specs.declared.builder.value_parser.ValueParser.TheVariants as v
 use Rattle.clap.specs.declared.parser.matches.ArgMatches.{ArgMatches}
 use Rattle.life_words.specs.Explain.{is_refusal}
 use Rattle.life_words.specs.declared.words.Job.{Job}
-use Rattle.life_words.specs.declared.words.Job.TheVariants.{Generation, Kind, Object, Census, Deposit, Serve, Check, Explain}
+use Rattle.life_words.specs.declared.words.Job.TheVariants.{Generation, Kind, Object, Census, Deposit, Serve, Check}
+use Rattle.life_words.specs.declared.words.Job.TheVariants.{Explain}
 use Rattle.life_words.specs.declared.fault.WordFault.{WordFault}
 use Rattle.life_words.specs.declared.fault.WordFault.TheVariants.{BadWords, Memory}
 
@@ -23,7 +25,8 @@ use Rattle.life_words.specs.declared.fault.WordFault.TheVariants.{BadWords, Memo
 
 -- if a command was built, it is this one for `clap`, and has no global argument
 abbrev pub MakesCommand : {E : Type 0} → App → Result Command E → Type 0
-MakesCommand app made = IfOk made (λ command. app_of command ≡ app) × IfOk made (λ command. (fields_of command).has_globals ≡ false)
+MakesCommand app made =
+    IfOk made (λ command. app_of command ≡ app) × IfOk made (λ command. (fields_of command).has_globals ≡ false)
 
 -- what `clap` finds in arguments: the rows of the command's own arguments, and the given subcommand with its rows
 abbrev pub Matches : Type 0
@@ -57,7 +60,8 @@ abbrev pub by_subcommand : {A : Type 0} → (Text → List Row → Option A) →
 by_subcommand named None = None
 by_subcommand named (Some met) = named met.0 met.1
 
--- the answer to arguments: what they ask for, or a usage error if they ask for nothing; out of memory may come with any arguments
+-- the answer to arguments: what they ask for, or a usage error if they ask for nothing; out of memory may come with any
+-- arguments
 abbrev pub Answers : {J A : Type 0} → (J → A) → Option A → Result J WordFault → Type 0
 Answers asked_by asked (Ok job) = asked ≡ Some (asked_by job)
 Answers asked_by asked (Err (BadWords error)) = asked ≡ None
@@ -83,7 +87,8 @@ file_rule = record (text_rule (codes "F")) { long = Some (codes "db") }
 
 -- a required option that is a number from 1 to this one
 abbrev pub number_rule_in : Text → Text → ℕ → Rule
-number_rule_in id long most = record (new_rule id) { long = Some long; parser = Some (vp.Unsigned 1 most); required = true }
+number_rule_in id long most =
+    record (new_rule id) { long = Some long; parser = Some (vp.Unsigned 1 most); required = true }
 
 -- the option `--quick`, which takes no value: `clap` gives it the value `true` if it is there, and else `false`
 abbrev pub quick_rule : Rule
@@ -99,7 +104,9 @@ kind = with_rule (new_app (codes "kind")) (number_rule (codes "LIMIT"))
 
 -- `object RULE CODE LIMIT`
 abbrev pub object : App
-object = with_rule (with_rule (with_rule (new_app (codes "object")) (text_rule (codes "RULE"))) (text_rule (codes "CODE"))) (number_rule (codes "LIMIT"))
+object =
+    with_rule (with_rule (with_rule (new_app (codes "object")) (text_rule (codes "RULE"))) (text_rule (codes "CODE")))
+    (number_rule (codes "LIMIT"))
 
 -- `census N LIMIT`
 abbrev pub census : App
@@ -107,11 +114,15 @@ census = with_rule (with_rule (new_app (codes "census")) (number_rule (codes "N"
 
 -- `deposit --db F MEMBER TOKEN`
 abbrev pub deposit : App
-deposit = with_rule (with_rule (with_rule (new_app (codes "deposit")) file_rule) (text_rule (codes "MEMBER"))) (text_rule (codes "TOKEN"))
+deposit =
+    with_rule (with_rule (with_rule (new_app (codes "deposit")) file_rule) (text_rule (codes "MEMBER")))
+    (text_rule (codes "TOKEN"))
 
 -- `serve --db F --port P --connections N`
 abbrev pub serve : App
-serve = with_rule (with_rule (with_rule (new_app (codes "serve")) file_rule) (number_rule_in (codes "P") (codes "port") 65535)) (number_rule_in (codes "N") (codes "connections") 1000000)
+serve =
+    with_rule (with_rule (with_rule (new_app (codes "serve")) file_rule)
+    (number_rule_in (codes "P") (codes "port") 65535)) (number_rule_in (codes "N") (codes "connections") 1000000)
 
 -- `check --db F [--quick]`
 abbrev pub check : App
@@ -163,7 +174,8 @@ asked_by (Explain name) = AsksExplain name.now
 
 -- the number that a text writes in decimal digits, with an optional `+` in front
 abbrev pub number_text : Text → Option ℕ
-number_text text = if is_unsigned_in 0 last_number text then Some (digits_value 10 (without_leading_plus text)) else None
+number_text text =
+    if is_unsigned_in 0 last_number text then Some (digits_value 10 (without_leading_plus text)) else None
 
 -- the number of the argument with this id, if a subcommand has these matches
 abbrev pub number_at : Text → List Row → Option ℕ
@@ -191,11 +203,16 @@ abbrev pub job_named : Text → List Row → Option Asked
 job_named name rows =
     if bytes_eq name (codes "generation") then option_map AsksGeneration (number_at (codes "N") rows)
     else if bytes_eq name (codes "kind") then option_map AsksKind (number_at (codes "LIMIT") rows)
-    else if bytes_eq name (codes "object") then if_all AsksObject (text_at (codes "RULE") rows) (text_at (codes "CODE") rows) (number_at (codes "LIMIT") rows)
-    else if bytes_eq name (codes "census") then if_both AsksCensus (number_at (codes "N") rows) (number_at (codes "LIMIT") rows)
-    else if bytes_eq name (codes "deposit") then if_all AsksDeposit (text_at (codes "F") rows) (text_at (codes "MEMBER") rows) (text_at (codes "TOKEN") rows)
-    else if bytes_eq name (codes "serve") then if_all AsksServe (text_at (codes "F") rows) (number_at (codes "P") rows) (number_at (codes "N") rows)
-    else if bytes_eq name (codes "check") then option_map (λ file. AsksCheck file (is_given (codes "quick") rows)) (text_at (codes "F") rows)
+    else if bytes_eq name (codes "object")
+    then if_all AsksObject (text_at (codes "RULE") rows) (text_at (codes "CODE") rows) (number_at (codes "LIMIT") rows)
+    else if bytes_eq name (codes "census")
+    then if_both AsksCensus (number_at (codes "N") rows) (number_at (codes "LIMIT") rows)
+    else if bytes_eq name (codes "deposit")
+    then if_all AsksDeposit (text_at (codes "F") rows) (text_at (codes "MEMBER") rows) (text_at (codes "TOKEN") rows)
+    else if bytes_eq name (codes "serve")
+    then if_all AsksServe (text_at (codes "F") rows) (number_at (codes "P") rows) (number_at (codes "N") rows)
+    else if bytes_eq name (codes "check")
+    then option_map (λ file. AsksCheck file (is_given (codes "quick") rows)) (text_at (codes "F") rows)
     else if bytes_eq name (codes "explain") then explain_of (text_at (codes "NAME") rows)
     else None
 

@@ -11,7 +11,9 @@ pub record IsTaking (Taken Unfailed Unended Few : Type 0) : Type 0 where
 
 abbrev pub invariant-loop-buffer : goal.invariant-loop-buffer
 invariant-loop-buffer g l =
-    IsTaking (Loses (g.I.Inlet.to_come l.initial.input) (g.I.Inlet.to_come l.input) l.file.items) (g.I.Inlet.failures l.input ≡ g.I.Inlet.failures l.initial.input) (g.I.Inlet.ends l.input ≡ g.I.Inlet.ends l.initial.input) (length l.file.items ≤ 1048577)
+    IsTaking (Loses (g.I.Inlet.to_come l.initial.input) (g.I.Inlet.to_come l.input) l.file.items)
+    (g.I.Inlet.failures l.input ≡ g.I.Inlet.failures l.initial.input)
+    (g.I.Inlet.ends l.input ≡ g.I.Inlet.ends l.initial.input) (length l.file.items ≤ 1048577)
 
 abbrev pub decreases-loop-buffer : goal.decreases-loop-buffer
 decreases-loop-buffer g l = 1048577 - length l.file.items

@@ -4,7 +4,10 @@ use Rattle.life_archive.proofs.path.close_unasked.Goals as goal
 
 pub returns-in-Ok : goal.returns-in-Ok
 returns-in-Ok g c = record {
-  leaves = λ image capacity opens A fits begins. unasked_leaves c.args.archive c.args.archive c.law_of_migrated_archives.ensures c.in-Ok.files c.in-Ok.ensures.healthy c.in-Ok.ensures.left c.in-Ok.ensures.alone refl image capacity opens A fits begins;
+  leaves =
+      λ image capacity opens A fits begins.
+      unasked_leaves c.args.archive c.args.archive c.law_of_migrated_archives.ensures c.in-Ok.files
+      c.in-Ok.ensures.healthy c.in-Ok.ensures.left c.in-Ok.ensures.alone refl image capacity opens A fits begins;
   let_go = tt;
 }
 

@@ -9,8 +9,20 @@ returns-in-Ok-clause-deposits g c =
       c.deposit_opened-done.result.1,
       refl,
       is_path_deposit c.in-Ok.archive _ c.args.capacity _ _ _ _ _ _ _
-          (record { capacity = it.capacity.0; healthy = it.healthy; found = it.found; migrated = it.migrated; fresh = it.fresh }) c.deposit_opened-done.ensures.ends,
+          (record {
+            capacity = it.capacity.0;
+            healthy = it.healthy;
+            found = it.found;
+            migrated = it.migrated;
+            fresh = it.fresh;
+          }) c.deposit_opened-done.ensures.ends,
     )
 
 pub returns-in-Err-clause-deposits : goal.returns-in-Err-clause-deposits
-returns-in-Err-clause-deposits g c = inl (c.opening_stop.result, refl, unopened _ _ c.in-Err.fault c.opening_stop.result c.in-Err.files c.refused.result c.opening_stop.ensures c.refused.ensures c.in-Err.ensures.ours, refl)
+returns-in-Err-clause-deposits g c = inl (
+  c.opening_stop.result,
+  refl,
+  unopened _ _ c.in-Err.fault c.opening_stop.result c.in-Err.files c.refused.result c.opening_stop.ensures
+      c.refused.ensures c.in-Err.ensures.ours,
+  refl,
+)

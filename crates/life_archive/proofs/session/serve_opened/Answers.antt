@@ -23,10 +23,14 @@ returns-in-Ok-clause-ends g c =
       counted = some.counted;
       carried = some.carried;
       own_refusals = own_refusals;
-      honest = λ clean. it.taken.transition.crash.honest (c.count_deposits.ensures.transition.crash.honest (sound (either_clean g.D.Disk files c.reopenable.result same clean)));
+      honest =
+          λ clean. it.taken.transition.crash.honest (c.count_deposits.ensures.transition.crash.honest
+          (sound (either_clean g.D.Disk files c.reopenable.result same clean)));
       leaves = λ A up m. leaves_either g.D.Disk A ms bytes files c.reopenable.result same
-          (end_ok a mid last files ms bytes it c.count_deposits.ensures.transition sound c.count_deposits.ensures.same c.in-Ok.ensures.healthy c.into_files.ensures.held A m)
-          (end_err a mid last files ms bytes it c.count_deposits.ensures.transition sound c.law_of_crashes.ensures c.into_files.ensures.left A up m);
+          (end_ok a mid last files ms bytes it c.count_deposits.ensures.transition sound c.count_deposits.ensures.same
+          c.in-Ok.ensures.healthy c.into_files.ensures.held A m)
+          (end_err a mid last files ms bytes it c.count_deposits.ensures.transition sound c.law_of_crashes.ensures
+          c.into_files.ensures.left A up m);
     }
 
 pub returns-in-Err-clause-ends : goal.returns-in-Err-clause-ends
@@ -39,4 +43,15 @@ returns-in-Err-clause-ends g c =
     let bytes = replies_of some.exchanges in
     let it = run_answered over_files a mid ms bytes some.run in
     let own_refusals = firm_run over_files a mid ms bytes some.run in
-    record { exchanges = some.exchanges; counted = some.counted; carried = some.carried; own_refusals = own_refusals; honest = λ clean. it.taken.transition.crash.honest (c.count_deposits.ensures.transition.crash.honest (c.into_files-in-Err.ensures.honest clean)); leaves = λ A up m. end_err a mid last c.into_files-in-Err.result ms bytes it c.count_deposits.ensures.transition c.into_files-in-Err.ensures.honest c.law_of_crashes.ensures c.into_files-in-Err.ensures.left A up m }
+    record {
+      exchanges = some.exchanges;
+      counted = some.counted;
+      carried = some.carried;
+      own_refusals = own_refusals;
+      honest =
+          λ clean. it.taken.transition.crash.honest
+          (c.count_deposits.ensures.transition.crash.honest (c.into_files-in-Err.ensures.honest clean));
+      leaves =
+          λ A up m. end_err a mid last c.into_files-in-Err.result ms bytes it c.count_deposits.ensures.transition
+          c.into_files-in-Err.ensures.honest c.law_of_crashes.ensures c.into_files-in-Err.ensures.left A up m;
+    }

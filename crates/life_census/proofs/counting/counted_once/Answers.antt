@@ -15,7 +15,9 @@ returns g c f P same =
           let text : List ℕ = w.in-Some.text in
           let named : f P ≡ Some text = same ∙ w.in-Some.is in
           record {
-            rows = c.of.ensures ∙ rw w.rows-is (w.in_ok-count_code-in-Some.ensures.counted ∙ ap (λ es. one_more es text) none ∙ sym (with_code f (P ∷ []) 0 P low text named));
+            rows =
+                c.of.ensures ∙ rw w.rows-is (w.in_ok-count_code-in-Some.ensures.counted
+                ∙ ap (λ es. one_more es text) none ∙ sym (with_code f (P ∷ []) 0 P low text named));
             unresolved = w.unresolved-is ∙ sym (resolved f (P ∷ []) 0 P low text named);
             total = refl;
           }

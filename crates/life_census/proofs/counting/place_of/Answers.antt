@@ -15,19 +15,30 @@ pub returns-in-Equal-clause-before : goal.returns-in-Equal-clause-before
 returns-in-Equal-clause-before g c = c.loop-i.invariant
 
 pub returns-in-Equal-clause-here : goal.returns-in-Equal-clause-here
-returns-in-Equal-clause-here g c = (c.loop-i-test.true, compared c.args.rows.now c.loop-i.i c.index-rows-i.result c.args.code.now c.as_bytes.result.now _ c.loop-i-test.true c.index-rows-i.is c.as_bytes.ensures.bytes (sym c.cmp.ensures ∙ c.in-Equal.is))
+returns-in-Equal-clause-here g c = (
+  c.loop-i-test.true,
+  compared c.args.rows.now c.loop-i.i c.index-rows-i.result c.args.code.now c.as_bytes.result.now
+      _ c.loop-i-test.true c.index-rows-i.is c.as_bytes.ensures.bytes (sym c.cmp.ensures ∙ c.in-Equal.is),
+)
 
 pub returns-in-Less-clause-before : goal.returns-in-Less-clause-before
 returns-in-Less-clause-before g c = c.loop-i.invariant
 
 pub returns-in-Less-clause-here : goal.returns-in-Less-clause-here
-returns-in-Less-clause-here g c = (c.loop-i.auto.i-end, λ low. compared c.args.rows.now c.loop-i.i c.index-rows-i.result c.args.code.now c.as_bytes.result.now _ c.loop-i-test.true c.index-rows-i.is c.as_bytes.ensures.bytes (sym c.cmp.ensures ∙ c.in-Less.is))
+returns-in-Less-clause-here g c = (
+  c.loop-i.auto.i-end,
+  λ low. compared c.args.rows.now c.loop-i.i c.index-rows-i.result c.args.code.now c.as_bytes.result.now
+      _ c.loop-i-test.true c.index-rows-i.is c.as_bytes.ensures.bytes (sym c.cmp.ensures ∙ c.in-Less.is),
+)
 
 pub loop-i-smaller : goal.loop-i-smaller
 loop-i-smaller g c = omega (arith, c.loop-i-test.true)
 
 pub loop-i-preserved : goal.loop-i-preserved
-loop-i-preserved g c = below_next c.args.rows.now c.args.code.now c.loop-i.i c.loop-i.invariant (compared c.args.rows.now c.loop-i.i c.index-rows-i.result c.args.code.now c.as_bytes.result.now _ c.loop-i-test.true c.index-rows-i.is c.as_bytes.ensures.bytes (sym c.cmp.ensures ∙ c.in-Greater.is))
+loop-i-preserved g c =
+    below_next c.args.rows.now c.args.code.now c.loop-i.i c.loop-i.invariant
+    (compared c.args.rows.now c.loop-i.i c.index-rows-i.result c.args.code.now c.as_bytes.result.now
+    _ c.loop-i-test.true c.index-rows-i.is c.as_bytes.ensures.bytes (sym c.cmp.ensures ∙ c.in-Greater.is))
 
 pub returns-clause-before : goal.returns-clause-before
 returns-clause-before g c k d low = c.loop-i.invariant k d (omega (arith, low, c.loop-i-test.false))

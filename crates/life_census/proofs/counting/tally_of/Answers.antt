@@ -1,4 +1,5 @@
-use Rattle.std.proofs.Common.{◌≡◌, ℕ, ◌+◌, List, get_or, ◌≤◌, map, count_by, is_none, Option, Some, None, sym, ap, subst, ◌∙◌, refl, arith}
+use Rattle.std.proofs.Common.{◌≡◌, ℕ, ◌+◌, List, get_or, ◌≤◌, map, count_by, is_none, Option, Some, None, sym, ap}
+use Rattle.std.proofs.Common.{subst, ◌∙◌, refl, arith}
 use Rattle.std.specs.List.{filter_map}
 use Rattle.std.proofs.lemmas.Result.{IfOk-from_err}
 use Rattle.std.proofs.lemmas.List.{take_all}
@@ -31,7 +32,8 @@ bounds-clusters-cluster-index g c = c.loop-cluster-test.true
 
 pub shape_index-requires-clause-room : goal.shape_index-requires-clause-room
 shape_index-requires-clause-room g c =
-    subst (IsWithin 400000000) (sym c.cluster-item.is) (c.requires.room c.loop-cluster.cluster-index c.cluster-item.result c.loop-cluster-test.true)
+    subst (IsWithin 400000000) (sym c.cluster-item.is)
+    (c.requires.room c.loop-cluster.cluster-index c.cluster-item.result c.loop-cluster-test.true)
 
 pub shape_index-requires-clause-survey : goal.shape_index-requires-clause-survey
 shape_index-requires-clause-survey g c = c.loop-cluster.invariant.survey
@@ -44,11 +46,13 @@ index-requires g c = omega (arith, c.in_ok-i.ensures.code.0, c.shape_index.new.s
 
 pub count_code-requires : goal.count_code-requires
 count_code-requires g c k d low =
-    let few : (get_or c.loop-cluster.rows.items k d).count ≤ c.loop-cluster.cluster-index = c.loop-cluster.invariant.bounded k d low in
+    let few : (get_or c.loop-cluster.rows.items k d).count ≤ c.loop-cluster.cluster-index =
+    c.loop-cluster.invariant.bounded k d low in
     omega arith
 
 pub returns-in_err-count_code-in-Some : goal.returns-in_err-count_code-in-Some
-returns-in_err-count_code-in-Some g c = IfOk-from_err c.from_residual-in_err-count_code-in-Some.result _ c.from_residual-in_err-count_code-in-Some.ensures.0
+returns-in_err-count_code-in-Some g c =
+    IfOk-from_err c.from_residual-in_err-count_code-in-Some.result _ c.from_residual-in_err-count_code-in-Some.ensures.0
 
 pub overflow_add-unresolved : goal.overflow_add-unresolved
 overflow_add-unresolved g c = record { fits = omega arith }
@@ -63,15 +67,19 @@ loop-cluster-preserved g c =
     let i = c.loop-cluster.cluster-index in
     let low = c.loop-cluster-test.true in
     let item = c.cluster-item.result in
-    let answer = ap code (sym c.cluster-item.is) ∙ sym (c.in_ok-i.ensures.code.1 c.index.result.now) ∙ ap (λ one. one.code) (sym c.index.ensures) in
+    let answer = ap code (sym c.cluster-item.is) ∙ sym (c.in_ok-i.ensures.code.1 c.index.result.now)
+    ∙ ap (λ one. one.code) (sym c.index.ensures) in
     elim c.match-index.branch [
       | in-Some+in_ok-count_code-in-Some w ↦
           let text : List ℕ = w.in-Some.code in
           let named : code (get_or c.args.clusters.now i item) ≡ Some text = answer ∙ w.in-Some.is in
           record {
             survey = c.shape_index.ensures.survey;
-            rows = rw w.rows-is (w.in_ok-count_code-in-Some.ensures.counted ∙ ap (λ es. one_more es text) before.rows ∙ sym (with_code code c.args.clusters.now i item low text named));
-            unresolved = rw w.unresolved-is (before.unresolved ∙ sym (resolved code c.args.clusters.now i item low text named));
+            rows =
+                rw w.rows-is (w.in_ok-count_code-in-Some.ensures.counted ∙ ap (λ es. one_more es text) before.rows
+                ∙ sym (with_code code c.args.clusters.now i item low text named));
+            unresolved =
+                rw w.unresolved-is (before.unresolved ∙ sym (resolved code c.args.clusters.now i item low text named));
             bounded = rw w.rows-is (w.in_ok-count_code-in-Some.ensures.bounded i before.bounded);
             few = omega (arith, before.few, w.unresolved-is);
           }
@@ -80,8 +88,13 @@ loop-cluster-preserved g c =
           record {
             survey = c.shape_index.ensures.survey;
             rows = rw w.rows-is (before.rows ∙ sym (without_code code c.args.clusters.now i item low nameless));
-            unresolved = w.unresolved-is ∙ ap (λ n. n + 1) before.unresolved ∙ sym (unresolved code c.args.clusters.now i item low nameless);
-            bounded = rw w.rows-is (All-weaker (λ (r : Row g.row.A.Denot). r.count ≤ i) (λ (r : Row g.row.A.Denot). r.count ≤ i + 1) (λ (r : Row g.row.A.Denot) h. let k : r.count ≤ i = h in omega arith) c.loop-cluster.rows.items before.bounded);
+            unresolved =
+                w.unresolved-is ∙ ap (λ n. n + 1) before.unresolved
+                ∙ sym (unresolved code c.args.clusters.now i item low nameless);
+            bounded =
+                rw w.rows-is (All-weaker (λ (r : Row g.row.A.Denot). r.count ≤ i)
+                (λ (r : Row g.row.A.Denot). r.count ≤ i + 1) (λ (r : Row g.row.A.Denot) h. let k : r.count ≤ i = h in
+                omega arith) c.loop-cluster.rows.items before.bounded);
             few = omega (arith, before.few, w.unresolved-is);
           }
     ]

@@ -2,7 +2,8 @@ use Rattle.std.proofs.Common.{◌≡◌, ◌<◌, ◌≤◌, length, get_or, pos
 use Rattle.std.proofs.lemmas.List.{take_all, get_or_default}
 use Rattle.std.proofs.lemmas.List.Elements.{All-same}
 use Rattle.life_core.specs.declared.runs.Run.{Run}
-use Rattle.life_census.proofs.FloodLaws.{IsClearRound, clear_more, as_long, kept_trans, order_kept, HasBegun, has_begun, all_clear}
+use Rattle.life_census.proofs.FloodLaws.{IsClearRound, clear_more, as_long, kept_trans, order_kept, HasBegun, has_begun}
+use Rattle.life_census.proofs.FloodLaws.{all_clear}
 use Rattle.life_census.proofs.flood.flooded.Goals as goal
 
 abbrev blank : Run
@@ -13,8 +14,10 @@ loop-i-init g c =
     let left = c.args.left.now in
     let r : Run = get_or left c.args.start blank in
     let begun : HasBegun left c.args.start c.take_run.new.left c.take_run.new.cluster.items =
-    has_begun left c.new-cluster.result.items c.take_run.new.left c.take_run.new.cluster.items c.args.start r c.requires.order c.requires.start.0 c.requires.start.1
-    (get_or_default left c.args.start blank r c.requires.start.0) c.new-cluster.ensures.items (c.in_ok-take_run.ensures blank) in
+    has_begun left c.new-cluster.result.items c.take_run.new.left c.take_run.new.cluster.items
+    c.args.start r c.requires.order c.requires.start.0 c.requires.start.1
+    (get_or_default left c.args.start blank r c.requires.start.0) c.new-cluster.ensures.items
+    (c.in_ok-take_run.ensures blank) in
     record {
       low = omega arith;
       kept = begun.kept;
@@ -38,11 +41,16 @@ loop-i-preserved g c =
       low = omega arith;
       kept = kept_trans c.args.left.now c.loop-i.left c.take_near.new.left before.kept grown.kept;
       filled = grown.filled before.filled;
-      flood = λ d. grown.flood _ _ (subst (λ (s : Run). 1 ≤ s.len) (sym item) (before.filled c.loop-i.i run low)) (c.loop-i.i, low, sym item) (before.flood d);
-      clear = clear_more run c.loop-i.left c.take_near.new.left c.loop-i.cluster.items c.take_near.new.cluster.items c.loop-i.i grown low item before.clear c.in_ok-take_near.ensures.clear;
+      flood =
+          λ d. grown.flood _ _ (subst (λ (s : Run). 1 ≤ s.len) (sym item) (before.filled c.loop-i.i run low))
+          (c.loop-i.i, low, sym item) (before.flood d);
+      clear =
+          clear_more run c.loop-i.left c.take_near.new.left c.loop-i.cluster.items c.take_near.new.cluster.items
+          c.loop-i.i grown low item before.clear c.in_ok-take_near.ensures.clear;
     }
 
 pub returns-clause-clear : goal.returns-clause-clear
 returns-clause-clear g c =
     let end : length c.loop-i.cluster.items ≤ c.loop-i.i = omega arith in
-    all_clear c.loop-i.cluster.items c.loop-i.left (All-same (IsClearRound c.loop-i.left) _ _ (sym (take_all c.loop-i.i c.loop-i.cluster.items end)) c.loop-i.invariant.clear)
+    all_clear c.loop-i.cluster.items c.loop-i.left (All-same (IsClearRound c.loop-i.left) _ _
+    (sym (take_all c.loop-i.i c.loop-i.cluster.items end)) c.loop-i.invariant.clear)

@@ -12,7 +12,8 @@ invariant-loop-i g l = record {
   low : l.i ≤ length l.cluster.items;
   kept : AreKept l.fn.left l.left;
   filled : All (λ r. 1 ≤ r.len) l.cluster.items;
-  flood : (d : Run) → IsFlood (cells_in l.fn.left) (first_cell (get_or l.fn.left l.fn.start d)) (cells_in l.cluster.items) (cells_in l.left);
+  flood : (d : Run) → IsFlood (cells_in l.fn.left) (first_cell (get_or l.fn.left l.fn.start d))
+      (cells_in l.cluster.items) (cells_in l.left);
   clear : All (λ r. (c : Cell) → IsRound r c → set.contains (cells_in l.left) c ≡ false) (take l.i l.cluster.items);
 }
 

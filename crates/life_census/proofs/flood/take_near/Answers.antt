@@ -12,7 +12,8 @@ loop-near-init g c = record {
 }
 
 pub take_row-requires-clause-order : goal.take_row-requires-clause-order
-take_row-requires-clause-order g c = order_kept c.args.left.now c.loop-near.left c.loop-near.invariant.grown.kept c.requires
+take_row-requires-clause-order g c =
+    order_kept c.args.left.now c.loop-near.left c.loop-near.invariant.grown.kept c.requires
 
 pub take_row-requires-clause-row : goal.take_row-requires-clause-row
 take_row-requires-clause-row g c =
@@ -29,9 +30,11 @@ loop-near-preserved g c =
       grown = grown_trans _ _ _ _ _ _ _ c.loop-near.invariant.grown grown;
       clear = λ d round before.
           let low : d.row <ℤ (row +ℤ pos 1) = subst (λ n. d.row <ℤ n) next before in
-          by_lt_z d.row row (λ earlier. none_kept c.loop-near.left c.take_row.new.left d grown.kept (c.loop-near.invariant.clear d round earlier))
+          by_lt_z d.row row (λ earlier. none_kept c.loop-near.left c.take_row.new.left d grown.kept
+          (c.loop-near.invariant.clear d round earlier))
           (λ here. c.in_ok-take_row.ensures.clear d round (omega (arith, ints)));
     }
 
 pub returns-clause-clear : goal.returns-clause-clear
-returns-clause-clear g c d round = let down = round.rows_down in c.loop-near.invariant.clear d round (omega (arith, ints))
+returns-clause-clear g c d round =
+    let down = round.rows_down in c.loop-near.invariant.clear d round (omega (arith, ints))

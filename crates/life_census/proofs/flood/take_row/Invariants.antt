@@ -9,7 +9,8 @@ abbrev pub invariant-loop-i : goal.invariant-loop-i
 invariant-loop-i g l = record {
   low : l.i ≤ length l.left;
   grown : HasGrown l.fn.run l.fn.left l.fn.cluster.items l.left l.cluster.items;
-  clear : (k : ℕ) (d : Run) (c : Cell) → k < l.i → IsRound l.fn.run c → c.row ≡ l.row → IsInRun (get_or l.left k d) c → ⊥;
+  clear : (k : ℕ) (d : Run) (c : Cell) → k < l.i → IsRound l.fn.run c → c.row ≡ l.row
+      → IsInRun (get_or l.left k d) c → ⊥;
   ahead : (k : ℕ) (d : Run) → l.i ≤ k → k < length l.left → IsAhead (get_or l.left k d) l.row (l.fn.run.first -ℤ pos 2);
 }
 

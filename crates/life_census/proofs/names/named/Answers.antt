@@ -11,7 +11,8 @@ loop-cluster-preserved g c =
     let Ps = c.args.clusters.now in
     let i = c.loop-cluster.cluster-index in
     let item = c.cluster-item.result in
-    let answer = ap (λ one. one.code) c.index.ensures ∙ c.in_ok-i.ensures.code.1 c.index.result.now ∙ ap code c.cluster-item.is in
+    let answer = ap (λ one. one.code) c.index.ensures ∙ c.in_ok-i.ensures.code.1 c.index.result.now
+    ∙ ap code c.cluster-item.is in
     record {
       survey = c.shape_index.ensures.survey;
       codes =
@@ -24,4 +25,5 @@ loop-cluster-preserved g c =
 pub returns-clause-codes : goal.returns-clause-codes
 returns-clause-codes g c =
     let code : Cells → Option (List ℕ) = λ P. code_of c.args.search.now.rule P c.args.search.now.limit in
-    c.loop-cluster.invariant.codes ∙ ap (map code) (take_all c.loop-cluster.cluster-index c.args.clusters.now c.loop-cluster-test.false)
+    c.loop-cluster.invariant.codes
+    ∙ ap (map code) (take_all c.loop-cluster.cluster-index c.args.clusters.now c.loop-cluster-test.false)

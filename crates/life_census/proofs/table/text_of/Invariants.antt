@@ -5,4 +5,5 @@ use Rattle.life_census.specs.TableState.{Holds}
 use Rattle.life_census.proofs.table.text_of.Given as goal
 
 abbrev pub invariant-loop-row : goal.invariant-loop-row
-invariant-loop-row g l = Holds l.table ((codes "code,count" ++ 10 ∷ []) ++ flat_map (λ r. line r.code r.count) (take l.row-index l.rows))
+invariant-loop-row g l =
+    Holds l.table ((codes "code,count" ++ 10 ∷ []) ++ flat_map (λ r. line r.code r.count) (take l.row-index l.rows))

@@ -7,6 +7,9 @@ use Rattle.life_check.proofs.censuses.censuses.Given as goal
 
 abbrev pub invariant-loop-count : goal.invariant-loop-count
 invariant-loop-count g l =
-    IsSome ((g.S.Store.view l.store).cursors 0) × IsSome ((g.S.Store.view l.store).cursors 1) × IsSome ((g.S.Store.view l.store).cursors 2) × IsCalm g.S.Store l.fn.store l.store
-    × (IsClean (g.S.Store.view l.store) → (ds : List Deposit) → AreFiled (g.S.Store.view l.fn.store).trees ds → HasCounted l.quick ds l.count l.read (g.S.Store.view l.fn.store) (g.S.Store.view l.store))
-    × (IsClean (g.S.Store.view l.store) → (ds : List Deposit) → AreFiled (g.S.Store.view l.fn.store).trees ds → AreTallied (g.S.Store.view l.fn.store).trees ds → AwaitsRest ds l.count l.read (g.S.Store.view l.store))
+    IsSome ((g.S.Store.view l.store).cursors 0) × IsSome ((g.S.Store.view l.store).cursors 1)
+    × IsSome ((g.S.Store.view l.store).cursors 2) × IsCalm g.S.Store l.fn.store l.store
+    × (IsClean (g.S.Store.view l.store) → (ds : List Deposit) → AreFiled (g.S.Store.view l.fn.store).trees ds
+    → HasCounted l.quick ds l.count l.read (g.S.Store.view l.fn.store) (g.S.Store.view l.store))
+    × (IsClean (g.S.Store.view l.store) → (ds : List Deposit) → AreFiled (g.S.Store.view l.fn.store).trees ds
+    → AreTallied (g.S.Store.view l.fn.store).trees ds → AwaitsRest ds l.count l.read (g.S.Store.view l.store))

@@ -7,7 +7,8 @@ use Rattle.life_check.proofs.censuses.clusters_follow.Given as goal
 abbrev pub invariant-loop-left : goal.invariant-loop-left
 invariant-loop-left g l =
     StayLive (g.S.Store.view l.fn.store) (g.S.Store.view l.store) × IsCalm g.S.Store l.fn.store l.store
-    × (taken : ℕ) × (taken + l.left ≡ l.clusters) × (IsClean (g.S.Store.view l.store) → TakesClusters l.id taken l.before l.at (g.S.Store.view l.fn.store) (g.S.Store.view l.store))
+    × (taken : ℕ) × (taken + l.left ≡ l.clusters) × (IsClean (g.S.Store.view l.store)
+    → TakesClusters l.id taken l.before l.at (g.S.Store.view l.fn.store) (g.S.Store.view l.store))
 
 abbrev pub decreases-loop-left : goal.decreases-loop-left
 decreases-loop-left g l = l.left

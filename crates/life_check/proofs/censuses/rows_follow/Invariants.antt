@@ -8,5 +8,7 @@ use Rattle.life_check.proofs.censuses.rows_follow.Given as goal
 
 abbrev pub invariant-loop-counted : goal.invariant-loop-counted
 invariant-loop-counted g l =
-    StayLive (g.S.Store.view l.fn.store) (g.S.Store.view l.store) × IsCalm g.S.Store l.fn.store l.store × (l.at ≡ l.before + l.counted-index)
-    × (IsClean (g.S.Store.view l.store) → Takes 1 (rows_by count_cells (l.before + 1) (tagged l.id (map row_seen (take l.counted-index l.rows)))) (g.S.Store.view l.fn.store) (g.S.Store.view l.store))
+    StayLive (g.S.Store.view l.fn.store) (g.S.Store.view l.store) × IsCalm g.S.Store l.fn.store l.store
+    × (l.at ≡ l.before + l.counted-index)
+    × (IsClean (g.S.Store.view l.store) → Takes 1 (rows_by count_cells (l.before + 1)
+    (tagged l.id (map row_seen (take l.counted-index l.rows)))) (g.S.Store.view l.fn.store) (g.S.Store.view l.store))

@@ -16,11 +16,16 @@ returns-clause-follow g c clean ds filed =
     let clean_2 : IsClean v2 = omega (arith, c.some_flag_follows.ensures.calm.clean, clean) in
     let clean_1 : IsClean v1 = omega (arith, c.clusters_follow.ensures.calm.clean, clean_2) in
     let found : c.in_ok-has_deposit.field-0 ≡ true = search rules in
-    let there : IsSome (numbered ds c.args.census.now.deposit) = c.in_ok-has_deposit.ensures.there clean_1 found ds filed in
-    let whole : c.in-Some.clusters + c.in-Some-Some.unresolved ≡ c.in-Some-Some.total = first_of (search rules, grind arith) in
-    let row_is : c.args.row.now ≡ census_row_of c.args.id c.args.census.now c.in-Some-Some.total c.in-Some-Some.unresolved = search rules in
+    let there : IsSome (numbered ds c.args.census.now.deposit) =
+    c.in_ok-has_deposit.ensures.there clean_1 found ds filed in
+    let whole : c.in-Some.clusters + c.in-Some-Some.unresolved ≡ c.in-Some-Some.total =
+    first_of (search rules, grind arith) in
+    let row_is : c.args.row.now ≡ census_row_of c.args.id c.args.census.now c.in-Some-Some.total
+    c.in-Some-Some.unresolved = search rules in
     let taken : TakesClusters c.args.id c.in-Some.clusters c.args.before c.in-Some-2.more v1 v2 = search rules in
     let flag : c.in_ok-some_flag_follows.field-0 ≡ true = search rules in
-    let last : (steady : Bool) × Takes 2 (flag_row_of c.args.id steady ∷ []) v2 v3 = c.in_ok-some_flag_follows.ensures.follow clean flag in
-    follows_uncounted ds c.args.id c.args.before c.in-Some-2.more c.args.row.now v0 v1 v2 v3 c.args.census.now c.in-Some-Some.total c.in-Some-Some.unresolved c.in-Some.clusters last.0
+    let last : (steady : Bool) × Takes 2 (flag_row_of c.args.id steady ∷ []) v2 v3 =
+    c.in_ok-some_flag_follows.ensures.follow clean flag in
+    follows_uncounted ds c.args.id c.args.before c.in-Some-2.more c.args.row.now v0 v1 v2 v3
+    c.args.census.now c.in-Some-Some.total c.in-Some-Some.unresolved c.in-Some.clusters last.0
     c.requires.askable there whole row_is (c.in_ok-has_deposit.ensures.same clean_1) taken last.1

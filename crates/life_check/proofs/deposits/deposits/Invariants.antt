@@ -8,4 +8,5 @@ use Rattle.life_check.proofs.deposits.deposits.Given as goal
 abbrev pub invariant-loop-count : goal.invariant-loop-count
 invariant-loop-count g l =
     IsSome ((g.S.Store.view l.store).cursors 0) × IsCalm g.S.Store l.fn.store l.store
-    × (IsClean (g.S.Store.view l.store) → HasWalked deposit_cells IsNamed 0 1 l.count (g.S.Store.view l.fn.store) (g.S.Store.view l.store))
+    × (IsClean (g.S.Store.view l.store)
+    → HasWalked deposit_cells IsNamed 0 1 l.count (g.S.Store.view l.fn.store) (g.S.Store.view l.store))

@@ -13,5 +13,7 @@ returns-clause-check g c =
       finds = λ clean. end.sound (left_honest last last last files c.close.ensures refl (omega arith) clean);
       lists = λ clean. end.wrong (left_honest last last last files c.close.ensures refl (omega arith) clean);
       held = λ k healthy holds clean.
-          left_held was last files k g.met.D.Disk.seen_may_stay (c.law_of_open_stores.ensures healthy) (c.law_of_crashes.ensures healthy k holds) (left_allowed was last files c.close.ensures end.numbered end.databases end.calm.outcomes) clean;
+          left_held was last files k g.met.D.Disk.seen_may_stay
+          (c.law_of_open_stores.ensures healthy) (c.law_of_crashes.ensures healthy k holds)
+          (left_allowed was last files c.close.ensures end.numbered end.databases end.calm.outcomes) clean;
     }

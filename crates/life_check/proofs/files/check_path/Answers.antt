@@ -9,5 +9,6 @@ returns-in-Ok-clause-check g c =
     inr (
       end.result.2,
       refl,
-      is_path_check c.args.quick c.in-Ok.archive end.result.0 end.result.1.items end.result.2 end.ensures.check _ c.args.capacity (record { capacity = it.capacity; healthy = it.healthy; found = it.found }),
+      is_path_check c.args.quick c.in-Ok.archive end.result.0 end.result.1.items end.result.2 end.ensures.check
+          _ c.args.capacity (record { capacity = it.capacity; healthy = it.healthy; found = it.found }),
     )

@@ -9,5 +9,6 @@ use Rattle.life_check.proofs.files.errors_of.Goals as goal
 pub returns-in-NotSound-clause-wrong : goal.returns-in-NotSound-clause-wrong
 returns-in-NotSound-clause-wrong g c = λ deposits clean told.
     let is : c.args.checked.now ≡ Ok (NotSound c.in-NotSound.first) = search rules in
-    let same = subst (λ (r : Result Verdict Unavailable). IfOk r (λ v. StopsBeforeCensuses v → (g.S.Store.view c.args.store.now).trees 1 ≡ deposits)) is told in
+    let same = subst (λ (r : Result Verdict Unavailable). IfOk r
+    (λ v. StopsBeforeCensuses v → (g.S.Store.view c.args.store.now).trees 1 ≡ deposits)) is told in
     c.further_errors.ensures.wrong deposits clean same

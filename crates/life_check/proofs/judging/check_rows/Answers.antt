@@ -9,4 +9,5 @@ returns-clause-sound g c clean schema =
     let end = c.check_trees-verdict.ensures in
     let clean_1 : IsClean (g.S.Store.view store) = omega (arith, end.calm.clean, clean) in
     ok_sound c.args.quick c.args.archive (g.S.Store.view store).trees c.check_trees-verdict.result schema
-    (on_ok_then c.check_trees-verdict.result (end.unbroken clean) (λ sound. c.into_trees-is_settled.ensures.trees c.if-not-is_settled.false clean_1 sound)) (end.sound clean)
+    (on_ok_then c.check_trees-verdict.result (end.unbroken clean)
+    (λ sound. c.into_trees-is_settled.ensures.trees c.if-not-is_settled.false clean_1 sound)) (end.sound clean)

@@ -8,7 +8,10 @@ loop-orientation-init g c = refl
 
 pub loop-orientation-preserved : goal.loop-orientation-preserved
 loop-orientation-preserved g c =
-    keep_orientation (bytes_of c.args.best.now) (bytes_of c.loop-orientation.best) (bytes_of c.keep_turned.new.best) c.args.phase.now c.loop-orientation.orientation-index c.loop-orientation-test.true c.loop-orientation.invariant c.in_ok-keep_turned.ensures
+    keep_orientation (bytes_of c.args.best.now) (bytes_of c.loop-orientation.best)
+    (bytes_of c.keep_turned.new.best) c.args.phase.now c.loop-orientation.orientation-index
+    c.loop-orientation-test.true c.loop-orientation.invariant c.in_ok-keep_turned.ensures
 
 pub returns : goal.returns
-returns g c = kept_all _ _ _ c.loop-orientation.orientation-index c.loop-orientation-test.false c.loop-orientation.invariant
+returns g c =
+    kept_all _ _ _ c.loop-orientation.orientation-index c.loop-orientation-test.false c.loop-orientation.invariant

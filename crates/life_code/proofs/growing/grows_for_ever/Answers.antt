@@ -13,6 +13,7 @@ returns g c last =
     let fits_bottom : SFits w64 bottom = search rules in
     let end : bottom ≡ _ = c.in-Some-last_row.ensures in
     pairs_of_box rule cells _ top bottom _ _ c.in-Some.ensures.is_box end c.is_live_next.ensures.kept.quiet
-    (sym c.is_live_next.ensures.value ∙ c.if-is_live_next.false) (sym c.is_live_next-2.ensures.value ∙ c.if-not-is_live_next.false)
+    (sym c.is_live_next.ensures.value ∙ c.if-is_live_next.false)
+    (sym c.is_live_next-2.ensures.value ∙ c.if-not-is_live_next.false)
     (subst (λ y. (x : ℤ) × HasPair rule cells x y) (to_z-of_z fits_top) (c.has_pair.ensures c.if-not-has_pair.false))
     (subst (λ y. (x : ℤ) × HasPair rule cells x y) (to_z-of_z fits_bottom) (c.has_pair-2.ensures last))

@@ -56,7 +56,9 @@ pub returns-clause-spells_one : goal.returns-clause-spells_one
 returns-clause-spells_one c = spells_one
 
 pub returns-clause-one_size : goal.returns-clause-one_size
-returns-clause-one_size c = λ X left top columns rows same box. (sym (width_of_box X left top columns rows same box), sym (height_of_box X left top columns rows same box))
+returns-clause-one_size c =
+    λ X left top columns rows same box.
+    (sym (width_of_box X left top columns rows same box), sym (height_of_box X left top columns rows same box))
 
 pub returns-clause-columns : goal.returns-clause-columns
 returns-clause-columns c = strips_are_their_columns

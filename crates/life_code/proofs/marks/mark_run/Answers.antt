@@ -7,5 +7,7 @@ use Rattle.life_code.proofs.marks.mark_run.Goals as goal
 
 pub loop-i-preserved : goal.loop-i-preserved
 loop-i-preserved c cells marks =
-    subst (λ (cs : List Cell). Marks c.mark_cell.new.flags cs) (run_more cells c.args.run c.loop-i.i c.cell.result c.cell.ensures)
-    (c.mark_cell.ensures (cells ++ cells_from c.args.run.row c.args.run.first c.loop-i.i) (c.loop-i.invariant cells marks))
+    subst (λ (cs : List Cell). Marks c.mark_cell.new.flags cs)
+    (run_more cells c.args.run c.loop-i.i c.cell.result c.cell.ensures)
+    (c.mark_cell.ensures (cells ++ cells_from c.args.run.row c.args.run.first c.loop-i.i)
+    (c.loop-i.invariant cells marks))

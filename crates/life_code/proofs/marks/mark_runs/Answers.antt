@@ -18,5 +18,6 @@ pub loop-run-preserved : goal.loop-run-preserved
 loop-run-preserved c =
     let runs = c.args.runs.now in
     let i = c.loop-run.run-index in
-    subst (λ (cs : List Cell). Marks c.mark_run.new.flags cs) (sym (push_cells (take i runs) (get_or runs i none)) ∙ ap runs_cells (sym (take_more runs i none c.loop-run-test.true)))
+    subst (λ (cs : List Cell). Marks c.mark_run.new.flags cs) (sym (push_cells (take i runs) (get_or runs i none))
+    ∙ ap runs_cells (sym (take_more runs i none c.loop-run-test.true)))
     (c.mark_run.ensures (runs_cells (take i runs)) c.loop-run.invariant)

@@ -9,6 +9,7 @@ use Rattle.life_code.proofs.settled.later_parts.Given as goal
 
 abbrev pub invariant-loop-part : goal.invariant-loop-part
 invariant-loop-part g l = record {
-  cells : set.from_list l.cells.items ≡ union_of (map (λ P. generation_of l.rule P l.n) (parts_of (take l.part-index l.parts)));
+  cells : set.from_list l.cells.items
+      ≡ union_of (map (λ P. generation_of l.rule P l.n) (parts_of (take l.part-index l.parts)));
   inside : All (IsCellWithin 1000000000) l.cells.items;
 }

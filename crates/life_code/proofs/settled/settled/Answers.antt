@@ -13,7 +13,8 @@ later_parts-requires-clause-moving g c =
     subst (λ ms. All (IsMovingWithin 500000000 r) ms) (sym c.deref.ensures.value)
     (moving_within 500000000 r c.args.field.now c.in-Some.parts.items
     (subst (λ o. IfSome o (λ v. AreMoving r v.items)) c.in-Some.is c.in_ok-parts.ensures.moving)
-    (subst (λ o. IfSome o (λ v. union_of (parts_of v.items) ≡ c.args.field.now)) c.in-Some.is c.in_ok-parts.ensures.whole) c.requires.room)
+    (subst (λ o. IfSome o (λ v. union_of (parts_of v.items) ≡ c.args.field.now)) c.in-Some.is
+    c.in_ok-parts.ensures.whole) c.requires.room)
 
 pub returns-in-Some-clause-later : goal.returns-in-Some-clause-later
 returns-in-Some-clause-later g c =
@@ -21,6 +22,7 @@ returns-in-Some-clause-later g c =
     if_some c.later_parts.result _ (λ X. X ≡ generation_of r c.args.field.now c.args.n)
     (λ X is. settled_is r c.args.field.now X c.args.n c.in-Some.parts.items c.is_live_next-quiet.ensures.kept.quiet
     (subst (λ o. IfSome o (λ v. AreMoving r v.items)) c.in-Some.is c.in_ok-parts.ensures.moving)
-    (subst (λ o. IfSome o (λ v. union_of (parts_of v.items) ≡ c.args.field.now)) c.in-Some.is c.in_ok-parts.ensures.whole)
+    (subst (λ o. IfSome o (λ v. union_of (parts_of v.items) ≡ c.args.field.now)) c.in-Some.is
+    c.in_ok-parts.ensures.whole)
     (is ∙ ap (λ ms. union_of (map (λ P. generation_of r P c.args.n) (parts_of ms))) c.deref.ensures.value))
     c.later_parts.ensures

@@ -12,7 +12,8 @@ pub returns-in-Some : goal.returns-in-Some
 returns-in-Some g c =
     let r = c.args.rule.now in
     let later : c.in-Some.later ≡ generation_of r c.args.pattern.now c.args.n =
-    subst (λ o. IfSome o (λ X. X ≡ generation_of r c.args.pattern.now c.args.n)) c.in-Some.is c.in_ok-later.ensures.later in
+    subst (λ o. IfSome o (λ X. X ≡ generation_of r c.args.pattern.now c.args.n)) c.in-Some.is
+    c.in_ok-later.ensures.later in
     given_generation r c.args.pattern.now c.in-Some.later c.args.n (Ok c.in-Some.later) later refl
 
 pub repeated-requires-clause-room : goal.repeated-requires-clause-room
@@ -22,25 +23,33 @@ pub returns-in-Some-2 : goal.returns-in-Some-2
 returns-in-Some-2 g c =
     let r = c.args.rule.now in
     let later : c.in-Some-2.later ≡ generation_of r c.args.pattern.now c.args.n =
-    subst (λ o. IfSome o (λ X. X ≡ generation_of r c.args.pattern.now c.args.n)) c.in-Some-2.is c.in_ok-later-2.ensures in
+    subst (λ o. IfSome o (λ X. X ≡ generation_of r c.args.pattern.now c.args.n)) c.in-Some-2.is
+    c.in_ok-later-2.ensures in
     given_generation r c.args.pattern.now c.in-Some-2.later c.args.n (Ok c.in-Some-2.later) later refl
 
 pub look-requires-clause-room : goal.look-requires-clause-room
-look-requires-clause-room g c = here_room c.args.rule.now c.args.pattern.now _ c.requires.room c.loop-i.i (omega (arith, c.loop-i-test.true, c.requires.few)) c.loop-i.invariant.now
+look-requires-clause-room g c =
+    here_room c.args.rule.now c.args.pattern.now _ c.requires.room c.loop-i.i
+    (omega (arith, c.loop-i-test.true, c.requires.few)) c.loop-i.invariant.now
 
 pub returns-in-Some-3 : goal.returns-in-Some-3
 returns-in-Some-3 g c =
     let r = c.args.rule.now in
     let here = g.P.Plane.cells c.loop-i.plane in
     let later : c.in-Some-3.later ≡ generation_of r here (c.args.n - c.loop-i.i) =
-    subst (λ o. IfSome o (λ X. X ≡ generation_of r here (c.args.n - c.loop-i.i))) c.in-Some-3.is c.in_ok-later-3.ensures.later in
+    subst (λ o. IfSome o (λ X. X ≡ generation_of r here (c.args.n - c.loop-i.i))) c.in-Some-3.is
+    c.in_ok-later-3.ensures.later in
     given_generation r c.args.pattern.now c.in-Some-3.later c.args.n (Ok c.in-Some-3.later)
-    (rest_is r c.args.pattern.now here c.in-Some-3.later c.loop-i.i c.args.n c.loop-i-test.true c.loop-i.invariant.now later) refl
+    (rest_is r c.args.pattern.now here c.in-Some-3.later c.loop-i.i c.args.n c.loop-i-test.true
+    c.loop-i.invariant.now later) refl
 
 pub step-requires : goal.step-requires
-step-requires g c = room_at c.args.rule.now c.args.pattern.now _ c.requires.room c.loop-i.i (omega (arith, c.loop-i-test.true, c.requires.few)) c.loop-i.invariant.now
+step-requires g c =
+    room_at c.args.rule.now c.args.pattern.now _ c.requires.room c.loop-i.i
+    (omega (arith, c.loop-i-test.true, c.requires.few)) c.loop-i.invariant.now
 
 pub returns : goal.returns
 returns g c =
     let end : c.loop-i.i ≡ c.args.n = omega (arith, c.loop-i-test.false, c.loop-i.auto.i-end) in
-    given_generation c.args.rule.now c.args.pattern.now (g.P.Plane.cells c.loop-i.plane) c.args.n c.to_pattern.result (c.loop-i.invariant.now ∙ ap (generation_of c.args.rule.now c.args.pattern.now) end) c.to_pattern.ensures
+    given_generation c.args.rule.now c.args.pattern.now (g.P.Plane.cells c.loop-i.plane) c.args.n c.to_pattern.result
+    (c.loop-i.invariant.now ∙ ap (generation_of c.args.rule.now c.args.pattern.now) end) c.to_pattern.ensures

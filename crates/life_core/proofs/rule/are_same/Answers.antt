@@ -3,4 +3,8 @@ use Rattle.std.proofs.lemmas.List.{ext_get_or}
 use Rattle.life_core.proofs.rule.are_same.Goals as goal
 
 pub returns : goal.returns
-returns c = (λ t. ext_get_or false c.args.left.now c.args.right.now (omega arith) (λ k inside. c.loop-count.invariant k (omega (arith, inside, c.loop-count-test.false))), λ same. refl)
+returns c = (
+  λ t. ext_get_or false c.args.left.now c.args.right.now (omega arith)
+      (λ k inside. c.loop-count.invariant k (omega (arith, inside, c.loop-count-test.false))),
+  λ same. refl,
+)

@@ -10,7 +10,9 @@ abbrev none : Run
 none = record { row = pos 0; first = pos 0; len = 0 }
 
 pub returns-then-place-runs : goal.returns-then-place-runs
-returns-then-place-runs c = sym (all_behind c.args.runs.now c.args.cell (λ k d low. c.first_from-place.ensures.behind k d (omega (arith, low, c.if-place-runs.true))))
+returns-then-place-runs c =
+    sym (all_behind c.args.runs.now c.args.cell
+    (λ k d low. c.first_from-place.ensures.behind k d (omega (arith, low, c.if-place-runs.true))))
 
 pub returns : goal.returns
 returns c =
@@ -19,6 +21,8 @@ returns c =
     let low : i < length rs = below_end i (length rs) c.first_from-place.ensures.bound c.if-place-runs.false in
     c.has.ensures ∙ elim (cases_Bool (in_run (get_or rs i none) c.args.cell)) [
       | inl live ↦ live ∙ sym (in_any rs i none c.args.cell low ((in_run_is (get_or rs i none) c.args.cell).0 live))
-      | inr dead ↦ dead ∙ sym (not_before rs i none c.args.cell c.requires low c.first_from-place.ensures.behind (c.first_from-place.ensures.ahead i none (omega arith) low)
+      | inr dead ↦
+          dead ∙ sym (not_before rs i none c.args.cell c.requires low c.first_from-place.ensures.behind
+          (c.first_from-place.ensures.ahead i none (omega arith) low)
           (λ inside. false≢true (sym dead ∙ (in_run_is (get_or rs i none) c.args.cell).1 inside)))
     ]

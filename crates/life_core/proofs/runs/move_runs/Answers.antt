@@ -13,4 +13,5 @@ loop-run-preserved c =
     let none : Run = record { row = pos 0; first = pos 0; len = 0 } in
     let here : i < length runs = omega (arith, c.loop-run-test.true, c.loop-run.auto.runs) in
     ap (λ d. set runs i d) (c.moved.ensures ∙ ap f (get_or_default runs i _ none here))
-    ∙ map_over_more f c.args.runs.now runs i (get_or runs i none) c.loop-run-test.true c.loop-run.invariant (get_or_default runs i none _ here)
+    ∙ map_over_more f c.args.runs.now runs i (get_or runs i none) c.loop-run-test.true c.loop-run.invariant
+    (get_or_default runs i none _ here)

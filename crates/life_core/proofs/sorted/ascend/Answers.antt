@@ -7,4 +7,5 @@ use Rattle.life_core.proofs.sorted.ascend.Goals as goal
 pub returns : goal.returns
 returns c t =
     let none : Cell = record { row = pos 0; column = pos 0 } in
-    sorted_from_all_adjacent cell_cmp_total c.args.cells.now none (λ k below. c.loop-i.invariant k none (omega (arith, below, c.loop-i-test.false)))
+    sorted_from_all_adjacent cell_cmp_total c.args.cells.now none
+    (λ k below. c.loop-i.invariant k none (omega (arith, below, c.loop-i-test.false)))

@@ -9,5 +9,7 @@ returns-in-Some g c =
       transition = kept.transition;
       promised = search rules;
       healthy = search rules;
-      effect = λ A healthy m. csv_told A.deposits _ _ _ _ c.in-Some.is (kept.value A healthy m) c.csv_of.ensures (kept.same A healthy m);
+      effect =
+          λ A healthy m. csv_told A.deposits _ _ _ _ c.in-Some.is (kept.value A healthy m) c.csv_of.ensures
+          (kept.same A healthy m);
     }

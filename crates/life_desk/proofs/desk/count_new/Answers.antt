@@ -18,5 +18,7 @@ returns-clause-transition g c =
     let is : room ≡ true = search rules in
     let census = c.args.census.now in
     goes_last _ _ _
-    (λ clean db. room_for c.args.archive.now c.has_census_room.new.archive looked.transition.was_healthy looked.same db censuses (λ A. numbered A.deposits census.deposit ≡ Some c.args.deposit.now) census room c.in_ok-has_census_room.ensures.value is)
+    (λ clean db. room_for c.args.archive.now c.has_census_room.new.archive looked.transition.was_healthy
+    looked.same db censuses (λ A. numbered A.deposits census.deposit ≡ Some c.args.deposit.now)
+    census room c.in_ok-has_census_room.ensures.value is)
     looked.transition c.add_counted.ensures.transition

@@ -6,4 +6,9 @@ pub returns-in-Err-Memory-clause-transition : goal.returns-in-Err-Memory-clause-
 returns-in-Err-Memory-clause-transition g c = goes_none _
 
 pub returns : goal.returns
-returns g c = record { transition = goes_none _; promised = λ kept. absurd cc; healthy = inr (λ A. (search (rules), search (rules))); effect = search rules }
+returns g c = record {
+  transition = goes_none _;
+  promised = λ kept. absurd cc;
+  healthy = inr (λ A. (search (rules), search (rules)));
+  effect = search rules;
+}

@@ -15,11 +15,15 @@ returns-in_err-add_deposit-clause-transition g c =
     let looked = c.has_room.ensures in
     let room = c.in_ok-has_room.field-0 in
     let is : room ≡ true = search rules in
-    goes_last _ _ _ (λ clean db. room_for c.args.archive.now c.has_room.new.archive looked.transition.was_healthy looked.same db deposits (λ A. Unit {0}) c.args.deposit.now room c.in_ok-has_room.ensures.value is) looked.transition c.add_deposit.ensures.transition
+    goes_last _ _ _ (λ clean db. room_for c.args.archive.now c.has_room.new.archive looked.transition.was_healthy
+    looked.same db deposits (λ A. Unit {0}) c.args.deposit.now room c.in_ok-has_room.ensures.value is)
+    looked.transition c.add_deposit.ensures.transition
 
 pub returns-clause-transition : goal.returns-clause-transition
 returns-clause-transition g c =
     let looked = c.has_room.ensures in
     let room = c.in_ok-has_room.field-0 in
     let is : room ≡ true = search rules in
-    goes_last _ _ _ (λ clean db. room_for c.args.archive.now c.has_room.new.archive looked.transition.was_healthy looked.same db deposits (λ A. Unit {0}) c.args.deposit.now room c.in_ok-has_room.ensures.value is) looked.transition c.add_deposit.ensures.transition
+    goes_last _ _ _ (λ clean db. room_for c.args.archive.now c.has_room.new.archive looked.transition.was_healthy
+    looked.same db deposits (λ A. Unit {0}) c.args.deposit.now room c.in_ok-has_room.ensures.value is)
+    looked.transition c.add_deposit.ensures.transition

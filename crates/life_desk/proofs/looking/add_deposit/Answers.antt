@@ -13,4 +13,5 @@ pub returns-clause-err : goal.returns-clause-err
 returns-clause-err g c = err_still _ _ _ c.add_deposit.ensures.transition c.add_deposit.ensures.err
 
 pub returns-clause-transition : goal.returns-clause-transition
-returns-clause-transition g c = goes_as _ _ (λ clean. trees_deposit c.args.archive.now c.args.deposit.now) c.add_deposit.ensures.transition
+returns-clause-transition g c =
+    goes_as _ _ (λ clean. trees_deposit c.args.archive.now c.args.deposit.now) c.add_deposit.ensures.transition

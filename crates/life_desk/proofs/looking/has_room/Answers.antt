@@ -9,5 +9,7 @@ returns g c =
       transition = counted.transition;
       healthy = counted.healthy;
       same = counted.same;
-      value = λ A healthy m. room_is _ _ _ _ _ (counted.value A healthy m) (c.capacity.ensures ∙ capacity_of _ A (counted.same A healthy m)) refl;
+      value =
+          λ A healthy m. room_is _ _ _ _ _ (counted.value A healthy m)
+          (c.capacity.ensures ∙ capacity_of _ A (counted.same A healthy m)) refl;
     }

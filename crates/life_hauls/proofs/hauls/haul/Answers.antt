@@ -14,13 +14,17 @@ use Rattle.life_hauls.proofs.hauls.haul.Goals as goal
 
 pub loop-i-init : goal.loop-i-init
 loop-i-init g c = record {
-  counted = c.none-haul.ensures ∙ sym (no-soups (soup_codes c.args.symmetry c.args.root.now c.args.rule.now c.args.n c.args.limit));
+  counted =
+      c.none-haul.ensures
+      ∙ sym (no-soups (soup_codes c.args.symmetry c.args.root.now c.args.rule.now c.args.n c.args.limit));
   names = c.new-names.ensures;
 }
 
 pub count_soup-requires : goal.count_soup-requires
 count_soup-requires g c =
-    subst (λ (h : HaulCounts). IsSorted h.rows) (sym c.loop-i.invariant.counted) (sorted-haul (soup_codes c.args.symmetry c.args.root.now c.args.rule.now c.args.n c.args.limit) (range_with_len c.args.first c.loop-i.i))
+    subst (λ (h : HaulCounts). IsSorted h.rows) (sym c.loop-i.invariant.counted)
+    (sorted-haul (soup_codes c.args.symmetry c.args.root.now c.args.rule.now c.args.n c.args.limit)
+    (range_with_len c.args.first c.loop-i.i))
 
 pub loop-i-preserved : goal.loop-i-preserved
 loop-i-preserved g c =
@@ -30,7 +34,9 @@ loop-i-preserved g c =
     let ns = range_with_len c.args.first c.loop-i.i in
     let i = c.args.first + c.loop-i.i in
     let names = c.forget.ensures ∙ c.loop-i.invariant.names in
-    let codes = c.deref.ensures.value ∙ c.in_ok-codes.ensures.codes ∙ ap (λ (v : Naming). map (λ P. code_of v.rule P v.limit) (clusters_of (generation_of rule (soup_of c.args.symmetry root i) c.args.n))) names in
+    let codes = c.deref.ensures.value ∙ c.in_ok-codes.ensures.codes
+    ∙ ap (λ (v : Naming). map (λ P. code_of v.rule P v.limit)
+    (clusters_of (generation_of rule (soup_of c.args.symmetry root i) c.args.n))) names in
     record {
       counted =
           c.in_ok-count_soup.ensures
@@ -44,4 +50,5 @@ loop-i-preserved g c =
 pub returns : goal.returns
 returns g c =
     let end : c.loop-i.i ≡ c.args.count = omega (arith, c.loop-i-test.false, c.loop-i.auto.i-end) in
-    c.loop-i.invariant.counted ∙ ap (λ k. counts_over (soup_codes c.args.symmetry c.args.root.now c.args.rule.now c.args.n c.args.limit) (range_with_len c.args.first k)) end
+    c.loop-i.invariant.counted ∙ ap (λ k. counts_over (soup_codes c.args.symmetry c.args.root.now
+    c.args.rule.now c.args.n c.args.limit) (range_with_len c.args.first k)) end

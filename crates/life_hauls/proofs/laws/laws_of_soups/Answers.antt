@@ -1,4 +1,5 @@
-use Rattle.life_hauls.proofs.SoupLaws.{names_are_read, names_are_one, bits_are_cells, mirrors_keep_soups, soups_are_fields}
+use Rattle.life_hauls.proofs.SoupLaws.{names_are_read, names_are_one, bits_are_cells, mirrors_keep_soups}
+use Rattle.life_hauls.proofs.SoupLaws.{soups_are_fields}
 use Rattle.life_hauls.proofs.laws.laws_of_soups.Goals as goal
 
 pub returns-clause-names : goal.returns-clause-names

@@ -20,7 +20,9 @@ loop-index-preserved g c =
             ∙ ap (λ (cs : List Cell). cs ++ w.field_cell.result ∷ []) before.cells
             ∙ ap (λ (x : Cell). live_cells width bytes n ++ x ∷ []) w.field_cell.ensures.cell
             ∙ sym (live-yes width bytes n (sym c.bit_at.ensures ∙ w.if-bit_at.true)));
-        inside = rw w.cells-is (subst (All (IsCellWithin 255)) (sym w.in_ok-push.ensures.items) (All-push (IsCellWithin 255) c.loop-index.cells.items w.field_cell.result before.inside w.field_cell.ensures.inside));
+        inside =
+            rw w.cells-is (subst (All (IsCellWithin 255)) (sym w.in_ok-push.ensures.items) (All-push (IsCellWithin 255)
+            c.loop-index.cells.items w.field_cell.result before.inside w.field_cell.ensures.inside));
       }
       | else-bit_at w ↦ record {
         cells = rw w.cells-is (before.cells ∙ sym (live-no width bytes n (sym c.bit_at.ensures ∙ w.if-bit_at.false)));

@@ -5,4 +5,6 @@ use Rattle.life_hauls.specs.Table.{line}
 use Rattle.life_hauls.proofs.table.put_rows.Given as goal
 
 abbrev pub invariant-loop-row : goal.invariant-loop-row
-invariant-loop-row g l = l.out.items ++ flat_map line (map row_seen (drop l.row-index l.rows)) ≡ l.initial.out.items ++ flat_map line (map row_seen l.rows)
+invariant-loop-row g l =
+    l.out.items ++ flat_map line (map row_seen (drop l.row-index l.rows))
+    ≡ l.initial.out.items ++ flat_map line (map row_seen l.rows)

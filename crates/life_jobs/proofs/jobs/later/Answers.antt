@@ -6,10 +6,13 @@ use Rattle.life_jobs.proofs.jobs.later.Goals as goal
 
 pub into_plain-requires : goal.into_plain-requires
 into_plain-requires c =
-    let inside = subst (λ (X : Cells). IsWithin (1024 - 1) X) (sym (ap (λ (r : Contents). r.cells) c.record.view_is)) c.requires.inside in
+    let inside = subst (λ (X : Cells). IsWithin (1024 - 1) X)
+    (sym (ap (λ (r : Contents). r.cells) c.record.view_is)) c.requires.inside in
     within_more (1024 - 1) 500000000 _ (omega arith) inside
 
 pub into_plain-requires-2 : goal.into_plain-requires-2
 into_plain-requires-2 c =
-    let inside = subst (λ (X : Cells). IsWithin (1024 - 1) X) (sym (ap (λ (r : Contents). r.cells) c.record.view_is)) c.requires.inside in
-    within_more ((1024 - 1) + c.args.n) 500000000 _ (omega (arith, c.requires.few)) (c.in_ok-cells.ensures.grown (1024 - 1) inside)
+    let inside = subst (λ (X : Cells). IsWithin (1024 - 1) X)
+    (sym (ap (λ (r : Contents). r.cells) c.record.view_is)) c.requires.inside in
+    within_more ((1024 - 1) + c.args.n) 500000000 _ (omega (arith, c.requires.few))
+    (c.in_ok-cells.ensures.grown (1024 - 1) inside)

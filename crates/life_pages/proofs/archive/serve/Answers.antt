@@ -6,20 +6,26 @@ use Rattle.life_pages.proofs.archive.serve.Goals as goal
 
 pub returns-clause-served : goal.returns-clause-served
 returns-clause-served g c =
-    archive_served g.S.Store g.I.Inlet g.O.Outlet c.args.archive.now c.serve_desk.new.desk c.args.input.now c.serve_desk.new.input
+    archive_served g.S.Store g.I.Inlet g.O.Outlet c.args.archive.now c.serve_desk.new.desk
+    c.args.input.now c.serve_desk.new.input
     c.args.output.now c.serve_desk.new.output c.serve_desk.result c.serve_desk.ensures.served
 
 pub returns-clause-crash : goal.returns-clause-crash
-returns-clause-crash g c = served_safely g.S.Store _ c.args.archive.now c.serve_desk.new.desk _ _ c.law_of_crashes.ensures c.serve_desk.ensures.served.some
+returns-clause-crash g c =
+    served_safely g.S.Store _ c.args.archive.now c.serve_desk.new.desk _ _ c.law_of_crashes.ensures
+    c.serve_desk.ensures.served.some
 
 pub returns-clause-headline : goal.returns-clause-headline
 returns-clause-headline g c =
-    headline_all g.S.Store c.law_of_the_archive.ensures (g.I.Inlet.to_come c.args.input.now) c.args.archive.now c.serve_desk.new.desk
-    (g.O.Outlet.already c.args.output.now) (g.O.Outlet.already c.serve_desk.new.output) c.serve_desk.result (returns-clause-served g c).known
+    headline_all g.S.Store c.law_of_the_archive.ensures
+    (g.I.Inlet.to_come c.args.input.now) c.args.archive.now c.serve_desk.new.desk
+    (g.O.Outlet.already c.args.output.now) (g.O.Outlet.already c.serve_desk.new.output) c.serve_desk.result
+    (returns-clause-served g c).known
 
 pub returns-clause-headlines : goal.returns-clause-headlines
 returns-clause-headlines g c =
-    headline_first g.S.Store c.law_of_the_archive.ensures (g.I.Inlet.to_come c.args.input.now) c.args.archive.now c.serve_desk.new.desk
+    headline_first g.S.Store c.law_of_the_archive.ensures
+    (g.I.Inlet.to_come c.args.input.now) c.args.archive.now c.serve_desk.new.desk
     (g.O.Outlet.already c.args.output.now) (g.O.Outlet.already c.serve_desk.new.output) (returns-clause-served g c).some
 
 pub returns-clause-own_refusals : goal.returns-clause-own_refusals
@@ -29,10 +35,13 @@ returns-clause-own_refusals g c =
 
 pub returns-clause-steps : goal.returns-clause-steps
 returns-clause-steps g c =
-    first_answered g.S.Store c.args.archive.now c.serve_desk.new.desk c.law_of_crashes.ensures (g.I.Inlet.to_come c.args.input.now)
+    first_answered g.S.Store c.args.archive.now c.serve_desk.new.desk c.law_of_crashes.ensures
+    (g.I.Inlet.to_come c.args.input.now)
     (g.O.Outlet.already c.args.output.now) (g.O.Outlet.already c.serve_desk.new.output) c.serve_desk.ensures.served.some
 
 pub returns-clause-whole : goal.returns-clause-whole
 returns-clause-whole g c =
-    all_answered g.S.Store c.args.archive.now c.serve_desk.new.desk c.law_of_crashes.ensures (g.I.Inlet.to_come c.args.input.now)
-    (g.O.Outlet.already c.args.output.now) (g.O.Outlet.already c.serve_desk.new.output) c.serve_desk.result c.serve_desk.ensures.served.known
+    all_answered g.S.Store c.args.archive.now c.serve_desk.new.desk c.law_of_crashes.ensures
+    (g.I.Inlet.to_come c.args.input.now)
+    (g.O.Outlet.already c.args.output.now)
+    (g.O.Outlet.already c.serve_desk.new.output) c.serve_desk.result c.serve_desk.ensures.served.known

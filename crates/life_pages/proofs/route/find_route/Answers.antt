@@ -3,7 +3,9 @@ use Rattle.life_pages.proofs.RouteFinding.{finds}
 use Rattle.life_pages.proofs.route.find_route.Goals as goal
 
 pub read_route-requires : goal.read_route-requires
-read_route-requires c = rw (c.iter.ensures.value, c.in-Ok.ensures.path) (finds _ _ _ c.utf8.path c.requires c.in-Ok.ensures.found).gives.are_texts
+read_route-requires c =
+    rw (c.iter.ensures.value, c.in-Ok.ensures.path)
+    (finds _ _ _ c.utf8.path c.requires c.in-Ok.ensures.found).gives.are_texts
 
 pub returns-in-Ok : goal.returns-in-Ok
 returns-in-Ok c =

@@ -3,13 +3,25 @@ use Rattle.life_pages.proofs.ServingRunning.{went_then, went_ended, went_cut, we
 use Rattle.life_pages.proofs.serving.serve_held.Goals as goal
 
 pub held-init : goal.held-init
-held-init g c = record { went = went_none _ _ _ _; room = omega arith; buffers = c.requires.buffers; count = refl; below = c.requires.below }
+held-init g c = record {
+  went = went_none _ _ _ _;
+  room = omega arith;
+  buffers = c.requires.buffers;
+  count = refl;
+  below = c.requires.below;
+}
 
 pub held-preserved : goal.held-preserved
 held-preserved g c =
     let s = rw c.in-Ok-Goes.field-0-is at c.in-Ok-Goes.ensures.step in
     let r = c.serve_one.ensures.room in
-    record { went = went_then _ _ _ _ _ _ _ _ _ _ c.held.invariant.went s.0; room = omega arith; buffers = c.serve_one.ensures.buffers; count = c.in-Ok-Goes.ensures.count ∙ c.held.invariant.count; below = c.serve_one.ensures.below }
+    record {
+      went = went_then _ _ _ _ _ _ _ _ _ _ c.held.invariant.went s.0;
+      room = omega arith;
+      buffers = c.serve_one.ensures.buffers;
+      count = c.in-Ok-Goes.ensures.count ∙ c.held.invariant.count;
+      below = c.serve_one.ensures.below;
+    }
 
 pub held-smaller : goal.held-smaller
 held-smaller g c = let s = rw c.in-Ok-Goes.field-0-is at c.in-Ok-Goes.ensures.step in s.1

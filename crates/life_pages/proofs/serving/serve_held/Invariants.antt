@@ -14,7 +14,8 @@ pub record Serving (w r d f b : Type 0) : Type 0 where
 
 abbrev pub invariant-held : goal.invariant-held
 invariant-held g l = Serving
-    (Went (AnswersMessage g.D.Desk.answers) l.fn.held.items l.held.items l.fn.desk l.desk (g.O.Outlet.already l.fn.output) (g.O.Outlet.already l.output))
+    (Went (AnswersMessage g.D.Desk.answers) l.fn.held.items l.held.items l.fn.desk l.desk
+    (g.O.Outlet.already l.fn.output) (g.O.Outlet.already l.output))
     (vec_capacity l.fn.held ≤ vec_capacity l.held)
     (HasRoom l.buffers)
     (g.O.Outlet.failures l.output ≡ g.O.Outlet.failures l.fn.output)

@@ -13,8 +13,11 @@ some_first : (len body : ℕ) → 0 < len → 0 < len + body
 some_first len body some = omega arith
 
 pub returns-then-len-wanted-clause-step : goal.returns-then-len-wanted-clause-step
-returns-then-len-wanted-clause-step g c =
-    (went_none _ _ _ _, wants_now c.args.wanted.now c.args.held.now.items c.requires.below (omega (arith, c.if-len-wanted.true, c.len.ensures)))
+returns-then-len-wanted-clause-step g c = (
+  went_none _ _ _ _,
+  wants_now c.args.wanted.now c.args.held.now.items c.requires.below
+      (omega (arith, c.if-len-wanted.true, c.len.ensures)),
+)
 
 pub returns-in-More-clause-step : goal.returns-in-More-clause-step
 returns-in-More-clause-step g c =
@@ -40,20 +43,29 @@ pub returns-in-Err-put_all-clause-step : goal.returns-in-Err-put_all-clause-step
 returns-in-Err-put_all-clause-step g c =
     let p = rw c.deref-2.ensures.value at c.in-Err-put_all.ensures.some in
     let n = rw c.deref.ensures.value at c.in-Whole.ensures in
-    let a = rw (c.deref-in-Whole.ensures.value, between c.in-Whole.head.len c.in-Whole.head.body) at c.answer_message.ensures.answered in
+    let a = rw (
+      c.deref-in-Whole.ensures.value,
+      between c.in-Whole.head.len c.in-Whole.head.body,
+    ) at c.answer_message.ensures.answered in
     cut_one _ _ _ _ _ _ _ _ _ _ n.2 a p
 
 pub returns-then-closes-clause-step : goal.returns-then-closes-clause-step
 returns-then-closes-clause-step g c =
     let n = rw c.deref.ensures.value at c.in-Whole.ensures in
-    let a = rw (c.deref-in-Whole.ensures.value, between c.in-Whole.head.len c.in-Whole.head.body) at c.answer_message.ensures.answered in
+    let a = rw (
+      c.deref-in-Whole.ensures.value,
+      between c.in-Whole.head.len c.in-Whole.head.body,
+    ) at c.answer_message.ensures.answered in
     let p = rw c.deref-2.ensures.value at c.in_default.ensures.all in
     ended_one _ _ _ _ _ _ _ _ _ _ n.2 c.if-closes.true a p
 
 pub returns-clause-step : goal.returns-clause-step
 returns-clause-step g c =
     let n = rw c.deref.ensures.value at c.in-Whole.ensures in
-    let a = rw (c.deref-in-Whole.ensures.value, between c.in-Whole.head.len c.in-Whole.head.body) at c.answer_message.ensures.answered in
+    let a = rw (
+      c.deref-in-Whole.ensures.value,
+      between c.in-Whole.head.len c.in-Whole.head.body,
+    ) at c.answer_message.ensures.answered in
     let p = rw c.deref-2.ensures.value at c.in_default.ensures.all in
     let less = shorter c.args.held.now.items (c.in-Whole.head.len + c.in-Whole.head.body) (some_first _ _ n.1) n.0 in
     let went = went_one _ _ _ _ _ _ _ _ _ _ n.2 c.if-closes.false a p in

@@ -25,7 +25,8 @@ pub record Going (r m t f p h d i o b n l e : Type 0) : Type 0 where
 
 abbrev pub invariant-takes : goal.invariant-takes
 invariant-takes g l = Going
-    (Reading (AnswersMessage g.D.Desk.answers) (g.I.Inlet.to_come l.fn.input) (g.I.Inlet.to_come l.input) l.ready.held.items l.fn.desk l.desk (g.O.Outlet.already l.fn.output) (g.O.Outlet.already l.output))
+    (Reading (AnswersMessage g.D.Desk.answers) (g.I.Inlet.to_come l.fn.input) (g.I.Inlet.to_come l.input)
+    l.ready.held.items l.fn.desk l.desk (g.O.Outlet.already l.fn.output) (g.O.Outlet.already l.output))
     (LosesAtLeast l.taken (g.I.Inlet.to_come l.fn.input) (g.I.Inlet.to_come l.input))
     (LosesUpTo (l.taken * most_taken) (g.I.Inlet.to_come l.fn.input) (g.I.Inlet.to_come l.input))
     (l.taken ≤ most_takes)
@@ -36,7 +37,9 @@ invariant-takes g l = Going
     (g.O.Outlet.failures l.output ≡ g.O.Outlet.failures l.fn.output)
     (WantsUntil l.ready.wanted l.ready.held.items)
     (g.I.Inlet.takes l.input ≤ g.I.Inlet.takes l.fn.input + l.taken)
-    (Reached (AnswersMessage g.D.Desk.answers) (g.I.Inlet.to_come l.fn.input) (g.I.Inlet.to_come l.input) (g.I.Inlet.last_take l.input) l.ready.held.items l.fn.desk l.desk (g.O.Outlet.already l.fn.output) (g.O.Outlet.already l.output))
+    (Reached (AnswersMessage g.D.Desk.answers) (g.I.Inlet.to_come l.fn.input) (g.I.Inlet.to_come l.input)
+    (g.I.Inlet.last_take l.input) l.ready.held.items l.fn.desk l.desk (g.O.Outlet.already l.fn.output)
+    (g.O.Outlet.already l.output))
     (g.I.Inlet.ends l.input ≡ g.I.Inlet.ends l.fn.input)
 
 abbrev pub decreases-takes : goal.decreases-takes

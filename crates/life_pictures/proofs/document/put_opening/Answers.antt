@@ -6,5 +6,7 @@ use Rattle.life_pictures.proofs.document.put_opening.Goals as goal
 
 pub returns : goal.returns
 returns g c =
-    three_parts c.args.out.now.items _ _ _ (with_number (codes "<svg xmlns=\"http://www.w3.org/2000/svg\" viewBox=\"-1 -1 ") (c.args.extent.width + 2)) (with_number (codes " ") (c.args.extent.height + 2)) (codes "\" shape-rendering=\"crispEdges\">\n")
+    three_parts c.args.out.now.items _ _ _
+    (with_number (codes "<svg xmlns=\"http://www.w3.org/2000/svg\" viewBox=\"-1 -1 ") (c.args.extent.width + 2))
+    (with_number (codes " ") (c.args.extent.height + 2)) (codes "\" shape-rendering=\"crispEdges\">\n")
     c.in_ok-put_numbered.ensures c.in_ok-put_numbered-2.ensures c.in_ok-extend_from_slice.ensures.items

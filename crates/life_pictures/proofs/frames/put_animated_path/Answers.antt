@@ -11,12 +11,17 @@ pub returns : goal.returns
 returns g c =
     let X = c.args.start.now in
     let at = c.args.at in
-    let first : c.put_frame.new.out.items ≡ frame at X = c.in_ok-put_frame.ensures ∙ ap (λ text. text ++ frame at X) c.new-first.ensures.items in
-    seven_parts c.args.out.now.items _ _ _ (codes "<path d=\"") (frame at X) (with_number (codes "\"><animate attributeName=\"d\" calcMode=\"discrete\" dur=\"") (125 * (length c.args.later.now + 1)))
+    let first : c.put_frame.new.out.items ≡ frame at X = c.in_ok-put_frame.ensures
+    ∙ ap (λ text. text ++ frame at X) c.new-first.ensures.items in
+    seven_parts c.args.out.now.items _ _ _ (codes "<path d=\"") (frame at X) (with_number
+    (codes "\"><animate attributeName=\"d\" calcMode=\"discrete\" dur=\"") (125 * (length c.args.later.now + 1)))
     c.in_ok-extend_from_slice.ensures.items
-    (c.in_ok-extend_from_slice-2.ensures.items ∙ ap (λ text. c.extend_from_slice.new.self.items ++ text) (c.deref.ensures.value ∙ first))
+    (c.in_ok-extend_from_slice-2.ensures.items
+    ∙ ap (λ text. c.extend_from_slice.new.self.items ++ text) (c.deref.ensures.value ∙ first))
     c.in_ok-put_numbered.ensures
-    _ _ _ _ (codes "ms\" repeatCount=\"indefinite\" values=\"") (frame at X) (flat_map (λ (Y : Cells). codes ";" ++ frame at Y) c.args.later.now) (codes "\"/></path>\n")
+    _ _ _ _ (codes "ms\" repeatCount=\"indefinite\" values=\"") (frame at X)
+    (flat_map (λ (Y : Cells). codes ";" ++ frame at Y) c.args.later.now) (codes "\"/></path>\n")
     c.in_ok-extend_from_slice-3.ensures.items
-    (c.in_ok-extend_from_slice-4.ensures.items ∙ ap (λ text. c.extend_from_slice-3.new.self.items ++ text) (c.deref-2.ensures.value ∙ first))
+    (c.in_ok-extend_from_slice-4.ensures.items
+    ∙ ap (λ text. c.extend_from_slice-3.new.self.items ++ text) (c.deref-2.ensures.value ∙ first))
     c.in_ok-put_frames.ensures c.in_ok-extend_from_slice-5.ensures.items

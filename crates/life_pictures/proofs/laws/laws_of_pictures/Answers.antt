@@ -5,4 +5,12 @@ use Rattle.life_pictures.proofs.TitleLemmas.{names_stay_text}
 use Rattle.life_pictures.proofs.laws.laws_of_pictures.Goals as goal
 
 pub returns : goal.returns
-returns c = record { dead = dead_are_left_out; ends = lines_end_live; cells = runs_are_the_cells; longest = runs_are_longest; names = names_stay_text; framed = frames_are_in_the_box; most = refl }
+returns c = record {
+  dead = dead_are_left_out;
+  ends = lines_end_live;
+  cells = runs_are_the_cells;
+  longest = runs_are_longest;
+  names = names_stay_text;
+  framed = frames_are_in_the_box;
+  most = refl;
+}

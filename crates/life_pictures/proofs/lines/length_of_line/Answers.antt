@@ -21,4 +21,5 @@ loop-length-preserved g c = record {
 pub returns-clause-trimmed : goal.returns-clause-trimmed
 returns-clause-trimmed g c =
     let left : c.loop-length.length ≡ 0 = omega (arith, c.loop-length-test.false) in
-    c.loop-length.invariant.trimmed ∙ ap (λ n. cells_of_line c.args.pattern.now n c.args.i) left ∙ none (two_cells c.args.pattern.now c.args.i)
+    c.loop-length.invariant.trimmed ∙ ap (λ n. cells_of_line c.args.pattern.now n c.args.i) left
+    ∙ none (two_cells c.args.pattern.now c.args.i)

@@ -5,4 +5,5 @@ use Rattle.life_pictures.specs.RunsState.{drawn}
 use Rattle.life_pictures.proofs.runs.put_path.Given as goal
 
 abbrev pub invariant-loop-run : goal.invariant-loop-run
-invariant-loop-run g l = l.out.items ≡ l.initial.out.items ++ flat_map run_path (map drawn (take l.run-index l.run-items))
+invariant-loop-run g l =
+    l.out.items ≡ l.initial.out.items ++ flat_map run_path (map drawn (take l.run-index l.run-items))

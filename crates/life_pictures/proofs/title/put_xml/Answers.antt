@@ -13,6 +13,8 @@ map_same (c ∷ cs) = ap (λ ds. c ∷ ds) (map_same cs)
 pub returns : goal.returns
 unfolding xml_text
 returns g c =
-    let all = YieldsList-end (YieldsList-from_chars c.deref.result.now c.deref.utf8 cc) c.loop-c.yielded _ c.loop-c.yielded_by _ _ c.in-None.is c.next.ensures.steps in
+    let all = YieldsList-end (YieldsList-from_chars c.deref.result.now c.deref.utf8 cc) c.loop-c.yielded
+    _ c.loop-c.yielded_by _ _ c.in-None.is c.next.ensures.steps in
     c.loop-c.invariant
-    ∙ ap (λ cs. c.args.out.now.items ++ flat_map escaped cs) (sym (map_same c.loop-c.yielded) ∙ all.0 ∙ ap chars (c.deref.ensures ∙ c.in_ok-text.ensures.lossy))
+    ∙ ap (λ cs. c.args.out.now.items ++ flat_map escaped cs)
+    (sym (map_same c.loop-c.yielded) ∙ all.0 ∙ ap chars (c.deref.ensures ∙ c.in_ok-text.ensures.lossy))

@@ -2,4 +2,9 @@ use Rattle.life_rle.proofs.LawsCuts.{lines_are_the_file, items_are_the_body, run
 use Rattle.life_rle.proofs.laws.laws_of_lines_and_runs.Goals as goal
 
 pub returns : goal.returns
-returns c = record { lines = lines_are_the_file; items = items_are_the_body; runs = runs_are_longest; headers = headers_give_the_box }
+returns c = record {
+  lines = lines_are_the_file;
+  items = items_are_the_body;
+  runs = runs_are_longest;
+  headers = headers_give_the_box;
+}

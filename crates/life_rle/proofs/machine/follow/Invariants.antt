@@ -14,7 +14,10 @@ pub record IsFollowing (Told Sound Few Unfailed Unended : Type 0) (taken : ℕ) 
 
 abbrev pub invariant-loop-taken : goal.invariant-loop-taken
 invariant-loop-taken g l =
-    IsFollowing (Followed (g.I.Inlet.to_come l.initial.inlet) (g.I.Inlet.to_come l.inlet) l.machine l.taken) (IsSound l.machine) (LosesUpTo l.taken (g.I.Inlet.to_come l.initial.inlet) (g.I.Inlet.to_come l.inlet)) (g.I.Inlet.failures l.inlet ≡ g.I.Inlet.failures l.initial.inlet) (g.I.Inlet.ends l.inlet ≡ g.I.Inlet.ends l.initial.inlet) l.taken
+    IsFollowing (Followed (g.I.Inlet.to_come l.initial.inlet) (g.I.Inlet.to_come l.inlet) l.machine l.taken)
+    (IsSound l.machine) (LosesUpTo l.taken (g.I.Inlet.to_come l.initial.inlet) (g.I.Inlet.to_come l.inlet))
+    (g.I.Inlet.failures l.inlet ≡ g.I.Inlet.failures l.initial.inlet)
+    (g.I.Inlet.ends l.inlet ≡ g.I.Inlet.ends l.initial.inlet) l.taken
 
 abbrev pub decreases-loop-taken : goal.decreases-loop-taken
 decreases-loop-taken g l = 1048577 - l.taken

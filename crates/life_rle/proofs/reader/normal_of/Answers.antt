@@ -10,7 +10,11 @@ pub from_runs-requires : goal.from_runs-requires
 from_runs-requires g c = cells_within PLANE (lit< tt) c.args.cells c.requires
 
 pub into_normal-requires : goal.into_normal-requires
-into_normal-requires g c = subst (λ (X : Cells). IsWithin 500000000 X) (sym c.in_ok-from_runs.ensures) (set_within 500000000 (lit< tt) c.args.cells c.requires)
+into_normal-requires g c =
+    subst (λ (X : Cells). IsWithin 500000000 X) (sym c.in_ok-from_runs.ensures)
+    (set_within 500000000 (lit< tt) c.args.cells c.requires)
 
 pub returns : goal.returns
-returns g c = c.into_normal.ensures ∙ ap normal c.in_ok-from_runs.ensures ∙ ap (λ cs. normal (set.from_list cs)) (sym (placed_back c.args.cells c.requires))
+returns g c =
+    c.into_normal.ensures ∙ ap normal c.in_ok-from_runs.ensures
+    ∙ ap (λ cs. normal (set.from_list cs)) (sym (placed_back c.args.cells c.requires))

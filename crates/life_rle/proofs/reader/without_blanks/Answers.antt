@@ -1,4 +1,5 @@
-use Rattle.std.proofs.Common.{◌≡◌, ℕ, Bool, ◌+◌, ◌<◌, cond, not, List, [], ◌∷◌, ◌++◌, length, take, get_or, ap, sym, ◌∙◌, append-nil}
+use Rattle.std.proofs.Common.{◌≡◌, ℕ, Bool, ◌+◌, ◌<◌, cond, not, List, [], ◌∷◌, ◌++◌, length, take, get_or, ap, sym}
+use Rattle.std.proofs.Common.{◌∙◌, append-nil}
 use Rattle.std.proofs.lemmas.List.Elements.{filter_more}
 use Rattle.life_core.specs.RuleText.{is_blank, without_blanks}
 use Rattle.life_rle.proofs.reader.without_blanks.Goals as goal
@@ -17,7 +18,8 @@ loop-byte-preserved g c =
     elim c.if-not-is_blank.branch [
       | then-not-is_blank+in_ok-push w ↦
           ap (λ v. v.items) w.text-is ∙ w.in_ok-push.ensures.items
-          ∙ ap (λ text. text ++ byte ∷ []) c.loop-byte.invariant ∙ next _ i _ c.loop-byte-test.true (blank ∙ w.if-not-is_blank.true)
+          ∙ ap (λ text. text ++ byte ∷ []) c.loop-byte.invariant
+          ∙ next _ i _ c.loop-byte-test.true (blank ∙ w.if-not-is_blank.true)
       | else-not-is_blank w ↦
           ap (λ v. v.items) w.text-is ∙ c.loop-byte.invariant
           ∙ sym (append-nil _) ∙ next _ i _ c.loop-byte-test.true (blank ∙ w.if-not-is_blank.false)

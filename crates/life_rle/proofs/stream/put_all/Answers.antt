@@ -10,4 +10,8 @@ pub puts-preserved : goal.puts-preserved
 puts-preserved g c =
     let more = gains_on _ _ _ c.args.bytes.now c.puts.at _ c.puts.invariant.gained c.in-Ok.ensures.bytes in
     let in_slice = rw (rest_from c.args.bytes.now c.puts.at) at c.in-Ok.ensures.within in
-    record { within = grind (arith, common_steps, in_slice); gained = more; count = c.in-Ok.ensures.count ∙ c.puts.invariant.count }
+    record {
+      within = grind (arith, common_steps, in_slice);
+      gained = more;
+      count = c.in-Ok.ensures.count ∙ c.puts.invariant.count;
+    }

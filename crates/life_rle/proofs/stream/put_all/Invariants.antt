@@ -8,7 +8,9 @@ pub record Putting (at : ℕ) (bytes : List ℕ) (gains : Type 0) (kept : Type 0
   pub count : kept
 
 abbrev pub invariant-puts : goal.invariant-puts
-invariant-puts g l = Putting l.at l.bytes (Gains (g.O.Outlet.already l.fn.output) (g.O.Outlet.already l.output) (take l.at l.bytes)) (g.O.Outlet.failures l.output ≡ g.O.Outlet.failures l.fn.output)
+invariant-puts g l =
+    Putting l.at l.bytes (Gains (g.O.Outlet.already l.fn.output) (g.O.Outlet.already l.output) (take l.at l.bytes))
+    (g.O.Outlet.failures l.output ≡ g.O.Outlet.failures l.fn.output)
 
 abbrev pub decreases-puts : goal.decreases-puts
 decreases-puts g l = length l.bytes - l.at

@@ -14,4 +14,5 @@ loop-text-preserved g c =
     ∙ ap (λ out. out ++ comment_line c.text-item.result) c.loop-text.invariant
     ∙ flat_map_more comment_line before (take i texts) c.text-item.result
     ∙ ap (λ text. before ++ flat_map comment_line (take i texts ++ text ∷ [])) c.text-item.is
-    ∙ ap (λ front. before ++ flat_map comment_line front) (sym (take_more texts i c.text-item.result c.loop-text-test.true))
+    ∙ ap (λ front. before ++ flat_map comment_line front)
+    (sym (take_more texts i c.text-item.result c.loop-text-test.true))

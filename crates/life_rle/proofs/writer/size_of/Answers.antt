@@ -12,6 +12,8 @@ loop-run-preserved c =
     let r = get_or runs i none in
     let width : c.max-width.result ≡ max c.loop-run.width (column_of r + r.len) = search rules in
     let height : c.max-height.result ≡ max c.loop-run.height (row_of r + 1) = search rules in (
-      width ∙ ap (λ n. max n (column_of r + r.len)) c.loop-run.invariant.0 ∙ sym (width_more runs i none c.loop-run-test.true (c.requires i none c.loop-run-test.true)),
-      height ∙ ap (λ n. max n (row_of r + 1)) c.loop-run.invariant.1 ∙ sym (height_more runs i none c.loop-run-test.true (c.requires i none c.loop-run-test.true)),
+      width ∙ ap (λ n. max n (column_of r + r.len)) c.loop-run.invariant.0
+          ∙ sym (width_more runs i none c.loop-run-test.true (c.requires i none c.loop-run-test.true)),
+      height ∙ ap (λ n. max n (row_of r + 1)) c.loop-run.invariant.1
+          ∙ sym (height_more runs i none c.loop-run-test.true (c.requires i none c.loop-run-test.true)),
     )

@@ -15,7 +15,8 @@ none = record { row = pos 0; first = pos 0; len = 0 }
 pub run-requires : goal.run-requires
 run-requires g c =
     let body = c.loop-run.body in
-    (subst (AreNextRuns body.row body.column body.live) (drop_more c.args.runs.now c.loop-run.run-index none c.loop-run-test.true) c.loop-run.invariant.next).0
+    (subst (AreNextRuns body.row body.column body.live)
+    (drop_more c.args.runs.now c.loop-run.run-index none c.loop-run-test.true) c.loop-run.invariant.next).0
 
 pub loop-run-preserved : goal.loop-run-preserved
 loop-run-preserved g c =
@@ -31,19 +32,25 @@ loop-run-preserved g c =
     record {
       same = λ items.
           after.text (map coordinates (runs_cells rest)) items
-          ∙ ap (λ ps. body_written body ps items) (sym (ap (λ (rs : List Run). map coordinates (runs_cells rs)) more ∙ runs_pairs r rest)) ∙ c.loop-run.invariant.same items;
+          ∙ ap (λ ps. body_written body ps items)
+          (sym (ap (λ (rs : List Run). map coordinates (runs_cells rs)) more ∙ runs_pairs r rest))
+          ∙ c.loop-run.invariant.same items;
       next =
           subst (λ n. AreNextRuns n new.column new.live rest) (sym after.row_after)
-          (subst (λ n. AreNextRuns (row_of r) n new.live rest) (sym after.column_after) (subst (λ n. AreNextRuns (row_of r) (column_of r + r.len) n rest) (sym after.live_after) next));
+          (subst (λ n. AreNextRuns (row_of r) n new.live rest) (sym after.column_after)
+          (subst (λ n. AreNextRuns (row_of r) (column_of r + r.len) n rest) (sym after.live_after) next));
     }
 
 pub returns : goal.returns
 unfolding laid
 returns g c =
     let body = c.loop-run.body in
-    let rest : drop c.loop-run.run-index c.args.runs.now ≡ [] = drop_all c.loop-run.run-index c.args.runs.now (omega arith) in
+    let rest : drop c.loop-run.run-index c.args.runs.now ≡ [] =
+    drop_all c.loop-run.run-index c.args.runs.now (omega arith) in
     c.in_ok-end_line.ensures.out
     ∙ c.in_ok-put_digit.ensures []
     ∙ c.in_ok-item.ensures ((33 ∷ []) ∷ [])
-    ∙ ap (λ t. written body.lines (t ++ (33 ∷ []) ∷ [])) (sym (ap (λ (rs : List Run). texts_from body.live body.row body.column (map coordinates (runs_cells rs))) rest ∙ texts_none body.live body.row body.column))
+    ∙ ap (λ t. written body.lines (t ++ (33 ∷ []) ∷ []))
+    (sym (ap (λ (rs : List Run). texts_from body.live body.row body.column (map coordinates (runs_cells rs))) rest
+    ∙ texts_none body.live body.row body.column))
     ∙ c.loop-run.invariant.same ((33 ∷ []) ∷ [])

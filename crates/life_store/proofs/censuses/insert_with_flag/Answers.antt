@@ -19,18 +19,26 @@ returns-clause-added g c p t made is is_flag clean inside stands =
     let one = c.in_ok-insert_census.ensures.added p c.args.steady is clean_1 inside stands in
     let two = c.in_ok-insert_rows.ensures.added q clean_2 one.0 one.1 in
     let slice : map row_seen c.as_slice.result.now ≡ c.args.tally.now.rows = search rules in
-    let stands_2 : HoldsParts middle.now (with_census c.args.id given p) = subst (λ rows. HoldsParts middle.now (record q { counts = q.counts ++ tagged c.args.id rows })) slice two.1 in
-    let stands_3 : HoldsParts middle.now (with_census c.args.id t p) = subst (λ (x : Tallied). HoldsParts middle.now (with_census c.args.id x p)) (sym made) stands_2 in
-    c.insert.ensures.added (with_census c.args.id t p) t (ap (λ (x : Tallied). x.steady) made) is_flag clean two.0 stands_3
+    let stands_2 : HoldsParts middle.now (with_census c.args.id given p) =
+    subst (λ rows. HoldsParts middle.now (record q { counts = q.counts ++ tagged c.args.id rows })) slice two.1 in
+    let stands_3 : HoldsParts middle.now (with_census c.args.id t p) =
+    subst (λ (x : Tallied). HoldsParts middle.now (with_census c.args.id x p)) (sym made) stands_2 in
+    c.insert.ensures.added (with_census c.args.id t p) t
+    (ap (λ (x : Tallied). x.steady) made) is_flag clean two.0 stands_3
 
 pub returns-clause-stays : goal.returns-clause-stays
-returns-clause-stays g c = stays_then _ _ _ (stays_then _ _ _ c.in_ok-insert_census.ensures.stays c.in_ok-insert_rows.ensures.stays) c.insert.ensures.stays
+returns-clause-stays g c =
+    stays_then _ _ _ (stays_then _ _ _ c.in_ok-insert_census.ensures.stays c.in_ok-insert_rows.ensures.stays)
+    c.insert.ensures.stays
 
 pub returns-clause-withstands : goal.returns-clause-withstands
-returns-clause-withstands g c = withstands_then _ _ _ (withstands_then _ _ _ c.insert_census.ensures.withstands c.insert_rows.ensures.withstands) c.insert.ensures.withstands
+returns-clause-withstands g c =
+    withstands_then _ _ _ (withstands_then _ _ _ c.insert_census.ensures.withstands c.insert_rows.ensures.withstands)
+    c.insert.ensures.withstands
 
 pub returns-in_err-insert_rows-clause-withstands : goal.returns-in_err-insert_rows-clause-withstands
-returns-in_err-insert_rows-clause-withstands g c = withstands_then _ _ _ c.insert_census.ensures.withstands c.insert_rows.ensures.withstands
+returns-in_err-insert_rows-clause-withstands g c =
+    withstands_then _ _ _ c.insert_census.ensures.withstands c.insert_rows.ensures.withstands
 
 pub returns-clause-sound : goal.returns-clause-sound
 returns-clause-sound g c clean inside p stands is =

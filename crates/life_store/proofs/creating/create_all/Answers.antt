@@ -1,7 +1,8 @@
 use Rattle.std.proofs.Common.{arith}
 use Rattle.sqlite.specs.State.{HasCleanDisk}
 use Rattle.sqlite.specs.Held.{state}
-use Rattle.life_store.proofs.CreatingLemmas.{creates_layout, creates_deposits, creates_censuses, creates_census_rows, creates_version, creates_soundly}
+use Rattle.life_store.proofs.CreatingLemmas.{creates_layout, creates_deposits, creates_censuses, creates_census_rows}
+use Rattle.life_store.proofs.CreatingLemmas.{creates_version, creates_soundly}
 use Rattle.life_store.proofs.creating.create_all.Goals as goal
 
 pub returns-clause-has_tables : goal.returns-clause-has_tables

@@ -11,7 +11,9 @@ returns-in_err-query_all-clause-stays g c =
     record {
       same_reference = c.query_all.ensures.same_reference;
       inside = search rules;
-      kept = λ clean. query_keeps c.args.sql.now _ old new c.query_all.result (c.query_all.ensures.ok clean) (c.query_all.ensures.err clean);
+      kept =
+          λ clean. query_keeps c.args.sql.now _ old new c.query_all.result (c.query_all.ensures.ok clean)
+          (c.query_all.ensures.err clean);
       clean = c.query_all.ensures.survives.clean;
       crash = crash_by g.S.Store c.args.tx.now.conn.now c.query_all.new.self.conn.now _ c.query_all.ensures.survives;
     }
@@ -23,7 +25,9 @@ returns-clause-stays g c =
     record {
       same_reference = c.query_all.ensures.same_reference;
       inside = λ clean inside. (shown_keeps c.args.sql.now _ old new _ inside (c.in_ok-query_all.ensures.ok clean)).0;
-      kept = λ clean. query_keeps c.args.sql.now _ old new c.query_all.result (c.query_all.ensures.ok clean) (c.query_all.ensures.err clean);
+      kept =
+          λ clean. query_keeps c.args.sql.now _ old new c.query_all.result (c.query_all.ensures.ok clean)
+          (c.query_all.ensures.err clean);
       clean = c.query_all.ensures.survives.clean;
       crash = crash_by g.S.Store c.args.tx.now.conn.now c.query_all.new.self.conn.now _ c.query_all.ensures.survives;
     }

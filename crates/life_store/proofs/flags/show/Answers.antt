@@ -18,6 +18,11 @@ returns g c =
     let it = c.query.ensures in
     let id : owned c.whole.result ≡ Int c.args.id = search rules in
     record {
-      looks = looks_by g.S.Store c.args.conn.now c.query.new.conn flag_text _ flag_is.plain flag_asks c.query.result it.clean it.shown it.refused it.withstands;
-      tells = tells_held_at flag_text c.args.id old new (λ n k rows. ShowsFlag (option_map (λ t. t.steady) (numbered k.censuses n)) rows) (λ n k rows holds. shows_flag old new k rows holds n) c.query.result (λ clean. rw id at (it.shown clean));
+      looks =
+          looks_by g.S.Store c.args.conn.now c.query.new.conn flag_text _ flag_is.plain flag_asks
+          c.query.result it.clean it.shown it.refused it.withstands;
+      tells =
+          tells_held_at flag_text c.args.id old new
+          (λ n k rows. ShowsFlag (option_map (λ t. t.steady) (numbered k.censuses n)) rows)
+          (λ n k rows holds. shows_flag old new k rows holds n) c.query.result (λ clean. rw id at (it.shown clean));
     }

@@ -8,5 +8,7 @@ steady-requires c =
     record {
       from_one = search rules;
       few = search rules;
-      room = within_more (1023 + c.args.number) 400000000 c.in_ok-pattern.pattern room (c.in_ok-pattern.ensures.grown 1023 (rw (← c.content.view_is) at c.requires));
+      room =
+          within_more (1023 + c.args.number) 400000000 c.in_ok-pattern.pattern room
+          (c.in_ok-pattern.ensures.grown 1023 (rw (← c.content.view_is) at c.requires));
     }

@@ -18,4 +18,6 @@ returns-clause-migrated g c clean begun p filed first named =
     let counted = c.in_ok-count.ensures.counted clean_2 q made.1 in
     let inside_3 = c.in_ok-migrate_each.ensures.stays.inside clean_3 inside_2 in
     let u = c.in_ok-migrate_each.ensures.migrated clean_3 inside_2 q filed counted.1 refl counted.0 in
-    all_flagged c.name_version.result p c.in_ok-count.count s3.now (state g.S.Store c.name_version.new.tx.conn.now).now u counted.0 (c.name_version.ensures.named clean inside_3 (record q { flagged = u.done }) u.stands named) (c.name_version.ensures.sound clean inside_3 (record q { flagged = u.done }) u.stands)
+    all_flagged c.name_version.result p c.in_ok-count.count s3.now (state g.S.Store c.name_version.new.tx.conn.now).now
+    u counted.0 (c.name_version.ensures.named clean inside_3 (record q { flagged = u.done }) u.stands named)
+    (c.name_version.ensures.sound clean inside_3 (record q { flagged = u.done }) u.stands)

@@ -24,18 +24,26 @@ returns-in-Ok-commit-clause-migrated g c clean p filed first named =
 
 pub returns-in-Ok-commit-clause-crash : goal.returns-in-Ok-commit-clause-crash
 returns-in-Ok-commit-clause-crash g c =
-    let done : CrashLeaves g.S.Store (IsCarriedOver (state g.S.Store c.args.conn.now).now) c.args.conn.now.store c.commit.new.self.0.store =
-    carried_committed g.S.Store c.args.conn.now c.transaction-tx.result.conn.now c.migrate_all.new.tx.conn.now c.commit.new.self.0 c.transaction-tx.ensures.begun c.migrate_all.ensures.stays.crash c.commit.ensures.survives c.in-Ok.ensures.migrated in
+    let done : CrashLeaves g.S.Store
+    (IsCarriedOver (state g.S.Store c.args.conn.now).now) c.args.conn.now.store c.commit.new.self.0.store =
+    carried_committed g.S.Store c.args.conn.now c.transaction-tx.result.conn.now c.migrate_all.new.tx.conn.now
+    c.commit.new.self.0 c.transaction-tx.ensures.begun c.migrate_all.ensures.stays.crash c.commit.ensures.survives
+    c.in-Ok.ensures.migrated in
     search (rules, done)
 
 pub returns-in-Err-commit-clause-crash : goal.returns-in-Err-commit-clause-crash
 returns-in-Err-commit-clause-crash g c =
-    let done : CrashLeaves g.S.Store (IsCarriedOver (state g.S.Store c.args.conn.now).now) c.args.conn.now.store c.commit.new.self.0.store =
-    carried_committed g.S.Store c.args.conn.now c.transaction-tx.result.conn.now c.migrate_all.new.tx.conn.now c.commit.new.self.0 c.transaction-tx.ensures.begun c.migrate_all.ensures.stays.crash c.commit.ensures.survives c.in-Ok.ensures.migrated in
+    let done : CrashLeaves g.S.Store
+    (IsCarriedOver (state g.S.Store c.args.conn.now).now) c.args.conn.now.store c.commit.new.self.0.store =
+    carried_committed g.S.Store c.args.conn.now c.transaction-tx.result.conn.now c.migrate_all.new.tx.conn.now
+    c.commit.new.self.0 c.transaction-tx.ensures.begun c.migrate_all.ensures.stays.crash c.commit.ensures.survives
+    c.in-Ok.ensures.migrated in
     search (rules, done)
 
 pub returns-in-Err-clause-crash : goal.returns-in-Err-clause-crash
 returns-in-Err-clause-crash g c =
-    let done : CrashLeaves g.S.Store (IsCarriedOver (state g.S.Store c.args.conn.now).now) c.args.conn.now.store c.drop-tx.new.self.0.store =
-    crash_dropped g.S.Store c.args.conn.now c.transaction-tx.result.conn.now c.migrate_all.new.tx.conn.now c.drop-tx.new.self.0 c.transaction-tx.ensures.begun c.migrate_all.ensures.stays.crash c.drop-tx.ensures.survives in
+    let done : CrashLeaves g.S.Store
+    (IsCarriedOver (state g.S.Store c.args.conn.now).now) c.args.conn.now.store c.drop-tx.new.self.0.store =
+    crash_dropped g.S.Store c.args.conn.now c.transaction-tx.result.conn.now c.migrate_all.new.tx.conn.now
+    c.drop-tx.new.self.0 c.transaction-tx.ensures.begun c.migrate_all.ensures.stays.crash c.drop-tx.ensures.survives in
     search (rules, done)

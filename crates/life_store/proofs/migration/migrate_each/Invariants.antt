@@ -12,4 +12,5 @@ invariant-loop-i g l =
     (l.tx.conn.ghost_name ≡ l.fn.tx.conn.ghost_name)
     × (doubt (state g.S.Store l.fn.tx.conn.now).is_clean ≤ doubt (state g.S.Store l.tx.conn.now).is_clean)
     × CrashLeaves g.S.Store NoMore l.fn.tx.conn.now.store l.tx.conn.now.store
-    × (HasCleanDisk (state g.S.Store l.tx.conn.now) → IsTrue (state g.S.Store l.fn.tx.conn.now).in_transaction → HasMigrated (state g.S.Store l.fn.tx.conn.now) (state g.S.Store l.tx.conn.now) l.i)
+    × (HasCleanDisk (state g.S.Store l.tx.conn.now) → IsTrue (state g.S.Store l.fn.tx.conn.now).in_transaction
+    → HasMigrated (state g.S.Store l.fn.tx.conn.now) (state g.S.Store l.tx.conn.now) l.i)

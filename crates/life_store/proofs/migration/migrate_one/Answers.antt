@@ -17,11 +17,16 @@ returns-clause-migrated g c clean begun p t filed stands is there =
     let numbers = c.in_ok-deposit.ensures.found clean_1 p t stands there in
     let deposit = c.in_ok-deposit-2.ensures.found clean_2 p filed numbers.3 in
     let b = c.in_ok-steady.steady in
-    let it = flagged_by {E = Unavailable} (Ok b) p.deposits t _ _ _ c.in_ok-deposit-2.deposit numbers.0 numbers.1 numbers.2 deposit.0 c.in_ok-steady.ensures deposit.1 in
-    migrated_by c.insert.result _ p t b (state g.S.Store c.insert.new.tx.conn.now).now it.0 (c.insert.ensures.added p (record t { steady = b }) refl is clean inside_2 it.1)
+    let it = flagged_by {E = Unavailable} (Ok b) p.deposits t _ _ _ c.in_ok-deposit-2.deposit
+    numbers.0 numbers.1 numbers.2 deposit.0 c.in_ok-steady.ensures deposit.1 in
+    migrated_by c.insert.result _ p t b (state g.S.Store c.insert.new.tx.conn.now).now it.0
+    (c.insert.ensures.added p (record t { steady = b }) refl is clean inside_2 it.1)
 
 pub returns-clause-stays : goal.returns-clause-stays
-returns-clause-stays g c = stays_then _ _ _ (stays_then _ _ _ c.in_ok-deposit.ensures.stays c.in_ok-deposit-2.ensures.stays) c.insert.ensures.stays
+returns-clause-stays g c =
+    stays_then _ _ _ (stays_then _ _ _ c.in_ok-deposit.ensures.stays c.in_ok-deposit-2.ensures.stays)
+    c.insert.ensures.stays
 
 pub returns-in_err-steady-clause-stays : goal.returns-in_err-steady-clause-stays
-returns-in_err-steady-clause-stays g c = stays_with _ _ _ (stays_then _ _ _ c.in_ok-deposit.ensures.stays c.in_ok-deposit-2.ensures.stays)
+returns-in_err-steady-clause-stays g c =
+    stays_with _ _ _ (stays_then _ _ _ c.in_ok-deposit.ensures.stays c.in_ok-deposit-2.ensures.stays)

@@ -13,5 +13,7 @@ pub returns-clause-tells : goal.returns-clause-tells
 returns-clause-tells g c clean p stands =
     let old = state g.S.Store c.args.tx.now.conn.now in
     let new = state g.S.Store c.query_about.new.tx.conn.now in
-    answers_inside census_text (Int (pos c.args.id) ∷ []) old new c.query_about.result p (λ rows. ShowsCensus (option_map (λ t. (c.args.id, t)) (numbered p.censuses c.args.id)) rows) census_is.plain stands
-    (c.query_about.ensures.shown clean) (λ rows h. census_shown_at old new p.censuses rows c.args.id stands.schema stands.censuses h)
+    answers_inside census_text (Int (pos c.args.id) ∷ []) old new c.query_about.result p
+    (λ rows. ShowsCensus (option_map (λ t. (c.args.id, t)) (numbered p.censuses c.args.id)) rows) census_is.plain stands
+    (c.query_about.ensures.shown clean)
+    (λ rows h. census_shown_at old new p.censuses rows c.args.id stands.schema stands.censuses h)

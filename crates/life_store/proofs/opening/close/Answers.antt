@@ -15,7 +15,8 @@ use Rattle.life_store.proofs.opening.close.Goals as goal
 
 pub returns-in-Ok-clause-usable : goal.returns-in-Ok-clause-usable
 returns-in-Ok-clause-usable g c =
-    subst (λ p. IsTrue (g.D.Disk.is_usable p.0) × IsTrue (g.D.Disk.is_usable p.1)) (sym c.close.ensures) (open_usable c.checkpoint.new.self.pool c.in-Ok.ensures.still)
+    subst (λ p. IsTrue (g.D.Disk.is_usable p.0) × IsTrue (g.D.Disk.is_usable p.1)) (sym c.close.ensures)
+    (open_usable c.checkpoint.new.self.pool c.in-Ok.ensures.still)
 
 -- as the kit proves it of its own `close_files`
 pub returns-in-Ok-clause-copied : goal.returns-in-Ok-clause-copied
@@ -34,8 +35,10 @@ returns-in-Ok-clause-copied g c honest =
     let first = c.into_store-store.ensures.undone.kept early in
     let on = c.in-Ok.ensures.open none in
     let same = c.checkpoint.ensures.same on in
-    let numbered : IsTrue (view last).is_numbered = ap (λ (v : View). v.is_numbered) same ∙ second.numbered ∙ c.into_store-store.ensures.numbered early in
-    let committed : (view last).committed ≡ (view c.args.conn.store).committed = ap (λ (v : View). v.committed) same ∙ second.committed h ∙ first.committed (second.was_open h) in
+    let numbered : IsTrue (view last).is_numbered = ap (λ (v : View). v.is_numbered) same ∙ second.numbered
+    ∙ c.into_store-store.ensures.numbered early in
+    let committed : (view last).committed ≡ (view c.args.conn.store).committed = ap (λ (v : View). v.committed) same
+    ∙ second.committed h ∙ first.committed (second.was_open h) in
     let each = λ (image : Image) (may : outcomes g.D.Disk c.close.result.log c.close.result.db image).
     subst (HoldsAlone image) committed (copied last stays on numbered
     (λ db found. c.into_store-store.ensures.sound early db (c.rollback.ensures.quiet.outcomes db (q.outcomes db found)))
@@ -53,5 +56,7 @@ returns-in-Err-clause-refused g c =
     let q = c.checkpoint.ensures.quiet in
     let_go c.args.conn.store c.checkpoint.new.self c.close-in-Err.result c.close-in-Err.ensures
     (still_quiet (still_quiet c.into_store-store.ensures.quiet c.rollback.ensures.quiet) q)
-    (λ none db may. c.into_store-store.ensures.sound (omega (arith, q.clean, c.rollback.ensures.quiet.clean, none)) db (c.rollback.ensures.quiet.outcomes db (q.outcomes db may)))
-    (λ none up. ap (λ (v : View). v.is_numbered) (c.checkpoint.ensures.same up) ∙ c.rollback.ensures.undone.numbered ∙ c.into_store-store.ensures.numbered (omega (arith, q.clean, c.rollback.ensures.quiet.clean, none)))
+    (λ none db may. c.into_store-store.ensures.sound (omega (arith, q.clean, c.rollback.ensures.quiet.clean, none)) db
+    (c.rollback.ensures.quiet.outcomes db (q.outcomes db may)))
+    (λ none up. ap (λ (v : View). v.is_numbered) (c.checkpoint.ensures.same up) ∙ c.rollback.ensures.undone.numbered
+    ∙ c.into_store-store.ensures.numbered (omega (arith, q.clean, c.rollback.ensures.quiet.clean, none)))

@@ -14,11 +14,14 @@ pub returns-in-Ok-clause-found : goal.returns-in-Ok-clause-found
 returns-in-Ok-clause-found g c schema own versions known healthy have =
     let flags : c.has_table-has_flags.result ≡ has_table schema.tables flags_name = search (rules) in
     let slice : c.as_slice-in-Ok.result.now ≡ c.in-Ok.rows.items = search rules in
-    found_version c.version_named.result schema own versions c.has_table-has_flags.result c.in-Ok.rows.items known flags (c.in-Ok.ensures.tells schema own versions known healthy have)
-    (subst (λ rows. IfOk c.version_named.result (λ v. (v ≡ version_with c.has_table-has_flags.result) × (rows ≡ rows_of_version v))) slice c.version_named.ensures.found)
+    found_version c.version_named.result schema own versions c.has_table-has_flags.result c.in-Ok.rows.items known flags
+    (c.in-Ok.ensures.tells schema own versions known healthy have)
+    (subst (λ rows. IfOk c.version_named.result (λ v. (v ≡ version_with c.has_table-has_flags.result)
+    × (rows ≡ rows_of_version v))) slice c.version_named.ensures.found)
 
 pub returns-in-Ok-clause-ours : goal.returns-in-Ok-clause-ours
 returns-in-Ok-clause-ours g c schema own known healthy have =
     let flags : c.has_table-has_flags.result ≡ has_table schema.tables flags_name = search (rules) in
     let slice : c.as_slice-in-Ok.result.now ≡ c.in-Ok.rows.items = search rules in
-    c.version_named.ensures.named (slice ∙ (c.in-Ok.ensures.tells schema own own known healthy have).1 refl ∙ (told_by_flags schema own c.has_table-has_flags.result known flags).1)
+    c.version_named.ensures.named (slice ∙ (c.in-Ok.ensures.tells schema own own known healthy have).1 refl
+    ∙ (told_by_flags schema own c.has_table-has_flags.result known flags).1)

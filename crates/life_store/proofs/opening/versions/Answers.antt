@@ -14,11 +14,16 @@ returns g c =
     let old = state g.S.Store c.args.conn.now in
     let new = state g.S.Store c.query.new.conn in
     record {
-      same = λ schema own known healthy is. seen_same version_text [] schema old new (version_plain schema own known) c.query.result c.query.ensures.shown c.query.ensures.refused healthy is;
+      same =
+          λ schema own known healthy is. seen_same version_text [] schema old new
+          (version_plain schema own known) c.query.result c.query.ensures.shown c.query.ensures.refused healthy is;
       tells = λ schema own versions known healthy have.
-          told new version_text [] old (λ rows. (rows ≡ column_of own) ↔ (versions ≡ own)) c.query.result (λ rows. finds_own old new schema own versions rows known have) c.query.ensures.shown healthy;
+          told new version_text [] old (λ rows. (rows ≡ column_of own) ↔ (versions ≡ own)) c.query.result
+          (λ rows. finds_own old new schema own versions rows known have) c.query.ensures.shown healthy;
       up = λ clean. open_when_shown version_text [] old new c.query.result (c.query.ensures.shown clean);
       clean = c.query.ensures.clean;
       mode = c.query.ensures.mode;
-      crash = asks_nothing g.S.Store c.args.conn.now c.query.new.conn version_text [] version_asks c.query.ensures.withstands.crash;
+      crash =
+          asks_nothing g.S.Store c.args.conn.now c.query.new.conn version_text [] version_asks
+          c.query.ensures.withstands.crash;
     }

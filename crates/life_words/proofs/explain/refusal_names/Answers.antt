@@ -5,4 +5,5 @@ use Rattle.life_words.proofs.explain.refusal_names.Goals as goal
 
 pub returns : goal.returns
 returns c =
-    subst (λ (names : List (List ℕ)). IfOk c.names_in.result (λ v. map (λ name. name.now) v.items ≡ names)) (ap names_of c.table.ensures ∙ names_are) c.names_in.ensures
+    subst (λ (names : List (List ℕ)). IfOk c.names_in.result (λ v. map (λ name. name.now) v.items ≡ names))
+    (ap names_of c.table.ensures ∙ names_are) c.names_in.ensures

@@ -5,4 +5,5 @@ use Rattle.life_words.proofs.words.number_in.Goals as goal
 
 pub returns : goal.returns
 returns c =
-    rw (← one_text-rows (found_of c.args.found.now) c.args.id.now) (one_number _ _ c.get_one.ensures.none c.get_one.ensures.value)
+    rw (← one_text-rows (found_of c.args.found.now) c.args.id.now)
+    (one_number _ _ c.get_one.ensures.none c.get_one.ensures.value)

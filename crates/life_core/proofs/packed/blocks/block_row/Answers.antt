@@ -19,9 +19,13 @@ returns-clause-row g c r rows words is first a h b =
           let b0 : 64 * (k + words) + p - 1 ≡ q + W - 1 = omega arith in
           let b1 : 64 * (k + words) + p ≡ q + W = omega arith in
           let b2 : 64 * (k + words) + p + 1 ≡ q + W + 1 = omega arith in
-          let up : digits_at c.args.above.all c.args.above.all2 p ≡ place rows (q - W - 1) + (place rows (q - W) + place rows (q - W + 1)) = a.all p lt ∙ (λ t. place rows (a0 t) + (place rows (a1 t) + place rows (a2 t))) in
-          let down : digits_at c.args.below.all c.args.below.all2 p ≡ place rows (q + W - 1) + (place rows (q + W) + place rows (q + W + 1)) = b.all p lt ∙ (λ t. place rows (b0 t) + (place rows (b1 t) + place rows (b2 t))) in
-          c.put_lanes.ensures.put p lt ∙ c.next_lanes-new.ensures r is p lt (few_live c.args.above.all c.args.above.all2 c.args.here.sides c.args.here.sides2 c.args.below.all c.args.below.all2 p rows (q - W) q (q + W) up (h.sides p lt) down)
+          let up : digits_at c.args.above.all c.args.above.all2 p ≡ place rows (q - W - 1) + (place rows (q - W)
+          + place rows (q - W + 1)) = a.all p lt ∙ (λ t. place rows (a0 t) + (place rows (a1 t) + place rows (a2 t))) in
+          let down : digits_at c.args.below.all c.args.below.all2 p ≡ place rows (q + W - 1) + (place rows (q + W)
+          + place rows (q + W + 1)) = b.all p lt ∙ (λ t. place rows (b0 t) + (place rows (b1 t) + place rows (b2 t))) in
+          c.put_lanes.ensures.put p lt ∙ c.next_lanes-new.ensures r is p lt
+          (few_live c.args.above.all c.args.above.all2 c.args.here.sides c.args.here.sides2
+          c.args.below.all c.args.below.all2 p rows (q - W) q (q + W) up (h.sides p lt) down)
           ∙ (λ t. one_if (lives_at r (nat_eq (h.here p lt t) 1) (up t + (h.sides p lt t + down t))));
       rest = c.put_lanes.ensures.rest;
       same = c.put_lanes.ensures.same;

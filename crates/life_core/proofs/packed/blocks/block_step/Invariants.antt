@@ -10,6 +10,8 @@ invariant-loop-i g l = record {
   above : AreSums l.rows (l.k - l.words) l.above;
   here : AreSums l.rows l.k l.here;
   rest : (j : ℕ) → IsOutside 2 l.at l.words l._i j → slice_index_or l.out j 0 ≡ slice_index_or l.fn.out j 0;
-  done : (r : RuleSets) → g.R.Evolves.is_of l.rule r → IsBlockStep 2 (flat_next r l.rows (64 * l.words)) l.at l.words l._i l.fn.out l.out l.all;
-  top : (r : RuleSets) → g.R.Evolves.is_of l.rule r → (p : ℕ) → p < 128 → place l.top p ≡ 0 → place l.out (64 * l.at + p) ≡ place l.fn.out (64 * l.at + p);
+  done : (r : RuleSets) → g.R.Evolves.is_of l.rule r
+      → IsBlockStep 2 (flat_next r l.rows (64 * l.words)) l.at l.words l._i l.fn.out l.out l.all;
+  top : (r : RuleSets) → g.R.Evolves.is_of l.rule r → (p : ℕ) → p < 128 → place l.top p ≡ 0
+      → place l.out (64 * l.at + p) ≡ place l.fn.out (64 * l.at + p);
 }

@@ -10,6 +10,21 @@ returns c =
     let size : length l ≡ length r = omega arith in
     record {
       here = λ p lt. lane_places h c.args.rows.now c.args.k 2 c.lanes_at-here.ensures p lt;
-      sides = λ p lt. omega (arith, place_xor l r size p, place_and l r size p, place-lt l p, place-lt r p, c.moved_up-left.ensures p lt, c.moved_down-right.ensures p lt);
-      all = λ p lt. omega (arith, c.odd.ensures p, c.carry.ensures p, c.moved_up-left.ensures p lt, c.moved_down-right.ensures p lt, lane_places h c.args.rows.now c.args.k 2 c.lanes_at-here.ensures p lt);
+      sides = λ p lt. omega (
+        arith,
+        place_xor l r size p,
+        place_and l r size p,
+        place-lt l p,
+        place-lt r p,
+        c.moved_up-left.ensures p lt,
+        c.moved_down-right.ensures p lt,
+      );
+      all = λ p lt. omega (
+        arith,
+        c.odd.ensures p,
+        c.carry.ensures p,
+        c.moved_up-left.ensures p lt,
+        c.moved_down-right.ensures p lt,
+        lane_places h c.args.rows.now c.args.k 2 c.lanes_at-here.ensures p lt,
+      );
     }

@@ -11,5 +11,15 @@ returns g c p =
     let d = c.args.c in
     let same : length a ≡ length b = omega arith in
     let long : length (zip2 bit_xor a b) ≡ length d = omega (arith, length-zip2 bit_xor a b same) in
-    let both : length (zip2 bit_and a b) ≡ length (zip2 bit_and (zip2 bit_xor a b) d) = omega (arith, length-zip2 bit_and a b same, length-zip2 bit_and (zip2 bit_xor a b) d long) in
-    omega (arith, place_or (zip2 bit_and a b) (zip2 bit_and (zip2 bit_xor a b) d) both p, place_and a b same p, place_and (zip2 bit_xor a b) d long p, place_xor a b same p, place-lt a p, place-lt b p, place-lt d p)
+    let both : length (zip2 bit_and a b) ≡ length (zip2 bit_and (zip2 bit_xor a b) d) =
+    omega (arith, length-zip2 bit_and a b same, length-zip2 bit_and (zip2 bit_xor a b) d long) in
+    omega (
+      arith,
+      place_or (zip2 bit_and a b) (zip2 bit_and (zip2 bit_xor a b) d) both p,
+      place_and a b same p,
+      place_and (zip2 bit_xor a b) d long p,
+      place_xor a b same p,
+      place-lt a p,
+      place-lt b p,
+      place-lt d p,
+    )

@@ -10,4 +10,6 @@ pub overflow_shr-result : goal.overflow_shr-result
 overflow_shr-result g c = shifts_fit_splat 64 c.lanes_at-2.result g.row.N 63 (lit< tt)
 
 pub returns : goal.returns
-returns g c p lt = places_up c.lanes_at.result c.lanes_at-2.result c.args.words.now c.args.k g.row.N c.requires.first (omega arith) (omega arith) (λ i. (c.type_inv.words i).fits) c.lanes_at.ensures c.lanes_at-2.ensures p lt
+returns g c p lt =
+    places_up c.lanes_at.result c.lanes_at-2.result c.args.words.now c.args.k g.row.N c.requires.first
+    (omega arith) (omega arith) (λ i. (c.type_inv.words i).fits) c.lanes_at.ensures c.lanes_at-2.ensures p lt

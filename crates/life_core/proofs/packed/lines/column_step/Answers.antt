@@ -14,5 +14,8 @@ pub returns-clause-block : goal.returns-clause-block
 returns-clause-block g c r is =
     let block = c.block_step-changes.ensures.block r is in
     let ch = c.block_step-changes.result in
-    stepped_block (flat_next r c.args.rows.now (64 * (2 * c.args.columns))) c.args.columns c.args.line c.args.column c.args.marks.now c.args.out.now c.block_step-changes.new.out ch.all ch.top ch.bottom c.wake_round.new.marks c.wake_round.new.lines
-    c.if-not-marks-b.false block.all.next block.all.same block.top block.bottom (λ i p narrow. c.wake_round.ensures.woken i p narrow)
+    stepped_block (flat_next r c.args.rows.now (64 * (2 * c.args.columns))) c.args.columns
+    c.args.line c.args.column c.args.marks.now c.args.out.now c.block_step-changes.new.out
+    ch.all ch.top ch.bottom c.wake_round.new.marks c.wake_round.new.lines
+    c.if-not-marks-b.false block.all.next block.all.same block.top block.bottom
+    (λ i p narrow. c.wake_round.ensures.woken i p narrow)

@@ -18,18 +18,32 @@ loop-column-preserved g c =
     let new = c.columns_step-column.new.out in
     record {
       most = e.result.1;
-      next_marks = record { long = e.next_marks.long ∙ inv.next_marks.long; set = λ j h. e.next_marks.set j (inv.next_marks.set j h) };
-      next_lines = record { long = e.next_lines.long ∙ inv.next_lines.long; set = λ j h. e.next_lines.set j (inv.next_lines.set j h) };
+      next_marks = record {
+        long = e.next_marks.long ∙ inv.next_marks.long;
+        set = λ j h. e.next_marks.set j (inv.next_marks.set j h);
+      };
+      next_lines = record {
+        long = e.next_lines.long ∙ inv.next_lines.long;
+        set = λ j h. e.next_lines.set j (inv.next_lines.set j h);
+      };
       others = λ j le. e.others j le ∙ inv.others j (omega (arith, le, e.result.0));
-      rest = λ j outside. e.rest j (λ m from to. outside m to) ∙ inv.rest j (λ m lt. outside m (omega (arith, lt, e.result.0)));
+      rest =
+          λ j outside. e.rest j (λ m from to. outside m to)
+          ∙ inv.rest j (λ m lt. outside m (omega (arith, lt, e.result.0)));
       blocks = λ r m is lt. let N : ℕ → ℕ = flat_next r c.args.rows.now (64 * (2 * columns)) in elim (cases_lt m n) [
         | inl before ↦
-            stepped_kept N columns line m c.args.marks.now old mid new c.loop-column.next_marks c.columns_step-column.new.next_marks c.loop-column.next_lines c.columns_step-column.new.next_lines
-            (λ i p row narrow. place_word new mid (place_at columns line m i p) (e.rest (place_at columns line m i p / 64) (λ k from to. between columns line m k i p (omega (arith, lt, e.result.1)) (omega (arith, to, e.result.1)) (λ same. omega (arith, same, before, from)) narrow)))
+            stepped_kept N columns line m c.args.marks.now old mid new c.loop-column.next_marks
+            c.columns_step-column.new.next_marks c.loop-column.next_lines c.columns_step-column.new.next_lines
+            (λ i p row narrow. place_word new mid (place_at columns line m i p) (e.rest (place_at columns line m i p
+            / 64) (λ k from to. between columns line m k i p (omega (arith, lt, e.result.1))
+            (omega (arith, to, e.result.1)) (λ same. omega (arith, same, before, from)) narrow)))
             e.next_marks e.next_lines (inv.blocks r m is before)
         | inr from ↦
-            stepped_from N columns line m c.args.marks.now c.loop-column.marks old mid new c.columns_step-column.new.next_marks c.columns_step-column.new.next_lines
-            (λ i p row narrow. place_word mid old (place_at columns line m i p) (inv.rest (place_at columns line m i p / 64) (λ k before. between columns line m k i p (omega (arith, lt, e.result.1)) (omega (arith, before, inv.most)) (λ same. omega (arith, same, before, from)) narrow)))
+            stepped_from N columns line m c.args.marks.now c.loop-column.marks old mid new
+            c.columns_step-column.new.next_marks c.columns_step-column.new.next_lines
+            (λ i p row narrow. place_word mid old (place_at columns line m i p) (inv.rest
+            (place_at columns line m i p / 64) (λ k before. between columns line m k i p (omega (arith, lt, e.result.1))
+            (omega (arith, before, inv.most)) (λ same. omega (arith, same, before, from)) narrow)))
             (inv.others (mark_at columns line m) (omega (arith, from)))
             (e.blocks r m is from lt)
       ];
@@ -37,4 +51,5 @@ loop-column-preserved g c =
 
 pub returns-clause-rest : goal.returns-clause-rest
 returns-clause-rest g c j away =
-    c.loop-column.invariant.rest j (λ m lt. outside_line c.args.columns c.args.line m j (omega (arith, lt, c.loop-column.invariant.most)) away)
+    c.loop-column.invariant.rest j
+    (λ m lt. outside_line c.args.columns c.args.line m j (omega (arith, lt, c.loop-column.invariant.most)) away)

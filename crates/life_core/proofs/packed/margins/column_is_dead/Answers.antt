@@ -10,20 +10,38 @@ use Rattle.life_core.proofs.packed.margins.column_is_dead.Goals as goal
 -- a word that has no bit of a mask
 unmasked : (word mask i : ℕ) → bit_and word mask ≡ 0 → bit_at mask i ≡ 1 → bit_at word i ≡ 0
 unmasked word mask i none set =
-    let both : min (bit_at word i) (bit_at mask i) ≡ 0 = sym (bit_at_and word mask i) ∙ ap (λ n. bit_at n i) none ∙ bit_at-zero i in
+    let both : min (bit_at word i) (bit_at mask i) ≡ 0 = sym (bit_at_and word mask i) ∙ ap (λ n. bit_at n i) none
+    ∙ bit_at-zero i in
     omega (arith, both, set)
 
 pub overflow_mul-y : goal.overflow_mul-y
-overflow_mul-y c = record { fits = omega (arith, word_few c.args.frame 0 c.loop-y.y c.requires.frame (omega arith) c.loop-y-test.true) }
+overflow_mul-y c = record {
+  fits = omega (arith, word_few c.args.frame 0 c.loop-y.y c.requires.frame (omega arith) c.loop-y-test.true);
+}
 
 pub overflow_add-y : goal.overflow_add-y
-overflow_add-y c = record { fits = omega (arith, word_few c.args.frame c.args.j c.loop-y.y c.requires.frame (omega (arith, c.requires.j)) c.loop-y-test.true) }
+overflow_add-y c = record {
+  fits = omega (
+    arith,
+    word_few c.args.frame c.args.j c.loop-y.y c.requires.frame (omega (arith, c.requires.j)) c.loop-y-test.true,
+  );
+}
 
 pub offset_bounds-rows-y : goal.offset_bounds-rows-y
-offset_bounds-rows-y c = record { fits = omega (arith, word_few c.args.frame c.args.j c.loop-y.y c.requires.frame (omega (arith, c.requires.j)) c.loop-y-test.true) }
+offset_bounds-rows-y c = record {
+  fits = omega (
+    arith,
+    word_few c.args.frame c.args.j c.loop-y.y c.requires.frame (omega (arith, c.requires.j)) c.loop-y-test.true,
+  );
+}
 
 pub bounds-rows-y : goal.bounds-rows-y
-bounds-rows-y c = omega (arith, row_fits c.args.frame.words c.args.frame.height c.loop-y.y c.loop-y-test.true, c.requires.rows, c.requires.j)
+bounds-rows-y c = omega (
+  arith,
+  row_fits c.args.frame.words c.args.frame.height c.loop-y.y c.loop-y-test.true,
+  c.requires.rows,
+  c.requires.j,
+)
 
 pub loop-y-preserved : goal.loop-y-preserved
 loop-y-preserved c z i lt within set = elim (cases_lt z c.loop-y.y) [
@@ -34,5 +52,6 @@ loop-y-preserved c z i lt within set = elim (cases_lt z c.loop-y.y) [
       let same : z ≡ c.loop-y.y = omega arith in
       let word = get_or rows (c.loop-y.y * w + c.args.j) 0 in
       let at : c.loop-y.y * (64 * w) + (64 * c.args.j + i) ≡ 64 * (c.loop-y.y * w + c.args.j) + i = omega arith in
-      ap (λ (n : ℕ). place rows (n * (64 * w) + (64 * c.args.j + i))) same ∙ ap (place rows) at ∙ place_at rows (c.loop-y.y * w + c.args.j) i within ∙ unmasked word c.args.mask i c.if-rows-y-ne0.false set
+      ap (λ (n : ℕ). place rows (n * (64 * w) + (64 * c.args.j + i))) same ∙ ap (place rows) at ∙ place_at rows
+      (c.loop-y.y * w + c.args.j) i within ∙ unmasked word c.args.mask i c.if-rows-y-ne0.false set
 ]

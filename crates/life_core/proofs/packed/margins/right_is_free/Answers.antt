@@ -16,7 +16,8 @@ overflow_cast-frame c = record { sfits = omega (arith, ints, words_few c.args.fr
 pub overflow_add-frame : goal.overflow_add-frame
 overflow_add-frame c =
     let few = words_few c.args.frame c.requires.frame in
-    near_fits _ (omega (arith, ints, c.requires.frame.from_left, c.requires.frame.to_right)) (omega (arith, ints, c.requires.frame.from_left, c.requires.frame.to_right))
+    near_fits _ (omega (arith, ints, c.requires.frame.from_left, c.requires.frame.to_right))
+    (omega (arith, ints, c.requires.frame.from_left, c.requires.frame.to_right))
 
 pub overflow_add-from : goal.overflow_add-from
 overflow_add-from c = near_fits _ (omega (arith, ints, c.from.ensures)) (omega (arith, ints, c.from.ensures))
@@ -27,7 +28,15 @@ overflow_sub-frame c = c.requires.frame.wide
 pub returns-then-frame-from-clause-free : goal.returns-then-frame-from-clause-free
 returns-then-frame-from-clause-free c past d live =
     let few = words_few c.args.frame c.requires.frame in
-    omega (arith, ints, c.from.ensures, c.if-frame-from.true, (c.requires.within d live).right, c.requires.frame.from_left, c.requires.frame.to_right)
+    omega (
+      arith,
+      ints,
+      c.from.ensures,
+      c.if-frame-from.true,
+      (c.requires.within d live).right,
+      c.requires.frame.from_left,
+      c.requires.frame.to_right,
+    )
 
 pub returns-else-frame-from-clause-free : goal.returns-else-frame-from-clause-free
 returns-else-frame-from-clause-free c free d live =
@@ -38,7 +47,9 @@ returns-else-frame-from-clause-free c free d live =
       | inr edge ↦
           let last = 64 * (f.words - 1) in
           let at : last + (p.x - last) ≡ p.x = omega (arith, edge, c.requires.frame.wide) in
-          let dead : place c.args.rows.now (p.y * (64 * f.words) + (last + (p.x - last))) ≡ 0 = c.column_is_dead.ensures free p.y (p.x - last) p.low (omega (arith, p.narrow)) (bit_at_mask_inside 32 64 (p.x - last) (omega (arith, edge, c.requires.frame.wide)) (omega (arith, p.narrow))) in
+          let dead : place c.args.rows.now (p.y * (64 * f.words) + (last + (p.x - last))) ≡ 0 =
+          c.column_is_dead.ensures free p.y (p.x - last) p.low (omega (arith, p.narrow)) (bit_at_mask_inside 32 64
+          (p.x - last) (omega (arith, edge, c.requires.frame.wide)) (omega (arith, p.narrow))) in
           absurd (omega (arith, p.live, dead, ap (λ x. place c.args.rows.now (p.y * (64 * f.words) + x)) at))
     ]
 

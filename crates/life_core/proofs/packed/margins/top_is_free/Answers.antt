@@ -18,7 +18,8 @@ pub overflow_sub-from : goal.overflow_sub-from
 overflow_sub-from c = near_fits _ (omega (arith, ints, c.from.ensures)) (omega (arith, ints, c.from.ensures))
 
 pub returns-then-frame-from-clause-free : goal.returns-then-frame-from-clause-free
-returns-then-frame-from-clause-free c past d live = omega (arith, ints, c.from.ensures, c.if-frame-from.true, (c.requires.within d live).top)
+returns-then-frame-from-clause-free c past d live =
+    omega (arith, ints, c.from.ensures, c.if-frame-from.true, (c.requires.within d live).top)
 
 pub returns-else-frame-from-clause-near : goal.returns-else-frame-from-clause-near
 returns-else-frame-from-clause-near c _ = omega (arith, ints, c.from.ensures, c.if-frame-from.false)

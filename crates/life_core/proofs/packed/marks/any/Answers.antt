@@ -14,8 +14,13 @@ returns c h p lt =
     let v = get_or c.args.words 0 0 in
     let w = get_or c.args.words 1 0 in
     let i = p % 64 in
-    let none : max (bit_at v i) (bit_at w i) ≡ 0 = sym (bit_at_or v w i) ∙ ap (λ n. bit_at n i) (is_zero (bit_or v w) h) ∙ bit_at-zero i in
+    let none : max (bit_at v i) (bit_at w i) ≡ 0 = sym (bit_at_or v w i) ∙ ap (λ n. bit_at n i) (is_zero (bit_or v w) h)
+    ∙ bit_at-zero i in
     elim (cases_lt p 64) [
-      | inl low ↦ let at : p / 64 ≡ 0 = omega arith in ap (λ j. bit_at (get_or c.args.words j 0) i) at ∙ (let zero : bit_at v i ≡ 0 = omega (arith, none) in zero)
-      | inr high ↦ let at : p / 64 ≡ 1 = omega arith in ap (λ j. bit_at (get_or c.args.words j 0) i) at ∙ (let zero : bit_at w i ≡ 0 = omega (arith, none) in zero)
+      | inl low ↦
+          let at : p / 64 ≡ 0 = omega arith in
+          ap (λ j. bit_at (get_or c.args.words j 0) i) at ∙ (let zero : bit_at v i ≡ 0 = omega (arith, none) in zero)
+      | inr high ↦
+          let at : p / 64 ≡ 1 = omega arith in
+          ap (λ j. bit_at (get_or c.args.words j 0) i) at ∙ (let zero : bit_at w i ≡ 0 = omega (arith, none) in zero)
     ]

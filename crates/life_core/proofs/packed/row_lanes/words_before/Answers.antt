@@ -8,4 +8,5 @@ returns c j lt =
     let k = c.args.k in
     let before : k - 1 + j ≡ k + j - 1 = omega arith in
     let later : 0 < k + j = omega arith in
-    c.lanes_at.ensures j lt ∙ ap (λ (n : ℕ). get_or words n 0) before ∙ ap (λ b. cond b (get_or words (k + j - 1) 0) 0) (sym (lt-ltb 0 (k + j) later))
+    c.lanes_at.ensures j lt ∙ ap (λ (n : ℕ). get_or words n 0) before
+    ∙ ap (λ b. cond b (get_or words (k + j - 1) 0) 0) (sym (lt-ltb 0 (k + j) later))

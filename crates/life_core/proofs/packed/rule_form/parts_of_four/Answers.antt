@@ -11,6 +11,7 @@ returns c i o t lt ol tl =
     let y = get_or c.parts_of_two-low.result 1 0 in
     let z = get_or c.parts_of_two-high.result 0 0 in
     let w = get_or c.parts_of_two-high.result 1 0 in
-    (λ u. toggled_bit (toggled_bit (bit_at x i) o (bit_at y i)) t (toggled_bit (bit_at_xor x z i u) o (bit_at_xor y w i u)))
+    (λ u. toggled_bit (toggled_bit (bit_at x i) o (bit_at y i)) t
+    (toggled_bit (bit_at_xor x z i u) o (bit_at_xor y w i u)))
     ∙ four_bit (bit_at x i) (bit_at y i) (bit_at z i) (bit_at w i) o t (bit_at-lt y i) (bit_at-lt w i) ol tl
     ∙ (λ u. if nat_eq t 1 then c.parts_of_two-high.ensures i o lt ol u else c.parts_of_two-low.ensures i o lt ol u)

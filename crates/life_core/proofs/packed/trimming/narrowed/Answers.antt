@@ -21,10 +21,12 @@ returns-clause-frame c =
       blank = λ y j low inside beside. elim beside [
         | inl rows ↦ elim rows [
           | inl above ↦ c.top_margin-top.ensures.blank y j (omega (arith, above, c.saturating_sub-above.ensures)) inside
-          | inr below ↦ b.blank y j (omega (arith, n.height, below, c.saturating_sub-below.ensures, b.inside)) low inside
+          | inr below ↦
+              b.blank y j (omega (arith, n.height, below, c.saturating_sub-below.ensures, b.inside)) low inside
         ]
         | inr columns ↦ elim columns [
-          | inl before ↦ c.left_margin-left.ensures.blank y j low (omega (arith, before, c.saturating_sub-before.ensures))
+          | inl before ↦
+              c.left_margin-left.ensures.blank y j low (omega (arith, before, c.saturating_sub-before.ensures))
           | inr after ↦ r.blank y j low (omega (arith, n.words, after, c.saturating_sub-after.ensures, r.inside)) inside
         ]
       ];
@@ -37,7 +39,17 @@ returns-clause-whole c =
     record {
       wide = omega (arith, n.words, whole.wide);
       tall = omega (arith, n.height, whole.tall);
-      many = omega (arith, n.height, whole.tall, whole.many, c.saturating_sub-above.ensures, c.saturating_sub-below.ensures, c.top_margin-top.ensures.inside, c.bottom_end-bottom.ensures.some, c.bottom_end-bottom.ensures.inside);
+      many = omega (
+        arith,
+        n.height,
+        whole.tall,
+        whole.many,
+        c.saturating_sub-above.ensures,
+        c.saturating_sub-below.ensures,
+        c.top_margin-top.ensures.inside,
+        c.bottom_end-bottom.ensures.some,
+        c.bottom_end-bottom.ensures.inside,
+      );
     }
 
 pub returns-clause-room : goal.returns-clause-room
@@ -53,14 +65,46 @@ returns-clause-room c = record {
       let e = c.bottom_end-bottom.result in
       let l = c.left_margin-left.result in
       let r = c.right_end-right.result in
-      let top : t ≤ p.y = elim (cases_lt p.y t) [ inl before ↦ absurd (never (c.top_margin-top.ensures.blank p.y (p.x / 64) before word)) | inr after ↦ after ] in
-      let bottom : p.y < e = elim (cases_lt p.y e) [ inl before ↦ before | inr after ↦ absurd (never (c.bottom_end-bottom.ensures.blank p.y (p.x / 64) after p.low word)) ] in
-      let left : l ≤ p.x / 64 = elim (cases_lt (p.x / 64) l) [ inl before ↦ absurd (never (c.left_margin-left.ensures.blank p.y (p.x / 64) p.low before)) | inr after ↦ after ] in
-      let right : p.x / 64 < r = elim (cases_lt (p.x / 64) r) [ inl before ↦ before | inr after ↦ absurd (never (c.right_end-right.ensures.blank p.y (p.x / 64) p.low after word)) ] in
+      let top : t ≤ p.y = elim (cases_lt p.y t) [
+        | inl before ↦ absurd (never (c.top_margin-top.ensures.blank p.y (p.x / 64) before word))
+        | inr after ↦ after
+      ] in
+      let bottom : p.y < e = elim (cases_lt p.y e) [
+        | inl before ↦ before
+        | inr after ↦ absurd (never (c.bottom_end-bottom.ensures.blank p.y (p.x / 64) after p.low word))
+      ] in
+      let left : l ≤ p.x / 64 = elim (cases_lt (p.x / 64) l) [
+        | inl before ↦ absurd (never (c.left_margin-left.ensures.blank p.y (p.x / 64) p.low before))
+        | inr after ↦ after
+      ] in
+      let right : p.x / 64 < r = elim (cases_lt (p.x / 64) r) [
+        | inl before ↦ before
+        | inr after ↦ absurd (never (c.right_end-right.ensures.blank p.y (p.x / 64) p.low after word))
+      ] in
       record {
         from_left = omega (arith, ints, n.left, p.column, a.from_left, c.saturating_sub-before.ensures, left);
-        to_right = omega (arith, ints, n.left, n.words, p.column, a.to_right, c.saturating_sub-after.ensures, right, c.right_end-right.ensures.inside);
+        to_right = omega (
+          arith,
+          ints,
+          n.left,
+          n.words,
+          p.column,
+          a.to_right,
+          c.saturating_sub-after.ensures,
+          right,
+          c.right_end-right.ensures.inside,
+        );
         from_top = omega (arith, ints, n.top, p.row, a.from_top, c.saturating_sub-above.ensures, top);
-        to_bottom = omega (arith, ints, n.top, n.height, p.row, a.to_bottom, c.saturating_sub-below.ensures, bottom, c.bottom_end-bottom.ensures.inside);
+        to_bottom = omega (
+          arith,
+          ints,
+          n.top,
+          n.height,
+          p.row,
+          a.to_bottom,
+          c.saturating_sub-below.ensures,
+          bottom,
+          c.bottom_end-bottom.ensures.inside,
+        );
       };
 }

@@ -9,5 +9,6 @@ use Rattle.life_core.proofs.packed.words.put_runs.Given as goal
 abbrev pub invariant-loop-run : goal.invariant-loop-run
 invariant-loop-run l = record {
   long : length l.rows ≡ length l.fn.rows;
-  members : (c : Cell) → set.contains (framed l.frame l.rows) c ≡ (has_cell (runs_cells (take l.run-index l.runs)) c || set.contains (framed l.frame l.fn.rows) c);
+  members : (c : Cell) → set.contains (framed l.frame l.rows) c
+      ≡ (has_cell (runs_cells (take l.run-index l.runs)) c || set.contains (framed l.frame l.fn.rows) c);
 }

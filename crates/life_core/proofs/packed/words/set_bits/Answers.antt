@@ -15,7 +15,8 @@ loop-next-preserved c =
     let next = c.loop-next.next in
     let count = c.min-count.result in
     let fits : next % 64 + count ≤ 64 = omega (arith, c.min-count.ensures) in
-    let word : next / 64 < length c.loop-next.rows = omega (arith, before.long, c.requires.within, c.loop-next-test.true) in
+    let word : next / 64 < length c.loop-next.rows =
+    omega (arith, before.long, c.requires.within, c.loop-next-test.true) in
     record {
       from = omega (arith, before.from);
       to = omega (arith, c.min-count.ensures, c.loop-next-test.true);
@@ -24,6 +25,9 @@ loop-next-preserved c =
         | inl earlier ↦ word_outside c.loop-next.rows next count word fits p (inl earlier) ∙ before.inside p low earlier
         | inr here ↦ word_inside c.loop-next.rows next count word fits p here high
       ];
-      outside = λ p apart. word_outside c.loop-next.rows next count word fits p (elim apart [ inl low ↦ inl (omega (arith, low, before.from)) | inr high ↦ inr high ])
+      outside = λ p apart. word_outside c.loop-next.rows next count word fits p (elim apart [
+        | inl low ↦ inl (omega (arith, low, before.from))
+        | inr high ↦ inr high
+      ])
           ∙ before.outside p (elim apart [ inl low ↦ inl low | inr high ↦ inr (omega (arith, high)) ]);
     }

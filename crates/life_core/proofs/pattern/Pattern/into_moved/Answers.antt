@@ -21,7 +21,8 @@ pub into_moved-requires-clause-there : goal.into_moved-requires-clause-there
 into_moved-requires-clause-there g c =
     let dx = to_z-of_z w64 c.args.dx c.ranges.dx in
     let dy = to_z-of_z w64 c.args.dy c.ranges.dy in
-    simp (dx, dy) (image_within PLANE (moved_cell c.args.dx c.args.dy) c.self.inside.cells c.args.self c.self.view_is c.requires)
+    simp (dx, dy) (image_within PLANE
+    (moved_cell c.args.dx c.args.dy) c.self.inside.cells c.args.self c.self.view_is c.requires)
 
 pub from_sorted-requires : goal.from_sorted-requires
 from_sorted-requires g c =
@@ -31,8 +32,11 @@ from_sorted-requires g c =
     let own = c.self.inside.cells in
     let is : c.into_moved.result ≡ map f own = simp (dx, dy) at c.into_moved.ensures in
     record {
-      sorted = subst (IsStrictlySortedBy cell_cmp) (sym is) (sorted-moved c.args.dx c.args.dy own c.self.invariant.sorted);
-      inside = All-same (IsCellWithin PLANE) _ _ is (All-map (IsCellWithin PLANE) f own (image_within PLANE f own c.args.self c.self.view_is c.requires));
+      sorted =
+          subst (IsStrictlySortedBy cell_cmp) (sym is) (sorted-moved c.args.dx c.args.dy own c.self.invariant.sorted);
+      inside =
+          All-same (IsCellWithin PLANE) _ _ is
+          (All-map (IsCellWithin PLANE) f own (image_within PLANE f own c.args.self c.self.view_is c.requires));
     }
 
 pub returns : goal.returns

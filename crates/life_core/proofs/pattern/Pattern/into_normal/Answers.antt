@@ -11,8 +11,10 @@ into_moved-requires g c =
     let b = c.in-Some.bounds in
     let box = c.in-Some.ensures.is_box in
     let corner = corner_within 500000000 c.args.self b.left b.top b.width b.height box c.requires in
-    let dx : to_z w64 (of_z w64 (pos 0 -ℤ to_z w64 (of_z w64 b.left))) ≡ neg_ℤ b.left = omega (arith, ints, corner.left_low, corner.left_high) in
-    let dy : to_z w64 (of_z w64 (pos 0 -ℤ to_z w64 (of_z w64 b.top))) ≡ neg_ℤ b.top = omega (arith, ints, corner.top_low, corner.top_high) in
+    let dx : to_z w64 (of_z w64 (pos 0 -ℤ to_z w64 (of_z w64 b.left))) ≡ neg_ℤ b.left =
+    omega (arith, ints, corner.left_low, corner.left_high) in
+    let dy : to_z w64 (of_z w64 (pos 0 -ℤ to_z w64 (of_z w64 b.top))) ≡ neg_ℤ b.top =
+    omega (arith, ints, corner.top_low, corner.top_high) in
     simp (dx, dy) (normal_within 500000000 c.args.self b.left b.top b.width b.height box c.requires)
 
 pub returns-in-None : goal.returns-in-None
@@ -25,6 +27,9 @@ returns-in-Some g c =
     let b = c.in-Some.bounds in
     let box = c.in-Some.ensures.is_box in
     let corner = corner_within 500000000 c.args.self b.left b.top b.width b.height box c.requires in
-    let dx : to_z w64 (of_z w64 (pos 0 -ℤ to_z w64 (of_z w64 b.left))) ≡ neg_ℤ b.left = omega (arith, ints, corner.left_low, corner.left_high) in
-    let dy : to_z w64 (of_z w64 (pos 0 -ℤ to_z w64 (of_z w64 b.top))) ≡ neg_ℤ b.top = omega (arith, ints, corner.top_low, corner.top_high) in
-    c.into_moved.ensures ∙ (λ i. image (moved_cell (dx i) (dy i)) c.args.self) ∙ normal_by_box c.args.self b.left b.top b.width b.height box
+    let dx : to_z w64 (of_z w64 (pos 0 -ℤ to_z w64 (of_z w64 b.left))) ≡ neg_ℤ b.left =
+    omega (arith, ints, corner.left_low, corner.left_high) in
+    let dy : to_z w64 (of_z w64 (pos 0 -ℤ to_z w64 (of_z w64 b.top))) ≡ neg_ℤ b.top =
+    omega (arith, ints, corner.top_low, corner.top_high) in
+    c.into_moved.ensures ∙ (λ i. image (moved_cell (dx i) (dy i)) c.args.self)
+    ∙ normal_by_box c.args.self b.left b.top b.width b.height box

@@ -8,8 +8,10 @@ returns c =
     let by = c.args.by in
     let here = c.requires.here in
     let there = c.requires.there in
-    let row : to_z w32 (of_z w32 (to_z w64 (of_z w64 (to_z w64 (of_z w64 c.from.result) +ℤ to_z w64 (of_z w64 by.row))))) ≡ r.row +ℤ by.row =
+    let row : to_z w32 (of_z w32 (to_z w64
+    (of_z w64 (to_z w64 (of_z w64 c.from.result) +ℤ to_z w64 (of_z w64 by.row))))) ≡ r.row +ℤ by.row =
     omega (arith, ints, c.from.ensures, here.top, here.bottom, there.top, there.bottom) in
-    let first : to_z w32 (of_z w32 (to_z w64 (of_z w64 (to_z w64 (of_z w64 c.from-2.result) +ℤ to_z w64 (of_z w64 by.column))))) ≡ r.first +ℤ by.column =
+    let first : to_z w32 (of_z w32 (to_z w64
+    (of_z w64 (to_z w64 (of_z w64 c.from-2.result) +ℤ to_z w64 (of_z w64 by.column))))) ≡ r.first +ℤ by.column =
     omega (arith, ints, c.from-2.ensures, here.left, here.right, there.left, there.right) in
     λ i. record { row = row i; first = first i; len = r.len }

@@ -13,19 +13,23 @@ use Rattle.life_core.proofs.runs.Runs.into_moved.Goals as goal
 
 pub move_runs-requires-clause-here : goal.move_runs-requires-clause-here
 move_runs-requires-clause-here g c =
-    All-same IsNear _ _ c.deref_mut.ensures.value (near_runs c.self.inside.runs.items c.self.invariant.longest (All-same (IsCellWithin PLANE) _ _ c.self.view_is c.requires.here))
+    All-same IsNear _ _ c.deref_mut.ensures.value (near_runs c.self.inside.runs.items c.self.invariant.longest
+    (All-same (IsCellWithin PLANE) _ _ c.self.view_is c.requires.here))
 
 pub move_runs-requires-clause-there : goal.move_runs-requires-clause-there
 move_runs-requires-clause-there g c =
     let by = c.args.by in
     All-same (λ r. IsNear (moved_run by.column by.row r)) _ _ c.deref_mut.ensures.value
-    (near_moved by.column by.row c.self.inside.runs.items c.self.invariant.longest (All-same (λ d. IsCellWithin PLANE (moved_cell by.column by.row d)) _ _ c.self.view_is c.requires.there))
+    (near_moved by.column by.row c.self.inside.runs.items c.self.invariant.longest
+    (All-same (λ d. IsCellWithin PLANE (moved_cell by.column by.row d)) _ _ c.self.view_is c.requires.there))
 
 -- the runs that are left are the moved ones
 left : (g : given.Over) (c : goal.After-runs-2-1 g)
-    → take c.self.inside.runs.len (c.move_runs.new.runs ++ drop (length c.move_runs.new.runs) c.self.inside.runs.items) ≡ map (moved_run c.args.by.column c.args.by.row) c.self.inside.runs.items
+    → take c.self.inside.runs.len (c.move_runs.new.runs ++ drop (length c.move_runs.new.runs) c.self.inside.runs.items)
+    ≡ map (moved_run c.args.by.column c.args.by.row) c.self.inside.runs.items
 left g c =
-    take_at c.move_runs.new.runs (drop (length c.move_runs.new.runs) c.self.inside.runs.items) c.self.inside.runs.len (omega (arith, c.move_runs.auto.runs, c.deref_mut.ensures.len)) ∙ c.move_runs.ensures
+    take_at c.move_runs.new.runs (drop (length c.move_runs.new.runs) c.self.inside.runs.items) c.self.inside.runs.len
+    (omega (arith, c.move_runs.auto.runs, c.deref_mut.ensures.len)) ∙ c.move_runs.ensures
     ∙ ap (map (moved_run c.args.by.column c.args.by.row)) c.deref_mut.ensures.value
 
 pub invariant_of-result : goal.invariant_of-result
@@ -34,9 +38,11 @@ invariant_of-result g c =
     let own = c.self.inside.runs.items in
     subst (λ (rs : List Run). IsRunList rs c.self.inside.len) (sym (left g c))
     (moved_run_list by.column by.row own c.self.inside.len c.self.invariant
-    (near_moved by.column by.row own c.self.invariant.longest (All-same (λ d. IsCellWithin PLANE (moved_cell by.column by.row d)) _ _ c.self.view_is c.requires.there)))
+    (near_moved by.column by.row own c.self.invariant.longest
+    (All-same (λ d. IsCellWithin PLANE (moved_cell by.column by.row d)) _ _ c.self.view_is c.requires.there)))
 
 pub returns : goal.returns
 returns g c =
     let by = c.args.by in
-    ap runs_cells (left g c) ∙ moved_list by.column by.row c.self.inside.runs.items ∙ ap (map (moved_cell by.column by.row)) c.self.view_is
+    ap runs_cells (left g c) ∙ moved_list by.column by.row c.self.inside.runs.items
+    ∙ ap (map (moved_cell by.column by.row)) c.self.view_is

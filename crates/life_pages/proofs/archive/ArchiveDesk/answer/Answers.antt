@@ -7,5 +7,8 @@ use Rattle.life_pages.proofs.archive.ArchiveDesk.answer.Goals as goal
 
 pub returns-clause-may_be_unavailable : goal.returns-clause-may_be_unavailable
 unfolding StoreAnswers
-returns-clause-may_be_unavailable g c = λ shown.
-    (c.answer.ensures.may_be_unavailable shown, shown_not_refused (validated c.args.request) c.answer.result (says.Refused refusals.Unavailable) _ shown c.answer.ensures.own_refusals)
+returns-clause-may_be_unavailable g c = λ shown. (
+  c.answer.ensures.may_be_unavailable shown,
+  shown_not_refused (validated c.args.request) c.answer.result
+      (says.Refused refusals.Unavailable) _ shown c.answer.ensures.own_refusals,
+)

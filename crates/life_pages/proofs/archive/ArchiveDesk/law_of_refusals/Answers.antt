@@ -6,4 +6,7 @@ use Rattle.life_pages.proofs.archive.ArchiveDesk.law_of_refusals.Goals as goal
 
 pub returns : goal.returns
 unfolding StoreAnswers
-returns g c = λ request refusal may. (one_unasked _ request refusal may, unasked_firm c.args.self.now (validated request) refusal may)
+returns g c = λ request refusal may. (
+  one_unasked _ request refusal may,
+  unasked_firm c.args.self.now (validated request) refusal may,
+)

@@ -4,4 +4,6 @@ use Rattle.life_rle.specs.BodyState.{body_from, place_reached}
 use Rattle.life_rle.proofs.body.Body.line.Given as goal
 
 abbrev pub invariant-loop-byte : goal.invariant-loop-byte
-invariant-loop-byte g l = (rest : List ℕ) → body_from (place_reached l.self) (without_blanks (drop l.byte-index l.line) ++ rest) ≡ body_from (place_reached l.initial.self) (without_blanks l.line ++ rest)
+invariant-loop-byte g l =
+    (rest : List ℕ) → body_from (place_reached l.self) (without_blanks (drop l.byte-index l.line) ++ rest)
+    ≡ body_from (place_reached l.initial.self) (without_blanks l.line ++ rest)

@@ -6,4 +6,5 @@ use Rattle.life_rle.proofs.machine.Machine.finish.Goals as goal
 pub finish-requires : goal.finish-requires
 unfolding lines_after
 finish-requires g c r read =
-    c.requires [] r (ap (λ line. resumed c.args.self.reader (line ∷ [])) (sym c.deref.ensures.value) ∙ sym (c.in_ok-line.ensures []) ∙ read)
+    c.requires [] r (ap (λ line. resumed c.args.self.reader (line ∷ [])) (sym c.deref.ensures.value)
+    ∙ sym (c.in_ok-line.ensures []) ∙ read)

@@ -3,7 +3,8 @@ use Rattle.life_rle.specs.MachineState.{awaited}
 use Rattle.life_rle.proofs.machine.Machine.take_all.Given as goal
 
 abbrev pub invariant-loop-line : goal.invariant-loop-line
-invariant-loop-line g l = (bytes : List ℕ) → awaited l.self (l.rest ++ bytes) ≡ awaited l.initial.self (l.piece ++ bytes)
+invariant-loop-line g l =
+    (bytes : List ℕ) → awaited l.self (l.rest ++ bytes) ≡ awaited l.initial.self (l.piece ++ bytes)
 
 abbrev pub decreases-loop-line : goal.decreases-loop-line
 decreases-loop-line g l = length l.rest

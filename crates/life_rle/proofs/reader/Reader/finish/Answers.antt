@@ -10,8 +10,10 @@ invariant_of-result g c =
     let self = c.args.self in
     let pairs = map coordinates c.in_ok-finish-in-Body.field-0 in
     is_record_with (notes self.notes) self.rule pairs c.in_ok-cells-in-Body.cells c.in_ok-cells-in-Body.ensures
-    (c.requires (contents (notes self.notes) self.rule pairs) (body_end self pairs c.in-Body.is c.in_ok-finish-in-Body.ensures.cells))
+    (c.requires (contents (notes self.notes) self.rule pairs)
+    (body_end self pairs c.in-Body.is c.in_ok-finish-in-Body.ensures.cells))
 
 pub returns-clause-inside : goal.returns-clause-inside
 returns-clause-inside g c =
-    is_inside_with c.in_ok-finish-in-Body.field-0 c.in_ok-cells-in-Body.cells c.in_ok-cells-in-Body.ensures c.in_ok-finish-in-Body.ensures.inside
+    is_inside_with c.in_ok-finish-in-Body.field-0 c.in_ok-cells-in-Body.cells c.in_ok-cells-in-Body.ensures
+    c.in_ok-finish-in-Body.ensures.inside

@@ -8,4 +8,5 @@ none_more : (n : ℕ) → n ≡ 0 → 0 + n ≡ 0
 none_more n is = omega (arith, is)
 
 pub returns-clause-faults : goal.returns-clause-faults
-returns-clause-faults c = subst (λ (s : ArchiveView MemStore). s.tables.faults ≡ 0) c.self.view_is (none_more _ (no_doubt true refl))
+returns-clause-faults c =
+    subst (λ (s : ArchiveView MemStore). s.tables.faults ≡ 0) c.self.view_is (none_more _ (no_doubt true refl))

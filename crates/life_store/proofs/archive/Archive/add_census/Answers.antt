@@ -12,15 +12,19 @@ pub returns-in_err-insert-clause-transition : goal.returns-in_err-insert-clause-
 returns-in_err-insert-clause-transition g c =
     let counted = c.count_censuses.ensures in
     let t : Tallied = record { census = c.args.census.now; tally = c.args.tally.now; steady = c.args.steady } in
-    let added : StaysHealthy c.count_censuses.new.self.tables (tables_of (state g.S.Store c.insert.new.conn)) = search (rules, c.insert.ensures.withstands.lasts) in
-    let left : CrashLeaves g.S.Store (HoldNewCensus c.count_censuses.new.self.tables c.in-Some.id t) c.count_censuses.new.self.store c.insert.new.conn.store = search (rules, c.insert.ensures.withstands.crash) in
+    let added : StaysHealthy c.count_censuses.new.self.tables (tables_of (state g.S.Store c.insert.new.conn)) =
+    search (rules, c.insert.ensures.withstands.lasts) in
+    let left : CrashLeaves g.S.Store (HoldNewCensus c.count_censuses.new.self.tables c.in-Some.id t)
+    c.count_censuses.new.self.store c.insert.new.conn.store = search (rules, c.insert.ensures.withstands.crash) in
     let next : c.in-Some.id ≡ c.in_ok-count.count + 1 = search rules in
     record {
       was_healthy = search rules;
       lasts = lasts_then _ _ _ counted.transition.lasts added;
       capacity = search rules;
       crash = crash_last _ _ _
-          (λ clean db. asked_first c.args.self.now.tables c.count_censuses.new.self.tables c.in_ok-count.count c.in-Some.id t db next (c.in_ok-count.ensures.healthy clean) counted.transition.was_healthy counted.same c.in_ok-count.ensures.value)
+          (λ clean db. asked_first c.args.self.now.tables c.count_censuses.new.self.tables
+          c.in_ok-count.count c.in-Some.id t db next
+          (c.in_ok-count.ensures.healthy clean) counted.transition.was_healthy counted.same c.in_ok-count.ensures.value)
           counted.transition.crash left;
     }
 
@@ -28,14 +32,18 @@ pub returns-clause-transition : goal.returns-clause-transition
 returns-clause-transition g c =
     let counted = c.count_censuses.ensures in
     let t : Tallied = record { census = c.args.census.now; tally = c.args.tally.now; steady = c.args.steady } in
-    let added : StaysHealthy c.count_censuses.new.self.tables (tables_of (state g.S.Store c.insert.new.conn)) = search (rules, c.insert.ensures.withstands.lasts) in
-    let left : CrashLeaves g.S.Store (HoldNewCensus c.count_censuses.new.self.tables c.in-Some.id t) c.count_censuses.new.self.store c.insert.new.conn.store = search (rules, c.insert.ensures.withstands.crash) in
+    let added : StaysHealthy c.count_censuses.new.self.tables (tables_of (state g.S.Store c.insert.new.conn)) =
+    search (rules, c.insert.ensures.withstands.lasts) in
+    let left : CrashLeaves g.S.Store (HoldNewCensus c.count_censuses.new.self.tables c.in-Some.id t)
+    c.count_censuses.new.self.store c.insert.new.conn.store = search (rules, c.insert.ensures.withstands.crash) in
     let next : c.in-Some.id ≡ c.in_ok-count.count + 1 = search rules in
     record {
       was_healthy = search rules;
       lasts = lasts_then _ _ _ counted.transition.lasts added;
       capacity = search rules;
       crash = crash_last _ _ _
-          (λ clean db. asked_first c.args.self.now.tables c.count_censuses.new.self.tables c.in_ok-count.count c.in-Some.id t db next (c.in_ok-count.ensures.healthy clean) counted.transition.was_healthy counted.same c.in_ok-count.ensures.value)
+          (λ clean db. asked_first c.args.self.now.tables c.count_censuses.new.self.tables
+          c.in_ok-count.count c.in-Some.id t db next
+          (c.in_ok-count.ensures.healthy clean) counted.transition.was_healthy counted.same c.in_ok-count.ensures.value)
           counted.transition.crash left;
     }

@@ -7,7 +7,9 @@ use Rattle.life_store.proofs.unprepared.Archive+FileStore+FileFrom+T.open_unprep
 pub returns-in-Ok-clause-found : goal.returns-in-Ok-clause-found
 returns-in-Ok-clause-found g c k healthy files =
     let clean = (healthy_is (file_state c.in-Ok.conn) healthy).0 in
-    finds_held (file_state c.in-Ok.conn) (image_at g.T.Start) k (c.in-Ok.ensures.opened clean) (c.in-Ok.ensures.found clean).holds files
+    finds_held (file_state c.in-Ok.conn) (image_at g.T.Start) k (c.in-Ok.ensures.opened clean)
+    (c.in-Ok.ensures.found clean).holds files
 
 pub returns-in-Ok-clause-healthy : goal.returns-in-Ok-clause-healthy
-returns-in-Ok-clause-healthy g c clean = healthy_from (file_state c.in-Ok.conn) clean (c.in-Ok.ensures.opened clean).0.is_open
+returns-in-Ok-clause-healthy g c clean =
+    healthy_from (file_state c.in-Ok.conn) clean (c.in-Ok.ensures.opened clean).0.is_open

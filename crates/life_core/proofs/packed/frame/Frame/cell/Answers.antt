@@ -22,7 +22,8 @@ overflow_add-result c =
     let f = c.args.self in
     let few = rows_few f c.requires.frame in
     let low = row_of_place f.words f.height c.args.p c.requires.frame.wide c.requires.p in
-    near_fits _ (omega (arith, ints, low, few, c.requires.frame.from_top, c.requires.frame.to_bottom)) (omega (arith, ints, low, few, c.requires.frame.from_top, c.requires.frame.to_bottom))
+    near_fits _ (omega (arith, ints, low, few, c.requires.frame.from_top, c.requires.frame.to_bottom))
+    (omega (arith, ints, low, few, c.requires.frame.from_top, c.requires.frame.to_bottom))
 
 pub nonzero_rem-result : goal.nonzero_rem-result
 nonzero_rem-result c = omega (arith, c.requires.frame.wide)
@@ -41,7 +42,8 @@ overflow_add-result-2 c =
     let few = words_few f c.requires.frame in
     let wide : 0 < 64 * f.words = omega (arith, c.requires.frame.wide) in
     let narrow : c.args.p % (64 * f.words) < 64 * f.words = omega arith in
-    near_fits _ (omega (arith, ints, narrow, few, c.requires.frame.from_left, c.requires.frame.to_right)) (omega (arith, ints, narrow, few, c.requires.frame.from_left, c.requires.frame.to_right))
+    near_fits _ (omega (arith, ints, narrow, few, c.requires.frame.from_left, c.requires.frame.to_right))
+    (omega (arith, ints, narrow, few, c.requires.frame.from_left, c.requires.frame.to_right))
 
 pub returns : goal.returns
 returns c =

@@ -1,4 +1,5 @@
-use Rattle.std.proofs.Common.{◌≡◌, ℕ, ◌+◌, ◌%◌, List, length, bit_xor, bit_and, bit_or, min, max, nat_eq, sym, ap, ◌∙◌, arith}
+use Rattle.std.proofs.Common.{◌≡◌, ℕ, ◌+◌, ◌%◌, List, length, bit_xor, bit_and, bit_or, min, max, nat_eq, sym, ap, ◌∙◌}
+use Rattle.std.proofs.Common.{arith}
 use Rattle.std.specs.Simd.Lanes.{zip2}
 use Rattle.std.proofs.lemmas.Simd.{length-zip2}
 use Rattle.life_core.specs.PackedRow.{place, one_if}
@@ -48,7 +49,10 @@ returns g c r is p lt few =
     place_and one own (omega arith) p
     ∙ (λ t. min (place_xor some both (omega arith) p t) (place_or s h (omega arith) p t))
     ∙ (λ t. min ((some_is t + place_and some two (omega arith) p t) % 2) (max (place s p) (place h p)))
-    ∙ (λ t. min ((((place a p + place m p) % 2 + (place d p + place k p) % 2) % 2 + min (some_is t) (two_is t)) % 2) (max (place s p) (place h p)))
-    ∙ one_of_four_lives (place h p) (place s p) (place k p) (place a p) (place m p) (place d p) _ (place-lt h p) (place-lt s p) (place-lt k p) (place-lt a p) (place-lt m p) (place-lt d p)
+    ∙ (λ t. min ((((place a p + place m p) % 2 + (place d p + place k p) % 2) % 2 + min (some_is t) (two_is t)) % 2)
+    (max (place s p) (place h p)))
+    ∙ one_of_four_lives (place h p) (place s p) (place k p) (place a p) (place m p) (place d p) _
+    (place-lt h p) (place-lt s p) (place-lt k p) (place-lt a p) (place-lt m p) (place-lt d p)
     (omega (arith, c.odd-ones.ensures p, c.carry-more.ensures p))
-    ∙ ap (λ rule. one_if (lives_at rule (nat_eq (place h p) 1) (sum_at c.args.above a c.args.sides m c.args.below d p))) (sym is)
+    ∙ ap (λ rule. one_if (lives_at rule (nat_eq (place h p) 1) (sum_at c.args.above a c.args.sides m c.args.below d p)))
+    (sym is)

@@ -15,7 +15,8 @@ pub words_of-requires-clause-cells : goal.words_of-requires-clause-cells
 words_of-requires-clause-cells g c =
     let f = c.of-frame.result in
     All-from_any same_cell_laws (IsIn f.left f.top (64 * f.words) f.height) c.cells.result.now (λ d h.
-    c.of-frame.ensures.inside d (ap (λ (X : Cells). set.contains X d) (sym (from_list_of _ c.cells.result.now c.cells.ensures.cells)) ∙ contains-list c.cells.result.now d ∙ h))
+    c.of-frame.ensures.inside d (ap (λ (X : Cells). set.contains X d)
+    (sym (from_list_of _ c.cells.result.now c.cells.ensures.cells)) ∙ contains-list c.cells.result.now d ∙ h))
 
 pub returns : goal.returns
 returns g c = c.in_ok-rows.ensures.cells ∙ from_list_of _ c.cells.result.now c.cells.ensures.cells
@@ -30,9 +31,17 @@ invariant_of-result-2 g c =
       long = omega (arith, c.in_ok-rows.ensures.len, c.in_ok-spare.ensures.len);
       marks = c.in_ok-marks.ensures;
       next_marks = c.in_ok-next_marks.ensures;
-      within = subst (IsWithin PLANE) (sym c.in_ok-rows.ensures.cells) (within_from_list PLANE c.cells.result.now c.cells.ensures.inside);
-      room = subst (HasSlack f 31) (sym (c.in_ok-rows.ensures.cells ∙ from_list_of _ c.cells.result.now c.cells.ensures.cells)) c.of-frame.ensures.slack;
-      spare_room = record { away = λ d h. absurd (false≢true (sym (no_live f c.in_ok-spare.spare.items c.of-frame.ensures.frame.wide (omega (arith, c.in_ok-rows.ensures.len, c.in_ok-spare.ensures.len)) c.in_ok-spare.ensures.zeros d) ∙ h)) };
+      within =
+          subst (IsWithin PLANE) (sym c.in_ok-rows.ensures.cells)
+          (within_from_list PLANE c.cells.result.now c.cells.ensures.inside);
+      room =
+          subst (HasSlack f 31) (sym (c.in_ok-rows.ensures.cells
+          ∙ from_list_of _ c.cells.result.now c.cells.ensures.cells)) c.of-frame.ensures.slack;
+      spare_room = record {
+        away =
+            λ d h. absurd (false≢true (sym (no_live f c.in_ok-spare.spare.items c.of-frame.ensures.frame.wide
+            (omega (arith, c.in_ok-rows.ensures.len, c.in_ok-spare.ensures.len)) c.in_ok-spare.ensures.zeros d) ∙ h));
+      };
       settled = λ never. absurd (false≢true never);
       after = λ never. absurd (false≢true never);
     }

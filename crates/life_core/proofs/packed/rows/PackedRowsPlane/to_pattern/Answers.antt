@@ -15,6 +15,10 @@ from_sorted-requires g c =
     let f = c.self.inside.frame in
     let rows = c.deref.result.now in
     record {
-      sorted = subst (IsStrictlySortedBy cell_cmp) (sym c.in_ok-list_cells.ensures) (cells_ascend f.left f.top (64 * f.words) (λ p. nat_eq (place rows p) 1) (omega (arith, c.self.invariant.frame.wide)) 0 (64 * length rows));
-      inside = list_within PLANE _ (λ d h. c.self.invariant.within d (ap (λ (X : Cells). set.contains X d) (sym (ap (set.from_list {R = cell_cmp}) c.in_ok-list_cells.ensures ∙ ap (framed f) c.deref.ensures.value)) ∙ h));
+      sorted =
+          subst (IsStrictlySortedBy cell_cmp) (sym c.in_ok-list_cells.ensures) (cells_ascend f.left f.top (64 * f.words)
+          (λ p. nat_eq (place rows p) 1) (omega (arith, c.self.invariant.frame.wide)) 0 (64 * length rows));
+      inside =
+          list_within PLANE _ (λ d h. c.self.invariant.within d (ap (λ (X : Cells). set.contains X d) (sym
+          (ap (set.from_list {R = cell_cmp}) c.in_ok-list_cells.ensures ∙ ap (framed f) c.deref.ensures.value)) ∙ h));
     }

@@ -12,7 +12,8 @@ unset x y lt = omega arith
 
 no_digits : (P : ℕ → ℕ) → ((n : ℕ) → P n < 2) → form_bit P 0 0 0 ≡ P 0
 no_digits P below =
-    unset (toggled_bit (toggled_bit (P 0) 0 (P 1)) 0 (toggled_bit (P 2) 0 (P 3))) _ (toggled-lt (toggled_bit (P 0) 0 (P 1)) 0 (toggled_bit (P 2) 0 (P 3)))
+    unset (toggled_bit (toggled_bit (P 0) 0 (P 1)) 0 (toggled_bit (P 2) 0 (P 3))) _
+    (toggled-lt (toggled_bit (P 0) 0 (P 1)) 0 (toggled_bit (P 2) 0 (P 3)))
     ∙ unset (toggled_bit (P 0) 0 (P 1)) (toggled_bit (P 2) 0 (P 3)) (toggled-lt (P 0) 0 (P 1))
     ∙ unset (P 0) (P 1) (below 0)
 
@@ -31,9 +32,27 @@ returns g c r form p lt few =
     let el = place-lt c.both-eights.result p in
     let hl = place-lt c.args.here p in
     let low : i < 64 = omega arith in
-    let is : place c.toggled.result p ≡ toggled_bit (form_bit P o t f) e (P 8) = c.toggled.ensures p ∙ (λ u. toggled_bit (c.formed.ensures p lt u) e (c.part.ensures p lt u)) in
-    let sum : o + (2 * t + (4 * f + 8 * e)) ≡ (place c.args.above p + 2 * place c.args.above2 p) + ((place c.args.sides p + 2 * place c.args.sides2 p) + (place c.args.below p + 2 * place c.args.below2 p)) =
-    omega (arith, c.odd-ones.ensures p, c.carry-more.ensures p, c.odd-some.ensures p, c.carry-high.ensures p, c.one_of-twos.ensures p, c.both-rest.ensures p, c.one_of-fours.ensures p, c.both-eights.ensures p, place-lt c.args.above p, place-lt c.args.above2 p, place-lt c.args.sides p, place-lt c.args.sides2 p, place-lt c.args.below p, place-lt c.args.below2 p) in
+    let is : place c.toggled.result p ≡ toggled_bit (form_bit P o t f) e (P 8) = c.toggled.ensures p
+    ∙ (λ u. toggled_bit (c.formed.ensures p lt u) e (c.part.ensures p lt u)) in
+    let sum : o + (2 * t + (4 * f + 8 * e)) ≡ (place c.args.above p + 2 * place c.args.above2 p)
+    + ((place c.args.sides p + 2 * place c.args.sides2 p) + (place c.args.below p + 2 * place c.args.below2 p)) =
+    omega (
+      arith,
+      c.odd-ones.ensures p,
+      c.carry-more.ensures p,
+      c.odd-some.ensures p,
+      c.carry-high.ensures p,
+      c.one_of-twos.ensures p,
+      c.both-rest.ensures p,
+      c.one_of-fours.ensures p,
+      c.both-eights.ensures p,
+      place-lt c.args.above p,
+      place-lt c.args.above2 p,
+      place-lt c.args.sides p,
+      place-lt c.args.sides2 p,
+      place-lt c.args.below p,
+      place-lt c.args.below2 p,
+    ) in
     is ∙ elim (cases_eq e 0) [
       | inl none ↦
           let count : o + (2 * t + 4 * f) ≡ o + (2 * t + (4 * f + 8 * e)) = omega (arith, none) in

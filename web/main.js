@@ -2,10 +2,10 @@
 // `/o/B3-S23/xq4_153`.
 
 import { go, memberAddress } from './shared/address.js';
-import { bring } from './shared/brought.js';
 import { againButton, isMember, make, refusal } from './shared/dom.js';
 import { load } from './shared/groups.js';
-import { keepPlace, keepSetting, place, setting } from './shared/kept.js';
+import { entryState, keepEntryState, keepSetting, setting } from './shared/kept.js';
+import { passFiles } from './shared/passed.js';
 import { homePage } from './pages/home.js';
 import { deposits, depositsOf } from './pages/list.js';
 import { Refused } from './requests/refusals.js';
@@ -160,7 +160,7 @@ function fillBox(path) {
 }
 
 async function show() {
-  const { scroll = 0 } = place();
+  const { scroll = 0 } = entryState();
   clearTimeout(scrolled);
   current?.end();
   const page = current = new Page();
@@ -233,7 +233,7 @@ async function take(files) {
       current.taken(files);
       return;
     }
-    bring(files);
+    passFiles(files);
     go(isHaul ? '/haul' : '/new');
   } catch (error) {
     fail(current, error);
@@ -322,7 +322,7 @@ document.getElementById('skip').addEventListener('click', () => main.focus());
 history.scrollRestoration = 'manual';
 addEventListener('scroll', () => {
   clearTimeout(scrolled);
-  scrolled = setTimeout(() => keepPlace({ scroll: scrollY }), STILL);
+  scrolled = setTimeout(() => keepEntryState({ scroll: scrollY }), STILL);
 }, { passive: true });
 addEventListener('popstate', show);
 // Links to pages are handled here, unless they open in another tab or window.

@@ -4,7 +4,6 @@
 import { censusAddress, depositAddress, go, memberAddress, objectAddress } from '../shared/address.js';
 import { Ages } from '../player/ages.js';
 import { deposit, depositRows, kind, sendCensus } from '../requests/archive.js';
-import { noteOf } from '../shared/brought.js';
 import { objectNames } from '../patterns/code.js';
 import { commentsPart } from './comments.js';
 import { controls, keysOf } from './controls.js';
@@ -23,6 +22,7 @@ import {
 import { GENERATION_LIMIT, PERIOD_LIMIT } from '../shared/limits.js';
 import { countAll } from '../player/maker.js';
 import { learnMember, memberPart, rememberMember } from '../shared/member.js';
+import { noteOf } from '../shared/passed.js';
 import { saveSection } from '../drawing/picture.js';
 import { Player } from '../player/player.js';
 import { Refused } from '../requests/refusals.js';

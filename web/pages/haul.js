@@ -5,8 +5,8 @@ import { go } from '../shared/address.js';
 import { Labels, countNote, objectRow, unresolvedRow } from './census.js';
 import { objectNames } from '../patterns/code.js';
 import { field, make, plural, withCommas } from '../shared/dom.js';
-import { bring, broughtFiles } from '../shared/brought.js';
 import { draft, keepDraft } from '../shared/kept.js';
+import { passFiles, passedFiles } from '../shared/passed.js';
 import { Heads, sorted } from '../shared/sorts.js';
 import { sumOf } from '../patterns/sum.js';
 
@@ -89,7 +89,7 @@ export function soupFile(root, rule, number, symmetry = 'C1') {
 /** A button that opens a soup on the page for depositing files. */
 function soupButton(haul, number) {
   const click = () => {
-    bring([new File([soupFile(haul.root, haul.rule, number, haul.symmetry)], `soup-${number}.rle`)]);
+    passFiles([new File([soupFile(haul.root, haul.rule, number, haul.symmetry)], `soup-${number}.rle`)]);
     go('/new');
   };
   const title = `Soup ${number}: see it, deposit it`;
@@ -215,7 +215,7 @@ export async function haulPage(page) {
     ),
     place,
   );
-  const [brought, kept] = [broughtFiles(), draft(DRAFT)];
-  if (brought) await take(brought);
+  const [passed, kept] = [passedFiles(), draft(DRAFT)];
+  if (passed) await take(passed);
   else if (kept) await show(kept, 'The table');
 }

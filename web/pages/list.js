@@ -5,7 +5,7 @@ import { deposit, depositsAfter, lastDeposit } from '../requests/archive.js';
 import { field, isMember, make, plural, refusal, withCommas } from '../shared/dom.js';
 import { thumbnail } from '../drawing/draw.js';
 import { allDeposits, indexHead, indexNote } from '../requests/index.js';
-import { keepPlace, place } from '../shared/kept.js';
+import { entryState, keepEntryState } from '../shared/kept.js';
 import { LONGEST_LIST, LONGEST_MEMBER } from '../shared/limits.js';
 import { Refused } from '../requests/refusals.js';
 
@@ -119,9 +119,9 @@ export function shownRows(page, rows) {
   };
   more.addEventListener('click', () => {
     show(SHOWN);
-    keepPlace({ shown });
+    keepEntryState({ shown });
   });
-  show(place().shown ?? SHOWN);
+  show(entryState().shown ?? SHOWN);
   walk(page);
   return [list, make('p', {}, more)];
 }

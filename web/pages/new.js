@@ -1,7 +1,6 @@
 // Depositing: a file is dropped, chosen or pasted, drawn, and sent under a member's name and a token.
 
 import { depositAddress, go } from '../shared/address.js';
-import { broughtFiles, keepNote } from '../shared/brought.js';
 import { lastDeposit, sendDeposit } from '../requests/archive.js';
 import { field, isMember, make, plural, refusal } from '../shared/dom.js';
 import { thumbnail } from '../drawing/draw.js';
@@ -11,6 +10,7 @@ import { LONGEST_FILE, LONGEST_MEMBER, LONGEST_SIDE, LONGEST_TEXT, LONGEST_TOKEN
 import { Table, forgetTable, keptTable } from './many.js';
 import { memberPart, rememberMember } from '../shared/member.js';
 import { NO_FILES, baseName, patternsOf, withTexts } from '../patterns/names.js';
+import { keepNote, passedFiles } from '../shared/passed.js';
 import { Refused } from '../requests/refusals.js';
 import { Fault } from '../patterns/rle.js';
 import { ruleText } from '../patterns/rule.js';
@@ -304,7 +304,7 @@ export function depositForm(page) {
   page.root.append(make('h1', { tabindex: -1 }, 'Deposit a file'), form);
   page.taken = takerOf(form, part, content, page);
   const typed = draft('pattern');
-  const brought = broughtFiles();
-  content.take(brought || !typed ? new Uint8Array() : new TextEncoder().encode(typed), true);
-  if (brought) page.taken(brought);
+  const passed = passedFiles();
+  content.take(passed || !typed ? new Uint8Array() : new TextEncoder().encode(typed), true);
+  if (passed) page.taken(passed);
 }

@@ -4,7 +4,7 @@ import { depositAddress, go } from '../shared/address.js';
 import { copyButton, make, withCommas } from '../shared/dom.js';
 import { LONGEST_SIDE } from '../shared/limits.js';
 import { save } from '../drawing/picture.js';
-import { bring } from '../shared/brought.js';
+import { passFiles } from '../shared/passed.js';
 import { ruleText } from '../patterns/rule.js';
 import { fileOf, withOrigin } from '../patterns/writer.js';
 
@@ -110,7 +110,7 @@ export class Shown {
       );
     }
     const click = () => {
-      bring([new File([this.file], this.fileName)]);
+      passFiles([new File([this.file], this.fileName)]);
       go('/new');
     };
     return make('button', { type: 'button', id: 'deposit-generation', click }, 'Deposit this generation');

@@ -26,5 +26,5 @@ export const draft = (name) => read(forWindow, name);
 export const keepDraft = (name, value) => write(forWindow, name, value);
 
 /** What is stored with an entry in the window's history, so that going back finds the page as it was left. */
-export const place = () => history.state ?? {};
-export const keepPlace = (more) => history.replaceState({ ...history.state, ...more }, '');
+export const entryState = () => history.state ?? {};
+export const keepEntryState = (more) => history.replaceState({ ...history.state, ...more }, '');

@@ -9,12 +9,12 @@ let note = null;
  * Stores files for the page that deposits them.
  * @param {(File | Blob)[]} given
  */
-export function bring(given) {
+export function passFiles(given) {
   files = given;
 }
 
 /** The files that were passed, once; nothing if there are none. */
-export function broughtFiles() {
+export function passedFiles() {
   const taken = files;
   files = null;
   return taken;

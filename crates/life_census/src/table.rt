@@ -29,11 +29,13 @@ fn text_of<A: Allocator + Copy>(
 ) -> Result<Vec<u8, A>, AllocError>
     ensures { IfOk result (λ v. v.items ≡ lines (map row_seen rows.now) unresolved) }
 {
-    let mut table = with_fields(new_table(alloc), b"code", b"count")?;
+    let mut table = new_table(alloc);
+    add_fields(&mut table, b"code", b"count")?;
     for row in rows {
-        table = with_line(table, row.code.as_bytes(), row.count)?;
+        add_line(&mut table, row.code.as_bytes(), row.count)?;
     }
-    finish(with_line(table, b"unresolved", unresolved)?)
+    add_line(&mut table, b"unresolved", unresolved)?;
+    finish(table)
 }
 
 /// A table without lines.
@@ -43,33 +45,31 @@ fn new_table<A: Allocator>(alloc: A) -> Writer<Vec<u8, A>>
     WriterBuilder::new().from_writer(Vec::new(alloc))
 }
 
-/// The table with one more line of two fields.
-fn with_fields<A: Allocator>(
-    table: Writer<Vec<u8, A>>,
+/// Adds a line of two fields.
+fn add_fields<A: Allocator>(
+    table: &mut Writer<Vec<u8, A>>,
     first: &[u8],
     second: &[u8],
-) -> Result<Writer<Vec<u8, A>>, AllocError>
-    ensures { IfOk result (λ w. (text : List ℕ) → Holds table text → Holds w (text ++ row_text default_writer (first.now ∷ second.now ∷ []))) }
+) -> Result<(), AllocError>
+    ensures { IfOk result (λ _. (text : List ℕ) → Holds table.old text → Holds table.new (text ++ row_text default_writer (first.now ∷ second.now ∷ []))) }
 {
-    let mut writer = table;
-    let fields = [first, second];
-    match writer.write_fields(&fields) {
-        Ok(()) => Ok(writer),
+    match table.write_fields(&[first, second]) {
+        Ok(()) => Ok(()),
         Err(_) => Err(AllocError),
     }
 }
 
-/// The table with one more line: a code and a count.
-fn with_line<A: Allocator>(
-    table: Writer<Vec<u8, A>>,
+/// Adds a line of a code and a count.
+fn add_line<A: Allocator>(
+    table: &mut Writer<Vec<u8, A>>,
     code: &[u8],
     count: u64,
-) -> Result<Writer<Vec<u8, A>>, AllocError>
+) -> Result<(), AllocError>
     requires { list_all is_code_byte code.now ≡ true }
-    ensures { IfOk result (λ w. (text : List ℕ) → Holds table text → Holds w (text ++ line code.now count)) }
+    ensures { IfOk result (λ _. (text : List ℕ) → Holds table.old text → Holds table.new (text ++ line code.now count)) }
 {
     let mut buffer = Buffer::new();
-    with_fields(table, code, buffer.format(count).as_bytes())
+    add_fields(table, code, buffer.format(count).as_bytes())
 }
 
 /// The text of the table.

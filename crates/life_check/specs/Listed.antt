@@ -26,7 +26,8 @@ IsWrongThere deposits wrong.Tables = ⊥
 abbrev pub AreWrongThere : List Row → List Wrong → Type 0
 AreWrongThere deposits = AllByRecursion (IsWrongThere deposits)
 
--- The error comes before all censuses: then the deposits after it were not looked at.
+-- The error is the layout's or a deposit's. The check then ended before the censuses, and the list continues with the
+-- deposits after it. Where the tables are others than an archive's, nothing more is listed.
 abbrev pub IsBeforeCensuses : Wrong → Type 0
 IsBeforeCensuses wrong.Tables = ⊥
 IsBeforeCensuses wrong.Layout = ⊤

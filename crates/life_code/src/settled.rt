@@ -1,5 +1,5 @@
 //! Generations of fields that settle: once a field is known to consist of parts that return and never meet, any later generation is computed directly.
-ghost use Rattle.std.specs.Prelude.{◌≡◌, ◌≤◌, ◌-◌, ◌/◌, pos, ◌*ℤ◌, map, IfOk, IfSome, IsTrue};
+ghost use Rattle.std.specs.Prelude.{◌≡◌, ◌≤◌, ◌/◌, pos, ◌*ℤ◌, map, IfOk, IfSome, IsTrue};
 ghost use Rattle.std.specs.List.{All};
 ghost use Rattle.life_core.specs.Generations.{generation_of, HasRoomFor, GivesGeneration};
 ghost use Rattle.life_core.specs.Pattern.{IsWithin};
@@ -192,6 +192,7 @@ fn settled<A: Allocator + Copy, P: Plane<A>>(
     ensures known { All (IsMoving rule.now) known.new.items }
     ensures later { IfOk result (λ o. IfSome o (λ X. X ≡ generation_of rule.now field.now n)) }
 {
+    // For the proof alone: under no rule is a cell born without neighbours.
     let _quiet = rule.is_live_next(false, 0);
     match moving_parts::<A, P>(alloc, rule, field, SETTLED_LIMIT, LARGEST_PART, known)? {
         Some(parts) => later_parts(alloc, rule, &parts, n),
@@ -242,28 +243,22 @@ fn repeated<A: Allocator + Copy, P: Plane<A>>(
     later_return(alloc, rule, pattern, i, Cell { row, column }, n)
 }
 
-/// Generation `n`, if it is time to look at generation `i`, which the plane has, and the field is seen to have settled. `last` is how many cells
-/// the last look found.
+/// The field of a plane, `n` generations later, if it is seen to have settled. `last` is how many cells the last look found.
 fn look<A: Allocator + Copy, P: Plane<A>>(
     alloc: A,
     rule: &Rule,
     plane: &P,
     start: Start,
-    i: u32,
     n: u32,
     known: &mut Vec<Moving<A>, A>,
     last: &mut usize,
 ) -> Result<Option<Pattern<A>>, Fault>
-    requires later { i ≤ n }
     requires few { n ≤ GENERATION_LIMIT }
     requires room { IsWithin 500_000_000 (P.cells plane.now) }
     requires known { All (IsMoving rule.now) known.old.items }
     ensures known { All (IsMoving rule.now) known.new.items }
-    ensures later { IfOk result (λ o. IfSome o (λ X. X ≡ generation_of rule.now (P.cells plane.now) (n - i))) }
+    ensures later { IfOk result (λ o. IfSome o (λ X. X ≡ generation_of rule.now (P.cells plane.now) n)) }
 {
-    if !is_look(start, i, n) {
-        return Ok(None);
-    }
     if *last > MOST_CELLS {
         return Ok(None);
     }
@@ -273,7 +268,7 @@ fn look<A: Allocator + Copy, P: Plane<A>>(
     if !may_be_settled(start, before, *last) {
         return Ok(None);
     }
-    settled::<A, P>(alloc, rule, &field, n - i, known)
+    settled::<A, P>(alloc, rule, &field, n, known)
 }
 
 /// Generation `n` of the pattern, made on a plane of the kind `P` until it is seen to have settled.
@@ -300,8 +295,11 @@ fn settled_generation_by<A: Allocator + Copy, P: Plane<A>>(
                 return Ok(later);
             }
         }
-        if let Some(later) = look(alloc, rule, &plane, start, i, n, &mut known, &mut last)? {
-            return Ok(later);
+        if is_look(start, i, n) {
+            let left = n - i;
+            if let Some(later) = look(alloc, rule, &plane, start, left, &mut known, &mut last)? {
+                return Ok(later);
+            }
         }
         plane.step(rule)?;
     }

@@ -30,10 +30,10 @@ pub(crate) fn shift_of_words(
 {
     let first = first_cell(frame, rows)?;
     let other = first_cell(to, others)?;
-    let there = shift_of(first, other);
-    let back = shift_of(other, first);
+    let there = shift_of(first.1, other.1);
+    let back = shift_of(other.1, first.1);
     // The search for a period compares with later sets, which mostly are larger: then this fails at one of the first or the last cells.
-    if !begins_covered(to, others, frame, rows, back) {
+    if !begins_covered(to, others, other.0, frame, rows, back) {
         return None;
     }
     if !covers(to, others, frame, rows, back) {
@@ -45,16 +45,17 @@ pub(crate) fn shift_of_words(
     Some(there)
 }
 
-/// The first live cell, by row and then by column.
-fn first_cell(frame: Frame, rows: &[u64]) -> Option<Cell>
+/// The number of the first word with live cells, and the first of all live cells, by row and then by column.
+fn first_cell(frame: Frame, rows: &[u64]) -> Option<(usize, Cell)>
     requires frame { IsFrame frame }
     requires rows { frame.height * frame.words ≡ length rows.now }
     ensures none { IsNone result → (c : Cell) → set.contains (framed frame rows.now) c ≡ false }
-    ensures first { IfSome result (IsFirst (framed frame rows.now)) }
+    ensures first { IfSome result (λ found. IsFirst (framed frame rows.now) found.1) }
 {
     for k in 0..rows.len() {
         if rows[k] != 0 {
-            return Some(to_the_right(frame.cell(64 * k), rows[k].trailing_zeros()));
+            let cell = to_the_right(frame.cell(64 * k), rows[k].trailing_zeros());
+            return Some((k, cell));
         }
     }
     None
@@ -63,9 +64,16 @@ fn first_cell(frame: Frame, rows: &[u64]) -> Option<Cell>
 /// The most words that [`begins_covered`] compares.
 const FIRST_WORDS: usize = 4;
 
-/// Whether the translation takes the live cells of the first words that have some to others; if not, it takes the set to no part of the
-/// other. Shapes that differ mostly do so there.
-fn begins_covered(frame: Frame, rows: &[u64], to: Frame, others: &[u64], shift: (i64, i64)) -> bool
+/// Whether the translation takes the live cells of the first words that have some, from the word `start` on, to others; if not, it takes
+/// the set to no part of the other. Shapes that differ mostly do so there.
+fn begins_covered(
+    frame: Frame,
+    rows: &[u64],
+    start: usize,
+    to: Frame,
+    others: &[u64],
+    shift: (i64, i64),
+) -> bool
     requires frame { IsFrame frame }
     requires rows { frame.height * frame.words ≡ length rows.now }
     requires to { IsFrame to }
@@ -75,7 +83,7 @@ fn begins_covered(frame: Frame, rows: &[u64], to: Frame, others: &[u64], shift: 
     ensures { Covers (framed frame rows.now) (framed to others.now) shift → IsTrue result }
 {
     let mut left = FIRST_WORDS;
-    for k in 0..rows.len() {
+    for k in start..rows.len() {
         if rows[k] != 0 {
             if left == 0 {
                 return true;

@@ -1,9 +1,12 @@
-use Rattle.std.proofs.Common.{◌≡◌, ◌-◌, IfSome, Ok, subst, ap, refl, ◌∙◌, arith}
-use Rattle.life_core.specs.Generations.{generation_of}
+use Rattle.std.proofs.Common.{◌≡◌, suc, ◌+◌, ◌-◌, IfSome, Ok, subst, sym, ap, refl, ◌∙◌, arith}
+use Rattle.std.specs.List.{All}
+use Rattle.life_core.specs.Generations.{generation_of, next}
+use Rattle.life_code.specs.ApartState.{IsMoving}
 use Rattle.life_core.proofs.GenerationsLaws.{within_more}
 use Rattle.life_code.proofs.PeriodSteps.{here_room, room_at}
 use Rattle.life_code.proofs.SettledLemmas.{rest_is, given_generation}
 use Rattle.life_code.proofs.settled.settled_generation_by.Goals as goal
+use Rattle.life_code.proofs.settled.settled_generation_by.Goals.{then-is_look+in_ok-later-3+in_default-3, else-is_look}
 
 pub first_look-requires-clause-room : goal.first_look-requires-clause-room
 first_look-requires-clause-room g c = within_more 400000000 500000000 c.args.pattern.now (omega arith) c.requires.room
@@ -53,3 +56,14 @@ returns g c =
     let end : c.loop-i.i ≡ c.args.n = omega (arith, c.loop-i-test.false, c.loop-i.auto.i-end) in
     given_generation c.args.rule.now c.args.pattern.now (g.P.Plane.cells c.loop-i.plane) c.args.n c.to_pattern.result
     (c.loop-i.invariant.now ∙ ap (generation_of c.args.rule.now c.args.pattern.now) end) c.to_pattern.ensures
+
+pub loop-i-preserved : goal.loop-i-preserved
+loop-i-preserved g c =
+    let known : All (IsMoving c.args.rule.now) c.if-is_look.known.items = elim c.if-is_look.branch [
+      | then-is_look+in_ok-later-3+in_default-3 w ↦
+          subst (λ k. All (IsMoving c.args.rule.now) k.items) (sym w.known-is) w.look.ensures.known
+      | else-is_look w ↦ subst (λ k. All (IsMoving c.args.rule.now) k.items) (sym w.known-is) c.loop-i.invariant.known
+    ] in
+    let later : suc c.loop-i.i ≡ c.loop-i.i + 1 = omega arith in
+    let now = c.in_ok-step.ensures.ok ∙ ap (next c.args.rule.now) c.loop-i.invariant.now in
+    record { now = now ∙ ap (generation_of c.args.rule.now c.args.pattern.now) later; known = known }

@@ -21,7 +21,7 @@ returns-then-rows-k-ne0-clause-first c =
     let k = c.loop-k.k in
     let tz = bit_at-trailing_zeros w64 (get_or rows k 0) (omega (arith, c.if-rows-k-ne0.true))
     (c.type_inv.rows k).fits in
-    let at = c.to_the_right.ensures ∙ ap (moved_cell (pos _) (pos 0)) c.cell.ensures
+    let at = c.to_the_right-cell.ensures ∙ ap (moved_cell (pos _) (pos 0)) c.cell.ensures
     ∙ sym (cell_of-word f.left f.top f.words k _ c.requires.frame.wide tz.0) in
     subst (IsFirst (framed f rows)) (sym at)
     (first_bit f rows c.requires.frame.wide c.requires.rows k _ c.loop-k-test.true tz.0 c.loop-k.invariant tz.1 tz.2)

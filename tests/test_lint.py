@@ -12,7 +12,7 @@ pytestmark = pytest.mark.quick
 # The width of lines in .editorconfig. No linter looks at that of JavaScript, CSS and antt.
 MOST_COLUMNS = 120
 # What no line of antt can break: a text in quotes, and the path of an import with one name.
-UNBROKEN = re.compile(r' +"[^\n]*"\)*|use \S+')
+UNBROKEN = re.compile(r' +"(?:[^"\\]|\\.)*"\)*|use \S+')
 
 
 @pytest.mark.parametrize("name", linters.tools())

@@ -187,7 +187,7 @@ def test_sums(folder: str) -> None:
 
 # ---- help
 
-with open(os.path.join(HERE, "..", "crates", "life_words", "src", "words.rt"), encoding="utf-8") as words:
+with open(os.path.join(HERE, "..", "crates", "life_words", "src", "life_arguments.rt"), encoding="utf-8") as words:
     SUBCOMMANDS = re.findall(r'named_command\(alloc, "([a-z]+)"', words.read())
 PARTS = ["Reads: ", "Prints: ", "Refuses: ", "Example: "]
 # What has to be there before an example is run.

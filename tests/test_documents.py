@@ -49,7 +49,7 @@ SITE, PROXY = routes.SITE, routes.PROXY
 EXPLAIN, NAMES_OF_REFUSALS, WORDS = (
     "crates/life_words/src/explain.rt",
     "crates/life_words/specs/Explain.antt",
-    "crates/life_words/src/words.rt",
+    "crates/life_words/src/life_arguments.rt",
 )
 # The sources that have a case for each route.
 ROUTER, ASKED = "crates/life_pages/src/route.rt", "crates/life_pages/src/asked.rt"
@@ -117,7 +117,7 @@ PLANTED = {
     "web/pages/about.js": ("A square of the plane", "A square that is none, of the plane"),
     "web/player/stepper.js": ("A worker that computes", "A worker, for want of memory, that computes"),
     "web/index.html": ("<title>", "<title>No page and no archive: "),
-    "crates/life_words/src/words.rt": ("Stores the pattern", "Stores so many patterns"),
+    "crates/life_words/src/life_arguments.rt": ("Stores the pattern", "Stores so many patterns"),
     "crates/life_core/src/rule.rt": ("/// A rule", "/// It is no rule. A rule"),
     "crates/core_tests/src/planes.rt": ("//! Patterns", "//! So many patterns"),
     "crates/life_core/specs/Rule.antt": ("-- a finite set", "-- as far as it goes, a set"),

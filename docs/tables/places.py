@@ -70,7 +70,11 @@ def of_crates(facts: Facts) -> List[Place]:
         bounded(f"{folder}/src/explain.rt", source, "static EXPLANATIONS:", "];", refusals.rust_table(named)),
         bounded(f"{folder}/specs/Explain.antt", source, "refusal_names =", "∷ []", refusals.specified_names(named)),
         bounded(
-            f"{folder}/src/words.rt", source, "Names:   ", "\nRefuses: unavailable", [*names, "Refuses: unavailable"]
+            f"{folder}/src/life_arguments.rt",
+            source,
+            "Names:   ",
+            "\nRefuses: unavailable",
+            [*names, "Refuses: unavailable"],
         ),
     ]
 

@@ -2,6 +2,6 @@
 #![tactic(auto)]
 
 #[cfg(test)]
-mod hauls;
+mod haul_command_lines;
 #[cfg(test)]
-mod words;
+mod hauls;

@@ -2,6 +2,6 @@
 #![tactic(auto)]
 
 #[cfg(test)]
-mod jobs;
+mod job_runs;
 #[cfg(test)]
-mod words;
+mod life_command_lines;

@@ -11,8 +11,8 @@ ghost use Rattle.life_check.specs.ReadState.{count_row, flag_row_of, IsAskable};
 ghost use Rattle.life_check.specs.WalkState.{IsCalm};
 ghost use Rattle.life_check.specs.CountState.{AreFiled, AreSome, AreTallied, Takes, TakesClusters, IsBefore, AwaitsCensus, AwaitsRest, HasCounted, Follows, FindsCounted};
 
-use crate::counting::counted;
 use crate::deposits::{DEPOSITS, LAST};
+use crate::recounting::counted;
 use crate::rows::{
     census_in, deposit_of_row, is_askable, is_of_census, is_of_count, is_of_flag, number_at,
     text_at,

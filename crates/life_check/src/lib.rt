@@ -3,11 +3,11 @@
 #![tactic(auto)]
 
 mod censuses;
-mod counting;
 mod deposits;
 mod files;
 mod judging;
 mod listing;
+mod recounting;
 mod rows;
 mod schemas;
 #[cfg(test)]

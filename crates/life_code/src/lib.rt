@@ -2,13 +2,13 @@
 #![tactic(auto)]
 
 mod apart;
+mod code_laws;
 mod codes;
 mod decode;
 mod fault;
 mod frames;
 mod growing;
 mod kinds;
-mod laws;
 mod marks;
 mod object;
 mod open;
@@ -16,9 +16,9 @@ mod period;
 mod settled;
 mod wechsler;
 
+pub use code_laws::laws_of_codes;
 pub use fault::CodeFault;
 pub use kinds::Kind;
-pub use laws::laws_of_codes;
 pub use object::{Coded, code, code_of_kind, same_object};
 pub use open::open_code;
 pub use period::{PERIOD_LIMIT, kind, kind_by};

@@ -1,12 +1,15 @@
 -- Blocks that are written row by row.
-use Rattle.std.proofs.Common.{◌≡◌, ◌⊎◌, ℕ, ◌+◌, ◌*◌, ◌/◌, ◌<◌, ◌≤◌, max, List, length, get_or, bit_or, sym, ap, ◌∙◌}
-use Rattle.std.proofs.Common.{inl, inr, arith}
+use Rattle.std.proofs.Common.{◌≡◌, ◌⊎◌, ℕ, ◌+◌, ◌-◌, ◌*◌, ◌/◌, ◌<◌, ◌≤◌, max, nat_eq, List, length, get_or, bit_or}
+use Rattle.std.proofs.Common.{sym, ap, ◌∙◌, inl, inr, arith}
 use Rattle.std.specs.Simd.Lanes.{zip2}
 use Rattle.std.proofs.lemmas.Bool.{cases_lt}
 use Rattle.std.proofs.lemmas.Nat.{mul-le}
-use Rattle.life_core.specs.PackedRow.{place}
-use Rattle.life_core.specs.PackedBlocksState.{IsOutside, IsRowStep, IsBlockStep}
-use Rattle.life_core.proofs.LanePlaces.{place_or, place_word}
+use Rattle.life_core.specs.PackedRow.{place, one_if}
+use Rattle.life_core.specs.Rule.{RuleSets, lives_at}
+use Rattle.life_core.specs.PackedLanesState.{digits_at, sum_at}
+use Rattle.life_core.specs.PackedBlocksState.{flat_next, AreSumsAt, IsOutside, IsRowStep, IsBlockStep}
+use Rattle.life_core.specs.declared.packed.row_kernel.WideSums.{WideSums}
+use Rattle.life_core.proofs.LanePlaces.{place_or, place_word, few_live}
 
 -- rows of a block stand apart
 apart : (i n words : ℕ) → i < n → i * words + words ≤ n * words
@@ -99,3 +102,48 @@ pub block_top : (width : ℕ) (N : ℕ → ℕ) (at words n k : ℕ) (mid new ch
 block_top width N at words n k mid new changed wide some is row p narrow =
     let far = mul-le 1 words n words some (omega arith) in
     place_word new mid (64 * at + p) (row.rest ((64 * at + p) / 64) (inl (omega (arith, far, wide, is))))
+
+-- place q p of words that evolve: place p of the two words from k on, one generation later
+pub row_next : (r : RuleSets) (rows : List ℕ) (words k : ℕ) (q m : ℕ → ℕ) (p : ℕ) (above middle below : WideSums)
+    (here sides sides2 new : List ℕ) → words + 1 ≤ k
+    → AreSumsAt rows (k - words) q above → AreSumsAt rows k m middle → AreSumsAt rows (k + words) q below
+    → p < 128
+    → place here (q p) ≡ place middle.here (m p)
+    → place sides (q p) ≡ place middle.sides (m p)
+    → place sides2 (q p) ≡ place middle.sides2 (m p)
+    → (sum_at above.all above.all2 sides sides2 below.all below.all2 (q p) < 9 → place new (q p)
+    ≡ one_if (lives_at r (nat_eq (place here (q p)) 1)
+    (sum_at above.all above.all2 sides sides2 below.all below.all2 (q p))))
+    → place new (q p) ≡ flat_next r rows (64 * words) (64 * k + p)
+row_next r rows words k q m p above middle below here sides sides2 new first a h b lt live side side2 next =
+    let W : ℕ = 64 * words in
+    let at : ℕ = 64 * k + p in
+    let a0 : 64 * (k - words) + p - 1 ≡ at - W - 1 = omega arith in
+    let a1 : 64 * (k - words) + p ≡ at - W = omega arith in
+    let a2 : 64 * (k - words) + p + 1 ≡ at - W + 1 = omega arith in
+    let b0 : 64 * (k + words) + p - 1 ≡ at + W - 1 = omega arith in
+    let b1 : 64 * (k + words) + p ≡ at + W = omega arith in
+    let b2 : 64 * (k + words) + p + 1 ≡ at + W + 1 = omega arith in
+    let up : digits_at above.all above.all2 (q p) ≡ place rows (at - W - 1) + (place rows (at - W)
+    + place rows (at - W + 1)) = a.all p lt ∙ (λ t. place rows (a0 t) + (place rows (a1 t) + place rows (a2 t))) in
+    let beside : digits_at sides sides2 (q p) ≡ place rows (at - 1) + place rows (at + 1) =
+    (λ t. side t + 2 * side2 t) ∙ h.sides p lt in
+    let down : digits_at below.all below.all2 (q p) ≡ place rows (at + W - 1) + (place rows (at + W)
+    + place rows (at + W + 1)) = b.all p lt ∙ (λ t. place rows (b0 t) + (place rows (b1 t) + place rows (b2 t))) in
+    let own : place here (q p) ≡ place rows at = live ∙ h.here p lt in
+    next (few_live above.all above.all2 sides sides2 below.all below.all2 (q p) rows (at - W) at (at + W)
+    up beside down)
+    ∙ (λ t. one_if (lives_at r (nat_eq (own t) 1) (up t + (beside t + down t))))
+
+-- two words that were stored, whose places are those of N
+pub row_put : (N : ℕ → ℕ) (k : ℕ) (old new words changed : List ℕ) → length new ≡ length old
+    → ((j : ℕ) → (j < k) ⊎ (k + 2 ≤ j) → get_or new j 0 ≡ get_or old j 0)
+    → ((p : ℕ) → p < 128 → place new (64 * k + p) ≡ place words p)
+    → ((p : ℕ) → p < 128 → place changed p ≡ 0 → place new (64 * k + p) ≡ place old (64 * k + p))
+    → ((p : ℕ) → p < 128 → place words p ≡ N (64 * k + p)) → IsRowStep 2 N k old new changed
+row_put N k old new words changed long rest put same next = record {
+  long = long;
+  next = λ p lt. put p lt ∙ next p lt;
+  rest = rest;
+  same = same;
+}

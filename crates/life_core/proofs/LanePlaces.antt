@@ -51,14 +51,13 @@ lane_places xs ws k n lanes p lt =
     let bit : (64 * k + p) % 64 ≡ p % 64 = omega arith in
     ap (λ w. bit_at w (p % 64)) (lanes (p / 64) (omega arith)) ∙ (λ t. bit_at (get_or ws (sym word t) 0) (sym bit t))
 
--- the words from k on moved up by one place, with the last place of the words before them
-pub places_up : (xs ys ws : List ℕ) (k n : ℕ) → 1 ≤ k → length xs ≡ n → length ys ≡ n
-    → ((i : ℕ) → get_or ws i 0 < 2 ^ 64)
-    → ((j : ℕ) → j < n → get_or xs j 0 ≡ get_or ws (k + j) 0)
-    → ((j : ℕ) → j < n → get_or ys j 0 ≡ get_or ws (k - 1 + j) 0)
-    → (p : ℕ) → p < 64 * n → place (zip2 bit_or (zip2 (λ x s. x * 2 ^ s % 2 ^ 64) xs (replicate n 1))
-    (zip2 (λ x s. x / 2 ^ s) ys (replicate n 63))) p ≡ place ws (64 * k + p - 1)
-places_up xs ys ws k n first xn yn fits here before p lt =
+-- a lane that is word m, moved up by one place, with the last place of the word before it
+pub place_up : (xs ys ws : List ℕ) (n m p : ℕ) → 1 ≤ m → length xs ≡ n → length ys ≡ n
+    → ((i : ℕ) → get_or ws i 0 < 2 ^ 64) → p < 64 * n
+    → get_or xs (p / 64) 0 ≡ get_or ws m 0 → get_or ys (p / 64) 0 ≡ get_or ws (m - 1) 0
+    → place (zip2 bit_or (zip2 (λ x s. x * 2 ^ s % 2 ^ 64) xs (replicate n 1))
+    (zip2 (λ x s. x / 2 ^ s) ys (replicate n 63))) p ≡ place ws (64 * m + p % 64 - 1)
+place_up xs ys ws n m p first xn yn fits lt here before =
     let j = p / 64 in
     let i = p % 64 in
     let low : j < n = omega arith in
@@ -71,17 +70,16 @@ places_up xs ys ws k n first xn yn fits here before p lt =
     let downs : List ℕ = zip2 (λ x s. x / 2 ^ s) ys most in
     let un : length ups ≡ n = length-zip2 (λ x s. x * 2 ^ s % 2 ^ 64) xs ones (xn ∙ sym rn) ∙ xn in
     let dn : length downs ≡ n = length-zip2 (λ x s. x / 2 ^ s) ys most (yn ∙ sym qn) ∙ yn in
-    let up : get_or ups j 0 ≡ get_or ws (k + j) 0 * 2 % 2 ^ 64 =
+    let up : get_or ups j 0 ≡ get_or ws m 0 * 2 % 2 ^ 64 =
     get_or-zip2 (λ x s. x * 2 ^ s % 2 ^ 64) xs ones j 0 0 0 (omega (arith, xn, low)) (omega (arith, rn, low))
-    ∙ (λ t. here j low t * 2 ^ get_or-replicate n j 1 0 low t % 2 ^ 64) in
-    let down : get_or downs j 0 ≡ get_or ws (k - 1 + j) 0 / 2 ^ 63 =
+    ∙ (λ t. here t * 2 ^ get_or-replicate n j 1 0 low t % 2 ^ 64) in
+    let down : get_or downs j 0 ≡ get_or ws (m - 1) 0 / 2 ^ 63 =
     get_or-zip2 (λ x s. x / 2 ^ s) ys most j 0 0 0 (omega (arith, yn, low)) (omega (arith, qn, low))
-    ∙ (λ t. before j low t / 2 ^ get_or-replicate n j 63 0 low t) in
+    ∙ (λ t. before t / 2 ^ get_or-replicate n j 63 0 low t) in
     place_or ups downs (un ∙ sym dn) p
     ∙ (λ t. max (bit_at (up t) i) (bit_at (down t) i))
-    ∙ shifted_up (get_or ws (k + j) 0) (get_or ws (k - 1 + j) 0) i (fits (k - 1 + j)) bit
-    ∙ moved (k + j) (k - 1 + j) i (omega arith) bit
-    ∙ (let at : 64 * (k + j) + i - 1 ≡ 64 * k + p - 1 = omega arith in ap (place ws) at)
+    ∙ shifted_up (get_or ws m 0) (get_or ws (m - 1) 0) i (fits (m - 1)) bit
+    ∙ moved m (m - 1) i (omega arith) bit
   where
     moved : (a b i : ℕ) → b + 1 ≡ a → i < 64
         → cond (ltb 0 i) (bit_at (get_or ws a 0) (i - 1)) (bit_at (get_or ws b 0) 63) ≡ place ws (64 * a + i - 1)
@@ -93,13 +91,27 @@ places_up xs ys ws k n first xn yn fits here before p lt =
         (lt-ltb 0 (suc i) (omega arith)) ∙ ap (bit_at (get_or ws a 0)) own ∙ sym (place_at ws a i (omega arith))
         ∙ (let at : 64 * a + i ≡ 64 * a + suc i - 1 = omega arith in ap (place ws) at)
 
--- the words from k on moved down by one place, with the first place of the words after them
-pub places_down : (xs ys ws : List ℕ) (k n : ℕ) → length xs ≡ n → length ys ≡ n → ((i : ℕ) → get_or ws i 0 < 2 ^ 64)
+-- the words from k on moved up by one place, with the last place of the words before them
+pub places_up : (xs ys ws : List ℕ) (k n : ℕ) → 1 ≤ k → length xs ≡ n → length ys ≡ n
+    → ((i : ℕ) → get_or ws i 0 < 2 ^ 64)
     → ((j : ℕ) → j < n → get_or xs j 0 ≡ get_or ws (k + j) 0)
-    → ((j : ℕ) → j < n → get_or ys j 0 ≡ get_or ws (k + 1 + j) 0)
-    → (p : ℕ) → p < 64 * n → place (zip2 bit_or (zip2 (λ x s. x / 2 ^ s) xs (replicate n 1))
-    (zip2 (λ x s. x * 2 ^ s % 2 ^ 64) ys (replicate n 63))) p ≡ place ws (64 * k + p + 1)
-places_down xs ys ws k n xn yn fits here after p lt =
+    → ((j : ℕ) → j < n → get_or ys j 0 ≡ get_or ws (k - 1 + j) 0)
+    → (p : ℕ) → p < 64 * n → place (zip2 bit_or (zip2 (λ x s. x * 2 ^ s % 2 ^ 64) xs (replicate n 1))
+    (zip2 (λ x s. x / 2 ^ s) ys (replicate n 63))) p ≡ place ws (64 * k + p - 1)
+places_up xs ys ws k n first xn yn fits here before p lt =
+    let low : p / 64 < n = omega arith in
+    let word : k - 1 + p / 64 ≡ k + p / 64 - 1 = omega arith in
+    let at : 64 * (k + p / 64) + p % 64 - 1 ≡ 64 * k + p - 1 = omega arith in
+    place_up xs ys ws n (k + p / 64) p (omega arith) xn yn fits lt (here (p / 64) low)
+    (before (p / 64) low ∙ ap (λ m. get_or ws m 0) word) ∙ ap (place ws) at
+
+-- a lane that is word m, moved down by one place, with the first place of the word after it
+pub place_down : (xs ys ws : List ℕ) (n m p : ℕ) → length xs ≡ n → length ys ≡ n
+    → ((i : ℕ) → get_or ws i 0 < 2 ^ 64) → p < 64 * n
+    → get_or xs (p / 64) 0 ≡ get_or ws m 0 → get_or ys (p / 64) 0 ≡ get_or ws (m + 1) 0
+    → place (zip2 bit_or (zip2 (λ x s. x / 2 ^ s) xs (replicate n 1))
+    (zip2 (λ x s. x * 2 ^ s % 2 ^ 64) ys (replicate n 63))) p ≡ place ws (64 * m + p % 64 + 1)
+place_down xs ys ws n m p xn yn fits lt here after =
     let j = p / 64 in
     let i = p % 64 in
     let low : j < n = omega arith in
@@ -112,19 +124,29 @@ places_down xs ys ws k n xn yn fits here after p lt =
     let ups : List ℕ = zip2 (λ x s. x * 2 ^ s % 2 ^ 64) ys most in
     let dn : length downs ≡ n = length-zip2 (λ x s. x / 2 ^ s) xs ones (xn ∙ sym rn) ∙ xn in
     let un : length ups ≡ n = length-zip2 (λ x s. x * 2 ^ s % 2 ^ 64) ys most (yn ∙ sym qn) ∙ yn in
-    let down : get_or downs j 0 ≡ get_or ws (k + j) 0 / 2 =
+    let down : get_or downs j 0 ≡ get_or ws m 0 / 2 =
     get_or-zip2 (λ x s. x / 2 ^ s) xs ones j 0 0 0 (omega (arith, xn, low)) (omega (arith, rn, low))
-    ∙ (λ t. here j low t / 2 ^ get_or-replicate n j 1 0 low t) in
-    let up : get_or ups j 0 ≡ get_or ws (k + 1 + j) 0 * 2 ^ 63 % 2 ^ 64 =
+    ∙ (λ t. here t / 2 ^ get_or-replicate n j 1 0 low t) in
+    let up : get_or ups j 0 ≡ get_or ws (m + 1) 0 * 2 ^ 63 % 2 ^ 64 =
     get_or-zip2 (λ x s. x * 2 ^ s % 2 ^ 64) ys most j 0 0 0 (omega (arith, yn, low)) (omega (arith, qn, low))
-    ∙ (λ t. after j low t * 2 ^ get_or-replicate n j 63 0 low t % 2 ^ 64) in
-    let next : k + 1 + j ≡ k + j + 1 = omega arith in
+    ∙ (λ t. after t * 2 ^ get_or-replicate n j 63 0 low t % 2 ^ 64) in
     place_or downs ups (dn ∙ sym un) p
     ∙ (λ t. max (bit_at (down t) i) (bit_at (up t) i))
-    ∙ shifted_down (get_or ws (k + j) 0) (get_or ws (k + 1 + j) 0) i (fits (k + j)) bit
-    ∙ ap (λ m. cond (ltb i 63) (bit_at (get_or ws (k + j) 0) (i + 1)) (bit_at (get_or ws m 0) 0)) next
-    ∙ places_right ws (k + j) i bit
-    ∙ (let at : 64 * (k + j) + i + 1 ≡ 64 * k + p + 1 = omega arith in ap (place ws) at)
+    ∙ shifted_down (get_or ws m 0) (get_or ws (m + 1) 0) i (fits m) bit
+    ∙ places_right ws m i bit
+
+-- the words from k on moved down by one place, with the first place of the words after them
+pub places_down : (xs ys ws : List ℕ) (k n : ℕ) → length xs ≡ n → length ys ≡ n → ((i : ℕ) → get_or ws i 0 < 2 ^ 64)
+    → ((j : ℕ) → j < n → get_or xs j 0 ≡ get_or ws (k + j) 0)
+    → ((j : ℕ) → j < n → get_or ys j 0 ≡ get_or ws (k + 1 + j) 0)
+    → (p : ℕ) → p < 64 * n → place (zip2 bit_or (zip2 (λ x s. x / 2 ^ s) xs (replicate n 1))
+    (zip2 (λ x s. x * 2 ^ s % 2 ^ 64) ys (replicate n 63))) p ≡ place ws (64 * k + p + 1)
+places_down xs ys ws k n xn yn fits here after p lt =
+    let low : p / 64 < n = omega arith in
+    let word : k + 1 + p / 64 ≡ k + p / 64 + 1 = omega arith in
+    let at : 64 * (k + p / 64) + p % 64 + 1 ≡ 64 * k + p + 1 = omega arith in
+    place_down xs ys ws n (k + p / 64) p xn yn fits lt (here (p / 64) low)
+    (after (p / 64) low ∙ ap (λ m. get_or ws m 0) word) ∙ ap (place ws) at
 
 -- the places of words that were stored at k
 pub place_put : (xs ys : List ℕ) (k p : ℕ) → p < 64 * length ys → k + length ys ≤ length xs

@@ -304,3 +304,27 @@ cells_of-word left top w k i n first wide fits is =
     (λ j low. ap (cell_of left top (64 * w)) (let e : 64 * k + i + j ≡ 64 * k + (i + j) = omega arith in e)
     ∙ cell_of-word left top w k (i + j) wide (omega arith)
     ∙ same_coordinates _ _ (omega (arith, ints, row)) (omega (arith, ints, column)))
+
+-- words without live cells add no place
+pub none_between : (F : ℕ → Cell) (rows : List ℕ) (k n : ℕ)
+    → ((j : ℕ) → k ≤ j → j < k + n → get_or rows j 0 ≡ 0)
+    → map F (places_below rows (64 * (k + n))) ≡ map F (places_below rows (64 * k))
+none_between F rows k zero blank =
+    let here : 64 * (k + zero) ≡ 64 * k = omega arith in
+    ap (λ m. map F (places_below rows m)) here
+none_between F rows k (suc n) blank =
+    let here : 64 * (k + suc n) ≡ 64 * (k + n + 1) = omega arith in
+    let none : get_or rows (k + n) 0 / 2 ^ 0 ≡ 0 = omega (arith, blank (k + n) (omega arith) (omega arith)) in
+    let back : 64 * (k + n) + 0 ≡ 64 * (k + n) = omega arith in
+    ap (λ m. map F (places_below rows m)) here ∙ none_left F rows (k + n) 0 (omega arith) none
+    ∙ ap (λ m. map F (places_below rows m)) back
+    ∙ none_between F rows k n (λ j from to. blank j from (omega (arith, to)))
+
+-- the same, from one word up to another
+pub none_up_to : (F : ℕ → Cell) (rows : List ℕ) (k m : ℕ) → k ≤ m
+    → ((j : ℕ) → k ≤ j → j < m → get_or rows j 0 ≡ 0)
+    → map F (places_below rows (64 * m)) ≡ map F (places_below rows (64 * k))
+none_up_to F rows k m le blank =
+    let end : m ≡ k + (m - k) = omega arith in
+    ap (λ n. map F (places_below rows (64 * n))) end
+    ∙ none_between F rows k (m - k) (λ j from to. blank j from (omega (arith, to)))

@@ -4,7 +4,6 @@ use Rattle.std.specs.Prelude.{◌≡◌, ◌⊎◌, ℕ, ◌+◌, ◌-◌, ◌*�
 use Rattle.life_core.specs.PackedRow.{place, one_if}
 use Rattle.life_core.specs.Rule.{RuleSets, lives_at}
 use Rattle.life_core.specs.PackedLanesState.{digits_at}
-use Rattle.life_core.specs.declared.packed.blocks.RowSums.{RowSums}
 use Rattle.life_core.specs.declared.packed.blocks.Changes.{Changes}
 use Rattle.life_core.specs.declared.packed.row_kernel.WideSums.{WideSums}
 use Rattle.life_core.specs.declared.packed.wide_blocks.WideChanges.{WideChanges}
@@ -20,15 +19,7 @@ flat_count rows W q =
 abbrev pub flat_next : RuleSets → List ℕ → ℕ → ℕ → ℕ
 flat_next r rows W q = one_if (lives_at r (nat_eq (place rows q) 1) (flat_count rows W q))
 
--- the sums of the two words from k on
-pub record AreSums (rows : List ℕ) (k : ℕ) (s : RowSums) : Type 0 where
-  pub here : (p : ℕ) → p < 128 → place s.here p ≡ place rows (64 * k + p)
-  pub sides : (p : ℕ) → p < 128 → digits_at s.sides s.sides2 p
-      ≡ place rows (64 * k + p - 1) + place rows (64 * k + p + 1)
-  pub all : (p : ℕ) → p < 128 → digits_at s.all s.all2 p
-      ≡ place rows (64 * k + p - 1) + (place rows (64 * k + p) + place rows (64 * k + p + 1))
-
--- the sums of four words of a row, given their left and right neighbours
+-- the sums of four words, given their left and right neighbours
 pub record AreSumsOf (left middle right : List ℕ) (s : WideSums) : Type 0 where
   pub here : (p : ℕ) → p < 256 → place s.here p ≡ place middle p
   pub sides : (p : ℕ) → p < 256 → digits_at s.sides s.sides2 p ≡ place left p + place right p
@@ -41,6 +32,24 @@ pub record AreWideSums (rows : List ℕ) (k : ℕ) (s : WideSums) : Type 0 where
       ≡ place rows (64 * k + p - 1) + place rows (64 * k + p + 1)
   pub all : (p : ℕ) → p < 256 → digits_at s.all s.all2 p
       ≡ place rows (64 * k + p - 1) + (place rows (64 * k + p) + place rows (64 * k + p + 1))
+
+-- the sums of the two words from k on, where place q p of the sums belongs to place p of the words
+pub record AreSumsAt (rows : List ℕ) (k : ℕ) (q : ℕ → ℕ) (s : WideSums) : Type 0 where
+  pub here : (p : ℕ) → p < 128 → place s.here (q p) ≡ place rows (64 * k + p)
+  pub sides : (p : ℕ) → p < 128 → digits_at s.sides s.sides2 (q p)
+      ≡ place rows (64 * k + p - 1) + place rows (64 * k + p + 1)
+  pub all : (p : ℕ) → p < 128 → digits_at s.all s.all2 (q p)
+      ≡ place rows (64 * k + p - 1) + (place rows (64 * k + p) + place rows (64 * k + p + 1))
+
+-- the sums of the two words from k on, and of the two below them
+pub record AreTwoRows (rows : List ℕ) (words k : ℕ) (s : WideSums) : Type 0 where
+  pub upper : AreSumsAt rows k (λ p. p) s
+  pub lower : AreSumsAt rows (k + words) (λ p. 128 + p) s
+
+-- the places of N of the two words from k on, and of the two below them
+pub record AreNextRows (N : ℕ → ℕ) (words k : ℕ) (new : List ℕ) : Type 0 where
+  pub upper : (p : ℕ) → p < 128 → place new p ≡ N (64 * k + p)
+  pub lower : (p : ℕ) → p < 128 → place new (128 + p) ≡ N (64 * (k + words) + p)
 
 -- the n words from k on were written: their places are those of N, and a place that `changed` lacks is unchanged
 pub record IsRowStep (n : ℕ) (N : ℕ → ℕ) (k : ℕ) (old new changed : List ℕ) : Type 0 where

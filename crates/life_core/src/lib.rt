@@ -4,9 +4,9 @@
 pub mod cell;
 mod cell_counts;
 pub mod cell_list;
+mod constant_laws;
 pub mod fault;
 pub mod generations;
-mod laws;
 pub mod orientation;
 pub mod packed;
 pub mod pattern;
@@ -18,11 +18,11 @@ mod sorted;
 
 pub use cell::{Cell, PLANE};
 pub use cell_list::CellList;
+pub use constant_laws::{law_of_life, laws_of_constants};
 pub use fault::Fault;
 pub use generations::{
     GENERATION_LIMIT, PACKED_LIMIT, generation, generation_by, is_packed, laws_of_generations,
 };
-pub use laws::{law_of_life, laws_of_constants};
 pub use orientation::{Orientation, laws_of_symmetries};
 pub use packed::row::{laws_of_row_steps, row_step};
 pub use packed::rows::PackedRows;

@@ -4,10 +4,10 @@
 mod bytes;
 mod desk;
 mod headline;
-mod laws;
 mod looking;
 mod refusal;
 mod request;
+mod run_laws;
 mod validation;
 
 pub use bytes::Bytes;
@@ -15,7 +15,7 @@ pub use desk::{answer, answer_all, answer_all_in_memory};
 pub use headline::{
     law_of_durability, law_of_migrated_archives, law_of_new_archives, law_of_the_archive,
 };
-pub use laws::laws_of_runs;
 pub use refusal::Refusal;
 pub use request::{Reply, Request, Shown};
+pub use run_laws::laws_of_runs;
 pub use validation::{check_census, check_deposit, check_total};

@@ -9,9 +9,9 @@ use Rattle.life_rle.specs.Writer.{text}
 use Rattle.life_jobs.specs.Jobs.{AreCensusNumbers, RefusesRule}
 use Rattle.life_jobs.specs.declared.stop.Stop.{Stop}
 use Rattle.life_jobs.specs.declared.stop.Stop.TheVariants.{OutOfLimit, BadRule, Unavailable, Unwritable}
-use Rattle.life_hauls.specs.declared.jobs.TheConstants.{COUNT_LIMIT, FIRST_LIMIT}
-use Rattle.life_hauls.specs.declared.jobs.HaulWords.{HaulWords}
-use Rattle.life_hauls.specs.declared.jobs.SoupWords.{SoupWords}
+use Rattle.life_hauls.specs.declared.haul_jobs.TheConstants.{COUNT_LIMIT, FIRST_LIMIT}
+use Rattle.life_hauls.specs.declared.haul_jobs.HaulWords.{HaulWords}
+use Rattle.life_hauls.specs.declared.haul_jobs.SoupWords.{SoupWords}
 use Rattle.life_hauls.specs.Hauls.{haul_of}
 use Rattle.life_hauls.specs.Soups.{soup_of}
 use Rattle.life_hauls.specs.Table.{csv_text}

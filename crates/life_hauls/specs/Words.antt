@@ -9,8 +9,8 @@ use Rattle.life_words.specs.Words.{with_version, number_rule, text_rule, number_
 use Rattle.life_hauls.specs.declared.symmetry.Symmetry.{Symmetry}
 use Rattle.life_hauls.specs.declared.symmetry.Symmetry.TheVariants.{C1}
 use Rattle.life_hauls.specs.Soups.{symmetry_named}
-use Rattle.life_hauls.specs.declared.words.Job.{Job}
-use Rattle.life_hauls.specs.declared.words.Job.TheVariants.{Haul, Soup}
+use Rattle.life_hauls.specs.declared.haul_arguments.Job.{Job}
+use Rattle.life_hauls.specs.declared.haul_arguments.Job.TheVariants.{Haul, Soup}
 
 -- the option `--rule RULE`
 abbrev pub rule_rule : Rule

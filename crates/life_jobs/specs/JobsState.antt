@@ -6,8 +6,8 @@ use Rattle.life_rle.specs.Record.{Contents}
 use Rattle.life_rle.specs.Writer.{text}
 use Rattle.life_code.specs.declared.fault.CodeFault.{CodeFault}
 use Rattle.life_code.specs.declared.fault.CodeFault.TheVariants as code_faults
-use Rattle.life_jobs.specs.declared.jobs.Print.{Print}
-use Rattle.life_jobs.specs.declared.jobs.Print.TheVariants.{Generation, Kind, Census}
+use Rattle.life_jobs.specs.declared.pattern_jobs.Print.{Print}
+use Rattle.life_jobs.specs.declared.pattern_jobs.Print.TheVariants.{Generation, Kind, Census}
 use Rattle.life_jobs.specs.declared.stop.Stop.{Stop}
 use Rattle.life_jobs.specs.declared.stop.Stop.TheVariants.{BadCode, Unavailable}
 use Rattle.life_jobs.specs.Jobs.{later, IsPeriodLimit, kind_line, AreCensusNumbers, census_table, file_text}

@@ -1,10 +1,10 @@
 //! The jobs of `life` over a pattern file or a code, on any streams, and why they stop.
 #![tactic(auto)]
 
-mod jobs;
+mod pattern_jobs;
 mod stop;
 mod streams;
 
-pub use jobs::{run_census, run_generation, run_kind, run_object};
+pub use pattern_jobs::{run_census, run_generation, run_kind, run_object};
 pub use stop::Stop;
 pub use streams::{put_text, read_input};

@@ -8,8 +8,8 @@ mod desk;
 mod fault;
 mod head;
 mod json;
-mod laws;
 mod message;
+mod message_laws;
 mod path;
 mod reply;
 mod route;
@@ -17,4 +17,4 @@ mod serving;
 
 pub use archive::{serve, serve_in_memory};
 pub use fault::{IoFault, MessageRefusal};
-pub use laws::{laws_of_heads, laws_of_messages};
+pub use message_laws::{laws_of_heads, laws_of_messages};

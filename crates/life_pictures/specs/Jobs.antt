@@ -3,8 +3,8 @@ use Rattle.std.specs.Prelude.{ℕ, ◌≤◌, ◌<◌, ◌-◌, List, Result}
 use Rattle.life_rle.specs.declared.fault.RleFault.{RleFault}
 use Rattle.life_rle.specs.Record.{Contents}
 use Rattle.life_jobs.specs.Jobs.{file_text}
-use Rattle.life_pictures.specs.declared.jobs.Picture.{Picture}
-use Rattle.life_pictures.specs.declared.jobs.Picture.TheVariants.{Text, Svg, Animation}
+use Rattle.life_pictures.specs.declared.draw_job.Picture.{Picture}
+use Rattle.life_pictures.specs.declared.draw_job.Picture.TheVariants.{Text, Svg, Animation}
 use Rattle.life_pictures.specs.Lines.{text}
 use Rattle.life_core.specs.declared.generations.TheConstants.{GENERATION_LIMIT}
 use Rattle.life_pictures.specs.declared.frames.TheConstants.{MOST_FRAMES}

@@ -5,8 +5,8 @@ use Rattle.std.specs.Prelude.{true, if◌then◌else◌, List, Option, None, Som
 use Rattle.clap.specs.Words.{App, Row, Text, new_app, with_rule, with_subcommand}
 use Rattle.clap.specs.Simple.{on_top}
 use Rattle.life_words.specs.Words.{number_rule, number_at, with_version, matches_in, if_both, by_subcommand}
-use Rattle.life_pictures.specs.declared.jobs.Picture.{Picture}
-use Rattle.life_pictures.specs.declared.jobs.Picture.TheVariants as picture
+use Rattle.life_pictures.specs.declared.draw_job.Picture.{Picture}
+use Rattle.life_pictures.specs.declared.draw_job.Picture.TheVariants as picture
 
 -- `text`
 abbrev pub text_app : App

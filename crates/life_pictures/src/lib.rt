@@ -3,19 +3,19 @@
 
 mod corners;
 mod document;
+mod draw_arguments;
+mod draw_job;
 mod extent;
 mod frames;
-mod jobs;
-mod laws;
 mod lines;
 mod numbers;
+mod picture_laws;
 mod runs;
 mod title;
-mod words;
 
 pub use document::svg;
+pub use draw_arguments::{draw_command, read_words};
+pub use draw_job::{Picture, run_draw};
 pub use frames::{MOST_FRAMES, animation};
-pub use jobs::{Picture, run_draw};
-pub use laws::laws_of_pictures;
 pub use lines::text;
-pub use words::{draw_command, read_words};
+pub use picture_laws::laws_of_pictures;

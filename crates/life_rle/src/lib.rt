@@ -3,8 +3,8 @@
 
 mod body;
 mod fault;
+mod file_laws;
 mod header;
-mod laws;
 mod lines;
 mod machine;
 mod memory;
@@ -18,7 +18,7 @@ mod text;
 mod writer;
 
 pub use fault::{ReadFault, RleFault, WriteFault};
-pub use laws::{
+pub use file_laws::{
     law_of_headers, laws_of_canonical_bodies, laws_of_files, laws_of_lines_and_runs, laws_of_texts,
 };
 pub use machine::{read, read_from, read_kept};

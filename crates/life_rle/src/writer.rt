@@ -143,7 +143,9 @@ impl<A: Allocator + Copy> BodyWriter<A> {
     {
         let from = if y == self.row { self.column } else { 0 };
         self.lines.item(self.live, b'o')?;
-        self.lines.item(u64::from(y - self.row), b'$')?;
+        if y > self.row {
+            self.lines.item(u64::from(y - self.row), b'$')?;
+        }
         self.lines.item(u64::from(x) - from, b'b')
     }
 }

@@ -5,6 +5,7 @@
 #![tactic(auto)]
 
 mod archive;
+mod archive_laws;
 mod censuses;
 mod creating;
 mod deposits;
@@ -12,7 +13,6 @@ mod executing;
 mod fault;
 mod flags;
 mod kept;
-mod laws;
 mod log_path;
 mod migration;
 mod opening;
@@ -20,7 +20,7 @@ mod reading;
 mod unprepared;
 
 pub use archive::Archive;
+pub use archive_laws::laws_of_archives;
 pub use fault::{OpenFault, Unavailable};
 pub use kept::{Census, Deposit, KeptCensus, Listed, Listing};
-pub use laws::laws_of_archives;
 pub use unprepared::MadeLog;

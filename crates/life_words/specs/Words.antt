@@ -15,9 +15,9 @@ use Rattle.clap.specs.declared.builder.action.ArgAction.TheVariants.{SetTrue}
 use Rattle.clap.specs.declared.builder.value_parser.ValueParser.TheVariants as vp
 use Rattle.clap.specs.declared.parser.matches.ArgMatches.{ArgMatches}
 use Rattle.life_words.specs.Explain.{is_refusal}
-use Rattle.life_words.specs.declared.words.Job.{Job}
-use Rattle.life_words.specs.declared.words.Job.TheVariants.{Generation, Kind, Object, Census, Deposit, Serve, Check}
-use Rattle.life_words.specs.declared.words.Job.TheVariants.{Explain}
+use Rattle.life_words.specs.declared.life_arguments.Job.{Job}
+use Rattle.life_words.specs.declared.life_arguments.Job.TheVariants.{Generation, Kind, Object, Census, Deposit, Serve}
+use Rattle.life_words.specs.declared.life_arguments.Job.TheVariants.{Check, Explain}
 use Rattle.life_words.specs.declared.fault.WordFault.{WordFault}
 use Rattle.life_words.specs.declared.fault.WordFault.TheVariants.{BadWords, Memory}
 

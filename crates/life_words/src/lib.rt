@@ -4,7 +4,7 @@
 mod commands;
 mod explain;
 mod fault;
-mod words;
+mod life_arguments;
 
 pub use commands::{
     VERSION, generation_arg, limit_arg, named_command, number_arg, program_command, read_matches,
@@ -12,4 +12,4 @@ pub use commands::{
 };
 pub use explain::{explanation, refusal_names};
 pub use fault::WordFault;
-pub use words::{Job, life_command, number_in, read_words, text_in};
+pub use life_arguments::{Job, life_command, number_in, read_words, text_in};

@@ -2,7 +2,7 @@
 use life_jobs::Stop;
 use life_pictures::{Picture, laws_of_pictures, run_draw};
 use life_rle::{PieceInlet, PieceOutlet, RleFault};
-use shared_tests::jobs::{End, Run, other_run};
+use shared_tests::job_streams::{End, Run, other_run};
 use std::alloc::Global;
 
 const GLIDER: &str = "#N Glider\nx = 3, y = 3\nbo$2bo$3o!\n";

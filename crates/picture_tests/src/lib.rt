@@ -4,6 +4,6 @@
 #[cfg(test)]
 mod allocations;
 #[cfg(test)]
-mod drawing;
+mod draw_command_lines;
 #[cfg(test)]
-mod words;
+mod drawing;

@@ -4,5 +4,5 @@
 
 pub mod allocations;
 pub mod arguments;
-pub mod jobs;
+pub mod job_streams;
 pub mod refusing;

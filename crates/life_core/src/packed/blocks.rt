@@ -1,70 +1,84 @@
-//! One generation of blocks of two words and sixteen rows.
-ghost use Rattle.std.specs.Prelude.{◌≡◌, ◌⊎◌, ℕ, ◌+◌, ◌-◌, ◌*◌, ◌≤◌, ◌<◌, List, length, slice_index_or};
+//! One generation of blocks of two words and sixteen rows, two rows at a time: a vector holds two words of a row and
+//! the two words below them.
+ghost use Rattle.std.specs.Prelude.{◌≡◌, ℕ, ◌+◌, ◌-◌, ◌*◌, ◌≤◌, ◌<◌, List, length, slice_index_or};
 ghost use Rattle.life_core.specs.PackedRow.{place};
 ghost use Rattle.life_core.specs.Rule.{RuleSets};
-ghost use Rattle.life_core.specs.PackedBlocksState.{flat_next, AreSums, IsOutside, IsRowStep, IsBlock};
+ghost use Rattle.life_core.specs.PackedBlocksState.{flat_next, AreTwoRows, AreNextRows, IsOutside, IsBlock};
 
 use crate::packed::lane_rule::LaneRule;
-use crate::packed::lanes::{carry, lanes_at, moved_down, moved_up, odd};
-use crate::packed::row_kernel::put_lanes;
+use crate::packed::lanes::{joined, lanes_at, left_half, right_half};
+use crate::packed::row_kernel::{WideSums, put_lanes, sums_of};
 use std::simd::prelude::*;
 
-/// Two words of a row and, at each place, how many of the two places beside it are live, and how many
-/// of all three. Each number has two binary digits.
-#[derive(Clone, Copy)]
-pub(crate) struct RowSums {
-    pub(crate) here: u64x2,
-    pub(crate) sides: u64x2,
-    pub(crate) sides2: u64x2,
-    pub(crate) all: u64x2,
-    pub(crate) all2: u64x2,
+/// The two words from `k` on, and the two below them.
+#[inline(always)]
+fn two_rows(rows: &[u64], words: usize, k: usize) -> u64x4
+    requires { k + words + 2 ≤ length rows.now }
+    ensures upper { (j : ℕ) → j < 2 → slice_index_or result j 0 ≡ slice_index_or rows.now (k + j) 0 }
+    ensures lower { (j : ℕ) → j < 2 → slice_index_or result (2 + j) 0 ≡ slice_index_or rows.now (k + words + j) 0 }
+{
+    joined(lanes_at(rows, k), lanes_at(rows, k + words))
 }
 
-/// The sums of the two words from `k` on.
+/// The same, moved up by one place.
 #[inline(always)]
-pub(crate) fn row_sums(rows: &[u64], k: usize) -> RowSums
+fn two_rows_up(rows: &[u64], words: usize, k: usize) -> u64x4
     requires first { 1 ≤ k }
-    requires last { k + 3 ≤ length rows.now }
-    ensures { AreSums rows.now k result }
+    requires last { k + words + 2 ≤ length rows.now }
+    ensures upper { (p : ℕ) → p < 128 → place result p ≡ place rows.now (64 * k + p - 1) }
+    ensures lower { (p : ℕ) → p < 128 → place result (128 + p) ≡ place rows.now (64 * (k + words) + p - 1) }
 {
-    let here: u64x2 = lanes_at(rows, k);
-    let left: u64x2 = moved_up(rows, k);
-    let right: u64x2 = moved_down(rows, k);
-    RowSums {
-        here,
-        sides: left ^ right,
-        sides2: left & right,
-        all: odd(left, right, here),
-        all2: carry(left, right, here),
-    }
+    (two_rows(rows, words, k) << 1) | (two_rows(rows, words, k - 1) >> 63)
 }
 
-/// Writes the two words from `k` on of the next generation, from the sums of the rows above, here and
-/// below, and returns the places that changed.
+/// The same, moved down by one place.
 #[inline(always)]
-fn block_row<R: LaneRule<2>>(
-    rule: &R,
-    above: RowSums,
-    here: RowSums,
-    below: RowSums,
-    out: &mut [u64],
-    k: usize,
-) -> u64x2
-    requires { k + 2 ≤ length out.old }
-    ensures long { length out.new ≡ length out.old }
-    ensures rest { (j : ℕ) → (j < k) ⊎ (k + 2 ≤ j) → slice_index_or out.new j 0 ≡ slice_index_or out.old j 0 }
-    ensures row { (r : RuleSets) (rows : List ℕ) (words : ℕ) → R.is_of rule.now r → words + 1 ≤ k → AreSums rows (k - words) above → AreSums rows k here → AreSums rows (k + words) below → IsRowStep 2 (flat_next r rows (64 * words)) k out.old out.new result }
+fn two_rows_down(rows: &[u64], words: usize, k: usize) -> u64x4
+    requires { k + words + 3 ≤ length rows.now }
+    ensures upper { (p : ℕ) → p < 128 → place result p ≡ place rows.now (64 * k + p + 1) }
+    ensures lower { (p : ℕ) → p < 128 → place result (128 + p) ≡ place rows.now (64 * (k + words) + p + 1) }
 {
-    let new = rule.next_lanes(
-        here.here,
+    (two_rows(rows, words, k) >> 1) | (two_rows(rows, words, k + 1) << 63)
+}
+
+/// The sums of the two words from `k` on, and of the two below them.
+#[inline(always)]
+fn two_sums(rows: &[u64], words: usize, k: usize) -> WideSums
+    requires first { 1 ≤ k }
+    requires last { k + words + 3 ≤ length rows.now }
+    ensures { AreTwoRows rows.now words k result }
+{
+    sums_of(
+        two_rows_up(rows, words, k),
+        two_rows(rows, words, k),
+        two_rows_down(rows, words, k),
+    )
+}
+
+/// The lower row of `upper` and the upper row of `lower`.
+#[inline(always)]
+fn between(upper: u64x4, lower: u64x4) -> u64x4
+    ensures first { (p : ℕ) → p < 128 → place result p ≡ place upper (128 + p) }
+    ensures second { (p : ℕ) → p < 128 → place result (128 + p) ≡ place lower p }
+{
+    joined(right_half(upper), left_half(lower))
+}
+
+/// Two rows one generation later. `above` has the sums of the row above them and of the first, `below` those of the
+/// second and of the row below them.
+#[inline(always)]
+fn next_rows<R: LaneRule<4>>(rule: &R, above: WideSums, below: WideSums) -> u64x4
+    ensures { (r : RuleSets) (rows : List ℕ) (words k : ℕ) → R.is_of rule.now r → words + 1 ≤ k → AreTwoRows rows words (k - words) above → AreTwoRows rows words (k + words) below → AreNextRows (flat_next r rows (64 * words)) words k result }
+{
+    rule.next_lanes(
+        between(above.here, below.here),
         above.all,
         above.all2,
-        here.sides,
-        here.sides2,
+        between(above.sides, below.sides),
+        between(above.sides2, below.sides2),
         below.all,
         below.all2,
-    );
-    put_lanes(out, k, new)
+    )
 }
 
 /// The places of a block that changed: anywhere in its two columns of words, in its first row and in
@@ -77,7 +91,7 @@ pub(crate) struct Changes {
 }
 
 /// Writes the next generation of the block whose first word is at `at`.
-pub(crate) fn block_step<R: LaneRule<2>>(
+pub(crate) fn block_step<R: LaneRule<4>>(
     rule: &R,
     rows: &[u64],
     words: usize,
@@ -92,27 +106,21 @@ pub(crate) fn block_step<R: LaneRule<2>>(
     ensures rest { (j : ℕ) → IsOutside 2 at words 16 j → slice_index_or out.new j 0 ≡ slice_index_or out.old j 0 }
     ensures block { (r : RuleSets) → R.is_of rule.now r → IsBlock (flat_next r rows.now (64 * words)) at words out.old out.new result }
 {
-    let before = row_sums(rows, at - words);
-    let first = row_sums(rows, at);
-    let second = row_sums(rows, at + words);
-    let top = block_row(rule, before, first, second, out, at);
-    let mut above = first;
-    let mut here = second;
-    let mut all = top;
-    let mut k = at + words;
-    for _i in 1..15_usize {
-        let below = row_sums(rows, k + words);
-        let changed = block_row(rule, above, here, below, out, k);
-        all |= changed;
-        above = here;
-        here = below;
-        k += words;
+    let before = two_sums(rows, words, at - words);
+    let mut above = two_sums(rows, words, at + words);
+    let next = next_rows(rule, before, above);
+    let top = put_lanes(out, at, left_half(next));
+    let mut bottom = put_lanes(out, at + words, right_half(next));
+    let mut all = top | bottom;
+    let mut k = at + 2 * words;
+    for _i in 1..8_usize {
+        let below = two_sums(rows, words, k + words);
+        let next = next_rows(rule, above, below);
+        let upper = put_lanes(out, k, left_half(next));
+        bottom = put_lanes(out, k + words, right_half(next));
+        all = (all | upper) | bottom;
+        above = below;
+        k += 2 * words;
     }
-    let after = row_sums(rows, k + words);
-    let bottom = block_row(rule, above, here, after, out, k);
-    Changes {
-        all: all | bottom,
-        top,
-        bottom,
-    }
+    Changes { all, top, bottom }
 }

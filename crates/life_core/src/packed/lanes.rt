@@ -51,3 +51,28 @@ pub(crate) fn moved_down<const N: usize>(words: &[u64], k: usize) -> Simd<u64, N
 {
     (lanes_at(words, k) >> 1) | (lanes_at(words, k + 1) << 63)
 }
+
+/// Two words, and two after them.
+#[inline(always)]
+pub(crate) fn joined(first: u64x2, second: u64x2) -> u64x4
+    ensures first { (j : ℕ) → j < 2 → slice_index_or result j 0 ≡ slice_index_or first j 0 }
+    ensures second { (j : ℕ) → j < 2 → slice_index_or result (2 + j) 0 ≡ slice_index_or second j 0 }
+{
+    first.shuffle(second, [0, 1, 2, 3])
+}
+
+/// The first two of four words.
+#[inline(always)]
+pub(crate) fn left_half(words: u64x4) -> u64x2
+    ensures { (p : ℕ) → p < 128 → place result p ≡ place words p }
+{
+    words.shuffle(words, [0, 1])
+}
+
+/// The last two of four words.
+#[inline(always)]
+pub(crate) fn right_half(words: u64x4) -> u64x2
+    ensures { (p : ℕ) → p < 128 → place result p ≡ place words (128 + p) }
+{
+    words.shuffle(words, [2, 3])
+}

@@ -6,12 +6,62 @@ ghost use Rattle.life_core.specs.PackedMarksState.{KeepsMarks, IsMarked, IsStepp
 
 use crate::packed::blocks::block_step;
 use crate::packed::lane_rule::LaneRule;
+use crate::packed::lanes::{left_half, right_half};
 use crate::packed::marks::wake_round;
-use crate::packed::wide_blocks::{left_half, right_half, wide_step};
+use crate::packed::wide_blocks::wide_step;
+
+/// Steps a marked block. Its mark is cleared.
+#[inline(always)]
+fn single_step<R: LaneRule<4>>(
+    rule: &R,
+    columns: usize,
+    line: usize,
+    column: usize,
+    rows: &[u64],
+    marks: &mut [bool],
+    out: &mut [u64],
+    next_marks: &mut [bool],
+    next_lines: &mut [bool],
+)
+    requires column { column < columns }
+    requires line { (1 ≤ line) × (line + 2 ≤ length next_lines.old) }
+    requires rows { length rows.now ≡ (16 * length next_lines.old) * (2 * columns) }
+    requires out { length out.old ≡ length rows.now }
+    requires marks { length marks.old ≡ length next_lines.old * columns + 2 }
+    requires next_marks { length next_marks.old ≡ length marks.old }
+    requires marked { IsMarked marks.old (mark_at columns line column) }
+    ensures out { length out.new ≡ length out.old }
+    ensures marks { length marks.new ≡ length marks.old }
+    ensures next_marks { KeepsMarks next_marks.old next_marks.new }
+    ensures next_lines { KeepsMarks next_lines.old next_lines.new }
+    ensures others { (j : ℕ) → j ≢ mark_at columns line column → slice_index_or marks.new j false ≡ slice_index_or marks.old j false }
+    ensures rest { (j : ℕ) → IsOutside 2 (block_at columns line column) (2 * columns) 16 j → slice_index_or out.new j 0 ≡ slice_index_or out.old j 0 }
+    ensures block { (r : RuleSets) → R.is_of rule.now r → IsStepped (flat_next r rows.now (64 * (2 * columns))) columns line column marks.old out.old out.new next_marks.new next_lines.new }
+{
+    let b = 1 + line * columns + column;
+    marks[b] = false;
+    let changes = block_step(
+        rule,
+        rows,
+        2 * columns,
+        16 * line * (2 * columns) + 2 * column,
+        out,
+    );
+    wake_round(
+        changes.all,
+        changes.top,
+        changes.bottom,
+        columns,
+        line,
+        b,
+        next_marks,
+        next_lines,
+    );
+}
 
 /// Steps the block in a line and a column, if it is marked. Its mark is cleared.
 #[inline(always)]
-fn column_step<R: LaneRule<2>>(
+fn column_step<R: LaneRule<4>>(
     rule: &R,
     columns: usize,
     line: usize,
@@ -36,28 +86,11 @@ fn column_step<R: LaneRule<2>>(
     ensures rest { (j : ℕ) → IsOutside 2 (block_at columns line column) (2 * columns) 16 j → slice_index_or out.new j 0 ≡ slice_index_or out.old j 0 }
     ensures block { (r : RuleSets) → R.is_of rule.now r → IsStepped (flat_next r rows.now (64 * (2 * columns))) columns line column marks.old out.old out.new next_marks.new next_lines.new }
 {
-    let b = 1 + line * columns + column;
-    if !marks[b] {
-        return;
+    if marks[1 + line * columns + column] {
+        single_step(
+            rule, columns, line, column, rows, marks, out, next_marks, next_lines,
+        );
     }
-    marks[b] = false;
-    let changes = block_step(
-        rule,
-        rows,
-        2 * columns,
-        16 * line * (2 * columns) + 2 * column,
-        out,
-    );
-    wake_round(
-        changes.all.to_array(),
-        changes.top.to_array(),
-        changes.bottom.to_array(),
-        columns,
-        line,
-        b,
-        next_marks,
-        next_lines,
-    );
 }
 
 /// Steps two marked neighbouring blocks of a line at once. Their marks are cleared.
@@ -135,7 +168,7 @@ fn are_marked(columns: usize, line: usize, column: usize, marks: &[bool]) -> boo
 /// Steps the block in a line and a column, together with its right neighbour if both are marked. Returns the next
 /// column.
 #[inline(always)]
-fn columns_step<R: LaneRule<2> + LaneRule<4>>(
+fn columns_step<R: LaneRule<4>>(
     rule: &R,
     columns: usize,
     line: usize,
@@ -174,7 +207,7 @@ fn columns_step<R: LaneRule<2> + LaneRule<4>>(
 }
 
 /// Steps the marked blocks of a line.
-fn line_step<R: LaneRule<2> + LaneRule<4>>(
+fn line_step<R: LaneRule<4>>(
     rule: &R,
     columns: usize,
     line: usize,
@@ -206,7 +239,7 @@ fn line_step<R: LaneRule<2> + LaneRule<4>>(
 }
 
 /// Steps the marked blocks of a line, if the line is marked. Its mark is cleared.
-fn marked_line_step<R: LaneRule<2> + LaneRule<4>>(
+fn marked_line_step<R: LaneRule<4>>(
     rule: &R,
     columns: usize,
     line: usize,
@@ -243,7 +276,7 @@ fn marked_line_step<R: LaneRule<2> + LaneRule<4>>(
 }
 
 /// Steps all lines except the first and the last.
-pub(crate) fn advance_blocks<R: LaneRule<2> + LaneRule<4>>(
+pub(crate) fn advance_blocks<R: LaneRule<4>>(
     rule: &R,
     columns: usize,
     rows: &[u64],

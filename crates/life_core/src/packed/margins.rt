@@ -194,12 +194,11 @@ fn column_is_dead(frame: Frame, rows: &[u64], j: usize, mask: u64) -> bool
     requires rows { frame.height * frame.words ≡ length rows.now }
     ensures { IsTrue result → (y i : ℕ) → y < frame.height → i < 64 → bit_at mask i ≡ 1 → place rows.now (y * (64 * frame.words) + (64 * j + i)) ≡ 0 }
 {
+    let mut all = 0;
     for y in 0..frame.height {
-        if rows[y * frame.words + j] & mask != 0 {
-            return false;
-        }
+        all |= rows[y * frame.words + j];
     }
-    true
+    all & mask == 0
 }
 
 /// Whether all places of the rows from one up to another are dead.

@@ -3,28 +3,31 @@ ghost use Rattle.std.specs.Prelude.{◌≡◌, ℕ, ◌+◌, ◌-◌, ◌*◌, �
 ghost use Rattle.life_core.specs.PackedRow.{place};
 ghost use Rattle.life_core.specs.PackedMarksState.{KeepsMarks, IsMarked, IsWoken};
 
+use std::simd::prelude::*;
+
 /// Whether any place is set.
 #[inline(always)]
-fn any(words: [u64; 2]) -> bool
+fn any(words: u64x2) -> bool
     ensures { IsFalse result → (p : ℕ) → p < 128 → place words p ≡ 0 }
 {
+    let words = words.to_array();
     words[0] | words[1] != 0
 }
 
 /// Whether the first place is set.
 #[inline(always)]
-fn first(words: [u64; 2]) -> bool
+fn first(words: u64x2) -> bool
     ensures { IsFalse result → place words 0 ≡ 0 }
 {
-    words[0] & 1 != 0
+    words.to_array()[0] & 1 != 0
 }
 
 /// Whether the last place is set.
 #[inline(always)]
-fn last(words: [u64; 2]) -> bool
+fn last(words: u64x2) -> bool
     ensures { IsFalse result → place words 127 ≡ 0 }
 {
-    words[1] >> 63 != 0
+    words.to_array()[1] >> 63 != 0
 }
 
 /// Sets a mark, if asked.
@@ -40,7 +43,7 @@ fn raise(marks: &mut [bool], j: usize, is_asked: bool)
 /// Marks the block at `b` of a line and those beside it, if changed places in this row of its columns
 /// reach them.
 #[inline(always)]
-fn wake(changed: [u64; 2], line: usize, b: usize, marks: &mut [bool], lines: &mut [bool])
+fn wake(changed: u64x2, line: usize, b: usize, marks: &mut [bool], lines: &mut [bool])
     requires line { line < length lines.old }
     requires first { 1 ≤ b }
     requires last { b + 2 ≤ length marks.old }
@@ -51,9 +54,11 @@ fn wake(changed: [u64; 2], line: usize, b: usize, marks: &mut [bool], lines: &mu
     ensures left { place changed 0 ≡ 1 → IsMarked marks.new (b - 1) }
     ensures right { place changed 127 ≡ 1 → IsMarked marks.new (b + 1) }
 {
-    let is_any = any(changed);
-    raise(lines, line, is_any);
-    raise(marks, b, is_any);
+    if !any(changed) {
+        return;
+    }
+    lines[line] = true;
+    marks[b] = true;
     raise(marks, b - 1, first(changed));
     raise(marks, b + 1, last(changed));
 }
@@ -62,9 +67,9 @@ fn wake(changed: [u64; 2], line: usize, b: usize, marks: &mut [bool], lines: &mu
 /// columns that changed in any row, in the first row and in the last.
 #[inline(always)]
 pub(crate) fn wake_round(
-    all: [u64; 2],
-    top: [u64; 2],
-    bottom: [u64; 2],
+    all: u64x2,
+    top: u64x2,
+    bottom: u64x2,
     columns: usize,
     line: usize,
     b: usize,

@@ -27,7 +27,7 @@ pub(crate) fn put_lanes<const N: usize>(
     old ^ new
 }
 
-/// Four words of a row. For each cell: how many of its two neighbours in the row are live (`sides`), and how
+/// Four words, of a row or of two. For each cell: how many of its two neighbours in its row are live (`sides`), and how
 /// many of the three cells, itself with them (`all`). Each number has two binary digits.
 #[derive(Clone, Copy)]
 pub(crate) struct WideSums {
@@ -38,7 +38,7 @@ pub(crate) struct WideSums {
     pub(crate) all2: u64x4,
 }
 
-/// The sums of four words of a row, given the words of their left and right neighbours.
+/// The sums of four words, given the words of their left and right neighbours.
 #[inline(always)]
 pub(crate) fn sums_of(left: u64x4, here: u64x4, right: u64x4) -> WideSums
     ensures { AreSumsOf left here right result }

@@ -10,7 +10,7 @@ ghost use Rattle.life_core.specs.PackedShiftsState.{IsFirst, Covers, CoversWord}
 
 use crate::cell::{Cell, PLANE};
 use crate::packed::frame::Frame;
-use crate::packed::words::to_the_right;
+use crate::packed::packing::to_the_right;
 
 /// The translation, columns and rows, that takes the set of these words to that of the others; `None`
 /// if the set is empty or there is no such translation.

@@ -6,7 +6,7 @@ ghost use Rattle.life_core.specs.PackedTrimmingState.{IsNarrower};
 
 use crate::packed::frame::Frame;
 use crate::packed::margins::row_is_dead;
-use crate::packed::words::copy_at;
+use crate::packed::packing::copy_at;
 
 /// A frame within a wider one, and how many words and rows the wider one has in front of it.
 #[derive(Clone, Copy)]

@@ -1,7 +1,6 @@
 //! One generation of two neighbouring blocks at once: four words and sixteen rows, by vectors of four words.
 //!
-//! Each row goes by `row_kernel`, as a group of `row_step` does. The rest is the text of `blocks` at another width. It is written out,
-//! for a struct whose fields are `Simd<u64, N>` with `N` a parameter is outside of what the borrow checker covers.
+//! Each row goes by `row_kernel`, as a group of `row_step` does.
 ghost use Rattle.std.specs.Prelude.{◌≡◌, ℕ, ◌+◌, ◌*◌, ◌≤◌, ◌<◌, length, slice_index_or};
 ghost use Rattle.life_core.specs.PackedRow.{place};
 ghost use Rattle.life_core.specs.Rule.{RuleSets};
@@ -69,22 +68,4 @@ pub(crate) fn wide_step<R: LaneRule<4>>(
         top,
         bottom,
     }
-}
-
-/// The first two of four words.
-#[inline(always)]
-pub(crate) fn left_half(words: u64x4) -> [u64; 2]
-    ensures { (p : ℕ) → p < 128 → place result p ≡ place words p }
-{
-    let words = words.to_array();
-    [words[0], words[1]]
-}
-
-/// The last two of four words.
-#[inline(always)]
-pub(crate) fn right_half(words: u64x4) -> [u64; 2]
-    ensures { (p : ℕ) → p < 128 → place result p ≡ place words (128 + p) }
-{
-    let words = words.to_array();
-    [words[2], words[3]]
 }

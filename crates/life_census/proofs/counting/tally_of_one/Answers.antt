@@ -1,8 +1,0 @@
-use Rattle.std.proofs.Common.{sym}
-use Rattle.life_code.specs.Codes.{code_of}
-use Rattle.life_census.proofs.counting.tally_of_one.Goals as goal
-
-pub returns : goal.returns
-returns g c =
-    c.in_ok-counted_once.ensures (λ P. code_of c.args.search.now.rule P c.args.search.now.limit) c.args.cluster.now
-    (sym c.in_ok-code.ensures)

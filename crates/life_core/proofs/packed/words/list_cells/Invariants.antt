@@ -1,7 +1,0 @@
-use Rattle.std.proofs.Common.{◌≡◌, ◌*◌, map}
-use Rattle.life_core.specs.PackedFrameState.{cell_of, places_below}
-use Rattle.life_core.proofs.packed.words.list_cells.Given as goal
-
-abbrev pub invariant-loop-k : goal.invariant-loop-k
-invariant-loop-k g l =
-    l.cells ≡ map (cell_of l.frame.left l.frame.top (64 * l.frame.words)) (places_below l.rows (64 * l.k))

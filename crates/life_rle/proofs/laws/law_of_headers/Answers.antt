@@ -1,5 +1,0 @@
-use Rattle.life_rle.proofs.HeaderForms.{headers_are_read}
-use Rattle.life_rle.proofs.laws.law_of_headers.Goals as goal
-
-pub returns : goal.returns
-returns c = headers_are_read

@@ -1,6 +1,0 @@
-use Rattle.life_rle.proofs.RecordLaws.{kept_is_record}
-use Rattle.life_rle.proofs.RoundText.{read_again, file_again}
-use Rattle.life_rle.proofs.laws.laws_of_files.Goals as goal
-
-pub returns : goal.returns
-returns c = record { records = kept_is_record; again = read_again; file = file_again }

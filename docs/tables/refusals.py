@@ -6,7 +6,7 @@ import textwrap
 from typing import Dict, Iterator, List, NamedTuple, Optional, Set, Tuple
 
 from .limits import Limits
-from .texts import Fault, Read, markdown, rows_of
+from .texts import Fault, Read, markdown, most_columns, rows_of
 
 PATH = "docs/refusals.csv"
 # `when` is the cell of API or FORMATS, `command` that of COMMANDS, and `script` what the members' scripts say. `step`
@@ -24,8 +24,6 @@ FRONTS = {
 WITH_FAULT = {"bad-pattern", "bad-code"}
 # The most columns of the lines of names in the help. Their first line has 101.
 HELP_COLUMNS = 104
-# The most columns of the lines of the web pages.
-PAGE_COLUMNS = 120
 # The definitions of the crates that give numbers and names, by kind, and those that give a status.
 LABELS = {
     "refusal": ["crates/life_desk/specs/Refusals.antt", "crates/life_pages/specs/Fault.antt"],
@@ -139,7 +137,7 @@ def script_sentence(before: str, sentence: str, after: str) -> List[str]:
     """The lines of a sentence of refusals.js, between two texts. One that is too long for a line is in pieces."""
     *lines, last = textwrap.wrap(
         sentence,
-        PAGE_COLUMNS - len(f"'{after}"),
+        most_columns() - len(f"'{after}"),
         initial_indent=f"{before}'",
         subsequent_indent="    + '",
         break_on_hyphens=False,

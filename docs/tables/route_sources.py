@@ -10,7 +10,7 @@ import re
 from typing import List, NamedTuple, Tuple
 
 from .routes import ROUTES, Route
-from .texts import Fault
+from .texts import Fault, most_columns
 
 FOLDER = "crates/life_pages"
 # What a parameter of a path is read as.
@@ -20,11 +20,9 @@ TEXTS = {"rule": "B3S23", "code": "xs4_33"}
 # The field of a parameter in the sources, if it has another name there.
 FIELDS = {"n": "generation"}
 # What a request has from the rest of its message, and how the definitions name it.
-FROM_MESSAGE = {"member": "said.member", "token": "said.token", "body": "body"}
+FROM_MESSAGE = {"member": "parsed.member", "token": "parsed.token", "body": "body"}
 # `rt fmt` writes the fields of a value on lines of their own if they take more than this many columns.
 SHORT = 18
-# The most columns of a line.
-COLUMNS = 120
 # The groups of routes in the sources: those below /deposits, and all others.
 GROUPS = ("deposit", "census")
 # The names of examples that differ from those of their routes.
@@ -74,7 +72,7 @@ def imported(kind: str, routes: List[Route]) -> Tuple[str, str, List[str]]:
     begin = f"use Rattle.life_pages.specs.declared.route.{kind}.TheVariants.{{"
     line = begin + ", ".join(route.name for route in routes) + "}"
     wrapped = [begin, *(f"  {route.name}," for route in routes), "}"]
-    return begin, "}", [line] if len(line) <= COLUMNS else wrapped
+    return begin, "}", [line] if len(line) <= most_columns() else wrapped
 
 
 # ---- the definitions
@@ -98,7 +96,7 @@ def place(route: Route) -> str:
 def paired(first: str, second: str) -> str:
     """A pair in a list of them, as `rt fmt` writes it if it is too long for a line."""
     line = f"({first}, {second})"
-    return line if len(f"    ∷ {line}") <= COLUMNS else f"(\n      {first},\n      {second},\n    )"
+    return line if len(f"    ∷ {line}") <= most_columns() else f"(\n      {first},\n      {second},\n    )"
 
 
 def templates(routes: List[Route]) -> List[str]:
@@ -139,7 +137,7 @@ def specified_requests(routes: List[Route]) -> List[str]:
     for route in routes:
         name, arguments = asked(route)
         request = " ".join(["ask." + name, *(FROM_MESSAGE.get(argument, argument) for argument in arguments)])
-        lines.append(f"request_of {applied('routes.' + route.name, parameters(route))} said body = {request}")
+        lines.append(f"request_of {applied('routes.' + route.name, parameters(route))} parsed body = {request}")
     return [*lines, ""]
 
 

@@ -31,6 +31,14 @@ def write_file(path: str, text: str) -> None:
         file.write(text)
 
 
+def most_columns() -> int:
+    """The most columns of a line, which .editorconfig has."""
+    widths = re.findall(r"(?m)^max_line_length = (\d+)$", read_file(".editorconfig"))
+    if len(widths) != 1:
+        raise Fault(f".editorconfig: max_line_length is there {len(widths)} times, and not once")
+    return int(widths[0])
+
+
 def rows_of(read: Read, path: str, columns: Sequence[str]) -> List[Dict[str, str]]:
     """The rows of a table with exactly these columns."""
     lines = read(path).splitlines()

@@ -5,7 +5,7 @@ use Rattle.std.proofs.Common.{drop-cons}
 use Rattle.std.proofs.lemmas.Bool.{false≢true}
 use Rattle.std.specs.Slice.{IsItemAt}
 use Rattle.sqlite_trees.specs.declared.store.Store.{Ghosts}
-use Rattle.life_rle.specs.Stream.{raised}
+use Rattle.life_rle.specs.Stream.{incremented}
 use Rattle.life_store.specs.Tables.{ArchiveView}
 use Rattle.life_pages.specs.Message.{Message, MessageRun, AnswersMessage}
 use Rattle.life_pages.specs.Serving.{AreAllOf, AreFirstOf}
@@ -48,7 +48,7 @@ module _ {S : Type 0} (g : Ghosts S) (old new : ArchiveView S) (sent : List ℕ)
 
   -- it was not
   pub sent_first : (puts : List ℕ → Type 0) → IsAnswered g (AreFirstOf stream) puts old new
-      → ServesOne g old new (sends (sent ∷ later) n) (sends later (raised n))
+      → ServesOne g old new (sends (sent ∷ later) n) (sends later (incremented n))
   sent_first puts it = (
     record {
       sent = Some sent;
@@ -65,7 +65,7 @@ module _ {S : Type 0} (g : Ghosts S) (old new : ArchiveView S) (sent : List ℕ)
 
 -- none came
 pub none_sent : {S : Type 0} (g : Ghosts S) (t : ArchiveView S) (later : List (List ℕ)) (n : ℕ)
-    → ServesOne g t t (sends later n) (sends later (raised n))
+    → ServesOne g t t (sends later n) (sends later (incremented n))
 none_sent g t later n = (
   record {
     sent = Some [];

@@ -1,7 +1,7 @@
 //! Sessions over files in memory: an archive is opened over them, serves connections, and is dropped; and then again, over
 //! what a stop at any call on a file left.
 ghost use Rattle.std.specs.Prelude.{◌≡◌, ◌∷◌, ℕ, List, IfSome};
-ghost use Rattle.life_rle.specs.Stream.{raised};
+ghost use Rattle.life_rle.specs.Stream.{incremented};
 ghost use Rattle.life_archive.specs.Session.{ServesOne};
 ghost use Rattle.archive_tests.specs.Sessions.{sends, streams_from};
 
@@ -16,7 +16,7 @@ use std::alloc::Global;
 
 /// One more than this many failures, if there is a number for it.
 fn one_more(failures: u64) -> u64
-    ensures { result ≡ raised failures }
+    ensures { result ≡ incremented failures }
 {
     failures.saturating_add(1)
 }

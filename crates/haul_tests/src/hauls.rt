@@ -266,7 +266,7 @@ struct Told {
 }
 
 impl Watch for Told {
-    fn counted(&mut self, done: u64, count: u64) {
+    fn report(&mut self, done: u64, count: u64) {
         self.times = self.times.saturating_add(1);
         self.last = (done, count);
     }

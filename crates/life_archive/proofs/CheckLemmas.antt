@@ -6,7 +6,7 @@ use Rattle.sqlite_disk.specs.declared.Files.{Files}
 use Rattle.sqlite_wal.specs.Files.{outcomes}
 use Rattle.sqlite_wal.specs.Reads.{AreClean}
 use Rattle.sqlite_wal.specs.Recovery.{Image}
-use Rattle.life_rle.specs.Stream.{Gains}
+use Rattle.life_rle.specs.Stream.{Appends}
 use Rattle.life_store.specs.declared.fault.Unavailable.{Unavailable as Failed}
 use Rattle.life_desk.specs.Archive.{Archive}
 use Rattle.life_desk.proofs.Representing.{each_of}
@@ -46,7 +46,7 @@ module _ {D E : Type 0} (g : disk.Ghosts D) (h : disk.Ghosts E) (image again : I
   -- the verdict was sound
   begins : (v : Verdict) (further : List Wrong) → AreFurther (Ok v) further → PutsVerdict v further before after (Ok tt)
       → (one : IsPathCheck false g image capacity (Ok v) further files)
-      → (A : Archive) × Gains before after (verdict_line (Sound (length A.deposits) (length A.censuses)))
+      → (A : Archive) × Appends before after (verdict_line (Sound (length A.deposits) (length A.censuses)))
       × LeavesOne h (BecomesBy two (under next A)) left
   begins (NotSound w) further few puts one = elim puts [
     | inl it ↦ absurd (done_is_no_stop it.0)
@@ -56,8 +56,8 @@ module _ {D E : Type 0} (g : disk.Ghosts D) (h : disk.Ghosts E) (image again : I
   begins (Sound d c) further few puts one = elim puts [
     | inl it ↦ let found = one.finds clean in (
       found.0,
-      subst₂ (λ (x y : ℕ). Gains before after (verdict_line (Sound x y))) (sym found.2) (sym found.3)
-          (subst (Gains before after) (one_line (Sound d c) further few) it.1),
+      subst₂ (λ (x y : ℕ). Appends before after (verdict_line (Sound x y))) (sym found.2) (sym found.3)
+          (subst (Appends before after) (one_line (Sound d c) further few) it.1),
       job_leaves h again next left two (under next found.0) refl
           (inl (each_of one.opened found.0 found.1, found.4 again may)),
     )
@@ -67,7 +67,7 @@ module _ {D E : Type 0} (g : disk.Ghosts D) (h : disk.Ghosts E) (image again : I
   begins_with : (checked : Result Verdict Failed) (further : List Wrong)
       → ChecksPath false g image capacity checked further (Some files) → AreFurther checked further
       → PutsChecked checked further before after (Ok tt)
-      → (A : Archive) × Gains before after (verdict_line (Sound (length A.deposits) (length A.censuses)))
+      → (A : Archive) × Appends before after (verdict_line (Sound (length A.deposits) (length A.censuses)))
       × LeavesOne h (BecomesBy two (under next A)) left
   begins_with (Err e) further checks few puts = absurd (done_is_no_stop puts)
   begins_with (Ok v) further checks few puts = elim checks [

@@ -20,7 +20,7 @@ use Rattle.life_desk.specs.Run.{RequestRun, IsCrashOf}
 use Rattle.life_desk.proofs.Representing.{each_of}
 use Rattle.life_desk.proofs.Steps.{step_each, after_each}
 use Rattle.life_archive.specs.Deposit.{Deposits}
-use Rattle.life_archive.specs.Session.{FilesRepresent, Begins, under, messages_of, replies_of}
+use Rattle.life_archive.specs.Session.{FilesRepresent, FilesMean, under, messages_of, replies_of}
 use Rattle.life_archive.specs.Path.{PathJob, by_session, by_deposit, BecomesBy, LeavesFrom, LeavesOne, IsLeftOfRun}
 use Rattle.life_archive.specs.Path.{IsLeftBy, last_of, OpensAs, IsSafeIfAsked, IsLeftIfAsked, PathJobsCompose}
 use Rattle.life_archive.specs.Path.{PathJobsComposeOverCrashes, PathJobsComposeOverRefusals}
@@ -72,7 +72,7 @@ crash_as A qs rs found Q each says it =
 module _ {D E : Type 0} (g : disk.Ghosts D) (h : disk.Ghosts E) (migrated : MigratedIsTheSame)
     (image again : Image) (capacity next : ℕ) (mid : Result (Files D) (Files D)) (left : Result (Files E) (Files E))
     (two : PathJob h again next left)
-    (A : Archive) (fits : A.capacity ≡ capacity) (begins : Begins image A) where
+    (A : Archive) (fits : A.capacity ≡ capacity) (begins : FilesMean image A) where
   second : (X : Archive) → FilesRepresent again X → LeavesOne h (BecomesBy two (under next X)) left
   second X mean = job_leaves h again next left two (under next X) refl (inl mean)
 

@@ -15,7 +15,7 @@ use Rattle.sqlite_trees.specs.View.{IsClean}
 use Rattle.sqlite_store.specs.declared.store.FileStore.{FileStore}
 use Rattle.sqlite_store.specs.FileStore.{view}
 use Rattle.sqlite.specs.Files.{HoldsDatabase, image_of, over_files}
-use Rattle.life_rle.specs.Stream.{raised}
+use Rattle.life_rle.specs.Stream.{incremented}
 use Rattle.life_store.specs.Crash.{NoMore}
 use Rattle.life_store.specs.declared.kept.Deposit.{Deposit}
 use Rattle.life_store.specs.declared.kept.Census.{Census}
@@ -42,7 +42,7 @@ use Rattle.life_pages.proofs.ArchiveRuns.{SomeMessages, run_answered, by_taken, 
 use Rattle.life_pages.proofs.FirmReplies.{firm_run}
 use Rattle.life_archive.specs.Session.{Exchange, messages_of, replies_of, Traffic, unknown, failures_after, Carries}
 use Rattle.life_archive.specs.Session.{CarriesAll, ServesOne, ServesSome, Runs, ServesConnections, FilesRepresent}
-use Rattle.life_archive.specs.Session.{Begins, Leaves, IsSession, EndsSession, under, either, SessionsCompose}
+use Rattle.life_archive.specs.Session.{FilesMean, Leaves, IsSession, EndsSession, under, either, SessionsCompose}
 use Rattle.life_archive.specs.Session.{LeavesAfter, GoesOn, SessionsComposeOverCrashes}
 
 -- ---- one connection
@@ -68,7 +68,7 @@ one_untold g are puts old new r n some = (
 
 -- none came, and it failed
 pub none_came : {S : Type 0} (g : Ghosts S) (t : ArchiveView S) (n : ℕ)
-    → ServesOne g t t (unknown n) (unknown (raised n))
+    → ServesOne g t t (unknown n) (unknown (incremented n))
 none_came g t n = (
   record { sent = None; messages = []; put = []; rest = []; ended = false; first = tt; whole = λ is. (tt, refl) },
   (refl, refl),
@@ -88,7 +88,7 @@ run_both answers a b c (bad ∷ ms) ns x y (later, is, rest) second = (
   ap (λ (all : List ℕ). all ++ y) is ∙ append_assoc bad_bytes later y,
   run_both answers a b c ms ns later y rest second,
 )
-run_both answers a b c (good said body ∷ ms) ns x y (reply, later, mid, answered, is, rest) second = (
+run_both answers a b c (good parsed body ∷ ms) ns x y (reply, later, mid, answered, is, rest) second = (
   reply,
   later ++ y,
   mid,
@@ -160,8 +160,8 @@ asked_each A B (Err refusal) bytes (is, same) each = subst Each (sym same) each
 messages_each : (A B : Archive) (ms : List Message) (bytes : List ℕ) → Runs ms bytes A B → Each A → Each B
 messages_each A B [] bytes (is, same) each = subst Each (sym same) each
 messages_each A B (bad ∷ ms) bytes (later, is, rest) each = messages_each A B ms later rest each
-messages_each A B (good said body ∷ ms) bytes (reply, later, mid, answered, is, rest) each =
-    messages_each mid B ms later rest (asked_each A mid (asked said body) reply answered each)
+messages_each A B (good parsed body ∷ ms) bytes (reply, later, mid, answered, is, rest) each =
+    messages_each mid B ms later rest (asked_each A mid (asked parsed body) reply answered each)
 
 -- what is left, said otherwise
 pub left_as : (A : Archive) (ms : List Message) (bytes : List ℕ) (P Q : Archive → Type 0) → Each A
@@ -247,7 +247,8 @@ module _ {D : Type 0} {g : disk.Ghosts D} (a : ArchiveView (FileStore D g)) (ima
     (fresh : IsTrue a.tables.is_healthy → ListNothing image → Holds a.tables nothing_kept)
     (carried : (k : Kept) → IsTrue a.tables.is_healthy → FilesHoldFirst image k → Migrated a.tables k)
     (migrated : MigratedIsTheSame) (capacity : ℕ) (is : a.capacity ≡ capacity) where
-  pub begun_with : (A : Archive) → A.capacity ≡ capacity → Begins image A → IsTrue a.tables.is_healthy → Represents a A
+  pub begun_with : (A : Archive) → A.capacity ≡ capacity → FilesMean image A → IsTrue a.tables.is_healthy
+      → Represents a A
   unfolding Represents
   begun_with A fits (inl meant) healthy =
       record { capacity = is ∙ sym fits; each = meant.0; holds = found (kept_of A) healthy meant.1 }

@@ -10,7 +10,7 @@ use Rattle.sqlite_wal.specs.Files.{outcomes}
 use Rattle.sqlite_wal.specs.Reads.{AreClean}
 use Rattle.sqlite_wal.specs.Recovery.{Image}
 use Rattle.life_rle.specs.declared.stream.Outlet as outlet
-use Rattle.life_rle.specs.Stream.{Gains, GainsSome}
+use Rattle.life_rle.specs.Stream.{Appends, AppendsSome}
 use Rattle.life_jobs.specs.declared.stop.Stop.{Stop}
 use Rattle.life_jobs.specs.declared.stop.Stop.TheVariants.{Unavailable, Unwritable}
 use Rattle.life_jobs.specs.Streams.{PutsOnce}
@@ -69,8 +69,8 @@ answer_of (NotSound w) = Err stops.NotSound
 abbrev pub PutsVerdict : Verdict → List Wrong → Option (List ℕ) → Option (List ℕ)
     → Result (Unit {0}) ArchiveStop → Type 0
 PutsVerdict v further before after answer =
-    ((answer ≡ answer_of v) × Gains before after (checked_lines v further))
-    ⊎ (((answer ≡ Err (stops.Job Unwritable)) × GainsSome before after (checked_lines v further))
+    ((answer ≡ answer_of v) × Appends before after (checked_lines v further))
+    ⊎ (((answer ≡ Err (stops.Job Unwritable)) × AppendsSome before after (checked_lines v further))
     ⊎ (answer ≡ Err (stops.Job Unavailable)))
 
 -- The same of a check that gave no result.
@@ -103,7 +103,7 @@ CheckedFilesBegin {D} {E} g h =
     (left : Result (Files E) (Files E))
     → ChecksAt false g image capacity before after (Ok tt) (Some files) → (two : PathJob h again next left)
     → AreClean g files.log files.db → outcomes g files.log files.db again
-    → (A : Archive) × Gains before after (verdict_line (Sound (length A.deposits) (length A.censuses)))
+    → (A : Archive) × Appends before after (verdict_line (Sound (length A.deposits) (length A.censuses)))
     × LeavesOne h (BecomesBy two (under next A)) left
 
 -- ---- what the program prints

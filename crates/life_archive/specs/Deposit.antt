@@ -3,7 +3,7 @@ use Rattle.std.specs.Prelude.{◌≡◌, ◌⊎◌, ◌++◌, ℕ, List, [], ◌
 use Rattle.std.specs.Fmt.{decimal}
 use Rattle.life_core.specs.Ascii.{line_feed}
 use Rattle.sqlite_trees.specs.declared.store.Store.{Ghosts}
-use Rattle.life_rle.specs.Stream.{Gains, GainsSome}
+use Rattle.life_rle.specs.Stream.{Appends, AppendsSome}
 use Rattle.life_store.specs.Tables.{ArchiveView}
 use Rattle.life_desk.specs.declared.refusal.Refusal.{Refusal}
 use Rattle.life_desk.specs.declared.refusal.Refusal.TheVariants as refusals
@@ -35,8 +35,8 @@ desk_stop refusal = Desk refusal
 -- what is put and answered for a reply: the line of its number, of which a put that fails leaves a beginning, or
 -- nothing and the refusal
 abbrev pub PutsReply : Reply → Option (List ℕ) → Option (List ℕ) → Result (Unit {0}) ArchiveStop → Type 0
-PutsReply (says.Deposited id) old new (Ok done) = Gains old new (deposit_line id)
-PutsReply (says.Deposited id) old new (Err stop) = (stop ≡ Job Unwritable) × GainsSome old new (deposit_line id)
+PutsReply (says.Deposited id) old new (Ok done) = Appends old new (deposit_line id)
+PutsReply (says.Deposited id) old new (Err stop) = (stop ≡ Job Unwritable) × AppendsSome old new (deposit_line id)
 PutsReply (says.Refused refusal) old new answer = answer ≡ Err (desk_stop refusal)
 -- to a deposit no other reply comes
 PutsReply reply old new answer = answer ≡ Err (Job Unavailable)

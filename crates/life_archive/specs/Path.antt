@@ -35,7 +35,8 @@ use Rattle.life_archive.specs.declared.stop.ArchiveStop.TheVariants.{Job, NotOur
 use Rattle.life_archive.specs.Stop.{line_of}
 use Rattle.life_archive.specs.Deposit.{Deposits, by_streams}
 use Rattle.life_pages.specs.Archive.{IsLeftOf}
-use Rattle.life_archive.specs.Session.{Traffic, unknown, Runs, ServesConnections, FilesRepresent, Begins, CannotListen}
+use Rattle.life_archive.specs.Session.{Traffic, unknown, Runs, ServesConnections, FilesRepresent, FilesMean}
+use Rattle.life_archive.specs.Session.{CannotListen}
 use Rattle.life_archive.specs.Session.{under, messages_of, replies_of}
 
 -- the stop for an opening that is refused
@@ -87,7 +88,7 @@ LeavesOne g P (Err files) = ⊤
 -- with
 abbrev pub LeavesFrom : {D : Type 0} → disk.Ghosts D → Image → ℕ → (Archive → Archive → Type 0)
     → Result (Files D) (Files D) → Type 0
-LeavesFrom g image capacity P left = (A : Archive) → A.capacity ≡ capacity → Begins image A → LeavesOne g (P A) left
+LeavesFrom g image capacity P left = (A : Archive) → A.capacity ≡ capacity → FilesMean image A → LeavesOne g (P A) left
 
 -- ---- a deposit
 
@@ -213,7 +214,7 @@ PathJobsCompose {D} {E} g h =
     (image again : Image) (capacity next : ℕ) (mid : Files D) (left : Result (Files E) (Files E))
     (one : PathJob g image capacity (Ok mid)) (two : PathJob h again next left)
     → AreClean g mid.log mid.db → outcomes g mid.log mid.db again ⊎ (again ≡ without_log (image_of g mid))
-    → (A : Archive) → A.capacity ≡ capacity → Begins image A
+    → (A : Archive) → A.capacity ≡ capacity → FilesMean image A
     → (B : Archive) × BecomesBy one A B × LeavesOne h (BecomesBy two (under next B)) left
 
 -- ---- and after a crash
@@ -265,7 +266,7 @@ PathJobsComposeOverCrashes {D} {E} g h =
     (image again : Image) (capacity next : ℕ) (mid : Result (Files D) (Files D)) (left : Result (Files E) (Files E))
     (one : PathJob g image capacity mid) (two : PathJob h again next left)
     → IsHonest over_files (last_of one) → MayBeFound (last_of one).store again → (A : Archive)
-    → A.capacity ≡ capacity → Begins image A
+    → A.capacity ≡ capacity → FilesMean image A
     → ∥ IsLeftBy one A (λ B. LeavesOne h (BecomesBy two (under next B)) left) ∥₁
 
 -- A close that was refused ended a job, and another job opens an image that its files then hold, or that a crash leaves
@@ -276,7 +277,7 @@ PathJobsComposeOverRefusals {D} {E} g h =
     (image again : Image) (capacity next : ℕ) (mid : Files D) (left : Result (Files E) (Files E))
     (one : PathJob g image capacity (Err mid)) (two : PathJob h again next left)
     → AreClean g mid.log mid.db → IsTrue (view (last_of one).store).is_open → outcomes g mid.log mid.db again
-    → (A : Archive) → A.capacity ≡ capacity → Begins image A
+    → (A : Archive) → A.capacity ≡ capacity → FilesMean image A
     → ∥ IsLeftBy one A (λ B. LeavesOne h (BecomesBy two (under next B)) left) ∥₁
     ⊎ HaveFailedSince (last_of one).store mid
 

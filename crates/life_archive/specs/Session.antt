@@ -10,7 +10,7 @@ use Rattle.sqlite_wal.specs.Recovery.{Image}
 use Rattle.sqlite_trees.specs.declared.store.Store.{Ghosts}
 use Rattle.sqlite_store.specs.declared.store.FileStore.{FileStore}
 use Rattle.sqlite.specs.Files.{image_of, over_files}
-use Rattle.life_rle.specs.Stream.{raised}
+use Rattle.life_rle.specs.Stream.{incremented}
 use Rattle.life_store.specs.Opening.{FilesHold, FilesHoldFirst, ListNothing}
 use Rattle.life_store.specs.Left.{IsHonest, Left, MayBeLeft}
 use Rattle.life_store.specs.Tables.{ArchiveView, IsHealthyIfClean}
@@ -82,7 +82,7 @@ TellsOne (Some old) (Some new) put = new ≡ old ++ put ∷ []
 -- the failures after one that was served to its end, or was not
 abbrev pub failures_after : Bool → ℕ → ℕ
 failures_after true n = n
-failures_after false n = raised n
+failures_after false n = incremented n
 
 -- one connection was the next
 abbrev pub Carries : Traffic → Traffic → Exchange → Type 0
@@ -138,8 +138,8 @@ FilesRepresent image A = EachHasDeposit A.deposits A.censuses × FilesHold image
 
 -- The files represent the archive; or list no table, as new files do, and the archive is empty; or represent it by
 -- schema version 1, in which there are no flags, so that an opening migrates it.
-abbrev pub Begins : Image → Archive → Type 0
-Begins image A =
+abbrev pub FilesMean : Image → Archive → Type 0
+FilesMean image A =
     FilesRepresent image A ⊎ ((ListNothing image × (A.deposits ≡ []) × (A.censuses ≡ []))
     ⊎ (EachHasDeposit A.deposits A.censuses × FilesHoldFirst image (kept_of A)))
 
@@ -177,7 +177,7 @@ pub record IsSession {D : Type 0} (g : disk.Ghosts D) (files : Files D) (capacit
   pub carried : CarriesAll before after exchanges
   pub own_refusals : MessageRun (AnswersMessage AnswersFirmly) tt (messages_of exchanges) (replies_of exchanges) tt
   pub honest : AreClean g (either left).log (either left).db → AreClean g files.log files.db
-  pub leaves : (A : Archive) → A.capacity ≡ capacity → Begins (image_of g files) A
+  pub leaves : (A : Archive) → A.capacity ≡ capacity → FilesMean (image_of g files) A
       → Leaves g A (messages_of exchanges) (replies_of exchanges) left
 
 -- The same of an archive that is open.
@@ -206,7 +206,7 @@ SessionsCompose {D} g =
     (files mid : Files D) (capacity next count more : ℕ) (w x y z : Traffic) (left : Result (Files D) (Files D))
     (one : IsSession g files capacity count w x (Ok mid)) (two : IsSession g mid next more y z left)
     → AreClean g (either left).log (either left).db → (A : Archive) → A.capacity ≡ capacity
-    → Begins (image_of g files) A
+    → FilesMean (image_of g files) A
     → (B : Archive) × Runs (messages_of one.exchanges) (replies_of one.exchanges) A B
     × Leaves g (under next B) (messages_of two.exchanges) (replies_of two.exchanges) left
 
@@ -232,5 +232,5 @@ SessionsComposeOverCrashes {D} {E} g h =
     (mid : Result (Files D) (Files D)) (left : Result (Files E) (Files E))
     (one : IsSession g files capacity count w x mid) (two : IsSession h again next more y z left)
     → AreClean g (either mid).log (either mid).db → outcomes g (either mid).log (either mid).db (image_of h again)
-    → (A : Archive) → A.capacity ≡ capacity → Begins (image_of g files) A
+    → (A : Archive) → A.capacity ≡ capacity → FilesMean (image_of g files) A
     → GoesOn A (messages_of one.exchanges) (replies_of one.exchanges) (LeavesAfter h two) mid

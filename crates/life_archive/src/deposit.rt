@@ -1,7 +1,7 @@
 //! Depositing the pattern file on the input.
 ghost use Rattle.std.specs.Prelude.{◌≡◌, ◌≢◌, ◌∷◌, [], IfOk, OnOk, OnErr, Err};
 ghost use Rattle.std.specs.Fmt.{decimal};
-ghost use Rattle.life_rle.specs.Stream.{FailsLast, Gains, GainsSome};
+ghost use Rattle.life_rle.specs.Stream.{FailsLast, Appends, AppendsSome};
 ghost use Rattle.life_desk.specs.declared.request.Request.TheVariants as ask;
 ghost use Rattle.life_desk.specs.Run.{Answered};
 ghost use Rattle.life_jobs.specs.Streams.{TakesFile, PutsOnce};
@@ -73,8 +73,8 @@ fn desk_stop(refusal: Refusal) -> ArchiveStop
 
 /// Writes a number in decimal digits.
 fn put_decimal<O: Outlet>(output: &mut O, n: u64) -> Result<(), Failed>
-    ensures all { OnOk result (Gains (O.already output.old) (O.already output.new) (decimal n)) }
-    ensures some { OnErr result (GainsSome (O.already output.old) (O.already output.new) (decimal n)) }
+    ensures all { OnOk result (Appends (O.already output.old) (O.already output.new) (decimal n)) }
+    ensures some { OnErr result (AppendsSome (O.already output.old) (O.already output.new) (decimal n)) }
     ensures count { OnOk result (O.failures output.new ≡ O.failures output.old) }
     ensures failed { OnErr result (FailsLast (O.failures output.old) (O.failures output.new) (O.last_failed output.new)) }
 {
@@ -83,8 +83,8 @@ fn put_decimal<O: Outlet>(output: &mut O, n: u64) -> Result<(), Failed>
 
 /// Writes the line of a deposit. It allocates nothing.
 fn put_number<O: Outlet>(output: &mut O, id: u64) -> Result<(), Failed>
-    ensures all { OnOk result (Gains (O.already output.old) (O.already output.new) (deposit_line id)) }
-    ensures some { OnErr result (GainsSome (O.already output.old) (O.already output.new) (deposit_line id)) }
+    ensures all { OnOk result (Appends (O.already output.old) (O.already output.new) (deposit_line id)) }
+    ensures some { OnErr result (AppendsSome (O.already output.old) (O.already output.new) (deposit_line id)) }
     ensures count { OnOk result (O.failures output.new ≡ O.failures output.old) }
     ensures failed { OnErr result (FailsLast (O.failures output.old) (O.failures output.new) (O.last_failed output.new)) }
 {

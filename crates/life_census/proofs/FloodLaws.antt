@@ -20,7 +20,8 @@ use Rattle.life_code.specs.Apart.{within_two, near}
 use Rattle.life_core.specs.declared.runs.Run.{Run}
 use Rattle.life_census.specs.Cluster.{AreJoined}
 use Rattle.life_core.specs.Runs.{cells_in, first_cell, IsInRun, IsBehind, IsAhead, IsRunBefore, AreRunsInOrder}
-use Rattle.life_census.specs.FloodState.{emptied, is_filled, IsClear, IsFlood, IsRound, IsTaken, Begins, IsBeyond}
+use Rattle.life_census.specs.FloodState.{emptied, is_filled, IsClear, IsFlood, IsRound, IsTaken}
+use Rattle.life_census.specs.FloodState.{BeginsBefore, BeginsAtOrAfter}
 use Rattle.life_census.specs.FloodState.{IsKept, AreKept, HasGrown}
 use Rattle.life_census.proofs.NearLaws.{two_apart}
 use Rattle.life_census.proofs.ClusterLaws.{joined_self, joined_then, joined_trans, joined_back}
@@ -381,7 +382,7 @@ none_behind r s row row' from c (inr left) here is round on inside =
     let a = left.1 in let b = inside.high in let e = round.left in omega (arith, ints)
 
 -- a run that reaches into the columns round r, in a row round it, is close to it
-pub close_in_row : (r s : Run) (row rowA rowB from to : ℤ) → IsAhead s rowA from → Begins s rowB to
+pub close_in_row : (r s : Run) (row rowA rowB from to : ℤ) → IsAhead s rowA from → BeginsBefore s rowB to
     → within_two r.row row ≡ true → rowA ≡ row → rowB ≡ row → from ≡ r.first -ℤ pos 2
     → to ≡ (r.first +ℤ pos r.len) +ℤ pos 2 → AreClose r s
 close_in_row r s row rowA rowB from to (inl below) (inl above) rows a b low high = absurd (omega (arith, ints))
@@ -405,7 +406,7 @@ close_in_row r s row rowA rowB from to (inr ends) (inr begins) rows a b low high
 
 -- nor is a cell of a run from a place on, where that place's run begins after those columns
 pub none_beyond : (r : Run) (L : List Run) (i k : ℕ) (d e : Run) (row to : ℤ) (c : Cell) → AreRunsInOrder L
-    → IsBeyond (get_or L i d) row to → i ≤ k → k < length L → to ≡ (r.first +ℤ pos r.len) +ℤ pos 2
+    → BeginsAtOrAfter (get_or L i d) row to → i ≤ k → k < length L → to ≡ (r.first +ℤ pos r.len) +ℤ pos 2
     → IsRound r c → c.row ≡ row → IsInRun (get_or L k e) c → ⊥
 none_beyond r L i k d e row to c order beyond after low is round on inside = elim (cases_lt i k) [
   | inl later ↦ go (get_or L k d) (next (get_or L k d) beyond (order i k d later low)) here
@@ -416,11 +417,11 @@ none_beyond r L i k d e row to c order beyond after low is round on inside = eli
     here : IsInRun (get_or L k d) c
     here = subst (λ (s : Run). IsInRun s c) (get_or_default L k e d low) inside
 
-    go : (s : Run) → IsBeyond s row to → IsInRun s c → ⊥
+    go : (s : Run) → BeginsAtOrAfter s row to → IsInRun s c → ⊥
     go s (inl below) h = let a = h.row in omega (arith, ints)
     go s (inr right) h = let a = right.1 in let b = h.low in let e = round.right in omega (arith, ints)
 
-    next : (s : Run) → IsBeyond (get_or L i d) row to → IsRunBefore (get_or L i d) s → IsBeyond s row to
+    next : (s : Run) → BeginsAtOrAfter (get_or L i d) row to → IsRunBefore (get_or L i d) s → BeginsAtOrAfter s row to
     next s (inl p) (inl q) = inl (omega (arith, ints))
     next s (inl p) (inr q) = inl (let e = q.0 in omega (arith, ints))
     next s (inr p) (inl q) = inl (let e = p.0 in omega (arith, ints))

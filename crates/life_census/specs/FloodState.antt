@@ -78,9 +78,9 @@ IsTaken r i left cluster after grown =
     ⊎ ((1 ≤ r.len) × (after ≡ slice_set left i (emptied r)) × (grown ≡ cluster ++ r ∷ []))
 
 -- a run begins in an earlier row, or before the column of the row
-abbrev pub Begins : Run → ℤ → ℤ → Type 0
-Begins r row column = (r.row <ℤ row) ⊎ ((r.row ≡ row) × (r.first <ℤ column))
+abbrev pub BeginsBefore : Run → ℤ → ℤ → Type 0
+BeginsBefore r row column = (r.row <ℤ row) ⊎ ((r.row ≡ row) × (r.first <ℤ column))
 
 -- a run begins in a later row, or not before the column of the row
-abbrev pub IsBeyond : Run → ℤ → ℤ → Type 0
-IsBeyond r row column = (row <ℤ r.row) ⊎ ((r.row ≡ row) × (column ≤ℤ r.first))
+abbrev pub BeginsAtOrAfter : Run → ℤ → ℤ → Type 0
+BeginsAtOrAfter r row column = (row <ℤ r.row) ⊎ ((r.row ≡ row) × (column ≤ℤ r.first))

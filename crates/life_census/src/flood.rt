@@ -7,7 +7,7 @@ ghost use Rattle.life_core.specs.declared.cell.Cell.{Cell as CellValue};
 ghost use Rattle.life_code.specs.Apart.{within_two};
 ghost use Rattle.life_core.specs.declared.runs.Run.{Run as RunValue};
 ghost use Rattle.life_core.specs.Runs.{cells_in, first_cell, AreRunsInOrder};
-ghost use Rattle.life_census.specs.FloodState.{IsFlood, IsClear, IsRound, IsTaken, HasGrown, AreKept, Begins, IsBeyond, IsFilledAt};
+ghost use Rattle.life_census.specs.FloodState.{IsFlood, IsClear, IsRound, IsTaken, HasGrown, AreKept, BeginsBefore, BeginsAtOrAfter, IsFilledAt};
 
 use life_core::{Cell, Run, first_from};
 use std::alloc::{AllocError, Allocator};
@@ -102,7 +102,7 @@ fn reach(run: Run) -> (i64, i64)
 
 /// Whether the run begins in an earlier row, or before this column of the row.
 fn begins_before(run: Run, row: i64, column: i64) -> bool
-    ensures { MatchBool result (Begins run row column) (IsBeyond run row column) }
+    ensures { MatchBool result (BeginsBefore run row column) (BeginsAtOrAfter run row column) }
 {
     let own = i64::from(run.row);
     own < row || own == row && i64::from(run.first) < column

@@ -59,7 +59,7 @@ impl<A: Allocator + Copy> Search<A> {
         }
         let shape = self.surveyed(cluster, listed)?;
         let i = shapes.len();
-        learn(shapes, shape)?;
+        add_shape(shapes, shape)?;
         Ok((i, Cell { row: 0, column: 0 }))
     }
 
@@ -157,8 +157,8 @@ fn known_index<A: Allocator + Copy>(
 }
 
 /// Adds a shape to the known ones.
-fn learn<A: Allocator>(shapes: &mut Vec<Shape<A>, A>, shape: Shape<A>) -> Result<(), AllocError>
-    ensures learnt { OnOk result (shapes.new.items ≡ shapes.old.items ++ shape ∷ []) }
+fn add_shape<A: Allocator>(shapes: &mut Vec<Shape<A>, A>, shape: Shape<A>) -> Result<(), AllocError>
+    ensures added { OnOk result (shapes.new.items ≡ shapes.old.items ++ shape ∷ []) }
     ensures kept { OnErr result (shapes.new.items ≡ shapes.old.items) }
 {
     shapes.push(shape)?;

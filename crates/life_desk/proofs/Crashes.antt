@@ -8,7 +8,7 @@ use Rattle.life_store.specs.Tables.{ArchiveView, WasHealthy}
 use Rattle.life_desk.specs.declared.refusal.Refusal.TheVariants as no
 use Rattle.life_desk.specs.Archive.{Archive}
 use Rattle.life_desk.specs.DeskState.{RepresentChanged, RepresentChangedIf}
-use Rattle.life_desk.specs.LookingState.{ForAllRepresented, RepresentsTheSame}
+use Rattle.life_desk.specs.LookupsState.{ForAllRepresented, RepresentsTheSame}
 use Rattle.life_desk.specs.Represents.{LeftRepresents}
 use Rattle.life_desk.specs.Submission.{Adds, Refuses, by_token, stored_after}
 use Rattle.life_desk.proofs.Submissions.{Kind}

@@ -20,7 +20,7 @@ use Rattle.life_desk.specs.Represents.{Represents, NewIsEmpty, EachHasDeposit, E
 use Rattle.life_desk.specs.Represents.{tallied, kept_of}
 use Rattle.life_desk.proofs.Submissions.{all_push}
 use Rattle.life_desk.specs.DeskState.{RepresentChanged, RepresentChangedIf}
-use Rattle.life_desk.specs.LookingState.{ForAllRepresented, RepresentsTheSame, LooksUp}
+use Rattle.life_desk.specs.LookupsState.{ForAllRepresented, RepresentsTheSame, LooksUp}
 
 slice_get_longer : {X : Type 0} → (xs ys : List X) (i : ℕ) → IsSome (slice_get xs i)
     → slice_get (xs ++ ys) i ≡ slice_get xs i

@@ -26,7 +26,7 @@ use Rattle.life_desk.specs.Replies.{after_by}
 use Rattle.life_desk.specs.Represents.{EachHasDeposit, IsReadAgain, EachIsReadAgain, IsRepresentable}
 use Rattle.life_desk.specs.Run.{RequestStep, answers, gives_up, RequestRun, IsAnswered, IsLater}
 use Rattle.life_desk.proofs.Representing.{each_longer}
-use Rattle.life_desk.proofs.Later.{later_same, later_later}
+use Rattle.life_desk.proofs.LaterArchives.{later_same, later_later}
 use Rattle.life_desk.proofs.Submissions.{after_longer, all_after}
 use Rattle.life_desk.specs.Laws.{NothingIsLost}
 

@@ -19,7 +19,7 @@ use Rattle.life_desk.specs.Represents.{Represents, EachHasDeposit}
 use Rattle.life_desk.specs.Submission.{Verdict, Refuses, Repeats}
 use Rattle.life_desk.specs.Replies.{is_same_census, census_by_token, census_of_deposit, census_verdict, census_reply}
 use Rattle.life_desk.specs.Replies.{with_census}
-use Rattle.life_desk.proofs.OnceCensus.{by_deposit}
+use Rattle.life_desk.proofs.CensusesOnce.{by_deposit}
 use Rattle.life_desk.proofs.Submissions.{found_numbered}
 
 -- ---- whether a number has an element

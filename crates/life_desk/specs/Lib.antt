@@ -5,7 +5,7 @@ pub mod Submission
 pub mod Replies
 pub mod Represents
 pub mod ValidationState
-pub mod LookingState
+pub mod LookupsState
 pub mod DeskState
 pub mod Run
 pub mod Laws

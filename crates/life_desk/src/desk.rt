@@ -23,7 +23,7 @@ ghost use Rattle.life_census.specs.Table.{csv_text};
 
 use crate::bytes::Bytes;
 use crate::headline::law_of_the_archive;
-use crate::looking::{
+use crate::lookups::{
     add_census, add_deposit, counted_census, counts_of, deposit_of, deposits_after, file_of,
     find_census, find_file, has_census_room, has_deposit, has_room,
 };

@@ -4,7 +4,7 @@
 mod bytes;
 mod desk;
 mod headline;
-mod looking;
+mod lookups;
 mod refusal;
 mod request;
 mod run_laws;

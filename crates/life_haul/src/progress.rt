@@ -35,7 +35,7 @@ impl<'a> Progress<'a> {
 }
 
 impl Watch for Progress<'_> {
-    fn counted(&mut self, done: u64, count: u64) {
+    fn report(&mut self, done: u64, count: u64) {
         if done == count {
             return self.clear();
         }

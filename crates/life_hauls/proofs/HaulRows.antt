@@ -10,16 +10,16 @@ use Rattle.std.proofs.lemmas.Cmp.{tied_itself}
 use Rattle.std.proofs.lemmas.List.Sums.{sum_by-cons}
 use Rattle.life_census.specs.Counting.{row_cmp, how_often}
 use Rattle.life_census.proofs.CountingLaws.{Texts, same_text, same_text_is, row_cmp_total, row_cmp_exact, one_if}
-use Rattle.life_hauls.specs.declared.rows.Sighting.{Sighting}
+use Rattle.life_hauls.specs.declared.rows.Occurrences.{Occurrences}
 use Rattle.life_hauls.specs.Hauls.{rows_by}
 
 abbrev pub Rows : Type 0
-Rows = List (List ℕ × Sighting)
+Rows = List (List ℕ × Occurrences)
 
 abbrev pub IsSorted : Rows → Type 0
 IsSorted es = T (table.is_sorted row_cmp es)
 
-abbrev pub found : List ℕ → Rows → Option Sighting
+abbrev pub found : List ℕ → Rows → Option Occurrences
 found q es = table.find row_cmp q es
 
 -- ---- rows by what is found
@@ -31,8 +31,8 @@ rows_are es fs h g same =
     (λ q. table.get-from_sorted row_cmp es q h ∙ same q ∙ sym (table.get-from_sorted row_cmp fs q g)))
     ∙ table.entries-from_sorted row_cmp fs g
 
-module _ (es : Rows) (sorted : IsSorted es) (k : List ℕ) (v : Sighting) where
-  abbrev M : table.FinMap row_cmp Sighting
+module _ (es : Rows) (sorted : IsSorted es) (k : List ℕ) (v : Occurrences) where
+  abbrev M : table.FinMap row_cmp Occurrences
   M = table.from_sorted es
 
   entries_of_put : table.entries (table.insert M k v) ≡ table.put row_cmp k v es
@@ -51,8 +51,8 @@ module _ (es : Rows) (sorted : IsSorted es) (k : List ℕ) (v : Sighting) where
 
 -- ---- rows by a function
 
-module _ (f : List ℕ → Option Sighting) where
-  abbrev told : List ℕ → Option (List ℕ × Sighting)
+module _ (f : List ℕ → Option Occurrences) where
+  abbrev told : List ℕ → Option (List ℕ × Occurrences)
   told t = option_map (λ s. (t, s)) (f t)
 
   found_told : (ts : Texts) (q : List ℕ) → found q (filter_map told ts) ≡ cond (list_any (same_text q) ts) (f q) None
@@ -63,7 +63,7 @@ module _ (f : List ℕ → Option Sighting) where
       missing true none = refl
       missing false none = sym none
 
-      go : (o : Option Sighting) → f t ≡ o → (same_text q t ≡ true) ⊎ (same_text q t ≡ false)
+      go : (o : Option Occurrences) → f t ≡ o → (same_text q t ≡ true) ⊎ (same_text q t ≡ false)
           → found q (filter_map told ts) ≡ cond (list_any (same_text q) ts) (f q) None
           → found q (cons_option (option_map (λ s. (t, s)) o) (filter_map told ts))
           ≡ cond (same_text q t || list_any (same_text q) ts) (f q) None

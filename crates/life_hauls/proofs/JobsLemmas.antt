@@ -3,7 +3,7 @@ use Rattle.std.specs.Prelude.{◌≡◌, ℕ, List, Option, Result, Ok, Err}
 use Rattle.std.proofs.Common.{subst}
 use Rattle.life_core.specs.Rule.{RuleSets}
 use Rattle.life_core.specs.RuleText.{read_rule}
-use Rattle.life_rle.specs.Stream.{Gains, GainsSome}
+use Rattle.life_rle.specs.Stream.{Appends, AppendsSome}
 use Rattle.life_jobs.specs.Streams.{PutsText}
 use Rattle.life_jobs.specs.declared.stop.Stop.{Stop}
 use Rattle.life_jobs.specs.declared.stop.Stop.TheVariants.{OutOfLimit, BadPattern, BadRule, BadCode, Unreadable}
@@ -16,7 +16,7 @@ pub puts_under : (MayBe : Type 0) (name : List ℕ) (wanted : RuleSets → List 
     → text ≡ wanted rule
     → PutsText old new text answer → PutsUnderRule MayBe name wanted old new answer
 puts_under MayBe name wanted rule text old new (Ok done) may is same puts =
-    (may, (rule, is, subst (Gains old new) same puts))
+    (may, (rule, is, subst (Appends old new) same puts))
 puts_under MayBe name wanted rule text old new (Err OutOfLimit) may is same puts = absurd puts
 puts_under MayBe name wanted rule text old new (Err (BadPattern fault)) may is same puts = puts
 puts_under MayBe name wanted rule text old new (Err BadRule) may is same puts = absurd puts
@@ -24,4 +24,4 @@ puts_under MayBe name wanted rule text old new (Err (BadCode fault)) may is same
 puts_under MayBe name wanted rule text old new (Err Unreadable) may is same puts = puts
 puts_under MayBe name wanted rule text old new (Err Unavailable) may is same puts = tt
 puts_under MayBe name wanted rule text old new (Err Unwritable) may is same puts =
-    (may, (rule, is, subst (GainsSome old new) same puts))
+    (may, (rule, is, subst (AppendsSome old new) same puts))

@@ -5,7 +5,7 @@ pub mod RowLemmas
 pub mod PushLemmas
 pub mod JobsLemmas
 pub mod WordsLemmas
-pub mod SightingLaws
+pub mod OccurrenceLaws
 pub mod TogetherLaws
 pub mod TallyLaws
 pub mod SoupLaws

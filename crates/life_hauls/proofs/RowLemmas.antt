@@ -12,18 +12,18 @@ use Rattle.std.proofs.lemmas.Bool.{false≢true, cases_lt}
 use Rattle.std.proofs.lemmas.List.{get_or_default}
 use Rattle.life_census.specs.Counting.{row_cmp}
 use Rattle.life_census.proofs.CountingLaws.{row_cmp_total, both_T, less_T}
-use Rattle.life_hauls.specs.declared.rows.Sighting.{Sighting}
+use Rattle.life_hauls.specs.declared.rows.Occurrences.{Occurrences}
 use Rattle.life_hauls.specs.declared.rows.HaulRow.{HaulRow}
 use Rattle.life_hauls.specs.Hauls.{row_seen, more}
 use Rattle.life_hauls.specs.HaulsState.{once, noted, AreBelow, IsRowOf, IsPlaceFor}
 use Rattle.life_hauls.proofs.HaulRows.{Rows, IsSorted, found}
 
-sorted_rest : (e : List ℕ × Sighting) (es : Rows) → IsSorted (e ∷ es) → IsSorted es
+sorted_rest : (e : List ℕ × Occurrences) (es : Rows) → IsSorted (e ∷ es) → IsSorted es
 sorted_rest e [] sorted = tt
 sorted_rest e (f ∷ fs) sorted = (both_T _ _ sorted).1
 
 -- nothing is found below the first of sorted rows
-pub none_below : (t : List ℕ) (e : List ℕ × Sighting) (es : Rows) → row_cmp t e.0 ≡ Less → IsSorted (e ∷ es)
+pub none_below : (t : List ℕ) (e : List ℕ × Occurrences) (es : Rows) → row_cmp t e.0 ≡ Less → IsSorted (e ∷ es)
     → found t (e ∷ es) ≡ None
 none_below t e [] less sorted = ap (λ o. cond (is_eq o) (Some e.1) None) less
 none_below t e (f ∷ fs) less sorted =
@@ -86,7 +86,7 @@ compared {A} rows i row t s o low item bytes told d =
 -- ---- one more of a code
 
 -- rows with a text, by what was found of it
-abbrev put_one : ℕ → List ℕ → Rows → Option Sighting → Rows
+abbrev put_one : ℕ → List ℕ → Rows → Option Occurrences → Rows
 put_one i t es o = table.put row_cmp t (more o (once i)) es
 
 module _ {A : Type 0} (i : ℕ) (t : List ℕ) where
@@ -141,7 +141,7 @@ module _ {A : Type 0} (i : ℕ) (t : List ℕ) where
 -- ---- the same, for a list and a text that are known by equations
 
 module _ {A : Type 0} (i : ℕ) (rows ys : List (HaulRow A)) (t s : List ℕ) (same : ys ≡ rows) (text : s ≡ t) where
-  pub new_row_at : (k : ℕ) (zs : List (HaulRow A)) (code : List ℕ) (v : Sighting) → IsSorted (map row_seen rows) → zs
+  pub new_row_at : (k : ℕ) (zs : List (HaulRow A)) (code : List ℕ) (v : Occurrences) → IsSorted (map row_seen rows) → zs
       ≡ insert rows k (record { code = code; seen = v }) → code ≡ t → v ≡ once i → AreBelow ys s k → IsPlaceFor ys s k
       → map row_seen zs ≡ noted i (map row_seen rows) t
   new_row_at k zs code v sorted made is one below index =
@@ -150,7 +150,7 @@ module _ {A : Type 0} (i : ℕ) (rows ys : List (HaulRow A)) (t s : List ℕ) (s
       (subst (λ (us : List (HaulRow A)). AreBelow us t k) same (subst (λ (u : List ℕ). AreBelow ys u k) text below))
       (subst (λ (us : List (HaulRow A)). IsPlaceFor us t k) same (subst (λ (u : List ℕ). IsPlaceFor ys u k) text index))
 
-  pub old_row_at : (k : ℕ) (read written : HaulRow A) (v : Sighting) → read ≡ slice_index_or rows k read
+  pub old_row_at : (k : ℕ) (read written : HaulRow A) (v : Occurrences) → read ≡ slice_index_or rows k read
       → written ≡ slice_index_or rows k written → v ≡ more (Some read.seen) (once i) → AreBelow ys s k → IsRowOf ys s k
       → map row_seen (set rows k (record { code = written.code; seen = v })) ≡ noted i (map row_seen rows) t
   old_row_at k read written v item index is below here =

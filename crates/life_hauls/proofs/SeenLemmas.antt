@@ -5,7 +5,7 @@ use Rattle.std.proofs.Common.{sym, ap, ◌∙◌, arith}
 use Rattle.std.proofs.lemmas.Bool.{false≢true}
 use Rattle.std.proofs.lemmas.List.Elements.{filter-append}
 use Rattle.std.proofs.lemmas.List.Sums.{sum_by-cons, sum_by-append}
-use Rattle.life_hauls.specs.declared.rows.Sighting.{Sighting}
+use Rattle.life_hauls.specs.declared.rows.Occurrences.{Occurrences}
 use Rattle.life_hauls.specs.Hauls.{is_positive, lesser_number, least_number, seen, more, joined}
 use Rattle.life_hauls.specs.HaulsState.{once}
 
@@ -34,9 +34,9 @@ module _ (f : ℕ → ℕ) where
   abbrev pub has : ℕ → Bool
   has i = is_positive (f i)
 
-  -- a sighting of so many, from a number on, if there is one
-  abbrev pub sighting : ℕ → Option ℕ → Option Sighting
-  sighting n = option_map (λ i. record { count = n; first = i })
+  -- so many occurrences, from a number on, if there is one
+  abbrev pub occurrences : ℕ → Option ℕ → Option Occurrences
+  occurrences n = option_map (λ i. record { count = n; first = i })
 
   nothing : (n : ℕ) → is_positive n ≡ false → n ≡ 0
   nothing zero is = refl
@@ -57,7 +57,7 @@ module _ (f : ℕ → ℕ) where
           let here = nothing (f n) is in let there = rest none in omega (arith, whole, here, there)
 
   joins : (a b : ℕ) (x y : Option ℕ) → (x ≡ None → a ≡ 0) → (y ≡ None → b ≡ 0)
-      → sighting (a + b) (lesser x y) ≡ joined (sighting a x) (sighting b y)
+      → occurrences (a + b) (lesser x y) ≡ joined (occurrences a x) (occurrences b y)
   joins a b None None first second = refl
   joins a b None (Some m) first second =
       let e : a + b ≡ b = let z = first refl in omega (arith, z) in ap (λ n. Some (record { count = n; first = m })) e
@@ -69,9 +69,9 @@ module _ (f : ℕ → ℕ) where
   pub seen-append : (ms ns : List ℕ) → seen f (ms ++ ns) ≡ joined (seen f ms) (seen f ns)
   unfolding seen
   seen-append ms ns =
-      ap (λ n. sighting n (least_number (filter has (ms ++ ns)))) (sum_by-append f ms ns)
-      ∙ ap (λ is. sighting (sum_by f ms + sum_by f ns) (least_number is)) (filter-append has ms ns)
-      ∙ ap (sighting (sum_by f ms + sum_by f ns)) (least-append (filter has ms) (filter has ns))
+      ap (λ n. occurrences n (least_number (filter has (ms ++ ns)))) (sum_by-append f ms ns)
+      ∙ ap (λ is. occurrences (sum_by f ms + sum_by f ns) (least_number is)) (filter-append has ms ns)
+      ∙ ap (occurrences (sum_by f ms + sum_by f ns)) (least-append (filter has ms) (filter has ns))
       ∙ joins (sum_by f ms) (sum_by f ns) (least_number (filter has ms)) (least_number (filter has ns))
       (none_are_none ms) (none_are_none ns)
 
@@ -80,11 +80,11 @@ module _ (f : ℕ → ℕ) where
   seen-none = refl
 
 -- n of something in soup i
-abbrev pub sighted : ℕ → ℕ → Option Sighting
-sighted zero i = None
-sighted (suc n) i = Some (record { count = suc n; first = i })
+abbrev pub occurs : ℕ → ℕ → Option Occurrences
+occurs zero i = None
+occurs (suc n) i = Some (record { count = suc n; first = i })
 
-pub seen-one : (f : ℕ → ℕ) (i : ℕ) → seen f (i ∷ []) ≡ sighted (f i) i
+pub seen-one : (f : ℕ → ℕ) (i : ℕ) → seen f (i ∷ []) ≡ occurs (f i) i
 unfolding seen
 seen-one f i =
     ap (λ k. option_map (λ j. record { count = k; first = j }) (least_number (cond (is_positive (f i)) (i ∷ []) [])))
@@ -94,23 +94,23 @@ seen-one f i =
     alone n = omega arith
 
     go : (n : ℕ) → option_map (λ j. record { count = n; first = j })
-        (least_number (cond (is_positive n) (i ∷ []) [])) ≡ sighted n i
+        (least_number (cond (is_positive n) (i ∷ []) [])) ≡ occurs n i
     go zero = refl
     go (suc n) = refl
 
 -- one soup more
-pub seen-push : (f : ℕ → ℕ) (ns : List ℕ) (i : ℕ) → seen f (ns ++ i ∷ []) ≡ joined (seen f ns) (sighted (f i) i)
+pub seen-push : (f : ℕ → ℕ) (ns : List ℕ) (i : ℕ) → seen f (ns ++ i ∷ []) ≡ joined (seen f ns) (occurs (f i) i)
 seen-push f ns i = seen-append f ns (i ∷ []) ∙ ap (joined (seen f ns)) (seen-one f i)
 
 -- one more in soup i
-pub sighted-more : (x : Option Sighting) (n i : ℕ)
-    → Some (more (joined x (sighted n i)) (once i)) ≡ joined x (sighted (n + 1) i)
-sighted-more x n i = go x n ∙ ap (λ k. joined x (sighted k i)) (next n)
+pub occurs-more : (x : Option Occurrences) (n i : ℕ)
+    → Some (more (joined x (occurs n i)) (once i)) ≡ joined x (occurs (n + 1) i)
+occurs-more x n i = go x n ∙ ap (λ k. joined x (occurs k i)) (next n)
   where
     next : (n : ℕ) → suc n ≡ n + 1
     next n = omega arith
 
-    go : (x : Option Sighting) (n : ℕ) → Some (more (joined x (sighted n i)) (once i)) ≡ joined x (sighted (suc n) i)
+    go : (x : Option Occurrences) (n : ℕ) → Some (more (joined x (occurs n i)) (once i)) ≡ joined x (occurs (suc n) i)
     go None zero = refl
     go (Some s) zero = refl
     go None (suc n) =

@@ -20,7 +20,7 @@ use Rattle.life_census.specs.Cluster.{clusters_of}
 use Rattle.life_census.specs.Counting.{row_cmp, how_often, occurrences_of}
 use Rattle.life_census.proofs.CountingLaws.{Texts, same_text, row_cmp_total, both_T, less_T, table_of, get_counted}
 use Rattle.life_census.proofs.CountingLaws.{how_often_none}
-use Rattle.life_hauls.specs.declared.rows.Sighting.{Sighting}
+use Rattle.life_hauls.specs.declared.rows.Occurrences.{Occurrences}
 use Rattle.life_hauls.specs.Hauls.{HaulCounts, seen, more, both, texts_in, counts_over, soup_codes}
 use Rattle.life_hauls.specs.HaulsState.{once, noted, with_code, with_codes}
 use Rattle.life_hauls.specs.Laws.{count_of, count_in, soup_tally, RowsAreOfTallies, RowsAscend, UnresolvedAreOfTallies}
@@ -97,10 +97,10 @@ unresolved_are_of_tallies s root rule n limit first count =
 
 -- ---- the order
 
-abbrev code_of_row : List ℕ × Sighting → List ℕ
+abbrev code_of_row : List ℕ × Occurrences → List ℕ
 code_of_row row = row.0
 
-above : (k : List ℕ) (e : List ℕ × Sighting) (es : Rows) → row_cmp k e.0 ≡ Less → IsSorted (e ∷ es)
+above : (k : List ℕ) (e : List ℕ × Occurrences) (es : Rows) → row_cmp k e.0 ≡ Less → IsSorted (e ∷ es)
     → AllByRecursion (λ l. row_cmp k l ≡ Less) (map code_of_row (e ∷ es))
 above k e [] less sorted = (less, tt)
 above k e (f ∷ fs) less sorted =
@@ -125,21 +125,21 @@ rows_ascend s root rule n limit first count =
 -- ---- each cluster once
 
 abbrev all_in : Rows → ℕ
-all_in es = sum_by (λ (e : List ℕ × Sighting). e.1.count) es
+all_in es = sum_by (λ (e : List ℕ × Occurrences). e.1.count) es
 
-sorted_rest : (e : List ℕ × Sighting) (es : Rows) → IsSorted (e ∷ es) → IsSorted es
+sorted_rest : (e : List ℕ × Occurrences) (es : Rows) → IsSorted (e ∷ es) → IsSorted es
 sorted_rest e [] sorted = tt
 sorted_rest e (f ∷ fs) sorted = (both_T _ _ sorted).1
 
 module _ (i : ℕ) (t : List ℕ) where
-  abbrev put_one : Rows → Option Sighting → Rows
+  abbrev put_one : Rows → Option Occurrences → Rows
   put_one es o = table.put row_cmp t (more o (once i)) es
 
   all-noted : (es : Rows) → IsSorted es → all_in (noted i es t) ≡ all_in es + 1
-  all-noted [] sorted = let a = sum_by-cons (λ (e : List ℕ × Sighting). e.1.count) (t, once i) [] in omega (arith, a)
+  all-noted [] sorted = let a = sum_by-cons (λ (e : List ℕ × Occurrences). e.1.count) (t, once i) [] in omega (arith, a)
   all-noted (e ∷ es) sorted = go (row_cmp t e.0) refl (all-noted es (sorted_rest e es sorted))
     where
-      spread : (o : Ordering) → row_cmp t e.0 ≡ o → (v : Option Sighting) → found t (e ∷ es) ≡ v
+      spread : (o : Ordering) → row_cmp t e.0 ≡ o → (v : Option Occurrences) → found t (e ∷ es) ≡ v
           → noted i (e ∷ es) t ≡ match_ordering o ((t, more v (once i)) ∷ e ∷ es) ((e.0, more v (once i)) ∷ es)
           (e ∷ table.put row_cmp t (more v (once i)) es)
       spread o is v here =
@@ -151,21 +151,21 @@ module _ (i : ℕ) (t : List ℕ) where
           → all_in (noted i (e ∷ es) t) ≡ all_in (e ∷ es) + 1
       go Less is rest =
           let made = spread Less is None (none_below t e es is sorted) in
-          let a = sum_by-cons (λ (x : List ℕ × Sighting). x.1.count) (t, once i) (e ∷ es) in
+          let a = sum_by-cons (λ (x : List ℕ × Occurrences). x.1.count) (t, once i) (e ∷ es) in
           ap all_in made ∙ a ∙ turn (all_in (e ∷ es))
         where
           turn : (k : ℕ) → 1 + k ≡ k + 1
           turn k = omega arith
       go Equal is rest =
           let made = spread Equal is (Some e.1) (ap (λ o. cond (is_eq o) (Some e.1) (found t es)) is) in
-          let a = sum_by-cons (λ (x : List ℕ × Sighting). x.1.count) (e.0, both e.1 (once i)) es in
-          let b = sum_by-cons (λ (x : List ℕ × Sighting). x.1.count) e es in
+          let a = sum_by-cons (λ (x : List ℕ × Occurrences). x.1.count) (e.0, both e.1 (once i)) es in
+          let b = sum_by-cons (λ (x : List ℕ × Occurrences). x.1.count) e es in
           let sum : (e.1.count + 1) + all_in es ≡ all_in (e ∷ es) + 1 = omega (arith, b) in
           ap all_in made ∙ a ∙ sum
       go Greater is rest =
           let made = spread Greater is (found t es) (ap (λ o. cond (is_eq o) (Some e.1) (found t es)) is) in
-          let a = sum_by-cons (λ (x : List ℕ × Sighting). x.1.count) e (noted i es t) in
-          let b = sum_by-cons (λ (x : List ℕ × Sighting). x.1.count) e es in
+          let a = sum_by-cons (λ (x : List ℕ × Occurrences). x.1.count) e (noted i es t) in
+          let b = sum_by-cons (λ (x : List ℕ × Occurrences). x.1.count) e es in
           let sum : e.1.count + all_in (noted i es t) ≡ all_in (e ∷ es) + 1 = omega (arith, b, rest) in
           ap all_in made ∙ a ∙ sum
 
@@ -173,7 +173,7 @@ module _ (i : ℕ) (t : List ℕ) where
 abbrev AddsUp : HaulCounts → Type 0
 AddsUp h = all_in h.rows + count_of h.unresolved ≡ h.total
 
-one_unresolved : (u : Option Sighting) (i : ℕ) → count_of (Some (more u (once i))) ≡ count_of u + 1
+one_unresolved : (u : Option Occurrences) (i : ℕ) → count_of (Some (more u (once i))) ≡ count_of u + 1
 one_unresolved None i = refl
 one_unresolved (Some s) i = refl
 

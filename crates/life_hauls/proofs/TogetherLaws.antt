@@ -9,7 +9,7 @@ use Rattle.std.proofs.lemmas.List.Folds.{list_any-append}
 use Rattle.std.proofs.lemmas.List.Sums.{sum_by-append}
 use Rattle.life_census.specs.Counting.{how_often}
 use Rattle.life_census.proofs.CountingLaws.{Texts, same_text}
-use Rattle.life_hauls.specs.declared.rows.Sighting.{Sighting}
+use Rattle.life_hauls.specs.declared.rows.Occurrences.{Occurrences}
 use Rattle.life_hauls.specs.Hauls.{joined, together, rows_by, texts_in, counts_over, soup_codes}
 use Rattle.life_hauls.specs.Laws.{HaulsAddUp, TogetherByCodes, TogetherInAnyOrder, TogetherInAnyGrouping}
 use Rattle.life_hauls.proofs.SeenLemmas.{seen-append}
@@ -19,7 +19,7 @@ use Rattle.life_hauls.proofs.PushLemmas.{rows_over, found-over, sorted-over}
 -- ---- rows
 
 abbrev codes_of : Rows → Texts
-codes_of es = map (λ (e : List ℕ × Sighting). e.0) es
+codes_of es = map (λ (e : List ℕ × Occurrences). e.0) es
 
 none_found : (q : List ℕ) (es : Rows) → list_any (same_text q) (codes_of es) ≡ false → found q es ≡ None
 none_found q [] none = refl
@@ -33,7 +33,7 @@ both_rows es fs = rows_by (λ t. joined (found t es) (found t fs)) (codes_of (es
 found-both : (es fs : Rows) (q : List ℕ) → found q (both_rows es fs) ≡ joined (found q es) (found q fs)
 found-both es fs q = rows_say (λ t. joined (found t es) (found t fs)) (codes_of (es ++ fs)) q (λ none.
     let split = sym (list_any-append (same_text q) (codes_of es) (codes_of fs))
-    ∙ ap (list_any (same_text q)) (sym (map-append (λ (e : List ℕ × Sighting). e.0) es fs)) ∙ none in
+    ∙ ap (list_any (same_text q)) (sym (map-append (λ (e : List ℕ × Occurrences). e.0) es fs)) ∙ none in
     let both = or_parts (list_any (same_text q) (codes_of es)) (list_any (same_text q) (codes_of fs)) split in
     λ k. joined (none_found q es both.0 k) (none_found q fs both.1 k))
 
@@ -44,7 +44,7 @@ pub together_by_codes : TogetherByCodes
 unfolding together
 together_by_codes a b code = found-both a.rows b.rows code
 
-joined_turn : (x y : Option Sighting) → joined x y ≡ joined y x
+joined_turn : (x y : Option Occurrences) → joined x y ≡ joined y x
 joined_turn None None = refl
 joined_turn None (Some t) = refl
 joined_turn (Some s) None = refl
@@ -67,7 +67,7 @@ together_in_any_order a b =
 
 -- ---- three hauls
 
-joined_regroup : (x y z : Option Sighting) → joined (joined x y) z ≡ joined x (joined y z)
+joined_regroup : (x y z : Option Occurrences) → joined (joined x y) z ≡ joined x (joined y z)
 joined_regroup x y None = refl
 joined_regroup x None (Some u) = refl
 joined_regroup None (Some t) (Some u) = refl

@@ -10,41 +10,42 @@ use Rattle.life_core.specs.Rule.{RuleSets}
 use Rattle.life_code.specs.Codes.{code_of}
 use Rattle.life_census.specs.Cluster.{clusters_of}
 use Rattle.life_census.specs.Counting.{row_cmp, how_often}
-use Rattle.life_hauls.specs.declared.rows.Sighting.{Sighting}
+use Rattle.life_hauls.specs.declared.rows.Occurrences.{Occurrences}
 use Rattle.life_hauls.specs.declared.rows.HaulRow.{HaulRow}
 use Rattle.life_hauls.specs.declared.symmetry.Symmetry.{Symmetry}
 use Rattle.life_hauls.specs.Soups.{soup_of}
 
 -- ---- the content of a haul
 
--- a row as its code and its sighting
-abbrev pub row_seen : {A : Type 0} → HaulRow A → List ℕ × Sighting
+-- a row as its code and its occurrences
+abbrev pub row_seen : {A : Type 0} → HaulRow A → List ℕ × Occurrences
 row_seen r = (r.code, r.seen)
 
--- codes with their sightings, the sighting of clusters without a code, the number of soups, and the number of clusters
+-- codes with their occurrences, the occurrences of clusters without a code, the number of soups, and the number of
+-- clusters
 pub record HaulCounts : Type 0 where
-  pub rows : List (List ℕ × Sighting)
-  pub unresolved : Option Sighting
+  pub rows : List (List ℕ × Occurrences)
+  pub unresolved : Option Occurrences
   pub soups : ℕ
   pub total : ℕ
 
--- a sighting is stored as the pair of its parts
-abbrev pub coded_sighting : Coded Sighting
-coded_sighting =
+-- occurrences are stored as the pair of their parts
+abbrev pub coded_occurrences : Coded Occurrences
+coded_occurrences =
     code_by (ℕ × ℕ) (coded× coded_ℕ coded_ℕ) (λ s. (s.count, s.first))
     (λ p. record { count = p.0; first = p.1 }) (λ _. refl)
 
 -- and so are the counts
 abbrev pub coded_counts : Coded HaulCounts
 coded_counts =
-    code_by (List (List ℕ × Sighting) × (Option Sighting × (ℕ × ℕ)))
-    (coded× (coded_list (coded× (coded_list coded_ℕ) coded_sighting))
-    (coded× (coded_option coded_sighting) (coded× coded_ℕ coded_ℕ)))
+    code_by (List (List ℕ × Occurrences) × (Option Occurrences × (ℕ × ℕ)))
+    (coded× (coded_list (coded× (coded_list coded_ℕ) coded_occurrences))
+    (coded× (coded_option coded_occurrences) (coded× coded_ℕ coded_ℕ)))
     (λ h. (h.rows, (h.unresolved, (h.soups, h.total))))
     (λ p. record { rows = p.0; unresolved = p.1.0; soups = p.1.1.0; total = p.1.1.1 })
     (λ _. refl)
 
--- ---- sightings in soups
+-- ---- occurrences in soups
 
 -- the smaller of a number and another, if there is another
 abbrev pub lesser_number : ℕ → Option ℕ → ℕ
@@ -63,25 +64,25 @@ is_positive (suc n) = true
 
 -- if soup i has f i of something: how many the soups with these numbers have, and the least number whose soup has one;
 -- None if no soup has any
-unfoldable pub seen : (ℕ → ℕ) → List ℕ → Option Sighting
+unfoldable pub seen : (ℕ → ℕ) → List ℕ → Option Occurrences
 seen f ns =
     option_map (λ i. record { count = sum_by f ns; first = i }) (least_number (filter (λ i. is_positive (f i)) ns))
 
 -- each text of a list for which f has a value, with that value, in byte order and each once
-unfoldable pub rows_by : (List ℕ → Option Sighting) → List (List ℕ) → List (List ℕ × Sighting)
+unfoldable pub rows_by : (List ℕ → Option Occurrences) → List (List ℕ) → List (List ℕ × Occurrences)
 rows_by f ts = table.entries (table.from_entries {R = row_cmp} (filter_map (λ t. option_map (λ s. (t, s)) (f t)) ts))
 
--- two sightings as one
-abbrev pub both : Sighting → Sighting → Sighting
+-- occurrences together with others
+abbrev pub both : Occurrences → Occurrences → Occurrences
 both a b = record { count = a.count + b.count; first = min a.first b.first }
 
--- a sighting joined with an earlier one, if there is one
-abbrev pub more : Option Sighting → Sighting → Sighting
+-- occurrences together with earlier ones, if there are any
+abbrev pub more : Option Occurrences → Occurrences → Occurrences
 more None s = s
 more (Some a) s = both a s
 
--- the sightings of two hauls, joined
-abbrev pub joined : Option Sighting → Option Sighting → Option Sighting
+-- the occurrences in two hauls, together
+abbrev pub joined : Option Occurrences → Option Occurrences → Option Occurrences
 joined a None = a
 joined a (Some s) = Some (more a s)
 

@@ -3,16 +3,16 @@ use Rattle.std.specs.Prelude.{◌≡◌, ◌≢◌, ℕ, ◌+◌, ◌<◌, ◌�
 use Rattle.std.specs.declared.cmp.Ordering.TheVariants.{Less, Equal, Greater}
 use Rattle.std.specs.FinMap as table
 use Rattle.life_census.specs.Counting.{row_cmp}
-use Rattle.life_hauls.specs.declared.rows.Sighting.{Sighting}
+use Rattle.life_hauls.specs.declared.rows.Occurrences.{Occurrences}
 use Rattle.life_hauls.specs.declared.rows.HaulRow.{HaulRow}
 use Rattle.life_hauls.specs.Hauls.{HaulCounts, more}
 
 -- one cluster, in soup i
-abbrev pub once : ℕ → Sighting
+abbrev pub once : ℕ → Occurrences
 once i = record { count = 1; first = i }
 
 -- rows with one more cluster of a code, in soup i
-abbrev pub noted : ℕ → List (List ℕ × Sighting) → List ℕ → List (List ℕ × Sighting)
+abbrev pub noted : ℕ → List (List ℕ × Occurrences) → List ℕ → List (List ℕ × Occurrences)
 noted i rows t = table.put row_cmp t (more (table.find row_cmp t rows) (once i)) rows
 
 -- one more cluster of soup i, by its code

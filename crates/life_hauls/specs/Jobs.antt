@@ -4,7 +4,7 @@ use Rattle.std.specs.List.{list_all}
 use Rattle.life_core.specs.Rule.{RuleSets}
 use Rattle.life_core.specs.RuleText.{read_rule}
 use Rattle.life_rle.specs.Record.{plain}
-use Rattle.life_rle.specs.Stream.{Gains, GainsSome}
+use Rattle.life_rle.specs.Stream.{Appends, AppendsSome}
 use Rattle.life_rle.specs.Writer.{text}
 use Rattle.life_jobs.specs.Jobs.{AreCensusNumbers, RefusesRule}
 use Rattle.life_jobs.specs.declared.stop.Stop.{Stop}
@@ -52,12 +52,12 @@ soup_text words rule = text (plain rule (soup_of words.symmetry words.root.now w
 abbrev pub PutsUnderRule : Type 0 → List ℕ → (RuleSets → List ℕ) → Option (List ℕ) → Option (List ℕ)
     → Result (Unit {0}) Stop → Type 0
 PutsUnderRule MayBe rule wanted old new (Ok done) =
-    MayBe × ((sets : RuleSets) × (read_rule rule ≡ Ok sets) × Gains old new (wanted sets))
+    MayBe × ((sets : RuleSets) × (read_rule rule ≡ Ok sets) × Appends old new (wanted sets))
 PutsUnderRule MayBe rule wanted old new (Err OutOfLimit) = ¬ MayBe
 PutsUnderRule MayBe rule wanted old new (Err BadRule) = MayBe × RefusesRule rule
 PutsUnderRule MayBe rule wanted old new (Err Unavailable) = Unit {0}
 PutsUnderRule MayBe rule wanted old new (Err Unwritable) =
-    MayBe × ((sets : RuleSets) × (read_rule rule ≡ Ok sets) × GainsSome old new (wanted sets))
+    MayBe × ((sets : RuleSets) × (read_rule rule ≡ Ok sets) × AppendsSome old new (wanted sets))
 PutsUnderRule MayBe rule wanted old new (Err stop) = ⊥
 
 -- what is put for the arguments of a haul: its table

@@ -10,7 +10,7 @@ use Rattle.life_code.specs.Codes.{code_of}
 use Rattle.life_census.specs.Cluster.{clusters_of}
 use Rattle.life_census.specs.Rows.{TallyCounts}
 use Rattle.life_census.specs.Counting.{row_cmp, tally_of}
-use Rattle.life_hauls.specs.declared.rows.Sighting.{Sighting}
+use Rattle.life_hauls.specs.declared.rows.Occurrences.{Occurrences}
 use Rattle.life_hauls.specs.Hauls.{HaulCounts, seen, joined, together, haul_of}
 use Rattle.life_hauls.specs.declared.symmetry.Symmetry.{Symmetry}
 use Rattle.life_hauls.specs.Soups.{soup_of}
@@ -23,7 +23,7 @@ HaulsAddUp =
     (s : Symmetry) (root : List ℕ) (rule : RuleSets) (n limit first a b : ℕ) → haul_of s root rule n limit first (a + b)
     ≡ together (haul_of s root rule n limit first a) (haul_of s root rule n limit (first + a) b)
 
--- .. which joins the sightings of each code: the counts add up, and the first soup is the smaller ..
+-- .. which joins the occurrences of each code: the counts add up, and the first soup is the smaller ..
 abbrev pub TogetherByCodes : Type 0
 TogetherByCodes =
     (a b : HaulCounts) (code : List ℕ) → table.find row_cmp code (together a b).rows
@@ -37,20 +37,20 @@ TogetherInAnyOrder = (a b : HaulCounts) → together a b ≡ together b a
 abbrev pub TogetherInAnyGrouping : Type 0
 TogetherInAnyGrouping = (a b c : HaulCounts) → together (together a b) c ≡ together a (together b c)
 
--- ---- sightings
+-- ---- occurrences
 
 -- the number of clusters seen
-abbrev pub count_of : Option Sighting → ℕ
+abbrev pub count_of : Option Occurrences → ℕ
 count_of None = 0
 count_of (Some s) = s.count
 
 -- The count is the sum over the soups; the first soup has one, and no soup with a smaller number does ..
 abbrev pub SeenIsLeast : Type 0
 SeenIsLeast =
-    (f : ℕ → ℕ) (ns : List ℕ) (s : Sighting) → seen f ns ≡ Some s → (s.count ≡ sum_by f ns)
+    (f : ℕ → ℕ) (ns : List ℕ) (s : Occurrences) → seen f ns ≡ Some s → (s.count ≡ sum_by f ns)
     × Contains ns s.first × (1 ≤ f s.first) × ((i : ℕ) → Contains ns i → 1 ≤ f i → s.first ≤ i)
 
--- .. and there is no sighting exactly if the sum is 0.
+-- .. and there are none exactly if the sum is 0.
 abbrev pub NothingIsSeen : Type 0
 NothingIsSeen = (f : ℕ → ℕ) (ns : List ℕ) → (seen f ns ≡ None) ↔ (sum_by f ns ≡ 0)
 
@@ -65,7 +65,7 @@ soup_tally s root rule n limit i =
 abbrev pub count_in : List ℕ → TallyCounts → ℕ
 count_in code t = unwrap_or (table.find row_cmp code t.rows) 0
 
--- The row of a code is its sighting in the tallies of the soups; there is no row if no tally has the code ..
+-- The row of a code has its occurrences in the tallies of the soups; there is no row if no tally has the code ..
 abbrev pub RowsAreOfTallies : Type 0
 RowsAreOfTallies = (s : Symmetry) (root : List ℕ) (rule : RuleSets) (n limit first count : ℕ) (code : List ℕ)
     → table.find row_cmp code (haul_of s root rule n limit first count).rows
@@ -75,9 +75,9 @@ RowsAreOfTallies = (s : Symmetry) (root : List ℕ) (rule : RuleSets) (n limit f
 abbrev pub RowsAscend : Type 0
 RowsAscend =
     (s : Symmetry) (root : List ℕ) (rule : RuleSets) (n limit first count : ℕ) → IsStrictlySortedBy row_cmp
-    (map (λ (row : List ℕ × Sighting). row.0) (haul_of s root rule n limit first count).rows)
+    (map (λ (row : List ℕ × Occurrences). row.0) (haul_of s root rule n limit first count).rows)
 
--- .. the sighting without a code is that of the tallies ..
+-- .. those of clusters without a code are those of the tallies ..
 abbrev pub UnresolvedAreOfTallies : Type 0
 UnresolvedAreOfTallies = (s : Symmetry) (root : List ℕ) (rule : RuleSets) (n limit first count : ℕ)
     → (haul_of s root rule n limit first count).unresolved
@@ -86,7 +86,7 @@ UnresolvedAreOfTallies = (s : Symmetry) (root : List ℕ) (rule : RuleSets) (n l
 -- .. and each cluster of each soup is counted once.
 abbrev pub ClustersCountOnce : Type 0
 ClustersCountOnce = (s : Symmetry) (root : List ℕ) (rule : RuleSets) (n limit first count : ℕ)
-    → (sum_by (λ (row : List ℕ × Sighting). row.1.count) (haul_of s root rule n limit first count).rows
+    → (sum_by (λ (row : List ℕ × Occurrences). row.1.count) (haul_of s root rule n limit first count).rows
     + count_of (haul_of s root rule n limit first count).unresolved
     ≡ sum_by (λ i. (soup_tally s root rule n limit i).total) (range_with_len first count))
     × ((haul_of s root rule n limit first count).total
@@ -96,6 +96,6 @@ ClustersCountOnce = (s : Symmetry) (root : List ℕ) (rule : RuleSets) (n limit 
 -- are those of the range.
 abbrev pub SumsAreCounts : Type 0
 SumsAreCounts = (s : Symmetry) (root : List ℕ) (rule : RuleSets) (n limit first count : ℕ)
-    → ((haul_of s root rule n limit first count).total ≡ sum_by (λ (row : List ℕ × Sighting). row.1.count)
+    → ((haul_of s root rule n limit first count).total ≡ sum_by (λ (row : List ℕ × Occurrences). row.1.count)
     (haul_of s root rule n limit first count).rows + count_of (haul_of s root rule n limit first count).unresolved)
     × ((haul_of s root rule n limit first count).soups ≡ count)

@@ -6,7 +6,7 @@ use Rattle.std.specs.List.{flat_map}
 use Rattle.life_core.specs.Ascii.{line_feed, comma}
 use Rattle.life_core.specs.Rule.{RuleSets}
 use Rattle.life_core.specs.RuleText.{rule_text}
-use Rattle.life_hauls.specs.declared.rows.Sighting.{Sighting}
+use Rattle.life_hauls.specs.declared.rows.Occurrences.{Occurrences}
 use Rattle.life_hauls.specs.declared.symmetry.Symmetry.{Symmetry}
 use Rattle.life_hauls.specs.declared.symmetry.Symmetry.TheVariants.{C1}
 use Rattle.life_hauls.specs.Hauls.{HaulCounts}
@@ -29,19 +29,19 @@ heading s root rule n limit =
     ++ named (codes "# limit ") (decimal limit) ++ symmetry_line s
 
 -- a count, a comma, and the number of the first soup
-abbrev pub sighting_text : Sighting → List ℕ
-sighting_text s = decimal s.count ++ comma ∷ decimal s.first
+abbrev pub occurrences_text : Occurrences → List ℕ
+occurrences_text s = decimal s.count ++ comma ∷ decimal s.first
 
--- the same, if there may be no sighting
-abbrev pub unresolved_text : Option Sighting → List ℕ
+-- the same, if there may be none
+abbrev pub unresolved_text : Option Occurrences → List ℕ
 unresolved_text None = codes "0,"
-unresolved_text (Some s) = sighting_text s
+unresolved_text (Some s) = occurrences_text s
 
--- a line: a text, a comma, its sighting, and a line feed
-abbrev pub line : List ℕ × Sighting → List ℕ
-line row = row.0 ++ comma ∷ sighting_text row.1 ++ line_feed ∷ []
+-- a line: a text, a comma, its occurrences, and a line feed
+abbrev pub line : List ℕ × Occurrences → List ℕ
+line row = row.0 ++ comma ∷ occurrences_text row.1 ++ line_feed ∷ []
 
--- a header, a line for each code with its sighting, and a line with the sighting of clusters without a code
+-- a header, a line for each code with its occurrences, and a line with those of clusters without a code
 abbrev pub counts_text : HaulCounts → List ℕ
 counts_text h =
     codes "code,count,first\n" ++ flat_map line h.rows ++ codes "unresolved,"

@@ -6,7 +6,7 @@ ghost use Rattle.life_jobs.specs.Jobs.{RefusesRule};
 ghost use Rattle.life_jobs.specs.Streams.{PutsOnce};
 ghost use Rattle.life_hauls.specs.Jobs.{is_graphic, IsRoot, MayBeAsked, haul_text, PutsHaul, MaySoupBeAsked, soup_text, PutsSoup};
 
-use crate::hauls::haul;
+use crate::hauls::{HaulQuestion, haul};
 use crate::soups::soup;
 use crate::symmetry::Symmetry;
 use crate::table::csv;
@@ -69,13 +69,7 @@ fn between(least: u32, number: u64, most: u32) -> Option<u32>
 fn is_root(root: &[u8]) -> bool
     ensures { IsTrue result ↔ IsRoot root.now }
 {
-    if root.is_empty() {
-        return false;
-    }
-    if root.len() > 64 {
-        return false;
-    }
-    are_graphic(root)
+    1 <= root.len() && root.len() <= 64 && are_graphic(root)
 }
 
 /// Whether all bytes are graphic ASCII.
@@ -126,15 +120,17 @@ fn table<W: Watch>(
     requires { MayBeAsked words × (n ≡ words.n) × (limit ≡ words.limit) }
     ensures { IfOk result (λ v. v.items ≡ haul_text words.entry rule.now) }
 {
-    let root = words.root.as_bytes();
-    let HaulWords {
-        symmetry,
-        first,
-        count,
-        ..
-    } = words;
-    let haul = haul(alloc, symmetry, root, rule, n, limit, first, count, watch)?;
-    csv(alloc, symmetry, root, rule, n, limit, first, &haul)
+    let question = HaulQuestion {
+        symmetry: words.symmetry,
+        root: words.root.as_bytes(),
+        rule: *rule,
+        n,
+        limit,
+        first: words.first,
+        count: words.count,
+    };
+    let haul = haul(alloc, &question, watch)?;
+    csv(alloc, &question, &haul)
 }
 
 /// Writes the table of the haul that the arguments name. It checks the numbers and the root before the rule. The watch gets the progress.
@@ -166,10 +162,7 @@ pub fn run_haul<O: Outlet, W: Watch>(
 fn is_soup(words: SoupWords<'_>) -> bool
     ensures { IsTrue result ↔ MaySoupBeAsked words.entry }
 {
-    if words.number >= FIRST_LIMIT + COUNT_LIMIT {
-        return false;
-    }
-    is_root(words.root.as_bytes())
+    words.number < FIRST_LIMIT + COUNT_LIMIT && is_root(words.root.as_bytes())
 }
 
 /// The pattern file of a soup.

@@ -16,68 +16,83 @@ use life_code::{PERIOD_LIMIT, settled_generation};
 use life_core::{Fault, GENERATION_LIMIT, Rule};
 use std::alloc::Allocator;
 
+/// What a haul counts: the clusters of a generation of soups, by their codes.
+#[derive(Clone, Copy)]
+pub struct HaulQuestion<'a> {
+    /// The symmetry of the soups.
+    pub symmetry: Symmetry,
+    /// The root text.
+    pub root: &'a [u8],
+    /// The rule.
+    pub rule: Rule,
+    /// The generation whose clusters are counted.
+    pub n: u32,
+    /// The limit on the period.
+    pub limit: u32,
+    /// The number of the first soup.
+    pub first: u64,
+    /// The number of soups.
+    pub count: u64,
+}
+
 /// After this many soups, the remembered shapes are dropped. A haul meets ever new shapes without a code, so storing all of them would take
 /// memory proportional to the number of soups. Naming the usual shapes again takes a few hundredths of the time for this many soups.
 const SOUPS_REMEMBERED: u64 = 4_096;
 
 /// Drops the remembered shapes, if it is time after this many soups.
-fn forget<A: Allocator + Copy>(alloc: A, rule: &Rule, limit: u32, names: &mut Names<A>, soups: u64)
-    requires from_one { 1 ≤ limit }
-    requires few { limit ≤ PERIOD_LIMIT }
-    requires naming { names.old ≡ record { rule = rule.now; limit = limit } }
+fn drop_shapes<A: Allocator + Copy>(
+    alloc: A,
+    question: &HaulQuestion<'_>,
+    names: &mut Names<A>,
+    soups: u64,
+)
+    requires from_one { 1 ≤ question.now.limit }
+    requires few { question.now.limit ≤ PERIOD_LIMIT }
+    requires naming { names.old ≡ record { rule = question.now.rule; limit = question.now.limit } }
     ensures { names.new ≡ names.old }
 {
     if soups % SOUPS_REMEMBERED == 0 {
-        *names = Names::new(alloc, *rule, limit);
+        *names = Names::new(alloc, question.rule, question.limit);
     }
 }
 
-/// The codes of the clusters of generation `n` of a soup.
+/// The codes of the clusters of a soup's generation.
 fn codes_of_soup<A: Allocator + Copy>(
     alloc: A,
-    symmetry: Symmetry,
-    root: &[u8],
-    rule: &Rule,
-    n: u32,
+    question: &HaulQuestion<'_>,
     names: &mut Names<A>,
     number: u64,
 ) -> Result<Vec<Option<CodeText<A>>, A>, Fault>
-    requires { n ≤ GENERATION_LIMIT }
+    requires { question.now.n ≤ GENERATION_LIMIT }
     ensures same { names.new ≡ names.old }
-    ensures codes { IfOk result (λ v. v.items ≡ map (λ P. code_of names.old.rule P names.old.limit) (clusters_of (generation_of rule.now (soup_of symmetry root.now number) n))) }
+    ensures codes { IfOk result (λ v. v.items ≡ map (λ P. code_of names.old.rule P names.old.limit) (clusters_of (generation_of question.now.rule (soup_of question.now.symmetry question.now.root.now number) question.now.n))) }
 {
-    let soup = soup(alloc, symmetry, root, number)?;
-    let field = settled_generation(alloc, rule, &soup, n)?;
+    let soup = soup(alloc, question.symmetry, question.root, number)?;
+    let field = settled_generation(alloc, &question.rule, &soup, question.n)?;
     names.codes(alloc, &field)
 }
 
-/// The haul over `count` soups of a symmetry and a root text, from the number `first` on: how many clusters of their generation `n` have each code under
-/// the rule and the limit on the period, and the number of the first soup with one. After each soup, the watch is called with the progress.
+/// The haul that a question asks for: how many clusters of its soups' generation have each code under the rule and the limit on the period, and
+/// the number of the first soup with one. After each soup, the watch is called with the progress.
 pub fn haul<A: Allocator + Copy, W: Watch>(
     alloc: A,
-    symmetry: Symmetry,
-    root: &[u8],
-    rule: &Rule,
-    n: u32,
-    limit: u32,
-    first: u64,
-    count: u64,
+    question: &HaulQuestion<'_>,
     watch: &mut W,
 ) -> Result<Haul<A>, Fault>
-    requires few { n ≤ GENERATION_LIMIT }
-    requires from_one { 1 ≤ limit }
-    requires limit { limit ≤ PERIOD_LIMIT }
-    requires numbers { first + count < 2 ^ 64 }
-    ensures { IfOk result (λ h. h ≡ haul_of symmetry root.now rule.now n limit first count) }
+    requires few { question.now.n ≤ GENERATION_LIMIT }
+    requires from_one { 1 ≤ question.now.limit }
+    requires limit { question.now.limit ≤ PERIOD_LIMIT }
+    requires numbers { question.now.first + question.now.count < 2 ^ 64 }
+    ensures { IfOk result (λ h. h ≡ haul_of question.now.symmetry question.now.root.now question.now.rule question.now.n question.now.limit question.now.first question.now.count) }
 {
-    let mut names = Names::new(alloc, *rule, limit);
+    let mut names = Names::new(alloc, question.rule, question.limit);
     let mut haul = Haul::none(alloc);
-    for i in 0..count {
-        let number = first + i;
-        forget(alloc, rule, limit, &mut names, i);
-        let codes = codes_of_soup(alloc, symmetry, root, rule, n, &mut names, number)?;
+    for i in 0..question.count {
+        let number = question.first + i;
+        drop_shapes(alloc, question, &mut names, i);
+        let codes = codes_of_soup(alloc, question, &mut names, number)?;
         count_soup(alloc, &mut haul, &codes, number)?;
-        watch.counted(i + 1, count);
+        watch.report(i + 1, question.count);
     }
     Ok(haul)
 }

@@ -1,4 +1,4 @@
-//! The rows of a haul: codes with their sightings.
+//! The rows of a haul: codes with their occurrences.
 ghost use Rattle.std.specs.Prelude.{◌≡◌, [], None, map};
 ghost use Rattle.life_hauls.specs.Hauls.{row_seen};
 
@@ -6,26 +6,26 @@ use life_census::CodeText;
 use std::alloc::{Allocator, Global};
 use std::marker::Model;
 
-/// A sighting: how many clusters there were, and the least number of a soup with one.
+/// Occurrences: how many clusters there were, and the least number of a soup with one.
 #[derive(Clone, Copy, Debug, PartialEq, Eq)]
-pub struct Sighting {
+pub struct Occurrences {
     pub count: u64,
     pub first: u64,
 }
 
-/// A code and its sighting.
+/// A code and its occurrences.
 #[derive(Debug, Drop)]
 pub struct HaulRow<A: Allocator = Global> {
     pub code: CodeText<A>,
-    pub seen: Sighting,
+    pub seen: Occurrences,
 }
 
-/// The counts over many soups: a row for each code in byte order, the sighting of clusters without a code, the number of soups, and the
+/// The counts over many soups: a row for each code in byte order, the occurrences of clusters without a code, the number of soups, and the
 /// number of clusters.
 #[derive(Debug, Drop)]
 pub struct Haul<A: Allocator = Global> {
     pub rows: Vec<HaulRow<A>, A>,
-    pub unresolved: Option<Sighting>,
+    pub unresolved: Option<Occurrences>,
     pub soups: u64,
     pub total: u64,
 }

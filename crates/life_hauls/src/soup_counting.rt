@@ -6,23 +6,23 @@ ghost use Rattle.life_census.specs.Counting.{row_cmp};
 ghost use Rattle.life_hauls.specs.Hauls.{more, row_seen};
 ghost use Rattle.life_hauls.specs.HaulsState.{once, noted, with_code, with_soup, AreBelow, AreNotBelow, IsRowOf, IsPlaceFor};
 
-use crate::rows::{Haul, HaulRow, Sighting};
+use crate::rows::{Haul, HaulRow, Occurrences};
 use life_census::CodeText;
 use life_core::Fault;
 use std::alloc::{AllocError, Allocator};
 use std::cmp::Ordering;
 
-/// A sighting with one more cluster, in this soup.
-fn more(seen: Option<Sighting>, number: u64) -> Result<Sighting, AllocError>
+/// Occurrences with one more cluster, in this soup.
+fn more(seen: Option<Occurrences>, number: u64) -> Result<Occurrences, AllocError>
     ensures { IfOk result (λ s. s ≡ more seen (once number)) }
 {
     match seen {
-        None => Ok(Sighting {
+        None => Ok(Occurrences {
             count: 1,
             first: number,
         }),
         Some(seen) => match seen.count.checked_add(1) {
-            Some(count) => Ok(Sighting {
+            Some(count) => Ok(Occurrences {
                 count,
                 first: seen.first.min(number),
             }),

@@ -3,52 +3,52 @@ ghost use Rattle.std.specs.Prelude.{◌≡◌, ◌++◌, map, IfOk, OnOk};
 ghost use Rattle.std.specs.Fmt.{decimal};
 ghost use Rattle.std.specs.List.{flat_map};
 ghost use Rattle.life_hauls.specs.Hauls.{row_seen};
-ghost use Rattle.life_hauls.specs.Table.{named, symmetry_line, heading, sighting_text, unresolved_text, line, counts_text, sums_text, csv_text};
+ghost use Rattle.life_hauls.specs.Table.{named, symmetry_line, heading, occurrences_text, unresolved_text, line, counts_text, sums_text, csv_text};
 
-use crate::rows::{Haul, HaulRow, Sighting};
+use crate::hauls::HaulQuestion;
+use crate::rows::{Haul, HaulRow, Occurrences};
 use crate::symmetry::Symmetry;
 use itoa::Buffer;
-use life_core::{Fault, Rule};
+use life_core::Fault;
 use std::alloc::{AllocError, Allocator};
 
-/// The table of a haul over soups of a symmetry and a root text from the number `first` on, whose generation `n` was counted under the rule
-/// and the limit on the period.
+/// The table of the haul that answers a question. The haul says how many soups there were.
 pub fn csv<A: Allocator + Copy>(
     alloc: A,
-    symmetry: Symmetry,
-    root: &[u8],
-    rule: &Rule,
-    n: u32,
-    limit: u32,
-    first: u64,
+    question: &HaulQuestion<'_>,
     haul: &Haul<A>,
 ) -> Result<Vec<u8, A>, Fault>
-    ensures { IfOk result (λ v. v.items ≡ csv_text symmetry root.now rule.now n limit first haul.now) }
+    ensures { IfOk result (λ v. v.items ≡ csv_text question.now.symmetry question.now.root.now question.now.rule question.now.n question.now.limit question.now.first haul.now) }
 {
-    let rule = rule.text(alloc)?;
+    let rule = question.rule.text(alloc)?;
     let mut out = Vec::new(alloc);
-    put_heading(&mut out, symmetry, root, rule.as_bytes(), n, limit)?;
+    put_heading(&mut out, question, rule.as_bytes())?;
     put_counts(&mut out, haul)?;
-    put_sums(&mut out, first, haul)?;
+    put_sums(&mut out, question.first, haul)?;
     Ok(out)
 }
 
-/// Writes the heading, with the arguments of the haul.
+/// Writes the heading: what the question was, with the text of its rule.
 fn put_heading<A: Allocator>(
     out: &mut Vec<u8, A>,
-    symmetry: Symmetry,
-    root: &[u8],
+    question: &HaulQuestion<'_>,
     rule: &[u8],
-    n: u32,
-    limit: u32,
 ) -> Result<(), AllocError>
-    ensures { OnOk result (out.new.items ≡ out.old.items ++ heading symmetry root.now rule.now n limit) }
+    ensures { OnOk result (out.new.items ≡ out.old.items ++ heading question.now.symmetry question.now.root.now rule.now question.now.n question.now.limit) }
 {
-    put_named(out, b"# root ", root)?;
+    put_named(out, b"# root ", question.root)?;
     put_named(out, b"# rule ", rule)?;
-    put_named(out, b"# generation ", Buffer::new().format(n).as_bytes())?;
-    put_named(out, b"# limit ", Buffer::new().format(limit).as_bytes())?;
-    put_symmetry(out, symmetry)
+    put_named(
+        out,
+        b"# generation ",
+        Buffer::new().format(question.n).as_bytes(),
+    )?;
+    put_named(
+        out,
+        b"# limit ",
+        Buffer::new().format(question.limit).as_bytes(),
+    )?;
+    put_symmetry(out, question.symmetry)
 }
 
 /// Writes the line of a symmetry. `C1` has none: tables are older than the other symmetries, and did not change.
@@ -129,14 +129,14 @@ fn put_row<A: Allocator>(out: &mut Vec<u8, A>, row: &HaulRow<A>) -> Result<(), A
 {
     out.extend_from_slice(row.code.as_bytes())?;
     out.push(b',')?;
-    put_sighting(out, row.seen)?;
+    put_occurrences(out, row.seen)?;
     out.push(b'\n')?;
     Ok(())
 }
 
 /// Writes a count and the number of a soup.
-fn put_sighting<A: Allocator>(out: &mut Vec<u8, A>, seen: Sighting) -> Result<(), AllocError>
-    ensures { OnOk result (out.new.items ≡ out.old.items ++ sighting_text seen) }
+fn put_occurrences<A: Allocator>(out: &mut Vec<u8, A>, seen: Occurrences) -> Result<(), AllocError>
+    ensures { OnOk result (out.new.items ≡ out.old.items ++ occurrences_text seen) }
 {
     out.extend_from_slice(Buffer::new().format(seen.count).as_bytes())?;
     out.push(b',')?;
@@ -144,15 +144,15 @@ fn put_sighting<A: Allocator>(out: &mut Vec<u8, A>, seen: Sighting) -> Result<()
     Ok(())
 }
 
-/// Writes the sighting of clusters without a code.
+/// Writes the occurrences of clusters without a code.
 fn put_unresolved<A: Allocator>(
     out: &mut Vec<u8, A>,
-    seen: Option<Sighting>,
+    seen: Option<Occurrences>,
 ) -> Result<(), AllocError>
     ensures { OnOk result (out.new.items ≡ out.old.items ++ unresolved_text seen) }
 {
     match seen {
-        Some(seen) => put_sighting(out, seen),
+        Some(seen) => put_occurrences(out, seen),
         None => {
             out.extend_from_slice(b"0,")?;
             Ok(())

@@ -3,7 +3,7 @@
 /// Receives the progress of a haul. Nothing that the haul returns or writes depends on it.
 pub trait Watch {
     /// Called when `done` of `count` soups are counted.
-    fn counted(&mut self, done: u64, count: u64);
+    fn report(&mut self, done: u64, count: u64);
 }
 
 /// Ignores the progress.
@@ -11,5 +11,5 @@ pub trait Watch {
 pub struct Unwatched;
 
 impl Watch for Unwatched {
-    fn counted(&mut self, _done: u64, _count: u64) {}
+    fn report(&mut self, _done: u64, _count: u64) {}
 }

@@ -13,7 +13,7 @@ use Rattle.life_rle.specs.Fault.{◌>>=◌}
 use Rattle.life_rle.specs.File.{file}
 use Rattle.life_rle.specs.Record.{Contents, plain}
 use Rattle.life_rle.specs.Writer.{text}
-use Rattle.life_rle.specs.Stream.{Gains, GainsSome}
+use Rattle.life_rle.specs.Stream.{Appends, AppendsSome}
 use Rattle.life_code.specs.declared.period.TheConstants.{PERIOD_LIMIT}
 use Rattle.life_code.specs.declared.kinds.Kind.{Kind}
 use Rattle.life_code.specs.declared.kinds.Kind.TheVariants.{Empty, Still, Oscillator, Ship, Unresolved}
@@ -109,13 +109,13 @@ pub record RefusesCode (rule code : List ℕ) (limit : ℕ) (fault : CodeFault) 
 
 -- what `object` answers to a rule text, a code and a limit; they are checked in the order limit, rule, code
 abbrev pub PutsObject : List ℕ → List ℕ → ℕ → Option (List ℕ) → Option (List ℕ) → Result (Unit {0}) Stop → Type 0
-PutsObject rule code limit old new (Ok done) = (all : List ℕ) × PrintsObject rule code limit all × Gains old new all
+PutsObject rule code limit old new (Ok done) = (all : List ℕ) × PrintsObject rule code limit all × Appends old new all
 PutsObject rule code limit old new (Err OutOfLimit) = ¬ IsPeriodLimit limit
 PutsObject rule code limit old new (Err BadRule) = IsPeriodLimit limit × RefusesRule rule
 PutsObject rule code limit old new (Err (BadCode fault)) = IsPeriodLimit limit × RefusesCode rule code limit fault
 PutsObject rule code limit old new (Err Unavailable) = Unit {0}
 PutsObject rule code limit old new (Err Unwritable) =
-    (all : List ℕ) × PrintsObject rule code limit all × GainsSome old new all
+    (all : List ℕ) × PrintsObject rule code limit all × AppendsSome old new all
 PutsObject rule code limit old new (Err stop) = ⊥
 
 -- ---- answers
@@ -123,11 +123,11 @@ PutsObject rule code limit old new (Err stop) = ⊥
 -- what a job that prints `wanted` for a file answers to these bytes
 abbrev pub PutsBytes : (List ℕ → Result (List ℕ) RleFault) → List ℕ → Option (List ℕ) → Option (List ℕ)
     → Result (Unit {0}) Stop → Type 0
-PutsBytes wanted bytes old new (Ok done) = (all : List ℕ) × (wanted bytes ≡ Ok all) × Gains old new all
+PutsBytes wanted bytes old new (Ok done) = (all : List ℕ) × (wanted bytes ≡ Ok all) × Appends old new all
 PutsBytes wanted bytes old new (Err (BadPattern fault)) = wanted bytes ≡ Err fault
 PutsBytes wanted bytes old new (Err Unreadable) = Unit {0}
 PutsBytes wanted bytes old new (Err Unavailable) = Unit {0}
-PutsBytes wanted bytes old new (Err Unwritable) = (all : List ℕ) × (wanted bytes ≡ Ok all) × GainsSome old new all
+PutsBytes wanted bytes old new (Err Unwritable) = (all : List ℕ) × (wanted bytes ≡ Ok all) × AppendsSome old new all
 PutsBytes wanted bytes old new (Err stop) = ⊥
 
 -- the same, if the input bytes are known

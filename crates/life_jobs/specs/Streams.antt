@@ -2,7 +2,7 @@
 use Rattle.std.specs.Prelude.{◌≡◌, Bool, ℕ, List, Option, None, Some, Result, Ok, Err, OnOk}
 use Rattle.life_rle.specs.File.{file}
 use Rattle.life_rle.specs.Record.{Contents}
-use Rattle.life_rle.specs.Stream.{Gains, GainsSome, raised, FailsLast, EndsLast, LosesUpTo}
+use Rattle.life_rle.specs.Stream.{Appends, AppendsSome, incremented, FailsLast, EndsLast, ConsumesUpTo}
 use Rattle.life_jobs.specs.declared.stop.Stop.{Stop}
 use Rattle.life_jobs.specs.declared.stop.Stop.TheVariants.{BadPattern, Unreadable, Unavailable, Unwritable}
 
@@ -31,7 +31,7 @@ IsOfInput stop = ⊥
 -- the answer is Unreadable exactly if a take failed, and then it comes at once
 abbrev ReportsFailures : {X : Type 0} → ℕ → ℕ → Result X Stop → Type 0
 ReportsFailures old new (Ok x) = new ≡ old
-ReportsFailures old new (Err Unreadable) = new ≡ raised old
+ReportsFailures old new (Err Unreadable) = new ≡ incremented old
 ReportsFailures old new (Err stop) = new ≡ old
 
 -- what a job does with the input, given its bytes and how often a take failed and the end was found, before and after:
@@ -39,15 +39,15 @@ ReportsFailures old new (Err stop) = new ≡ old
 pub record TakesFile {X : Type 0} (known_old known_new : Option (List ℕ)) (failed_old failed_new : ℕ)
     (ends_old ends_new last : ℕ) (answer : Result X Stop) : Type 0 where
   pub on_failed_take : ReportsFailures failed_old failed_new answer
-  pub few : LosesUpTo 1048577 known_old known_new
+  pub few : ConsumesUpTo 1048577 known_old known_new
   pub ended : EndsLast ends_old ends_new last
 
 -- ---- the output
 
 -- the text was put, or a prefix of it before a put that failed; out of memory says nothing about it
 abbrev pub PutsText : Option (List ℕ) → Option (List ℕ) → List ℕ → Result (Unit {0}) Stop → Type 0
-PutsText old new bytes (Ok done) = Gains old new bytes
-PutsText old new bytes (Err Unwritable) = GainsSome old new bytes
+PutsText old new bytes (Ok done) = Appends old new bytes
+PutsText old new bytes (Err Unwritable) = AppendsSome old new bytes
 PutsText old new bytes (Err Unavailable) = Unit {0}
 PutsText old new bytes (Err stop) = ⊥
 

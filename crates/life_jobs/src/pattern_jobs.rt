@@ -2,20 +2,24 @@
 ghost use Rattle.std.specs.Prelude.{◌≡◌, ℕ, List, codes, ◌≢◌, ◌<◌, ◌≤◌, ◌↔◌, Some, IfOk, IfErr, OnErr, Err};
 ghost use Rattle.std.specs.Option.{SomeIff, MatchOption};
 ghost use Rattle.life_core.specs.Pattern.{Cells, IsWithin};
+ghost use Rattle.life_core.specs.Rule.{RuleSets};
 ghost use Rattle.life_rle.specs.Record.{IsInside, plain};
 ghost use Rattle.life_rle.specs.Writer.{text};
 ghost use Rattle.life_code.specs.Period.{kind_of};
 ghost use Rattle.life_code.specs.Codes.{code_of};
+ghost use Rattle.life_code.specs.Object.{IsCodeOf};
 ghost use Rattle.life_code.specs.Open.{Spells, Refuses};
 ghost use Rattle.life_jobs.specs.Jobs.{later, generation_text, IsPeriodLimit, code_or_dash, kind_words, kind_line, kind_text, AreCensusNumbers, census_table, census_text};
 ghost use Rattle.life_jobs.specs.Jobs.{RefusesRule, PutsObject, PutsKnown};
-ghost use Rattle.life_jobs.specs.JobsState.{code_stop, printed, print_text, IsPrint};
+ghost use Rattle.life_jobs.specs.JobsState.{code_stop};
 ghost use Rattle.life_jobs.specs.Streams.{TakesFile, PutsText, PutsOnce};
 
 use crate::stop::Stop;
 use crate::streams::{put_text, read_input};
 use life_census::{csv, tally};
-use life_code::{CodeFault, Kind, PERIOD_LIMIT, code_of_kind, kind, open_code, settled_generation};
+use life_code::{
+    CodeFault, Coded, Kind, PERIOD_LIMIT, code_of_kind, kind, open_code, settled_generation,
+};
 use life_core::{Fault, GENERATION_LIMIT, Pattern, Rule};
 use life_rle::{Inlet, Outlet, Record, WriteFault, into_plain, write_to};
 use std::alloc::{AllocError, Global};
@@ -50,32 +54,13 @@ fn kind_words(alloc: Global, kind: Kind, code: &[u8]) -> Result<Vec<u8>, AllocEr
     Ok(words)
 }
 
-/// What is printed in place of a missing code.
-fn dash(alloc: Global) -> Result<Vec<u8>, Fault>
-    ensures { IfOk result (λ v. v.items ≡ codes "-") }
+/// The text of a code, or `-` if there is none.
+fn code_or_dash(code: &Option<Coded>) -> &[u8]
+    ensures { (r : RuleSets) (X : Cells) (limit : ℕ) → IsCodeOf r X limit code.now → result.now ≡ code_or_dash (code_of r X limit) }
 {
-    Ok("-".to_string(alloc)?.into_bytes())
-}
-
-/// The code of a pattern of this kind, or `-` if it has none.
-fn code_or_dash(
-    alloc: Global,
-    rule: &Rule,
-    pattern: &Pattern,
-    limit: u32,
-    kind: Kind,
-) -> Result<Vec<u8>, Fault>
-    requires limit { IsPeriodLimit limit }
-    requires room { IsWithin 400_000_000 pattern.now }
-    requires kind { kind ≡ kind_of rule.now pattern.now limit }
-    ensures { IfOk result (λ v. v.items ≡ code_or_dash (code_of rule.now pattern.now limit)) }
-{
-    match kind {
-        Kind::Empty | Kind::Unresolved => dash(alloc),
-        _ => match code_of_kind(alloc, rule, pattern, limit, kind)? {
-            None => dash(alloc),
-            Some(coded) => Ok(coded.text().to_vec(alloc)?),
-        },
+    match code {
+        None => b"-",
+        Some(coded) => coded.text(),
     }
 }
 
@@ -86,19 +71,10 @@ fn kind_line(alloc: Global, rule: &Rule, pattern: &Pattern, limit: u32) -> Resul
     ensures { IfOk result (λ v. v.items ≡ kind_line rule.now pattern.now limit) }
 {
     let kind = kind(alloc, rule, pattern, limit)?;
-    let code = code_or_dash(alloc, rule, pattern, limit, kind)?;
-    let mut line = kind_words(alloc, kind, &code)?;
-    line.extend_from_slice(b"\n")?;
+    let code = code_of_kind(alloc, rule, pattern, limit, kind)?;
+    let mut line = kind_words(alloc, kind, code_or_dash(&code))?;
+    line.push(b'\n')?;
     Ok(line)
-}
-
-/// The line of the kind of a record's pattern.
-fn kind_of_record(alloc: Global, record: &Record, limit: u32) -> Result<Vec<u8>, Fault>
-    requires limit { IsPeriodLimit limit }
-    requires inside { IsInside 1024 «record».now.cells }
-    ensures { IfOk result (λ v. v.items ≡ kind_line «record».now.rule «record».now.cells limit) }
-{
-    kind_line(alloc, &record.rule, &record.cells, limit)
 }
 
 /// The CSV of the tally of the clusters of generation `n` of a record.
@@ -111,17 +87,6 @@ fn census_table(alloc: Global, record: &Record, n: u32, limit: u32) -> Result<Ve
     let cells = settled_generation(alloc, &record.rule, &record.cells, n)?;
     let tally = tally(alloc, &record.rule, &cells, limit)?;
     csv(alloc, &tally)
-}
-
-/// What is printed for a pattern file.
-#[derive(Clone, Copy)]
-enum Print {
-    /// Its generation of this number.
-    Generation(u32),
-    /// Its kind under this limit on the period.
-    Kind(u32),
-    /// The census of its generation `n` under this limit on the period.
-    Census { n: u32, limit: u32 },
 }
 
 /// Writes a record as canonical RLE.
@@ -147,46 +112,54 @@ fn put_made<O: Outlet>(output: &mut O, made: Result<Vec<u8>, Fault>) -> Result<(
     }
 }
 
-/// Writes what is printed for a record.
-fn put_for<O: Outlet>(
+/// Writes generation `n` of a record.
+fn put_generation<O: Outlet>(
     alloc: Global,
-    print: Print,
     record: Record,
+    n: u32,
     output: &mut O,
 ) -> Result<(), Stop>
-    requires numbers { IsPrint print }
+    requires few { n ≤ GENERATION_LIMIT }
     requires inside { IsInside 1024 «record».cells }
-    ensures puts { PutsText (O.already output.old) (O.already output.new) (printed print «record») result }
+    ensures puts { PutsText (O.already output.old) (O.already output.new) (text (later n «record»)) result }
     ensures once { PutsOnce output.old output.new (O.failures output.old) (O.failures output.new) (O.last_failed output.new) result }
 {
-    match print {
-        Print::Generation(n) => match later(alloc, record, n) {
-            Ok(later) => put_record(alloc, &later, output),
-            Err(_) => Err(Stop::Unavailable),
-        },
-        Print::Kind(limit) => put_made(output, kind_of_record(alloc, &record, limit)),
-        Print::Census { n, limit } => { put_made(output, census_table(alloc, &record, n, limit)) }
+    match later(alloc, record, n) {
+        Ok(later) => put_record(alloc, &later, output),
+        Err(_) => Err(Stop::Unavailable),
     }
 }
 
-/// Reads a pattern file and writes what is printed for it. It reads the input to its end, or to byte
-/// 1,048,577.
-fn print_file<I: Inlet, O: Outlet>(
+/// Writes the line of the kind of a record's pattern.
+fn put_kind<O: Outlet>(
     alloc: Global,
-    print: Print,
-    input: &mut I,
+    record: &Record,
+    limit: u32,
     output: &mut O,
 ) -> Result<(), Stop>
-    requires { IsPrint print }
-    ensures limit { result ≢ Err Stop.OutOfLimit }
-    ensures known { PutsKnown (print_text print) (I.to_come input.old) (O.already output.old) (O.already output.new) result }
-    ensures takes { TakesFile (I.to_come input.old) (I.to_come input.new) (I.failures input.old) (I.failures input.new) (I.ends input.old) (I.ends input.new) (I.last_take input.new) result }
+    requires limit { IsPeriodLimit limit }
+    requires inside { IsInside 1024 «record».now.cells }
+    ensures puts { PutsText (O.already output.old) (O.already output.new) (kind_line «record».now.rule «record».now.cells limit) result }
     ensures once { PutsOnce output.old output.new (O.failures output.old) (O.failures output.new) (O.last_failed output.new) result }
 {
-    match read_input(alloc, input) {
-        Ok(record) => put_for(alloc, print, record, output),
-        Err(stop) => Err(stop),
-    }
+    put_made(output, kind_line(alloc, &record.rule, &record.cells, limit))
+}
+
+/// Writes the CSV of the tally of the clusters of generation `n` of a record.
+fn put_census<O: Outlet>(
+    alloc: Global,
+    record: &Record,
+    n: u32,
+    limit: u32,
+    output: &mut O,
+) -> Result<(), Stop>
+    requires few { n ≤ GENERATION_LIMIT }
+    requires limit { IsPeriodLimit limit }
+    requires inside { IsInside 1024 «record».now.cells }
+    ensures puts { PutsText (O.already output.old) (O.already output.new) (census_table n limit «record».now) result }
+    ensures once { PutsOnce output.old output.new (O.failures output.old) (O.failures output.new) (O.last_failed output.new) result }
+{
+    put_made(output, census_table(alloc, record, n, limit))
 }
 
 /// A valid number of a generation.
@@ -215,9 +188,12 @@ pub fn run_generation<I: Inlet, O: Outlet>(
     ensures takes { TakesFile (I.to_come input.old) (I.to_come input.new) (I.failures input.old) (I.failures input.new) (I.ends input.old) (I.ends input.new) (I.last_take input.new) result }
     ensures once { PutsOnce output.old output.new (O.failures output.old) (O.failures output.new) (O.last_failed output.new) result }
 {
-    match generation_number(n) {
-        Some(n) => print_file(alloc, Print::Generation(n), input, output),
-        None => Err(Stop::OutOfLimit),
+    let Some(n) = generation_number(n) else {
+        return Err(Stop::OutOfLimit);
+    };
+    match read_input(alloc, input) {
+        Ok(record) => put_generation(alloc, record, n, output),
+        Err(stop) => Err(stop),
     }
 }
 
@@ -247,9 +223,12 @@ pub fn run_kind<I: Inlet, O: Outlet>(
     ensures takes { TakesFile (I.to_come input.old) (I.to_come input.new) (I.failures input.old) (I.failures input.new) (I.ends input.old) (I.ends input.new) (I.last_take input.new) result }
     ensures once { PutsOnce output.old output.new (O.failures output.old) (O.failures output.new) (O.last_failed output.new) result }
 {
-    match period_limit(limit) {
-        Some(limit) => print_file(alloc, Print::Kind(limit), input, output),
-        None => Err(Stop::OutOfLimit),
+    let Some(limit) = period_limit(limit) else {
+        return Err(Stop::OutOfLimit);
+    };
+    match read_input(alloc, input) {
+        Ok(record) => put_kind(alloc, &record, limit, output),
+        Err(stop) => Err(stop),
     }
 }
 
@@ -277,9 +256,12 @@ pub fn run_census<I: Inlet, O: Outlet>(
     ensures takes { TakesFile (I.to_come input.old) (I.to_come input.new) (I.failures input.old) (I.failures input.new) (I.ends input.old) (I.ends input.new) (I.last_take input.new) result }
     ensures once { PutsOnce output.old output.new (O.failures output.old) (O.failures output.new) (O.last_failed output.new) result }
 {
-    match census_numbers(n, limit) {
-        Some((n, limit)) => print_file(alloc, Print::Census { n, limit }, input, output),
-        None => Err(Stop::OutOfLimit),
+    let Some((n, limit)) = census_numbers(n, limit) else {
+        return Err(Stop::OutOfLimit);
+    };
+    match read_input(alloc, input) {
+        Ok(record) => put_census(alloc, &record, n, limit, output),
+        Err(stop) => Err(stop),
     }
 }
 
@@ -318,9 +300,8 @@ pub fn run_object<O: Outlet>(
     ensures puts { PutsObject rule.now code.now limit (O.already output.old) (O.already output.new) result }
     ensures once { PutsOnce output.old output.new (O.failures output.old) (O.failures output.new) (O.last_failed output.new) result }
 {
-    let limit = match period_limit(limit) {
-        Some(limit) => limit,
-        None => return Err(Stop::OutOfLimit),
+    let Some(limit) = period_limit(limit) else {
+        return Err(Stop::OutOfLimit);
     };
     let Ok(rule) = Rule::read(rule.as_bytes()) else {
         return Err(Stop::BadRule);

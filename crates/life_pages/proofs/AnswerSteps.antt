@@ -8,8 +8,8 @@ use Rattle.life_desk.specs.declared.refusal.Refusal.TheVariants as refusals
 use Rattle.life_desk.specs.Validation.{validated, MayRefuse}
 use Rattle.life_desk.specs.Replies.{is_shown}
 use Rattle.life_pages.specs.declared.fault.MessageRefusal.{MessageRefusal}
-use Rattle.life_pages.specs.declared.asked.Unasked.{Unasked}
-use Rattle.life_pages.specs.declared.asked.Unasked.TheVariants as unasked
+use Rattle.life_pages.specs.declared.asked.RequestFault.{RequestFault}
+use Rattle.life_pages.specs.declared.asked.RequestFault.TheVariants as request_fault
 use Rattle.life_pages.specs.AskedState.{IsAsked}
 use Rattle.life_pages.specs.Reply.{bytes_of, message_refusal_bytes}
 use Rattle.life_pages.specs.ReplyState.{Writes}
@@ -23,12 +23,14 @@ module _ {D : Type 0} (answers : D → Request → Reply → D → Type 0) where
   written old new q r bytes a may_be_unavailable (inr p) =
       (says.Refused refusals.Unavailable, may_be_unavailable p.0, p.1)
 
-  pub message_refused : (d : D) (u : Unasked) (refusal : MessageRefusal) (bytes : List ℕ) → u ≡ unasked.Message refusal
+  pub message_refused : (d : D) (u : RequestFault) (refusal : MessageRefusal) (bytes : List ℕ)
+      → u ≡ request_fault.Message refusal
       → bytes ≡ message_refusal_bytes refusal
       → (read : Result Request MessageRefusal) → IsAsked (Err u) read → AnswersAsked answers d read bytes d
   message_refused d u refusal bytes e made read asked = let is = rw e at asked in rw is (made, refl)
 
-  pub request_refused : (d : D) (u : Unasked) (refusal : Refusal) (bytes : List ℕ) → u ≡ unasked.Request refusal
+  pub request_refused : (d : D) (u : RequestFault) (refusal : Refusal) (bytes : List ℕ)
+      → u ≡ request_fault.Request refusal
       → ((q : Request) (r : Refusal) → MayRefuse (validated q) r → answers d q (says.Refused r) d)
       → bytes ≡ bytes_of (says.Refused refusal)
       → (read : Result Request MessageRefusal) → IsAsked (Err u) read → AnswersAsked answers d read bytes d

@@ -1,7 +1,7 @@
 -- Runs of a store, with all that is said of them.
 use Rattle.std.proofs.Common.{ℕ, List, Option, Result, Ok, Err, OnOk}
 use Rattle.sqlite_trees.specs.declared.store.Store.{Ghosts}
-use Rattle.life_rle.specs.Stream.{Gains, GainsSome}
+use Rattle.life_rle.specs.Stream.{Appends, AppendsSome}
 use Rattle.life_store.specs.Tables.{ArchiveView}
 use Rattle.life_desk.proofs.Runs.{IsSettled}
 use Rattle.life_pages.specs.declared.fault.IoFault.{IoFault}
@@ -30,13 +30,13 @@ module _ {S : Type 0} (g : Ghosts S) (old new : ArchiveView S) (law : IsSettled 
 
   pub first_answered : (stream x y : Option (List ℕ))
       → RepliesCutShort (AnswersMessage (StoreAnswers g)) stream old new x y
-      → IsAnswered g (AreFirstOf stream) (GainsSome x y) old new
+      → IsAnswered g (AreFirstOf stream) (AppendsSome x y) old new
   first_answered stream x y some =
-      is_answered (AreFirstOf stream) (GainsSome x y) some.done some.bytes some.messages some.put some.run
+      is_answered (AreFirstOf stream) (AppendsSome x y) some.done some.bytes some.messages some.put some.run
 
   pub all_answered : (stream x y : Option (List ℕ)) (r : Result (Unit {0}) IoFault)
       → OnOk r (Served (AnswersMessage (StoreAnswers g)) stream old new x y)
-      → OnOk r (IsAnswered g (AreAllOf stream) (Gains x y) old new)
+      → OnOk r (IsAnswered g (AreAllOf stream) (Appends x y) old new)
   all_answered stream x y (Err fault) all = tt
   all_answered stream x y (Ok done) all =
-      is_answered (AreAllOf stream) (Gains x y) all.done all.bytes all.messages all.put all.run
+      is_answered (AreAllOf stream) (Appends x y) all.done all.bytes all.messages all.put all.run

@@ -82,15 +82,15 @@ until_begun A ms bytes db none mean = record {
 
 module _ (A : Archive) where
   -- the first was answered
-  pub until_after_good : (B : Archive) (said : Head) (body : List ℕ) (ms : List Message) (reply later bytes : List ℕ)
-      (db : Trees) → AnswersMessage RequestStep A said body reply B → bytes ≡ reply ++ later
-      → IsServedUntil B ms later db → IsServedUntil A (good said body ∷ ms) bytes db
-  until_after_good B said body ms reply later bytes db answered is it = record {
-    front = good said body ∷ it.front;
+  pub until_after_good : (B : Archive) (parsed : Head) (body : List ℕ) (ms : List Message) (reply later bytes : List ℕ)
+      (db : Trees) → AnswersMessage RequestStep A parsed body reply B → bytes ≡ reply ++ later
+      → IsServedUntil B ms later db → IsServedUntil A (good parsed body ∷ ms) bytes db
+  until_after_good B parsed body ms reply later bytes db answered is it = record {
+    front = good parsed body ∷ it.front;
     back = it.back;
     given = reply ++ it.given;
     rest = it.rest;
-    messages = ap (λ (all : List Message). good said body ∷ all) it.messages;
+    messages = ap (λ (all : List Message). good parsed body ∷ all) it.messages;
     replies = is ∙ ap (λ (all : List ℕ). reply ++ all) it.replies ∙ sym (append_assoc reply it.given it.rest);
     mid = it.mid;
     run = (reply, it.given, B, answered, refl, it.run);
@@ -99,23 +99,23 @@ module _ (A : Archive) where
   }
 
   -- the first was being answered, and nothing after it says that something is kept
-  pub until_first : (said : Head) (body : List ℕ) (ms : List Message) (reply later bytes : List ℕ) (db : Trees)
-      → bytes ≡ reply ++ later → SayNothing ms later → LeftOfOne A (asked said body) reply db
-      → IsServedUntil A (good said body ∷ ms) bytes db
-  until_first said body ms reply later bytes db is none (inl (B, answered, mean)) =
-      until_after_good B said body ms reply later bytes db answered is (until_begun B ms later db none mean)
-  until_first said body ms reply later bytes db is none (inr (says, inl mean)) =
-      until_begun A (good said body ∷ ms) bytes db (reply, later, says, is, none) mean
-  until_first said body ms reply later bytes db is none (inr (says, inr (next, of, mean))) = record {
+  pub until_first : (parsed : Head) (body : List ℕ) (ms : List Message) (reply later bytes : List ℕ) (db : Trees)
+      → bytes ≡ reply ++ later → SayNothing ms later → LeftOfOne A (asked parsed body) reply db
+      → IsServedUntil A (good parsed body ∷ ms) bytes db
+  until_first parsed body ms reply later bytes db is none (inl (B, answered, mean)) =
+      until_after_good B parsed body ms reply later bytes db answered is (until_begun B ms later db none mean)
+  until_first parsed body ms reply later bytes db is none (inr (says, inl mean)) =
+      until_begun A (good parsed body ∷ ms) bytes db (reply, later, says, is, none) mean
+  until_first parsed body ms reply later bytes db is none (inr (says, inr (next, of, mean))) = record {
     front = [];
-    back = good said body ∷ ms;
+    back = good parsed body ∷ ms;
     given = [];
     rest = bytes;
     messages = refl;
     replies = refl;
     mid = A;
     run = (refl, refl);
-    left = inr (said, body, next, ms, refl, of, mean);
+    left = inr (parsed, body, next, ms, refl, of, mean);
     unpromised = (reply, later, says, is, none);
   }
 

@@ -1,7 +1,7 @@
 -- What the replies of serving say.
 use Rattle.std.proofs.Common.{ℕ, List, Option, Result, Ok, Err, OnOk, inl, inr, subst}
 use Rattle.sqlite_trees.specs.declared.store.Store.{Ghosts}
-use Rattle.life_rle.specs.Stream.{Gains, GainsSome}
+use Rattle.life_rle.specs.Stream.{Appends, AppendsSome}
 use Rattle.life_store.specs.Tables.{ArchiveView}
 use Rattle.life_desk.specs.Archive.{Archive}
 use Rattle.life_desk.specs.Represents.{IsRepresentable, Represents}
@@ -45,19 +45,19 @@ module _ (law : HeadlineHolds) (are : List Message → Type 0) (puts : List ℕ 
 module _ {S : Type 0} (g : Ghosts S) (law : HeadlineHolds) (stream : Option (List ℕ)) (old new : ArchiveView S)
     (x y : Option (List ℕ)) where
   pub headline_first : ByArchive g (λ A B. RepliesCutShort (AnswersMessage RequestStep) stream A B x y) old new
-      → ByArchive g (ServesTheHeadline (AreFirstOf stream) (GainsSome x y)) old new
+      → ByArchive g (ServesTheHeadline (AreFirstOf stream) (AppendsSome x y)) old new
   headline_first by =
       by_more g (λ A B. RepliesCutShort (AnswersMessage RequestStep) stream A B x y)
-      (ServesTheHeadline (AreFirstOf stream) (GainsSome x y)) old new
-      (λ A B m b. says law (AreFirstOf stream) (GainsSome x y) A B b.done b.bytes
+      (ServesTheHeadline (AreFirstOf stream) (AppendsSome x y)) old new
+      (λ A B m b. says law (AreFirstOf stream) (AppendsSome x y) A B b.done b.bytes
       (representable_of old A m) b.messages b.run b.put) by
 
   pub headline_all : (r : Result (Unit {0}) IoFault)
       → OnOk r (ByArchive g (λ A B. Served (AnswersMessage RequestStep) stream A B x y) old new)
-      → OnOk r (ByArchive g (ServesTheHeadline (AreAllOf stream) (Gains x y)) old new)
+      → OnOk r (ByArchive g (ServesTheHeadline (AreAllOf stream) (Appends x y)) old new)
   headline_all (Err fault) by = tt
   headline_all (Ok u) by =
       by_more g (λ A B. Served (AnswersMessage RequestStep) stream A B x y)
-      (ServesTheHeadline (AreAllOf stream) (Gains x y)) old new
-      (λ A B m b. says law (AreAllOf stream) (Gains x y) A B b.done b.bytes
+      (ServesTheHeadline (AreAllOf stream) (Appends x y)) old new
+      (λ A B m b. says law (AreAllOf stream) (Appends x y) A B b.done b.bytes
       (representable_of old A m) b.messages b.run b.put) by

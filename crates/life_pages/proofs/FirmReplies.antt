@@ -46,8 +46,8 @@ module _ {S : Type 0} (g : Ghosts S) where
       → MessageRun (AnswersMessage AnswersFirmly) tt ms bytes tt
   firm_run old new [] bytes run = (run.0, refl)
   firm_run old new (bad ∷ ms) bytes (later, is, run) = (later, is, firm_run old new ms later run)
-  firm_run old new (good said body ∷ ms) bytes (reply, later, mid, answered, is, run) =
-      (reply, later, tt, firm_one old mid (asked said body) reply answered, is, firm_run mid new ms later run)
+  firm_run old new (good parsed body ∷ ms) bytes (reply, later, mid, answered, is, run) =
+      (reply, later, tt, firm_one old mid (asked parsed body) reply answered, is, firm_run mid new ms later run)
 
   pub firm_replies : (stream : Option (List ℕ)) (old new : ArchiveView S) (x y : Option (List ℕ))
       → RepliesCutShort (AnswersMessage (StoreAnswers g)) stream old new x y

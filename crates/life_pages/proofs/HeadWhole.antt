@@ -21,9 +21,9 @@ use Rattle.life_pages.specs.HeadState.{NeverBegins, ReadsHead, Validates}
 -- a head that says nothing good, whatever follows
 pub never : (bytes : List ℕ) (h : RequestHead) (rest : List ℕ) → ReadsRequest bytes h rest
     → head_of h ≡ None → NeverBegins bytes
-never bytes h rest reads none more said later begins =
+never bytes h rest reads none more parsed later begins =
     let same = request_prefix_free bytes more h begins.head rest later reads begins.reads in
-    let is : head_of h ≡ Some said = ap head_of same.0 ∙ begins.says in
+    let is : head_of h ≡ Some parsed = ap head_of same.0 ∙ begins.says in
     cc
 
 pub too_many : (h : RequestHead) → line_limit < length h.fields → head_of h ≡ None

@@ -13,7 +13,7 @@ use Rattle.httparse.proofs.GrammarLemmas.{request_unique, ReadsRequest-append, p
 use Rattle.httparse.specs.Spans.{name_and_value}
 use Rattle.life_pages.specs.Head.{Head, head_of, said_by, head_with, has_some, values_of, HeaderLine, line_limit}
 use Rattle.life_pages.specs.Head.{body_length, within_limit, parsed_number, body_limit}
-use Rattle.life_pages.specs.HeadState.{BeginsWith, NeverBegins, said}
+use Rattle.life_pages.specs.HeadState.{BeginsWith, NeverBegins, parsed}
 use Rattle.life_pages.specs.declared.head.GoodHead.{GoodHead}
 use Rattle.life_pages.specs.Message.{HasMessageInFront, HasNone, HasHeadAlone, are_line_breaks, head_limit}
 use Rattle.life_pages.specs.MessageState.{NeverHas, held_limit, IsWanting, WantsUntil}
@@ -32,14 +32,14 @@ cut held more n =
 
 -- the front is bad
 pub never_begins : (held : List ℕ) (n : ℕ) → NeverBegins (take n held) → NeverHas held
-never_begins held n never more said body rest s =
-    never (drop n held ++ more) said (body ++ rest)
+never_begins held n never more parsed body rest s =
+    never (drop n held ++ more) parsed (body ++ rest)
     (record { head = s.head; reads = (s.is_head, sym (cut held more n) ∙ s.bytes_are); says = s.says })
 
 -- the front is full, and holds no head
 pub never_within : (held : List ℕ) (n : ℕ) → length (take n held) ≡ head_limit
     → HasNoRequest (take n held) → NeverHas held
-never_within held n full none more said body rest s =
+never_within held n full none more parsed body rest s =
     let same = sym s.bytes_are ∙ cut held more n in
     let short = s.short in
     none s.head (drop (length (print_request s.head)) (take n held))
@@ -47,7 +47,7 @@ never_within held n full none more said body rest s =
 
 -- no head stands there yet
 pub none_yet : (held : List ℕ) → HasNoRequest held → HasNone held
-none_yet held none said body rest s = none s.head (body ++ rest) (s.is_head, s.bytes_are)
+none_yet held none parsed body rest s = none s.head (body ++ rest) (s.is_head, s.bytes_are)
 
 -- a head may come, and there is room for it
 pub wants_head : (held : List ℕ) (n : ℕ) → n ≡ min (length held) head_limit → length held < head_limit
@@ -77,13 +77,13 @@ head_in held n len h reads =
 
 -- the whole message has not come
 pub body_short : (held : List ℕ) (n : ℕ) (g : GoodHead) → g.len ≤ length (take n held)
-    → BeginsWith (take n held) (said g) (drop g.len (take n held))
+    → BeginsWith (take n held) (parsed g) (drop g.len (take n held))
     → length held - g.len < g.body → HasNone held
 body_short held n g within begins less said2 body rest s =
     let len = head_length (take n held) begins.head g.len within begins.reads.1 in
     let inside = head_in held n g.len begins.head begins.reads in
     let same = request_unique held begins.head s.head _ (body ++ rest) inside (s.is_head, s.bytes_are) in
-    let says : Some (said g) ≡ Some said2 = sym begins.says ∙ ap head_of same.0 ∙ s.says in
+    let says : Some (parsed g) ≡ Some said2 = sym begins.says ∙ ap head_of same.0 ∙ s.says in
     let bodies : g.body ≡ said2.body = cc in
     let long : length held ≡ length (print_request s.head) + (length body + length rest) =
     ap length s.bytes_are ∙ length-append (print_request s.head) (body ++ rest)
@@ -96,7 +96,7 @@ body_short held n g within begins less said2 body rest s =
 -- a good head stands, and its body has not come
 pub body_alone : (held : List ℕ) (n : ℕ) (g : GoodHead) → g.len ≤ length (take n held)
     → length (take n held) ≤ head_limit
-    → BeginsWith (take n held) (said g) (drop g.len (take n held)) → length held - g.len < g.body → HasHeadAlone held
+    → BeginsWith (take n held) (parsed g) (drop g.len (take n held)) → length held - g.len < g.body → HasHeadAlone held
 body_alone held n g within limit begins less =
     let len = head_length (take n held) begins.head g.len within begins.reads.1 in
     let inside = head_in held n g.len begins.head begins.reads in
@@ -107,7 +107,7 @@ body_alone held n g within limit begins less =
       head = begins.head;
       is_head = begins.reads.0;
       short = omega arith;
-      said = said g;
+      parsed = parsed g;
       says = begins.says;
       rest = rest;
       bytes_are = inside.1;
@@ -117,8 +117,8 @@ body_alone held n g within limit begins less =
 -- the whole message has come
 pub body_whole : (held : List ℕ) (n : ℕ) (g : GoodHead) → g.len ≤ length (take n held)
     → length (take n held) ≤ head_limit
-    → BeginsWith (take n held) (said g) (drop g.len (take n held)) → g.len + g.body ≤ length held
-    → HasMessageInFront held (said g) (take g.body (drop g.len held)) (drop (g.len + g.body) held)
+    → BeginsWith (take n held) (parsed g) (drop g.len (take n held)) → g.len + g.body ≤ length held
+    → HasMessageInFront held (parsed g) (take g.body (drop g.len held)) (drop (g.len + g.body) held)
 body_whole held n g within limit begins fits =
     let len = head_length (take n held) begins.head g.len within begins.reads.1 in
     let inside = head_in held n g.len begins.head begins.reads in
@@ -196,7 +196,7 @@ pub not_empty : (h : RequestHead) → 0 < length (print_request h)
 not_empty h = empty_blank (print_request h) (not_blank (print_request h) h [] (sym (append-nil (print_request h))))
 
 pub blank_none : (held : List ℕ) → are_line_breaks held ≡ true → HasNone held
-blank_none held e said body rest s =
+blank_none held e parsed body rest s =
     let other = not_blank held s.head (body ++ rest) s.bytes_are in
     let bad : true ≡ false = sym e ∙ other in
     cc
@@ -205,7 +205,7 @@ pub front_long : (held : List ℕ) (n : ℕ) → n ≡ min (length held) head_li
 front_long held n e = length-take-le n held (omega arith)
 
 -- where a head ends
-pub head_some : (p : List ℕ) (g : GoodHead) → g.len ≤ length p → BeginsWith p (said g) (drop g.len p) → 0 < g.len
+pub head_some : (p : List ℕ) (g : GoodHead) → g.len ≤ length p → BeginsWith p (parsed g) (drop g.len p) → 0 < g.len
 head_some p g within begins =
     let len = head_length p begins.head g.len within begins.reads.1 in
     let some = not_empty begins.head in
@@ -213,10 +213,10 @@ head_some p g within begins =
 
 -- held bytes that want more have room for it
 pub has_room : (held p : List ℕ) (g : GoodHead) → g.len ≤ length p → length p ≤ head_limit
-    → BeginsWith p (said g) (drop g.len p)
+    → BeginsWith p (parsed g) (drop g.len p)
     → length held - g.len < g.body → length held < held_limit
 has_room held p g within limit begins less =
-    let bound = body_within begins.head (said g) begins.says in
+    let bound = body_within begins.head (parsed g) begins.says in
     omega arith
 
 -- with no number that is wanted nothing is said
@@ -239,7 +239,7 @@ wants_more wanted held some all wants is = λ more less.
 -- a good head stands at the front: the message wants as many bytes as the head and the body have
 pub wants_until : (held : List ℕ) (n : ℕ) (g : GoodHead) (wanted : ℕ) → n ≤ length held → g.len ≤ length (take n held)
     → length (take n held) ≤ head_limit
-    → BeginsWith (take n held) (said g) (drop g.len (take n held)) → wanted ≤ g.len + g.body → WantsUntil wanted held
+    → BeginsWith (take n held) (parsed g) (drop g.len (take n held)) → wanted ≤ g.len + g.body → WantsUntil wanted held
 wants_until held n g wanted fits within limit begins at_most = λ more less.
     let same : take n (held ++ more) ≡ take n held = take-append-le n held more fits in
     let long = length-append held more in
@@ -247,7 +247,7 @@ wants_until held n g wanted fits within limit begins at_most = λ more less.
     let left : length (held ++ more) - g.len < g.body = omega (arith, less, long, short, within, at_most, fits) in
     let inside = subst (λ (p : List ℕ). g.len ≤ length p) (sym same) within in
     let short_head = subst (λ (p : List ℕ). length p ≤ head_limit) (sym same) limit in
-    let front = subst (λ (p : List ℕ). BeginsWith p (said g) (drop g.len p)) (sym same) begins in (
+    let front = subst (λ (p : List ℕ). BeginsWith p (parsed g) (drop g.len p)) (sym same) begins in (
       body_short (held ++ more) n g inside front left,
       inr (has_room (held ++ more) (take n held) g within limit begins left),
       inr (inr (body_alone (held ++ more) n g inside short_head front left)),
@@ -255,7 +255,7 @@ wants_until held n g wanted fits within limit begins at_most = λ more less.
 
 -- no head stands after as many blank bytes as a head may have
 pub long_blank_never : (held : List ℕ) → are_line_breaks held ≡ true → head_limit ≤ length held → NeverHas held
-long_blank_never held blank long more said body rest s =
+long_blank_never held blank long more parsed body rest s =
     let short = s.short in
     let inside = front_of (print_request s.head) (body ++ rest) held more (sym s.bytes_are) (omega arith) in
     let other = not_blank held s.head (drop (length (print_request s.head)) held) inside in

@@ -34,10 +34,10 @@ as_requests A B [] bytes run = ([], run.1, run.0)
 as_requests A B (bad ∷ ms) bytes (later, is, run) =
     let it = as_requests A B ms later run in
     (it.0, it.1, is ∙ ap (λ (l : List ℕ). bad_bytes ++ l) it.2)
-as_requests A B (good said body ∷ ms) bytes (reply, later, mid, answered, is, run) =
+as_requests A B (good parsed body ∷ ms) bytes (reply, later, mid, answered, is, run) =
     let it = as_requests mid B ms later run in
     first_then A mid B (requests_of ms) (reply_bytes_of ms)
-    (asked said body) reply later bytes it.0 answered is it.1 it.2
+    (asked parsed body) reply later bytes it.0 answered is it.1 it.2
 
 module _ (A B : Archive) (ms : List Message) (more : (M : Archive) (ss : List Reply)
     → RequestRun M (requests_of ms) ss B → MessageRun (AnswersMessage RequestStep) M ms (reply_bytes_of ms ss) B) where
@@ -55,5 +55,5 @@ pub as_messages : RequestsRunAsMessages
 as_messages A B [] [] run = (refl, run)
 as_messages A B [] (r ∷ rs) run = absurd run
 as_messages A B (bad ∷ ms) rs run = (reply_bytes_of ms rs, refl, as_messages A B ms rs run)
-as_messages A B (good said body ∷ ms) rs run =
-    first_of A B ms (λ M ss later. as_messages M B ms ss later) (asked said body) rs run
+as_messages A B (good parsed body ∷ ms) rs run =
+    first_of A B ms (λ M ss later. as_messages M B ms ss later) (asked parsed body) rs run

@@ -1,11 +1,11 @@
 -- What became of a stream, where serving it ended.
 use Rattle.std.proofs.Common.{◌≡◌, ◌≢◌, ℕ, ◌+◌, ◌-◌, ◌<◌, ◌≤◌, true, List, length, Option, Result, Ok, Err, OnOk, inl}
 use Rattle.std.proofs.Common.{inr, arith}
-use Rattle.life_rle.specs.Stream.{IsEnded, Loses}
+use Rattle.life_rle.specs.Stream.{IsEnded, Consumes}
 use Rattle.life_pages.specs.Head.{Head}
 use Rattle.life_pages.specs.Message.{HasNone, are_line_breaks}
 use Rattle.life_pages.specs.MessageState.{NeverHas, held_limit}
-use Rattle.life_pages.specs.Serving.{most_takes, RepliesCutShort, Served, LosesAtLeast, Grows}
+use Rattle.life_pages.specs.Serving.{most_takes, RepliesCutShort, Served, ConsumesAtLeast, Grows}
 use Rattle.life_pages.specs.declared.fault.IoFault.{IoFault}
 use Rattle.life_pages.specs.declared.fault.IoFault.TheVariants as faults
 use Rattle.life_pages.specs.ServingState.{Ended, AtEnd, IsOutcome, IsBlankEnd}
@@ -38,7 +38,7 @@ module _ {D : Type 0} (answers : D → Head → List ℕ → List ℕ → D → 
   pub outcome_end : {most : ℕ} (result : Result (Unit {0}) IoFault) (stream left next : Option (List ℕ))
       (held : List ℕ) (old new : D) (x y z : Option (List ℕ))
       → Reading answers stream left held old new x y → IsEnded left → HasNone held → (piece : List ℕ)
-      → Loses left next piece → (length piece ≤ 4096) × (length piece ≤ most)
+      → Consumes left next piece → (length piece ≤ 4096) × (length piece ≤ most)
       → AtEnd answers result held new y z → IsOutcome answers result stream next most old new x z
   outcome_end (Ok u) stream left next held old new x y z r e none piece taken short a =
       reading_end answers stream left held old new new x y z r e a
@@ -52,7 +52,7 @@ module _ {D : Type 0} (answers : D → Head → List ℕ → List ℕ → D → 
   pub outcome_blank : (most : ℕ) (result : Result (Unit {0}) IoFault) (stream left next : Option (List ℕ))
       (held : List ℕ) (taken takes : ℕ) (old new : D) (x y z : Option (List ℕ))
       → Reading answers stream left held old new x y → are_line_breaks held ≡ true → NeverHas held
-      → LosesAtLeast taken stream left → most_takes ≤ taken + takes
+      → ConsumesAtLeast taken stream left → most_takes ≤ taken + takes
       → IsBlankEnd result takes most left next y z → IsOutcome answers result stream next most old new x z
   outcome_blank most (Ok u) stream left next held taken takes old new x y z r blank never many fits (inl (rest, same)) =
       rw same (blank_end answers stream left held old new x y r blank rest)

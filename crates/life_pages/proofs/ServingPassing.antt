@@ -5,25 +5,25 @@ use Rattle.std.proofs.Common.{append-nil, length-append, length-take-le, arith}
 use Rattle.std.proofs.lemmas.Grind.{common_steps}
 use Rattle.std.proofs.lemmas.List.Folds.{list_all-append}
 use Rattle.std.proofs.Math.Nat.{min-le_left}
-use Rattle.life_rle.specs.Stream.{raised, last_count, Loses, LosesUpTo, IsEnded}
+use Rattle.life_rle.specs.Stream.{incremented, last_count, Consumes, ConsumesUpTo, IsEnded}
 use Rattle.life_rle.specs.declared.stream.Failed.{Failed}
-use Rattle.life_rle.specs.Stream.{Gains, GainsSome}
-use Rattle.life_rle.proofs.StreamLemmas.{gains_more, gains_none, loses_on}
+use Rattle.life_rle.specs.Stream.{Appends, AppendsSome}
+use Rattle.life_rle.proofs.StreamLemmas.{appends_more, appends_none, consumes_on}
 use Rattle.life_pages.specs.Head.{Head}
 use Rattle.life_pages.specs.Reply.{bad_bytes}
 use Rattle.life_pages.specs.Message.{Message, bad, Messages, Starts, MessageRun, are_line_breaks}
 use Rattle.life_pages.specs.MessageState.{NeverHas}
 use Rattle.life_pages.specs.Serving.{most_takes, most_taken, AreFirstUpTo, Fronts, Served, LastReplyCutShort}
-use Rattle.life_pages.specs.Serving.{ServedSoFar, LosesAtLeast}
-use Rattle.life_pages.specs.ServingState.{Feeds, PassesBlank, PassesThen, IsBlankRest}
+use Rattle.life_pages.specs.Serving.{ServedSoFar, ConsumesAtLeast}
+use Rattle.life_pages.specs.ServingState.{HoldsTaken, PassesBlank, PassesThen, IsBlankRest}
 use Rattle.life_pages.proofs.ServingRunning.{front_messages, front_starts, run_then, then_cut}
 use Rattle.life_pages.proofs.ServingReading.{Reading, reading_more, paused, fronts_more, whole_before}
 
-pub loses_then : (a b c : Option (List ℕ)) (x y : List ℕ) → Loses a b x → Loses b c y → Loses a c (x ++ y)
-loses_then None b c x y p q = tt
-loses_then (Some a) None c x y p q = absurd p
-loses_then (Some a) (Some b) None x y p q = absurd q
-loses_then (Some a) (Some b) (Some c) x y p q = p ∙ ap (λ (l : List ℕ). x ++ l) q ∙ sym (append_assoc x y c)
+pub consumes_then : (a b c : Option (List ℕ)) (x y : List ℕ) → Consumes a b x → Consumes b c y → Consumes a c (x ++ y)
+consumes_then None b c x y p q = tt
+consumes_then (Some a) None c x y p q = absurd p
+consumes_then (Some a) (Some b) None x y p q = absurd q
+consumes_then (Some a) (Some b) (Some c) x y p q = p ∙ ap (λ (l : List ℕ). x ++ l) q ∙ sym (append_assoc x y c)
 
 pub blank_both : (x y : List ℕ) → are_line_breaks x ≡ true → are_line_breaks y ≡ true → are_line_breaks (x ++ y) ≡ true
 blank_both x y p q = list_all-append _ x y ∙ rw (p, q) refl
@@ -32,7 +32,7 @@ some_length : (k : ℕ) (space : List ℕ) → k ≢ 0 → k ≤ length space �
 some_length k space some within = rw (length-take-le k space within) (omega (arith, some))
 
 pub passes_more : (old mid new : Option (List ℕ)) (n k : ℕ) (space : List ℕ) → PassesBlank n old mid
-    → Loses mid new (take k space) → k ≢ 0 → k ≤ length space
+    → Consumes mid new (take k space) → k ≢ 0 → k ≤ length space
     → are_line_breaks (take k space) ≡ true → PassesBlank (n + 1) old new
 passes_more old mid new n k space (bytes, many, blank, lost) more some within white =
     let l = length-append bytes (take k space) in
@@ -40,7 +40,7 @@ passes_more old mid new n k space (bytes, many, blank, lost) more some within wh
       bytes ++ take k space,
       omega (arith, l, s, many),
       blank_both bytes (take k space) blank white,
-      loses_then old mid new bytes (take k space) lost more,
+      consumes_then old mid new bytes (take k space) lost more,
     )
 
 other_later : (x y z : List ℕ) → are_line_breaks y ≡ false → are_line_breaks (x ++ (y ++ z)) ≡ false
@@ -53,7 +53,7 @@ other_later x y z e =
     and_false false = refl
 
 pub passed_other : (old mid new : Option (List ℕ)) (n : ℕ) (y : List ℕ) → PassesBlank n old mid
-    → Loses mid new y → are_line_breaks y ≡ false → IsBlankRest old false
+    → Consumes mid new y → are_line_breaks y ≡ false → IsBlankRest old false
 passed_other None mid new n y p l e = tt
 passed_other (Some old) None new n y (bytes, many, blank, lost) l e = absurd lost
 passed_other (Some old) (Some mid) None n y p l e = absurd l
@@ -61,7 +61,7 @@ passed_other (Some old) (Some mid) (Some new) n y (bytes, many, blank, lost) l e
     rw (lost, l) (other_later bytes y new e)
 
 pub passed_then : {most : ℕ} (old mid new : Option (List ℕ)) (n k : ℕ) (space : List ℕ) → PassesBlank n old mid
-    → Loses mid new (take k space) → are_line_breaks (take k space) ≡ false → length space ≡ most_taken → most ≡ k
+    → Consumes mid new (take k space) → are_line_breaks (take k space) ≡ false → length space ≡ most_taken → most ≡ k
     → IsBlankRest old false × PassesThen most old new
 passed_then old mid new n k space p l e short last =
     let all : length (take k space) ≤ length space = grind (arith, common_steps) in
@@ -72,27 +72,27 @@ passed_then old mid new n k space p l e short last =
 
 -- ---- how much was taken
 
-pub many_passed : (a b c : Option (List ℕ)) (n k all : ℕ) → LosesAtLeast n a b → PassesBlank k b c
-    → all ≤ n + k → LosesAtLeast all a c
+pub many_passed : (a b c : Option (List ℕ)) (n k all : ℕ) → ConsumesAtLeast n a b → PassesBlank k b c
+    → all ≤ n + k → ConsumesAtLeast all a c
 many_passed a b c n k all (x, first, p) (y, second, blank, q) fits =
     let l = length-append x y in
-    (x ++ y, omega (arith, l, first, second, fits), loses_then a b c x y p q)
+    (x ++ y, omega (arith, l, first, second, fits), consumes_then a b c x y p q)
 
-pub many_fed : (a b c : Option (List ℕ)) (n k : ℕ) (held all : List ℕ) → LosesAtLeast n a b
-    → Feeds {E = Failed} b c held all (Ok k) → k ≢ 0 → LosesAtLeast (n + 1) a c
+pub many_fed : (a b c : Option (List ℕ)) (n k : ℕ) (held all : List ℕ) → ConsumesAtLeast n a b
+    → HoldsTaken {E = Failed} b c held all (Ok k) → k ≢ 0 → ConsumesAtLeast (n + 1) a c
 many_fed a b c n k held all (x, first, p) f some =
     let l = length-append x f.0 in
     let m = f.4 in
-    (x ++ f.0, omega (arith, l, first, m, some), loses_then a b c x f.0 p f.1)
+    (x ++ f.0, omega (arith, l, first, m, some), consumes_then a b c x f.0 p f.1)
 
 -- ---- how much is taken at most
 
 -- so many takes of a piece each, and one more
-pub most_passed : (old mid new : Option (List ℕ)) (n k : ℕ) (space : List ℕ) → LosesUpTo (n * most_taken) old mid
-    → Loses mid new (take k space) → length space ≡ most_taken
-    → LosesUpTo ((n + 1) * most_taken) old new
+pub most_passed : (old mid new : Option (List ℕ)) (n k : ℕ) (space : List ℕ) → ConsumesUpTo (n * most_taken) old mid
+    → Consumes mid new (take k space) → length space ≡ most_taken
+    → ConsumesUpTo ((n + 1) * most_taken) old new
 most_passed old mid new n k space before more short =
-    loses_on old mid new (n * most_taken) most_taken ((n + 1) * most_taken) (take k space) before more
+    consumes_on old mid new (n * most_taken) most_taken ((n + 1) * most_taken) (take k space) before more
     (let l = length-take-most k space in omega arith) (omega arith)
   where
     length-take-most : (k : ℕ) (space : List ℕ) → length (take k space) ≤ length space
@@ -100,29 +100,29 @@ most_passed old mid new n k space before more short =
 
 -- and that was not the last
 pub most_taken_more : (old mid new : Option (List ℕ)) (n k takes : ℕ) (space : List ℕ)
-    → LosesUpTo (n * most_taken) old mid → Loses mid new (take k space) → length space ≡ most_taken
-    → n < takes → LosesUpTo (takes * most_taken) old new
+    → ConsumesUpTo (n * most_taken) old mid → Consumes mid new (take k space) → length space ≡ most_taken
+    → n < takes → ConsumesUpTo (takes * most_taken) old new
 most_taken_more old mid new n k takes space before more short few =
     let (bytes, less, lost) = most_passed old mid new n k space before more short in
     (bytes, omega (arith, less, few), lost)
 
-pub most_fed : (a b c : Option (List ℕ)) (n k : ℕ) (held all : List ℕ) → LosesUpTo (n * most_taken) a b
-    → Feeds {E = Failed} b c held all (Ok k) → k ≤ most_taken
-    → LosesUpTo ((n + 1) * most_taken) a c
+pub most_fed : (a b c : Option (List ℕ)) (n k : ℕ) (held all : List ℕ) → ConsumesUpTo (n * most_taken) a b
+    → HoldsTaken {E = Failed} b c held all (Ok k) → k ≤ most_taken
+    → ConsumesUpTo ((n + 1) * most_taken) a c
 most_fed a b c n k held all before f short =
-    loses_on a b c (n * most_taken) most_taken ((n + 1) * most_taken) f.0 before f.1
+    consumes_on a b c (n * most_taken) most_taken ((n + 1) * most_taken) f.0 before f.1
     (let l = f.4 in omega arith) (omega arith)
 
-pub most_blank : (a b c : Option (List ℕ)) (n : ℕ) → n ≤ most_takes → LosesUpTo (n * most_taken) a b
-    → LosesUpTo ((most_takes - n) * most_taken) b c
-    → LosesUpTo (most_takes * most_taken) a c
+pub most_blank : (a b c : Option (List ℕ)) (n : ℕ) → n ≤ most_takes → ConsumesUpTo (n * most_taken) a b
+    → ConsumesUpTo ((most_takes - n) * most_taken) b c
+    → ConsumesUpTo (most_takes * most_taken) a c
 most_blank a b c n few before (piece, short, lost) =
-    loses_on a b c (n * most_taken) ((most_takes - n) * most_taken)
+    consumes_on a b c (n * most_taken) ((most_takes - n) * most_taken)
     (most_takes * most_taken) piece before lost short (omega arith)
 
 -- ---- how many takes are made
 
-pub one_take : (start now next n : ℕ) → now ≤ start + n → next ≡ raised now → next ≤ start + (n + 1)
+pub one_take : (start now next n : ℕ) → now ≤ start + n → next ≡ incremented now → next ≤ start + (n + 1)
 one_take start now next n before is = let most = min-le_left (now + 1) last_count in omega (arith, before, is, most)
 
 -- ---- what became of a stream after long blank bytes
@@ -162,32 +162,32 @@ module _ {D : Type 0} (answers : D → Head → List ℕ → List ℕ → D → 
   -- and messages after those that were answered, which are all that is left
   reading_rest : (stream left : Option (List ℕ)) (held : List ℕ) (old new : D) (x y z : Option (List ℕ))
       (ms : List Message) (bytes : List ℕ) → Reading answers stream left held old new x y
-      → IfSome left (λ l. Messages (held ++ l) ms) → MessageRun answers new ms bytes new → Gains y z bytes
+      → IfSome left (λ l. Messages (held ++ l) ms) → MessageRun answers new ms bytes new → Appends y z bytes
       → Served answers stream old new x z
   reading_rest stream left held old new x y z ms bytes r m run put = record {
     done = r.done ++ ms;
     bytes = r.bytes ++ bytes;
     messages = fronts_messages_rest stream left r.done ms held r.front m;
     run = run_then answers old new new r.done ms r.bytes bytes r.run run;
-    put = gains_more x y z r.bytes bytes r.put put;
+    put = appends_more x y z r.bytes bytes r.put put;
   }
 
   pub blank_end : (stream left : Option (List ℕ)) (held : List ℕ) (old new : D) (x y : Option (List ℕ))
       → Reading answers stream left held old new x y
       → are_line_breaks held ≡ true → IsBlankRest left true → Served answers stream old new x y
   blank_end stream left held old new x y r blank rest =
-      reading_rest stream left held old new x y y [] [] r (none_left left held blank rest) (refl, refl) (gains_none y)
+      reading_rest stream left held old new x y y [] [] r (none_left left held blank rest) (refl, refl) (appends_none y)
 
   pub other_end : (stream left : Option (List ℕ)) (held : List ℕ) (old new : D) (x y z : Option (List ℕ))
       → Reading answers stream left held old new x y
-      → NeverHas held → IsBlankRest left false → Gains y z bad_bytes → Served answers stream old new x z
+      → NeverHas held → IsBlankRest left false → Appends y z bad_bytes → Served answers stream old new x z
   other_end stream left held old new x y z r never rest p =
       reading_rest stream left held old new x y z (bad ∷ []) bad_bytes r (bad_left left held rest never)
       ([], sym (append-nil bad_bytes), (refl, refl)) p
 
   pub other_cut : {most : ℕ} (stream left next : Option (List ℕ)) (held : List ℕ) (old new : D)
       (x y z : Option (List ℕ)) → Reading answers stream left held old new x y
-      → NeverHas held → IsBlankRest left false → PassesThen most left next → GainsSome y z bad_bytes
+      → NeverHas held → IsBlankRest left false → PassesThen most left next → AppendsSome y z bad_bytes
       → LastReplyCutShort answers (AreFirstUpTo stream next most) old new x z
   other_cut {most} stream left next held old new x y z r never rest
       (blank, mid, piece, white, lost, taken, short, few) p =
@@ -209,7 +209,7 @@ module _ {D : Type 0} (answers : D → Head → List ℕ → List ℕ → D → 
         begun = begins_bad left held rest never;
         run = (refl, refl);
         step = ([], sym (append-nil bad_bytes), (refl, refl));
-        put = gains_none y;
+        put = appends_none y;
         some = p;
       })
 

@@ -2,15 +2,15 @@
 use Rattle.std.proofs.Common.{◌≡◌, ◌≤◌, length, arith, true≢false, ℕ, false, List, [], ◌∷◌, ◌++◌, Option, None, Some}
 use Rattle.std.proofs.Common.{Ok, IfSome, refl, sym, ◌∙◌, ap, append_assoc, append-nil}
 use Rattle.life_pages.specs.Head.{Head}
-use Rattle.life_rle.specs.Stream.{Gains, GainsSome, Loses, IsEnded}
-use Rattle.life_rle.proofs.StreamLemmas.{gains_more, gains_none}
+use Rattle.life_rle.specs.Stream.{Appends, AppendsSome, Consumes, IsEnded}
+use Rattle.life_rle.proofs.StreamLemmas.{appends_more, appends_none}
 use Rattle.life_rle.specs.declared.stream.Failed.{Failed}
 use Rattle.life_pages.specs.Reply.{bad_bytes}
 use Rattle.life_pages.specs.Message.{Message, bad, Messages, Front, Starts, MessageRun, HasNone, IsAwaited}
 use Rattle.life_pages.specs.Message.{are_line_breaks}
 use Rattle.life_pages.specs.Serving.{AreFirstUpTo, WholeBefore, RepliesCutShort, Served, Fronts, ServedSoFar}
 use Rattle.life_pages.specs.Serving.{LastReplyCutShort}
-use Rattle.life_pages.specs.ServingState.{Went, Ended, Feeds}
+use Rattle.life_pages.specs.ServingState.{IsServedTo, Ended, HoldsTaken}
 use Rattle.life_pages.proofs.MessageStanding.{not_blank}
 use Rattle.life_pages.proofs.ServingRunning.{front_then, front_append, front_messages, front_starts, messages_first}
 use Rattle.life_pages.proofs.ServingRunning.{front_first, run_then, then_cut}
@@ -28,7 +28,7 @@ fronts_then (Some stream) (Some left) ms ns held rest f h =
     front_then stream ms ns (held ++ left) (rest ++ left) f (front_append held ns rest left h)
 
 pub fronts_more : (stream left next : Option (List ℕ)) (ms : List Message) (held some all : List ℕ)
-    → Fronts stream ms held left → Loses left next some
+    → Fronts stream ms held left → Consumes left next some
     → all ≡ held ++ some → Fronts stream ms all next
 fronts_more None left next ms held some all f l e = tt
 fronts_more (Some stream) None next ms held some all f l e = absurd f
@@ -70,27 +70,27 @@ module _ {D : Type 0} (answers : D → Head → List ℕ → List ℕ → D → 
     pub bytes : List ℕ
     pub front : Fronts stream done held left
     pub run : MessageRun answers old done bytes new
-    pub put : Gains before after bytes
+    pub put : Appends before after bytes
 
   pub reading_none : (stream : Option (List ℕ)) (old : D) (before : Option (List ℕ))
       → Reading stream stream [] old old before before
   reading_none stream old before =
-      record { done = []; bytes = []; front = fronts_none stream; run = (refl, refl); put = gains_none before }
+      record { done = []; bytes = []; front = fronts_none stream; run = (refl, refl); put = appends_none before }
 
   pub reading_went : (stream left : Option (List ℕ)) (held rest : List ℕ) (old mid new : D) (x y z : Option (List ℕ))
       → Reading stream left held old mid x y
-      → Went answers held rest mid new y z → Reading stream left rest old new x z
+      → IsServedTo answers held rest mid new y z → Reading stream left rest old new x z
   reading_went stream left held rest old mid new x y z r w = record {
     done = r.done ++ w.done;
     bytes = r.bytes ++ w.bytes;
     front = fronts_then stream left r.done w.done held rest r.front w.front;
     run = run_then answers old mid new r.done w.done r.bytes w.bytes r.run w.run;
-    put = gains_more x y z r.bytes w.bytes r.put w.put;
+    put = appends_more x y z r.bytes w.bytes r.put w.put;
   }
 
   pub reading_more : (stream left next : Option (List ℕ)) (held some all : List ℕ) (old new : D) (x y : Option (List ℕ))
       → Reading stream left held old new x y
-      → Loses left next some → all ≡ held ++ some → Reading stream next all old new x y
+      → Consumes left next some → all ≡ held ++ some → Reading stream next all old new x y
   reading_more stream left next held some all old new x y r l e = record {
     done = r.done;
     bytes = r.bytes;
@@ -107,7 +107,7 @@ module _ {D : Type 0} (answers : D → Head → List ℕ → List ℕ → D → 
     bytes = r.bytes ++ e.bytes;
     messages = fronts_ended stream left r.done e.done held r.front e.messages;
     run = run_then answers old mid new r.done e.done r.bytes e.bytes r.run e.run;
-    put = gains_more x y z r.bytes e.bytes r.put e.put;
+    put = appends_more x y z r.bytes e.bytes r.put e.put;
   }
 
   pub reading_end : (stream left : Option (List ℕ)) (held : List ℕ) (old mid new : D) (x y z : Option (List ℕ))
@@ -118,12 +118,12 @@ module _ {D : Type 0} (answers : D → Head → List ℕ → List ℕ → D → 
     bytes = r.bytes ++ e.bytes;
     messages = fronts_end stream left r.done e.done held r.front ended e.messages;
     run = run_then answers old mid new r.done e.done r.bytes e.bytes r.run e.run;
-    put = gains_more x y z r.bytes e.bytes r.put e.put;
+    put = appends_more x y z r.bytes e.bytes r.put e.put;
   }
 
   -- the end of the input in the middle of a message
   pub bad_end : (held : List ℕ) (desk : D) (x y : Option (List ℕ)) → are_line_breaks held ≡ false
-      → HasNone held → Gains x y bad_bytes
+      → HasNone held → Appends x y bad_bytes
       → Served answers (Some held) desk desk x y
   bad_end held desk x y b n p = record {
     done = bad ∷ [];
@@ -157,12 +157,13 @@ module _ {D : Type 0} (answers : D → Head → List ℕ → List ℕ → D → 
   -- more bytes came
   pub reading_fed : (stream left next : Option (List ℕ)) (held all : List ℕ) (k : ℕ) (old new : D)
       (x y : Option (List ℕ)) → Reading stream left held old new x y
-      → Feeds {E = Failed} left next held all (Ok k) → Reading stream next all old new x y
+      → HoldsTaken {E = Failed} left next held all (Ok k) → Reading stream next all old new x y
   reading_fed stream left next held all k old new x y r f =
       reading_more stream left next held f.0 all old new x y r f.1 f.2
 
 -- no more bytes came
-pub fed_end : (left next : Option (List ℕ)) (held all : List ℕ) (k : ℕ) → Feeds {E = Failed} left next held all (Ok k)
+pub fed_end : (left next : Option (List ℕ)) (held all : List ℕ) (k : ℕ)
+    → HoldsTaken {E = Failed} left next held all (Ok k)
     → k ≡ 0 → (all ≡ held) × IsEnded left
 fed_end left next held all k f z = (f.2 ∙ ap (λ (l : List ℕ). held ++ l) (f.3 z).0 ∙ append-nil held, (f.3 z).1)
 
@@ -185,7 +186,8 @@ module _ {D : Type 0} (answers : D → Head → List ℕ → List ℕ → D → 
 -- a take that failed left the stream as it was
 pub reading_failed : {D : Type 0} (answers : D → Head → List ℕ → List ℕ → D → Type 0)
     (stream left next : Option (List ℕ)) (held all : List ℕ) (old new : D) (x y : Option (List ℕ))
-    → Reading answers stream left held old new x y → Loses left next [] → Reading answers stream next held old new x y
+    → Reading answers stream left held old new x y → Consumes left next []
+    → Reading answers stream next held old new x y
 reading_failed answers stream left next held all old new x y r l =
     reading_more answers stream left next held [] held old new x y r l (sym (append-nil held))
 
@@ -207,7 +209,7 @@ fronts_starts_end (Some stream) (Some left) ms ns held f e m =
 
 pub whole_before : {most : ℕ} (stream left before : Option (List ℕ)) (done ms : List Message)
     (last : Message) (held piece : List ℕ) → Fronts stream done held before → HasNone held
-    → Loses before left piece → (length piece ≤ 4096) × (length piece ≤ most)
+    → Consumes before left piece → (length piece ≤ 4096) × (length piece ≤ most)
     → WholeBefore stream left most (done ++ (ms ++ last ∷ []))
 whole_before stream left before done [] last held piece whole none taken short =
     record {
@@ -239,11 +241,11 @@ whole_before stream left before done (m ∷ ms) last held piece whole none taken
     }
 
 none_in_nothing : HasNone []
-none_in_nothing said body rest s = true≢false (not_blank [] s.head (body ++ rest) s.bytes_are)
+none_in_nothing parsed body rest s = true≢false (not_blank [] s.head (body ++ rest) s.bytes_are)
 
-pub loses_none : (left : Option (List ℕ)) → Loses left left []
-loses_none None = tt
-loses_none (Some left) = refl
+pub consumes_none : (left : Option (List ℕ)) → Consumes left left []
+consumes_none None = tt
+consumes_none (Some left) = refl
 
 module _ {D : Type 0} (answers : D → Head → List ℕ → List ℕ → D → Type 0) where
   -- a stream as far as it was taken, with the last take
@@ -252,13 +254,13 @@ module _ {D : Type 0} (answers : D → Head → List ℕ → List ℕ → D → 
     pub done : List Message
     pub bytes : List ℕ
     pub run : MessageRun answers old done bytes new
-    pub put : Gains x y bytes
+    pub put : Appends x y bytes
     pub before : Option (List ℕ)
     pub kept : List ℕ
     pub whole : Fronts stream done kept before
     pub none : HasNone kept
     pub piece : List ℕ
-    pub taken : Loses before left piece
+    pub taken : Consumes before left piece
     pub is : held ≡ kept ++ piece
     pub short : (length piece ≤ 4096) × (length piece ≤ most)
 
@@ -268,13 +270,13 @@ module _ {D : Type 0} (answers : D → Head → List ℕ → List ℕ → D → 
     done = [];
     bytes = [];
     run = (refl, refl);
-    put = gains_none x;
+    put = appends_none x;
     before = stream;
     kept = [];
     whole = fronts_none stream;
     none = none_in_nothing;
     piece = [];
-    taken = loses_none stream;
+    taken = consumes_none stream;
     is = refl;
     short = (omega arith, omega arith);
   }
@@ -289,7 +291,8 @@ module _ {D : Type 0} (answers : D → Head → List ℕ → List ℕ → D → 
 
   pub reached_fed : {most : ℕ} (stream left next : Option (List ℕ)) (held all : List ℕ) (k : ℕ)
       (old new : D) (x y : Option (List ℕ)) → Reading answers stream left held old new x y → HasNone held
-      → Feeds {E = Failed} left next held all (Ok k) → k ≤ 4096 → most ≡ k → Reached stream next most all old new x y
+      → HoldsTaken {E = Failed} left next held all (Ok k) → k ≤ 4096 → most ≡ k
+      → Reached stream next most all old new x y
   reached_fed stream left next held all k old new x y r none f few last = record {
     done = r.done;
     bytes = r.bytes;
@@ -320,7 +323,7 @@ module _ {D : Type 0} (answers : D → Head → List ℕ → List ℕ → D → 
 
   pub reading_cut_end : {most : ℕ} (stream left next : Option (List ℕ)) (held piece : List ℕ)
       (old mid new : D) (x y z : Option (List ℕ)) → Reading answers stream left held old mid x y
-      → IsEnded left → HasNone held → Loses left next piece → (length piece ≤ 4096) × (length piece ≤ most)
+      → IsEnded left → HasNone held → Consumes left next piece → (length piece ≤ 4096) × (length piece ≤ most)
       → LastReplyCutShort answers (λ ms. Starts held ms) mid new y z
       → LastReplyCutShort answers (AreFirstUpTo stream next most) old new x z
   reading_cut_end {most} stream left next held piece old mid new x y z r e none taken short c =
@@ -333,7 +336,7 @@ module _ {D : Type 0} (answers : D → Head → List ℕ → List ℕ → D → 
 
   -- the last message, cut short by the end of the input
   pub bad_cut : (held : List ℕ) (desk : D) (x y : Option (List ℕ)) → are_line_breaks held ≡ false
-      → HasNone held → GainsSome x y bad_bytes
+      → HasNone held → AppendsSome x y bad_bytes
       → LastReplyCutShort answers (λ ms. Starts held ms) desk desk x y
   bad_cut held desk x y b n p = record {
     done = [];
@@ -345,6 +348,6 @@ module _ {D : Type 0} (answers : D → Head → List ℕ → List ℕ → D → 
     begun = (b, n, refl);
     run = (refl, refl);
     step = ([], sym (append-nil bad_bytes), (refl, refl));
-    put = gains_none x;
+    put = appends_none x;
     some = p;
   }

@@ -20,22 +20,22 @@ method_of _ = codes "GET"
 
 -- the request of a route
 abbrev pub request_of : Route → Head → List ℕ → Request
-request_of routes.Deposits said body = ask.Deposit said.member said.token body
-request_of (routes.Deposit id) said body = ask.Show id
-request_of (routes.After id) said body = ask.ListAfter id
-request_of (routes.At id n) said body = ask.At id n
-request_of (routes.Kind id limit) said body = ask.KindOf id limit
-request_of (routes.Censuses id n limit) said body = ask.Census said.member said.token id n limit
-request_of (routes.Census id) said body = ask.ShowCensus id
-request_of (routes.CensusCsv id) said body = ask.CensusCsv id
-request_of (routes.Total rule code limit) said body = ask.Total rule code limit
+request_of routes.Deposits parsed body = ask.Deposit parsed.member parsed.token body
+request_of (routes.Deposit id) parsed body = ask.Show id
+request_of (routes.After id) parsed body = ask.ListAfter id
+request_of (routes.At id n) parsed body = ask.At id n
+request_of (routes.Kind id limit) parsed body = ask.KindOf id limit
+request_of (routes.Censuses id n limit) parsed body = ask.Census parsed.member parsed.token id n limit
+request_of (routes.Census id) parsed body = ask.ShowCensus id
+request_of (routes.CensusCsv id) parsed body = ask.CensusCsv id
+request_of (routes.Total rule code limit) parsed body = ask.Total rule code limit
 
 -- the route is validated first, and then the method
 abbrev pub asked_at : Option Route → Head → List ℕ → Result Request MessageRefusal
-asked_at None said body = Err NoSuchRoute
-asked_at (Some route) said body =
-    if bytes_eq said.method (method_of route) then Ok (request_of route said body) else Err BadMethod
+asked_at None parsed body = Err NoSuchRoute
+asked_at (Some route) parsed body =
+    if bytes_eq parsed.method (method_of route) then Ok (request_of route parsed body) else Err BadMethod
 
 -- what a message with this head and this body asks for
 abbrev pub asked : Head → List ℕ → Result Request MessageRefusal
-asked said body = asked_at (route_of (path_of said.target)) said body
+asked parsed body = asked_at (route_of (path_of parsed.target)) parsed body

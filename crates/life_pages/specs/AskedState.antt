@@ -4,8 +4,8 @@ use Rattle.life_desk.specs.declared.refusal.Refusal.{Refusal}
 use Rattle.life_desk.specs.declared.request.Request.{Request}
 use Rattle.life_desk.specs.Validation.{validated, MayRefuse}
 use Rattle.life_pages.specs.declared.fault.MessageRefusal.{MessageRefusal}
-use Rattle.life_pages.specs.declared.asked.Unasked.{Unasked}
-use Rattle.life_pages.specs.declared.asked.Unasked.TheVariants as unasked
+use Rattle.life_pages.specs.declared.asked.RequestFault.{RequestFault}
+use Rattle.life_pages.specs.declared.asked.RequestFault.TheVariants as request_fault
 
 -- the request, unless it is refused before it is copied
 abbrev pub GivesRequest : Result Request Refusal → Request → Type 0
@@ -13,8 +13,8 @@ GivesRequest (Ok q) request = q ≡ request
 GivesRequest (Err refusal) request = MayRefuse (validated request) refusal
 
 -- what is asked, unless it is a request that is refused before it is copied
-abbrev pub IsAsked : Result Request Unasked → Result Request MessageRefusal → Type 0
+abbrev pub IsAsked : Result Request RequestFault → Result Request MessageRefusal → Type 0
 IsAsked (Ok request) read = read ≡ Ok request
-IsAsked (Err (unasked.Message refusal)) read = read ≡ Err refusal
-IsAsked (Err (unasked.Request refusal)) read =
+IsAsked (Err (request_fault.Message refusal)) read = read ≡ Err refusal
+IsAsked (Err (request_fault.Request refusal)) read =
     (request : Request) × (read ≡ Ok request) × MayRefuse (validated request) refusal

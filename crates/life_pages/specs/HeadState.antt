@@ -7,18 +7,18 @@ use Rattle.life_pages.specs.declared.head.HeadRead.TheVariants.{More, Bad, Whole
 use Rattle.life_pages.specs.Head.{Head, head_of}
 
 -- bytes begin with the head h, which says this, and the rest follows
-pub record BeginsWith (bytes : List ℕ) (said : Head) (rest : List ℕ) : Type 0 where
+pub record BeginsWith (bytes : List ℕ) (parsed : Head) (rest : List ℕ) : Type 0 where
   pub head : RequestHead
   pub reads : ReadsRequest bytes head rest
-  pub says : head_of head ≡ Some said
+  pub says : head_of head ≡ Some parsed
 
 -- the bytes are no prefix of a good head, whatever follows
 abbrev pub NeverBegins : List ℕ → Type 0
-NeverBegins bytes = (more : List ℕ) (said : Head) (rest : List ℕ) → ¬ (BeginsWith (bytes ++ more) said rest)
+NeverBegins bytes = (more : List ℕ) (parsed : Head) (rest : List ℕ) → ¬ (BeginsWith (bytes ++ more) parsed rest)
 
 -- what the parts of a good head are
-abbrev pub said : GoodHead → Head
-said g = record {
+abbrev pub parsed : GoodHead → Head
+parsed g = record {
   method = g.method.now;
   target = g.target.now;
   member = g.member.now;
@@ -31,10 +31,10 @@ said g = record {
 abbrev pub Validates : ℕ → Option Head → HeadRead → Type 0
 Validates len says More = ⊥
 Validates len says Bad = says ≡ None
-Validates len says (Whole g) = (g.len ≡ len) × (says ≡ Some (said g))
+Validates len says (Whole g) = (g.len ≡ len) × (says ≡ Some (parsed g))
 
 -- a reading of bytes: more are needed, they are not a prefix of a good head, or a good head is at the front
 abbrev pub ReadsHead : List ℕ → HeadRead → Type 0
 ReadsHead bytes More = HasNoRequest bytes × MayBecomeRequest bytes
 ReadsHead bytes Bad = NeverBegins bytes
-ReadsHead bytes (Whole g) = (g.len ≤ length bytes) × BeginsWith bytes (said g) (drop g.len bytes)
+ReadsHead bytes (Whole g) = (g.len ≤ length bytes) × BeginsWith bytes (parsed g) (drop g.len bytes)

@@ -25,28 +25,28 @@ abbrev pub are_line_breaks : List ℕ → Bool
 are_line_breaks bytes = list_all (λ b. b == carriage_return || b == line_feed) bytes
 
 -- a good message is at the front, and the rest follows it
-pub record HasMessageInFront (bytes : List ℕ) (said : Head) (body rest : List ℕ) : Type 0 where
+pub record HasMessageInFront (bytes : List ℕ) (parsed : Head) (body rest : List ℕ) : Type 0 where
   pub head : RequestHead
   pub is_head : IsRequestHead head
   pub short : length (print_request head) ≤ head_limit
-  pub says : head_of head ≡ Some said
+  pub says : head_of head ≡ Some parsed
   pub bytes_are : bytes ≡ print_request head ++ (body ++ rest)
-  pub whole : length body ≡ said.body
+  pub whole : length body ≡ parsed.body
 
 -- no good message is at the front
 abbrev pub HasNone : List ℕ → Type 0
-HasNone bytes = (said : Head) (body rest : List ℕ) → ¬ (HasMessageInFront bytes said body rest)
+HasNone bytes = (parsed : Head) (body rest : List ℕ) → ¬ (HasMessageInFront bytes parsed body rest)
 
 -- a whole good head is at the front, and its body has not come completely
 pub record HasHeadAlone (bytes : List ℕ) : Type 0 where
   pub head : RequestHead
   pub is_head : IsRequestHead head
   pub short : length (print_request head) ≤ head_limit
-  pub said : Head
-  pub says : head_of head ≡ Some said
+  pub parsed : Head
+  pub says : head_of head ≡ Some parsed
   pub rest : List ℕ
   pub bytes_are : bytes ≡ print_request head ++ rest
-  pub part : length rest < said.body
+  pub part : length rest < parsed.body
 
 -- no whole head is at the front, but one may come, and there is room for it
 abbrev pub BeginsHead : List ℕ → Type 0
@@ -60,32 +60,32 @@ IsAwaited bytes = (are_line_breaks bytes ≡ true) ⊎ (BeginsHead bytes ⊎ Has
 abbrev pub Messages : List ℕ → List Message → Type 0
 Messages bytes [] = are_line_breaks bytes ≡ true
 Messages bytes (bad ∷ ms) = (are_line_breaks bytes ≡ false) × HasNone bytes × (ms ≡ [])
-Messages bytes (good said body ∷ ms) =
-    (rest : List ℕ) × HasMessageInFront bytes said body rest
-    × (said.closes ≡ true → ms ≡ []) × (said.closes ≡ false → Messages rest ms)
+Messages bytes (good parsed body ∷ ms) =
+    (rest : List ℕ) × HasMessageInFront bytes parsed body rest
+    × (parsed.closes ≡ true → ms ≡ []) × (parsed.closes ≡ false → Messages rest ms)
 
 -- these messages are at the front, none of them closes the connection, and the rest follows
 abbrev pub Front : List ℕ → List Message → List ℕ → Type 0
 Front bytes [] rest = bytes ≡ rest
 Front bytes (bad ∷ ms) rest = ⊥
-Front bytes (good said body ∷ ms) rest =
-    (mid : List ℕ) × HasMessageInFront bytes said body mid × (said.closes ≡ false) × Front mid ms rest
+Front bytes (good parsed body ∷ ms) rest =
+    (mid : List ℕ) × HasMessageInFront bytes parsed body mid × (parsed.closes ≡ false) × Front mid ms rest
 
 -- these messages are at the front; the last of them may close the connection or be bad
 abbrev pub Starts : List ℕ → List Message → Type 0
 Starts bytes [] = Unit {0}
 Starts bytes (bad ∷ ms) = (are_line_breaks bytes ≡ false) × HasNone bytes × (ms ≡ [])
-Starts bytes (good said body ∷ ms) =
-    (rest : List ℕ) × HasMessageInFront bytes said body rest
-    × (said.closes ≡ true → ms ≡ []) × (said.closes ≡ false → Starts rest ms)
+Starts bytes (good parsed body ∷ ms) =
+    (rest : List ℕ) × HasMessageInFront bytes parsed body rest
+    × (parsed.closes ≡ true → ms ≡ []) × (parsed.closes ≡ false → Starts rest ms)
 
 -- a run from old over messages puts these bytes and ends at new
 module _ {D : Type 0} (answers : D → Head → List ℕ → List ℕ → D → Type 0) where
   abbrev pub MessageRun : D → List Message → List ℕ → D → Type 0
   MessageRun old [] bytes new = (bytes ≡ []) × (new ≡ old)
   MessageRun old (bad ∷ ms) bytes new = (later : List ℕ) × (bytes ≡ bad_bytes ++ later) × MessageRun old ms later new
-  MessageRun old (good said body ∷ ms) bytes new =
-      (reply : List ℕ) × (later : List ℕ) × (mid : D) × answers old said body reply mid × (bytes ≡ reply ++ later)
+  MessageRun old (good parsed body ∷ ms) bytes new =
+      (reply : List ℕ) × (later : List ℕ) × (mid : D) × answers old parsed body reply mid × (bytes ≡ reply ++ later)
       × MessageRun mid ms later new
 
 -- how a good message is answered, where requests are answered by these replies
@@ -96,4 +96,4 @@ module _ {D : Type 0} (answers : D → Request → Reply → D → Type 0) where
   AnswersAsked old (Err refusal) bytes new = (bytes ≡ message_refusal_bytes refusal) × (new ≡ old)
 
   abbrev pub AnswersMessage : D → Head → List ℕ → List ℕ → D → Type 0
-  AnswersMessage old said body bytes new = AnswersAsked old (asked said body) bytes new
+  AnswersMessage old parsed body bytes new = AnswersAsked old (asked parsed body) bytes new

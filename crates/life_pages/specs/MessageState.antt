@@ -2,7 +2,7 @@
 use Rattle.std.specs.Prelude.{◌≡◌, ◌⊎◌, ℕ, ◌+◌, ◌<◌, ◌≤◌, true, false, List, ◌++◌, length, take, drop}
 use Rattle.life_pages.specs.declared.message.Next.{Next}
 use Rattle.life_pages.specs.declared.message.Next.TheVariants.{More, Bad, Whole}
-use Rattle.life_pages.specs.HeadState.{said}
+use Rattle.life_pages.specs.HeadState.{parsed}
 use Rattle.life_pages.specs.Message.{HasMessageInFront, HasNone, IsAwaited, are_line_breaks}
 
 -- none will, whatever follows
@@ -27,4 +27,4 @@ IsNext held (More wanted) = IsWanting held × WantsUntil wanted held
 IsNext held Bad = NeverHas held × (are_line_breaks held ≡ false)
 IsNext held (Whole head) =
     (head.len + head.body ≤ length held) × (0 < head.len)
-    × HasMessageInFront held (said head) (take head.body (drop head.len held)) (drop (head.len + head.body) held)
+    × HasMessageInFront held (parsed head) (take head.body (drop head.len held)) (drop (head.len + head.body) held)

@@ -19,7 +19,7 @@ with_request (Err refusal) later = later
 abbrev pub requests_of : List Message → List Request
 requests_of [] = []
 requests_of (bad ∷ ms) = requests_of ms
-requests_of (good said body ∷ ms) = with_request (asked said body) (requests_of ms)
+requests_of (good parsed body ∷ ms) = with_request (asked parsed body) (requests_of ms)
 
 -- the bytes of a message's reply, which is the first of these if the message makes a request, and after them those of
 -- the others; if there is no reply for a request, none (a run has as many replies as requests)
@@ -32,7 +32,7 @@ with_reply (Err refusal) later rs = message_refusal_bytes refusal ++ later rs
 abbrev pub reply_bytes_of : List Message → List Reply → List ℕ
 reply_bytes_of [] rs = []
 reply_bytes_of (bad ∷ ms) rs = bad_bytes ++ reply_bytes_of ms rs
-reply_bytes_of (good said body ∷ ms) rs = with_reply (asked said body) (reply_bytes_of ms) rs
+reply_bytes_of (good parsed body ∷ ms) rs = with_reply (asked parsed body) (reply_bytes_of ms) rs
 
 -- A run over messages is a run of their requests, and puts the bytes of the replies ..
 abbrev pub MessagesRunAsRequests : Type 0

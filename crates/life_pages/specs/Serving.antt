@@ -3,7 +3,8 @@ use Rattle.std.specs.Prelude.{◌≡◌, Bool, ℕ, ◌+◌, ◌*◌, ◌≤◌,
 use Rattle.std.specs.Prelude.{Err, OnOk, IfSome}
 use Rattle.life_rle.specs.declared.stream.Inlet as inlet
 use Rattle.life_rle.specs.declared.stream.Outlet as outlet
-use Rattle.life_rle.specs.Stream.{raised, EndsLast, FailedBetween, FailsLast, Loses, LosesUpTo, Gains, GainsSome}
+use Rattle.life_rle.specs.Stream.{incremented, EndsLast, FailedBetween, FailsLast, Consumes, ConsumesUpTo}
+use Rattle.life_rle.specs.Stream.{Appends, AppendsSome}
 use Rattle.life_pages.specs.Head.{Head}
 use Rattle.life_pages.specs.Message.{Message, Messages, Front, Starts, MessageRun, HasNone, IsAwaited}
 use Rattle.life_pages.specs.declared.fault.IoFault.{IoFault}
@@ -38,8 +39,8 @@ module _ {D : Type 0} (answers : D → Head → List ℕ → List ℕ → D → 
     pub begun : begins (done ++ last ∷ [])
     pub run : MessageRun answers old done bytes mid
     pub step : MessageRun answers mid (last ∷ []) reply new
-    pub put : Gains before whole bytes
-    pub some : GainsSome whole after reply
+    pub put : Appends before whole bytes
+    pub some : AppendsSome whole after reply
 
   -- messages were answered, and of the bytes of their replies so much was put
   pub record ServedMessages (are : List Message → Type 0) (puts : List ℕ → Type 0) (old new : D) : Type 0 where
@@ -51,11 +52,11 @@ module _ {D : Type 0} (answers : D → Head → List ℕ → List ℕ → D → 
 
   -- the first messages of a stream were answered, and a prefix of their replies was put
   abbrev pub RepliesCutShort : Option (List ℕ) → D → D → Option (List ℕ) → Option (List ℕ) → Type 0
-  RepliesCutShort stream old new before after = ServedMessages (AreFirstOf stream) (GainsSome before after) old new
+  RepliesCutShort stream old new before after = ServedMessages (AreFirstOf stream) (AppendsSome before after) old new
 
   -- all the messages of a stream were answered, and their replies were put
   abbrev pub Served : Option (List ℕ) → D → D → Option (List ℕ) → Option (List ℕ) → Type 0
-  Served stream old new before after = ServedMessages (AreAllOf stream) (Gains before after) old new
+  Served stream old new before after = ServedMessages (AreAllOf stream) (Appends before after) old new
 
 -- the messages are at the front of a stream of known bytes, before what is held and what is left
 abbrev pub Fronts : Option (List ℕ) → List Message → List ℕ → Option (List ℕ) → Type 0
@@ -75,7 +76,7 @@ pub record WholeBefore (stream left : Option (List ℕ)) (last : ℕ) (ms : List
   pub whole : Fronts stream front held before
   pub none : HasNone held
   pub piece : List ℕ
-  pub taken : Loses before left piece
+  pub taken : Consumes before left piece
   pub short : (length piece ≤ 4096) × (length piece ≤ last)
 
 -- the first messages of a stream, all but the last of which were answered before the last take, if they had come
@@ -93,20 +94,20 @@ module _ {D : Type 0} (answers : D → Head → List ℕ → List ℕ → D → 
     pub none : HasNone held
     pub awaited : IsAwaited held
     pub run : MessageRun answers old done bytes new
-    pub put : Gains before after bytes
+    pub put : Appends before after bytes
 
 -- known bytes grew at their end: what was there before is a prefix of what is there now
 abbrev pub Grows : Option (List ℕ) → Option (List ℕ) → Type 0
-Grows old new = (more : List ℕ) × Gains old new more
+Grows old new = (more : List ℕ) × Appends old new more
 
 -- known bytes lost at least this many
-abbrev pub LosesAtLeast : ℕ → Option (List ℕ) → Option (List ℕ) → Type 0
-LosesAtLeast least old new = (bytes : List ℕ) × (least ≤ length bytes) × Loses old new bytes
+abbrev pub ConsumesAtLeast : ℕ → Option (List ℕ) → Option (List ℕ) → Type 0
+ConsumesAtLeast least old new = (bytes : List ℕ) × (least ≤ length bytes) × Consumes old new bytes
 
 -- a take that failed is answered at once, and nothing else is
 abbrev pub ReportsTakeFailures : ℕ → ℕ → Result (Unit {0}) IoFault → Type 0
 ReportsTakeFailures old new (Ok u) = new ≡ old
-ReportsTakeFailures old new (Err Read) = new ≡ raised old
+ReportsTakeFailures old new (Err Read) = new ≡ incremented old
 ReportsTakeFailures old new (Err Write) = new ≡ old
 ReportsTakeFailures old new (Err TooManyReads) = new ≡ old
 ReportsTakeFailures old new (Err Memory) = new ≡ old
@@ -145,12 +146,12 @@ pub record IsServed {D I O : Type 0} (answers : D → Head → List ℕ → List
 pub record UsesStreams {I O : Type 0} (i : inlet.Ghosts I) (o : outlet.Ghosts O) (input rest : I)
     (output sent : O) (result : Result (Unit {0}) IoFault) : Type 0 where
   -- Too many takes: at least 1,048,576 known bytes were taken.
-  pub many : result ≡ Err TooManyReads → LosesAtLeast most_takes (i.to_come input) (i.to_come rest)
+  pub many : result ≡ Err TooManyReads → ConsumesAtLeast most_takes (i.to_come input) (i.to_come rest)
   -- What is put only grows: what was put before the call is a prefix of what is put after it.
   pub grows : Grows (o.already output) (o.already sent)
   -- At most 1,048,576 takes are made, and at most 4,096 times as many bytes are taken.
   pub takes : i.takes rest ≤ i.takes input + most_takes
-  pub most : LosesUpTo (most_takes * most_taken) (i.to_come input) (i.to_come rest)
+  pub most : ConsumesUpTo (most_takes * most_taken) (i.to_come input) (i.to_come rest)
   -- Nothing is taken after the end: it is found once at most, by the last take.
   pub ended : EndsLast (i.ends input) (i.ends rest) (i.last_take rest)
   -- A failed take is answered at once, a failed put is answered, and nothing else is.

@@ -1,34 +1,34 @@
 -- What the private calls that serve a stream do, one after the other.
 use Rattle.std.specs.Prelude.{◌≡◌, ◌⊎◌, ℕ, ◌<◌, ◌≤◌, Bool, true, false, List, [], ◌++◌, length, Option, None, Some}
 use Rattle.std.specs.Prelude.{Result, Ok, Err}
-use Rattle.life_rle.specs.Stream.{raised, Loses, Gains, GainsSome, IsEnded}
+use Rattle.life_rle.specs.Stream.{incremented, Consumes, Appends, AppendsSome, IsEnded}
 use Rattle.life_pages.specs.declared.fault.IoFault.{IoFault}
 use Rattle.life_pages.specs.declared.fault.IoFault.TheVariants as faults
 use Rattle.life_pages.specs.declared.serving.Step.{Step}
 use Rattle.life_pages.specs.declared.serving.Step.TheVariants.{Wants, Goes, Ends}
-use Rattle.life_pages.specs.declared.serving.Passed.{Passed}
-use Rattle.life_pages.specs.declared.serving.Passed.TheVariants as passed
+use Rattle.life_pages.specs.declared.serving.AfterBlank.{AfterBlank}
+use Rattle.life_pages.specs.declared.serving.AfterBlank.TheVariants as after_blank
 use Rattle.life_pages.specs.Head.{Head}
 use Rattle.life_pages.specs.Message.{Message, Messages, Front, Starts, MessageRun, are_line_breaks}
 use Rattle.life_pages.specs.MessageState.{IsWanting}
 use Rattle.life_pages.specs.Reply.{bad_bytes}
-use Rattle.life_pages.specs.Serving.{most_takes, AreFirstUpTo, LastReplyCutShort, Served, ServedSoFar, LosesAtLeast}
+use Rattle.life_pages.specs.Serving.{most_takes, AreFirstUpTo, LastReplyCutShort, Served, ServedSoFar, ConsumesAtLeast}
 
 -- a take of more bytes after those that are held
-abbrev pub Feeds : {E : Type 0} → Option (List ℕ) → Option (List ℕ) → List ℕ → List ℕ → Result ℕ E → Type 0
-Feeds old new held all (Ok k) =
-    (some : List ℕ) × Loses old new some × (all ≡ held ++ some) × (k ≡ 0 → (some ≡ []) × IsEnded old)
+abbrev pub HoldsTaken : {E : Type 0} → Option (List ℕ) → Option (List ℕ) → List ℕ → List ℕ → Result ℕ E → Type 0
+HoldsTaken old new held all (Ok k) =
+    (some : List ℕ) × Consumes old new some × (all ≡ held ++ some) × (k ≡ 0 → (some ≡ []) × IsEnded old)
     × (length some ≡ k)
-Feeds old new held all (Err e) = Loses old new [] × (all ≡ held)
+HoldsTaken old new held all (Err e) = Consumes old new [] × (all ≡ held)
 
 module _ {D : Type 0} (answers : D → Head → List ℕ → List ℕ → D → Type 0) where
   -- messages were answered, and the rest of the held bytes is left
-  pub record Went (held rest : List ℕ) (old new : D) (before after : Option (List ℕ)) : Type 0 where
+  pub record IsServedTo (held rest : List ℕ) (old new : D) (before after : Option (List ℕ)) : Type 0 where
     pub done : List Message
     pub bytes : List ℕ
     pub front : Front held done rest
     pub run : MessageRun answers old done bytes new
-    pub put : Gains before after bytes
+    pub put : Appends before after bytes
 
   -- messages were answered, the last of which ends the stream, whatever follows
   pub record Ended (held : List ℕ) (old new : D) (before after : Option (List ℕ)) : Type 0 where
@@ -36,14 +36,15 @@ module _ {D : Type 0} (answers : D → Head → List ℕ → List ℕ → D → 
     pub bytes : List ℕ
     pub messages : (more : List ℕ) → Messages (held ++ more) done
     pub run : MessageRun answers old done bytes new
-    pub put : Gains before after bytes
+    pub put : Appends before after bytes
 
   -- one message
   abbrev pub IsStep : {E : Type 0} → Result Step E → List ℕ → List ℕ → D → D → Option (List ℕ)
       → Option (List ℕ) → Type 0
   IsStep (Ok Wants) held rest old new before after =
-      Went held rest old new before after × IsWanting rest
-  IsStep (Ok Goes) held rest old new before after = Went held rest old new before after × (length rest < length held)
+      IsServedTo held rest old new before after × IsWanting rest
+  IsStep (Ok Goes) held rest old new before after =
+      IsServedTo held rest old new before after × (length rest < length held)
   IsStep (Ok Ends) held rest old new before after = Ended held old new before after
   IsStep (Err e) held rest old new before after =
       LastReplyCutShort answers (λ ms. (more : List ℕ) → Starts (held ++ more) ms) old new before after
@@ -52,7 +53,7 @@ module _ {D : Type 0} (answers : D → Head → List ℕ → List ℕ → D → 
   abbrev pub IsHeldServed : {E : Type 0} → Result Bool E → List ℕ → List ℕ → D → D → Option (List ℕ)
       → Option (List ℕ) → Type 0
   IsHeldServed (Ok false) held rest old new before after =
-      Went held rest old new before after × IsWanting rest
+      IsServedTo held rest old new before after × IsWanting rest
   IsHeldServed (Ok true) held rest old new before after = Ended held old new before after
   IsHeldServed (Err e) held rest old new before after =
       LastReplyCutShort answers (λ ms. (more : List ℕ) → Starts (held ++ more) ms) old new before after
@@ -73,7 +74,7 @@ module _ {D : Type 0} (answers : D → Head → List ℕ → List ℕ → D → 
   IsOutcome (Err faults.Read) stream left last old new before after =
       ServedSoFar answers stream left old new before after
   IsOutcome (Err faults.TooManyReads) stream left last old new before after =
-      ServedSoFar answers stream left old new before after × LosesAtLeast most_takes stream left
+      ServedSoFar answers stream left old new before after × ConsumesAtLeast most_takes stream left
   IsOutcome (Err faults.Write) stream left last old new before after =
       LastReplyCutShort answers (AreFirstUpTo stream left last) old new before after
   IsOutcome (Err faults.Memory) stream left last old new before after = ⊥
@@ -81,13 +82,13 @@ module _ {D : Type 0} (answers : D → Head → List ℕ → List ℕ → D → 
 -- at least this many bytes were taken, all of them CR and LF
 abbrev pub PassesBlank : ℕ → Option (List ℕ) → Option (List ℕ) → Type 0
 PassesBlank least old new =
-    (bytes : List ℕ) × (least ≤ length bytes) × (are_line_breaks bytes ≡ true) × Loses old new bytes
+    (bytes : List ℕ) × (least ≤ length bytes) × (are_line_breaks bytes ≡ true) × Consumes old new bytes
 
 -- bytes were taken, all of them CR and LF, and then those of one take of this many
 abbrev pub PassesThen : ℕ → Option (List ℕ) → Option (List ℕ) → Type 0
 PassesThen last old new =
     (blank : List ℕ) × (mid : Option (List ℕ)) × (piece : List ℕ) × (are_line_breaks blank ≡ true)
-    × Loses old mid blank × Loses mid new piece × (length piece ≤ 4096) × (length piece ≤ last)
+    × Consumes old mid blank × Consumes mid new piece × (length piece ≤ 4096) × (length piece ≤ last)
 
 -- whether what is left of known bytes is CR and LF alone
 abbrev pub IsBlankRest : Option (List ℕ) → Bool → Type 0
@@ -95,26 +96,26 @@ IsBlankRest None blank = Unit {0}
 IsBlankRest (Some left) blank = are_line_breaks left ≡ blank
 
 -- the result of taking bytes as long as they were CR and LF, in at most this many takes
-abbrev pub IsPassed : Passed → ℕ → ℕ → Option (List ℕ) → Option (List ℕ) → Type 0
-IsPassed passed.Ended takes last old new = IsBlankRest old true
-IsPassed passed.Other takes last old new = IsBlankRest old false × PassesThen last old new
-IsPassed passed.Failed takes last old new = PassesBlank 0 old new
-IsPassed passed.TooMany takes last old new = PassesBlank takes old new
+abbrev pub IsAfterBlank : AfterBlank → ℕ → ℕ → Option (List ℕ) → Option (List ℕ) → Type 0
+IsAfterBlank after_blank.Ended takes last old new = IsBlankRest old true
+IsAfterBlank after_blank.Other takes last old new = IsBlankRest old false × PassesThen last old new
+IsAfterBlank after_blank.Failed takes last old new = PassesBlank 0 old new
+IsAfterBlank after_blank.TooMany takes last old new = PassesBlank takes old new
 
 -- a take that failed ends the passing, and nothing else is a failure
-abbrev pub HearsPassed : ℕ → ℕ → Passed → Type 0
-HearsPassed old new passed.Ended = new ≡ old
-HearsPassed old new passed.Other = new ≡ old
-HearsPassed old new passed.Failed = new ≡ raised old
-HearsPassed old new passed.TooMany = new ≡ old
+abbrev pub CountsFailedTake : ℕ → ℕ → AfterBlank → Type 0
+CountsFailedTake old new after_blank.Ended = new ≡ old
+CountsFailedTake old new after_blank.Other = new ≡ old
+CountsFailedTake old new after_blank.Failed = new ≡ incremented old
+CountsFailedTake old new after_blank.TooMany = new ≡ old
 
 -- the result for a stream after as many of them as a head may have, in at most this many takes
 abbrev pub IsBlankEnd : Result (Unit {0}) IoFault → ℕ → ℕ → Option (List ℕ) → Option (List ℕ)
     → Option (List ℕ) → Option (List ℕ) → Type 0
 IsBlankEnd (Ok u) takes last old new before after =
-    (IsBlankRest old true × (after ≡ before)) ⊎ (IsBlankRest old false × Gains before after bad_bytes)
+    (IsBlankRest old true × (after ≡ before)) ⊎ (IsBlankRest old false × Appends before after bad_bytes)
 IsBlankEnd (Err faults.Write) takes last old new before after =
-    IsBlankRest old false × PassesThen last old new × GainsSome before after bad_bytes
+    IsBlankRest old false × PassesThen last old new × AppendsSome before after bad_bytes
 IsBlankEnd (Err faults.Read) takes last old new before after = PassesBlank 0 old new × (after ≡ before)
 IsBlankEnd (Err faults.TooManyReads) takes last old new before after = PassesBlank takes old new × (after ≡ before)
 IsBlankEnd (Err faults.Memory) takes last old new before after = ⊥

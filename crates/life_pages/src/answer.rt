@@ -3,12 +3,12 @@ ghost use Rattle.std.specs.Prelude.{◌≡◌, ◌≤◌, vec_capacity, Result, 
 ghost use Rattle.life_desk.specs.declared.request.Request.{Request};
 ghost use Rattle.life_pages.specs.declared.fault.MessageRefusal.{MessageRefusal};
 ghost use Rattle.life_pages.specs.AskedState.{IsAsked};
-ghost use Rattle.life_pages.specs.HeadState.{said};
+ghost use Rattle.life_pages.specs.HeadState.{parsed};
 ghost use Rattle.life_pages.specs.RouteState.{route_rows};
 ghost use Rattle.life_pages.specs.Message.{AnswersAsked, AnswersMessage};
 ghost use Rattle.life_pages.specs.AnswerState.{HasRoom};
 
-use crate::asked::{Unasked, asked};
+use crate::asked::{RequestFault, asked};
 use crate::desk::Desk;
 use crate::head::GoodHead;
 use crate::reply::{BODY_ROOM, REPLY_ROOM, write_page, write_refusal, write_reply};
@@ -51,15 +51,19 @@ fn answer_request<D: Desk>(
 }
 
 /// Writes the refusal of a message for which the archive is not asked.
-fn refuse<D: Desk>(desk: &D, unasked: Unasked, buffers: &mut ReplyBuffers)
+fn refuse<D: Desk>(desk: &D, fault: RequestFault, buffers: &mut ReplyBuffers)
     requires room { HasRoom buffers.old }
-    ensures answered { (read : Result Request MessageRefusal) → IsAsked (Err unasked) read → AnswersAsked D.answers desk.now read buffers.new.reply.items desk.now }
+    ensures answered { (read : Result Request MessageRefusal) → IsAsked (Err fault) read → AnswersAsked D.answers desk.now read buffers.new.reply.items desk.now }
     ensures room { HasRoom buffers.new }
 {
     desk.law_of_refusals();
-    match unasked {
-        Unasked::Message(refusal) => write_page(&mut buffers.reply, refusal),
-        Unasked::Request(refusal) => write_refusal(&mut buffers.reply, &mut buffers.body, &refusal),
+    match fault {
+        RequestFault::Message(refusal) => write_page(&mut buffers.reply, refusal),
+        RequestFault::Request(refusal) => write_refusal(
+            &mut buffers.reply,
+            &mut buffers.body,
+            &refusal,
+        ),
     }
 }
 
@@ -74,11 +78,11 @@ pub(crate) fn answer_message<D: Desk>(
 )
     requires routes { routes.now ≡ route_rows }
     requires room { HasRoom buffers.old }
-    ensures answered { AnswersMessage D.answers desk.old (said head.now) body.now buffers.new.reply.items desk.new }
+    ensures answered { AnswersMessage D.answers desk.old (parsed head.now) body.now buffers.new.reply.items desk.new }
     ensures room { HasRoom buffers.new }
 {
     match asked(alloc, routes, head, body) {
         Ok(request) => answer_request(alloc, desk, request, buffers),
-        Err(unasked) => refuse(desk, unasked, buffers),
+        Err(fault) => refuse(desk, fault, buffers),
     }
 }

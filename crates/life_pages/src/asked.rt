@@ -1,6 +1,6 @@
 //! The request of a good message.
 ghost use Rattle.std.specs.Prelude.{◌≡◌};
-ghost use Rattle.life_pages.specs.HeadState.{said};
+ghost use Rattle.life_pages.specs.HeadState.{parsed};
 ghost use Rattle.life_pages.specs.RouteState.{route_rows};
 ghost use Rattle.life_pages.specs.Asked.{method_of, asked, request_of};
 ghost use Rattle.life_pages.specs.AskedState.{IsAsked, GivesRequest};
@@ -80,7 +80,7 @@ fn request_of(
     head: &GoodHead<'_>,
     body: &[u8],
 ) -> Result<Request, Refusal>
-    ensures { GivesRequest result (request_of route.now (said head.now) body.now) }
+    ensures { GivesRequest result (request_of route.now (parsed head.now) body.now) }
 {
     match route {
         Route::Deposits => deposit_request(alloc, head, body),
@@ -107,7 +107,7 @@ fn request_of(
 
 /// Why the archive is not asked about a message.
 #[derive(Clone, Copy)]
-pub(crate) enum Unasked {
+pub(crate) enum RequestFault {
     /// The message is not a request.
     Message(MessageRefusal),
     /// The request is refused: for its own fields, or because there is no memory to copy them.
@@ -120,19 +120,19 @@ pub(crate) fn asked(
     routes: &Router<Template>,
     head: &GoodHead<'_>,
     body: &[u8],
-) -> Result<Request, Unasked>
+) -> Result<Request, RequestFault>
     requires { routes.now ≡ route_rows }
-    ensures { IsAsked result (asked (said head.now) body.now) }
+    ensures { IsAsked result (asked (parsed head.now) body.now) }
 {
     let route = match find_route(routes, path_of(head.target)) {
         Some(route) => route,
-        None => return Err(Unasked::Message(MessageRefusal::NoSuchRoute)),
+        None => return Err(RequestFault::Message(MessageRefusal::NoSuchRoute)),
     };
     if head.method != method_of(&route) {
-        return Err(Unasked::Message(MessageRefusal::BadMethod));
+        return Err(RequestFault::Message(MessageRefusal::BadMethod));
     }
     match request_of(alloc, &route, head, body) {
         Ok(request) => Ok(request),
-        Err(refusal) => Err(Unasked::Request(refusal)),
+        Err(refusal) => Err(RequestFault::Request(refusal)),
     }
 }

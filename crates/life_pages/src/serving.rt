@@ -1,15 +1,15 @@
 //! Serving the messages of a stream.
 ghost use Rattle.std.specs.Prelude.{◌⊎◌, ◌≡◌, ℕ, ◌+◌, ◌-◌, ◌*◌, ◌<◌, ◌≤◌, List, [], ◌∷◌, ◌++◌, length, drop, true, false, vec_len, vec_capacity, Err, OnOk, OnErr, IfOk};
-ghost use Rattle.life_rle.specs.Stream.{counted, ended, moved, raised, EndsLast, FailsLast, LosesUpTo, Gains, GainsSome};
+ghost use Rattle.life_rle.specs.Stream.{count_after, ends_after, bytes_moved, incremented, EndsLast, FailsLast, ConsumesUpTo, Appends, AppendsSome};
 ghost use Rattle.life_pages.specs.Head.{Head};
-ghost use Rattle.life_pages.specs.HeadState.{said};
+ghost use Rattle.life_pages.specs.HeadState.{parsed};
 ghost use Rattle.life_pages.specs.RouteState.{route_rows};
 ghost use Rattle.life_pages.specs.Reply.{bad_bytes};
 ghost use Rattle.life_pages.specs.Message.{are_line_breaks, HasMessageInFront, HasNone, AnswersMessage};
 ghost use Rattle.life_pages.specs.MessageState.{held_limit, NeverHas, IsWanting, WantsUntil};
 ghost use Rattle.life_pages.specs.AnswerState.{HasRoom};
 ghost use Rattle.life_pages.specs.Serving.{IsServed, UsesStreams, ReportsTakeFailures, ReportsPutFailures};
-ghost use Rattle.life_pages.specs.ServingState.{AtEnd, IsStep, IsHeldServed, IsOutcome, Feeds, IsPassed, HearsPassed, IsBlankEnd};
+ghost use Rattle.life_pages.specs.ServingState.{AtEnd, IsStep, IsHeldServed, IsOutcome, HoldsTaken, IsAfterBlank, CountsFailedTake, IsBlankEnd};
 
 use crate::answer::{ReplyBuffers, answer_message};
 use crate::desk::Desk;
@@ -42,7 +42,7 @@ pub(crate) enum Step {
 }
 
 /// Drops the bytes before a place.
-fn forget(held: &mut Vec<u8>, n: usize)
+fn drop_front(held: &mut Vec<u8>, n: usize)
     requires { n ≤ vec_len held.old }
     ensures items { held.new.items ≡ drop n held.old.items }
     ensures room { vec_capacity held.old ≤ vec_capacity held.new }
@@ -54,8 +54,8 @@ fn forget(held: &mut Vec<u8>, n: usize)
 
 /// Puts the reply to a bad message.
 fn put_bad<O: Outlet>(output: &mut O) -> Result<(), Failed>
-    ensures all { OnOk result (Gains (O.already output.old) (O.already output.new) bad_bytes) }
-    ensures some { OnErr result (GainsSome (O.already output.old) (O.already output.new) bad_bytes) }
+    ensures all { OnOk result (Appends (O.already output.old) (O.already output.new) bad_bytes) }
+    ensures some { OnErr result (AppendsSome (O.already output.old) (O.already output.new) bad_bytes) }
     ensures count { OnOk result (O.failures output.new ≡ O.failures output.old) }
     ensures failed { OnErr result (FailsLast (O.failures output.old) (O.failures output.new) (O.last_failed output.new)) }
 {
@@ -110,7 +110,7 @@ fn serve_one<O: Outlet, D: Desk>(
     if closes {
         return Ok(Step::Ends);
     }
-    forget(held, end);
+    drop_front(held, end);
     Ok(Step::Goes)
 }
 
@@ -158,13 +158,13 @@ fn room_left(held: &Vec<u8>) -> usize
 fn take_into<I: Inlet>(input: &mut I, space: &mut [u8], held: &mut Vec<u8>) -> Result<usize, Failed>
     requires some { 0 < length space.old }
     requires fits { vec_len held.old + length space.old ≤ vec_capacity held.old }
-    ensures taken { Feeds (I.to_come input.old) (I.to_come input.new) held.old.items held.new.items result }
+    ensures taken { HoldsTaken (I.to_come input.old) (I.to_come input.new) held.old.items held.new.items result }
     ensures most { IfOk result (λ k. k ≤ length space.old) }
-    ensures made { I.takes input.new ≡ raised (I.takes input.old) }
-    ensures gave { I.last_take input.new ≡ moved result }
+    ensures made { I.takes input.new ≡ incremented (I.takes input.old) }
+    ensures gave { I.last_take input.new ≡ bytes_moved result }
     ensures room { vec_capacity held.old ≤ vec_capacity held.new }
-    ensures count { I.failures input.new ≡ counted (I.failures input.old) result }
-    ensures end { I.ends input.new ≡ ended (I.ends input.old) result }
+    ensures count { I.failures input.new ≡ count_after (I.failures input.old) result }
+    ensures end { I.ends input.new ≡ ends_after (I.ends input.old) result }
 {
     match input.take(space) {
         Ok(k) => {
@@ -180,13 +180,13 @@ fn take_more<I: Inlet>(input: &mut I, held: &mut Vec<u8>) -> Result<usize, Faile
     requires none { HasNone held.old.items }
     requires space { vec_len held.old < HELD_LIMIT }
     requires room { HELD_LIMIT ≤ vec_capacity held.old }
-    ensures taken { Feeds (I.to_come input.old) (I.to_come input.new) held.old.items held.new.items result }
+    ensures taken { HoldsTaken (I.to_come input.old) (I.to_come input.new) held.old.items held.new.items result }
     ensures most { IfOk result (λ k. k ≤ MOST_TAKEN) }
-    ensures made { I.takes input.new ≡ raised (I.takes input.old) }
-    ensures gave { I.last_take input.new ≡ moved result }
+    ensures made { I.takes input.new ≡ incremented (I.takes input.old) }
+    ensures gave { I.last_take input.new ≡ bytes_moved result }
     ensures room { vec_capacity held.old ≤ vec_capacity held.new }
-    ensures count { I.failures input.new ≡ counted (I.failures input.old) result }
-    ensures end { I.ends input.new ≡ ended (I.ends input.old) result }
+    ensures count { I.failures input.new ≡ count_after (I.failures input.old) result }
+    ensures end { I.ends input.new ≡ ends_after (I.ends input.old) result }
 {
     let mut space = [0u8; MOST_TAKEN];
     let room = room_left(held);
@@ -195,7 +195,7 @@ fn take_more<I: Inlet>(input: &mut I, held: &mut Vec<u8>) -> Result<usize, Faile
 
 /// The result of taking bytes as long as they are CR and LF.
 #[derive(Clone, Copy)]
-pub(crate) enum Passed {
+pub(crate) enum AfterBlank {
     /// All were, to the end.
     Ended,
     /// Another byte came.
@@ -207,26 +207,26 @@ pub(crate) enum Passed {
 }
 
 /// Takes bytes as long as they are CR and LF, and keeps none.
-fn pass_blank<I: Inlet>(input: &mut I, takes: u64) -> Passed
-    ensures passed { IsPassed result takes (I.last_take input.new) (I.to_come input.old) (I.to_come input.new) }
-    ensures most { LosesUpTo (takes * MOST_TAKEN) (I.to_come input.old) (I.to_come input.new) }
+fn pass_blank<I: Inlet>(input: &mut I, takes: u64) -> AfterBlank
+    ensures passed { IsAfterBlank result takes (I.last_take input.new) (I.to_come input.old) (I.to_come input.new) }
+    ensures most { ConsumesUpTo (takes * MOST_TAKEN) (I.to_come input.old) (I.to_come input.new) }
     ensures made { I.takes input.new ≤ I.takes input.old + takes }
-    ensures on_failed_take { HearsPassed (I.failures input.old) (I.failures input.new) result }
+    ensures on_failed_take { CountsFailedTake (I.failures input.old) (I.failures input.new) result }
     ensures ends { EndsLast (I.ends input.old) (I.ends input.new) (I.last_take input.new) }
 {
     let mut space = [0u8; MOST_TAKEN];
     'passed: for _i in 0..takes {
         match input.take(&mut space) {
-            Ok(0) => return Passed::Ended,
+            Ok(0) => return AfterBlank::Ended,
             Ok(k) => {
                 if !are_blank(&space[..k]) {
-                    return Passed::Other;
+                    return AfterBlank::Other;
                 }
             }
-            Err(_) => return Passed::Failed,
+            Err(_) => return AfterBlank::Failed,
         }
     }
-    Passed::TooMany
+    AfterBlank::TooMany
 }
 
 /// Whether as many CR and LF bytes are held as a head may have, and no others: a message that begins so never comes.
@@ -245,20 +245,20 @@ fn serve_blank<I: Inlet, O: Outlet>(
     takes: u64,
 ) -> Result<(), IoFault>
     ensures end { IsBlankEnd result takes (I.last_take input.new) (I.to_come input.old) (I.to_come input.new) (O.already output.old) (O.already output.new) }
-    ensures most { LosesUpTo (takes * MOST_TAKEN) (I.to_come input.old) (I.to_come input.new) }
+    ensures most { ConsumesUpTo (takes * MOST_TAKEN) (I.to_come input.old) (I.to_come input.new) }
     ensures made { I.takes input.new ≤ I.takes input.old + takes }
     ensures on_failed_take { ReportsTakeFailures (I.failures input.old) (I.failures input.new) result }
     ensures ends { EndsLast (I.ends input.old) (I.ends input.new) (I.last_take input.new) }
     ensures puts { ReportsPutFailures (O.failures output.old) (O.failures output.new) (O.last_failed output.new) result }
 {
     match pass_blank(input, takes) {
-        Passed::Ended => Ok(()),
-        Passed::Other => match put_bad(output) {
+        AfterBlank::Ended => Ok(()),
+        AfterBlank::Other => match put_bad(output) {
             Ok(()) => Ok(()),
             Err(_) => Err(IoFault::Write),
         },
-        Passed::Failed => Err(IoFault::Read),
-        Passed::TooMany => Err(IoFault::TooManyReads),
+        AfterBlank::Failed => Err(IoFault::Read),
+        AfterBlank::TooMany => Err(IoFault::TooManyReads),
     }
 }
 
@@ -322,7 +322,7 @@ fn serve_stream<I: Inlet, O: Outlet, D: Desk>(
     requires buffers { HasRoom ready.old.buffers }
     requires below { WantsUntil ready.old.wanted ready.old.held.items }
     ensures outcome { IsOutcome (AnswersMessage D.answers) result (I.to_come input.old) (I.to_come input.new) (I.last_take input.new) desk.old desk.new (O.already output.old) (O.already output.new) }
-    ensures most { LosesUpTo (TAKES * MOST_TAKEN) (I.to_come input.old) (I.to_come input.new) }
+    ensures most { ConsumesUpTo (TAKES * MOST_TAKEN) (I.to_come input.old) (I.to_come input.new) }
     ensures takes { I.takes input.new ≤ I.takes input.old + TAKES }
     ensures on_failed_take { ReportsTakeFailures (I.failures input.old) (I.failures input.new) result }
     ensures ends { EndsLast (I.ends input.old) (I.ends input.new) (I.last_take input.new) }

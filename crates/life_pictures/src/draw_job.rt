@@ -25,7 +25,7 @@ pub enum Picture {
 }
 
 /// Whether the numbers of a picture are valid.
-fn is_good(picture: Picture) -> bool
+fn is_allowed(picture: Picture) -> bool
     ensures { IsTrue result ↔ IsGood picture }
 {
     match picture {
@@ -86,7 +86,7 @@ pub fn run_draw<I: Inlet, O: Outlet>(
     ensures takes { TakesFile (I.to_come input.old) (I.to_come input.new) (I.failures input.old) (I.failures input.new) (I.ends input.old) (I.ends input.new) (I.last_take input.new) result }
     ensures once { PutsOnce output.old output.new (O.failures output.old) (O.failures output.new) (O.last_failed output.new) result }
 {
-    if !is_good(picture) {
+    if !is_allowed(picture) {
         return Err(Stop::OutOfLimit);
     }
     match read_input(alloc, input) {

@@ -11,7 +11,7 @@ use Rattle.life_rle.specs.declared.fault.ReadFault.TheVariants.{Rle}
 use Rattle.life_rle.specs.Fault.{Fails}
 use Rattle.life_rle.specs.Record.{Contents}
 use Rattle.life_rle.specs.File.{kept, file}
-use Rattle.life_rle.specs.Stream.{Loses, IsEnded}
+use Rattle.life_rle.specs.Stream.{Consumes, IsEnded}
 use Rattle.life_rle.specs.Machine.{ReadsKnown}
 use Rattle.life_rle.specs.MachineState.{awaited, IsSound, Followed, IsFollowed}
 use Rattle.life_rle.proofs.RecordLaws.{kept_is_record}
@@ -41,7 +41,7 @@ bytes_on bytes piece rest taken k some same e =
 
 follow_some : {A : Type 0} (bytes piece : List ℕ) (new : Option (List ℕ)) (old machine : Machine A) (taken k : ℕ)
     → taken ≤ length bytes → ((more : List ℕ) → awaited old more ≡ kept (take taken bytes ++ more)) →
-    Loses (Some (drop taken bytes)) new piece → length piece ≡ k
+    Consumes (Some (drop taken bytes)) new piece → length piece ≡ k
     → ((more : List ℕ) → awaited machine more ≡ awaited old (piece ++ more))
     → Followed (Some bytes) new machine (taken + k)
 follow_some bytes piece None old machine taken k some reads loses same on = absurd loses
@@ -54,11 +54,11 @@ follow_some bytes piece (Some rest) old machine taken k some reads loses same on
     )
 
 pub follow_more : {A : Type 0} (told now new : Option (List ℕ)) (piece : List ℕ) (old machine : Machine A) (taken k : ℕ)
-    → Followed told now old taken → Loses now new piece → length piece ≡ k →
+    → Followed told now old taken → Consumes now new piece → length piece ≡ k →
     ((more : List ℕ) → awaited machine more ≡ awaited old (piece ++ more)) → Followed told new machine (taken + k)
 follow_more None now new piece old machine taken k f loses same on = tt
 follow_more (Some bytes) now new piece old machine taken k f loses same on =
-    follow_some bytes piece new old machine taken k f.1 f.2 (subst (λ n. Loses n new piece) f.0 loses) same on
+    follow_some bytes piece new old machine taken k f.1 f.2 (subst (λ n. Consumes n new piece) f.0 loses) same on
 
 pub read_too_long : {A : Type 0} (told : Option (List ℕ)) (machine : Machine A) (taken : ℕ)
     → IsFollowed told machine taken → taken ≡ 1048577 → ReadsKnown told (Err (Rle TooLong))

@@ -3,7 +3,7 @@ use Rattle.std.specs.Prelude.{◌≡◌, ℕ, List, Option, None, Some, Result, 
 use Rattle.life_rle.specs.declared.fault.ReadFault.{ReadFault}
 use Rattle.life_rle.specs.declared.fault.ReadFault.TheVariants.{Rle, Unreadable}
 use Rattle.life_rle.specs.Fault.{Fails}
-use Rattle.life_rle.specs.Stream.{raised}
+use Rattle.life_rle.specs.Stream.{incremented}
 use Rattle.life_rle.specs.Record.{Contents}
 use Rattle.life_rle.specs.File.{file}
 
@@ -11,7 +11,7 @@ use Rattle.life_rle.specs.File.{file}
 abbrev pub ReportsFailures : {X : Type 0} → ℕ → ℕ → Result X ReadFault → Type 0
 ReportsFailures old new (Ok x) = new ≡ old
 ReportsFailures old new (Err (Rle fault)) = new ≡ old
-ReportsFailures old new (Err Unreadable) = new ≡ raised old
+ReportsFailures old new (Err Unreadable) = new ≡ incremented old
 
 -- the answer is what the bytes are read as, unless memory ran out or a take failed
 abbrev pub ReadsBytes : List ℕ → Result Contents ReadFault → Type 0

@@ -2,10 +2,10 @@
 use Rattle.std.specs.Prelude.{ℕ, List, Option, Result, Ok, Err}
 use Rattle.life_rle.specs.declared.fault.WriteFault.{WriteFault}
 use Rattle.life_rle.specs.declared.fault.WriteFault.TheVariants.{Unwritable, Memory}
-use Rattle.life_rle.specs.Stream.{Gains, GainsSome}
+use Rattle.life_rle.specs.Stream.{Appends, AppendsSome}
 
 -- the text was put, or a prefix of it before a put that failed; out of memory has a clause of its own
 abbrev pub PutsText : Option (List ℕ) → Option (List ℕ) → List ℕ → Result (Unit {0}) WriteFault → Type 0
-PutsText old new bytes (Ok done) = Gains old new bytes
-PutsText old new bytes (Err Unwritable) = GainsSome old new bytes
+PutsText old new bytes (Ok done) = Appends old new bytes
+PutsText old new bytes (Err Unwritable) = AppendsSome old new bytes
 PutsText old new bytes (Err Memory) = Unit {0}

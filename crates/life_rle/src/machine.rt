@@ -6,7 +6,7 @@ ghost use Rattle.life_rle.specs.File.{kept, file};
 ghost use Rattle.life_rle.specs.Machine.{ReadsKnown, ReportsFailures};
 ghost use Rattle.life_rle.specs.MachineState.{IsSound, Followed, FollowGives};
 ghost use Rattle.life_rle.specs.Record.{HasNoLineEnd, IsInside};
-ghost use Rattle.life_rle.specs.Stream.{LosesUpTo, EndsLast, FailedBetween};
+ghost use Rattle.life_rle.specs.Stream.{ConsumesUpTo, EndsLast, FailedBetween};
 
 use crate::fault::{ReadFault, RleFault};
 use crate::reader::Reader;
@@ -124,7 +124,7 @@ fn follow<A: Allocator + Copy, I: Inlet>(
     ensures follows { FollowGives (I.to_come inlet.old) (I.failures inlet.old) (I.failures inlet.new) machine.new result }
     ensures sound { OnOk result (IsSound machine.new) }
     ensures on_failed_take { ReportsFailures (I.failures inlet.old) (I.failures inlet.new) result }
-    ensures few { LosesUpTo MOST_TAKEN (I.to_come inlet.old) (I.to_come inlet.new) }
+    ensures few { ConsumesUpTo MOST_TAKEN (I.to_come inlet.old) (I.to_come inlet.new) }
     ensures end { EndsLast (I.ends inlet.old) (I.ends inlet.new) (I.last_take inlet.new) }
 {
     let mut buffer = [0u8; 4096];
@@ -160,7 +160,7 @@ pub fn read_from<A: Allocator + Copy, I: Inlet>(
     // A take that failed is answered Unreadable at once, and nothing else is.
     ensures on_failed_take { ReportsFailures (I.failures inlet.old) (I.failures inlet.new) result }
     // At most 1,048,577 bytes are taken, and none after a take that found the end.
-    ensures few { LosesUpTo MOST_TAKEN (I.to_come inlet.old) (I.to_come inlet.new) }
+    ensures few { ConsumesUpTo MOST_TAKEN (I.to_come inlet.old) (I.to_come inlet.new) }
     ensures end { EndsLast (I.ends inlet.old) (I.ends inlet.new) (I.last_take inlet.new) }
     ensures inside { IfOk result (λ r. IsInside 1024 r.cells) }
 {

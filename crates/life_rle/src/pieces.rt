@@ -54,7 +54,7 @@ impl PieceInlet {
 
 impl Inlet for PieceInlet {
     ghost use Rattle.std.specs.Prelude.{Some, IfOk, drop};
-    ghost use Rattle.life_rle.specs.Stream.{Takes, raised, counted, ended, moved};
+    ghost use Rattle.life_rle.specs.Stream.{Takes, incremented, count_after, ends_after, bytes_moved};
     ghost use Rattle.life_rle.specs.Pieces.{FailsAt, whole_piece};
 
     ghost to_come = { λ s. Some (drop s.at s.bytes.items) };
@@ -70,10 +70,10 @@ impl Inlet for PieceInlet {
     fn take(&mut self, space: &mut [u8]) -> Result<usize, Failed>
         ensures within { IfOk result (λ k. k ≤ length space.new) }
         ensures bytes { Takes (Some (drop self.old.at self.old.bytes.items)) (Some (drop self.new.at self.new.bytes.items)) result space.new }
-        ensures made { self.new.calls ≡ raised self.old.calls }
-        ensures gave { self.new.last_take ≡ moved result }
-        ensures count { self.new.failures ≡ counted self.old.failures result }
-        ensures end { self.new.ends ≡ ended self.old.ends result }
+        ensures made { self.new.calls ≡ incremented self.old.calls }
+        ensures gave { self.new.last_take ≡ bytes_moved result }
+        ensures count { self.new.failures ≡ count_after self.old.failures result }
+        ensures end { self.new.ends ≡ ends_after self.old.ends result }
         // A piece comes whole, unless less is left or wanted.
         ensures piece { IfOk result (λ k. k ≡ whole_piece self.old.piece (length (drop self.old.at self.old.bytes.items)) (length space.old)) }
         // The call of the number fails, and no other.
@@ -141,7 +141,7 @@ impl PieceOutlet {
 
 impl Outlet for PieceOutlet {
     ghost use Rattle.std.specs.Prelude.{Some, IfOk, IsErr, min};
-    ghost use Rattle.life_rle.specs.Stream.{Puts, raised, counted, is_err};
+    ghost use Rattle.life_rle.specs.Stream.{Puts, incremented, count_after, is_err};
 
     ghost already = { λ s. Some s.bytes.items };
 
@@ -153,9 +153,9 @@ impl Outlet for PieceOutlet {
         ensures within { IfOk result (λ k. k ≤ length bytes.now) }
         ensures some { IfOk result (λ k. 0 < length bytes.now → 0 < k) }
         ensures bytes { Puts (Some self.old.bytes.items) (Some self.new.bytes.items) result bytes.now }
-        ensures count { self.new.failures ≡ counted self.old.failures result }
+        ensures count { self.new.failures ≡ count_after self.old.failures result }
         ensures last { self.new.last_failed ≡ is_err result }
-        ensures made { self.new.calls ≡ raised self.old.calls }
+        ensures made { self.new.calls ≡ incremented self.old.calls }
         // A piece is taken whole, unless less is offered.
         ensures piece { IfOk result (λ k. k ≡ min (length bytes.now) self.old.piece) }
         // The call of the number fails. Another fails only if memory runs out, which no clause can say.

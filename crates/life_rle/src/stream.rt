@@ -1,6 +1,6 @@
 //! Where bytes come from and where they go.
 ghost use Rattle.std.specs.Prelude.{◌≡◌, ◌⊎◌, Bool, ℕ, ◌<◌, ◌≤◌, List, Option, Ok, IfOk, OnOk, OnErr, false, length};
-ghost use Rattle.life_rle.specs.Stream.{raised, counted, ended, moved, is_err, Takes, Puts, Gains, GainsSome, FailsLast};
+ghost use Rattle.life_rle.specs.Stream.{incremented, count_after, ends_after, bytes_moved, is_err, Takes, Puts, Appends, AppendsSome, FailsLast};
 
 use std::io::{self, Read, Write};
 
@@ -25,10 +25,10 @@ pub trait Inlet {
     fn take(&mut self, space: &mut [u8]) -> Result<usize, Failed>
         ensures within { IfOk result (λ k. k ≤ length space.new) }
         ensures bytes { Takes (to_come self.old) (to_come self.new) result space.new }
-        ensures made { takes self.new ≡ raised (takes self.old) }
-        ensures gave { last_take self.new ≡ moved result }
-        ensures count { failures self.new ≡ counted (failures self.old) result }
-        ensures end { ends self.new ≡ ended (ends self.old) result };
+        ensures made { takes self.new ≡ incremented (takes self.old) }
+        ensures gave { last_take self.new ≡ bytes_moved result }
+        ensures count { failures self.new ≡ count_after (failures self.old) result }
+        ensures end { ends self.new ≡ ends_after (ends self.old) result };
 }
 
 /// Where bytes go.
@@ -45,7 +45,7 @@ pub trait Outlet {
         ensures within { IfOk result (λ k. k ≤ length bytes.now) }
         ensures some { IfOk result (λ k. 0 < length bytes.now → 0 < k) }
         ensures bytes { Puts (already self.old) (already self.new) result bytes.now }
-        ensures count { failures self.new ≡ counted (failures self.old) result }
+        ensures count { failures self.new ≡ count_after (failures self.old) result }
         ensures last { last_failed self.new ≡ is_err result };
 }
 
@@ -176,8 +176,8 @@ impl<W: Write> Outlet for FromWrite<W> {
 
 /// Puts all of the bytes, in as many puts as it takes. A put that fails is the last.
 pub fn put_all<O: Outlet>(output: &mut O, bytes: &[u8]) -> Result<(), Failed>
-    ensures all { OnOk result (Gains (O.already output.old) (O.already output.new) bytes.now) }
-    ensures some { OnErr result (GainsSome (O.already output.old) (O.already output.new) bytes.now) }
+    ensures all { OnOk result (Appends (O.already output.old) (O.already output.new) bytes.now) }
+    ensures some { OnErr result (AppendsSome (O.already output.old) (O.already output.new) bytes.now) }
     ensures count { OnOk result (O.failures output.new ≡ O.failures output.old) }
     ensures failed { OnErr result (FailsLast (O.failures output.old) (O.failures output.new) (O.last_failed output.new)) }
 {

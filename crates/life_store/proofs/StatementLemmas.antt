@@ -13,7 +13,7 @@ use Rattle.sqlite.proofs.Callers.{IsPlain}
 use Rattle.life_store.specs.ExecutingState.{IsSeenAgain}
 use Rattle.life_store.specs.Crash.{NoMore}
 use Rattle.life_store.specs.Layout.{archive_schema}
-use Rattle.life_store.specs.Statements.{Withstands, Looks, StaysInside}
+use Rattle.life_store.specs.Statements.{Withstands, Queries, StaysInside}
 use Rattle.life_store.specs.Tables.{tables_of}
 use Rattle.life_store.proofs.CrashLemmas.{crash_none, crash_by, crash_begun, crash_last, asks_nothing}
 use Rattle.life_store.proofs.KeepLemmas.{Answered, keeps_then, lost_asked, keeps_asked, open_when_shown}
@@ -66,7 +66,7 @@ pub looks_by : {S : Type 0} (g : Ghosts S) (old new : Held S) (sql : List ℕ) (
     → doubt (state g old).is_clean ≤ doubt (state g new).is_clean
     → (HasCleanDisk (state g new) → IfOk r (λ rows. Shown sql params (state g old) (state g new) rows.items))
     → (HasCleanDisk (state g new) → OnErr r (IsSeenAgain (state g old) (state g new)))
-    → Withstands g (CommitsShowing sql params (state g old)) old new → Looks g old new r
+    → Withstands g (CommitsShowing sql params (state g old)) old new → Queries g old new r
 looks_by g old new sql params plain asks r clean shown seen it = record {
   lost = lost_asked (state g old) (state g new) clean sql params plain r shown seen;
   keeps = keeps_asked (state g old) (state g new) clean sql params plain r shown seen;

@@ -19,16 +19,16 @@ pub record Withstands {S : Type 0} (g : Ghosts S) (Adds : Trees → Type 0) (old
 
 -- A query outside a transaction: the tables represent afterwards what they did before. If it answers, the database is
 -- open.
-pub record Looks {S A E : Type 0} (g : Ghosts S) (old new : Held S) (result : Result A E) : Type 0 where
+pub record Queries {S A E : Type 0} (g : Ghosts S) (old new : Held S) (result : Result A E) : Type 0 where
   pub lost : WasHealthy (tables_of (state g old)) (tables_of (state g new))
   pub keeps : HoldsTheSame (tables_of (state g old)) (tables_of (state g new))
   pub up : HasCleanDisk (state g new) → OnOk result (IsTrue (state g new).is_open)
   pub withstands : Withstands g NoMore old new
 
 -- The same, and its answer is what `Tells` says of whatever the tables represented.
-pub record LooksFor {S A E : Type 0} (g : Ghosts S) (old new : Held S) (result : Result A E)
+pub record QueriesFor {S A E : Type 0} (g : Ghosts S) (old new : Held S) (result : Result A E)
     (Tells : Kept → A → Type 0) : Type 0 where
-  pub looks : Looks g old new result
+  pub queries : Queries g old new result
   pub tells : ForAllHeld (tables_of (state g old)) (tables_of (state g new)) (λ k. IfOk result (Tells k))
 
 -- the trees represent what `adds` makes of whatever the tables represent, if this holds of that

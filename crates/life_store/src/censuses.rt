@@ -13,7 +13,7 @@ ghost use Rattle.life_store.specs.Kept.{Kept, Tallied, numbered, total_of};
 ghost use Rattle.life_store.specs.Crash.{NoMore};
 ghost use Rattle.life_store.specs.CensusesState.{tallied_by, Parts, HoldsParts, AddsInside, with_census, with_flag};
 ghost use Rattle.life_store.specs.Stored.{tagged};
-ghost use Rattle.life_store.specs.Statements.{Withstands, LooksFor, AddsNext, StaysInside};
+ghost use Rattle.life_store.specs.Statements.{Withstands, QueriesFor, AddsNext, StaysInside};
 ghost use Rattle.life_store.specs.Tables.{tables_of, HasOrder, Holds, WasHealthy, HoldsTheSame, ForAllHeld};
 
 use crate::executing::{query, text, whole};
@@ -25,7 +25,7 @@ use sqlite::{Alter, Connection, Error, Row, Transaction};
 
 /// The greatest number.
 pub(crate) fn newest<S: Alter>(conn: &mut Connection<S>) -> Result<Vec<Row>, Error>
-    ensures { LooksFor S.Store conn.old conn.new result (λ k rows. rows.items ≡ newest_rows (length k.censuses)) }
+    ensures { QueriesFor S.Store conn.old conn.new result (λ k rows. rows.items ≡ newest_rows (length k.censuses)) }
 {
     query(
         conn,
@@ -36,7 +36,7 @@ pub(crate) fn newest<S: Alter>(conn: &mut Connection<S>) -> Result<Vec<Row>, Err
 
 /// The census of the number.
 pub(crate) fn show<S: Alter>(conn: &mut Connection<S>, id: i64) -> Result<Vec<Row>, Error>
-    ensures { LooksFor S.Store conn.old conn.new result (λ k rows. (n : ℕ) → id ≡ pos n → ShowsCensus (option_map (λ t. (n, t)) (numbered k.censuses n)) rows.items) }
+    ensures { QueriesFor S.Store conn.old conn.new result (λ k rows. (n : ℕ) → id ≡ pos n → ShowsCensus (option_map (λ t. (n, t)) (numbered k.censuses n)) rows.items) }
 {
     query(
         conn,
@@ -51,7 +51,7 @@ pub(crate) fn find<'a, S: Alter>(
     member: &'a [u8],
     token: &'a [u8],
 ) -> Result<Vec<Row>, Error>
-    ensures { LooksFor S.Store conn.old conn.new result (λ k rows. ShowsCensus (tallied_by member.now token.now k.censuses) rows.items) }
+    ensures { QueriesFor S.Store conn.old conn.new result (λ k rows. ShowsCensus (tallied_by member.now token.now k.censuses) rows.items) }
 {
     query(
         conn,
@@ -62,7 +62,7 @@ pub(crate) fn find<'a, S: Alter>(
 
 /// The rows of the tally of the census of the number.
 pub(crate) fn rows_of<S: Alter>(conn: &mut Connection<S>, id: i64) -> Result<Vec<Row>, Error>
-    ensures { LooksFor S.Store conn.old conn.new result (λ k rows. (n : ℕ) → id ≡ pos n → IfSome (numbered k.censuses n) (λ t. rows.items ≡ map row_shown t.tally.rows)) }
+    ensures { QueriesFor S.Store conn.old conn.new result (λ k rows. (n : ℕ) → id ≡ pos n → IfSome (numbered k.censuses n) (λ t. rows.items ≡ map row_shown t.tally.rows)) }
 {
     query(
         conn,
@@ -192,7 +192,7 @@ pub(crate) fn total<'a, S: Alter>(
     rule: &'a [u8],
     code: &'a [u8],
 ) -> Result<Vec<Row>, Error>
-    ensures { LooksFor S.Store conn.old conn.new result (λ k rows. (r : RuleSets) → IsRule r → rule.now ≡ rule_text r → ShowsTotal (total_of k r code.now) rows.items) }
+    ensures { QueriesFor S.Store conn.old conn.new result (λ k rows. (r : RuleSets) → IsRule r → rule.now ≡ rule_text r → ShowsTotal (total_of k r code.now) rows.items) }
 {
     query(
         conn,

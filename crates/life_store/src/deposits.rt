@@ -7,7 +7,7 @@ ghost use Rattle.life_rle.specs.Record.{IsInside};
 ghost use Rattle.life_store.specs.ReadingState.{newest_rows, ShowsDeposit, line_shown};
 ghost use Rattle.life_store.specs.Kept.{numbered, deposit_by, listed_after};
 ghost use Rattle.life_store.specs.DepositsState.{AreValuesOf, AddsUnder};
-ghost use Rattle.life_store.specs.Statements.{LooksFor};
+ghost use Rattle.life_store.specs.Statements.{QueriesFor};
 ghost use Rattle.life_store.specs.Tables.{tables_of, ForAllHeld};
 
 use crate::executing::{blob, query, text, whole, write};
@@ -18,7 +18,7 @@ use std::alloc::Global;
 
 /// The greatest number.
 pub(crate) fn newest<S: Alter>(conn: &mut Connection<S>) -> Result<Vec<Row>, Error>
-    ensures { LooksFor S.Store conn.old conn.new result (λ k rows. rows.items ≡ newest_rows (length k.deposits)) }
+    ensures { QueriesFor S.Store conn.old conn.new result (λ k rows. rows.items ≡ newest_rows (length k.deposits)) }
 {
     query(
         conn,
@@ -29,7 +29,7 @@ pub(crate) fn newest<S: Alter>(conn: &mut Connection<S>) -> Result<Vec<Row>, Err
 
 /// The deposit of the number.
 pub(crate) fn show<S: Alter>(conn: &mut Connection<S>, id: i64) -> Result<Vec<Row>, Error>
-    ensures { LooksFor S.Store conn.old conn.new result (λ k rows. (n : ℕ) → id ≡ pos n → ShowsDeposit (option_map (λ d. (n, d)) (numbered k.deposits n)) rows.items) }
+    ensures { QueriesFor S.Store conn.old conn.new result (λ k rows. (n : ℕ) → id ≡ pos n → ShowsDeposit (option_map (λ d. (n, d)) (numbered k.deposits n)) rows.items) }
 {
     query(
         conn,
@@ -44,7 +44,7 @@ pub(crate) fn find<'a, S: Alter>(
     member: &'a [u8],
     token: &'a [u8],
 ) -> Result<Vec<Row>, Error>
-    ensures { LooksFor S.Store conn.old conn.new result (λ k rows. ShowsDeposit (deposit_by member.now token.now k.deposits) rows.items) }
+    ensures { QueriesFor S.Store conn.old conn.new result (λ k rows. ShowsDeposit (deposit_by member.now token.now k.deposits) rows.items) }
 {
     query(
         conn,
@@ -55,7 +55,7 @@ pub(crate) fn find<'a, S: Alter>(
 
 /// The first hundred deposits with a greater number.
 pub(crate) fn list_after<S: Alter>(conn: &mut Connection<S>, id: i64) -> Result<Vec<Row>, Error>
-    ensures { LooksFor S.Store conn.old conn.new result (λ k rows. (n : ℕ) → id ≡ pos n → rows.items ≡ map line_shown (listed_after n k.deposits)) }
+    ensures { QueriesFor S.Store conn.old conn.new result (λ k rows. (n : ℕ) → id ≡ pos n → rows.items ≡ map line_shown (listed_after n k.deposits)) }
 {
     query(
         conn,

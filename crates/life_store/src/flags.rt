@@ -8,7 +8,7 @@ ghost use Rattle.life_store.specs.Crash.{NoMore};
 ghost use Rattle.life_store.specs.CensusesState.{Parts, HoldsParts, AddsInside, with_flag};
 ghost use Rattle.life_store.specs.Kept.{Tallied, numbered};
 ghost use Rattle.life_store.specs.ReadingState.{ShowsFlag};
-ghost use Rattle.life_store.specs.Statements.{Withstands, LooksFor, StaysInside};
+ghost use Rattle.life_store.specs.Statements.{Withstands, QueriesFor, StaysInside};
 ghost use Rattle.life_store.specs.Tables.{tables_of, ForAllHeld};
 
 use crate::executing::{flag, query, whole};
@@ -17,7 +17,7 @@ use sqlite::{Alter, Connection, Error, Row, Transaction};
 
 /// The flag of the census of the number.
 pub(crate) fn show<S: Alter>(conn: &mut Connection<S>, id: i64) -> Result<Vec<Row>, Error>
-    ensures { LooksFor S.Store conn.old conn.new result (λ k rows. (n : ℕ) → id ≡ pos n → ShowsFlag (option_map (λ t. t.steady) (numbered k.censuses n)) rows.items) }
+    ensures { QueriesFor S.Store conn.old conn.new result (λ k rows. (n : ℕ) → id ≡ pos n → ShowsFlag (option_map (λ t. t.steady) (numbered k.censuses n)) rows.items) }
 {
     query(
         conn,

@@ -165,7 +165,7 @@ fn version_of<S: Alter>(conn: &mut Connection<S>) -> Result<Version, OpenFault>
 }
 
 /// Checks that the tables, some of which exist, are those of an archive, and migrates those of schema version 1.
-fn take_up<S: Alter>(alloc: Global, conn: &mut Connection<S>) -> Result<(), OpenFault>
+fn check_or_migrate<S: Alter>(alloc: Global, conn: &mut Connection<S>) -> Result<(), OpenFault>
     ensures keeps { OnOk result (HoldsTheSame (tables_of (state S.Store conn.old)) (tables_of (state S.Store conn.new))) }
     ensures carries { OnOk result (Carries (tables_of (state S.Store conn.old)) (tables_of (state S.Store conn.new))) }
     ensures known { OnOk result ((schema : SchemaValue) (own versions : List Value) → IsLayout schema own → IsTrue (tables_of (state S.Store conn.new)).is_healthy → HaveVersions schema (tables_of (state S.Store conn.old)) versions → versions ≡ own) }
@@ -211,7 +211,7 @@ fn prepare<S: Alter>(alloc: Global, conn: &mut Connection<S>) -> Result<(), Open
             Err(_) => Err(OpenFault::Unavailable),
         };
     }
-    take_up(alloc, conn)
+    check_or_migrate(alloc, conn)
 }
 
 impl Archive<MemStore> {
@@ -270,7 +270,7 @@ fn close<D: Disk + Drop>(conn: Connection<FileStore<D>>) -> Result<Files<D>, Fil
 
 /// The connection as an archive, once its tables were seen to; else the fault, with the connection where the
 /// database is not an archive's, and with its store alone in other cases.
-fn seen_to<S: Alter + Drop>(
+fn prepared_archive<S: Alter + Drop>(
     alloc: Global,
     conn: Connection<S>,
     capacity: u64,
@@ -319,7 +319,7 @@ fn archive_over<D: Disk + Drop>(
     ensures clean { IfOk result (λ a. IsTrue a.tables.is_healthy → HasCleanDisk (file_state conn)) }
     ensures made { IfErr result (λ e. AreClean D.Disk e.1.log e.1.db → HasCleanDisk (file_state conn) × (IsTrue (file_state conn).is_open → AreLeftMade (tables_of (file_state conn)) conn.store e.1)) }
 {
-    match seen_to(alloc, conn, capacity) {
+    match prepared_archive(alloc, conn, capacity) {
         Ok(archive) => Ok(archive),
         Err((fault, Err(store))) => Err((fault, store.close())),
         Err((fault, Ok(left))) => match close(left) {

@@ -2,7 +2,7 @@ use Rattle.std.proofs.Common.{◌<◌, ◌++◌, ◌∙◌, inl, arith, take, le
 use Rattle.std.proofs.lemmas.List.{length-append, length-take-le, length-take}
 use Rattle.life_rle.specs.declared.stream.Failed.{Failed}
 use Rattle.life_rle.proofs.StreamLemmas.{ended_more}
-use Rattle.life_archive.proofs.DepositLemmas.{loses_more, taken_all, taken_full}
+use Rattle.life_archive.proofs.DepositLemmas.{consumes_more, taken_all, taken_full}
 use Rattle.life_archive.proofs.deposit.take_file.Goals as goal
 
 pub returns-in-Ok-eq0-clause-taken : goal.returns-in-Ok-eq0-clause-taken
@@ -25,7 +25,7 @@ returns-in-Err-extend_from_slice-clause-takes g c = record {
       length-take-le c.in-Ok.k c.take.new.space c.in-Ok.ensures.within,
       length-take c.min-room.result c.loop-buffer.buffer,
     ),
-    loses_more _ _ _ c.loop-buffer.file.items
+    consumes_more _ _ _ c.loop-buffer.file.items
         (take c.in-Ok.k c.take.new.space) c.loop-buffer.invariant.taken c.in-Ok.ensures.bytes.0,
   );
   ended = inl (c.in-Ok.ensures.end ∙ ended_more Failed _ c.in-Ok.k c.in-Ok.k-test.1 ∙ c.loop-buffer.invariant.unended);

@@ -1,5 +1,5 @@
 use Rattle.std.proofs.Common.{◌≡◌, ◌≤◌, ◌-◌, length}
-use Rattle.life_rle.specs.Stream.{Loses}
+use Rattle.life_rle.specs.Stream.{Consumes}
 use Rattle.life_archive.proofs.deposit.take_file.Given as goal
 
 -- what was taken is held, no take failed, and none found the end
@@ -11,7 +11,7 @@ pub record IsTaking (Taken Unfailed Unended Few : Type 0) : Type 0 where
 
 abbrev pub invariant-loop-buffer : goal.invariant-loop-buffer
 invariant-loop-buffer g l =
-    IsTaking (Loses (g.I.Inlet.to_come l.initial.input) (g.I.Inlet.to_come l.input) l.file.items)
+    IsTaking (Consumes (g.I.Inlet.to_come l.initial.input) (g.I.Inlet.to_come l.input) l.file.items)
     (g.I.Inlet.failures l.input ≡ g.I.Inlet.failures l.initial.input)
     (g.I.Inlet.ends l.input ≡ g.I.Inlet.ends l.initial.input) (length l.file.items ≤ 1048577)
 

@@ -1,5 +1,5 @@
 use Rattle.life_desk.proofs.Runs.{all_crash_safe}
-use Rattle.life_desk.proofs.Telling.{all_told_by, all_lasting_by}
+use Rattle.life_desk.proofs.ReplyMeanings.{all_told_by, all_lasting_by}
 use Rattle.life_desk.proofs.desk.answer_all.Goals as goal
 
 pub returns-clause-headline : goal.returns-clause-headline

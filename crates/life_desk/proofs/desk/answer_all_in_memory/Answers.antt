@@ -1,4 +1,4 @@
-use Rattle.life_desk.proofs.Telling.{all_healthy_by}
+use Rattle.life_desk.proofs.ReplyMeanings.{all_healthy_by}
 use Rattle.life_desk.proofs.desk.answer_all_in_memory.Goals as goal
 
 pub returns-clause-headline : goal.returns-clause-headline

@@ -1,5 +1,5 @@
 use Rattle.std.proofs.Common.{rules}
-use Rattle.life_desk.proofs.Looks.{csv_told}
+use Rattle.life_desk.proofs.StoredReplies.{csv_told}
 use Rattle.life_desk.proofs.desk.census_csv.Goals as goal
 
 pub returns-in-Some : goal.returns-in-Some

@@ -2,7 +2,7 @@ use Rattle.std.proofs.Common.{◌≡◌, rules, true, Some}
 use Rattle.life_store.specs.Kept.{numbered}
 use Rattle.life_store.proofs.LastingLemmas.{goes_last, goes_more}
 use Rattle.life_desk.proofs.Crashes.{room_for}
-use Rattle.life_desk.proofs.OnceCensus.{censuses}
+use Rattle.life_desk.proofs.CensusesOnce.{censuses}
 use Rattle.life_desk.proofs.desk.count_new.Goals as goal
 
 pub returns-in_err-has_census_room-clause-transition : goal.returns-in_err-has_census_room-clause-transition

@@ -2,8 +2,8 @@ use Rattle.std.proofs.Common.{◌∙◌, ℕ, List, option_map, sym, ap}
 use Rattle.life_store.specs.Kept.{deposit_by}
 use Rattle.life_store.proofs.LastingLemmas.{goes_last, goes_more}
 use Rattle.life_desk.proofs.Crashes.{token_new}
-use Rattle.life_desk.proofs.Looks.{told_again, told_new, no_file}
-use Rattle.life_desk.proofs.Once.{deposits}
+use Rattle.life_desk.proofs.StoredReplies.{told_again, told_new, no_file}
+use Rattle.life_desk.proofs.DepositsOnce.{deposits}
 use Rattle.life_desk.proofs.desk.keep_deposit.Goals as goal
 
 pub returns-in-Some-clause-effect : goal.returns-in-Some-clause-effect

@@ -1,7 +1,7 @@
 use Rattle.std.proofs.Common.{◌≡◌, rules, true}
 use Rattle.life_store.proofs.LastingLemmas.{goes_last, goes_more}
 use Rattle.life_desk.proofs.Crashes.{room_for}
-use Rattle.life_desk.proofs.Once.{deposits}
+use Rattle.life_desk.proofs.DepositsOnce.{deposits}
 use Rattle.life_desk.proofs.desk.keep_new.Goals as goal
 
 pub returns-in_err-has_room-clause-transition : goal.returns-in_err-has_room-clause-transition

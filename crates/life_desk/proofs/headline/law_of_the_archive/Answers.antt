@@ -1,4 +1,4 @@
-use Rattle.life_desk.proofs.Telling.{headline_holds}
+use Rattle.life_desk.proofs.ReplyMeanings.{headline_holds}
 use Rattle.life_desk.proofs.headline.law_of_the_archive.Goals as goal
 
 pub returns : goal.returns

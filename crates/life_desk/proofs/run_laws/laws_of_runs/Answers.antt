@@ -1,9 +1,9 @@
 use Rattle.life_rle.proofs.ReadAgain.{file_read_again}
-use Rattle.life_desk.proofs.Once.{deposits_act_once_lem, deposits_stay_lem, equal_texts}
-use Rattle.life_desk.proofs.OnceCensus.{censuses_act_once_lem, censuses_stay_lem}
+use Rattle.life_desk.proofs.DepositsOnce.{deposits_act_once_lem, deposits_stay_lem, equal_texts}
+use Rattle.life_desk.proofs.CensusesOnce.{censuses_act_once_lem, censuses_stay_lem}
 use Rattle.life_desk.proofs.Steps.{nothing_is_lost}
 use Rattle.life_desk.proofs.OneReply.{one_reply, same_replies}
-use Rattle.life_desk.proofs.Telling.{flag_tells_steady}
+use Rattle.life_desk.proofs.ReplyMeanings.{flag_tells_steady}
 use Rattle.life_desk.proofs.run_laws.laws_of_runs.Goals as goal
 
 pub returns-clause-same : goal.returns-clause-same

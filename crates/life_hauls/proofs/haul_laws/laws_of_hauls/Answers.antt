@@ -1,4 +1,4 @@
-use Rattle.life_hauls.proofs.SightingLaws.{seen_is_least, nothing_is_seen}
+use Rattle.life_hauls.proofs.OccurrenceLaws.{seen_is_least, nothing_is_seen}
 use Rattle.life_hauls.proofs.TallyLaws.{rows_are_of_tallies, rows_ascend, unresolved_are_of_tallies}
 use Rattle.life_hauls.proofs.TallyLaws.{clusters_count_once, sums_are_counts}
 use Rattle.life_hauls.proofs.TogetherLaws.{hauls_add_up, together_by_codes, together_in_any_order}

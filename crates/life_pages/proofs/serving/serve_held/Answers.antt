@@ -1,10 +1,10 @@
 use Rattle.std.proofs.Common.{arith, refl, ◌∙◌}
-use Rattle.life_pages.proofs.ServingRunning.{went_then, went_ended, went_cut, went_none}
+use Rattle.life_pages.proofs.ServingRunning.{served_to_then, served_to_ended, served_to_cut, served_to_none}
 use Rattle.life_pages.proofs.serving.serve_held.Goals as goal
 
 pub held-init : goal.held-init
 held-init g c = record {
-  went = went_none _ _ _ _;
+  went = served_to_none _ _ _ _;
   room = omega arith;
   buffers = c.requires.buffers;
   count = refl;
@@ -16,7 +16,7 @@ held-preserved g c =
     let s = rw c.in-Ok-Goes.field-0-is at c.in-Ok-Goes.ensures.step in
     let r = c.serve_one.ensures.room in
     record {
-      went = went_then _ _ _ _ _ _ _ _ _ _ c.held.invariant.went s.0;
+      went = served_to_then _ _ _ _ _ _ _ _ _ _ c.held.invariant.went s.0;
       room = omega arith;
       buffers = c.serve_one.ensures.buffers;
       count = c.in-Ok-Goes.ensures.count ∙ c.held.invariant.count;
@@ -29,12 +29,12 @@ held-smaller g c = let s = rw c.in-Ok-Goes.field-0-is at c.in-Ok-Goes.ensures.st
 pub returns-in-Ok-Wants-clause-served : goal.returns-in-Ok-Wants-clause-served
 returns-in-Ok-Wants-clause-served g c =
     let s = rw c.in-Ok-Wants.field-0-is at c.in-Ok-Wants.ensures.step in
-    (went_then _ _ _ _ _ _ _ _ _ _ c.held.invariant.went s.0, s.1)
+    (served_to_then _ _ _ _ _ _ _ _ _ _ c.held.invariant.went s.0, s.1)
 
 pub returns-in-Ok-Ends-clause-served : goal.returns-in-Ok-Ends-clause-served
 returns-in-Ok-Ends-clause-served g c =
     let s = rw c.in-Ok-Ends.field-0-is at c.in-Ok-Ends.ensures.step in
-    went_ended _ _ _ _ _ _ _ _ _ c.held.invariant.went s
+    served_to_ended _ _ _ _ _ _ _ _ _ c.held.invariant.went s
 
 pub returns-in-Err-clause-served : goal.returns-in-Err-clause-served
-returns-in-Err-clause-served g c = went_cut _ _ _ _ _ _ _ _ _ c.held.invariant.went c.in-Err.ensures.step
+returns-in-Err-clause-served g c = served_to_cut _ _ _ _ _ _ _ _ _ c.held.invariant.went c.in-Err.ensures.step

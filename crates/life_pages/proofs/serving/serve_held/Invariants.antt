@@ -2,7 +2,7 @@ use Rattle.std.proofs.Common.{length, vec_capacity, ◌≤◌, ◌≡◌}
 use Rattle.life_pages.specs.Message.{AnswersMessage}
 use Rattle.life_pages.specs.AnswerState.{HasRoom}
 use Rattle.life_pages.specs.MessageState.{WantsUntil}
-use Rattle.life_pages.specs.ServingState.{Went}
+use Rattle.life_pages.specs.ServingState.{IsServedTo}
 use Rattle.life_pages.proofs.serving.serve_held.Given as goal
 
 pub record Serving (w r d f b : Type 0) : Type 0 where
@@ -14,7 +14,7 @@ pub record Serving (w r d f b : Type 0) : Type 0 where
 
 abbrev pub invariant-held : goal.invariant-held
 invariant-held g l = Serving
-    (Went (AnswersMessage g.D.Desk.answers) l.fn.held.items l.held.items l.fn.desk l.desk
+    (IsServedTo (AnswersMessage g.D.Desk.answers) l.fn.held.items l.held.items l.fn.desk l.desk
     (g.O.Outlet.already l.fn.output) (g.O.Outlet.already l.output))
     (vec_capacity l.fn.held ≤ vec_capacity l.held)
     (HasRoom l.buffers)

@@ -1,6 +1,6 @@
 use Rattle.std.proofs.Common.{◌≡◌, ℕ, ◌+◌, ◌-◌, ◌<◌, ◌≤◌, List, length, drop, arith, length-drop}
 use Rattle.life_pages.proofs.MessageStanding.{wants_now}
-use Rattle.life_pages.proofs.ServingRunning.{went_none, went_one, ended_one, ended_bad, cut_one, cut_bad}
+use Rattle.life_pages.proofs.ServingRunning.{served_to_none, served_to_one, ended_one, ended_bad, cut_one, cut_bad}
 use Rattle.life_pages.proofs.serving.serve_one.Goals as goal
 
 between : (len body : ℕ) → (len + body) - len ≡ body
@@ -14,7 +14,7 @@ some_first len body some = omega arith
 
 pub returns-then-len-wanted-clause-step : goal.returns-then-len-wanted-clause-step
 returns-then-len-wanted-clause-step g c = (
-  went_none _ _ _ _,
+  served_to_none _ _ _ _,
   wants_now c.args.wanted.now c.args.held.now.items c.requires.below
       (omega (arith, c.if-len-wanted.true, c.len.ensures)),
 )
@@ -22,7 +22,7 @@ returns-then-len-wanted-clause-step g c = (
 pub returns-in-More-clause-step : goal.returns-in-More-clause-step
 returns-in-More-clause-step g c =
     let n = rw c.deref.ensures.value at c.in-More.ensures in
-    (went_none _ _ _ _, n.0)
+    (served_to_none _ _ _ _, n.0)
 
 pub returns-in-More-clause-below : goal.returns-in-More-clause-below
 returns-in-More-clause-below g c =
@@ -68,5 +68,5 @@ returns-clause-step g c =
     ) at c.answer_message.ensures.answered in
     let p = rw c.deref-2.ensures.value at c.in_default.ensures.all in
     let less = shorter c.args.held.now.items (c.in-Whole.head.len + c.in-Whole.head.body) (some_first _ _ n.1) n.0 in
-    let went = went_one _ _ _ _ _ _ _ _ _ _ n.2 c.if-closes.false a p in
-    rw c.forget.ensures.items (went, less)
+    let went = served_to_one _ _ _ _ _ _ _ _ _ _ n.2 c.if-closes.false a p in
+    rw c.drop_front.ensures.items (went, less)

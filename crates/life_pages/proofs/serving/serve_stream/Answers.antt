@@ -3,7 +3,7 @@ use Rattle.life_rle.specs.declared.stream.Failed.{Failed}
 use Rattle.life_rle.proofs.StreamLemmas.{ended_more}
 use Rattle.life_pages.specs.MessageState.{held_limit}
 use Rattle.life_pages.proofs.MessageStanding.{wants_more}
-use Rattle.life_pages.proofs.ServingReading.{loses_none, reading_start, reached_start, reading_went, reading_fed}
+use Rattle.life_pages.proofs.ServingReading.{consumes_none, reading_start, reached_start, reading_went, reading_fed}
 use Rattle.life_pages.proofs.ServingReading.{reached_fed, reached_cut, fed_end, paused, reading_failed}
 use Rattle.life_pages.proofs.ServingPassing.{one_take, many_fed, most_fed, most_blank}
 use Rattle.life_pages.proofs.ServingOutcome.{outcome_ended, outcome_end, outcome_blank, one_more, rest_fits, below_same}
@@ -13,8 +13,8 @@ use Rattle.life_pages.proofs.serving.serve_stream.Goals as goal
 pub takes-init : goal.takes-init
 takes-init g c = record {
   reading = reading_start _ _ _ _ _ c.requires.empty;
-  many = ([], omega arith, loses_none _);
-  most = ([], omega arith, loses_none _);
+  many = ([], omega arith, consumes_none _);
+  most = ([], omega arith, consumes_none _);
   few = omega arith;
   routes = c.requires.routes;
   room = c.requires.held;

@@ -3,8 +3,8 @@ use Rattle.life_pages.specs.RouteState.{route_rows}
 use Rattle.life_pages.specs.Message.{AnswersMessage}
 use Rattle.life_pages.specs.MessageState.{held_limit, WantsUntil}
 use Rattle.life_pages.specs.AnswerState.{HasRoom}
-use Rattle.life_pages.specs.Serving.{most_takes, most_taken, LosesAtLeast}
-use Rattle.life_rle.specs.Stream.{LosesUpTo}
+use Rattle.life_pages.specs.Serving.{most_takes, most_taken, ConsumesAtLeast}
+use Rattle.life_rle.specs.Stream.{ConsumesUpTo}
 use Rattle.life_pages.proofs.ServingReading.{Reading, Reached}
 use Rattle.life_pages.proofs.serving.serve_stream.Given as goal
 
@@ -27,8 +27,8 @@ abbrev pub invariant-takes : goal.invariant-takes
 invariant-takes g l = Going
     (Reading (AnswersMessage g.D.Desk.answers) (g.I.Inlet.to_come l.fn.input) (g.I.Inlet.to_come l.input)
     l.ready.held.items l.fn.desk l.desk (g.O.Outlet.already l.fn.output) (g.O.Outlet.already l.output))
-    (LosesAtLeast l.taken (g.I.Inlet.to_come l.fn.input) (g.I.Inlet.to_come l.input))
-    (LosesUpTo (l.taken * most_taken) (g.I.Inlet.to_come l.fn.input) (g.I.Inlet.to_come l.input))
+    (ConsumesAtLeast l.taken (g.I.Inlet.to_come l.fn.input) (g.I.Inlet.to_come l.input))
+    (ConsumesUpTo (l.taken * most_taken) (g.I.Inlet.to_come l.fn.input) (g.I.Inlet.to_come l.input))
     (l.taken ≤ most_takes)
     (l.ready.routes ≡ route_rows)
     (held_limit ≤ vec_capacity l.ready.held)

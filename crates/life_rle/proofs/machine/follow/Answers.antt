@@ -1,6 +1,6 @@
 use Rattle.std.proofs.Common.{◌<◌, ◌+◌, ◌∙◌, arith, take, length, inl}
 use Rattle.std.proofs.lemmas.List.{length-take-le, length-take}
-use Rattle.life_rle.proofs.StreamLemmas.{loses_on, ended_more, ends_now}
+use Rattle.life_rle.proofs.StreamLemmas.{consumes_on, ended_more, ends_now}
 use Rattle.life_rle.proofs.MachineLaws.{follow_end, follow_more, sound_more}
 use Rattle.life_rle.specs.declared.stream.Failed.{Failed}
 use Rattle.life_rle.proofs.machine.follow.Goals as goal
@@ -20,7 +20,7 @@ loop-taken-preserved g c = record {
       (length-take-le c.in-Ok.k c.take.new.space c.in-Ok.ensures.within) c.in-Ok-take_all.ensures;
   sound = sound_more c.loop-taken.machine c.take_all.new.self _ c.loop-taken.invariant.sound c.in-Ok-take_all.ensures;
   few =
-      loses_on _ _ _ c.loop-taken.taken c.in-Ok.k (c.loop-taken.taken + c.in-Ok.k)
+      consumes_on _ _ _ c.loop-taken.taken c.in-Ok.k (c.loop-taken.taken + c.in-Ok.k)
       (take c.in-Ok.k c.take.new.space) c.loop-taken.invariant.few c.in-Ok.ensures.bytes.0
       (omega (arith, length-take-le c.in-Ok.k c.take.new.space c.in-Ok.ensures.within)) (omega arith);
   unfailed = c.in-Ok.ensures.count ∙ c.loop-taken.invariant.unfailed;
@@ -30,7 +30,7 @@ loop-taken-preserved g c = record {
 
 pub returns-in-Err-take_all-clause-few : goal.returns-in-Err-take_all-clause-few
 returns-in-Err-take_all-clause-few g c =
-    loses_on _ _ _ c.loop-taken.taken c.in-Ok.k 1048577
+    consumes_on _ _ _ c.loop-taken.taken c.in-Ok.k 1048577
     (take c.in-Ok.k c.take.new.space) c.loop-taken.invariant.few c.in-Ok.ensures.bytes.0
     (omega (arith, length-take-le c.in-Ok.k c.take.new.space c.in-Ok.ensures.within))
     (omega (arith, c.take.auto.space, c.in-Ok.ensures.within, length-take c.min-room.result c.loop-taken.buffer))

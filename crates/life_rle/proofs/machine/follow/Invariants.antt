@@ -1,5 +1,5 @@
 use Rattle.std.proofs.Common.{◌≡◌, ◌≤◌, ◌-◌, ℕ}
-use Rattle.life_rle.specs.Stream.{LosesUpTo}
+use Rattle.life_rle.specs.Stream.{ConsumesUpTo}
 use Rattle.life_rle.specs.MachineState.{IsSound, Followed}
 use Rattle.life_rle.proofs.machine.follow.Given as goal
 
@@ -15,7 +15,7 @@ pub record IsFollowing (Told Sound Few Unfailed Unended : Type 0) (taken : ℕ) 
 abbrev pub invariant-loop-taken : goal.invariant-loop-taken
 invariant-loop-taken g l =
     IsFollowing (Followed (g.I.Inlet.to_come l.initial.inlet) (g.I.Inlet.to_come l.inlet) l.machine l.taken)
-    (IsSound l.machine) (LosesUpTo l.taken (g.I.Inlet.to_come l.initial.inlet) (g.I.Inlet.to_come l.inlet))
+    (IsSound l.machine) (ConsumesUpTo l.taken (g.I.Inlet.to_come l.initial.inlet) (g.I.Inlet.to_come l.inlet))
     (g.I.Inlet.failures l.inlet ≡ g.I.Inlet.failures l.initial.inlet)
     (g.I.Inlet.ends l.inlet ≡ g.I.Inlet.ends l.initial.inlet) l.taken
 

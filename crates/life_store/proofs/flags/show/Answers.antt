@@ -18,7 +18,7 @@ returns g c =
     let it = c.query.ensures in
     let id : owned c.whole.result ≡ Int c.args.id = search rules in
     record {
-      looks =
+      queries =
           looks_by g.S.Store c.args.conn.now c.query.new.conn flag_text _ flag_is.plain flag_asks
           c.query.result it.clean it.shown it.refused it.withstands;
       tells =

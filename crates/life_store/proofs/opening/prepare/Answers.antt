@@ -36,10 +36,10 @@ pub returns-in-Err-clause-clean : goal.returns-in-Err-clause-clean
 returns-in-Err-clause-clean g c = c.create_tables.ensures.clean
 
 pub returns-clause-keeps : goal.returns-clause-keeps
-returns-clause-keeps g c = c.take_up.ensures.keeps
+returns-clause-keeps g c = c.check_or_migrate.ensures.keeps
 
 pub returns-clause-carries : goal.returns-clause-carries
-returns-clause-carries g c = c.take_up.ensures.carries
+returns-clause-carries g c = c.check_or_migrate.ensures.carries
 
 pub returns-clause-fresh : goal.returns-clause-fresh
 returns-clause-fresh g c clean has_tables =
@@ -47,10 +47,10 @@ returns-clause-fresh g c clean has_tables =
     (sym c.has_some.ensures ∙ c.if-not-has_some.false))
 
 pub returns-clause-known : goal.returns-clause-known
-returns-clause-known g c = c.take_up.ensures.known
+returns-clause-known g c = c.check_or_migrate.ensures.known
 
 pub returns-clause-ours : goal.returns-clause-ours
-returns-clause-ours g c = c.take_up.ensures.ours
+returns-clause-ours g c = c.check_or_migrate.ensures.ours
 
 pub returns-clause-none : goal.returns-clause-none
 returns-clause-none g c is =
@@ -58,10 +58,10 @@ returns-clause-none g c is =
     (sym c.has_some.ensures ∙ c.if-not-has_some.false))
 
 pub returns-clause-fits : goal.returns-clause-fits
-returns-clause-fits g c = c.take_up.ensures.fits
+returns-clause-fits g c = c.check_or_migrate.ensures.fits
 
 pub returns-clause-clean : goal.returns-clause-clean
-returns-clause-clean g c = c.take_up.ensures.clean
+returns-clause-clean g c = c.check_or_migrate.ensures.clean
 
 pub returns-then-not-is_autocommit-clause-made : goal.returns-then-not-is_autocommit-clause-made
 returns-then-not-is_autocommit-clause-made g c = crash_none c.args.conn.now.store
@@ -82,13 +82,13 @@ returns-in-Err-clause-made g c =
 
 pub returns-clause-made : goal.returns-clause-made
 returns-clause-made g c =
-    crash_as c.args.conn.now.store c.take_up.new.conn.store
+    crash_as c.args.conn.now.store c.check_or_migrate.new.conn.store
     (λ clean db made. made_of_some (state g.S.Store c.args.conn.now) db
     (subst (λ s. has_some s ≡ true) c.schema.ensures.value (sym c.has_some.ensures ∙ c.if-not-has_some.false)) made)
-    c.take_up.ensures.made
+    c.check_or_migrate.ensures.made
 
 pub returns-clause-untouched : goal.returns-clause-untouched
-returns-clause-untouched g c = c.take_up.ensures.untouched
+returns-clause-untouched g c = c.check_or_migrate.ensures.untouched
 
 pub returns-clause-still : goal.returns-clause-still
-returns-clause-still g c = c.take_up.ensures.still
+returns-clause-still g c = c.check_or_migrate.ensures.still

@@ -15,16 +15,16 @@ returns-in-Some-clause-code g c =
 pub returns-clause-survey : goal.returns-clause-survey
 returns-clause-survey g c =
     survey_more c.args.self.now.rule c.args.self.now.limit c.args.listed c.args.shapes.now.items
-    c.learn.new.shapes.items c.in_ok-shape.shape c.requires.survey c.in_ok-shape.ensures.shape
-    c.in_ok-learn.ensures.learnt
+    c.add_shape.new.shapes.items c.in_ok-shape.shape c.requires.survey c.in_ok-shape.ensures.shape
+    c.in_ok-add_shape.ensures.added
 
 pub returns-clause-index : goal.returns-clause-index
 returns-clause-index g c =
     let end : c.len-i.result ≡ length c.args.shapes.now.items = omega (arith, c.len-i.ensures, c.args.shapes.now.ok) in
-    shape_last c.args.shapes.now.items c.learn.new.shapes.items c.in_ok-shape.shape c.args.cluster.now
-    c.len-i.result c.in_ok-learn.ensures.learnt end c.in_ok-shape.ensures.cluster
+    shape_last c.args.shapes.now.items c.add_shape.new.shapes.items c.in_ok-shape.shape c.args.cluster.now
+    c.len-i.result c.in_ok-add_shape.ensures.added end c.in_ok-shape.ensures.cluster
 
 pub returns-clause-code : goal.returns-clause-code
 returns-clause-code g c =
-    code_at c.args.self.now.rule c.args.self.now.limit c.learn.new.shapes.items c.args.cluster.now c.len-i.result _
+    code_at c.args.self.now.rule c.args.self.now.limit c.add_shape.new.shapes.items c.args.cluster.now c.len-i.result _
     (returns-clause-index g c) c.args.listed (returns-clause-survey g c)

@@ -390,3 +390,10 @@ def is_running(number: str) -> bool:
         return content(f"/proc/{number}/status").decode().partition("State:")[2].split()[0] not in "ZX"
     except OSError:
         return False
+
+
+def cached(club: Club) -> str:
+    """Puts a reply into the cache of nginx; its path."""
+    os.makedirs(folder := os.path.join(club.web, "cache", "a", "0b"), exist_ok=True)
+    write(path := os.path.join(folder, "page"), "an old reply")
+    return path

@@ -1,5 +1,8 @@
-"""Runs deploy/try for tests that send requests through the gateway.
+"""Runs deploy/try for tests, sends requests through the gateway as clients with addresses of their own, and reads its
+logs.
 """
+import http.client
+import json
 import os
 import shutil
 import signal
@@ -7,6 +10,7 @@ import subprocess
 import threading
 import time
 from collections.abc import Iterable
+from typing import Any
 
 import clients
 from clients import HERE
@@ -14,6 +18,8 @@ from clients import HERE
 DEPLOY = os.path.join(HERE, "..", "deploy")
 # How many seconds a client waits at most, on a busy machine.
 BUSY = 8
+# The status, the body and the header lines of a reply.
+Reply = tuple[int, bytes, dict[str, str]]
 
 
 def missing() -> list[str]:
@@ -88,3 +94,59 @@ class Gateway:
             status = None
         self.reader.join(5)
         return status
+
+
+# ---- requests and logs
+
+
+def address(number: int) -> str:
+    """The address of a client, of which this machine has many."""
+    return f"127.1.{number // 250}.{number % 250 + 1}"
+
+
+def asked(
+    port: int,
+    client: int,
+    method: str,
+    path: str,
+    body: bytes | None = None,
+    headers: dict[str, str] | None = None,
+    timeout: float = 60,
+) -> Reply:
+    """The status, the body and the header lines of a reply, on a connection of its own."""
+    connection = http.client.HTTPConnection("127.0.0.1", port, timeout=timeout, source_address=(address(client), 0))
+    try:
+        connection.request(method, path, body=body, headers=headers or {})
+        reply = connection.getresponse()
+        return reply.status, reply.read(), {name.lower(): value for name, value in reply.getheaders()}
+    finally:
+        connection.close()
+
+
+def pattern(client: int | str, turn: int) -> bytes:
+    """A file that no other client sends, which is its own canonical text."""
+    return f"#N Of {client}, the {turn}.\nx = 3, y = 3, rule = B3/S23\nbo$2bo$3o!\n".encode()
+
+
+def listed(port: int) -> list[dict[str, Any]]:
+    """All deposits of the archive, by its lists."""
+    found: list[dict[str, Any]] = []
+    after = 0
+    while True:
+        rows = json.loads(asked(port, 0, "GET", f"/deposits/after/{after}")[1])["deposits"]
+        if not rows:
+            return found
+        found += rows
+        after = rows[-1]["id"]
+
+
+def log(gateway: Gateway, name: str) -> list[str]:
+    """The lines of a log, once nginx has written what it holds for a second."""
+    time.sleep(1.5)
+    with open(os.path.join(gateway.folder, name), encoding="utf-8", errors="replace") as file:
+        return file.read().splitlines()
+
+
+def requests(gateway: Gateway) -> list[dict[str, Any]]:
+    """The lines of the log of requests, each of which is an object."""
+    return [json.loads(line) for line in log(gateway, "access.log")]

@@ -63,10 +63,10 @@ EXCEPTIONS = {
     ("tests/test_members.py", "are told"): "a sentence that was withdrawn from docs/API.md, which must not come back",
 }
 
-# Nobody reads these as prose: stored runs, pictures, licences, sources of bench/, this list, and the changes that
-# tests/test_documents.py plants.
+# Nobody reads these as prose: stored runs, pictures, licences, sources of bench/, this list, and the changes of
+# tests/document_changes.py.
 UNREAD = re.compile(
-    r"tests/cases/.*|tests/(?:phrases|test_documents)\.py|LICENSE-.*|.*\.(?:svg|png|ico|rle|edit|rattle)"
+    r"tests/cases/.*|tests/(?:phrases|document_changes)\.py|LICENSE-.*|.*\.(?:svg|png|ico|rle|edit|rattle)"
 )
 # Crates whose texts are only names of tests.
 OF_TESTS = re.compile(r"crates/(?:\w+_tests|planes)/.*")

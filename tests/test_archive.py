@@ -15,8 +15,6 @@ import time
 import pytest
 
 import clients
-import life
-import paths
 import reference
 from archives import BLANK
 from clients import (
@@ -36,6 +34,8 @@ from clients import (
     run,
     same,
 )
+from old_archives import LAYOUT, first_archive, version_kept
+from seeded_messages import seeded_message
 
 # How many bits of a file are turned, how many streams are sent, how often the program is killed, and how many censuses
 # it migrates.
@@ -341,104 +341,6 @@ def test_bytes(folder: str) -> None:
 
 # ---- seeded streams
 
-FILES = [
-    GLIDER,
-    BLOCKS,
-    b"x = 3, y = 1\n3o!\n",
-    b"#N Toad\nx = 4, y = 2\nb3o$3o!\n",
-    b"x = 2, y = 2, rule = B36/S23\n2o$2o!\n",
-    b"x = 0, y = 0\n!\n",
-    b"x = 11, y = 2\n2o8b3o$2o!\n",
-    b"x = 1\n",
-    b"x = 1, y = 1\n0o!\n",
-    b"",
-    b"x = 1, y = 1, rule = B9/S\no!\n",
-]
-# Each route that only reads, other spellings, and what is refused.
-TARGETS = [
-    *paths.reading(id="{0}", n="{1}", limit="{2}", rule="B3S23", code="xs4_33"),
-    "/objects/b3s23/xp2_7/{2}",
-    "/objects/B3S23/xs4_330/1",
-    "/objects/B36S23/xs4_33/1",
-    "/objects/B3S23/xs4_33/0",
-    "/",
-    "/deposits",
-    "/deposits/{0}/",
-    "/deposits/x",
-    "/deposits/{0}/at",
-    "/deposits/{0}?x=/1",
-    "/deposits/00{0}",
-    "/objects/B/S/1",
-    "/deposits/99999999999999999999",
-    "/deposits/{0}/at/1025",
-    "/deposits/{0}/at/2049",
-    "/deposits/{0}/kind/0",
-    "/deposits//at/1",
-    "*",
-]
-LINES = [
-    "host: a",
-    "connection: keep-alive",
-    "accept: */*",
-    "x-member: zed",
-    "connection: a , b",
-    "content-type: text/plain",
-]
-ENDS = ["connection: close", "connection: x, Close", "connection:  close\t"]
-FAULTS = [
-    b"GET /deposits/1\r\n\r\n",
-    b"GET  /deposits/1 HTTP/1.1\r\n\r\n",
-    b"GET /deposits/1 HTTP/2.0\r\n\r\n",
-    b"\x00\x01\x02\r\n\r\n",
-    b"GET /deposits/1 HTTP/1.1\r\nhost a\r\n\r\n",
-    b"GET /deposits/1 HTTP/1.1\r\ntransfer-encoding: chunked\r\n\r\n",
-    b"GET /deposits/1 HTTP/1.1\r\ncontent-length: 1\r\ncontent-length: 1\r\n\r\nx",
-    b"GET /deposits/1 HTTP/1.1\r\ncontent-length: 1048577\r\n\r\n",
-    b"GET /deposits/1 HTTP/1.1\r\ncontent-length: +1\r\n\r\nx",
-    b"GET /deposits/1 HTTP/1.1\r\ncontent-length:\r\n\r\n",
-    b"GET /deposits/1 HTTP/1.1\r\n" + b"a: b\r\n" * 33 + b"\r\n",
-    b"GET /" + b"a" * 8200 + b" HTTP/1.1\r\n\r\n",
-    b"POST /deposits HTTP/1.1\r\ncontent-length: 5\r\n\r\nabc",
-]
-
-
-def seeded_message(chosen: random.Random) -> bytes:
-    kind = chosen.random()
-    number, n, limit = chosen.randrange(0, 8), chosen.randrange(0, 6), chosen.randrange(1, 5)
-    lines = chosen.sample(LINES, chosen.randrange(0, 3)) + (chosen.sample(ENDS, 1) if chosen.random() < 0.1 else [])
-    version = "1.0" if chosen.random() < 0.05 else "1.1"
-    member, token = chosen.choice(["ann", "bob", "ann", "Ann", ""]), chosen.choice(
-        ["t1", "t2", "t3", "t4", "t5", "t_1"]
-    )
-    if kind < 0.35:
-        made = deposit(member, token, chosen.choice(FILES), *lines, version=version)
-    elif kind < 0.5:
-        made = message(
-            "POST",
-            f"/deposits/{number}/censuses/{n}/{limit}",
-            b"",
-            f"X-Member: {member}".lower(),
-            f"x-token: {token}",
-            *lines,
-            version=version,
-        )
-    elif kind < 0.92:
-        method = "GET" if chosen.random() < 0.95 else chosen.choice(["POST", "HEAD", "get", "PUT"])
-        made = message(
-            method,
-            chosen.choice(TARGETS).format(number, n, limit),
-            chosen.choice([b"", b"", b"body"]),
-            *lines,
-            version=version,
-        )
-    else:
-        return chosen.choice(FAULTS)
-    if chosen.random() < 0.1:
-        made = made.replace(b"\r\n", b"\n", made[: made.index(b"\r\n\r\n")].count(b"\r\n") + 2)
-    if chosen.random() < 0.1:
-        made = chosen.choice([b"\r\n", b"\n", b"\r\n\r\n"]) + made
-    return made
-
 
 def test_seeded_streams(folder: str) -> None:
     """Streams of good and malformed messages, cut in pieces, on one archive that grows: all replies are the
@@ -518,82 +420,6 @@ def test_stops(folder: str) -> None:
 
 
 # ---- archives of schema version 1
-
-LAYOUT = "CREATE TABLE layout (version INTEGER NOT NULL) STRICT"
-
-FIRST_TABLES = [
-    LAYOUT,
-    (
-        "CREATE TABLE deposits (id INTEGER PRIMARY KEY, member TEXT NOT NULL, token TEXT NOT NULL, "
-        "rule TEXT NOT NULL, population INTEGER NOT NULL CHECK (population >= 0), "
-        "rle BLOB NOT NULL, UNIQUE (member, token)) STRICT"
-    ),
-    (
-        "CREATE TABLE censuses (id INTEGER PRIMARY KEY, member TEXT NOT NULL, token TEXT NOT NULL, "
-        "deposit INTEGER NOT NULL REFERENCES deposits (id), gens INTEGER NOT NULL, lim INTEGER NOT NULL, "
-        "clusters INTEGER NOT NULL, unresolved INTEGER NOT NULL, UNIQUE (member, token)) STRICT"
-    ),
-    (
-        "CREATE TABLE census_rows (census INTEGER NOT NULL REFERENCES censuses (id), "
-        "code TEXT NOT NULL, n INTEGER NOT NULL CHECK (n > 0), PRIMARY KEY (census, code)) STRICT"
-    ),
-    "INSERT INTO layout (version) VALUES (1)",
-]
-
-# Two blocks; two blinkers whose phases touch; a block and a blinker; a glider.
-FIELDS = [b"x = 6, y = 2\n2o2b2o$2o2b2o!\n", b"x = 4, y = 3\no2bo$o2bo$o2bo!\n", b"x = 9, y = 2\n2o4b3o$2o!\n", GLIDER]
-
-
-def first_archive(path: str, many: int) -> list[tuple[int, int]]:
-    """Writes an archive of schema version 1 with this many censuses, using sqlite3; returns the flags that they have to
-    get."""
-    kept = sqlite3.connect(path)
-    kept.execute("PRAGMA journal_mode=WAL")
-    for statement in FIRST_TABLES:
-        kept.execute(statement)
-    records = [life.read_file(field) for field in FIELDS]
-    for i, record in enumerate(records):
-        rule, cells = record[3:]
-        row = (i + 1, "ann", f"t{i}", life.rule_text(rule), len(cells), life.file_text(record))
-        kept.execute("INSERT INTO deposits (id, member, token, rule, population, rle) VALUES (?, ?, ?, ?, ?, ?)", row)
-    found: dict[tuple[int, int, int], tuple[reference.Tally, bool]] = {}
-    flags = []
-    for number in range(1, many + 1):
-        asked = deposit, n, limit = number % 4 + 1, number % 5, number % 3 + 1
-        if asked not in found:
-            rule, cells = records[deposit - 1][3:]
-            later = life.generation(rule, cells, n)
-            found[asked] = reference.tally(rule, later, limit), reference.is_steady(rule, later, limit)
-        (rows, unresolved, total), steady = found[asked]
-        kept.execute(
-            "INSERT INTO censuses (id, member, token, deposit, gens, lim, clusters, unresolved) "
-            "VALUES (?, ?, ?, ?, ?, ?, ?, ?)",
-            (number, "ann", f"c{number}", deposit, n, limit, total, unresolved),
-        )
-        kept.executemany(
-            "INSERT INTO census_rows (census, code, n) VALUES (?, ?, ?)",
-            [(number, code, count) for code, count in rows],
-        )
-        flags.append((number, int(steady)))
-    kept.commit()
-    kept.close()
-    return flags
-
-
-def version_kept(path: str, flags: list[tuple[int, int]]) -> int | None:
-    """The layout of the file, if it is 1 without flags, or 2 with all of them."""
-    kept = sqlite3.connect(path)
-    version = kept.execute("SELECT version FROM layout").fetchall()
-    tables = {name for (name,) in kept.execute("SELECT name FROM sqlite_schema WHERE type = 'table'")}
-    whole = (
-        "census_flags" in tables
-        and kept.execute("SELECT census, steady FROM census_flags ORDER BY census").fetchall() == flags
-    )
-    good = kept.execute("PRAGMA integrity_check").fetchall() == [("ok",)]
-    kept.close()
-    if good and version == [(1,)] and "census_flags" not in tables:
-        return 1
-    return 2 if good and version == [(2,)] and whole else None
 
 
 def test_killed_migration(folder: str) -> None:

@@ -40,7 +40,8 @@ from booted import (
     until,
 )
 from clients import HERE, certify, check, same
-from mistakes import AFTER_AN_OLDER_COPY, MISTAKES, OLDER_COPY, Elsewhere, Mistake, is_tried, try_mistake
+from mistakes import AFTER_AN_OLDER_COPY, MISTAKES, Elsewhere, Mistake, is_tried, try_mistake
+from mistakes_files import OLDER_COPY
 
 pytestmark = pytest.mark.full
 

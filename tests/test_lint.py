@@ -7,10 +7,12 @@ import subprocess
 import pytest
 
 import linters
+from tables import texts
 
 pytestmark = pytest.mark.quick
-# The width of lines in .editorconfig. No linter looks at that of JavaScript, CSS and antt.
-MOST_COLUMNS = 120
+MOST_COLUMNS = texts.most_columns()
+# Where the tools for Python have the width of lines.
+WIDTHS = {"pyproject.toml": "line-length", ".flake8": "max-line-length"}
 # What no line of antt can break: a text in quotes, and the path of an import with one name.
 UNBROKEN = re.compile(r' +"(?:[^"\\]|\\.)*"\)*|use \S+')
 
@@ -32,8 +34,15 @@ def lines_of(path: str) -> list[str]:
         return file.read().split("\n")
 
 
+@pytest.mark.parametrize("path", WIDTHS)
+def test_width_of_tools(path: str) -> None:
+    """The tools for Python break lines at the width that .editorconfig has."""
+    assert f"{WIDTHS[path]} = {MOST_COLUMNS}" in lines_of(path)
+
+
 def test_width() -> None:
-    """No line of JavaScript, CSS or antt has more columns than .editorconfig allows, if it can be broken."""
+    """No line of JavaScript, CSS or antt has more columns than .editorconfig allows, if it can be broken. No linter
+    looks at these."""
     wide = [
         f"{path}:{number}: {len(line)} columns, and at most {MOST_COLUMNS} are allowed"
         for path in linters.tracked()

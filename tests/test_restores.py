@@ -1,6 +1,6 @@
 """A club's archive and its administrator: copies according to the settings, which of them are kept, and the checks of
-the service. systemd is a stand-in here, which starts and kills the real program. tests/test_exchanges.py has the
-restores, and tests/test_interrupted.py the signals in copies and configurations.
+the service. systemd is a stand-in here, which starts and kills the real program. tests/test_exchanges.py and
+tests/test_kills.py have the restores, and tests/test_interrupted.py the signals in copies and configurations.
 """
 import getpass
 import os

@@ -4,18 +4,13 @@ program.
 Each test uses the archive that the ones before it have made. Pictures of the pages are left in tests/out, which is not
 kept.
 """
-import base64
 import csv
-import glob
-import hashlib
 import io
 import json
 import os
-import random
 import re
 import sqlite3
-import time
-from collections.abc import Callable, Iterable, Iterator
+from collections.abc import Callable, Iterator
 from typing import Any
 
 import pytest
@@ -24,15 +19,16 @@ import browser as browsers
 import gateways
 import life
 import paths
-import reference
 import web_haul
 from browser import Browser, Relay
-from clients import HERE, check, left_out, run, same
+from clients import HERE, check, run, same
 from gateways import BUSY, Gateway
 from pages import DIGESTED, asked, bundled, content, kept, told, with_sources
 import web_addresses
 import web_club
 import web_colors
+import web_deposits
+import web_drawings
 import web_firefox
 import web_files
 import web_many
@@ -42,73 +38,14 @@ import web_player
 import web_search
 import web_visits
 import web_waiting
+from web_drawings import later, runs_of, seen
 
 pytestmark = pytest.mark.full
 
 FIRST_PORT = 10500
 TOP = os.path.join(HERE, "..")
 PICTURES = os.path.join(HERE, "out")
-GOLLY = "/usr/share/golly/Patterns"
-GUN = os.path.abspath(os.path.join(TOP, "examples", "gosper-gun.rle"))
-
-UNFINISHED = "#C Cut.\nx = 1, y = 1\n3o"
-CONTROL, SHIFT, SPACE, RIGHT, LEFT, HOME, ENTER, ESCAPE = (
-    "\ue009",
-    "\ue008",
-    " ",
-    "\ue014",
-    "\ue012",
-    "\ue011",
-    "\ue007",
-    "\ue00c",
-)
-
-
-def runs_of(cells: Iterable[tuple[int, int]]) -> list[list[int]]:
-    """For each row its runs of live cells, `[begin, end, begin, end, ..]`, as the pages have a pattern."""
-    rows: list[list[int]] = [[] for _ in range(1 + max((row for _, row in cells), default=-1))]
-    for column, row in sorted(cells, key=lambda cell: (cell[1], cell[0])):
-        if rows[row] and rows[row][-1] == column:
-            rows[row][-1] = column + 1
-        else:
-            rows[row] += [column, column + 1]
-    return rows
-
-
-# The cells that a canvas shows, from the pixels that are of the color of live ones: given the size of a cell, it finds
-# where the first one is seen. Each live cell has its left upper pixel of that color, and there are no others.
-SEEN = """
-const canvas = document.querySelector(words[0]);
-const { colors } = await import('/sources/drawing/draw.js');
-await new Promise((resolve) => requestAnimationFrame(() => requestAnimationFrame(resolve)));
-const { width, height } = canvas;
-const pixels = new Uint32Array(canvas.getContext('2d').getImageData(0, 0, width, height).data.buffer);
-const { live } = colors();
-const cells = [];
-for (let at = 0; at < pixels.length; at += 1)
-  if (pixels[at] === live && pixels[at - 1] !== live && pixels[at - width] !== live)
-    cells.push([at % width, Math.floor(at / width)]);
-return cells;
-"""
-
-
-def seen(browser: Browser) -> tuple[set[tuple[int, int]], tuple[float, float, float]]:
-    """The cells that the large canvas shows, apart from one another as gaps are, moved to the corner; and where that
-    is. A canvas that is being redrawn may show none: then they are nowhere."""
-    pixels = browser.wait_for(SEEN, "canvas.large")
-    if len(pixels) < 2:
-        nowhere = float("inf")
-        return set(), (nowhere, nowhere, nowhere)
-    left, top = min(x for x, _ in pixels), min(y for _, y in pixels)
-    steps = {x - left for x, _ in pixels} | {y - top for _, y in pixels}
-    size = min(step for step in steps if step > 0)
-    return {((x - left) // size, (y - top) // size) for x, y in pixels}, (left, top, size)
-
-
-def later(text: bytes, generations: int) -> set[tuple[int, int]]:
-    """The cells of a generation of a file by the reference, moved to the corner."""
-    rule, cells = life.read_file(text)[3:]
-    return set(life.normal(life.generation(rule, cells, generations)))
+SHIFT, SPACE, RIGHT, LEFT, HOME, ENTER, ESCAPE = "\ue008", " ", "\ue014", "\ue012", "\ue011", "\ue007", "\ue00c"
 
 
 @pytest.fixture(scope="module")
@@ -150,7 +87,7 @@ def tokens() -> set[str]:
     return set()
 
 
-# ---- the tests
+# ---- the gateway
 
 
 def test_the_beginning(gateway: Gateway) -> None:
@@ -240,242 +177,30 @@ def test_headers(gateway: Gateway) -> None:
         same(f"the program has no page {path}", asked(gateway.life_port, path)[0], 404)
 
 
+# ---- the form for deposits: web_deposits.py has these tests
+
+
 def test_pasted(gateway: Gateway, browser: Browser, base: str, tokens: set[str]) -> None:
-    """A file that is pasted is drawn, deposited under the sum of its bytes, and shown."""
-    text = "#N Pasted\n#O Ann\nx = 3, y = 3, rule = B3/S23\nbo$2bo$3o!\n"
-    browser.open(f"{base}/new")
-    # A paste of the system's clipboard: the text comes into it by a cut.
-    browser.type("#pattern", text)
-    browser.one("#pattern").send_keys(CONTROL, "a")
-    browser.one("#pattern").send_keys(CONTROL, "x")
-    same("the text is cut", browser.run("return document.getElementById('pattern').value"), "")
-    browser.open(f"{base}/")
-    browser.run("document.body.tabIndex = -1; document.body.focus()")
-    browser.press(CONTROL, "v")
-    check(
-        "a paste on a list goes to the form",
-        browser.at("/new")
-        and browser.until(lambda: browser.run("return document.getElementById('pattern').value") == text),
-    )
-    check(
-        "the pasted file is drawn",
-        "Pasted: 5 cells, 3 by 3, B3/S23" in browser.text(".preview") and browser.one(".preview canvas"),
-    )
-    browser.type("#member", "Ann Smith")
-    same("capitals become small letters", browser.run("return document.getElementById('member').value"), "ann smith")
-    browser.one("#send").click()
-    check("a bad member is explained", browser.until(lambda: "not a valid member name" in browser.text(".refusal")))
-    browser.type("#member", "ann")
-    browser.picture("deposit-form")
-    browser.one("#send").click()
-    check(
-        "the pasted file is shown",
-        browser.at("/d/2") and browser.until(lambda: browser.text("h1") == "Pasted deposit 2"),
-    )
-    same("what is kept of it", told(gateway, "/deposits/2"), text.encode())
-    check(
-        "that is said",
-        "Generation 0: 5 live cells in 3 by 3" == browser.until(lambda: browser.text("#status"))
-        and "By Ann." in browser.text(".by"),
-    )
-    check(
-        "its kind and code",
-        browser.until(
-            lambda: "spaceship of period 4, moves 1 column to the right and 1 row down" in browser.text(".facts")
-        )
-        and browser.until(lambda: "xq4_153 glider" in browser.text(".facts")),
-    )
-    browser.picture("deposit-glider")
-    tokens.add(hashlib.sha256(text.encode()).hexdigest())
+    web_deposits.pasted(gateway, browser, base, tokens)
 
 
 def test_dropped(gateway: Gateway, browser: Browser, base: str, folder: str, tokens: set[str]) -> None:
-    """A file is dropped, one with line ends and bytes that no text field keeps; one is chosen; the same again is the
-    same deposit."""
-    file = os.path.join(folder, "dropped.rle")
-    raw = b"#N Dropped \xff\r\nx = 3, y = 1\r\n3o!\r\n"
-    with open(file, "wb") as out:
-        out.write(raw)
-    browser.open(f"{base}/")
-    browser.drop([file], "main")
-    check(
-        "a drop on a list goes to the form",
-        browser.at("/new") and browser.until(lambda: "3 cells, 3 by 1" in browser.text(".preview")),
-    )
-    token = "return document.getElementById('token').value"
-    same(
-        "a file that is not UTF-8 is read as windows-1252",
-        (browser.run(token), browser.run("return document.getElementById('text-name').value")),
-        (hashlib.sha256(raw.decode("cp1252").encode()).hexdigest(), "Dropped ÿ"),
-    )
-    browser.one("#as-old").click()
-    same("the token is the sum of the bytes", browser.run(token), hashlib.sha256(raw).hexdigest())
-    same("the member is remembered", browser.run("return document.getElementById('member').value"), "ann")
-    browser.one("#send").click()
-    check("the dropped file is shown", browser.at("/d/3"))
-    same(
-        "what is kept of the drop", told(gateway, "/deposits/3"), b"#N Dropped \xff\nx = 3, y = 1, rule = B3/S23\n3o!\n"
-    )
-    browser.open(f"{base}/new")
-    browser.one("#file").send_keys(GUN)
-    browser.until(lambda: "Gosper glider gun: 36 cells, 36 by 9" in browser.text(".preview"))
-    browser.one("#send").click()
-    check(
-        "the chosen file is shown",
-        browser.at("/d/4") and told(gateway, "/deposits/4").startswith(b"#N Gosper glider gun\n"),
-    )
-    browser.open(f"{base}/new")
-    browser.drop([GUN], ".drop")
-    browser.until(lambda: "36 cells" in browser.text(".preview"))
-    browser.one("#send").click()
-    check("the same file again has its number", browser.at("/d/4"))
-    tokens.update((hashlib.sha256(raw).hexdigest(), hashlib.sha256(content(GUN)).hexdigest()))
-
-
-# Counts the files that a page reads.
-COUNT_READS = """
-window.reads = 0;
-const whole = Blob.prototype.arrayBuffer;
-Blob.prototype.arrayBuffer = function () { window.reads += 1; return whole.call(this); };
-"""
+    web_deposits.dropped(gateway, browser, base, folder, tokens)
 
 
 def test_too_long(gateway: Gateway, browser: Browser, base: str, folder: str) -> None:
-    """A file is read only if it is not longer than the archive takes; the sentence for one that is longer is the usual
-    one."""
-    longest, longer, huge = (os.path.join(folder, name) for name in ("longest.rle", "longer.rle", "huge.rle"))
-    for path, size in ((longest, 1_048_576), (longer, 1_048_577), (huge, 64 << 20)):
-        with open(path, "wb") as out:
-            out.write(b"x = 3, y = 1\n3o!\n")
-            out.truncate(size)
-    before = told(gateway, "/deposits/after/0")
-    browser.open(f"{base}/new")
-    usual = browser.wait_for("const { FAULTS } = await import('/sources/requests/refusals.js'); return FAULTS[1][1];")
-    browser.run(COUNT_READS)
-    browser.drop([longest], ".drop")
-    check(
-        "the longest file is read",
-        browser.until(lambda: "3 cells, 3 by 1" in browser.text(".preview"))
-        and browser.run("return window.reads") == 1,
-    )
-    for path in (longer, huge):
-        begun = time.monotonic()
-        browser.drop([path], ".drop")
-        name = os.path.basename(path)
-        found = browser.until(
-            lambda: browser.text("#status") == f"{name} is too long." and browser.text(".preview .refusal p") == usual
-        )
-        check(
-            f"{name} is too long, which is said after {time.monotonic() - begun:.1f} s",
-            found and time.monotonic() - begun < BUSY,
-        )
-        same(f"{name} is not read", browser.run("return window.reads"), 1)
-        same(
-            f"nothing is left of the file before {name}",
-            browser.run("return document.getElementById('pattern').value + document.getElementById('token').value"),
-            "",
-        )
-    browser.type("#member", "ann")
-    browser.one("#send").click()
-    check(
-        "it is said again by the button",
-        browser.until(lambda: browser.text("form > div:first-child .refusal p") == usual)
-        and browser.driver.current_url.endswith("/new"),
-    )
-    same("no file that is too long is sent", told(gateway, "/deposits/after/0"), before)
-    browser.type("#pattern", "x = 2, y = 1\n2o!")
-    check(
-        "a pattern that is typed after it is taken",
-        browser.until(lambda: "2 cells, 2 by 1" in browser.text(".preview")),
-    )
+    web_deposits.too_long(gateway, browser, base, folder)
 
 
 def test_faults(browser: Browser, base: str) -> None:
-    """The fault of a file is explained in a sentence, with its line, before it is sent and after."""
-    browser.open(f"{base}/new")
-    browser.type("#pattern", UNFINISHED)
-    check(
-        "a fault is shown before sending",
-        browser.until(lambda: 'ends without "!"' in browser.text(".preview .refusal"))
-        and "Line 3: 3o" in browser.text(".preview"),
-    )
-    browser.one("#send").click()
-    told_after = browser.until(lambda: browser.text("form > div:first-child .refusal"))
-    check(
-        "a refused file is explained",
-        "Add it at the end" in told_after
-        and "Line 3: 3o" in told_after
-        and "no-end" in told_after
-        and browser.driver.current_url.endswith("/new"),
-    )
-    same("a refusal is heard", browser.one("form > div:first-child .refusal").get_attribute("role"), "alert")
-    browser.picture("refused")
-    for rule, wanted in (
-        ("HighLife", "Write it in digits"),
-        ("LifeHistory", "Generations, isotropic and LifeHistory rules are not taken"),
-        ("B2/S/C3", "Generations, isotropic and LifeHistory rules are not taken"),
-        ("23/3/8", "Generations, isotropic and LifeHistory rules are not taken"),
-        ("B2-a/S12", "Generations, isotropic and LifeHistory rules are not taken"),
-        ("B3/S23:T100", "bounded grid"),
-    ):
-        browser.type("#pattern", f"x = 3, y = 3, rule = {rule}\n3o!")
-        check(
-            f"the rule {rule} is explained",
-            browser.until(lambda: wanted in browser.text(".preview .refusal")),
-        )
-    browser.type("#pattern", "x = 3, y = 3, rule = LifeHistory\n3o!")
-    browser.one("#send").click()
-    check(
-        "and so is the archive's refusal",
-        browser.until(lambda: "are not taken" in browser.text("form > div:first-child .refusal")),
-    )
-    # The token of another pattern.
-    browser.type("#pattern", "x = 1, y = 1\no!")
-    browser.one("form details summary").click()
-    browser.type("#token", "glider")
-    browser.one("#send").click()
-    check(
-        "a used token is explained",
-        browser.until(lambda: "Take another token" in browser.text("form > div:first-child .refusal")),
-    )
+    web_deposits.faults(browser, base)
 
 
 def test_sentences(browser: Browser, base: str) -> None:
-    """Each refusal of docs/API.md and each fault of docs/FORMATS.md has a sentence of its own, and its number names
-    it."""
-    with open(os.path.join(TOP, "docs", "API.md"), encoding="utf-8") as text:
-        refusals = [name for number, name in re.findall(r"^\| (\d+) \| `([a-z-]+)` \| \d+ \|", text.read(), re.M)]
-    with open(os.path.join(TOP, "docs", "FORMATS.md"), encoding="utf-8") as text:
-        faulty = re.findall(
-            r"^\| (\d+) \| `([a-z-]+)` \|", text.read().split("**Faults**")[1].split("The last four")[0], re.M
-        )
-    same("the refusals and faults that are tried", (len(faulty), len(refusals)), (10, 14))
-    browser.open(f"{base}/find")
-    named = browser.wait_for(
-        "const { FAULTS } = await import('/sources/requests/refusals.js'); return FAULTS.map((fault) => fault?.[0]);"
-    )
-    same("the names of faults", named[1:], [name for _, name in faulty])
-    texts = browser.wait_for(
-        """
-        const { sentenceOf, refusalOf } = await import('/sources/requests/refusals.js');
-        const said = words[0].map((name) => sentenceOf(refusalOf(400, JSON.stringify({ error: name, refusal: 1 }))));
-        return said.concat(words[1].map((rle) => sentenceOf(
-          refusalOf(422, JSON.stringify({ error: 'bad-pattern', refusal: 7, rle })))));""",
-        refusals + ["too-many-requests", "no-reply"],
-        [int(number) for number, _ in faulty],
-    )
-    unknown = browser.wait_for(
-        "const { sentenceOf, refusalOf } = await import('/sources/requests/refusals.js'); "
-        "return [[418, 'x'], [502, '<html>'], [401, '<html>']].map((reply) => sentenceOf(refusalOf(...reply)));"
-    )
-    check(
-        "a sentence for each",
-        all(len(text) > 40 and text.endswith(".") for text in texts) and len(set(texts)) == len(texts) == 26,
-    )
-    check(
-        "a reply that is not from an archive",
-        unknown[0] not in texts and unknown[1] == texts[15] and "password" in unknown[2],
-    )
+    web_deposits.sentences(browser, base)
+
+
+# ---- the other pages
 
 
 def test_played(gateway: Gateway, browser: Browser, base: str) -> None:
@@ -908,127 +633,18 @@ def test_screens(browser: Browser, base: str) -> None:
     browser.screen()
 
 
-# The rows of runs that are drawn of a file, at a pixel a cell, or the number of its fault.
-DRAWN = """
-const [encoded] = words;
-const { readFile, Fault } = await import('/sources/patterns/rle.js');
-const { paint, colors } = await import('/sources/drawing/draw.js');
-let pattern;
-try {
-  pattern = readFile(Uint8Array.from(atob(encoded), (byte) => byte.charCodeAt(0))).pattern;
-} catch (error) {
-  if (error instanceof Fault) return error.number;
-  throw error;
-}
-const canvas = document.createElement('canvas');
-canvas.width = pattern.width + 3;
-canvas.height = pattern.height + 3;
-paint(canvas, pattern, { left: -1, top: -2, size: 1, place: { column: 0, row: 0 } });
-const { width, height } = canvas;
-const pixels = new Uint32Array(canvas.getContext('2d').getImageData(0, 0, width, height).data.buffer);
-const { live } = colors();
-const rows = [];
-for (let row = 0; row < height; row += 1) {
-  const runs = [];
-  for (let column = 0; column < width; column += 1) {
-    if (pixels[row * width + column] !== live) continue;
-    if (runs.at(-1) === column - 1) runs[runs.length - 1] = column;
-    else runs.push(column - 1, column);
-  }
-  rows.push(runs);
-}
-return {
-  before: rows.slice(0, 2),
-  rows: rows.slice(2, 2 + pattern.height),
-  after: rows.slice(2 + pattern.height),
-  population: pattern.population
-};
-"""
+# ---- drawings: web_drawings.py has these tests
 
 
 def test_drawing(browser: Browser, base: str) -> None:
-    """What the pages read and draw of a file is what the program has of it, or the program's fault."""
-    browser.open(f"{base}/find")
-    files = {os.path.basename(path): content(path) for path in glob.glob(os.path.join(TOP, "examples", "*.rle"))}
-    files |= {os.path.basename(path): content(path) for path in glob.glob(os.path.join(HERE, "cases", "*", "*.stdin"))}
-    soup = random.Random(7)
-    files |= {
-        f"soup-{size}": life.file_text(
-            (
-                None,
-                None,
-                (),
-                life.LIFE,
-                life.normal({(x, y) for x in range(size) for y in range(size) if soup.random() < 0.4}),
-            )
-        )
-        for size in (1, 5, 33, 200)
-    }
-    if os.path.isdir(GOLLY):
-        files |= {
-            os.path.relpath(path, GOLLY): content(path) for path in glob.glob(GOLLY + "/**/*.rle", recursive=True)
-        }
-    numbers = {name: number for number, name in reference.RLE_NAMES.items()}
-    good = {"drawn": 0, "refused": 0}
-    for name, file in sorted(files.items()):
-        status, printed, refused = run("generation", "0", data=file)
-        found = browser.wait_for(DRAWN, base64.b64encode(file).decode())
-        if status != 0:
-            right = found == numbers.get(refused.decode().split()[-1])
-            good["refused"] += right
-        else:
-            cells = life.read_file(printed)[4]
-            right = (
-                isinstance(found, dict)
-                and found["rows"] == runs_of(cells)
-                and found["population"] == len(cells)
-                and not any(found["before"])
-                and not any(found["after"])
-            )
-            good["drawn"] += right
-        check(f"the drawing of {name}", right)
-    check(f"files drawn and refused: {good}", good["drawn"] > 40 and good["refused"] > 10)
-    if not os.path.isdir(GOLLY):
-        left_out(f"there is no {GOLLY}, so its files are not drawn")
+    web_drawings.drawing(browser, base)
 
 
 def test_sizes(browser: Browser, base: str) -> None:
-    """At each size of a cell all live cells are seen and no others, wherever the view begins."""
-    browser.open(f"{base}/find")
-    found = browser.wait_for(
-        """
-        const { paint, colors, SIZES } = await import('/sources/drawing/draw.js');
-        const { live } = colors();
-        const cells = [];
-        for (let cell = 0; cell < 200; cell += 1) cells.push([(cell * 37) % 61, (cell * 11) % 43]);
-        const rows = Array.from({ length: 43 }, (_, row) => [
-          ...new Set(cells.filter((cell) => cell[1] === row).map((cell) => cell[0]))
-        ].sort((a, b) => a - b).flatMap((column) => [column, column + 1]));
-        const wrong = [];
-        for (const size of SIZES) for (const shift of [0, -3.25, 5.5]) {
-          const canvas = document.createElement('canvas');
-          canvas.width = 300;
-          canvas.height = 200;
-          paint(canvas, { width: 61, height: 43, rows }, {
-            left: shift, top: shift, size, place: { column: 2, row: 1 }
-          });
-          const pixels = new Uint32Array(canvas.getContext('2d').getImageData(0, 0, 300, 200).data.buffer);
-          const wanted = new Set();
-          for (const [column, row] of cells) {
-            const [x, y] = [(column + 2 - shift) * size, (row + 1 - shift) * size].map(Math.floor);
-            if (x >= 0 && y >= 0 && x < 300 && y < 200) wanted.add(y * 300 + x);
-          }
-          const lit = new Set([...pixels.keys()].filter((at) => pixels[at] === live));
-          const within = (at) => cells.some(([column, row]) => {
-            const x = (column + 2 - shift) * size; const y = (row + 1 - shift) * size;
-            return at % 300 >= Math.floor(x) && at % 300 < Math.max(x + size, Math.floor(x) + 1)
-              && Math.floor(at / 300) >= Math.floor(y) && Math.floor(at / 300) < Math.max(y + size, Math.floor(y) + 1);
-          });
-          if ([...wanted].some((at) => !lit.has(at)) || [...lit].some((at) => !within(at))) wrong.push([size, shift]);
-        }
-        return wrong;"""
-    )
-    same(f"sizes of cells: {found}", found, [])
+    web_drawings.sizes(browser, base)
+
+
+# ---- hauls, and what is left at the end
 
 
 @pytest.mark.parametrize("part", web_haul.PARTS, ids=name_of)

@@ -11,6 +11,7 @@ from collections.abc import Generator, Iterator
 import pytest
 
 import clients
+import scripts
 
 # The checks of all tests that ran, of parallel processes too, and the tests that were skipped.
 COUNTED = {"passed": 0, "failed": 0, "skipped": 0}
@@ -77,6 +78,14 @@ def folder() -> Iterator[str]:
     path = os.path.realpath(clients.new_folder())
     yield path
     shutil.rmtree(path, ignore_errors=True)
+
+
+@pytest.fixture(scope="module")
+def room(folder: str) -> Iterator[str]:
+    """The folder of the tests of the members' scripts. The record of what was stored is there, and not that of who runs
+    this."""
+    with scripts.own_record(folder):
+        yield folder
 
 
 @pytest.fixture(scope="session")

@@ -8,24 +8,16 @@ import shutil
 import subprocess
 import textwrap
 import warnings
-from collections.abc import Iterator
 
 import pytest
 
 import clients
 from clients import check, same
-from scripts import EXAMPLES, HAUL, TOP, needs, new_folder, own_record, said
+from scripts import EXAMPLES, HAUL, TOP, needs, new_folder, said
 
 pytestmark = pytest.mark.quick
 COMPLETIONS = os.path.join(TOP, "completions")
 DRAW = os.path.abspath(os.path.join(TOP, "crates", "life_draw", "out", "life_draw"))
-
-
-@pytest.fixture(scope="module")
-def room(folder: str) -> Iterator[str]:
-    """The folder of the tests. The record of what was kept is there, and not that of who runs this."""
-    with own_record(folder):
-        yield folder
 
 
 @pytest.fixture(scope="module")

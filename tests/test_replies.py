@@ -6,7 +6,6 @@ import os
 import signal
 import subprocess
 import time
-from collections.abc import Iterator
 
 import pytest
 
@@ -22,19 +21,11 @@ from scripts import (
     is_unanswered,
     needs,
     new_folder,
-    own_record,
     script,
     url,
 )
 
 pytestmark = pytest.mark.quick
-
-
-@pytest.fixture(scope="module")
-def room(folder: str) -> Iterator[str]:
-    """The folder of the tests. The record of what was kept is there, and not that of who runs this."""
-    with own_record(folder):
-        yield folder
 
 
 def test_certificate(room: str) -> None:

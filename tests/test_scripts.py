@@ -7,22 +7,14 @@ import os
 import re
 import sqlite3
 import time
-from collections.abc import Iterator
 
 import pytest
 
 import clients
 from clients import BLOCKS, GLIDER, Server, check, same
-from scripts import EXAMPLES, TOP, UNFINISHED, Said, digest, is_unanswered, new_folder, own_record, script, url
+from scripts import EXAMPLES, TOP, UNFINISHED, Said, digest, is_unanswered, new_folder, script, url
 
 pytestmark = pytest.mark.quick
-
-
-@pytest.fixture(scope="module")
-def room(folder: str) -> Iterator[str]:
-    """The folder of the tests. The record of what was kept is there, and not that of who runs this."""
-    with own_record(folder):
-        yield folder
 
 
 def example(name: str) -> bytes:

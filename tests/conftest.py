@@ -11,6 +11,7 @@ from collections.abc import Generator, Iterator
 import pytest
 
 import clients
+import haul_runs
 import scripts
 
 # The checks of all tests that ran, of parallel processes too, and the tests that were skipped.
@@ -94,3 +95,11 @@ def program() -> str:
     if not os.access(clients.PROGRAM, os.X_OK):
         pytest.skip(f"there is no program {clients.PROGRAM}")
     return clients.PROGRAM
+
+
+@pytest.fixture(scope="session")
+def haul_programs() -> None:
+    """`life-haul`, and the `life` without an archive. Tests that ask for them are skipped if they are not built."""
+    for path in (haul_runs.PROGRAM, haul_runs.LIFE):
+        if not os.access(path, os.X_OK):
+            pytest.skip(f"there is no program {path}")

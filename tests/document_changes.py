@@ -83,7 +83,7 @@ PLANTED = {
     "crates/life_core/src/rule.rt": ("/// A rule", "/// It is no rule. A rule"),
     "crates/core_tests/src/planes.rt": ("//! Patterns", "//! So many patterns"),
     "crates/life_core/specs/Rule.antt": ("-- a finite set", "-- as far as it goes, a set"),
-    "crates/life_core/proofs/Waking.antt": ("-- The blocks", "-- The blocks that come again, and those"),
+    "crates/life_core/proofs/BlockChanges.antt": ("-- The blocks", "-- The blocks that come again, and those"),
     "docs/tables/version.py": ("in all other places", "wherever it stands,"),
     PARTS["web"]: ("an unknown address", "an address that is none"),
 }

@@ -104,6 +104,22 @@ def address(number: int) -> str:
     return f"127.1.{number // 250}.{number % 250 + 1}"
 
 
+def reply_on(
+    connection: http.client.HTTPConnection,
+    method: str,
+    path: str,
+    body: bytes | str | None,
+    headers: dict[str, str] | None,
+) -> Reply:
+    """The reply to one request on a new connection, which is closed then."""
+    try:
+        connection.request(method, path, body=body, headers=headers or {})
+        reply = connection.getresponse()
+        return reply.status, reply.read(), {name.lower(): value for name, value in reply.getheaders()}
+    finally:
+        connection.close()
+
+
 def asked(
     port: int,
     client: int,
@@ -113,14 +129,10 @@ def asked(
     headers: dict[str, str] | None = None,
     timeout: float = 60,
 ) -> Reply:
-    """The status, the body and the header lines of a reply, on a connection of its own."""
-    connection = http.client.HTTPConnection("127.0.0.1", port, timeout=timeout, source_address=(address(client), 0))
-    try:
-        connection.request(method, path, body=body, headers=headers or {})
-        reply = connection.getresponse()
-        return reply.status, reply.read(), {name.lower(): value for name, value in reply.getheaders()}
-    finally:
-        connection.close()
+    """The reply to a client that has an address of its own."""
+    own = (address(client), 0)
+    connection = http.client.HTTPConnection("127.0.0.1", port, timeout=timeout, source_address=own)
+    return reply_on(connection, method, path, body, headers)
 
 
 def pattern(client: int | str, turn: int) -> bytes:

@@ -4,8 +4,6 @@ import os
 import subprocess
 from collections.abc import Mapping
 
-import pytest
-
 from clients import HERE, same
 
 TOP = os.path.dirname(HERE)
@@ -15,13 +13,6 @@ GREATEST_FIRST = 2**53
 ROOTS = ["ann-2026", "~{1}$HOME'\"\\|&;`<>*?![#]%=,:@^+-_./()", "r" * 64]
 # The status of a command, and the texts of its standard output and standard error.
 Said = tuple[int, str, str]
-
-
-def need_programs() -> None:
-    """Skips the tests if the programs are not built."""
-    for path in (PROGRAM, LIFE):
-        if not os.access(path, os.X_OK):
-            pytest.skip(f"there is no program {path}")
 
 
 def run(*command: str | bytes, executable: str | None = None, env: Mapping[str, str] | None = None) -> Said:

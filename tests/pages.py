@@ -7,7 +7,7 @@ import re
 import subprocess
 from typing import Any
 
-from gateways import DEPLOY, Gateway
+from gateways import DEPLOY, Gateway, Reply, reply_on
 
 WEB = os.path.join(DEPLOY, "..", "web")
 # The name of a file of the pages that never changes.
@@ -39,15 +39,10 @@ def bundled(gateway: Gateway, name: str) -> str:
 
 def asked(
     port: int, path: str, method: str = "GET", body: bytes | str | None = None, headers: dict[str, str] | None = None
-) -> tuple[int, bytes, dict[str, str]]:
-    """The status, the body and the header lines of a reply."""
+) -> Reply:
+    """The reply to a request outside the pages."""
     connection = http.client.HTTPConnection("127.0.0.1", port, timeout=60)
-    try:
-        connection.request(method, path, body=body, headers=headers or {})
-        reply = connection.getresponse()
-        return reply.status, reply.read(), {name.lower(): value for name, value in reply.getheaders()}
-    finally:
-        connection.close()
+    return reply_on(connection, method, path, body, headers)
 
 
 def told(gateway: Gateway, path: str) -> bytes:

@@ -57,10 +57,11 @@ def is_unanswered(result: Said, printed: str, last: str) -> bool:
     ) is not None
 
 
-def needs(name: str) -> None:
-    """Skips a test if this program is not installed."""
-    if not shutil.which(name):
-        pytest.skip(f"{name} is not installed")
+def needs(*programs: str) -> None:
+    """Skips a test if one of these programs is not installed."""
+    for name in programs:
+        if not shutil.which(name):
+            pytest.skip(f"{name} is not installed")
 
 
 def new_folder(room: str, name: str, files: Mapping[str, bytes]) -> str:

@@ -13,30 +13,18 @@ import re
 import shutil
 import signal
 import subprocess
-import tempfile
 import time
-from collections.abc import Iterable, Iterator
+from collections.abc import Iterable
+from pathlib import Path
 
 import pytest
 
 import haul_reference as reference
 import life
 from clients import check, same
-from haul_runs import GREATEST_FIRST, LIFE, PROGRAM, ROOTS, TOP, Said, need_programs, run, run_haul, table
+from haul_runs import GREATEST_FIRST, LIFE, PROGRAM, ROOTS, TOP, Said, run, run_haul, table
 
-pytestmark = pytest.mark.long
-
-
-@pytest.fixture(scope="module", autouse=True)
-def programs() -> None:
-    need_programs()
-
-
-@pytest.fixture
-def room() -> Iterator[str]:
-    """A new folder."""
-    with tempfile.TemporaryDirectory() as path:
-        yield path
+pytestmark = [pytest.mark.long, pytest.mark.usefixtures("haul_programs")]
 
 
 # ---- tables
@@ -411,7 +399,7 @@ def can_run(command: str) -> bool:
     return all(shutil.which(program) for script, program in programs if script in command)
 
 
-def test_examples(room: str) -> None:
+def test_examples(tmp_path: Path) -> None:
     """The commands of the page, run one after the other in one folder, print on their two streams what is written
     there."""
     for name, path in (
@@ -420,7 +408,7 @@ def test_examples(room: str) -> None:
         ("examples", os.path.join(TOP, "examples")),
         ("deploy", os.path.join(TOP, "deploy")),
     ):
-        os.symlink(path, os.path.join(room, name))
+        os.symlink(path, os.path.join(tmp_path, name))
     with open(os.path.join(TOP, "docs", "HAULS.md"), encoding="utf-8") as page:
         found = examples(page.read())
     check(f"the page has {len(found)} examples", len(found) >= 10)
@@ -428,7 +416,7 @@ def test_examples(room: str) -> None:
         if can_run(command):
             ended = subprocess.run(
                 ["bash", "-c", command],
-                cwd=room,
+                cwd=tmp_path,
                 stdout=subprocess.PIPE,
                 stderr=subprocess.STDOUT,
                 timeout=300,

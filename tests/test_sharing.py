@@ -6,40 +6,20 @@ command resumes the haul each time.
 """
 import contextlib
 import os
-import shutil
 import signal
 import subprocess
-import tempfile
 import time
-from collections.abc import Iterator
+from pathlib import Path
 
 import pytest
 
 from clients import check, same
-from haul_runs import GREATEST_FIRST, PROGRAM, ROOTS, TOP, need_programs, run, table
+from haul_runs import GREATEST_FIRST, PROGRAM, ROOTS, TOP, run, table
+from scripts import needs
 
-pytestmark = pytest.mark.long
+pytestmark = [pytest.mark.long, pytest.mark.usefixtures("haul_programs")]
 ADD = os.path.join(TOP, "examples", "scripts", "add-hauls")
 PARALLEL = os.path.join(TOP, "deploy", "haul", "parallel")
-
-
-@pytest.fixture(scope="module", autouse=True)
-def programs() -> None:
-    need_programs()
-
-
-@pytest.fixture
-def room() -> Iterator[str]:
-    """A new folder."""
-    with tempfile.TemporaryDirectory() as path:
-        yield path
-
-
-def needs(*programs: str) -> None:
-    """Skips a test if one of these programs is not installed."""
-    for name in programs:
-        if not shutil.which(name):
-            pytest.skip(f"{name} is not installed")
 
 
 # ---- add-hauls
@@ -178,7 +158,7 @@ NOT_ADDED = {
 }
 
 
-def written(folder: str, name: str, text: str) -> str:
+def written(folder: Path, name: str, text: str) -> str:
     """The path of a new file."""
     path = os.path.join(folder, name)
     with open(path, "w", encoding="utf-8", newline="") as file:
@@ -187,23 +167,23 @@ def written(folder: str, name: str, text: str) -> str:
 
 
 @pytest.mark.parametrize("name, tables, wanted", SUMS, ids=[name for name, *_ in SUMS])
-def test_sum(name: str, tables: list[str], wanted: str, room: str) -> None:
+def test_sum(name: str, tables: list[str], wanted: str, tmp_path: Path) -> None:
     """Tables of ranges of one haul add up, in any order."""
     needs("sqlite3")
-    files = [written(room, f'the {number}. "table\'s".csv', text) for number, text in enumerate(tables)]
+    files = [written(tmp_path, f'the {number}. "table\'s".csv', text) for number, text in enumerate(tables)]
     same(f"the sum of {name}", run(ADD, *files), (0, wanted, ""))
 
 
-def test_sums_of_files(room: str) -> None:
+def test_sums_of_files(tmp_path: Path) -> None:
     """Tables from pipes; sqlite3 with settings of one's own; the same table twice; files that are not there; a full
     disk."""
     needs("sqlite3")
-    whole, other = written(room, "whole.csv", WHOLE), written(room, "other.csv", AFTER)
+    whole, other = written(tmp_path, "whole.csv", WHOLE), written(tmp_path, "other.csv", AFTER)
     same("tables from pipes", run("bash", "-c", '"$0" <(cat "$1") <(cat "$2")', ADD, whole, other), (0, BOTH, ""))
-    written(room, ".sqliterc", ".mode column\n.headers on\n.nullvalue none\n")
-    same("settings in ~/.sqliterc", run(ADD, whole, env=os.environ | {"HOME": room}), (0, WHOLE, ""))
+    written(tmp_path, ".sqliterc", ".mode column\n.headers on\n.nullvalue none\n")
+    same("settings in ~/.sqliterc", run(ADD, whole, env=os.environ | {"HOME": str(tmp_path)}), (0, WHOLE, ""))
     same("a table twice", run(ADD, whole, whole), (1, "", f"add-hauls: {whole}: soup 5 is in another table too\n"))
-    for file in (os.path.join(room, "nowhere.csv"), room):
+    for file in (os.path.join(tmp_path, "nowhere.csv"), str(tmp_path)):
         same(f"not a file: {file}", run(ADD, whole, file), (1, "", f"add-hauls: {file}: cannot be read\n"))
     same("no arguments", run(ADD), (2, "", "add-hauls: Usage: add-hauls A.csv B.csv ..\n"))
     status, output, _ = run("bash", "-c", '"$0" "$1" > /dev/full', ADD, whole)
@@ -211,31 +191,31 @@ def test_sums_of_files(room: str) -> None:
 
 
 @pytest.mark.parametrize("name", NOT_TABLES)
-def test_not_a_table(name: str, room: str) -> None:
+def test_not_a_table(name: str, tmp_path: Path) -> None:
     """A file that is not a whole table is not added, and the line is said."""
     needs("sqlite3")
     text, wrong = NOT_TABLES[name]
-    whole, other = written(room, "whole.csv", WHOLE), written(room, "other.csv", AFTER)
-    file = written(room, "not-a-table.csv", text)
+    whole, other = written(tmp_path, "whole.csv", WHOLE), written(tmp_path, "other.csv", AFTER)
+    file = written(tmp_path, "not-a-table.csv", text)
     wanted = f"add-hauls: {file}: not a whole table of a haul: {wrong}\n"
     same(f"not a table: {name}", run(ADD, whole, file, other), (1, "", wanted))
 
 
 @pytest.mark.parametrize("name", NOT_ADDED)
-def test_not_added(name: str, room: str) -> None:
+def test_not_added(name: str, tmp_path: Path) -> None:
     """A table that is wrong, or of another haul, is not added."""
     needs("sqlite3")
     text, wrong = NOT_ADDED[name]
-    whole, file = written(room, "whole.csv", WHOLE), written(room, "not-added.csv", text)
+    whole, file = written(tmp_path, "whole.csv", WHOLE), written(tmp_path, "not-added.csv", text)
     same(f"not added: {name}", run(ADD, whole, file), (1, "", f"add-hauls: {file}: {wrong.format(whole)}\n"))
 
 
-def test_symmetries_not_added(room: str) -> None:
+def test_symmetries_not_added(tmp_path: Path) -> None:
     """Tables of two symmetries are not added."""
     needs("sqlite3")
-    whole = written(room, "whole.csv", WHOLE)
+    whole = written(tmp_path, "whole.csv", WHOLE)
     wide, mirrored = (
-        written(room, f"{name}.csv", AFTER.replace("# limit 60\n", of))
+        written(tmp_path, f"{name}.csv", AFTER.replace("# limit 60\n", of))
         for name, of in (("wide", OF_8X32), ("mirrored", OF_D2))
     )
     for one, other, said in ((wide, whole, ("C1", "8x32")), (wide, mirrored, ("D2_+2", "8x32"))):
@@ -243,11 +223,11 @@ def test_symmetries_not_added(room: str) -> None:
         same(f"not added: {other} to {one}", run(ADD, one, other), (1, "", f"add-hauls: {other}: {wrong}\n"))
 
 
-def test_sum_of_ranges(room: str) -> None:
+def test_sum_of_ranges(tmp_path: Path) -> None:
     """Tables of the program add up to its table of all."""
     needs("sqlite3")
     ranges = [
-        written(room, f"{first}.csv", table("tst", first, count, 100, 4))
+        written(tmp_path, f"{first}.csv", table("tst", first, count, 100, 4))
         for first, count in ((40, 60), (0, 1), (1, 39))
     ]
     same("the sum of ranges", run(ADD, *ranges), (0, table("tst", 0, 100, 100, 4), ""))
@@ -338,11 +318,11 @@ def end_run(command: list[str], folder: str) -> None:
     check(f"pieces are left: {logged(folder)}", 10 <= len(logged(folder)) < PIECES)
 
 
-def test_parallel(room: str) -> None:
+def test_parallel(tmp_path: Path) -> None:
     """After a killed worker, a killed run and one that is ended, the same command resumes the haul and counts nothing
     twice."""
     needs("parallel", "sqlite3")
-    folder = os.path.join(room, "shared")
+    folder = os.path.join(tmp_path, "shared")
     command = [
         PARALLEL,
         *map(str, SHARED),
@@ -365,15 +345,15 @@ def test_parallel(room: str) -> None:
     same("no piece is counted then", len(logged(folder)), PIECES + 1)
 
 
-def test_folders(room: str) -> None:
+def test_folders(tmp_path: Path) -> None:
     """Arguments that a shell would parse; the folder of something else; a table that is lost."""
     needs("parallel", "sqlite3")
-    folder = os.path.join(room, "a folder's {1} $HOME")
+    folder = os.path.join(tmp_path, "a folder's {1} $HOME")
     haul = [ROOTS[1], "3", "20", "5", "2"]
     options = ["--folder", folder, "--size", "7", "--program", PROGRAM]
     wanted = table(ROOTS[1], 3, 20, 5, 2)
     same("arguments that a shell would parse", run(PARALLEL, *haul, *options), (0, wanted, ""))
-    mirrored = ["--symmetry", "D2_+1", "--folder", os.path.join(room, "mirrored"), *options[2:]]
+    mirrored = ["--symmetry", "D2_+1", "--folder", os.path.join(tmp_path, "mirrored"), *options[2:]]
     of_symmetry = table(ROOTS[1], 3, 20, 5, 2, symmetry="D2_+1")
     same("pieces of a symmetry", run(PARALLEL, *haul, *mirrored), (0, of_symmetry, ""))
     another = f"haul/parallel: {folder}: this folder belongs to another haul (its arguments are in haul.json)\n"
@@ -394,11 +374,11 @@ def test_folders(room: str) -> None:
     same("a lost table, without the log", run(PARALLEL, *haul, *options), (0, wanted, ""))
 
 
-def test_refused_folders(room: str) -> None:
+def test_refused_folders(tmp_path: Path) -> None:
     """What the program refuses is refused alike. For this and for a usage error no folder is made."""
     needs("parallel")
     haul = ["a", "0", "20", "5", "2"]
-    options = ["--folder", os.path.join(room, "new"), "--program", PROGRAM]
+    options = ["--folder", os.path.join(tmp_path, "new"), "--program", PROGRAM]
     for arguments, line in [
         (["a b", *haul[1:]], "out-of-limit"),
         (["a", "0", "0", "5", "2"], "out-of-limit"),
@@ -419,7 +399,7 @@ def test_refused_folders(room: str) -> None:
         status, output, errors = run(PARALLEL, *arguments, *options)
         usage = "usage: parallel "
         same(f"usage of parallel {arguments}", (status, output, errors[: len(usage)]), (2, "", usage))
-    nowhere = os.path.join(room, "nowhere")
+    nowhere = os.path.join(tmp_path, "nowhere")
     found = run(PARALLEL, *haul, *options[:3], nowhere)
     same("no program", found, (1, "", f"haul/parallel: {nowhere}: No such file or directory\n"))
-    same("no folder is made", os.listdir(room), [])
+    same("no folder is made", os.listdir(tmp_path), [])

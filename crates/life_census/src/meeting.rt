@@ -18,7 +18,7 @@ ghost use Rattle.life_census.specs.SurveyState.{IsSurvey};
 
 use crate::cluster::clusters;
 use crate::rows::Tally;
-use crate::survey::{Search, Shape, stays};
+use crate::survey::{Search, Shape, stays_in_place};
 use crate::tallying::{tally_of, tally_of_one};
 use life_code::{PERIOD_LIMIT, kind};
 use life_core::{Cell, Fault, Pattern, Rule};
@@ -47,7 +47,7 @@ pub fn steady<A: Allocator + Copy>(
 {
     let clusters = clusters(alloc, pattern)?;
     if clusters.len() == 1 {
-        return Ok(stays(kind(alloc, rule, pattern, limit)?));
+        return Ok(stays_in_place(kind(alloc, rule, pattern, limit)?));
     }
     let search = Search::new(alloc, rule, limit);
     never_meet(&search, &clusters, &mut Vec::new(alloc))
@@ -71,7 +71,7 @@ pub fn tally_and_steady<A: Allocator + Copy>(
     if clusters.len() == 1 {
         let kind = kind(alloc, rule, pattern, limit)?;
         let tally = tally_of_one(&search, pattern, kind)?;
-        return Ok((tally, stays(kind)));
+        return Ok((tally, stays_in_place(kind)));
     }
     let mut shapes = Vec::new(alloc);
     // It ends at the first cluster that moves or is unresolved, so no phases of later shapes are listed.

@@ -166,7 +166,7 @@ fn add_shape<A: Allocator>(shapes: &mut Vec<Shape<A>, A>, shape: Shape<A>) -> Re
 }
 
 /// Whether a cluster of this kind stays in place.
-pub fn stays(kind: Kind) -> bool
+pub fn stays_in_place(kind: Kind) -> bool
     ensures { result ≡ is_staying kind }
 {
     matches!(kind, Kind::Still | Kind::Oscillator(_))

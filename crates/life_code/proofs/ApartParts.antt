@@ -20,8 +20,8 @@ use Rattle.life_code.specs.declared.apart.Moving.{Moving}
 use Rattle.life_code.specs.declared.frames.Frame.{Frame}
 use Rattle.life_code.specs.Apart.{AreApart, AreAllApart, union_of}
 use Rattle.life_code.specs.FramesState.{HasMoved}
-use Rattle.life_code.specs.ApartState.{IsOrbit, IsMoving, AreMoving, KeepApart, KeepsApartFrom, PartWays, AreParted}
-use Rattle.life_code.specs.ApartState.{parts_of}
+use Rattle.life_code.specs.ApartState.{IsOrbit, IsMoving, AreMoving, KeepApart, KeepsApartFrom, AreParted}
+use Rattle.life_code.specs.ApartState.{SomeMoveDifferently, parts_of}
 use Rattle.life_code.specs.Period.{Returns}
 use Rattle.life_code.specs.PeriodState.{NeverReturns}
 use Rattle.life_code.proofs.ApartBlocks.{or-false}
@@ -199,7 +199,7 @@ part_in {A} parts m (k, low, at) = (
 )
 
 pub never_by_parts : {A : Type 0} (r : RuleSets) (X : Cells) (parts : List (Moving A)) → IsRule r
-    → AreMoving r parts → union_of (parts_of parts) ≡ X → PartWays parts → NeverReturns r X
+    → AreMoving r parts → union_of (parts_of parts) ≡ X → SomeMoveDifferently parts → NeverReturns r X
 never_by_parts {A} r X parts rule are whole ways n from dx dy back =
     let m = All-contains (IsMoving r) parts ways.m are.each ways.has_m in
     let o = All-contains (IsMoving r) parts ways.n are.each ways.has_n in

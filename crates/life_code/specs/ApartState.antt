@@ -76,7 +76,7 @@ abbrev pub KeepsApartFrom : {A : Type 0} → List (Moving A) → Orbit → Type 
 KeepsApartFrom {A} parts o = All (λ (m : Moving A). KeepApart m.orbit o) parts
 
 -- two of the parts don't move by as much
-pub record PartWays {A : Type 0} (parts : List (Moving A)) : Type 0 where
+pub record SomeMoveDifferently {A : Type 0} (parts : List (Moving A)) : Type 0 where
   pub m : Moving A
   pub n : Moving A
   pub has_m : Contains parts m

@@ -5,7 +5,7 @@ ghost use Rattle.std.specs.FinSet as set;
 ghost use Rattle.life_core.specs.Pattern.{IsWithin};
 ghost use Rattle.life_core.specs.Rule.{IsRule};
 ghost use Rattle.life_code.specs.Apart.{union_of};
-ghost use Rattle.life_code.specs.ApartState.{IsOrbit, ComesNoNearer, KeepsLeft, KeepsAbove, KeepsUpperLeft, KeepsUpperRight, KeepsAside, KeepApart, MoveDifferently, IsMoving, AreMoving, KeepsApartFrom, PartWays, AreParted, parts_of};
+ghost use Rattle.life_code.specs.ApartState.{IsOrbit, ComesNoNearer, KeepsLeft, KeepsAbove, KeepsUpperLeft, KeepsUpperRight, KeepsAside, KeepApart, MoveDifferently, IsMoving, AreMoving, KeepsApartFrom, SomeMoveDifferently, AreParted, parts_of};
 ghost use Rattle.life_code.specs.PeriodState.{NeverReturns};
 
 use crate::frames::{Frame, frames_of};
@@ -324,8 +324,8 @@ fn moving_part<A: Allocator + Copy, P: Plane<A>>(
 }
 
 /// Whether two of the parts move differently.
-fn part_ways<A: Allocator>(parts: &[Moving<A>]) -> bool
-    ensures { IsTrue result → PartWays parts.now }
+fn some_move_differently<A: Allocator>(parts: &[Moving<A>]) -> bool
+    ensures { IsTrue result → SomeMoveDifferently parts.now }
 {
     if parts.is_empty() {
         return false;
@@ -390,7 +390,7 @@ pub fn moves_apart<A: Allocator + Copy, P: Plane<A>>(
         return Ok(false);
     }
     match moving_parts::<A, P>(alloc, rule, pattern, limit, i64::MAX, &mut Vec::new(alloc))? {
-        Some(parts) => Ok(part_ways(&parts)),
+        Some(parts) => Ok(some_move_differently(&parts)),
         None => Ok(false),
     }
 }

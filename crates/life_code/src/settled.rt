@@ -179,7 +179,7 @@ fn later_parts<A: Allocator + Copy>(
 }
 
 /// Generation `n` of a field, if it is seen to have settled.
-fn settled<A: Allocator + Copy, P: Plane<A>>(
+fn generation_if_settled<A: Allocator + Copy, P: Plane<A>>(
     alloc: A,
     rule: &Rule,
     field: &Pattern<A>,
@@ -216,7 +216,7 @@ fn first_look<A: Allocator + Copy, P: Plane<A>>(
     ensures later { IfOk result (λ o. IfSome o (λ X. X ≡ generation_of rule.now pattern.now n)) }
 {
     match start {
-        Start::Scattered => settled::<A, P>(alloc, rule, pattern, n, known),
+        Start::Scattered => generation_if_settled::<A, P>(alloc, rule, pattern, n, known),
         _ => Ok(None),
     }
 }
@@ -268,7 +268,7 @@ fn look<A: Allocator + Copy, P: Plane<A>>(
     if !may_be_settled(start, before, *last) {
         return Ok(None);
     }
-    settled::<A, P>(alloc, rule, &field, n, known)
+    generation_if_settled::<A, P>(alloc, rule, &field, n, known)
 }
 
 /// Generation `n` of the pattern, made on a plane of the kind `P` until it is seen to have settled.

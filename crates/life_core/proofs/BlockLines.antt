@@ -6,7 +6,7 @@ use Rattle.std.proofs.lemmas.Nat.{mul-le}
 use Rattle.life_core.specs.PackedRow.{place}
 use Rattle.life_core.specs.PackedBlocksState.{IsOutside}
 use Rattle.life_core.proofs.LanePlaces.{place-lt}
-use Rattle.life_core.proofs.Waking.{changed_or_same}
+use Rattle.life_core.proofs.BlockChanges.{changed_or_same}
 use Rattle.life_core.specs.PackedMarksState.{IsMarked, KeepsMarks, IsWoken, IsStepped, IsAdvanced, block_at, mark_at}
 use Rattle.life_core.specs.PackedMarksState.{place_at}
 

@@ -37,7 +37,7 @@ pub mod PackedOrder
 pub mod LanePlaces
 pub mod LifeLanes
 pub mod BlockRows
-pub mod Waking
+pub mod BlockChanges
 pub mod BlockLines
 pub mod FlatSteps
 pub mod BlockPlanes

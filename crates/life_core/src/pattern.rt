@@ -255,7 +255,7 @@ fn shift_between(runs: &[Run], others: &[Run]) -> Option<(i64, i64)>
 {
     let from = runs.first()?;
     let to = others.first()?;
-    let shift = way(*from, *to);
+    let shift = run_shift(*from, *to);
     if are_moved(runs, others, shift) {
         Some(shift)
     } else {
@@ -264,7 +264,7 @@ fn shift_between(runs: &[Run], others: &[Run]) -> Option<(i64, i64)>
 }
 
 /// The columns and rows from the first cell of one run to that of another.
-fn way(from: Run, to: Run) -> (i64, i64)
+fn run_shift(from: Run, to: Run) -> (i64, i64)
     ensures columns { result.0 ≡ to.first -ℤ from.first }
     ensures rows { result.1 ≡ to.row -ℤ from.row }
 {
@@ -289,7 +289,7 @@ fn are_moved(runs: &[Run], others: &[Run], shift: (i64, i64)) -> bool
 fn goes_to(run: Run, other: Run, shift: (i64, i64)) -> bool
     ensures { IsTrue result ↔ (moved_run shift.0 shift.1 run ≡ other) }
 {
-    let own = way(run, other);
+    let own = run_shift(run, other);
     if own.0 != shift.0 {
         return false;
     }

@@ -1,6 +1,6 @@
 -- What a job answers, from what its steps answer.
-use Rattle.std.specs.Prelude.{◌≡◌, ◌≢◌, ◌⊎◌, ℕ, List, codes, Option, None, Some, Result, Ok, Err}
-use Rattle.std.proofs.Common.{ap, ◌∙◌, sym, subst, inl, inr}
+use Rattle.std.specs.Prelude.{◌≡◌, ◌≢◌, ℕ, List, Option, None, Some, Result, Ok, Err}
+use Rattle.std.proofs.Common.{ap, ◌∙◌, sym, subst}
 use Rattle.life_core.specs.Generations.{generation_of}
 use Rattle.life_core.specs.Pattern.{Cells}
 use Rattle.life_core.specs.Rule.{RuleSets}
@@ -10,12 +10,9 @@ use Rattle.life_rle.specs.Fault.{◌>>=◌}
 use Rattle.life_rle.specs.File.{file}
 use Rattle.life_rle.specs.Record.{Contents, plain}
 use Rattle.life_rle.specs.Writer.{text as printed}
-use Rattle.life_code.specs.declared.kinds.Kind.{Kind}
-use Rattle.life_code.specs.declared.kinds.Kind.TheVariants.{Empty, Unresolved}
 use Rattle.life_code.specs.declared.fault.CodeFault.{CodeFault}
 use Rattle.life_code.specs.declared.fault.CodeFault.TheVariants as code_faults
-use Rattle.life_code.specs.Period.{kind_of}
-use Rattle.life_code.specs.Codes.{code_of, code_by_kind}
+use Rattle.life_code.specs.Codes.{code_of}
 use Rattle.life_code.specs.Open.{Spells, Refuses}
 use Rattle.life_census.specs.Cluster.{clusters_of}
 use Rattle.life_census.specs.Rows.{TallyCounts}
@@ -24,7 +21,7 @@ use Rattle.life_census.specs.Table.{csv_text}
 use Rattle.life_jobs.specs.declared.stop.Stop.{Stop}
 use Rattle.life_jobs.specs.declared.stop.Stop.TheVariants.{OutOfLimit, BadPattern, BadRule, BadCode, Unreadable}
 use Rattle.life_jobs.specs.declared.stop.Stop.TheVariants.{Unavailable, Unwritable}
-use Rattle.life_jobs.specs.Jobs.{IsPeriodLimit, code_or_dash, file_text, census_table, PrintsObject, PutsObject}
+use Rattle.life_jobs.specs.Jobs.{IsPeriodLimit, file_text, census_table, PrintsObject, PutsObject}
 use Rattle.life_jobs.specs.Jobs.{PutsKnown}
 use Rattle.life_jobs.specs.JobsState.{code_stop}
 use Rattle.life_jobs.specs.Streams.{ReadsKnown, PutsText}
@@ -67,15 +64,6 @@ module _ (shown : Contents → List ℕ) where
   puts_text (Some bytes) old new r all (Err Unreadable) h is puts = tt
   puts_text (Some bytes) old new r all (Err Unavailable) h is puts = tt
   puts_text (Some bytes) old new r all (Err Unwritable) h is puts = (all, text_of_file bytes r h ∙ ap Ok (sym is), puts)
-
--- ---- the line of a kind
-
--- there is no code without a cell or without a period
-pub no_code : (r : RuleSets) (X : Cells) (limit : ℕ) (k : Kind) → k ≡ kind_of r X limit → (k ≡ Empty) ⊎ (k ≡ Unresolved)
-    → codes "-" ≡ code_or_dash (code_of r X limit)
-unfolding code_of
-no_code r X limit k is (inl empty) = ap (λ k. code_or_dash (code_by_kind r X k)) (sym empty ∙ is)
-no_code r X limit k is (inr unresolved) = ap (λ k. code_or_dash (code_by_kind r X k)) (sym unresolved ∙ is)
 
 -- ---- the table of a census
 

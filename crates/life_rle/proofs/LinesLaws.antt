@@ -8,20 +8,20 @@ use Rattle.life_rle.specs.Lines.{trim_start, trim_end, trim, lines_after}
 use Rattle.life_rle.specs.Record.{HasNoLineEnd}
 
 -- the list is empty or begins with no blank
-abbrev pub Begins : List ℕ → Type 0
-Begins [] = Unit {0}
-Begins (b ∷ bytes) = is_blank b ≡ false
+abbrev pub BeginsWithNoBlank : List ℕ → Type 0
+BeginsWithNoBlank [] = Unit {0}
+BeginsWithNoBlank (b ∷ bytes) = is_blank b ≡ false
 
-begins_kept : (bytes : List ℕ) → Begins bytes → trim_start bytes ≡ bytes
+begins_kept : (bytes : List ℕ) → BeginsWithNoBlank bytes → trim_start bytes ≡ bytes
 begins_kept [] h = refl
 begins_kept (b ∷ bytes) h = ap (λ t. cond t (trim_start bytes) (b ∷ bytes)) h
 
-begins_trimmed_by : (t : Bool) (b : ℕ) (bytes : List ℕ) → is_blank b ≡ t → Begins (trim_start bytes)
-    → Begins (cond t (trim_start bytes) (b ∷ bytes))
+begins_trimmed_by : (t : Bool) (b : ℕ) (bytes : List ℕ) → is_blank b ≡ t → BeginsWithNoBlank (trim_start bytes)
+    → BeginsWithNoBlank (cond t (trim_start bytes) (b ∷ bytes))
 begins_trimmed_by true b bytes h g = g
 begins_trimmed_by false b bytes h g = h
 
-begins_trimmed : (bytes : List ℕ) → Begins (trim_start bytes)
+begins_trimmed : (bytes : List ℕ) → BeginsWithNoBlank (trim_start bytes)
 begins_trimmed [] = tt
 begins_trimmed (b ∷ bytes) = begins_trimmed_by (is_blank b) b bytes refl (begins_trimmed bytes)
 
@@ -41,9 +41,9 @@ trim_end_cons b bytes h =
     ap (λ s. reverse (trim_start s)) (reverse-append (b ∷ []) bytes) ∙ ap reverse (trim_push (reverse bytes) b h)
     ∙ reverse-append (trim_start (reverse bytes)) (b ∷ [])
 
-begins_end : (bytes : List ℕ) → Begins bytes → Begins (trim_end bytes)
+begins_end : (bytes : List ℕ) → BeginsWithNoBlank bytes → BeginsWithNoBlank (trim_end bytes)
 begins_end [] h = tt
-begins_end (b ∷ bytes) h = subst Begins (sym (trim_end_cons b bytes h)) h
+begins_end (b ∷ bytes) h = subst BeginsWithNoBlank (sym (trim_end_cons b bytes h)) h
 
 trim_end_twice : (bytes : List ℕ) → trim_end (trim_end bytes) ≡ trim_end bytes
 trim_end_twice bytes =

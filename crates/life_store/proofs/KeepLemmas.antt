@@ -374,12 +374,12 @@ pub was_clean : (old new : State) → doubt old.is_clean ≤ doubt new.is_clean 
 was_clean old new clean healthy = let now = (healthy_is new healthy).0 in omega (arith, clean, now)
 
 -- what a query tells that was asked over healthy tables
-pub told : (s : State) (sql : List ℕ) (params : Row) (old : State) (Q : List Row → Type 0) (r : Answered)
+pub query_tells : (s : State) (sql : List ℕ) (params : Row) (old : State) (Q : List Row → Type 0) (r : Answered)
     → ((rows : List Row) → Shown sql params old s rows → Q rows)
     → (HasCleanDisk s → IfOk r (λ rows. Shown sql params old s rows.items)) → IsTrue (tables_of s).is_healthy
     → IfOk r (λ rows. Q rows.items)
-told s sql params old Q (Ok rows) tells shown healthy = tells rows.items (shown (healthy_is s healthy).0)
-told s sql params old Q (Err e) tells shown healthy = tt
+query_tells s sql params old Q (Ok rows) tells shown healthy = tells rows.items (shown (healthy_is s healthy).0)
+query_tells s sql params old Q (Err e) tells shown healthy = tt
 
 -- what the answer to a query shows of what the tables hold
 pub tells_held : (sql : List ℕ) (params : Row) (old new : State) (Q : Kept → List Row → Type 0)
@@ -388,7 +388,7 @@ pub tells_held : (sql : List ℕ) (params : Row) (old new : State) (Q : Kept →
     → (HasCleanDisk new → IfOk r (λ rows. Shown sql params old new rows.items))
     → ForAllHeld (tables_of old) (tables_of new) (λ k. IfOk r (λ rows. Q k rows.items))
 tells_held sql params old new Q tells r shown k healthy holds =
-    told new sql params old (Q k) r (λ rows. tells k rows holds) shown healthy
+    query_tells new sql params old (Q k) r (λ rows. tells k rows holds) shown healthy
 
 -- the same of a query with one number
 pub tells_held_at : (sql : List ℕ) (id : ℤ) (old new : State) (Q : ℕ → Kept → List Row → Type 0)

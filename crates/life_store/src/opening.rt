@@ -235,7 +235,7 @@ impl Archive<MemStore> {
 }
 
 /// The connection of the archive; where a transaction is open, its store alone.
-fn settled<S: Alter + Drop>(archive: Archive<S>) -> Result<Connection<S>, S>
+fn idle_connection<S: Alter + Drop>(archive: Archive<S>) -> Result<Connection<S>, S>
     ensures ok { IfOk result (λ conn. IsSettled (state S.Store conn) archive.tables) }
     ensures store { IfOk result (λ conn. conn.store ≡ archive.store) }
     ensures quiet { IfErr result (λ store. IsQuiet S.Store.view S.Store.faults S.Store.recovers S.Store.is_shielded archive.store store) }
@@ -380,7 +380,7 @@ impl<D: Disk + Drop> Archive<FileStore<D>> {
         ensures kept { IfErr result (λ e. (k : Kept) → IsTrue self.tables.is_healthy → Holds self.tables k → AreClean D.Disk e.1.log e.1.db → LeftHold D.Disk e.1 k ⊎ HaveFailedSince self.store e.1) }
     {
         self.law_of_crashes();
-        match settled(self) {
+        match idle_connection(self) {
             Ok(conn) => match close(conn) {
                 Ok(files) => Ok(files),
                 Err(files) => Err((Unavailable, files)),

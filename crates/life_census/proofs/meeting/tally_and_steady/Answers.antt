@@ -22,12 +22,12 @@ pub returns-then-len-eq1-clause-steady : goal.returns-then-len-eq1-clause-steady
 returns-then-len-eq1-clause-steady g c =
     let one : length c.in_ok-clusters.clusters.items ≡ 1 =
     omega (arith, c.len.ensures, c.if-len-eq1.true, c.in_ok-clusters.clusters.ok) in
-    one_cluster_steady c.args.rule.now c.args.limit c.args.pattern.now _ c.stays.result
-    (whole_part c.args.pattern.now _ c.in_ok-clusters.ensures one) c.in_ok-kind.ensures.value c.stays.ensures
+    one_cluster_steady c.args.rule.now c.args.limit c.args.pattern.now _ c.stays_in_place.result
+    (whole_part c.args.pattern.now _ c.in_ok-clusters.ensures one) c.in_ok-kind.ensures.value c.stays_in_place.ensures
 
 pub returns-then-len-eq1-clause-computed : goal.returns-then-len-eq1-clause-computed
 returns-then-len-eq1-clause-computed g c =
-    steady_computed c.args.rule.now c.args.pattern.now c.args.limit c.stays.result
+    steady_computed c.args.rule.now c.args.pattern.now c.args.limit c.stays_in_place.result
     (returns-then-len-eq1-clause-steady g c)
 
 pub never_meet-requires-clause-room : goal.never_meet-requires-clause-room

@@ -5,7 +5,7 @@ use Rattle.life_store.specs.OpeningState.{column_of}
 use Rattle.life_store.proofs.Statements.{version_text}
 use Rattle.life_store.proofs.Texts.{version_asks}
 use Rattle.life_store.proofs.CrashLemmas.{asks_nothing}
-use Rattle.life_store.proofs.KeepLemmas.{seen_same, told, open_when_shown}
+use Rattle.life_store.proofs.KeepLemmas.{seen_same, query_tells, open_when_shown}
 use Rattle.life_store.proofs.OpenLemmas.{version_plain, finds_own}
 use Rattle.life_store.proofs.opening.versions.Goals as goal
 
@@ -18,7 +18,7 @@ returns g c =
           λ schema own known healthy is. seen_same version_text [] schema old new
           (version_plain schema own known) c.query.result c.query.ensures.shown c.query.ensures.refused healthy is;
       tells = λ schema own versions known healthy have.
-          told new version_text [] old (λ rows. (rows ≡ column_of own) ↔ (versions ≡ own)) c.query.result
+          query_tells new version_text [] old (λ rows. (rows ≡ column_of own) ↔ (versions ≡ own)) c.query.result
           (λ rows. finds_own old new schema own versions rows known have) c.query.ensures.shown healthy;
       up = λ clean. open_when_shown version_text [] old new c.query.result (c.query.ensures.shown clean);
       clean = c.query.ensures.clean;

@@ -1,5 +1,5 @@
 use Rattle.std.proofs.Common.{get_or, sym, ap, arith}
-use Rattle.life_code.proofs.apart.part_ways.Goals as goal
+use Rattle.life_code.proofs.apart.some_move_differently.Goals as goal
 
 pub returns-then-moves_otherwise : goal.returns-then-moves_otherwise
 returns-then-moves_otherwise g c = λ seen. record {

@@ -5,7 +5,7 @@ use Rattle.life_code.specs.Apart.{union_of}
 use Rattle.life_code.specs.ApartState.{AreMoving, parts_of}
 use Rattle.life_code.specs.SettledState.{IsMovingWithin}
 use Rattle.life_code.proofs.SettledLemmas.{moving_within, settled_is, if_some}
-use Rattle.life_code.proofs.settled.settled.Goals as goal
+use Rattle.life_code.proofs.settled.generation_if_settled.Goals as goal
 
 pub later_parts-requires-clause-moving : goal.later_parts-requires-clause-moving
 later_parts-requires-clause-moving g c =

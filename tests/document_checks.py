@@ -10,7 +10,7 @@ from collections.abc import Callable, Iterator, Mapping
 
 import phrases
 from clients import HERE
-from tables import clauses, kit, limits, places, refusals, replies, routes, sources, texts
+from tables import clauses, kit, limits, places, program, refusals, routes, sources, texts
 
 TOP = os.path.dirname(HERE)
 # The text of each file that a check reads, by its path; and for each thing that it looks at, its problem or None.
@@ -32,24 +32,8 @@ DECISIONS = "docs/DECISIONS.md"
 REFUSALS, LIMITS, ROUTES, ADDRESSES, CLAUSES = refusals.PATH, limits.PATH, routes.ROUTES, routes.ADDRESSES, clauses.PATH
 SENTENCES, SCRIPTS = "web/requests/refusals.js", "examples/scripts/asking.sh"
 SITE, PROXY = routes.SITE, routes.PROXY
-EXPLAIN, NAMES_OF_REFUSALS, WORDS = (
-    "crates/life_words/src/explain.rt",
-    "crates/life_words/specs/Explain.antt",
-    "crates/life_words/src/life_arguments.rt",
-)
-# The sources that have a case for each route.
-ROUTER, ASKED = "crates/life_pages/src/route.rt", "crates/life_pages/src/asked.rt"
-ROUTE_SPECS, ROUTER_SPECS, ASKED_SPECS = (
-    f"crates/life_pages/specs/{name}.antt" for name in ("Route", "RouteState", "Asked")
-)
-ROUTE_FINDING, ROUTE_EXAMPLES, ROUTES_ADDED = (
-    f"crates/life_pages/proofs/{name}.antt"
-    for name in ("RouteFinding", "RouteExamples", "route/add_deposit_routes/Answers")
-)
-STEPS, RUNS = "crates/life_desk/proofs/Steps.antt", "crates/life_desk/proofs/Runs.antt"
-# The replies, and the proofs that have a case for each.
-DECLARED, REPLIES = replies.DECLARED, replies.PATH
-APART, STATUSES = "crates/life_pages/proofs/RepliesApart.antt", "crates/life_pages/proofs/ReplyStatuses.antt"
+# What the program prints of its tables, its sentences, and the help that lists the names of refusals.
+TABLES, EXPLAIN, HELP = program.PATH, "crates/life_words/src/explain.rt", refusals.HELP
 OTHERS = [
     REFUSALS,
     LIMITS,
@@ -60,23 +44,9 @@ OTHERS = [
     SCRIPTS,
     SITE,
     PROXY,
+    TABLES,
     EXPLAIN,
-    NAMES_OF_REFUSALS,
-    WORDS,
-    ROUTER,
-    ASKED,
-    ROUTE_SPECS,
-    ROUTER_SPECS,
-    ASKED_SPECS,
-    ROUTE_FINDING,
-    ROUTE_EXAMPLES,
-    ROUTES_ADDED,
-    STEPS,
-    RUNS,
-    DECLARED,
-    REPLIES,
-    APART,
-    STATUSES,
+    HELP,
     kit.PATH,
     "web/main.js",
     "web/ahead.js",
@@ -365,50 +335,56 @@ def beside(pages: Pages) -> Problems:
         yield f"{path}: not written by docs/make-tables: {found[0][:60]}" if found else None
 
 
-# The kinds of the table of refusals in their order, those that have numbers, and those that may have a status of HTTP.
-KINDS, NUMBERED, WITH_STATUS = list(refusals.FRONTS), {"refusal", "file", "code"}, {"refusal", "gateway"}
+# The kinds of refusals in their order, and those that have numbers.
+KINDS, NUMBERED = list(refusals.LINES), {"refusal", "file", "code"}
 MOST_WORDS_OF_A_SENTENCE = 30
 
 
-def table_of(pages: Pages) -> list[dict[str, str]]:
-    return list(csv.DictReader(pages[REFUSALS].splitlines(), restval=""))
+def table_of(pages: Pages) -> list[refusals.Refusal]:
+    """The refusals and faults, by the program and by the table."""
+
+    def text(path: str) -> str:
+        return pages[path] if path in pages else read(path)
+
+    return refusals.read_refusals(text, limits.read_limits(text), program.read_program(text))
 
 
 def columns(pages: Pages, kind: str, *names_of_columns: str) -> list[tuple[str, ...]]:
     """These columns of the rows of a kind, in the order of the table."""
-    return [tuple(row[name] for name in names_of_columns) for row in table_of(pages) if row["kind"] == kind]
+    return [tuple(getattr(row, name) for name in names_of_columns) for row in table_of(pages) if row.kind == kind]
 
 
-def faults_of_row(row: dict[str, str]) -> Iterator[str]:
+def faults_of_row(row: refusals.Refusal) -> Iterator[str]:
     """The faults of a row of the table by itself."""
-    if row["kind"] not in KINDS or not re.fullmatch(r"[a-z]+(-[a-z]+)*", row["name"]):
-        yield "no kind, or no name"
-    if bool(row["number"]) != (row["kind"] in NUMBERED) or row["status"] and row["kind"] not in WITH_STATUS:
-        yield "a number or a status that its kind has not"
+    if not re.fullmatch(r"[a-z]+(-[a-z]+)*", row.name):
+        yield "no name"
     if (
-        bool(row["when"]) != (row["kind"] in NUMBERED)
-        or row["command"]
-        and not row["step"]
-        or row["kind"] == "program"
-        and not row["command"]
+        bool(row.when) != (row.kind in NUMBERED)
+        or row.command
+        and not row.order()
+        or row.kind == "program"
+        and not row.command
     ):
         yield "no cell for its document, or one too many"
-    if not row["sentence"].isascii() or not row["sentence"].endswith(".") or "'" in row["sentence"]:
+    if not row.sentence.isascii() or not row.sentence.endswith("."):
         yield "a sentence with other characters, or without its end"
-    if any(len(sentence.split()) > MOST_WORDS_OF_A_SENTENCE for sentence in re.split(r"(?<=[.!?]) ", row["sentence"])):
+    if any(len(sentence.split()) > MOST_WORDS_OF_A_SENTENCE for sentence in re.split(r"(?<=[.!?]) ", row.sentence)):
         yield "a long sentence"
 
 
 def table(pages: Pages) -> Problems:
     """The table of refusals has its form: kinds and numbers in their order, each name once in a kind, sentences that
     fit everywhere."""
-    all_rows = table_of(pages)
-    yield None if pages[REFUSALS].split("\n")[0] == ",".join(refusals.COLUMNS) else f"{REFUSALS}: another header"
-    for row in all_rows if set(refusals.COLUMNS) <= set(all_rows[0]) else []:
+    try:
+        all_rows = table_of(pages)
+    except texts.Fault as fault:
+        yield str(fault)
+        return
+    for row in all_rows:
         problems = list(faults_of_row(row))
-        yield f"{REFUSALS}: {row['kind']} {row['name']}: {'; '.join(problems)}" if problems else None
-    kinds = [row["kind"] for row in all_rows]
-    yield None if kinds == sorted(kinds, key=(KINDS + kinds).index) else f"{REFUSALS}: kinds in another order"
+        yield f"{REFUSALS}: {row.kind} {row.name}: {'; '.join(problems)}" if problems else None
+    kinds = [row.kind for row in all_rows]
+    yield None if kinds == sorted(kinds, key=KINDS.index) else f"{REFUSALS}: kinds in another order"
     for kind in KINDS:
         numbers, named = [number for number, in columns(pages, kind, "number")], columns(pages, kind, "name")
         in_order = (
@@ -416,9 +392,7 @@ def table(pages: Pages) -> Problems:
             if kind in NUMBERED
             else named == sorted(named)
         )
-        yield None if in_order and len(set(named)) == len(
-            named
-        ) > 0 else f"{REFUSALS}: {kind}: numbers or names that are out of order, or twice"
+        yield None if in_order and named else f"{REFUSALS}: {kind}: numbers or names that are out of order"
 
 
 def printed(pages: Pages) -> Problems:

@@ -18,32 +18,7 @@ import pytest
 
 from clients import check, same
 from document_changes import CHANGES, PLANTED
-from document_checks import (
-    APART,
-    API,
-    ASKED,
-    ASKED_SPECS,
-    CHECKS,
-    DECLARED,
-    FILES,
-    OTHERS,
-    PARTS,
-    PROXY,
-    Pages,
-    Problems,
-    REPLIES,
-    ROUTER,
-    ROUTER_SPECS,
-    ROUTES,
-    ROUTES_ADDED,
-    ROUTE_EXAMPLES,
-    ROUTE_SPECS,
-    RUNS,
-    SITE,
-    STATUSES,
-    STEPS,
-    read,
-)
+from document_checks import API, CHECKS, FILES, OTHERS, PARTS, PROXY, ROUTES, SITE, TABLES, Pages, Problems, read
 from tables import places
 
 pytestmark = pytest.mark.quick
@@ -64,24 +39,21 @@ def test_pages(problems: Callable[[Pages], Problems]) -> None:
         check(problem or problems.__name__, not problem)
 
 
-ROUTE_MORE = "GET,/deposits/{id}/cells/{n}/{code},Cells,CellsOf id n code,some cells,their text,fixed,dear\n"
+ROUTE_MORE = "GET,/deposits/{id}/cells/{n}/{code},some cells,their text,fixed,dear\n"
 
 
 def test_route_more() -> None:
-    """With one route more in the table, each file that has the routes is written, and what is written needs no
-    change."""
-    pages = {**PAGES, ROUTES: PAGES[ROUTES] + ROUTE_MORE}
+    """With one route more in the program and in the table, each file that has the routes is written, and what is
+    written needs no change."""
+    listed = '{ "method": "GET", "path": "/deposits/{id}/cells/{n}/{code}" },'
+    tables = PAGES[TABLES].replace('  "routes": [\n', f'  "routes": [\n    {listed}\n')
+    pages = {**PAGES, TABLES: tables, ROUTES: PAGES[ROUTES] + ROUTE_MORE}
     written, problems = places.written(lambda path: pages[path] if path in pages else read(path))
     same("problems of one route more", problems, [])
-    for path, name in [(ROUTER, "Cells"), (ASKED, "Route::Cells"), (ROUTE_SPECS, "Cells"), (ROUTER_SPECS, "Cells")] + [
-        (ASKED_SPECS, "routes.Cells"),
-        (ROUTE_EXAMPLES, "Some (Cells 7 8 "),
-        (ROUTES_ADDED, "Cells _ _"),
+    for path, name in [
         (API, "/cells/"),
         (SITE, "/cells/[0-9]+/[0-9a-z_]+)$"),
         (PROXY, " /cells/"),
-        (STEPS, "(good.CellsOf id n code)) none"),
-        (RUNS, "(good.CellsOf id n code) r is"),
     ]:
         check(f"{path} has the route", name in written[path] and name not in read(path))
     pages |= written
@@ -89,19 +61,11 @@ def test_route_more() -> None:
     same("what is written again", [problem for problem in again if problem], [])
 
 
-def test_reply_more() -> None:
-    """With one reply more in its definition, each proof with a case for each reply has it."""
-    pages = {
-        **PAGES,
-        DECLARED: PAGES[DECLARED].replace("    /// A total", "    /// Some cells.\n    Cells(Bytes),\n    /// A total"),
-        REPLIES: PAGES[REPLIES].replace(
-            "reply_body (says.Csv", "reply_body (says.Cells text) = text\nreply_body (says.Csv"
-        ),
-    }
-    written, problems = places.written(lambda path: pages[path] if path in pages else read(path))
-    same("problems of one reply more", problems, [])
-    for path, cases in ((APART, 2), (STATUSES, 1)):
-        same(f"cases of it in {path}", written[path].count("(replies.Cells text) = refl"), cases)
+def test_no_source_is_written() -> None:
+    """docs/make-tables writes nothing below crates/."""
+    written, problems = places.written(read)
+    same("problems", problems, [])
+    same("sources that it writes", [path for path in written if path.startswith("crates/")], [])
 
 
 @pytest.mark.parametrize("problems, path, before, after", CHANGES)

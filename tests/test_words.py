@@ -1,10 +1,9 @@
-"""What the programs say about their arguments: the text of `life explain` for each name in docs/refusals.csv, and the
+"""What the programs say about their arguments: the text of `life explain` for each name, and the
 hint after a usage error if a file is named although the pattern comes on standard input.
 
 No clause covers the sentences, so they are compared here, and so are the names in the help and in the usage error for
 an unknown name.
 """
-import csv
 import os
 import re
 import subprocess
@@ -14,7 +13,8 @@ import pytest
 
 import clients
 from clients import GLIDER, HERE, check, same
-from tables.refusals import FRONTS
+from tables.program import read_program
+from tables.texts import read_file
 
 TOP = os.path.join(HERE, "..")
 DRAW = os.path.abspath(os.path.join(TOP, "crates", "life_draw", "out", "life_draw"))
@@ -42,22 +42,8 @@ def said(called: str, *words: str, stdout: int | IO[str] = subprocess.PIPE) -> t
 
 
 def explanations() -> dict[str, str]:
-    """The lines for each name, in the order of the table, with the numbers of the limits that it names."""
-    found: dict[str, list[str]] = {}
-    with open(os.path.join(TOP, "docs", "limits.csv"), newline="", encoding="ascii") as table:
-        limits = {row["name"]: int(row["value"]) for row in csv.DictReader(table)}
-    # {LONGEST_SIDE-1} is one less than {LONGEST_SIDE}. Numbers have commas from five digits on.
-    forms = {
-        f"{{{name}{change}}}": f"{value:,}" if value >= 10_000 else str(value)
-        for name, limit in limits.items()
-        for change, value in (("", limit), ("-1", limit - 1), ("+1", limit + 1))
-    }
-    with open(os.path.join(TOP, "docs", "refusals.csv"), newline="", encoding="ascii") as table:
-        for row in csv.DictReader(table):
-            status = f", HTTP status {row['status'].replace(' ', ', ')}" if row["status"] else ""
-            sentence = re.sub(r"\{[A-Z_]+(?:[+-]1)?\}", lambda name: forms[name[0]], row["sentence"])
-            found.setdefault(row["name"], []).append(f"{FRONTS[row['kind']].format(**row)}{status}: {sentence}\n")
-    return {name: "".join(lines) for name, lines in found.items()}
+    """The lines for each name, as documents and web pages have them."""
+    return {name: "".join(f"{line}\n" for line in lines) for name, lines in read_program(read_file).explanations.items()}
 
 
 EXPLANATIONS = explanations()

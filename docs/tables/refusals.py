@@ -1,4 +1,5 @@
-"""docs/refusals.csv: each refusal and fault, its number, status and sentence, and what documents and scripts say."""
+"""Each refusal and fault: its number, status and sentence, as the program has them, and what documents and scripts say
+about it, from docs/refusals.csv."""
 from __future__ import annotations
 
 import re
@@ -6,32 +7,29 @@ import textwrap
 from typing import Dict, Iterator, List, NamedTuple, Optional, Set, Tuple
 
 from .limits import Limits
+from .program import PATH as PROGRAM
+from .program import Program
 from .texts import Fault, Read, markdown, most_columns, rows_of
 
 PATH = "docs/refusals.csv"
 # `when` is the cell of API or FORMATS, `command` that of COMMANDS, and `script` what the members' scripts say. `step`
 # is the place in the order of checks, if that is not the order of the numbers.
-COLUMNS = ["kind", "number", "name", "status", "sentence", "when", "script", "step", "command"]
-# The kinds in their order, and how a line of `life explain` begins.
-FRONTS = {
-    "refusal": "refusal {number}",
-    "file": "fault {number} of a pattern file",
-    "code": "fault {number} of a code",
-    "program": "program",
-    "gateway": "gateway",
+COLUMNS = ["kind", "name", "when", "script", "step", "command"]
+# The kinds in their order, and the lines of `life explain` for them.
+LINES = {
+    "refusal": r"refusal (?P<number>\d+), HTTP status (?P<status>\d+): (?P<sentence>.*)",
+    "file": r"fault (?P<number>\d+) of a pattern file: (?P<sentence>.*)",
+    "code": r"fault (?P<number>\d+) of a code: (?P<sentence>.*)",
+    "program": r"program: (?P<sentence>.*)",
+    "gateway": r"gateway(?:, HTTP status (?P<status>[\d, ]+))?: (?P<sentence>.*)",
 }
 # On the command line these are followed by the name of a fault.
 WITH_FAULT = {"bad-pattern", "bad-code"}
-# The most columns of the lines of names in the help. Their first line has 101.
-HELP_COLUMNS = 104
-# The definitions of the crates that give numbers and names, by kind, and those that give a status.
-LABELS = {
-    "refusal": ["crates/life_desk/specs/Refusals.antt", "crates/life_pages/specs/Fault.antt"],
-    "file": ["crates/life_rle/specs/Fault.antt"],
-    "code": ["crates/life_code/specs/Fault.antt"],
-}
-STATUSES = "crates/life_pages/specs/Reply.antt"
-# A fault that is answered `unavailable`, so no table has it.
+# The help of `life explain`, and the most columns of its lines of names. Their first line has 101.
+HELP, HELP_COLUMNS = "crates/life_words/src/life_arguments.rt", 104
+# The definitions of the crates that give numbers and names to faults.
+LABELS = {"file": "crates/life_rle/specs/Fault.antt", "code": "crates/life_code/specs/Fault.antt"}
+# A fault that is answered `unavailable`, so nothing explains it.
 UNLISTED = "memory"
 
 
@@ -50,82 +48,68 @@ class Refusal(NamedTuple):
         return int(self.step or self.number or 0)
 
 
-def read_refusals(read: Read, limits: Limits) -> List[Refusal]:
-    """The rows of the table, with the numbers of limits in place of their names."""
-    cells = [[limits.put_into(row[column]) for column in COLUMNS] for row in rows_of(read, PATH, COLUMNS)]
-    rows = [Refusal(*row) for row in cells]
-    for row in rows:
-        if row.kind not in FRONTS or not all(text.isdigit() for text in (row.number, row.step) if text):
-            raise Fault(f"{PATH}: {row.kind} {row.name}: an unknown kind, or a number or step that is not a number")
+def explained(program: Program) -> Dict[Tuple[str, str], Dict[str, str]]:
+    """The number, the status and the sentence of each kind and name."""
+    found = {}
+    for name, lines in program.explanations.items():
+        for line in lines:
+            fitting = [(kind, match) for kind, form in LINES.items() if (match := re.fullmatch(form, line))]
+            if len(fitting) != 1:
+                raise Fault(f"{PROGRAM}: {name}: no kind of refusal has such a line: {line[:60]}")
+            kind, match = fitting[0]
+            parts = {part: text or "" for part, text in match.groupdict().items()}
+            found[kind, name] = {**parts, "status": parts.get("status", "").replace(", ", " ")}
+    return found
+
+
+def read_refusals(read: Read, limits: Limits, program: Program) -> List[Refusal]:
+    """The rows of the table, each with what the program says, and with the numbers of limits in place of their names."""
+    known = explained(program)
+    rows = []
+    for row in rows_of(read, PATH, COLUMNS):
+        kind, name, *cells = (limits.put_into(row[column]) for column in COLUMNS)
+        said = known.pop((kind, name), None)
+        if said is None:
+            raise Fault(f"{PATH}: {kind} {name}: the program does not explain it, or there are two such rows")
+        rows.append(Refusal(kind, said.get("number", ""), name, said["status"], said["sentence"], *cells))
+    for kind, name in known:
+        raise Fault(f"{PATH}: {kind} {name}: the program explains it, and there is no such row")
+    for one in rows:
+        if not all(text.isdigit() for text in (one.number, one.step) if text):
+            raise Fault(f"{PATH}: {one.kind} {one.name}: a step that is not a number")
         # These texts are in single quotes in scripts and on the pages.
-        if any(mark in row.sentence + row.script for mark in "'\\\n"):
-            raise Fault(f"{PATH}: {row.kind} {row.name}: sentence and script may not contain ' or \\")
+        if any(mark in one.sentence + one.script for mark in "'\\\n"):
+            raise Fault(f"{PATH}: {one.kind} {one.name}: sentence and script may not contain ' or \\")
     return rows
 
 
-def specified(read: Read, kind: str) -> Set[Tuple[str, str, str]]:
-    """The number, name and status of each refusal of a kind, as the crates define them."""
-    statuses = dict(re.findall(r"(?m)^(?:refusal|page)_status \(?(\w+).* = (\d+)$", read(STATUSES)))
-    labels = [
-        found
-        for path in LABELS[kind]
-        for found in re.findall(r'(?m)^label_of \(?(\w+).* = label (\d+) \(codes "([a-z-]+)"\)$', read(path))
-    ]
-    return {
-        (number, name, statuses.get(variant, "") if kind == "refusal" else "")
-        for variant, number, name in labels
-        if name != UNLISTED
-    }
-
-
-def compare(refusals: List[Refusal], read: Read) -> Iterator[Optional[str]]:
-    """For each refusal that the crates define, the problem if the table has another number, name or status."""
-    for kind, paths in LABELS.items():
-        wanted = specified(read, kind)
+def compare(refusals: List[Refusal], program: Program, read: Read) -> Iterator[Optional[str]]:
+    """For each refusal and fault, the problem if its explanation has another number, name or status than the program;
+    and the problem if the help lists other names."""
+    wanted: Dict[str, Set[Tuple[str, str, str]]] = {"refusal": set(program.refusals)}
+    for kind, path in LABELS.items():
+        labels = re.findall(r'(?m)^label_of \(?\w+.* = label (\d+) \(codes "([a-z-]+)"\)$', read(path))
+        wanted[kind] = {(number, name, "") for number, name in labels if name != UNLISTED}
+    for kind, those in wanted.items():
         listed = {(row.number, row.name, row.status) for row in of_kind(refusals, kind)}
-        for one in sorted(wanted | listed):
-            if one in wanted and one in listed:
-                yield None
+        for one in sorted(those | listed):
+            source = LABELS.get(kind, "crates/life_desk/src/refusal.rt")
+            text = " ".join(one).rstrip()
+            if one not in listed:
+                yield f"crates/life_words/src/explain.rt: no {kind} {text}"
             else:
-                yield f"{PATH if one in wanted else ' or '.join(paths)}: no {kind} {' '.join(one)}".rstrip()
+                yield None if one in those else f"{source}: no {kind} {text}"
+    names = "\n".join(help_names(program))
+    yield None if f"\n{names}\nRefuses:" in read(HELP) else f"{HELP}: the names of `life explain` have to be\n{names}"
 
 
 def of_kind(refusals: List[Refusal], kind: str) -> List[Refusal]:
     return [row for row in refusals if row.kind == kind]
 
 
-# ---- life explain
-
-
-def explanations(refusals: List[Refusal]) -> Dict[str, List[str]]:
-    """The lines of each name, with the names in byte order."""
-    found: Dict[str, List[str]] = {}
-    for row in refusals:
-        status = f", HTTP status {row.status.replace(' ', ', ')}" if row.status else ""
-        line = f"{FRONTS[row.kind].format(number=row.number)}{status}: {row.sentence}"
-        found.setdefault(row.name, []).append(line)
-    return dict(sorted(found.items()))
-
-
-def rust_table(refusals: List[Refusal]) -> List[str]:
-    """The table of explain.rt, as `rt fmt` lays it out."""
-    found = explanations(refusals)
-    lines = [f"static EXPLANATIONS: [(&str, &str); {len(found)}] = ["]
-    for name, texts in found.items():
-        quoted = [text.replace('"', '\\"') + "\\n" for text in texts]
-        lines += ["    (", f'        "{name}",', '        "' + "\\\n         ".join(quoted) + '",', "    ),"]
-    return [*lines, "];"]
-
-
-def specified_names(refusals: List[Refusal]) -> List[str]:
-    """The definition of the names in Explain.antt."""
-    names = [f'    codes "{name}" ∷' for name in explanations(refusals)]
-    return ["refusal_names =", *names[:-1], names[-1] + " []"]
-
-
-def help_names(refusals: List[Refusal]) -> List[str]:
+def help_names(program: Program) -> List[str]:
     """The lines of the names in the help of `life explain`."""
-    names = ", ".join(explanations(refusals))
+    names = ", ".join(program.explanations)
     front = "Names:   "
     return textwrap.wrap(front + names, HELP_COLUMNS, subsequent_indent=" " * len(front), break_on_hyphens=False)
 

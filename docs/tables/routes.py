@@ -1,6 +1,7 @@
-"""docs/routes.csv and docs/addresses.csv: the routes of the archive, and the addresses of the web pages.
+"""docs/routes.csv and docs/addresses.csv: what documents and the gateway say about the routes of the program, and the
+addresses of the web pages.
 
-The program and the pages know them, and so does the gateway in front, as regular expressions.
+The gateway in front knows both as regular expressions.
 """
 from __future__ import annotations
 
@@ -8,13 +9,14 @@ import re
 from typing import Callable, Dict, Iterator, List, NamedTuple, Optional
 
 from .limits import Limits
+from .program import PATH as PROGRAM
+from .program import Program
 from .texts import Fault, Read, markdown, rows_of
 
 ROUTES, ADDRESSES = "docs/routes.csv", "docs/addresses.csv"
-# `route` is the name of a route in the sources, and `asks` the request with its arguments: parameters of the path, or
-# what else the message has. `cache` says how long the gateway caches a reply: a `fixed` one never changes, a `moving`
-# one may grow. `cost` says how long a reply may take: a `dear` one up to a minute, a `cheap` one milliseconds.
-ROUTE_COLUMNS = ["method", "path", "route", "asks", "request", "reply", "cache", "cost"]
+# `cache` says how long the gateway caches a reply: a `fixed` one never changes, a `moving` one may grow. `cost` says how
+# long a reply may take: a `dear` one up to a minute, a `cheap` one milliseconds.
+ROUTE_COLUMNS = ["method", "path", "request", "reply", "cache", "cost"]
 # An address may lack what is in brackets. `title` is what a preview of a link says: with brackets for both forms of the
 # address, without them for the short one.
 ADDRESS_COLUMNS = ["name", "path", "title"]
@@ -42,8 +44,6 @@ Patterns = Dict[str, str]
 class Route(NamedTuple):
     method: str
     path: str
-    name: str
-    asks: str
     request: str
     reply: str
     cache: str
@@ -63,9 +63,7 @@ def read_routes(read: Read, limits: Limits) -> List[Route]:
         if row["method"] not in ("GET", "POST") or row["cache"] not in kept or row["cost"] not in ("cheap", "dear"):
             raise Fault(f"{ROUTES}: {row['path']}: GET with fixed or moving, or POST; and cheap or dear")
         request, reply = limits.put_into(row["request"]), limits.put_into(row["reply"])
-        routes.append(
-            Route(row["method"], row["path"], row["route"], row["asks"], request, reply, row["cache"], row["cost"])
-        )
+        routes.append(Route(row["method"], row["path"], request, reply, row["cache"], row["cost"]))
     return routes
 
 
@@ -83,9 +81,13 @@ def location_of(site: str, path: str) -> str:
     return fitting[0] if fitting else ""
 
 
-def compare(routes: List[Route], read: Read) -> Iterator[Optional[str]]:
-    """For each route, the problem if the gateway caches its replies in another way than the table says, or has other
-    limits for it."""
+def compare(routes: List[Route], program: Program, read: Read) -> Iterator[Optional[str]]:
+    """For each route, the problem if the program does not have it, or if the gateway caches its replies in another way
+    than the table says, or has other limits for it; and the problem of a route that the table does not have."""
+    listed = [(route.method, route.path) for route in routes]
+    for one in sorted({*listed, *program.routes}):
+        known = one in program.routes and listed.count(one) == 1
+        yield None if known else f"{ROUTES}: {' '.join(one)} is not once there and in {PROGRAM}"
     for route in routes:
         location = location_of(read(SITE), expression(route.path, EXAMPLES))
         page = re.search(r"set \$life_page (\w+);", location)

@@ -73,25 +73,3 @@ def with_marked(text: str, name: str, lines: List[str]) -> str:
     if len(begins) != 1 or len(ends) != 1 or ends[0].start() < begins[0].end():
         raise Fault(f"needs the comments '{name}: written by docs/make-tables from ..' and 'end of {name}' once each")
     return text[: begins[0].end()] + "".join(line + "\n" for line in lines) + text[ends[0].start() :]
-
-
-def with_cases(text: str, begin: str, end: str, cases: List[List[str]]) -> str:
-    """The text with a line for each case between `begin` and `end`. Each list of cases replaces one run of such
-    lines."""
-    found = list(re.finditer(rf"(?m)(?:^{re.escape(begin)}.*{re.escape(end)}\n)+", text))
-    if len(found) != len(cases):
-        raise Fault(f"has {len(found)} runs of lines '{begin}..{end}' in place of {len(cases)}")
-    for run, lines in reversed(list(zip(found, cases))):
-        text = text[: run.start()] + "".join(f"{begin}{case}{end}\n" for case in lines) + text[run.end() :]
-    return text
-
-
-def with_lines(text: str, first: str, last: str, lines: List[str], after: str = "") -> str:
-    """The text with these lines in place of those from the one that begins with `first` to the next that ends with
-    `last`. If `after` is given, they come after a line that begins with it. This is for files that may have no such
-    comments."""
-    begin = f"^{re.escape(after)}.*?" if after else ""
-    found = re.search(rf"(?ms){begin}^({re.escape(first)}.*?{re.escape(last)})$", text)
-    if not found:
-        raise Fault(f"no lines from '{first}' to '{last}'" + (f" after '{after}'" if after else ""))
-    return text[: found.start(1)] + "\n".join(lines) + text[found.end(1) :]

@@ -270,6 +270,8 @@ impl Watch for Told {
         self.times = self.times.saturating_add(1);
         self.last = (done, count);
     }
+
+    fn ended(&mut self) {}
 }
 
 #[test]

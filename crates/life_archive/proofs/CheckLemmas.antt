@@ -36,8 +36,8 @@ append_none (x ∷ xs) = ap (λ all. x ∷ all) (append_none xs)
 one_line : (v : Verdict) (further : List Wrong) → further ≡ [] → checked_lines v further ≡ verdict_line v
 one_line v further none = ap (checked_lines v) none ∙ append_none (verdict_line v)
 
-some_is : {A : Type 0} {x y : A} → Some x ≡ Some y → x ≡ y
-some_is same = cc
+closed_is : {A : Type 0} (left : Option (Result A A)) (x y : A) → left ≡ Some (Ok x) → left ≡ Some (Ok y) → x ≡ y
+closed_is left x y one two = cc
 
 module _ {D E : Type 0} (g : disk.Ghosts D) (h : disk.Ghosts E) (image again : Image) (capacity next : ℕ)
     (before after : Option (List ℕ)) (files : Files D) (left : Result (Files E) (Files E))
@@ -65,7 +65,7 @@ module _ {D E : Type 0} (g : disk.Ghosts D) (h : disk.Ghosts E) (image again : I
   ]
 
   begins_with : (checked : Result Verdict Failed) (further : List Wrong)
-      → ChecksPath false g image capacity checked further (Some files) → AreFurther checked further
+      → ChecksPath false g image capacity checked further (Some (Ok files)) → AreFurther checked further
       → PutsChecked checked further before after (Ok tt)
       → (A : Archive) × Appends before after (verdict_line (Sound (length A.deposits) (length A.censuses)))
       × LeavesOne h (BecomesBy two (under next A)) left
@@ -74,7 +74,7 @@ module _ {D E : Type 0} (g : disk.Ghosts D) (h : disk.Ghosts E) (image again : I
     | inl unopened ↦ absurd (let same : Ok v ≡ Err unopened.0 = unopened.1 in cc)
     | inr one ↦
         begins v further few puts (subst (λ (all : Files D). IsPathCheck false g image capacity (Ok v) further all)
-        (sym (some_is one.1)) one.2)
+        (closed_is (Some (Ok files)) one.0 files one.1 refl) one.2)
   ]
 
 pub checked_files_begin : {D E : Type 0} (g : disk.Ghosts D) (h : disk.Ghosts E) → CheckedFilesBegin g h

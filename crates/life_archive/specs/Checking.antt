@@ -20,7 +20,7 @@ use Rattle.life_check.specs.declared.judging.Verdict.{Verdict}
 use Rattle.life_check.specs.declared.judging.Verdict.TheVariants.{Sound, SoundButForCounts, NotSound}
 use Rattle.life_check.specs.declared.judging.Wrong.{Wrong}
 use Rattle.life_check.specs.declared.judging.Wrong.TheVariants as wrong
-use Rattle.life_check.specs.Files.{ChecksPath}
+use Rattle.life_check.specs.Files.{CheckedFiles, ChecksPath}
 use Rattle.life_check.specs.Listed.{AreFurther}
 use Rattle.life_archive.specs.declared.stop.ArchiveStop.{ArchiveStop}
 use Rattle.life_archive.specs.declared.stop.ArchiveStop.TheVariants as stops
@@ -88,7 +88,7 @@ by_output answer = by_streams answer
 
 -- The file could not be opened, and nothing was put; or it was checked, and what was found was put.
 abbrev pub ChecksAt : {D : Type 0} → Bool → disk.Ghosts D → Image → ℕ → Option (List ℕ) → Option (List ℕ)
-    → Result (Unit {0}) ArchiveStop → Option (Files D) → Type 0
+    → Result (Unit {0}) ArchiveStop → CheckedFiles D → Type 0
 ChecksAt quick g image capacity before after answer left =
     (checked : Result Verdict Failed) × (further : List Wrong) × ChecksPath quick g image capacity checked further left
     × AreFurther checked further × PutsChecked checked further before after answer
@@ -101,7 +101,7 @@ abbrev pub CheckedFilesBegin : {D E : Type 0} → disk.Ghosts D → disk.Ghosts 
 CheckedFilesBegin {D} {E} g h =
     (image again : Image) (capacity next : ℕ) (before after : Option (List ℕ)) (files : Files D)
     (left : Result (Files E) (Files E))
-    → ChecksAt false g image capacity before after (Ok tt) (Some files) → (two : PathJob h again next left)
+    → ChecksAt false g image capacity before after (Ok tt) (Some (Ok files)) → (two : PathJob h again next left)
     → AreClean g files.log files.db → outcomes g files.log files.db again
     → (A : Archive) × Appends before after (verdict_line (Sound (length A.deposits) (length A.censuses)))
     × LeavesOne h (BecomesBy two (under next A)) left
@@ -112,7 +112,7 @@ CheckedFilesBegin {D} {E} g h =
 pub record AnswersCheck {D O : Type 0} (quick : Bool) (g : disk.Ghosts D) (o : outlet.Ghosts O)
     (image : Image) (capacity : ℕ) (output sent : O) (line : Option (List ℕ)) : Type 0 where
   pub answer : Result (Unit {0}) ArchiveStop
-  pub left : Option (Files D)
+  pub left : CheckedFiles D
   pub checks : ChecksAt quick g image capacity (o.already output) (o.already sent) answer left
   pub once : PutsOnce output sent (o.failures output) (o.failures sent) (o.last_failed sent) (by_output answer)
   pub printed : line ≡ line_after answer

@@ -135,12 +135,12 @@ pub record EndsPathDeposit {D : Type 0} (g : disk.Ghosts D) (a : ArchiveView (Fi
       → LeavesFrom g image capacity (BecomesByDeposit deposits) left
   pub let_go : IfErr left (AreLetGo last.store)
 
--- The opening was refused, and nothing was put; or the archive that the files were opened as was asked to keep what
--- came in.
-abbrev pub DepositsAt : {D : Type 0} → disk.Ghosts D → Image → ℕ → List ℕ → List ℕ → Option (List ℕ)
+-- The opening was refused, nothing was taken and nothing was put; or the archive that the files were opened as was
+-- asked to keep what came in.
+abbrev pub DepositsAt : {D I : Type 0} → disk.Ghosts D → Image → ℕ → List ℕ → List ℕ → I → I → Option (List ℕ)
     → Option (List ℕ) → Option (List ℕ) → Result (Unit {0}) ArchiveStop → PathFiles D → Type 0
-DepositsAt {D} g image capacity member token known before after answer left =
-    ((stop : ArchiveStop) × (answer ≡ Err stop) × IsUnopened g image stop left × (after ≡ before))
+DepositsAt {D} g image capacity member token input rest known before after answer left =
+    ((stop : ArchiveStop) × (answer ≡ Err stop) × IsUnopened g image stop left × (rest ≡ input) × (after ≡ before))
     ⊎ ((closed : Result (Files D) (Files D)) × (left ≡ Some closed)
     × IsPathDeposit g image capacity member token known before after answer closed)
 
@@ -290,7 +290,7 @@ pub record AnswersDeposit {D I O : Type 0} (g : disk.Ghosts D) (i : inlet.Ghosts
     (line : Option (List ℕ)) : Type 0 where
   pub answer : Result (Unit {0}) ArchiveStop
   pub left : PathFiles D
-  pub deposits : DepositsAt g image capacity member token (i.to_come input) (o.already output)
+  pub deposits : DepositsAt g image capacity member token input rest (i.to_come input) (o.already output)
       (o.already sent) answer left
   pub takes : TakesFile (i.to_come input) (i.to_come rest) (i.failures input) (i.failures rest)
       (i.ends input) (i.ends rest) (i.last_take rest) (by_streams answer)

@@ -1,14 +1,23 @@
 -- The lines that a job over an archive prints on standard error, each without its line end. They are the program's own.
-use Rattle.std.specs.Prelude.{ℕ, List, ◌++◌, codes}
-use Rattle.life_desk.specs.Refusals.{name_of}
+use Rattle.std.specs.Prelude.{ℕ, List, codes}
+use Rattle.life_desk.specs.Refusals as refusals
 use Rattle.life_jobs.specs.Stop as jobs
+use Rattle.life_pages.specs.declared.fault.IoFault.{IoFault}
+use Rattle.life_pages.specs.declared.fault.IoFault.TheVariants as fault
 use Rattle.life_archive.specs.declared.stop.ArchiveStop.{ArchiveStop}
 use Rattle.life_archive.specs.declared.stop.ArchiveStop.TheVariants.{Job, Desk, NotOurs, NoPort, NotSound}
 
 -- the line of a stop
 abbrev pub line_of : ArchiveStop → List ℕ
 line_of (Job stop) = jobs.line_of stop
-line_of (Desk refusal) = codes "refused: " ++ name_of refusal
+line_of (Desk refusal) = refusals.line_of refusal
 line_of NotOurs = codes "refused: not-ours"
 line_of NoPort = codes "refused: no-port"
 line_of NotSound = codes "refused: not-sound"
+
+-- the line for a connection that failed
+abbrev pub connection_line : IoFault → List ℕ
+connection_line fault.Read = codes "connection: read"
+connection_line fault.Write = codes "connection: write"
+connection_line fault.TooManyReads = codes "connection: too-many-reads"
+connection_line fault.Memory = codes "connection: memory"

@@ -7,12 +7,12 @@ ghost use Rattle.life_jobs.specs.Streams.{PutsText, PutsOnce};
 ghost use Rattle.life_archive.specs.Checking.{wrong_words, error_line, verdict_words, verdict_line, checked_lines, answer_of, PutsChecked, by_output, ChecksAt, CheckedFilesBegin};
 
 use crate::stop::ArchiveStop;
-use life_check::{Verdict, Watch, Wrong, check_path};
+use life_check::{CheckedFiles, Verdict, Watch, Wrong, check_path};
 use life_jobs::{Stop, put_text};
 use life_rle::Outlet;
 use life_store::Unavailable;
 use sqlite::{FileFrom, Start};
-use sqlite_disk::{Disk, Files};
+use sqlite_disk::Disk;
 use std::alloc::{AllocError, Global};
 
 /// An error, in words.
@@ -143,7 +143,7 @@ pub fn run_check<T: Start, W: Watch, O: Outlet>(
     quick: bool,
     watch: &mut W,
     output: &mut O,
-) -> (Result<(), ArchiveStop>, Option<Files<FileFrom<T>>>)
+) -> (Result<(), ArchiveStop>, CheckedFiles<T>)
     ensures checks { ChecksAt quick ⟦<FileFrom<T> as Disk>⟧ (image_at T.Start) capacity (O.already output.old) (O.already output.new) result.0 result.1 }
     ensures once { PutsOnce output.old output.new (O.failures output.old) (O.failures output.new) (O.last_failed output.new) (by_output result.0) }
 {

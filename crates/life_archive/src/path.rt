@@ -40,7 +40,7 @@ fn refused<D: Disk>(files: Option<Files<D>>) -> Option<Result<Files<D>, Files<D>
 }
 
 /// Deposits in an archive that is open, and closes it whatever came of it. A refused close is no refusal of the deposit: what was answered is
-/// committed, and the two files have it together then.
+/// committed, and the two files have it together then, unless a call of the disk failed in the close.
 fn deposit_opened<D: Disk + Drop, I: Inlet, O: Outlet>(
     alloc: Global,
     archive: Archive<FileStore<D>>,
@@ -76,7 +76,8 @@ pub fn deposit_path<T: Start, I: Inlet, O: Outlet>(
     output: &mut O,
 ) -> (Result<(), ArchiveStop>, PathFiles<T>)
     // Files that were closed mean the archive that they were opened as, after the one deposit, or as it was. Why the opening was refused is said too.
-    ensures deposits { DepositsAt ⟦<FileFrom<T> as Disk>⟧ (image_at T.Start) capacity member.now token.now (I.to_come input.old) (O.already output.old) (O.already output.new) result.0 result.1 }
+    // Before the archive is open nothing is taken.
+    ensures deposits { DepositsAt ⟦<FileFrom<T> as Disk>⟧ (image_at T.Start) capacity member.now token.now input.old input.new (I.to_come input.old) (O.already output.old) (O.already output.new) result.0 result.1 }
     ensures takes { TakesFile (I.to_come input.old) (I.to_come input.new) (I.failures input.old) (I.failures input.new) (I.ends input.old) (I.ends input.new) (I.last_take input.new) (by_streams result.0) }
     // Nothing is put before a refusal or after a put that failed.
     ensures once { PutsOnce output.old output.new (O.failures output.old) (O.failures output.new) (O.last_failed output.new) (by_streams result.0) }
@@ -121,7 +122,7 @@ fn close_unasked<D: Disk + Drop>(archive: Archive<FileStore<D>>) -> Result<Files
 
 /// A session over the files of a path, as [`crate::serve_files`] over files that are given: opens the archive, which is made if the file is not
 /// there, serves this many connections, one after the other, and closes it, so that the database file has all. The files are given back. If
-/// the close is refused, what was answered is in the two files together.
+/// the close is refused and no call of the disk failed in it, what was answered is in the two files together.
 pub fn serve_path<T: Start, C: Connections>(
     rt: &HostRuntime,
     path: &str,

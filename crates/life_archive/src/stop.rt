@@ -1,10 +1,10 @@
 //! Why a job over an archive stops early, and the line that is printed for it.
 ghost use Rattle.std.specs.Prelude.{◌≡◌};
-ghost use Rattle.life_archive.specs.Stop.{line_of};
-ghost use Rattle.life_archive.specs.declared.stop.ArchiveStop.TheVariants.{Desk as desk_stop};
+ghost use Rattle.life_archive.specs.Stop.{line_of, connection_line};
 
 use life_desk::Refusal;
 use life_jobs::Stop;
+use life_pages::IoFault;
 
 /// Why a job over an archive stopped.
 #[derive(Clone, Copy, Debug, PartialEq, Eq)]
@@ -21,25 +21,6 @@ pub enum ArchiveStop {
     NotSound,
 }
 
-/// The line for a refusal of the archive.
-fn desk_line(refusal: Refusal) -> &'static str
-    ensures { result.now ≡ line_of (desk_stop refusal) }
-{
-    match refusal {
-        Refusal::NoSuchDeposit => "refused: no-such-deposit",
-        Refusal::NoSuchCensus => "refused: no-such-census",
-        Refusal::BadMember => "refused: bad-member",
-        Refusal::BadToken => "refused: bad-token",
-        Refusal::TokenReused => "refused: token-reused",
-        Refusal::OutOfLimit => "refused: out-of-limit",
-        Refusal::BadPattern(_) => "refused: bad-pattern",
-        Refusal::BadRule => "refused: bad-rule",
-        Refusal::BadCode => "refused: bad-code",
-        Refusal::Full => "refused: full",
-        Refusal::Unavailable => "refused: unavailable",
-    }
-}
-
 impl ArchiveStop {
     /// The line for standard error, without its line end. It is empty if nothing is printed.
     pub fn line(&self) -> &'static str
@@ -47,10 +28,22 @@ impl ArchiveStop {
     {
         match self {
             ArchiveStop::Job(stop) => stop.line(),
-            ArchiveStop::Desk(refusal) => desk_line(*refusal),
+            ArchiveStop::Desk(refusal) => refusal.line(),
             ArchiveStop::NotOurs => "refused: not-ours",
             ArchiveStop::NoPort => "refused: no-port",
             ArchiveStop::NotSound => "refused: not-sound",
         }
+    }
+}
+
+/// The line for standard error if a connection failed, without its line end.
+pub fn connection_line(fault: IoFault) -> &'static str
+    ensures { result.now ≡ connection_line fault }
+{
+    match fault {
+        IoFault::Read => "connection: read",
+        IoFault::Write => "connection: write",
+        IoFault::TooManyReads => "connection: too-many-reads",
+        IoFault::Memory => "connection: memory",
     }
 }

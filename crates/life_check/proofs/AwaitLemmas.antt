@@ -14,7 +14,7 @@ use Rattle.life_store.specs.Stored.{rows_by, census_cells, count_cells, flag_cel
 use Rattle.life_desk.specs.Archive.{tally_for, tally_at, steady_for, steady_at}
 use Rattle.life_check.specs.ReadState.{count_row, census_row, census_row_of, flag_row, flag_row_of}
 use Rattle.life_check.specs.CountState.{AreSome, IsTallied, AreTallied, Takes, TakesClusters, IsBefore, AwaitsCensus}
-use Rattle.life_check.specs.CountState.{AwaitsRest, Follows}
+use Rattle.life_check.specs.CountState.{AwaitsRest, Follows, HasCounted, IsFirstWrongCensus}
 use Rattle.life_check.proofs.WalkLemmas.{some_is}
 use Rattle.life_check.proofs.CountLemmas.{append_assoc, rows_append, length_tagged}
 
@@ -406,3 +406,68 @@ awaits_none ds n read now then row awaits goes = go awaits.rest awaits.at awaits
         (ap (λ (v : View). v.cursors 1) goes.1 ∙ at_counts, ap (λ (v : View). v.cursors 2) goes.1 ∙ at_flags)
     go (t ∷ ts) at at_counts at_flags =
         absurd (no_row (census_row (n + 1) t) (rows_by census_cells (n + 1 + 1) ts) (some_is _ _ (sym at ∙ goes.0)))
+
+-- ---- which census is the first that is wrong
+
+-- rows of tallies or flags are left after the last census
+pub wrong_at_end : (quick : Bool) (ds : List Deposit) (n read : ℕ) (old now then : View) (row : Row)
+    → HasCounted quick ds n read old now → Advances now then 0 row false
+    → (then.cursors 1 ≡ Some [] → then.cursors 2 ≡ Some [] → ⊥)
+    → IsFirstWrongCensus quick (old.trees 3) (old.trees 5) (old.trees 7) ds (n + 1)
+wrong_at_end quick ds n read old now then row before goes some =
+    let none : before.left ≡ [] = some_is _ _ (sym before.at ∙ goes.0) in
+    record {
+      before = before.done;
+      number = ap (λ k. k + 1) (sym before.many);
+      good = before.good;
+      left = before.left;
+      left_counts = before.left_counts;
+      left_flags = before.left_flags;
+      rows_are = before.rows;
+      counts_are = before.counts;
+      flags_are = before.flags;
+      some =
+          λ no_censuses no_counts no_flags.
+          some (ap (λ (v : View). v.cursors 1) goes.1 ∙ before.at_counts ∙ ap Some no_counts)
+          (ap (λ (v : View). v.cursors 2) goes.1 ∙ before.at_flags ∙ ap Some no_flags);
+      bad =
+          λ t good more more_counts more_flags is counts flags.
+          no_row (census_row (n + 1) t) more (sym is ∙ none);
+    }
+
+-- the row is not followed by what belongs to its census
+pub wrong_at_row : (quick : Bool) (ds : List Deposit) (n read : ℕ) (old now then : View) (row : Row)
+    → HasCounted quick ds n read old now → Advances now then 0 row true
+    → ((t : Tallied) → AwaitsCensus ds (n + 1) read row t then → ⊥)
+    → IsFirstWrongCensus quick (old.trees 3) (old.trees 5) (old.trees 7) ds (n + 1)
+wrong_at_row quick ds n read old now then row before goes bad =
+    let one : before.left ≡ row ∷ goes.0 = some_is _ _ (sym before.at ∙ goes.1) in
+    record {
+      before = before.done;
+      number = ap (λ k. k + 1) (sym before.many);
+      good = before.good;
+      left = before.left;
+      left_counts = before.left_counts;
+      left_flags = before.left_flags;
+      rows_are = before.rows;
+      counts_are = before.counts;
+      flags_are = before.flags;
+      some = λ none no_counts no_flags. no_row row goes.0 (sym one ∙ none);
+      bad =
+          λ t good more more_counts more_flags is counts flags.
+          bad t (record {
+            good = good;
+            row_is = first_is row (census_row (n + 1) t) goes.0 more (sym one ∙ is);
+            counts = record {
+              left = more_counts;
+              at =
+                  ap (λ (v : View). v.cursors 1) goes.2 ∙ before.at_counts ∙ ap Some counts
+                  ∙ ap (λ k. Some (rows_by count_cells (k + 1) (tagged (n + 1) t.tally.rows) ++ more_counts))
+                  before.reads;
+            };
+            flag = record {
+              left = more_flags;
+              at = ap (λ (v : View). v.cursors 2) goes.2 ∙ before.at_flags ∙ ap Some flags;
+            };
+          });
+    }

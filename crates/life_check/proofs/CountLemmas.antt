@@ -19,10 +19,10 @@ use Rattle.life_store.specs.Kept.{Tallied, numbered}
 use Rattle.life_store.specs.Stored.{IsFiled, rows_by, deposit_cells, census_cells, count_cells, flag_cells, tagged}
 use Rattle.life_store.specs.Stored.{counts_from}
 use Rattle.life_store.specs.Tables.{HasOrder}
-use Rattle.life_desk.specs.Archive.{tally_for, steady_for}
+use Rattle.life_desk.specs.Archive.{AddsUp, tally_for, steady_for}
 use Rattle.life_desk.specs.Represents.{tallied}
 use Rattle.life_check.specs.ReadState.{count_row, census_row, census_row_of, flag_row, flag_row_of, IsAskable}
-use Rattle.life_check.specs.CountState.{AddsUp, IsCounted, AreCounted, AreFiled, Takes, TakesClusters, HasCounted}
+use Rattle.life_check.specs.CountState.{IsCounted, AreCounted, AreFiled, Takes, TakesClusters, HasCounted}
 use Rattle.life_check.specs.CountState.{Follows}
 use Rattle.life_check.proofs.WalkLemmas.{rows_push, append_none, many_push, good_push, some_is}
 

@@ -46,4 +46,5 @@ module _ {D : Type 0} {g : disk.Ghosts D} (quick : Bool) (a : ArchiveView (FileS
     finds = λ clean. finds_in checked clean (ends.finds clean);
     lists = ends.lists;
     keeps = λ clean k holds. let now = still_healthy clean in ends.held k now (opens.found k now holds) clean;
+    stays = λ clean. ends.stays (still_healthy clean) clean;
   }

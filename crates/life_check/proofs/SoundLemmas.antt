@@ -12,13 +12,13 @@ use Rattle.life_census.proofs.CountingRows.{rows_are_counts}
 use Rattle.life_census.proofs.CountingTotals.{adds_up}
 use Rattle.life_store.specs.declared.kept.Deposit.{Deposit}
 use Rattle.life_store.specs.declared.kept.Census.{Census}
-use Rattle.life_store.specs.Kept.{Tallied, numbered}
-use Rattle.life_store.specs.Stored.{IsFiled}
-use Rattle.life_store.specs.Tables.{ArchiveView, HasOrder, Holds}
-use Rattle.life_desk.specs.Archive.{Archive, tally_for}
+use Rattle.life_store.specs.Kept.{Kept, Tallied, numbered}
+use Rattle.life_store.specs.Stored.{IsFiled, deposit_cells}
+use Rattle.life_store.specs.Tables.{Tables, ArchiveView, HasOrder, Holds}
+use Rattle.life_desk.specs.Archive.{Archive, AddsUp, tally_for}
 use Rattle.life_desk.specs.Represents.{tallied, Represents, EachHasDeposit}
-use Rattle.life_check.specs.ReadState.{AreNames, IsAskable, IsNamed}
-use Rattle.life_check.specs.CountState.{AddsUp, AreSome, IsTallied, IsCounted, AreCounted}
+use Rattle.life_check.specs.ReadState.{AreNames, IsAskable, IsNamed, IsFirstWrong}
+use Rattle.life_check.specs.CountState.{AreSome, IsTallied, IsCounted, AreCounted, IsFirstWrongCensus}
 use Rattle.sqlite_schema.specs.declared.schema.Constraint.TheVariants.{Unique}
 use Rattle.sqlite_schema.specs.Rules.{Keeps}
 use Rattle.life_store.specs.Layout.{archive_schema}
@@ -26,7 +26,8 @@ use Rattle.life_store.specs.TreesOf.{AreTreesOf}
 use Rattle.life_check.specs.declared.judging.Verdict.{Verdict}
 use Rattle.life_check.specs.declared.judging.Verdict.TheVariants.{Sound, SoundButForCounts, NotSound}
 use Rattle.life_check.specs.Sound.{AreSound, FindsSound, FindsWrong, IsAskedFor, HasUniqueTokens}
-use Rattle.life_check.specs.Sound.{RepresentsButForCounts, RepresentsSome, RepresentsNone}
+use Rattle.life_check.specs.Sound.{HoldsInAnyOrder, RepresentsButForCounts, RepresentsSome, RepresentsNone}
+use Rattle.life_check.specs.Sound.{IsFirstError, AreNoArchive}
 use Rattle.life_check.specs.declared.judging.Wrong.{Wrong}
 use Rattle.life_check.specs.declared.judging.Wrong.TheVariants as wrong
 use Rattle.life_check.proofs.WalkLemmas.{all_more}
@@ -52,6 +53,23 @@ many_mapped : {A B : Type 0} (f : A → B) (xs : List A) → length (map f xs) �
 many_mapped f [] = refl
 many_mapped f (x ∷ xs) = omega (arith, many_mapped f xs)
 
+-- the rows of each tally are in order
+in_order : (t : Tables) (k : Kept) → HoldsInAnyOrder t k → AllByRecursion (λ (c : Tallied). HasOrder c.tally) k.censuses
+    → Holds t k
+in_order t k it ordered = record {
+  schema = it.schema;
+  committed = it.committed;
+  layout = it.layout;
+  deposits = it.deposits;
+  censuses = it.censuses;
+  census_rows = it.census_rows;
+  census_flags = it.census_flags;
+  filed = it.filed;
+  ordered = ordered;
+  few_deposits = it.few_deposits;
+  few_censuses = it.few_censuses;
+}
+
 -- the archive of what was read, which requests can ask for
 module _ {S : Type 0} (a : ArchiveView S) (trees : Trees) (quick : Bool) (d c : ℕ) (schema : a.tables.schema
     ≡ archive_schema) (has : AreTreesOf a.tables trees) (sound : AreSound quick trees d c) where
@@ -61,9 +79,8 @@ module _ {S : Type 0} (a : ArchiveView S) (trees : Trees) (quick : Bool) (d c : 
   abbrev read : AreCounted quick trees sound.filed.0 c
   read = sound.counted sound.filed.0 (sound.filed.1, filed)
 
-  holds_read : AllByRecursion (λ (t : Tallied). HasOrder t.tally) read.censuses
-      → Holds a.tables (record { deposits = sound.filed.0; censuses = read.censuses })
-  holds_read ordered = record {
+  rows_read : HoldsInAnyOrder a.tables (record { deposits = sound.filed.0; censuses = read.censuses })
+  rows_read = record {
     schema = schema;
     committed = has.committed;
     layout = has.layout ∙ sound.version;
@@ -72,10 +89,13 @@ module _ {S : Type 0} (a : ArchiveView S) (trees : Trees) (quick : Bool) (d c : 
     census_rows = has.census_rows ∙ read.counts;
     census_flags = has.census_flags ∙ read.flags;
     filed = filed;
-    ordered = ordered;
     few_deposits = subst (λ n. n < 2 ^ 63) (sym sound.filed.3) sound.few_deposits;
     few_censuses = subst (λ n. n < 2 ^ 63) (sym read.many) sound.few_censuses;
   }
+
+  holds_read : AllByRecursion (λ (t : Tallied). HasOrder t.tally) read.censuses
+      → Holds a.tables (record { deposits = sound.filed.0; censuses = read.censuses })
+  holds_read = in_order a.tables (record { deposits = sound.filed.0; censuses = read.censuses }) rows_read
 
   abbrev archive : Archive
   archive = record {
@@ -143,7 +163,7 @@ represented_uncounted a trees d c schema has sound =
         add_up =
             all_more (IsCounted true ds) (λ (t : Tallied). AddsUp t.tally)
             (λ t counted. counted.adds_up) it.censuses it.good;
-        holds = holds_read a trees true d c schema has sound;
+        holds = rows_read a trees true d c schema has sound;
       },
       sound.filed.3,
       many_censuses a trees true d c schema has sound,
@@ -193,17 +213,18 @@ all_tallied ds (c ∷ cs) each askable = (
 )
 
 -- what is wrong with the trees is wrong with every archive
-none_is : {S : Type 0} (a : ArchiveView S) (trees : Trees) (w : Wrong) → AreTreesOf a.tables trees
-    → FindsWrong trees w → RepresentsNone a w
+none_is : {S : Type 0} (quick : Bool) (a : ArchiveView S) (trees : Trees) (w : Wrong) → AreTreesOf a.tables trees
+    → FindsWrong quick trees w → AreNoArchive a w
 unfolding Represents
-none_is a trees wrong.Tables has bad = absurd bad
-none_is a trees wrong.Layout has bad = λ A m. bad (sym has.layout ∙ m.holds.layout)
-none_is a trees (wrong.Deposit id) has bad = λ A m. bad A.deposits (sym has.deposits ∙ m.holds.deposits) m.holds.filed
-none_is a trees (wrong.DepositNames id) has bad =
-    λ A asked m. bad A.deposits (sym has.deposits ∙ m.holds.deposits)
+none_is quick a trees wrong.Tables has bad = absurd bad
+none_is quick a trees wrong.Layout has bad = λ A m. bad (sym has.layout ∙ m.holds.layout)
+none_is quick a trees (wrong.Deposit id) has bad = λ A m.
+    bad.0 A.deposits (sym has.deposits ∙ m.holds.deposits) m.holds.filed
+none_is quick a trees (wrong.DepositNames id) has bad =
+    λ A asked m. bad.0 A.deposits (sym has.deposits ∙ m.holds.deposits)
     (all_named A.deposits m.holds.filed asked.deposits)
-none_is a trees (wrong.Census id) has bad = λ A asked m.
-    bad A.deposits (sym has.deposits ∙ m.holds.deposits, m.holds.filed) (record {
+none_is quick a trees (wrong.Census id) has bad = λ A asked m.
+    bad.0 A.deposits (sym has.deposits ∙ m.holds.deposits, m.holds.filed) (record {
       censuses = map (tallied A.deposits) A.censuses;
       good = all_tallied A.deposits A.censuses m.each asked.censuses;
       rows = sym has.censuses ∙ m.holds.censuses;
@@ -211,11 +232,34 @@ none_is a trees (wrong.Census id) has bad = λ A asked m.
       flags = sym has.census_flags ∙ m.holds.census_flags;
     })
 
+-- the first error of the trees is that of the tables
+first_is : (quick : Bool) (t : Tables) (trees : Trees) (w : Wrong) → t.schema ≡ archive_schema → AreTreesOf t trees
+    → FindsWrong quick trees w → IsFirstError quick t w
+first_is quick t trees wrong.Tables schema has bad = absurd bad
+first_is quick t trees wrong.Layout schema has bad = (schema, λ layout. bad (sym has.layout ∙ layout))
+first_is quick t trees (wrong.Deposit id) schema has bad = (
+  record { schema = schema; layout = has.layout ∙ bad.1 },
+  subst (λ rows. IsFirstWrong deposit_cells IsNamed IsFiled rows id) (sym has.deposits) bad.2,
+)
+first_is quick t trees (wrong.DepositNames id) schema has bad = (
+  record { schema = schema; layout = has.layout ∙ bad.1 },
+  subst (λ rows. IsFirstWrong deposit_cells IsNamed IsNamed rows id) (sym has.deposits) bad.2,
+)
+first_is quick t trees (wrong.Census id) schema has bad = (
+  record { schema = schema; layout = has.layout ∙ bad.1 },
+  bad.2,
+  has.deposits ∙ bad.3,
+  bad.4,
+  subst (λ rows. IsFirstWrongCensus quick rows t.census_rows t.census_flags bad.2 id) (sym has.censuses)
+      (subst (λ rows. IsFirstWrongCensus quick (trees 3) rows t.census_flags bad.2 id) (sym has.census_rows)
+      (subst (λ rows. IsFirstWrongCensus quick (trees 3) (trees 5) rows bad.2 id) (sym has.census_flags) bad.5)),
+)
+
 -- other tables are not those of an archive
-pub other_tables : {S : Type 0} (a : ArchiveView S) → (a.tables.schema ≡ archive_schema → ⊥)
-    → RepresentsNone a wrong.Tables
+pub other_tables : {S : Type 0} (quick : Bool) (a : ArchiveView S) → (a.tables.schema ≡ archive_schema → ⊥)
+    → RepresentsNone quick a wrong.Tables
 unfolding Represents
-other_tables a other = λ A m. other m.holds.schema
+other_tables quick a other = (λ A m. other m.holds.schema, other)
 
 -- what was found of the trees, said of the archive
 pub sound_is : {S : Type 0} (quick : Bool) (a : ArchiveView S) (trees : Trees) (v : Verdict)
@@ -226,7 +270,8 @@ sound_is quick a trees (Sound d c) schema has it =
 sound_is quick a trees (SoundButForCounts d c) schema has it =
     let found = represented_uncounted a trees d c schema has (subst (λ q. AreSound q trees d c) it.1 it.0) in
     (found.0, found.1, found.2, found.3, found.4, found.5, it.1)
-sound_is quick a trees (NotSound w) schema has it = none_is a trees w has it
+sound_is quick a trees (NotSound w) schema has it =
+    (none_is quick a trees w has it, first_is quick a.tables trees w schema has it)
 
 pub ok_sound : {S E : Type 0} (quick : Bool) (a : ArchiveView S) (trees : Trees) (r : Result Verdict E)
     → a.tables.schema ≡ archive_schema → OnOk r (AreTreesOf a.tables trees) → IfOk r (FindsSound quick trees)

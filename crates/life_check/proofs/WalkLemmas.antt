@@ -10,7 +10,7 @@ use Rattle.sqlite_trees.specs.declared.store.Direction.TheVariants.{Forward}
 use Rattle.sqlite_trees.specs.Tree.{sought, from_key}
 use Rattle.sqlite_trees.specs.View.{View, with_cursor, Advances}
 use Rattle.life_store.specs.Stored.{rows_by}
-use Rattle.life_check.specs.ReadState.{IsReadUpTo, AreOf, AreNone}
+use Rattle.life_check.specs.ReadState.{IsReadUpTo, AreOf, AreNone, IsFirstWrong}
 use Rattle.life_check.specs.WalkState.{IsCalm, KeepsTrees, HasWalked}
 
 -- ---- where a walk begins
@@ -147,13 +147,23 @@ walk_more f P cursor table n old now then row x before goes good is =
     let it = walk_row f P cursor table n old now then row before goes in
     record { kept = it.0; left = it.1; at = it.2; read = read_more f P n (old.trees table) it.1 row x it.3 good is }
 
--- it is none's
+-- it is none's, and the first such row
 pub walk_wrong : {X : Type 0} (f : X → Row) (P Q : X → Type 0) (cursor table n : ℕ) (old now then : View) (row : Row)
     → HasWalked f P cursor table n old now → Advances now then cursor row true
-    → ((x : X) × Q x × (row ≡ Int (pos (n + 1)) ∷ f x) → ⊥) → AreNone f Q (old.trees table) × KeepsTrees old then
+    → ((x : X) × Q x × (row ≡ Int (pos (n + 1)) ∷ f x) → ⊥)
+    → AreNone f Q (old.trees table) × IsFirstWrong f P Q (old.trees table) (n + 1)
 walk_wrong f P Q cursor table n old now then row before goes bad =
-    let it = walk_row f P cursor table n old now then row before goes in
-    (read_none f P Q n (old.trees table) it.1 row it.3 bad, it.0)
+    let it = walk_row f P cursor table n old now then row before goes in (
+      read_none f P Q n (old.trees table) it.1 row it.3 bad,
+      record {
+        before = n;
+        number = refl;
+        row = row;
+        more = it.1;
+        read = it.3;
+        bad = λ x good is. bad (x, good, is);
+      },
+    )
 
 -- there was no row
 pub walk_ends : {X : Type 0} (f : X → Row) (P : X → Type 0) (cursor table n : ℕ) (old now then : View) (row : Row)

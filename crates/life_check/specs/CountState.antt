@@ -1,24 +1,21 @@
 -- The state while the censuses of an archive are read, with the rows of their tallies and their flags, and the results.
 use Rattle.std.specs.Prelude.{◌≡◌, ◌<◌, ◌≤◌, ◌+◌, ◌^◌, ◌==◌, ℕ, Bool, false, List, [], ◌∷◌, ◌++◌, length, sum_by, Some}
-use Rattle.std.specs.Prelude.{IsSome}
+use Rattle.std.specs.Prelude.{IsSome, IfSome, Option}
 use Rattle.std.specs.List.{AllByRecursion}
 use Rattle.sqlite_value.specs.Order.{Row}
 use Rattle.sqlite_trees.specs.Tree.{Trees}
 use Rattle.sqlite_trees.specs.View.{View}
-use Rattle.life_census.specs.Rows.{TallyCounts}
+use Rattle.life_rle.specs.Record.{IsInside}
 use Rattle.life_store.specs.declared.kept.Deposit.{Deposit}
 use Rattle.life_store.specs.Kept.{Tallied, numbered}
 use Rattle.life_store.specs.Stored.{IsFiled, rows_by, deposit_cells, census_cells, count_cells, flag_cells, tagged}
 use Rattle.life_store.specs.Stored.{counts_from}
 use Rattle.life_store.specs.Tables.{HasOrder}
+use Rattle.life_desk.specs.Archive.{AddsUp}
 use Rattle.life_desk.specs.Represents.{tallied}
 use Rattle.life_check.specs.declared.walk.FoundCensuses.{FoundCensuses}
 use Rattle.life_check.specs.declared.walk.FoundCensuses.TheVariants.{All, Wrong}
 use Rattle.life_check.specs.ReadState.{census_row, flag_row, IsAskable}
-
--- The counts of a tally and its clusters without a code are all its clusters.
-abbrev pub AddsUp : TallyCounts → Type 0
-AddsUp t = sum_by (λ (row : List ℕ × ℕ). row.1) t.rows + t.unresolved ≡ t.total
 
 -- A request can ask for the census, its deposit exists, and its tally adds up. Unless the check is quick, its tally and
 -- its flag are those of its generation, and the rows of the tally are in order.
@@ -64,12 +61,39 @@ pub record AreTallied (trees : Trees) (ds : List Deposit) : Type 0 where
 abbrev pub AreFiled : Trees → List Deposit → Type 0
 AreFiled trees ds = (trees 1 ≡ rows_by deposit_cells 1 ds) × AllByRecursion IsFiled ds
 
+-- the deposit that was read last, with its number, is the one that the trees have under this number
+abbrev pub IsKnown : View → Option (ℕ × Deposit) → Type 0
+IsKnown v last = (ds : List Deposit) → AreFiled v.trees ds → IfSome last (λ known. numbered ds known.0 ≡ Some known.1)
+
+abbrev pub IsInsideSquare : Option (ℕ × Deposit) → Type 0
+IsInsideSquare last = IfSome last (λ known. IsInside 1024 known.1.content.cells)
+
+-- The rows of three tables, of censuses of these deposits: those before this number are in order, and what is left does
+-- not begin with a census of the number, its rows and its flag; nor is nothing left.
+pub record IsFirstWrongCensus (quick : Bool) (rows counts flags : List Row) (ds : List Deposit) (id : ℕ) : Type 0 where
+  pub before : List Tallied
+  pub number : id ≡ length before + 1
+  pub good : AllByRecursion (IsCounted quick ds) before
+  pub left : List Row
+  pub left_counts : List Row
+  pub left_flags : List Row
+  pub rows_are : rows ≡ rows_by census_cells 1 before ++ left
+  pub counts_are : counts ≡ rows_by count_cells 1 (counts_from 1 before) ++ left_counts
+  pub flags_are : flags ≡ rows_by flag_cells 1 before ++ left_flags
+  pub some : left ≡ [] → left_counts ≡ [] → left_flags ≡ [] → ⊥
+  pub bad : (t : Tallied) → IsTallied ds t → (more more_counts more_flags : List Row)
+      → left ≡ census_row id t ∷ more
+      → left_counts ≡ rows_by count_cells (length (counts_from 1 before) + 1) (tagged id t.tally.rows) ++ more_counts
+      → left_flags ≡ flag_row id t ∷ more_flags → ⊥
+
 -- the result for the three tables: the censuses of all rows; or that no censuses that requests can ask for have these
--- rows
+-- rows, and which is the first that is wrong
 abbrev pub FindsCounted : Bool → Trees → FoundCensuses → Type 0
 FindsCounted quick trees (All n) =
     ((ds : List Deposit) → AreFiled trees ds → AreCounted quick trees ds n) × (n < 2 ^ 63)
-FindsCounted quick trees (Wrong n) = (ds : List Deposit) → AreFiled trees ds → AreTallied trees ds → ⊥
+FindsCounted quick trees (Wrong n) =
+    ((ds : List Deposit) → AreFiled trees ds → AreTallied trees ds → ⊥)
+    × ((ds : List Deposit) → AreFiled trees ds → IsFirstWrongCensus quick (trees 3) (trees 5) (trees 7) ds n)
 
 -- The cursor is going to give these rows next.
 pub record IsBefore (cursor : ℕ) (rows : List Row) (v : View) : Type 0 where

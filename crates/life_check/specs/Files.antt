@@ -1,15 +1,18 @@
 -- What a check finds in files, and what they hold then.
-use Rattle.std.specs.Prelude.{◌≡◌, ◌⊎◌, ℕ, Bool, false, List, length, Option, Some, Result, Err, IfOk, IsTrue}
+use Rattle.std.specs.Prelude.{◌≡◌, ◌⊎◌, ℕ, Bool, false, List, length, Option, Some, option_map, Result, Ok, Err, IfOk}
+use Rattle.std.specs.Prelude.{IsTrue}
 use Rattle.sqlite_disk.specs.declared.Disk as disk
 use Rattle.sqlite_disk.specs.declared.Files.{Files}
 use Rattle.sqlite_wal.specs.Reads.{AreClean}
 use Rattle.sqlite_wal.specs.Recovery.{Image}
 use Rattle.sqlite_store.specs.declared.store.FileStore.{FileStore}
-use Rattle.sqlite.specs.Files.{over_files}
+use Rattle.sqlite_store.specs.FileStore.{view}
+use Rattle.sqlite_wal.specs.Files.{outcomes}
+use Rattle.sqlite.specs.Files.{over_files, HoldsDatabase}
 use Rattle.life_store.specs.declared.fault.Unavailable.{Unavailable}
 use Rattle.life_store.specs.Kept.{Kept}
 use Rattle.life_store.specs.Left.{IsHonest}
-use Rattle.life_store.specs.Opening.{FilesHold, LeftHold}
+use Rattle.life_store.specs.Opening.{FilesHold, LeftHold, ShowsFound}
 use Rattle.life_store.specs.Tables.{ArchiveView, Holds, IsHealthyIfClean}
 use Rattle.life_desk.specs.Archive.{Archive}
 use Rattle.life_desk.specs.Represents.{Represents, kept_of}
@@ -19,9 +22,16 @@ use Rattle.life_check.specs.declared.judging.Wrong.{Wrong}
 use Rattle.life_check.specs.Listed.{AreWrongThere}
 use Rattle.life_check.specs.Sound.{IsAskedFor, HasUniqueTokens, RepresentsSome, RepresentsNone}
 
+-- If the disk has returned what was written up to the end, each image that a crash may leave of the files, and the one
+-- that they show, holds the database that was committed in the store before.
+abbrev pub StaysSame : {D : Type 0} {g : disk.Ghosts D} → ArchiveView (FileStore D g) → Files D → Type 0
+StaysSame {D} {g} a files = AreClean g files.log files.db → (image : Image) → outcomes g files.log files.db image
+    → ∥ HoldsDatabase image (view a.store).committed ∥₁
+
 -- An archive over files that is checked and let go. If the disk has returned what was written up to the end, the result
 -- is that of `check`, each further error is one, and each
--- image that a crash may leave of the files, and the one that they show, holds what the archive held.
+-- image that a crash may leave of the files, and the one that they show, holds what the archive held, and the database
+-- that was there.
 pub record EndsCheck {D : Type 0} (quick : Bool) (g : disk.Ghosts D) (a : ArchiveView (FileStore D g))
     (checked : Result Verdict Unavailable) (further : List Wrong) (files : Files D) : Type 0 where
   pub honest : AreClean g files.log files.db → IsHonest over_files a
@@ -29,14 +39,17 @@ pub record EndsCheck {D : Type 0} (quick : Bool) (g : disk.Ghosts D) (a : Archiv
   pub lists : AreClean g files.log files.db → AreWrongThere a.tables.deposits further
   pub held : (k : Kept) → IsTrue a.tables.is_healthy → Holds a.tables k → AreClean g files.log files.db
       → LeftHold g files k
+  pub stays : IsTrue a.tables.is_healthy → StaysSame a files
 
--- What is in files of this image, opened as it is: the tables represent what the files hold. The database is healthy,
--- unless the disk has returned other than what was written.
+-- What is in files of this image, opened as it is, whether it is an archive or not: the tables are those of the
+-- database that the files hold, and represent what it does. The database is healthy, unless the disk has returned other
+-- than what was written.
 pub record IsFoundAt {D : Type 0} {g : disk.Ghosts D} (image : Image) (most : ℕ)
     (a : ArchiveView (FileStore D g)) : Type 0 where
   pub capacity : a.capacity ≡ most
   pub healthy : IsHealthyIfClean over_files a
   pub found : (k : Kept) → IsTrue a.tables.is_healthy → FilesHold image k → Holds a.tables k
+  pub shows : IsTrue a.tables.is_healthy → ShowsFound image a
 
 -- Sound: an archive with this many deposits and this many censuses, which each image that a crash may leave of the
 -- files holds; or, of a quick check, an archive but for its counts. Otherwise: no archive, or none that requests can
@@ -46,9 +59,10 @@ FindsIn {D} {g} quick files a (Sound d c) =
     (A : Archive) × Represents a A × (length A.deposits ≡ d) × (length A.censuses ≡ c) × LeftHold g files (kept_of A)
     × IsAskedFor A × HasUniqueTokens A × (quick ≡ false)
 FindsIn quick files a (SoundButForCounts d c) = RepresentsSome quick a (SoundButForCounts d c)
-FindsIn quick files a (NotSound w) = RepresentsNone a w
+FindsIn quick files a (NotSound w) = RepresentsNone quick a w
 
--- A check over the files of a path: what was found, and what the files hold then: what they held before.
+-- A check over the files of a path: what was found, and what the files hold then: what they held before, whosever
+-- database it is, and whatever the result.
 pub record IsPathCheck {D : Type 0} (quick : Bool) (g : disk.Ghosts D) (image : Image) (capacity : ℕ)
     (checked : Result Verdict Unavailable) (further : List Wrong) (files : Files D) : Type 0 where
   pub opened : ArchiveView (FileStore D g)
@@ -56,10 +70,16 @@ pub record IsPathCheck {D : Type 0} (quick : Bool) (g : disk.Ghosts D) (image : 
   pub finds : AreClean g files.log files.db → IfOk checked (FindsIn quick files opened)
   pub lists : AreClean g files.log files.db → AreWrongThere opened.tables.deposits further
   pub keeps : AreClean g files.log files.db → (k : Kept) → FilesHold image k → LeftHold g files k
+  pub stays : StaysSame opened files
 
--- The file could not be opened; or it was checked.
+-- What comes of the files of a path: they were checked; or the opening was refused, and they were let go; or they were
+-- never opened.
+abbrev pub CheckedFiles : Type 0 → Type 0
+CheckedFiles D = Option (Result (Files D) (Files D))
+
+-- The file could not be opened; or it was checked, whether that gave a result or not.
 abbrev pub ChecksPath : {D : Type 0} → Bool → disk.Ghosts D → Image → ℕ → Result Verdict Unavailable
-    → List Wrong → Option (Files D) → Type 0
+    → List Wrong → CheckedFiles D → Type 0
 ChecksPath {D} quick g image capacity checked further left =
-    ((e : Unavailable) × (checked ≡ Err e))
-    ⊎ ((files : Files D) × (left ≡ Some files) × IsPathCheck quick g image capacity checked further files)
+    ((e : Unavailable) × (checked ≡ Err e) × (refused : Option (Files D)) × (left ≡ option_map Err refused))
+    ⊎ ((files : Files D) × (left ≡ Some (Ok files)) × IsPathCheck quick g image capacity checked further files)

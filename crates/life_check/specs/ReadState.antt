@@ -1,5 +1,5 @@
 -- The state while the rows of a table are read, and the results.
-use Rattle.std.specs.Prelude.{◌≡◌, ◌≤◌, ℕ, pos, Bool, false, List, [], ◌∷◌, ◌++◌, length, IsTrue}
+use Rattle.std.specs.Prelude.{◌≡◌, ◌≤◌, ◌+◌, ℕ, pos, Bool, false, List, [], ◌∷◌, ◌++◌, length, IsTrue}
 use Rattle.std.specs.List.{AllByRecursion}
 use Rattle.sqlite_value.specs.Order.{Row}
 use Rattle.sqlite_value.specs.declared.value.Value.TheVariants.{Null, Int}
@@ -24,6 +24,16 @@ AreOf {X} f P rows n = (xs : List X) × (rows ≡ rows_by f 1 xs) × AllByRecurs
 -- no elements for which P holds have these rows
 abbrev pub AreNone : {X : Type 0} → (X → Row) → (X → Type 0) → List Row → Type 0
 AreNone {X} f P rows = (xs : List X) → rows ≡ rows_by f 1 xs → AllByRecursion P xs → ⊥
+
+-- The rows before the one with this number are those of elements for which P holds. It is there, and is that of no
+-- element for which Q holds.
+pub record IsFirstWrong {X : Type 0} (f : X → Row) (P Q : X → Type 0) (rows : List Row) (id : ℕ) : Type 0 where
+  pub before : ℕ
+  pub number : id ≡ before + 1
+  pub row : Row
+  pub more : List Row
+  pub read : IsReadUpTo f P before rows (row ∷ more)
+  pub bad : (x : X) → Q x → row ≡ Int (pos id) ∷ f x → ⊥
 
 -- the row of a deposit under its number
 abbrev pub deposit_row : ℕ → Deposit → Row

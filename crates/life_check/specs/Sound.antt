@@ -3,17 +3,18 @@ use Rattle.std.specs.Prelude.{◌≡◌, ◌≢◌, ◌<◌, ◌^◌, ℕ, Bool,
 use Rattle.std.specs.List.{AllByRecursion}
 use Rattle.sqlite_trees.specs.Tree.{Trees}
 use Rattle.life_store.specs.declared.kept.Deposit.{Deposit}
-use Rattle.life_store.specs.Kept.{Tallied}
-use Rattle.life_store.specs.Stored.{IsFiled, deposit_cells}
-use Rattle.life_store.specs.Tables.{ArchiveView, HasOrder, Holds, version_2}
-use Rattle.life_desk.specs.Archive.{Archive}
+use Rattle.life_store.specs.Kept.{Kept, Tallied}
+use Rattle.life_store.specs.Layout.{archive_schema}
+use Rattle.life_store.specs.Stored.{IsFiled, rows_by, deposit_cells, census_cells, count_cells, flag_cells, counts_from}
+use Rattle.life_store.specs.Tables.{Tables, ArchiveView, version_2}
+use Rattle.life_desk.specs.Archive.{Archive, AddsUp}
 use Rattle.life_desk.specs.Represents.{Represents, EachHasDeposit}
 use Rattle.life_check.specs.declared.judging.Verdict.{Verdict}
 use Rattle.life_check.specs.declared.judging.Verdict.TheVariants.{Sound, SoundButForCounts, NotSound}
 use Rattle.life_check.specs.declared.judging.Wrong.{Wrong}
 use Rattle.life_check.specs.declared.judging.Wrong.TheVariants as wrong
-use Rattle.life_check.specs.ReadState.{AreOf, AreNone, AreNames, IsAskable, IsNamed}
-use Rattle.life_check.specs.CountState.{AddsUp, AreFiled, AreCounted, AreTallied}
+use Rattle.life_check.specs.ReadState.{AreOf, AreNone, AreNames, IsAskable, IsNamed, IsFirstWrong}
+use Rattle.life_check.specs.CountState.{AreFiled, AreCounted, AreTallied, IsFirstWrongCensus}
 
 -- The result for the trees: they are those of this many deposits and this many censuses, correctly counted unless the
 -- check is quick.
@@ -24,18 +25,26 @@ pub record AreSound (quick : Bool) (trees : Trees) (deposits censuses : ℕ) : T
   pub few_censuses : censuses < 2 ^ 63
   pub counted : (ds : List Deposit) → AreFiled trees ds → AreCounted quick trees ds censuses
 
--- The error in them. Trees have no columns, so it is none of the tables'.
-abbrev pub FindsWrong : Trees → Wrong → Type 0
-FindsWrong trees wrong.Tables = ⊥
-FindsWrong trees wrong.Layout = trees 0 ≢ version_2
-FindsWrong trees (wrong.Deposit id) = AreNone deposit_cells IsFiled (trees 1)
-FindsWrong trees (wrong.DepositNames id) = AreNone deposit_cells IsNamed (trees 1)
-FindsWrong trees (wrong.Census id) = (ds : List Deposit) → AreFiled trees ds → AreTallied trees ds → ⊥
+-- The first error in them: what comes before it is as in an archive, and no archive has these rows. Trees have no
+-- columns, so it is none of the tables'.
+abbrev pub FindsWrong : Bool → Trees → Wrong → Type 0
+FindsWrong quick trees wrong.Tables = ⊥
+FindsWrong quick trees wrong.Layout = trees 0 ≢ version_2
+FindsWrong quick trees (wrong.Deposit id) =
+    AreNone deposit_cells IsFiled (trees 1) × (trees 0 ≡ version_2)
+    × IsFirstWrong deposit_cells IsNamed IsFiled (trees 1) id
+FindsWrong quick trees (wrong.DepositNames id) =
+    AreNone deposit_cells IsNamed (trees 1) × (trees 0 ≡ version_2)
+    × IsFirstWrong deposit_cells IsNamed IsNamed (trees 1) id
+FindsWrong quick trees (wrong.Census id) =
+    ((ds : List Deposit) → AreFiled trees ds → AreTallied trees ds → ⊥) × (trees 0 ≡ version_2)
+    × (ds : List Deposit) × (trees 1 ≡ rows_by deposit_cells 1 ds) × AllByRecursion IsNamed ds
+    × IsFirstWrongCensus quick (trees 3) (trees 5) (trees 7) ds id
 
 abbrev pub FindsSound : Bool → Trees → Verdict → Type 0
 FindsSound quick trees (Sound d c) = AreSound quick trees d c × (quick ≡ false)
 FindsSound quick trees (SoundButForCounts d c) = AreSound quick trees d c × (quick ≡ true)
-FindsSound quick trees (NotSound w) = FindsWrong trees w
+FindsSound quick trees (NotSound w) = FindsWrong quick trees w
 
 -- requests can ask for each deposit and each census
 pub record IsAskedFor (A : Archive) : Type 0 where
@@ -52,6 +61,20 @@ pub record HasUniqueTokens (A : Archive) : Type 0 where
   pub deposits : AreUnique (λ d. (d.member, d.token)) A.deposits
   pub censuses : AreUnique (λ c. (c.member, c.token)) A.censuses
 
+-- The tables represent these deposits and these censuses, as `Holds` says it, but that the rows of a tally may be in
+-- any order.
+pub record HoldsInAnyOrder (t : Tables) (k : Kept) : Type 0 where
+  pub schema : t.schema ≡ archive_schema
+  pub committed : t.in_transaction ≡ false
+  pub layout : t.layout ≡ version_2
+  pub deposits : t.deposits ≡ rows_by deposit_cells 1 k.deposits
+  pub censuses : t.censuses ≡ rows_by census_cells 1 k.censuses
+  pub census_rows : t.census_rows ≡ rows_by count_cells 1 (counts_from 1 k.censuses)
+  pub census_flags : t.census_flags ≡ rows_by flag_cells 1 k.censuses
+  pub filed : AllByRecursion IsFiled k.deposits
+  pub few_deposits : length k.deposits < 2 ^ 63
+  pub few_censuses : length k.censuses < 2 ^ 63
+
 -- The tables represent the archive but for the counts of its censuses: each has some tally that adds up, and some flag.
 -- The order of a tally's rows is not looked at.
 pub record RepresentsButForCounts {S : Type 0} (a : ArchiveView S) (A : Archive) : Type 0 where
@@ -60,16 +83,34 @@ pub record RepresentsButForCounts {S : Type 0} (a : ArchiveView S) (A : Archive)
   pub counts : List Tallied
   pub are : map (λ (t : Tallied). t.census) counts ≡ A.censuses
   pub add_up : AllByRecursion (λ t. AddsUp t.tally) counts
-  pub holds : AllByRecursion (λ t. HasOrder t.tally) counts
-      → Holds a.tables (record { deposits = A.deposits; censuses = counts })
+  pub holds : HoldsInAnyOrder a.tables (record { deposits = A.deposits; censuses = counts })
+
+-- The tables have the columns and indexes of an archive's, and the rows of `layout`.
+pub record HaveLayout (t : Tables) : Type 0 where
+  pub schema : t.schema ≡ archive_schema
+  pub layout : t.layout ≡ version_2
+
+-- The first error is there: all that is looked at before it is as in an archive.
+abbrev pub IsFirstError : Bool → Tables → Wrong → Type 0
+IsFirstError quick t wrong.Tables = t.schema ≢ archive_schema
+IsFirstError quick t wrong.Layout = (t.schema ≡ archive_schema) × (t.layout ≢ version_2)
+IsFirstError quick t (wrong.Deposit id) = HaveLayout t × IsFirstWrong deposit_cells IsNamed IsFiled t.deposits id
+IsFirstError quick t (wrong.DepositNames id) = HaveLayout t × IsFirstWrong deposit_cells IsNamed IsNamed t.deposits id
+IsFirstError quick t (wrong.Census id) =
+    HaveLayout t × (ds : List Deposit) × (t.deposits ≡ rows_by deposit_cells 1 ds) × AllByRecursion IsNamed ds
+    × IsFirstWrongCensus quick t.censuses t.census_rows t.census_flags ds id
 
 -- No archive is represented, or none of what requests can ask for.
-abbrev pub RepresentsNone : {S : Type 0} → ArchiveView S → Wrong → Type 0
-RepresentsNone a wrong.Tables = (A : Archive) → Represents a A → ⊥
-RepresentsNone a wrong.Layout = (A : Archive) → Represents a A → ⊥
-RepresentsNone a (wrong.Deposit id) = (A : Archive) → Represents a A → ⊥
-RepresentsNone a (wrong.DepositNames id) = (A : Archive) → IsAskedFor A → Represents a A → ⊥
-RepresentsNone a (wrong.Census id) = (A : Archive) → IsAskedFor A → Represents a A → ⊥
+abbrev pub AreNoArchive : {S : Type 0} → ArchiveView S → Wrong → Type 0
+AreNoArchive a wrong.Tables = (A : Archive) → Represents a A → ⊥
+AreNoArchive a wrong.Layout = (A : Archive) → Represents a A → ⊥
+AreNoArchive a (wrong.Deposit id) = (A : Archive) → Represents a A → ⊥
+AreNoArchive a (wrong.DepositNames id) = (A : Archive) → IsAskedFor A → Represents a A → ⊥
+AreNoArchive a (wrong.Census id) = (A : Archive) → IsAskedFor A → Represents a A → ⊥
+
+-- the same, and the error that is named is the first
+abbrev pub RepresentsNone : {S : Type 0} → Bool → ArchiveView S → Wrong → Type 0
+RepresentsNone quick a w = AreNoArchive a w × IsFirstError quick a.tables w
 
 -- the tables represent an archive with this many deposits and censuses, but for its counts if the check is quick; or no
 -- archive
@@ -80,4 +121,4 @@ RepresentsSome quick a (Sound d c) =
 RepresentsSome quick a (SoundButForCounts d c) =
     (A : Archive) × RepresentsButForCounts a A × (length A.deposits ≡ d) × (length A.censuses ≡ c)
     × IsAskedFor A × HasUniqueTokens A × (quick ≡ true)
-RepresentsSome quick a (NotSound w) = RepresentsNone a w
+RepresentsSome quick a (NotSound w) = RepresentsNone quick a w

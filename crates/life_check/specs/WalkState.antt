@@ -7,7 +7,7 @@ use Rattle.sqlite_trees.specs.View.{View, doubt}
 use Rattle.life_check.specs.declared.walk.Found.{Found}
 use Rattle.life_check.specs.declared.walk.Found.TheVariants.{All, Wrong, Misnamed}
 use Rattle.life_store.specs.Stored.{IsFiled, deposit_cells}
-use Rattle.life_check.specs.ReadState.{IsReadUpTo, AreOf, AreNone, IsNamed}
+use Rattle.life_check.specs.ReadState.{IsReadUpTo, AreOf, AreNone, IsNamed, IsFirstWrong}
 
 -- If the disk has returned what was written until now, it had done so before; a crash leaves nothing that it could not
 -- leave before.
@@ -22,11 +22,13 @@ pub record KeepsTrees (old new : View) : Type 0 where
   pub unbroken : old.is_broken ≡ false
 
 -- the deposits of all rows of the table, whose number is an SQL integer; or that no archive has these rows, or none of
--- what requests can ask for
+-- what requests can ask for, and which is the first that is wrong
 abbrev pub FindsDeposits : List Row → Found → Type 0
 FindsDeposits rows (All n) = AreOf deposit_cells IsNamed rows n × (n < 2 ^ 63)
-FindsDeposits rows (Wrong n) = AreNone deposit_cells IsFiled rows
-FindsDeposits rows (Misnamed n) = AreNone deposit_cells IsNamed rows
+FindsDeposits rows (Wrong n) =
+    AreNone deposit_cells IsFiled rows × IsFirstWrong deposit_cells IsNamed IsFiled rows n
+FindsDeposits rows (Misnamed n) =
+    AreNone deposit_cells IsNamed rows × IsFirstWrong deposit_cells IsNamed IsNamed rows n
 
 -- The cursor is after the first n rows of the table, which are those of n elements.
 pub record HasWalked {X : Type 0} (f : X → Row) (P : X → Type 0) (cursor table n : ℕ) (old now : View) : Type 0 where

@@ -9,10 +9,9 @@ ghost use Rattle.life_store.specs.Kept.{Tallied, numbered};
 ghost use Rattle.life_store.specs.Stored.{rows_by, count_cells, tagged};
 ghost use Rattle.life_check.specs.ReadState.{count_row, flag_row_of, IsAskable};
 ghost use Rattle.life_check.specs.WalkState.{IsCalm};
-ghost use Rattle.life_check.specs.CountState.{AreFiled, AreSome, AreTallied, Takes, TakesClusters, IsBefore, AwaitsCensus, AwaitsRest, HasCounted, Follows, FindsCounted};
+ghost use Rattle.life_check.specs.CountState.{AreFiled, AreSome, AreTallied, Takes, TakesClusters, IsBefore, AwaitsCensus, AwaitsRest, HasCounted, Follows, FindsCounted, IsKnown, IsInsideSquare};
 
 use crate::deposits::{DEPOSITS, LAST};
-use crate::recounting::counted;
 use crate::rows::{
     census_in, deposit_of_row, is_askable, is_of_census, is_of_count, is_of_flag, number_at,
     text_at,
@@ -20,6 +19,7 @@ use crate::rows::{
 use crate::walk::{FoundCensuses, begin, get, next};
 use crate::watch::Watch;
 use life_census::Row as Counted;
+use life_desk::counted;
 use life_store::{Census, Deposit, Unavailable};
 use sqlite::Alter;
 use sqlite_value::row::Row;
@@ -52,6 +52,28 @@ fn deposit_at<S: Alter>(
         return Ok(None);
     }
     deposit_of_row(alloc, &row, id)
+}
+
+/// The deposit with the number: the one that was read last, if that is it, so that the censuses of one deposit that follow one another
+/// read and parse it once.
+fn deposit_from<S: Alter>(
+    store: &mut S,
+    alloc: Global,
+    id: u64,
+    last: Option<(u64, Deposit)>,
+) -> Result<Option<Deposit>, Unavailable>
+    requires known { IsClean (S.Store.view store.old) → IsKnown (S.Store.view store.old) last }
+    requires kept { IsInsideSquare last }
+    ensures found { IsClean (S.Store.view store.new) → IfOk result (λ o. (ds : List Given) → AreFiled (S.Store.view store.old).trees ds → o ≡ numbered ds id) }
+    ensures same { OnOk result (IsClean (S.Store.view store.new) → S.Store.view store.new ≡ S.Store.view store.old) }
+    ensures stay { OnOk result (StayLive (S.Store.view store.old) (S.Store.view store.new)) }
+    ensures calm { IsCalm S.Store store.old store.new }
+    ensures inside { IfOk result (λ o. IfSome o (λ d. IsInside 1024 d.content.cells)) }
+{
+    match last {
+        Some((known, deposit)) if known == id => Ok(Some(deposit)),
+        _ => deposit_at(store, alloc, id),
+    }
 }
 
 /// Whether there is a deposit with the number.
@@ -214,16 +236,21 @@ fn counted_follows<S: Alter>(
     id: u64,
     census: &Census,
     before: u64,
+    last: &mut Option<(u64, Deposit)>,
 ) -> Result<Option<u64>, Unavailable>
     requires rows { IsSome ((S.Store.view store.old).cursors 1) }
     requires flags { IsSome ((S.Store.view store.old).cursors 2) }
     requires askable { IsAskable census.now }
+    requires known { IsClean (S.Store.view store.old) → IsKnown (S.Store.view store.old) last.old }
+    requires kept { IsInsideSquare last.old }
+    ensures known { IsClean (S.Store.view store.new) → IfOk result (λ o. IfSome o (λ more. IsKnown (S.Store.view store.new) last.new)) }
+    ensures kept { IfOk result (λ o. IfSome o (λ more. IsInsideSquare last.new)) }
     ensures follow { IsClean (S.Store.view store.new) → IfOk result (λ o. IfSome o (λ more. (ds : List Given) → AreFiled (S.Store.view store.old).trees ds → Follows false ds id before more row.now (S.Store.view store.old) (S.Store.view store.new))) }
     ensures none { IsClean (S.Store.view store.new) → IfOk result (λ o. o ≡ None → (ds : List Given) → AreFiled (S.Store.view store.old).trees ds → (t : Tallied) → t.census ≡ census.now → AwaitsCensus ds id before row.now t (S.Store.view store.old) → ⊥) }
     ensures stay { OnOk result (StayLive (S.Store.view store.old) (S.Store.view store.new)) }
     ensures calm { IsCalm S.Store store.old store.new }
 {
-    let Some(deposit) = deposit_at(store, alloc, census.deposit)? else {
+    let Some(deposit) = deposit_from(store, alloc, census.deposit, last.take())? else {
         return Ok(None);
     };
     let (tally, steady) = counted(alloc, &deposit, census)?;
@@ -236,6 +263,7 @@ fn counted_follows<S: Alter>(
     if !flag_follows(store, alloc, id, steady)? {
         return Ok(None);
     }
+    *last = Some((census.deposit, deposit));
     Ok(Some(more))
 }
 
@@ -278,7 +306,7 @@ fn uncounted_follows<S: Alter>(
 }
 
 /// Whether the row is that of a census under the number, and its rows and its flag are next; returns how many rows of tallies were read
-/// then. The census is counted from its deposit, unless the check is quick.
+/// then. The census is counted from its deposit, unless the check is quick. `last` is the deposit that was read last.
 pub(crate) fn census_follows<S: Alter>(
     store: &mut S,
     alloc: Global,
@@ -286,9 +314,14 @@ pub(crate) fn census_follows<S: Alter>(
     row: &Row,
     id: u64,
     before: u64,
+    last: &mut Option<(u64, Deposit)>,
 ) -> Result<Option<u64>, Unavailable>
     requires rows { IsSome ((S.Store.view store.old).cursors 1) }
     requires flags { IsSome ((S.Store.view store.old).cursors 2) }
+    requires known { IsClean (S.Store.view store.old) → IsKnown (S.Store.view store.old) last.old }
+    requires kept { IsInsideSquare last.old }
+    ensures known { IsClean (S.Store.view store.new) → IfOk result (λ o. IfSome o (λ more. IsKnown (S.Store.view store.new) last.new)) }
+    ensures kept { IfOk result (λ o. IfSome o (λ more. IsInsideSquare last.new)) }
     ensures follow { IsClean (S.Store.view store.new) → IfOk result (λ o. IfSome o (λ more. (ds : List Given) → AreFiled (S.Store.view store.old).trees ds → Follows quick ds id before more row.now (S.Store.view store.old) (S.Store.view store.new))) }
     ensures none { IsClean (S.Store.view store.new) → IfOk result (λ o. o ≡ None → (ds : List Given) → AreFiled (S.Store.view store.old).trees ds → (t : Tallied) → AwaitsCensus ds id before row.now t (S.Store.view store.old) → ⊥) }
     ensures stay { OnOk result (StayLive (S.Store.view store.old) (S.Store.view store.new)) }
@@ -301,9 +334,10 @@ pub(crate) fn census_follows<S: Alter>(
         return Ok(None);
     }
     if quick {
+        *last = None;
         return uncounted_follows(store, alloc, row, id, &census, before);
     }
-    counted_follows(store, alloc, row, id, &census, before)
+    counted_follows(store, alloc, row, id, &census, before, last)
 }
 
 /// Whether no rows of tallies and no flags are left.
@@ -349,6 +383,7 @@ pub(crate) fn censuses<S: Alter, W: Watch>(
     begin_all(store, alloc)?;
     let mut row = Row::new(alloc);
     let mut read = 0u64;
+    let mut last: Option<(u64, Deposit)> = None;
     for count in 0..LAST {
         watch.censuses_read(count);
         if !next(store, 0, &mut row)? {
@@ -357,7 +392,7 @@ pub(crate) fn censuses<S: Alter, W: Watch>(
             }
             return Ok(FoundCensuses::Wrong(count + 1));
         }
-        match census_follows(store, alloc, quick, &row, count + 1, read)? {
+        match census_follows(store, alloc, quick, &row, count + 1, read, &mut last)? {
             Some(more) => read = more,
             None => return Ok(FoundCensuses::Wrong(count + 1)),
         }

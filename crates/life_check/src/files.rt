@@ -77,9 +77,12 @@ fn check_opened<D: Disk + Drop, W: Watch>(
     (checked, further, store.close())
 }
 
-/// Checks the file of the path, with the log beside it; returns the result, the errors after the first, and the files, if they were opened. Nothing
-/// in them is changed; a log that was not there before is removed again. `start` says what the files are taken to hold, as for
-/// `Archive::open_path`. A quick check counts no census.
+/// What comes of the files of a path: they were checked; or the opening was refused, and they were let go; or they were never opened.
+pub type CheckedFiles<T> = Option<Result<Files<FileFrom<T>>, Files<FileFrom<T>>>>;
+
+/// Checks the file of the path, with the log beside it; returns the result, the errors after the first, and the files. They hold the database
+/// that they held, whosever it is, even if the check gave no result. A log that was not there before is removed again. `start` says what the
+/// files are taken to hold, as for `Archive::open_path`. A quick check counts no census.
 pub fn check_path<T: Start, W: Watch>(
     rt: &HostRuntime,
     path: &str,
@@ -87,11 +90,7 @@ pub fn check_path<T: Start, W: Watch>(
     start: T,
     quick: bool,
     watch: &mut W,
-) -> (
-    Result<Verdict, Unavailable>,
-    Vec<Wrong>,
-    Option<Files<FileFrom<T>>>,
-)
+) -> (Result<Verdict, Unavailable>, Vec<Wrong>, CheckedFiles<T>)
     ensures check { ChecksPath quick ⟦<FileFrom<T> as Disk>⟧ (image_at T.Start) capacity result.0 result.1.items result.2 }
     ensures further { AreFurther result.0 result.1.items }
 {
@@ -99,8 +98,9 @@ pub fn check_path<T: Start, W: Watch>(
         Ok((archive, made)) => {
             let (checked, further, files) = check_opened(rt.alloc(), archive, quick, watch);
             made.remove(rt);
-            (checked, further, Some(files))
+            (checked, further, Some(Ok(files)))
         }
-        Err(files) => (Err(Unavailable), Vec::new(rt.alloc()), files),
+        Err(Some(files)) => (Err(Unavailable), Vec::new(rt.alloc()), Some(Err(files))),
+        Err(None) => (Err(Unavailable), Vec::new(rt.alloc()), None),
     }
 }

@@ -45,7 +45,7 @@ pub enum Wrong {
 pub enum Verdict {
     /// The tables represent an archive with this many deposits and this many censuses.
     Sound(u64, u64),
-    /// The same but for the tallies and the flags of the censuses, which a quick check doesn't count.
+    /// The same but for the tallies and the flags of the censuses, which a quick check doesn't count: each has some tally that adds up.
     SoundButForCounts(u64, u64),
     /// The first error is here. [`further_errors`](crate::further_errors) lists those after it.
     NotSound(Wrong),

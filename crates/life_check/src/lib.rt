@@ -7,7 +7,6 @@ mod deposits;
 mod files;
 mod judging;
 mod listing;
-mod recounting;
 mod rows;
 mod schemas;
 #[cfg(test)]
@@ -15,7 +14,7 @@ mod tests;
 mod walk;
 mod watch;
 
-pub use files::check_path;
+pub use files::{CheckedFiles, check_path};
 pub use judging::{Verdict, Wrong, check, check_trees, law_of_unique_tokens};
 pub use listing::further_errors;
 pub use watch::{Unwatched, Watch};

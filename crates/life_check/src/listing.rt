@@ -12,7 +12,7 @@ use crate::judging::Wrong;
 use crate::rows::{are_names, deposit_of_row, number_at};
 use crate::walk::{get, next};
 use crate::watch::Watch;
-use life_store::Unavailable;
+use life_store::{Deposit, Unavailable};
 use sqlite::Alter;
 use sqlite_trees::store::Direction;
 use sqlite_value::row::Row;
@@ -175,7 +175,8 @@ fn census_at<S: Alter>(
     }
     seek_number(store, alloc, 1, CENSUS_ROWS, first)?;
     seek_number(store, alloc, 2, CENSUS_FLAGS, id)?;
-    census_follows(store, alloc, quick, &row, id, before)
+    let mut last: Option<(u64, Deposit)> = None;
+    census_follows(store, alloc, quick, &row, id, before, &mut last)
 }
 
 /// Like [`census_at`], and adds an error if there is no such census; then the rows of the next one are looked for.

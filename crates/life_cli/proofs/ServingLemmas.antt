@@ -9,6 +9,7 @@ use Rattle.life_archive.specs.Session.{Traffic, unknown}
 use Rattle.life_rle.specs.declared.stream.Inlet as inlet
 use Rattle.life_rle.specs.declared.stream.Outlet as outlet
 use Rattle.life_jobs.specs.Streams.{TakesFile, PutsOnce}
+use Rattle.life_check.specs.Files.{CheckedFiles}
 use Rattle.life_archive.specs.declared.stop.ArchiveStop.{ArchiveStop}
 use Rattle.life_archive.specs.Deposit.{by_streams}
 use Rattle.life_archive.specs.Path.{PathFiles, DepositsAt, IsPathSession, IsUnserved, AnswersDeposit, AnswersServing}
@@ -38,7 +39,7 @@ module _ {D L : Type 0} (g : disk.Ghosts D) (image : Image) (capacity count fail
 module _ {D I O L : Type 0} (g : disk.Ghosts D) (i : inlet.Ghosts I) (o : outlet.Ghosts O)
     (image : Image) (capacity : ℕ) (member token : List ℕ) (input rest : I) (output sent : O)
     (answer : Result (Unit {0}) ArchiveStop) (left : PathFiles D)
-    (deposits : DepositsAt g image capacity member token (i.to_come input) (o.already output)
+    (deposits : DepositsAt g image capacity member token input rest (i.to_come input) (o.already output)
     (o.already sent) answer left)
     (takes : TakesFile (i.to_come input) (i.to_come rest) (i.failures input) (i.failures rest)
     (i.ends input) (i.ends rest) (i.last_take rest) (by_streams answer))
@@ -55,7 +56,7 @@ module _ {D I O L : Type 0} (g : disk.Ghosts D) (i : inlet.Ghosts I) (o : outlet
       record { answer = answer; left = left; deposits = deposits; takes = takes; once = once; printed = sym is }
 
 module _ {D O L : Type 0} (quick : Bool) (g : disk.Ghosts D) (o : outlet.Ghosts O) (image : Image)
-    (capacity : ℕ) (output sent : O) (answer : Result (Unit {0}) ArchiveStop) (left : Option (Files D))
+    (capacity : ℕ) (output sent : O) (answer : Result (Unit {0}) ArchiveStop) (left : CheckedFiles D)
     (checks : ChecksAt quick g image capacity (o.already output) (o.already sent) answer left)
     (once : PutsOnce output sent (o.failures output) (o.failures sent) (o.last_failed sent) (by_output answer))
     (text : L → List ℕ) where

@@ -6,7 +6,7 @@ ghost use Rattle.std.specs.String.{string_bytes};
 ghost use Rattle.life_archive.specs.Session.{CannotListen, ServesOne, unknown, failures_after};
 
 use crate::peer::Peer;
-use life_archive::{ArchiveStop, Connections, run_serve};
+use life_archive::{ArchiveStop, Connections, connection_line, run_serve};
 use life_jobs::Stop;
 use life_pages::IoFault;
 use life_rle::{FromRead, FromWrite};
@@ -39,16 +39,6 @@ fn listen(rt: &HostRuntime, port: u64) -> Result<TcpListener, ArchiveStop>
 /// Prints where the program listens.
 fn say_port(rt: &HostRuntime, port: u64) -> io::Result<()> {
     println!(rt; "listening on 127.0.0.1:{port}")
-}
-
-/// The line for a connection that failed.
-fn fault_line(fault: IoFault) -> &'static str {
-    match fault {
-        IoFault::Read => "connection: read",
-        IoFault::Write => "connection: write",
-        IoFault::TooManyReads => "connection: too-many-reads",
-        IoFault::Memory => "connection: memory",
-    }
 }
 
 /// Serves the next connection. Without a listener no connection comes, which counts as a failed read.
@@ -122,7 +112,7 @@ impl Connections for Port<'_> {
             Err(fault) => {
                 self.failures = self.failures.saturating_add(1);
                 // If standard error fails, the error can't be reported.
-                let _told = self.rt.eprintln(fault_line(fault));
+                let _told = self.rt.eprintln(connection_line(fault));
             }
         }
     }

@@ -1,6 +1,6 @@
 -- A census that was answered by a number has it in every later archive, and acts once.
 use Rattle.std.proofs.Common.{◌≡◌, ◌&&◌, ℕ, List, Bool, true, false, Option, None, Some, Result, Ok, Err, refl, sym}
-use Rattle.std.proofs.Common.{◌∙◌, ap, subst, arith, if◌then◌else◌}
+use Rattle.std.proofs.Common.{◌∙◌, ap, ap₂, subst, arith, if◌then◌else◌}
 use Rattle.std.proofs.lemmas.Grind.{common_steps}
 use Rattle.std.proofs.lemmas.Bool.{and_parts, eqb-true}
 use Rattle.life_store.specs.declared.kept.Deposit.{Deposit}
@@ -8,14 +8,13 @@ use Rattle.life_store.specs.declared.kept.Census.{Census}
 use Rattle.life_store.specs.Kept.{numbered, is_census_of}
 use Rattle.life_desk.specs.declared.refusal.Refusal.{Refusal}
 use Rattle.life_desk.specs.declared.refusal.Refusal.TheVariants as no
+use Rattle.life_desk.specs.declared.request.Request.{Request}
 use Rattle.life_desk.specs.declared.request.Request.TheVariants as ask
-use Rattle.life_desk.specs.declared.request.ValidRequest.{ValidRequest}
-use Rattle.life_desk.specs.declared.request.ValidRequest.TheVariants as good
 use Rattle.life_desk.specs.declared.request.Reply.TheVariants as says
 use Rattle.life_desk.specs.Archive.{Archive}
-use Rattle.life_desk.specs.Validation.{is_member, is_token, is_generation, is_limit}
+use Rattle.life_desk.specs.Validation.{is_member, is_token, is_generation, is_limit, validated_by, first_fault}
 use Rattle.life_desk.specs.Replies.{is_same_census, has_room, census_of_deposit, census_reply, with_census, IsReply}
-use Rattle.life_desk.specs.Replies.{after, IsReplyBy, after_by}
+use Rattle.life_desk.specs.Replies.{after, census_asked, IsReplyBy, after_by}
 use Rattle.life_desk.specs.Run.{IsLater}
 use Rattle.life_desk.specs.Laws.{CensusesActOnce, CensusesStay}
 use Rattle.life_desk.proofs.LaterArchives.{deposit_stays}
@@ -84,23 +83,21 @@ deposit_case A c n (Some d) is x y z h = record {
 }
 
 -- what is validated of a census's own words
-abbrev Words : Census → Bool → Bool → Bool → Result ValidRequest Refusal
-Words c a b w =
-    if a then (if b then (if w then Ok (good.Census c) else Err no.OutOfLimit) else Err no.BadToken)
-    else Err no.BadMember
+abbrev Words : Census → Bool → Bool → Bool → Bool → Result Request Refusal
+Words c a b g l =
+    validated_by (first_fault (if a then (if b then None else Some no.BadToken) else Some no.BadMember)
+    (first_fault (if g then None else Some no.OutOfLimit) (if l then None else Some no.OutOfLimit)))
+    (ask.Census c.member c.token c.deposit c.generation c.limit)
 
-words_case : (A : Archive) (c : Census) (n : ℕ) (a b w : Bool) → is_member c.member ≡ a → is_token c.token ≡ b
-    → (is_generation c.generation && is_limit c.limit) ≡ w
-    → IsReplyBy A (Words c a b w) (says.Counted n) → IsCounted (after_by A (Words c a b w)) c n
-words_case A c n true true true x y z h = deposit_case A c n (numbered A.deposits c.deposit) refl x y z h
-words_case A c n true true false x y z h = absurd cc
-words_case A c n true false w x y z h = absurd cc
-words_case A c n false b w x y z h = absurd cc
-
--- the census that is asked for
-abbrev pub census_asked : List ℕ → List ℕ → ℕ → ℕ → ℕ → Census
-census_asked member token deposit generation limit =
-    record { member = member; token = token; deposit = deposit; generation = generation; limit = limit }
+words_case : (A : Archive) (c : Census) (n : ℕ) (a b g l : Bool) → is_member c.member ≡ a → is_token c.token ≡ b
+    → is_generation c.generation ≡ g → is_limit c.limit ≡ l
+    → IsReplyBy A (Words c a b g l) (says.Counted n) → IsCounted (after_by A (Words c a b g l)) c n
+words_case A c n true true true true x y z w h =
+    deposit_case A c n (numbered A.deposits c.deposit) refl x y (ap₂ ◌&&◌ z w) h
+words_case A c n true true true false x y z w h = absurd cc
+words_case A c n true true false l x y z w h = absurd cc
+words_case A c n true false g l x y z w h = absurd cc
+words_case A c n false b g l x y z w h = absurd cc
 
 pub counted : (A : Archive) (member token : List ℕ) (deposit generation limit n : ℕ)
     → IsReply A (ask.Census member token deposit generation limit) (says.Counted n)
@@ -108,7 +105,7 @@ pub counted : (A : Archive) (member token : List ℕ) (deposit generation limit 
     (census_asked member token deposit generation limit) n
 counted A member token deposit generation limit n h =
     words_case A (census_asked member token deposit generation limit) n (is_member member)
-    (is_token token) (is_generation generation && is_limit limit) refl refl refl h
+    (is_token token) (is_generation generation) (is_limit limit) refl refl refl refl h
 
 -- ---- later
 
@@ -141,14 +138,15 @@ by_deposit B c n d o is found =
     (let repeats = stored_repeats censuses (has_room B B.censuses) B.censuses c n found in
     (repeats.0, ap (λ cs. record B { censuses = cs }) repeats.1))
 
-by_words : (B : Archive) (c : Census) (n : ℕ) (a b w : Bool) → a ≡ true → b ≡ true → w ≡ true
+by_words : (B : Archive) (c : Census) (n : ℕ) (a b g l : Bool) → a ≡ true → b ≡ true → (g && l) ≡ true
     → (says.Counted n ≡ census_reply B (census_of_deposit B c (numbered B.deposits c.deposit)))
     × (with_census B (census_of_deposit B c (numbered B.deposits c.deposit)) ≡ B)
-    → IsReplyBy B (Words c a b w) (says.Counted n) × (after_by B (Words c a b w) ≡ B)
-by_words B c n true true true x y z h = h
-by_words B c n true true false x y z h = absurd cc
-by_words B c n true false w x y z h = absurd cc
-by_words B c n false b w x y z h = absurd cc
+    → IsReplyBy B (Words c a b g l) (says.Counted n) × (after_by B (Words c a b g l) ≡ B)
+by_words B c n true true true true x y z h = h
+by_words B c n true true true false x y z h = absurd cc
+by_words B c n true true false l x y z h = absurd cc
+by_words B c n true false g l x y z h = absurd cc
+by_words B c n false b g l x y z h = absurd cc
 
 pub censuses_act_once_lem : CensusesActOnce
 censuses_act_once_lem A B member token deposit generation limit n h later =
@@ -156,5 +154,5 @@ censuses_act_once_lem A B member token deposit generation limit n h later =
     let d = counted_later (after A (ask.Census member token deposit generation limit)) B c n later
     (counted A member token deposit generation limit n h) in
     by_words B c n (is_member member) (is_token token)
-    (is_generation generation && is_limit limit) d.member_good d.token_good d.within
+    (is_generation generation) (is_limit limit) d.member_good d.token_good d.within
     (by_deposit B c n d.deposit (numbered B.deposits deposit) d.there d.found)

@@ -1,5 +1,5 @@
 -- A deposit that was answered by a number has it in every later archive, and acts once.
-use Rattle.std.proofs.Common.{◌≡◌, ◌&&◌, ℕ, List, Bool, true, false, Some, Result, Ok, Err, refl, sym, ◌∙◌, ap, subst}
+use Rattle.std.proofs.Common.{◌≡◌, ◌&&◌, ℕ, List, Bool, true, false, None, Some, Result, Ok, Err, refl, sym, ◌∙◌, ap, subst}
 use Rattle.std.proofs.Common.{if◌then◌else◌}
 use Rattle.std.specs.Str.{bytes_eq}
 use Rattle.std.proofs.lemmas.Bool.{and_parts}
@@ -14,12 +14,11 @@ use Rattle.life_store.specs.declared.kept.Deposit.{Deposit}
 use Rattle.life_store.specs.Kept.{is_of}
 use Rattle.life_desk.specs.declared.refusal.Refusal.{Refusal}
 use Rattle.life_desk.specs.declared.refusal.Refusal.TheVariants as no
+use Rattle.life_desk.specs.declared.request.Request.{Request}
 use Rattle.life_desk.specs.declared.request.Request.TheVariants as ask
-use Rattle.life_desk.specs.declared.request.ValidRequest.{ValidRequest}
-use Rattle.life_desk.specs.declared.request.ValidRequest.TheVariants as good
 use Rattle.life_desk.specs.declared.request.Reply.TheVariants as says
 use Rattle.life_desk.specs.Archive.{Archive}
-use Rattle.life_desk.specs.Validation.{is_member, is_token, validated}
+use Rattle.life_desk.specs.Validation.{is_member, is_token, validated, validated_by}
 use Rattle.life_desk.specs.Replies.{is_same_deposit, has_room, deposit_of_file, deposit_reply, with_deposit, IsReply}
 use Rattle.life_desk.specs.Replies.{after, IsReplyBy, after_by}
 use Rattle.life_desk.specs.Run.{IsLater}
@@ -103,9 +102,10 @@ file_case A member token file n (Ok it) good_member good_token is h = record {
 file_case A member token file n (Err fault) good_member good_token is h = absurd cc
 
 -- what is validated of a deposit's own words
-abbrev Words : List ℕ → List ℕ → List ℕ → Bool → Bool → Result ValidRequest Refusal
+abbrev Words : List ℕ → List ℕ → List ℕ → Bool → Bool → Result Request Refusal
 Words member token file a b =
-    if a then (if b then Ok (good.Deposit member token file) else Err no.BadToken) else Err no.BadMember
+    validated_by (if a then (if b then None else Some no.BadToken) else Some no.BadMember)
+    (ask.Deposit member token file)
 
 words_case : (A : Archive) (member token file : List ℕ) (n : ℕ) (a b : Bool) → is_member member ≡ a → is_token token ≡ b
     → IsReplyBy A (Words member token file a b) (says.Deposited n)

@@ -20,16 +20,16 @@ use Rattle.sqlite_trees.specs.declared.store.Store.{Ghosts}
 use Rattle.life_store.specs.declared.kept.Deposit.{Deposit}
 use Rattle.life_store.specs.declared.kept.Census.{Census}
 use Rattle.life_store.specs.Kept.{numbered}
+use Rattle.life_desk.specs.declared.refusal.Refusal.{Refusal}
 use Rattle.life_desk.specs.declared.refusal.Refusal.TheVariants as no
 use Rattle.life_desk.specs.declared.request.Request.{Request}
 use Rattle.life_desk.specs.declared.request.Request.TheVariants as ask
-use Rattle.life_desk.specs.declared.request.ValidRequest.TheVariants as good
 use Rattle.life_desk.specs.declared.request.Reply.{Reply}
 use Rattle.life_desk.specs.declared.request.Reply.TheVariants as says
 use Rattle.life_desk.specs.declared.request.Shown.{Shown}
 use Rattle.life_desk.specs.Archive.{Archive, clusters_with, tally_at, tally_for, tally_of_cells, steady_at, steady_for}
-use Rattle.life_desk.specs.Validation.{is_generation, is_limit, validated_rule}
-use Rattle.life_desk.specs.Replies.{IsReply, IsReplyBy, after, at_reply, file_reply, kind_reply, shown_reply}
+use Rattle.life_desk.specs.Validation.{is_generation, is_limit, fault_in, validated_by}
+use Rattle.life_desk.specs.Replies.{IsReply, IsReplyBy, IsTotalUnder, after, at_reply, file_reply, kind_reply, shown_reply}
 use Rattle.life_desk.specs.Represents.{EachHasDeposit, IsRepresentable}
 use Rattle.life_store.specs.Tables.{ArchiveView, StaysHealthy}
 use Rattle.life_desk.specs.Run.{RequestRun, IsAnswered, IsLater, Answered}
@@ -60,7 +60,7 @@ at A B qs rs q r can run answered other =
 -- ---- generations
 
 generation_case : (M : Archive) (id n : ℕ) (bytes : List ℕ) (b : Bool)
-    → IsReplyBy M (if b then Ok (good.At id n) else Err no.OutOfLimit) (says.File bytes)
+    → IsReplyBy M (validated_by (if b then None else Some no.OutOfLimit) (ask.At id n)) (says.File bytes)
     → says.File bytes ≡ at_reply n (numbered M.deposits id)
 generation_case M id n bytes true is = is
 generation_case M id n bytes false is = absurd cc
@@ -75,7 +75,7 @@ file_case n bytes (Some d) is = (d, refl, cc)
 
 limit_case : (M : Archive) (id limit : ℕ) (r : Reply) (k : Kind) (code : Option (List ℕ)) (b : Bool)
     → r ≡ says.Kinded k code
-    → IsReplyBy M (if b then Ok (good.KindOf id limit) else Err no.OutOfLimit) r
+    → IsReplyBy M (validated_by (if b then None else Some no.OutOfLimit) (ask.KindOf id limit)) r
     → r ≡ kind_reply limit (numbered M.deposits id)
 limit_case M id limit r k code true kind is = is
 limit_case M id limit r k code false kind is = absurd cc
@@ -215,16 +215,16 @@ kind_case limit k code None is = absurd cc
 kind_case limit k code (Some d) is = (d, refl, cc, cc)
 
 rule_case : (M : Archive) (code : List ℕ) (limit n : ℕ) (read : Result RuleSets RuleFault)
-    → IsReplyBy M (validated_rule code limit read) (says.Total n)
+    → IsTotalUnder M read code limit (says.Total n)
     → (rule : RuleSets) × (read ≡ Ok rule) × (n ≡ clusters_with M rule code)
 rule_case M code limit n (Ok rule) is = (rule, refl, is.2)
 rule_case M code limit n (Err fault) is = absurd cc
 
-total_case : (M : Archive) (text code : List ℕ) (limit n : ℕ) (b : Bool)
-    → IsReplyBy M (if b then validated_rule code limit (read_rule text) else Err no.OutOfLimit) (says.Total n)
+total_case : (M : Archive) (text code : List ℕ) (limit n : ℕ) (fault : Option Refusal)
+    → IsReplyBy M (validated_by fault (ask.Total text code limit)) (says.Total n)
     → (rule : RuleSets) × (read_rule text ≡ Ok rule) × (n ≡ clusters_with M rule code)
-total_case M text code limit n true is = rule_case M code limit n (read_rule text) is
-total_case M text code limit n false is = absurd cc
+total_case M text code limit n None is = rule_case M code limit n (read_rule text) is
+total_case M text code limit n (Some refusal) is = absurd cc
 
 -- ---- all
 
@@ -246,7 +246,7 @@ headline_holds rows add decided complete A B qs rs can run = record {
   totals = λ text code limit n answered.
       let m = moment A B qs rs (ask.Total text code limit) (says.Total n) can run answered in
       let is = (step_answers m.before (ask.Total text code limit) (says.Total n) m.behind m.step (λ e. cc)).0 in
-      let found = total_case m.before text code limit n (is_limit limit) is in (
+      let found = total_case m.before text code limit n (fault_in (ask.Total text code limit)) is in (
         found.0,
         m.before,
         found.1,

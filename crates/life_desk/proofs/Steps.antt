@@ -13,8 +13,7 @@ use Rattle.life_store.specs.Kept.{numbered, deposit_by, census_by}
 use Rattle.life_desk.specs.declared.refusal.Refusal.{Refusal}
 use Rattle.life_desk.specs.declared.refusal.Refusal.TheVariants as no
 use Rattle.life_desk.specs.declared.request.Request.{Request}
-use Rattle.life_desk.specs.declared.request.ValidRequest.{ValidRequest}
-use Rattle.life_desk.specs.declared.request.ValidRequest.TheVariants as good
+use Rattle.life_desk.specs.declared.request.Request.TheVariants as ask
 use Rattle.life_desk.specs.declared.request.Reply.{Reply}
 use Rattle.life_desk.specs.declared.request.Reply.TheVariants as says
 use Rattle.life_desk.specs.Archive.{Archive}
@@ -22,7 +21,7 @@ use Rattle.life_desk.specs.Validation.{validated}
 use Rattle.life_desk.specs.Submission.{Verdict, Refuses, Repeats, Adds}
 use Rattle.life_desk.specs.Replies.{has_room, is_same_deposit, deposit_of_file, deposit_verdict, with_deposit}
 use Rattle.life_desk.specs.Replies.{is_same_census, census_of_deposit, census_verdict, with_census, IsReply, after}
-use Rattle.life_desk.specs.Replies.{after_by}
+use Rattle.life_desk.specs.Replies.{census_asked, after_by}
 use Rattle.life_desk.specs.Represents.{EachHasDeposit, IsReadAgain, EachIsReadAgain, IsRepresentable}
 use Rattle.life_desk.specs.Run.{RequestStep, answers, gives_up, RequestRun, IsAnswered, IsLater}
 use Rattle.life_desk.proofs.Representing.{each_longer}
@@ -55,21 +54,16 @@ census_later A v =
     }
 
 -- what holds of an archive after each request, by what holds of it before, and of it with one submission
-after_case : (P : Archive → Type 0) (A : Archive) (w : Result ValidRequest Refusal) → P A
+after_case : (P : Archive → Type 0) (A : Archive) (w : Result Request Refusal) → P A
     → ((member token file : List ℕ) → P (with_deposit A (deposit_verdict A member token file)))
     → ((c : Census) → P (with_census A (census_verdict A c))) → P (after_by A w)
 after_case P A (Err refusal) none deposit census = none
-after_case P A (Ok (good.Deposit member token file)) none deposit census = deposit member token file
-after_case P A (Ok (good.Show id)) none deposit census = none
-after_case P A (Ok (good.ListAfter id)) none deposit census = none
-after_case P A (Ok (good.At id n)) none deposit census = none
-after_case P A (Ok (good.KindOf id limit)) none deposit census = none
-after_case P A (Ok (good.Census c)) none deposit census = census c
-after_case P A (Ok (good.ShowCensus id)) none deposit census = none
-after_case P A (Ok (good.CensusCsv id)) none deposit census = none
-after_case P A (Ok (good.Total rule code limit)) none deposit census = none
+after_case P A (Ok (ask.Deposit member token file)) none deposit census = deposit member token file
+after_case P A (Ok (ask.Census member token id n limit)) none deposit census =
+    census (census_asked member token id n limit)
+after_case P A (Ok _) none deposit census = none
 
-after_later : (A : Archive) (w : Result ValidRequest Refusal) → IsLater A (after_by A w)
+after_later : (A : Archive) (w : Result Request Refusal) → IsLater A (after_by A w)
 after_later A w =
     after_case (IsLater A) A w (later_same A)
     (λ member token file. deposit_later A (deposit_verdict A member token file))
@@ -113,13 +107,13 @@ census_each A c (Some d) is each =
     all_after (λ (c : Census). IsSome (numbered A.deposits c.deposit)) is_same_census (has_room A A.censuses)
     A.censuses c (census_by c.member c.token A.censuses) each (subst (λ o. IsSome o) (sym is) refl)
 
-pub after_again : (A : Archive) (w : Result ValidRequest Refusal) → EachIsReadAgain A.deposits
+pub after_again : (A : Archive) (w : Result Request Refusal) → EachIsReadAgain A.deposits
     → EachIsReadAgain (after_by A w).deposits
 after_again A w again =
     after_case (λ (B : Archive). EachIsReadAgain B.deposits) A w again
     (λ member token file. deposit_again A member token file (files.file file) refl again) (λ c. again)
 
-pub after_each : (A : Archive) (w : Result ValidRequest Refusal) → EachHasDeposit A.deposits A.censuses
+pub after_each : (A : Archive) (w : Result Request Refusal) → EachHasDeposit A.deposits A.censuses
     → EachHasDeposit (after_by A w).deposits (after_by A w).censuses
 after_each A w each =
     after_case (λ (B : Archive). EachHasDeposit B.deposits B.censuses) A w each

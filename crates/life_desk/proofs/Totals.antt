@@ -76,44 +76,20 @@ total_there A rule text limit small =
 with_refusal : (A : Archive) (rule : RuleSets) (text : List ℕ) (limit n : ℕ) (refusal : Refusal)
     → IsTotal A rule text limit (says.Total n) → IsTotal A rule text limit (says.Refused refusal) → ⊥
 with_refusal A rule text limit n no.BadCode one other = other one.0 one.1
-with_refusal A rule text limit n no.NoSuchDeposit one other = other
-with_refusal A rule text limit n no.NoSuchCensus one other = other
-with_refusal A rule text limit n no.BadMember one other = other
-with_refusal A rule text limit n no.BadToken one other = other
-with_refusal A rule text limit n no.TokenReused one other = other
-with_refusal A rule text limit n no.OutOfLimit one other = other
-with_refusal A rule text limit n (no.BadPattern fault) one other = other
-with_refusal A rule text limit n no.BadRule one other = other
-with_refusal A rule text limit n no.Full one other = other
-with_refusal A rule text limit n no.Unavailable one other = other
+with_refusal A rule text limit n _ one other = other
 
 -- a refusal of a total is that of the code
 refusal_is : (A : Archive) (rule : RuleSets) (text : List ℕ) (limit : ℕ) (refusal : Refusal)
     → IsTotal A rule text limit (says.Refused refusal) → refusal ≡ no.BadCode
 refusal_is A rule text limit no.BadCode is = refl
-refusal_is A rule text limit no.NoSuchDeposit is = absurd is
-refusal_is A rule text limit no.NoSuchCensus is = absurd is
-refusal_is A rule text limit no.BadMember is = absurd is
-refusal_is A rule text limit no.BadToken is = absurd is
-refusal_is A rule text limit no.TokenReused is = absurd is
-refusal_is A rule text limit no.OutOfLimit is = absurd is
-refusal_is A rule text limit (no.BadPattern fault) is = absurd is
-refusal_is A rule text limit no.BadRule is = absurd is
-refusal_is A rule text limit no.Full is = absurd is
-refusal_is A rule text limit no.Unavailable is = absurd is
+refusal_is A rule text limit _ is = absurd is
 
 -- what a reply to a request for a total is
 total_kind : (A : Archive) (rule : RuleSets) (text : List ℕ) (limit : ℕ) (r : Reply) → IsTotal A rule text limit r
     → ((n : ℕ) × (r ≡ says.Total n)) ⊎ ((refusal : Refusal) × (r ≡ says.Refused refusal))
 total_kind A rule text limit (says.Total n) is = inl (n, refl)
 total_kind A rule text limit (says.Refused refusal) is = inr (refusal, refl)
-total_kind A rule text limit (says.Deposited n) is = absurd is
-total_kind A rule text limit (says.File bytes) is = absurd is
-total_kind A rule text limit (says.Deposits lines) is = absurd is
-total_kind A rule text limit (says.Kinded kind code) is = absurd is
-total_kind A rule text limit (says.Counted n) is = absurd is
-total_kind A rule text limit (says.Shown shown) is = absurd is
-total_kind A rule text limit (says.Csv bytes) is = absurd is
+total_kind A rule text limit _ is = absurd is
 
 pub total_one : (A : Archive) (rule : RuleSets) (text : List ℕ) (limit : ℕ) (r s : Reply) → IsTotal A rule text limit r
     → IsTotal A rule text limit s → s ≡ r

@@ -4,7 +4,6 @@ pub mod Validation
 pub mod Submission
 pub mod Replies
 pub mod Represents
-pub mod ValidationState
 pub mod LookupsState
 pub mod DeskState
 pub mod Run

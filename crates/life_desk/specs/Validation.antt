@@ -1,7 +1,7 @@
--- Validation of a request's own fields, before the archive is asked, in the order member, token, limits, rule. The
--- result is the same request with its rule parsed, or the refusal for the first invalid field.
-use Rattle.std.specs.Prelude.{◌≡◌, ◌⊎◌, ◌==◌, ◌&&◌, ◌||◌, ℕ, Bool, List, length, Result, Ok, Err, IsOk, nat_le}
-use Rattle.std.specs.Prelude.{if◌then◌else◌}
+-- Validation of a request's own fields, before the archive is asked, in the order member, token, limits, rule: the
+-- refusal for the first invalid field, or the request itself.
+use Rattle.std.specs.Prelude.{◌≡◌, ◌≤◌, ◌⊎◌, ◌==◌, ◌&&◌, ◌||◌, ℕ, Bool, List, length, Option, None, Some, Result}
+use Rattle.std.specs.Prelude.{Ok, Err, IsOk, nat_le, if◌then◌else◌}
 use Rattle.std.specs.List.{list_all}
 use Rattle.life_core.specs.Ascii.{hyphen, digit_0, digit_9, letter_a, letter_z}
 use Rattle.life_core.specs.declared.generations.TheConstants.{GENERATION_LIMIT}
@@ -13,8 +13,6 @@ use Rattle.life_desk.specs.declared.refusal.Refusal.{Refusal}
 use Rattle.life_desk.specs.declared.refusal.Refusal.TheVariants.{BadMember, BadToken, OutOfLimit, BadRule, Unavailable}
 use Rattle.life_desk.specs.declared.request.Request.{Request}
 use Rattle.life_desk.specs.declared.request.Request.TheVariants as ask
-use Rattle.life_desk.specs.declared.request.ValidRequest.{ValidRequest}
-use Rattle.life_desk.specs.declared.request.ValidRequest.TheVariants as good
 
 abbrev pub is_between : ℕ → ℕ → ℕ → Bool
 is_between low high n = nat_le low n && nat_le n high
@@ -39,30 +37,57 @@ is_generation n = nat_le n GENERATION_LIMIT
 abbrev pub is_limit : ℕ → Bool
 is_limit n = is_between 1 PERIOD_LIMIT n
 
-abbrev pub validated_rule : List ℕ → ℕ → Result RuleSets RuleFault → Result ValidRequest Refusal
-validated_rule code limit (Ok rule) = Ok (good.Total rule code limit)
-validated_rule code limit (Err fault) = Err BadRule
+-- ---- the first invalid field
 
-abbrev pub validated : Request → Result ValidRequest Refusal
-validated (ask.Deposit member token file) =
-    if is_member member then (if is_token token then Ok (good.Deposit member token file) else Err BadToken)
-    else Err BadMember
-validated (ask.Show id) = Ok (good.Show id)
-validated (ask.ListAfter id) = Ok (good.ListAfter id)
-validated (ask.At id n) = if is_generation n then Ok (good.At id n) else Err OutOfLimit
-validated (ask.KindOf id limit) = if is_limit limit then Ok (good.KindOf id limit) else Err OutOfLimit
-validated (ask.Census member token id n limit) =
-    if is_member member
-    then (if is_token token
-    then (if is_generation n && is_limit limit
-    then Ok (good.Census (record { member = member; token = token; deposit = id; generation = n; limit = limit }))
-    else Err OutOfLimit)
-    else Err BadToken)
-    else Err BadMember
-validated (ask.ShowCensus id) = Ok (good.ShowCensus id)
-validated (ask.CensusCsv id) = Ok (good.CensusCsv id)
-validated (ask.Total rule code limit) =
-    if is_limit limit then validated_rule code limit (read_rule rule) else Err OutOfLimit
+abbrev pub names_fault : List ℕ → List ℕ → Option Refusal
+names_fault member token =
+    if is_member member then (if is_token token then None else Some BadToken) else Some BadMember
+
+abbrev pub generation_fault : ℕ → Option Refusal
+generation_fault n = if is_generation n then None else Some OutOfLimit
+
+abbrev pub limit_fault : ℕ → Option Refusal
+limit_fault limit = if is_limit limit then None else Some OutOfLimit
+
+abbrev pub rule_fault : Result RuleSets RuleFault → Option Refusal
+rule_fault (Ok rule) = None
+rule_fault (Err fault) = Some BadRule
+
+-- the first of two
+abbrev pub first_fault : Option Refusal → Option Refusal → Option Refusal
+first_fault (Some refusal) later = Some refusal
+first_fault None later = later
+
+-- the refusal of a request for its own fields, if one of them is invalid
+abbrev pub fault_in : Request → Option Refusal
+fault_in (ask.Deposit member token file) = names_fault member token
+fault_in (ask.At id n) = generation_fault n
+fault_in (ask.KindOf id limit) = limit_fault limit
+fault_in (ask.Census member token id n limit) =
+    first_fault (names_fault member token) (first_fault (generation_fault n) (limit_fault limit))
+fault_in (ask.Total rule code limit) = first_fault (limit_fault limit) (rule_fault (read_rule rule))
+fault_in _ = None
+
+-- what the limits of a request without an invalid field are
+abbrev pub IsGood : Request → Type 0
+IsGood (ask.At id n) = n ≤ GENERATION_LIMIT
+IsGood (ask.KindOf id limit) = (1 ≤ limit) × (limit ≤ PERIOD_LIMIT)
+IsGood (ask.Census member token id n limit) = (n ≤ GENERATION_LIMIT) × (1 ≤ limit) × (limit ≤ PERIOD_LIMIT)
+IsGood (ask.Total rule code limit) = (1 ≤ limit) × (limit ≤ PERIOD_LIMIT)
+IsGood _ = Unit {0}
+
+abbrev pub validated_by : Option Refusal → Request → Result Request Refusal
+validated_by None q = Ok q
+validated_by (Some refusal) q = Err refusal
+
+-- the request, or its refusal
+abbrev pub validated : Request → Result Request Refusal
+validated q = validated_by (fault_in q) q
+
+-- a check of a request's fields
+abbrev pub checked : Option Refusal → Result (Unit {0}) Refusal
+checked None = Ok tt
+checked (Some refusal) = Err refusal
 
 -- a check of a request's fields returns the result of validation
 abbrev pub IsChecked : {J : Type 0} → Result (Unit {0}) Refusal → Result J Refusal → Type 0

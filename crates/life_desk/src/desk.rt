@@ -7,12 +7,12 @@ ghost use Rattle.life_store.specs.Tables.{IsTransition, IsHealthyIfClean, HoldsT
 ghost use Rattle.life_desk.specs.declared.request.Reply.TheVariants as says;
 ghost use Rattle.life_desk.specs.declared.refusal.Refusal.TheVariants as refusals;
 ghost use Rattle.life_desk.specs.Submission.{Adds};
-ghost use Rattle.life_desk.specs.Replies.{deposit_by_token, deposit_verdict, deposit_reply, with_deposit, is_same_census, census_by_token, census_verdict, census_reply, with_census, file_reply, at_reply, kind_reply, shown_reply, csv_reply, IsTotal, IsReplyTo, after_all_of, is_shown};
+ghost use Rattle.life_desk.specs.Replies.{deposit_by_token, deposit_verdict, deposit_reply, with_deposit, is_same_census, census_by_token, census_verdict, census_reply, with_census, file_reply, at_reply, kind_reply, shown_reply, csv_reply, IsTotal, IsTotalUnder, IsReplyTo, after_all_of, is_shown};
 ghost use Rattle.life_core.specs.Pattern.{IsWithin};
+ghost use Rattle.life_core.specs.RuleText.{read_rule};
 ghost use Rattle.life_code.specs.Codes as codes;
 ghost use Rattle.life_code.specs.Period as periods;
-ghost use Rattle.life_desk.specs.Validation.{validated};
-ghost use Rattle.life_desk.specs.ValidationState.{IsGood};
+ghost use Rattle.life_desk.specs.Validation.{validated, IsGood};
 ghost use Rattle.life_desk.specs.DeskState.{Acts, ActsIf, OnlyShows, RepresentChanged, RepresentChangedIf, Promises, SpeaksIfHealthy, reused_reply};
 ghost use Rattle.life_desk.specs.Headline.{IsTheArchive, IsTheArchiveOrFaults, IsTheArchiveInMemory};
 ghost use Rattle.life_desk.specs.Run.{Answered, IsIdle, IsCrashSafe};
@@ -22,15 +22,16 @@ ghost use Rattle.life_census.specs.Steady.{is_steady};
 ghost use Rattle.life_census.specs.Table.{csv_text};
 
 use crate::bytes::Bytes;
+use crate::counting::counted;
 use crate::headline::law_of_the_archive;
 use crate::lookups::{
     add_census, add_deposit, counted_census, counts_of, deposit_of, deposits_after, file_of,
     find_census, find_file, has_census_room, has_deposit, has_room,
 };
 use crate::refusal::Refusal;
-use crate::request::{Reply, Request, Shown, ValidRequest};
+use crate::request::{Reply, Request, Shown};
 use crate::validation::validate;
-use life_census::{Tally, csv, laws_of_tallies, tally_and_steady};
+use life_census::{Tally, csv};
 use life_code::{CodeFault, Kind, PERIOD_LIMIT, code_of_kind, kind, open_code, settled_generation};
 use life_core::{Fault, GENERATION_LIMIT, Pattern, Rule};
 use life_rle::{RleFault, Text, into_plain, read, write};
@@ -225,39 +226,6 @@ fn name_kind<S: Alter>(
     }
 }
 
-/// The tally of a pattern, and whether the pattern is steady.
-fn count(
-    alloc: Global,
-    rule: &Rule,
-    cells: &Pattern,
-    limit: u32,
-) -> Result<(Tally, bool), Unavailable>
-    requires some { 1 ≤ limit }
-    requires few { limit ≤ PERIOD_LIMIT }
-    requires room { IsWithin 400_000_000 cells.now }
-    ensures is { IfOk result (λ p. p.0 ≡ tally_of_cells rule.now cells.now limit) }
-    ensures flag { IfOk result (λ p. p.1 ≡ is_steady rule.now cells.now limit) }
-    ensures ordered { IfOk result (λ p. HasOrder p.0) }
-{
-    laws_of_tallies();
-    Ok(tally_and_steady(alloc, rule, cells, limit)?)
-}
-
-/// Counts the census of a deposit, and finds out whether the generation that it counts is steady.
-fn counted(alloc: Global, deposit: &Deposit, census: &Census) -> Result<(Tally, bool), Unavailable>
-    requires small { IsInside 1024 deposit.now.content.cells }
-    requires few { census.now.generation ≤ GENERATION_LIMIT }
-    requires some { 1 ≤ census.now.limit }
-    requires short { census.now.limit ≤ PERIOD_LIMIT }
-    ensures is { IfOk result (λ p. p.0 ≡ tally_for census.now (Some deposit.now)) }
-    ensures flag { IfOk result (λ p. p.1 ≡ steady_for census.now (Some deposit.now)) }
-    ensures ordered { IfOk result (λ p. HasOrder p.0) }
-{
-    let rule = deposit.content.rule;
-    let later = settled_generation(alloc, &rule, &deposit.content.cells, census.generation)?;
-    count(alloc, &rule, &later, census.limit)
-}
-
 /// Counts a census of a deposit that is there, and adds it.
 fn add_counted<S: Alter>(
     archive: &mut Archive<S>,
@@ -438,37 +406,74 @@ fn total<S: Alter>(
     Ok(Reply::Total(counts_of(archive, alloc, rule, text)?))
 }
 
+/// Answers with a total under a rule that is read.
+fn total_under<S: Alter>(
+    archive: &mut Archive<S>,
+    alloc: Global,
+    rule: &[u8],
+    text: &[u8],
+    limit: u32,
+) -> Result<Reply, Unavailable>
+    requires some { 1 ≤ limit }
+    requires few { limit ≤ PERIOD_LIMIT }
+    ensures transition { IsTransition S.Store NoMore archive.old archive.new }
+    ensures promised { Promises S.Store archive.new result }
+    ensures healthy { SpeaksIfHealthy S.Store archive.new result (λ A r. IsTotalUnder A (read_rule rule.now) text.now limit r) (λ A. A) }
+    ensures effect { Acts archive.old archive.new result (λ A r. IsTotalUnder A (read_rule rule.now) text.now limit r) (λ A. A) }
+{
+    match Rule::read(rule) {
+        Ok(rule) => total(archive, alloc, &rule, text, limit),
+        Err(_) => Ok(Reply::Refused(Refusal::BadRule)),
+    }
+}
+
 /// Answers a request whose fields are valid.
 fn act<S: Alter>(
     archive: &mut Archive<S>,
     alloc: Global,
-    validated: ValidRequest,
+    request: Request,
 ) -> Result<Reply, Unavailable>
-    requires { IsGood validated }
-    ensures transition { IsTransition S.Store (RepresentChanged archive.old (λ A. after_all_of A validated)) archive.old archive.new }
+    requires { IsGood request }
+    ensures transition { IsTransition S.Store (RepresentChanged archive.old (λ A. after_all_of A request)) archive.old archive.new }
     ensures promised { Promises S.Store archive.new result }
-    ensures healthy { SpeaksIfHealthy S.Store archive.new result (λ A r. IsReplyTo A validated r) (λ A. after_all_of A validated) }
-    ensures effect { Acts archive.old archive.new result (λ A r. IsReplyTo A validated r) (λ A. after_all_of A validated) }
+    ensures healthy { SpeaksIfHealthy S.Store archive.new result (λ A r. IsReplyTo A request r) (λ A. after_all_of A request) }
+    ensures effect { Acts archive.old archive.new result (λ A r. IsReplyTo A request r) (λ A. after_all_of A request) }
 {
-    match validated {
-        ValidRequest::Deposit {
+    match request {
+        Request::Deposit {
             member,
             token,
             file,
         } => deposit(archive, alloc, member, token, file),
-        ValidRequest::Show(id) => show(archive, alloc, id),
-        ValidRequest::ListAfter(id) => list_after(archive, alloc, id),
-        ValidRequest::At { id, generation } => show_at(archive, alloc, id, generation),
-        ValidRequest::KindOf { id, limit } => name_kind(archive, alloc, id, limit),
-        ValidRequest::Census(census) => take_census(archive, alloc, &census),
-        ValidRequest::ShowCensus(id) => show_census(archive, alloc, id),
-        ValidRequest::CensusCsv(id) => census_csv(archive, alloc, id),
-        ValidRequest::Total { rule, code, limit } => total(
+        Request::Show { id } => show(archive, alloc, id),
+        Request::ListAfter { id } => list_after(archive, alloc, id),
+        Request::At { id, generation } => show_at(archive, alloc, id, generation as u32),
+        Request::KindOf { id, limit } => name_kind(archive, alloc, id, limit as u32),
+        Request::Census {
+            member,
+            token,
+            deposit,
+            generation,
+            limit,
+        } => take_census(
             archive,
             alloc,
-            &rule,
+            &Census {
+                member,
+                token,
+                deposit,
+                generation: generation as u32,
+                limit: limit as u32,
+            },
+        ),
+        Request::ShowCensus { id } => show_census(archive, alloc, id),
+        Request::CensusCsv { id } => census_csv(archive, alloc, id),
+        Request::Total { rule, code, limit } => total_under(
+            archive,
+            alloc,
+            rule.as_slice(),
             code.as_slice(),
-            limit,
+            limit as u32,
         ),
     }
 }
@@ -489,10 +494,10 @@ pub fn answer<S: Alter>(archive: &mut Archive<S>, alloc: Global, request: Reques
     ensures own_refusals { IfErr (validated request) (λ refusal. (result ≡ says.Refused refusal) × (archive.new ≡ archive.old)) }
 {
     archive.law_of_crashes();
-    match validate(request) {
+    match validate(&request) {
         Err(refusal) => Reply::Refused(refusal),
-        Ok(validated) => {
-            let acted = act(archive, alloc, validated);
+        Ok(()) => {
+            let acted = act(archive, alloc, request);
             archive.law_of_crashes();
             match acted {
                 Ok(reply) => reply,

@@ -1,4 +1,6 @@
-//! Refusals.
+//! Refusals: the enum, and the table of what each shows.
+ghost use Rattle.std.specs.Prelude.{◌≡◌, ◌≤◌, ◌<◌};
+ghost use Rattle.life_desk.specs.Refusals.{EachIsListed};
 
 use life_rle::RleFault;
 use std::alloc::AllocError;
@@ -31,51 +33,105 @@ pub enum Refusal {
     Unavailable,
 }
 
+/// All refusals, in the order of their numbers. `BadPattern` stands for every fault of a file.
+pub const REFUSALS: [Refusal; 11] = [
+    Refusal::NoSuchDeposit,
+    Refusal::NoSuchCensus,
+    Refusal::BadMember,
+    Refusal::BadToken,
+    Refusal::TokenReused,
+    Refusal::OutOfLimit,
+    Refusal::BadPattern(RleFault::TooLong),
+    Refusal::BadRule,
+    Refusal::BadCode,
+    Refusal::Full,
+    Refusal::Unavailable,
+];
+
+/// What a refusal shows.
+#[derive(Clone, Copy)]
+struct RefusalRow {
+    number: u8,
+    name: &'static str,
+    line: &'static str,
+    status: u16,
+}
+
+/// A row, by the number, the name and the status.
+macro_rules! row {
+    ($number:literal, $name:literal, $status:literal) => {
+        RefusalRow {
+            number: $number,
+            name: $name,
+            line: concat!("refused: ", $name),
+            status: $status,
+        }
+    };
+}
+
 impl Refusal {
-    ghost use Rattle.std.specs.Prelude.{◌≡◌};
-    ghost use Rattle.life_desk.specs.Refusals.{number_of, name_of};
+    ghost use Rattle.life_desk.specs.Refusals.{row_of, line_of, number_of, name_of, status_of};
+
+    /// Its row.
+    const fn row(&self) -> RefusalRow
+        ensures number { result.number ≡ (row_of self.now).number }
+        ensures name { result.name.now ≡ (row_of self.now).name }
+        ensures line { result.line.now ≡ line_of self.now }
+        ensures status { result.status ≡ (row_of self.now).status }
+        ensures error { (400 ≤ result.status) × (result.status < 600) }
+    {
+        match self {
+            Refusal::NoSuchDeposit => row!(1, "no-such-deposit", 404),
+            Refusal::NoSuchCensus => row!(2, "no-such-census", 404),
+            Refusal::BadMember => row!(3, "bad-member", 400),
+            Refusal::BadToken => row!(4, "bad-token", 400),
+            Refusal::TokenReused => row!(5, "token-reused", 409),
+            Refusal::OutOfLimit => row!(6, "out-of-limit", 400),
+            Refusal::BadPattern(_) => row!(7, "bad-pattern", 422),
+            Refusal::BadRule => row!(8, "bad-rule", 422),
+            Refusal::BadCode => row!(9, "bad-code", 422),
+            Refusal::Full => row!(10, "full", 409),
+            Refusal::Unavailable => row!(11, "unavailable", 503),
+        }
+    }
 
     /// The number in replies, from 1 to 11 (docs/API.md).
     pub fn number(&self) -> u8
         ensures { result ≡ number_of self.now }
     {
-        match self {
-            Refusal::NoSuchDeposit => 1,
-            Refusal::NoSuchCensus => 2,
-            Refusal::BadMember => 3,
-            Refusal::BadToken => 4,
-            Refusal::TokenReused => 5,
-            Refusal::OutOfLimit => 6,
-            Refusal::BadPattern(_) => 7,
-            Refusal::BadRule => 8,
-            Refusal::BadCode => 9,
-            Refusal::Full => 10,
-            Refusal::Unavailable => 11,
-        }
+        self.row().number
     }
 
-    /// The name in replies and on standard error (docs/API.md).
+    /// The name in replies (docs/API.md).
     pub fn name(&self) -> &'static str
         ensures { result.now ≡ name_of self.now }
     {
-        match self {
-            Refusal::NoSuchDeposit => "no-such-deposit",
-            Refusal::NoSuchCensus => "no-such-census",
-            Refusal::BadMember => "bad-member",
-            Refusal::BadToken => "bad-token",
-            Refusal::TokenReused => "token-reused",
-            Refusal::OutOfLimit => "out-of-limit",
-            Refusal::BadPattern(_) => "bad-pattern",
-            Refusal::BadRule => "bad-rule",
-            Refusal::BadCode => "bad-code",
-            Refusal::Full => "full",
-            Refusal::Unavailable => "unavailable",
-        }
+        self.row().name
+    }
+
+    /// The line on standard error, without its line end: `refused: `, and the name.
+    pub fn line(&self) -> &'static str
+        ensures { result.now ≡ line_of self.now }
+    {
+        self.row().line
+    }
+
+    /// The status of the reply over HTTP (RFC 9110, sections 15.5 and 15.6): what was asked for is not there, the
+    /// request is bad, what is stored forbids it, what was sent is no pattern, or the archive can't answer now.
+    pub fn status(&self) -> u16
+        ensures value { result ≡ status_of self.now }
+        ensures error { (400 ≤ result) × (result < 600) }
+    {
+        self.row().status
     }
 }
 
+/// Each refusal has its row in [`REFUSALS`], at the index before its number. A law: calling it does nothing.
+pub fn law_of_refusals()
+    ensures { EachIsListed }
+{}
+
 impl From<AllocError> for Refusal {
-    ghost use Rattle.std.specs.Prelude.{◌≡◌};
     ghost use Rattle.life_desk.specs.declared.refusal.Refusal.TheVariants.{Unavailable};
 
     ghost from_gives = { λ _ refusal. refusal ≡ Unavailable };

@@ -4,9 +4,8 @@ use crate::bytes::Bytes;
 use crate::refusal::Refusal;
 use life_census::Tally;
 use life_code::Kind;
-use life_core::Rule;
 use life_rle::Text;
-use life_store::{Census, Listing};
+use life_store::Listing;
 
 /// A request to the archive. Numbers and bytes are not validated yet: [`answer`](crate::answer) does that.
 /// Deposits and censuses have numbers, which count from 1.
@@ -102,32 +101,4 @@ pub enum Reply {
     Total(u64),
     /// The request was refused, for this reason.
     Refused(Refusal),
-}
-
-/// A request with valid fields: its numbers are within the limits, and its rule is parsed.
-#[derive(Drop)]
-pub(crate) enum ValidRequest {
-    Deposit {
-        member: Text,
-        token: Text,
-        file: Bytes,
-    },
-    Show(u64),
-    ListAfter(u64),
-    At {
-        id: u64,
-        generation: u32,
-    },
-    KindOf {
-        id: u64,
-        limit: u32,
-    },
-    Census(Census),
-    ShowCensus(u64),
-    CensusCsv(u64),
-    Total {
-        rule: Rule,
-        code: Bytes,
-        limit: u32,
-    },
 }

@@ -1,18 +1,14 @@
 //! Validation of a request's own fields.
-ghost use Rattle.std.specs.Prelude.{◌≡◌, ℕ, if◌then◌else◌, List, Ok, Err, IfOk};
+ghost use Rattle.std.specs.Prelude.{◌≡◌, ◌≤◌, ℕ, List, OnOk};
 ghost use Rattle.std.specs.List.{list_all};
-ghost use Rattle.life_desk.specs.declared.refusal.Refusal.TheVariants.{BadMember, BadToken, OutOfLimit};
+ghost use Rattle.life_core.specs.RuleText.{read_rule};
 ghost use Rattle.life_desk.specs.declared.request.Request.TheVariants as ask;
-ghost use Rattle.life_desk.specs.Validation.{is_member, is_token, is_member_byte, is_token_byte, is_between, is_generation, is_limit, validated, IsChecked};
-ghost use Rattle.life_desk.specs.ValidationState.{IsGood};
+ghost use Rattle.life_desk.specs.Validation.{is_member, is_token, is_member_byte, is_token_byte, is_between, names_fault, generation_fault, limit_fault, rule_fault, first_fault, fault_in, validated, checked, IsChecked, IsGood};
 
-use crate::bytes::Bytes;
 use crate::refusal::Refusal;
-use crate::request::{Request, ValidRequest};
+use crate::request::Request;
 use life_code::PERIOD_LIMIT;
 use life_core::{GENERATION_LIMIT, Rule};
-use life_rle::Text;
-use life_store::Census;
 
 /// A lower-case letter, a digit or `-`.
 fn is_member_byte(b: u8) -> bool
@@ -65,31 +61,33 @@ fn is_token(bytes: &[u8]) -> bool
     is_between(1, 64, bytes.len()) && are_token_bytes(bytes)
 }
 
-/// A generation, if it is in its range.
-fn generation_in(n: u64) -> Result<u32, Refusal>
-    ensures { result ≡ (if is_generation n then Ok n else Err OutOfLimit) }
+/// Whether a generation is in its range.
+fn check_generation(n: u64) -> Result<(), Refusal>
+    ensures value { result ≡ checked (generation_fault n) }
+    ensures within { OnOk result (n ≤ GENERATION_LIMIT) }
 {
     if n <= u64::from(GENERATION_LIMIT) {
-        Ok(n as u32)
+        Ok(())
     } else {
         Err(Refusal::OutOfLimit)
     }
 }
 
-/// A limit on the period, if it is in its range.
-fn limit_in(n: u64) -> Result<u32, Refusal>
-    ensures { result ≡ (if is_limit n then Ok n else Err OutOfLimit) }
+/// Whether a limit on the period is in its range.
+fn check_limit(n: u64) -> Result<(), Refusal>
+    ensures value { result ≡ checked (limit_fault n) }
+    ensures within { OnOk result ((1 ≤ n) × (n ≤ PERIOD_LIMIT)) }
 {
     if 1 <= n && n <= u64::from(PERIOD_LIMIT) {
-        Ok(n as u32)
+        Ok(())
     } else {
         Err(Refusal::OutOfLimit)
     }
 }
 
 /// The member and the token, validated in this order.
-fn validate_names(member: &[u8], token: &[u8]) -> Result<(), Refusal>
-    ensures { result ≡ (if is_member member.now then (if is_token token.now then Ok tt else Err BadToken) else Err BadMember) }
+fn check_names(member: &[u8], token: &[u8]) -> Result<(), Refusal>
+    ensures { result ≡ checked (names_fault member.now token.now) }
 {
     if !is_member(member) {
         return Err(Refusal::BadMember);
@@ -100,113 +98,74 @@ fn validate_names(member: &[u8], token: &[u8]) -> Result<(), Refusal>
     Ok(())
 }
 
-/// Whether the fields of a deposit are valid, whatever its file is. These are the refusals of [`answer`](crate::answer) that depend
-/// on the fields alone, found before anything is copied.
-pub fn check_deposit(member: &[u8], token: &[u8]) -> Result<(), Refusal>
-    ensures { (file : List ℕ) → IsChecked result (validated (ask.Deposit member.now token.now file)) }
+/// Whether a text is a rule.
+fn check_rule(rule: &[u8]) -> Result<(), Refusal>
+    ensures { result ≡ checked (rule_fault (read_rule rule.now)) }
 {
-    validate_names(member, token)
-}
-
-/// The same for a census, whatever its deposit is.
-pub fn check_census(member: &[u8], token: &[u8], n: u64, limit: u64) -> Result<(), Refusal>
-    ensures { (deposit : ℕ) → IsChecked result (validated (ask.Census member.now token.now deposit n limit)) }
-{
-    validate_names(member, token)?;
-    generation_in(n)?;
-    limit_in(limit)?;
-    Ok(())
-}
-
-/// The same for a total, whatever its code is.
-pub fn check_total(rule: &[u8], limit: u64) -> Result<(), Refusal>
-    ensures { (code : List ℕ) → IsChecked result (validated (ask.Total rule.now code limit)) }
-{
-    limit_in(limit)?;
     match Rule::read(rule) {
         Ok(_) => Ok(()),
         Err(_) => Err(Refusal::BadRule),
     }
 }
 
-/// The fields of a deposit, validated.
-fn validate_deposit(member: Text, token: Text, file: Bytes) -> Result<ValidRequest, Refusal>
-    ensures value { result ≡ validated (ask.Deposit member token file) }
-    ensures within { IfOk result IsGood }
+/// The fields of a census, in the order member, token, limits.
+fn check_census_fields(member: &[u8], token: &[u8], n: u64, limit: u64) -> Result<(), Refusal>
+    ensures value { result ≡ checked (first_fault (names_fault member.now token.now) (first_fault (generation_fault n) (limit_fault limit))) }
+    ensures within { OnOk result ((n ≤ GENERATION_LIMIT) × (1 ≤ limit) × (limit ≤ PERIOD_LIMIT)) }
 {
-    validate_names(member.as_bytes(), token.as_bytes())?;
-    Ok(ValidRequest::Deposit {
-        member,
-        token,
-        file,
-    })
+    check_names(member, token)?;
+    check_generation(n)?;
+    check_limit(limit)
 }
 
-/// The fields of a census, validated.
-fn validate_census(
-    member: Text,
-    token: Text,
-    deposit: u64,
-    n: u64,
-    limit: u64,
-) -> Result<ValidRequest, Refusal>
-    ensures value { result ≡ validated (ask.Census member token deposit n limit) }
-    ensures within { IfOk result IsGood }
+/// The fields of a total, in the order limit, rule.
+fn check_total_fields(rule: &[u8], limit: u64) -> Result<(), Refusal>
+    ensures value { result ≡ checked (first_fault (limit_fault limit) (rule_fault (read_rule rule.now))) }
+    ensures within { OnOk result ((1 ≤ limit) × (limit ≤ PERIOD_LIMIT)) }
 {
-    validate_names(member.as_bytes(), token.as_bytes())?;
-    let generation = generation_in(n)?;
-    let limit = limit_in(limit)?;
-    Ok(ValidRequest::Census(Census {
-        member,
-        token,
-        deposit,
-        generation,
-        limit,
-    }))
+    check_limit(limit)?;
+    check_rule(rule)
 }
 
-/// The fields of a request for a total, validated.
-fn validate_total(rule: Bytes, code: Bytes, limit: u64) -> Result<ValidRequest, Refusal>
-    ensures value { result ≡ validated (ask.Total rule code limit) }
-    ensures within { IfOk result IsGood }
+/// Whether the fields of a deposit are valid, whatever its file is. These are the refusals of [`answer`](crate::answer) that depend
+/// on the fields alone, found before anything is copied.
+pub fn check_deposit(member: &[u8], token: &[u8]) -> Result<(), Refusal>
+    ensures { (file : List ℕ) → IsChecked result (validated (ask.Deposit member.now token.now file)) }
 {
-    let limit = limit_in(limit)?;
-    match Rule::read(rule.as_slice()) {
-        Ok(rule) => Ok(ValidRequest::Total { rule, code, limit }),
-        Err(_) => Err(Refusal::BadRule),
-    }
+    check_names(member, token)
+}
+
+/// The same for a census, whatever its deposit is.
+pub fn check_census(member: &[u8], token: &[u8], n: u64, limit: u64) -> Result<(), Refusal>
+    ensures { (deposit : ℕ) → IsChecked result (validated (ask.Census member.now token.now deposit n limit)) }
+{
+    check_census_fields(member, token, n, limit)
+}
+
+/// The same for a total, whatever its code is.
+pub fn check_total(rule: &[u8], limit: u64) -> Result<(), Refusal>
+    ensures { (code : List ℕ) → IsChecked result (validated (ask.Total rule.now code limit)) }
+{
+    check_total_fields(rule, limit)
 }
 
 /// Validates the fields of a request, in the order member, token, limits, rule. It allocates nothing.
-pub(crate) fn validate(request: Request) -> Result<ValidRequest, Refusal>
-    ensures value { result ≡ validated request }
-    ensures within { IfOk result IsGood }
+pub(crate) fn validate(request: &Request) -> Result<(), Refusal>
+    ensures value { result ≡ checked (fault_in request.now) }
+    ensures within { OnOk result (IsGood request.now) }
 {
     match request {
-        Request::Deposit {
-            member,
-            token,
-            file,
-        } => validate_deposit(member, token, file),
-        Request::Show { id } => Ok(ValidRequest::Show(id)),
-        Request::ListAfter { id } => Ok(ValidRequest::ListAfter(id)),
-        Request::At { id, generation } => Ok(ValidRequest::At {
-            id,
-            generation: generation_in(generation)?,
-        }),
-        Request::KindOf { id, limit } => Ok(ValidRequest::KindOf {
-            id,
-            limit: limit_in(limit)?,
-        }),
+        Request::Deposit { member, token, .. } => check_names(member.as_bytes(), token.as_bytes()),
+        Request::At { generation, .. } => check_generation(*generation),
+        Request::KindOf { limit, .. } => check_limit(*limit),
         Request::Census {
             member,
             token,
-            deposit,
             generation,
             limit,
-        } => validate_census(member, token, deposit, generation, limit),
-        Request::ShowCensus { id } => Ok(ValidRequest::ShowCensus(id)),
-        Request::CensusCsv { id } => Ok(ValidRequest::CensusCsv(id)),
-        Request::Total { rule, code, limit } => validate_total(rule, code, limit),
+            ..
+        } => check_census_fields(member.as_bytes(), token.as_bytes(), *generation, *limit),
+        Request::Total { rule, limit, .. } => check_total_fields(rule.as_slice(), *limit),
+        _ => Ok(()),
     }
 }

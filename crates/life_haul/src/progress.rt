@@ -27,17 +27,12 @@ impl<'a> Progress<'a> {
             line: ProgressLine::begin(rt),
         }
     }
-
-    /// Removes the line, if there is one.
-    pub fn clear(&mut self) {
-        self.line.clear();
-    }
 }
 
 impl Watch for Progress<'_> {
     fn report(&mut self, done: u64, count: u64) {
         if done == count {
-            return self.clear();
+            return self.line.clear();
         }
         let Some(seconds) = self.line.due() else {
             return;
@@ -45,5 +40,10 @@ impl Watch for Progress<'_> {
         if let Ok(text) = text(self.alloc, done, count, seconds) {
             self.line.write(seconds, text.as_str());
         }
+    }
+
+    /// Removes the line, if there is one.
+    fn ended(&mut self) {
+        self.line.clear();
     }
 }

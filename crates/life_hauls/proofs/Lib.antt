@@ -9,3 +9,4 @@ pub mod OccurrenceLaws
 pub mod TogetherLaws
 pub mod TallyLaws
 pub mod SoupLaws
+pub mod ProgramLemmas

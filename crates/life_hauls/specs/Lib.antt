@@ -5,3 +5,4 @@ pub mod Table
 pub mod Jobs
 pub mod Words
 pub mod Laws
+pub mod Program

@@ -4,6 +4,7 @@
 mod haul_arguments;
 mod haul_jobs;
 mod haul_laws;
+mod haul_program;
 mod hauls;
 mod rows;
 mod soup_counting;
@@ -15,6 +16,7 @@ mod watch;
 pub use haul_arguments::{Job, haul_command, read_words};
 pub use haul_jobs::{COUNT_LIMIT, FIRST_LIMIT, HaulWords, SoupWords, run_haul, run_soup};
 pub use haul_laws::{laws_of_hauls, laws_of_limits, laws_of_soups};
+pub use haul_program::{run_program, run_words};
 pub use hauls::{HaulQuestion, haul};
 pub use rows::{Haul, HaulRow, Occurrences};
 pub use soups::soup;

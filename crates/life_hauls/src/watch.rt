@@ -4,6 +4,9 @@
 pub trait Watch {
     /// Called when `done` of `count` soups are counted.
     fn report(&mut self, done: u64, count: u64);
+
+    /// Called once the job has ended, before anything is printed about it.
+    fn ended(&mut self);
 }
 
 /// Ignores the progress.
@@ -12,4 +15,6 @@ pub struct Unwatched;
 
 impl Watch for Unwatched {
     fn report(&mut self, _done: u64, _count: u64) {}
+
+    fn ended(&mut self) {}
 }

@@ -10,15 +10,14 @@ use Rattle.std.proofs.lemmas.Fmt.{decimal_injective, decimal_digit, decimal-digi
 use Rattle.std.specs.Int.Digits.{digits_of}
 use Rattle.http.specs.StatusCode.{code_digits}
 use Rattle.life_desk.specs.declared.refusal.Refusal.{Refusal}
-use Rattle.life_desk.specs.declared.refusal.Refusal.TheVariants.{NoSuchDeposit, NoSuchCensus, BadMember, BadToken}
-use Rattle.life_desk.specs.declared.refusal.Refusal.TheVariants.{TokenReused, OutOfLimit, BadPattern, BadRule, BadCode}
-use Rattle.life_desk.specs.declared.refusal.Refusal.TheVariants.{Full, Unavailable}
+use Rattle.life_desk.specs.declared.refusal.Refusal.TheVariants.{Unavailable}
+use Rattle.life_desk.specs.Refusals as refusals
 use Rattle.life_desk.specs.declared.request.Reply.{Reply}
 use Rattle.life_desk.specs.declared.request.Reply.TheVariants as replies
 use Rattle.life_pages.specs.declared.fault.MessageRefusal.{MessageRefusal}
 use Rattle.life_pages.specs.declared.fault.MessageRefusal.TheVariants.{NoSuchRoute, BadMethod, BadMessage}
 use Rattle.life_pages.specs.Fault.{label_of}
-use Rattle.life_pages.specs.Reply.{phrase, refusal_body, reply_bytes, message_refusal_bytes, refusal_status}
+use Rattle.life_pages.specs.Reply.{phrase, refusal_body, reply_bytes, message_refusal_bytes}
 use Rattle.life_pages.specs.Reply.{reply_status, type_of, reply_body, page_status, json}
 use Rattle.life_pages.specs.Laws.{AreReplyBytes, RepliesAreReadInOneWay}
 
@@ -147,48 +146,24 @@ apart a b x y one two same =
 abbrev page_body : MessageRefusal → List ℕ
 page_body refusal = refusal_body (label_of refusal).name (label_of refusal).number []
 
-refusal_line : (refusal : Refusal) → is_free (first_line (refusal_status refusal)) ≡ true
+refusal_line : (refusal : Refusal) → is_free (first_line (refusals.status_of refusal)) ≡ true
 unfolding phrase
-refusal_line NoSuchDeposit = refl
-refusal_line NoSuchCensus = refl
-refusal_line BadMember = refl
-refusal_line BadToken = refl
-refusal_line TokenReused = refl
-refusal_line OutOfLimit = refl
-refusal_line (BadPattern fault) = refl
-refusal_line BadRule = refl
-refusal_line BadCode = refl
-refusal_line Full = refl
 refusal_line Unavailable = refl
+refusal_line _ = refl
 
 reply_line : (r : Reply) → is_free (first_line (reply_status r)) ≡ true
 unfolding phrase
-reply_line (replies.Deposited id) = refl
-reply_line (replies.File bytes) = refl
-reply_line (replies.Deposits lines) = refl
-reply_line (replies.Kinded kind code) = refl
-reply_line (replies.Counted id) = refl
-reply_line (replies.Shown shown) = refl
-reply_line (replies.Csv bytes) = refl
-reply_line (replies.Total n) = refl
 reply_line (replies.Refused refusal) = refusal_line refusal
+reply_line _ = refl
 
 reply_type : (r : Reply) → is_free (type_of r) ≡ true
-reply_type (replies.Deposited id) = refl
 reply_type (replies.File bytes) = refl
-reply_type (replies.Deposits lines) = refl
-reply_type (replies.Kinded kind code) = refl
-reply_type (replies.Counted id) = refl
-reply_type (replies.Shown shown) = refl
-reply_type (replies.Csv bytes) = refl
-reply_type (replies.Total n) = refl
-reply_type (replies.Refused refusal) = refl
+reply_type _ = refl
 
 page_line : (refusal : MessageRefusal) → is_free (first_line (page_status refusal)) ≡ true
 unfolding phrase
 page_line NoSuchRoute = refl
-page_line BadMethod = refl
-page_line BadMessage = refl
+page_line _ = refl
 
 -- a number of two digits at most, before the end of a body
 number_short : (n : ℕ) → n < 100 → length (decimal n ++ [] ++ codes "}") ≤ 3

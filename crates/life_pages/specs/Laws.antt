@@ -8,7 +8,7 @@ use Rattle.life_pages.specs.declared.fault.MessageRefusal.{MessageRefusal}
 use Rattle.life_pages.specs.Reply.{bytes_of, message_refusal_bytes, reply_body}
 use Rattle.life_pages.specs.Head.{parts_between_commas}
 use Rattle.life_pages.specs.Message.{Message, Messages}
-use Rattle.life_pages.specs.Route.{Piece, byte, parameter, pieces_of, captured, Reading, templates}
+use Rattle.life_pages.specs.Route.{Piece, byte, parameter, pieces_of, captured, Row, routes}
 
 -- A stream has one list of messages at most ..
 abbrev pub OneListOfMessages : Type 0
@@ -70,7 +70,7 @@ CapturesAreThePath =
 
 -- the templates alone
 abbrev pub template_texts : List (List ℕ)
-template_texts = map (λ (t : List ℕ × Reading). t.0) templates
+template_texts = map (λ (route : Row). route.template) routes
 
 -- the path fits the template
 abbrev pub Fits : List ℕ → List ℕ → Type 0

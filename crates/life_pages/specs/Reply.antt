@@ -4,9 +4,7 @@ use Rattle.http.specs.StatusCode.{code_digits, reason_phrase}
 use Rattle.serde_json.specs.Written.{compact_text}
 use Rattle.life_rle.specs.Fault.{fault_number}
 use Rattle.life_desk.specs.declared.refusal.Refusal.{Refusal}
-use Rattle.life_desk.specs.declared.refusal.Refusal.TheVariants.{NoSuchDeposit, NoSuchCensus, BadMember, BadToken}
-use Rattle.life_desk.specs.declared.refusal.Refusal.TheVariants.{TokenReused, OutOfLimit, BadPattern, BadRule, BadCode}
-use Rattle.life_desk.specs.declared.refusal.Refusal.TheVariants.{Full, Unavailable}
+use Rattle.life_desk.specs.declared.refusal.Refusal.TheVariants.{BadPattern}
 use Rattle.life_desk.specs.declared.request.Reply.{Reply}
 use Rattle.life_desk.specs.declared.request.Reply.TheVariants as says
 use Rattle.life_desk.specs.Refusals as refusals
@@ -45,25 +43,10 @@ fault_part _ = []
 
 -- ---- the replies of the archive
 
--- the status of a refusal: what was asked for is not there, the request is no good, what is stored forbids it, what was
--- sent is no pattern, or the archive cannot now (RFC 9110, section 15.5 and 15.6)
-abbrev pub refusal_status : Refusal → ℕ
-refusal_status NoSuchDeposit = 404
-refusal_status NoSuchCensus = 404
-refusal_status BadMember = 400
-refusal_status BadToken = 400
-refusal_status OutOfLimit = 400
-refusal_status TokenReused = 409
-refusal_status Full = 409
-refusal_status (BadPattern fault) = 422
-refusal_status BadRule = 422
-refusal_status BadCode = 422
-refusal_status Unavailable = 503
-
 abbrev pub reply_status : Reply → ℕ
 reply_status (says.Deposited id) = 201
 reply_status (says.Counted id) = 201
-reply_status (says.Refused refusal) = refusal_status refusal
+reply_status (says.Refused refusal) = refusals.status_of refusal
 reply_status _ = 200
 
 abbrev pub type_of : Reply → List ℕ

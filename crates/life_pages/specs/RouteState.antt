@@ -1,67 +1,58 @@
--- The table of the routes, as the router holds it.
-use Rattle.std.specs.Prelude.{ℕ, List, [], ◌∷◌, Option, codes, Result, Ok, Err}
+-- The table of the routes, as the router holds it, and how the program holds what a path asks for.
+use Rattle.std.specs.Prelude.{ℕ, List, [], ◌∷◌, map, Result, Ok, Err}
+use Rattle.std.specs.Borrow.{Bor}
 use Rattle.std.specs.Str.{IsUtf8}
 use Rattle.matchit.specs.Rows.{RowsOf}
 use Rattle.matchit.specs.Route.{parse_route, Scan}
 use Rattle.matchit.specs.Order.{placed}
 use Rattle.matchit.specs.Router.{RouteOf, route_from}
 use Rattle.matchit.specs.declared.error.InsertError.{InsertError}
-use Rattle.life_pages.specs.declared.route.Route.{Route}
-use Rattle.life_pages.specs.declared.route.Route.TheVariants as routes
+use Rattle.life_desk.specs.declared.request.Request.TheVariants as ask
+use Rattle.life_pages.specs.declared.route.TheConstants.{ROUTES}
+use Rattle.life_pages.specs.declared.route.Method.{Method}
 use Rattle.life_pages.specs.declared.route.Template.{Template}
-use Rattle.life_pages.specs.declared.route.Template.TheVariants.{
-  Deposits,
-  Deposit,
-  After,
-  At,
-  Kind,
-  Censuses,
-  Census,
-  CensusCsv,
-  Total,
-}
-use Rattle.life_pages.specs.Route.{names, text, number}
+use Rattle.life_pages.specs.declared.route.Asked.{Asked}
+use Rattle.life_pages.specs.declared.route.Asked.TheVariants as asked
+use Rattle.life_pages.specs.Route.{Ask, Found}
 
--- the rows with one more route, if its text reads well
-abbrev pub routed : Result Scan InsertError → Template → RowsOf (RouteOf Template) → RowsOf (RouteOf Template)
-routed (Ok s) template rows = placed ((route_from s template).pattern, route_from s template) rows
-routed (Err e) template rows = rows
+-- what the router has of a route
+abbrev pub Value : Type 0
+Value = Method × Template
 
-abbrev pub with_route : List ℕ → Template → RowsOf (RouteOf Template) → RowsOf (RouteOf Template)
-with_route text template rows = routed (parse_route text) template rows
+-- the rows with one more route, if its path reads well
+abbrev pub routed : Result Scan InsertError → Value → RowsOf (RouteOf Value) → RowsOf (RouteOf Value)
+routed (Ok s) value rows = placed ((route_from s value).pattern, route_from s value) rows
+routed (Err e) value rows = rows
 
--- the rows with the routes of deposits
-unfoldable pub with_deposit_routes : RowsOf (RouteOf Template) → RowsOf (RouteOf Template)
-with_deposit_routes rows =
-    with_route (codes "/deposits/{id}/censuses/{n}/{limit}") Censuses
-    (with_route (codes "/deposits/{id}/kind/{limit}") Kind
-    (with_route (codes "/deposits/{id}/at/{n}") At
-    (with_route (codes "/deposits/after/{id}") After
-    (with_route (codes "/deposits/{id}") Deposit
-    (with_route (codes "/deposits") Deposits rows)))))
+-- a route of the program's table: its path, and the router's value
+abbrev pub Listed : Type 0
+Listed = List ℕ × Value
 
--- the rows with the routes of censuses and of objects
-unfoldable pub with_census_routes : RowsOf (RouteOf Template) → RowsOf (RouteOf Template)
-with_census_routes rows =
-    with_route (codes "/objects/{rule}/{code}/{limit}") Total
-    (with_route (codes "/censuses/{id}/csv") CensusCsv
-    (with_route (codes "/censuses/{id}") Census rows))
+abbrev pub listed : List (Method × Bor (List ℕ) × Template) → List Listed
+listed = map (λ route. (route.1.now, (route.0, route.2)))
 
--- the table of the routes
-unfoldable pub route_rows : RowsOf (RouteOf Template)
-route_rows = with_census_routes (with_deposit_routes [])
+-- the rows with these routes, one after another
+abbrev pub with_routes : List Listed → RowsOf (RouteOf Value) → RowsOf (RouteOf Value)
+with_routes [] rows = rows
+with_routes ((path, value) ∷ rest) rows = with_routes rest (routed (parse_route path) value rows)
 
--- how the texts that a template's parameters took are read
-abbrev pub reading_of : Template → List (List ℕ) → Option Route
-reading_of Deposits = names routes.Deposits
-reading_of Deposit = number λ id. names (routes.Deposit id)
-reading_of After = number λ id. names (routes.After id)
-reading_of At = number λ id. number λ n. names (routes.At id n)
-reading_of Kind = number λ id. number λ limit. names (routes.Kind id limit)
-reading_of Censuses = number λ id. number λ n. number λ limit. names (routes.Censuses id n limit)
-reading_of Census = number λ id. names (routes.Census id)
-reading_of CensusCsv = number λ id. names (routes.CensusCsv id)
-reading_of Total = text λ rule. text λ code. number λ limit. names (routes.Total rule code limit)
+-- the program's table
+unfoldable pub routes_listed : List Listed
+routes_listed = map (λ route. (route.1.now, (route.0, route.2))) ROUTES
+
+-- the router's rows with all of them
+unfoldable pub route_rows : RowsOf (RouteOf Value)
+route_rows = with_routes routes_listed []
+
+-- what a path asks for, with the head and the body of its message
+abbrev pub ask_of : Asked → Ask
+ask_of (asked.Request request) parsed body = request
+ask_of asked.Deposit parsed body = ask.Deposit parsed.member parsed.token body
+ask_of (asked.Census deposit n limit) parsed body = ask.Census parsed.member parsed.token deposit n limit
+ask_of (asked.Total rule code limit) parsed body = ask.Total rule code limit
+
+abbrev pub found_of : Method × Asked → Found
+found_of found = (found.0, ask_of found.1)
 
 -- the texts of the parameters that are left, without their names
 abbrev pub texts_of : List (List ℕ × List ℕ) → List (List ℕ)

@@ -12,7 +12,7 @@ use crate::asked::{RequestFault, asked};
 use crate::desk::Desk;
 use crate::head::GoodHead;
 use crate::reply::{BODY_ROOM, REPLY_ROOM, write_page, write_refusal, write_reply};
-use crate::route::Template;
+use crate::route::{Method, Template};
 use life_desk::Request;
 use matchit::Router;
 use std::alloc::{AllocError, Global};
@@ -70,7 +70,7 @@ fn refuse<D: Desk>(desk: &D, fault: RequestFault, buffers: &mut ReplyBuffers)
 /// Writes the reply to a good message.
 pub(crate) fn answer_message<D: Desk>(
     alloc: Global,
-    routes: &Router<Template>,
+    routes: &Router<(Method, Template)>,
     desk: &mut D,
     head: &GoodHead<'_>,
     body: &[u8],

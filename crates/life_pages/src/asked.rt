@@ -1,28 +1,18 @@
 //! The request of a good message.
 ghost use Rattle.std.specs.Prelude.{◌≡◌};
 ghost use Rattle.life_pages.specs.HeadState.{parsed};
-ghost use Rattle.life_pages.specs.RouteState.{route_rows};
-ghost use Rattle.life_pages.specs.Asked.{method_of, asked, request_of};
+ghost use Rattle.life_pages.specs.RouteState.{route_rows, ask_of};
+ghost use Rattle.life_pages.specs.Asked.{asked};
 ghost use Rattle.life_pages.specs.AskedState.{IsAsked, GivesRequest};
 
 use crate::fault::MessageRefusal;
 use crate::head::GoodHead;
 use crate::path::path_of;
-use crate::route::{Captured, Route, Template, find_route};
+use crate::route::{Asked, Captured, Method, Template, find_route};
 use life_desk::{Bytes, Refusal, Request, check_census, check_deposit, check_total};
 use life_rle::Text;
 use matchit::Router;
 use std::alloc::Global;
-
-/// The method of a route.
-fn method_of(route: &Route<'_>) -> &'static str
-    ensures { result.now ≡ method_of route.now }
-{
-    match route {
-        Route::Deposits | Route::Censuses { .. } => "POST",
-        _ => "GET",
-    }
-}
 
 /// The request for a deposit. Its fields are validated before anything is copied.
 fn deposit_request(alloc: Global, head: &GoodHead<'_>, body: &[u8]) -> Result<Request, Refusal>
@@ -73,35 +63,25 @@ fn total_request(
     })
 }
 
-/// The request of a route. One that is refused for its own fields is refused before anything is copied.
+/// The request of a message whose path asks for this. One that is refused for its own fields is refused before anything is
+/// copied.
 fn request_of(
     alloc: Global,
-    route: &Route<'_>,
+    wanted: Asked<'_>,
     head: &GoodHead<'_>,
     body: &[u8],
 ) -> Result<Request, Refusal>
-    ensures { GivesRequest result (request_of route.now (parsed head.now) body.now) }
+    ensures { GivesRequest result (ask_of wanted.entry (parsed head.now) body.now) }
 {
-    match route {
-        Route::Deposits => deposit_request(alloc, head, body),
-        Route::Deposit { id } => Ok(Request::Show { id: *id }),
-        Route::After { id } => Ok(Request::ListAfter { id: *id }),
-        Route::At { id, generation } => Ok(Request::At {
-            id: *id,
-            generation: *generation,
-        }),
-        Route::Kind { id, limit } => Ok(Request::KindOf {
-            id: *id,
-            limit: *limit,
-        }),
-        Route::Censuses {
-            id,
+    match wanted {
+        Asked::Request(request) => Ok(request),
+        Asked::Deposit => deposit_request(alloc, head, body),
+        Asked::Census {
+            deposit,
             generation,
             limit,
-        } => census_request(alloc, head, *id, *generation, *limit),
-        Route::Census { id } => Ok(Request::ShowCensus { id: *id }),
-        Route::CensusCsv { id } => Ok(Request::CensusCsv { id: *id }),
-        Route::Total { rule, code, limit } => total_request(alloc, rule, code, *limit),
+        } => census_request(alloc, head, deposit, generation, limit),
+        Asked::Total { rule, code, limit } => total_request(alloc, &rule, &code, limit),
     }
 }
 
@@ -117,21 +97,21 @@ pub(crate) enum RequestFault {
 /// The request of a good message: its route is validated first, and then its method.
 pub(crate) fn asked(
     alloc: Global,
-    routes: &Router<Template>,
+    routes: &Router<(Method, Template)>,
     head: &GoodHead<'_>,
     body: &[u8],
 ) -> Result<Request, RequestFault>
     requires { routes.now ≡ route_rows }
     ensures { IsAsked result (asked (parsed head.now) body.now) }
 {
-    let route = match find_route(routes, path_of(head.target)) {
-        Some(route) => route,
+    let (method, wanted) = match find_route(routes, path_of(head.target)) {
+        Some(found) => found,
         None => return Err(RequestFault::Message(MessageRefusal::NoSuchRoute)),
     };
-    if head.method != method_of(&route) {
+    if head.method != method.name() {
         return Err(RequestFault::Message(MessageRefusal::BadMethod));
     }
-    match request_of(alloc, &route, head, body) {
+    match request_of(alloc, wanted, head, body) {
         Ok(request) => Ok(request),
         Err(refusal) => Err(RequestFault::Request(refusal)),
     }

@@ -12,8 +12,16 @@ pub enum MessageRefusal {
     BadMessage = 14,
 }
 
+/// All of them, in the order of their numbers.
+pub const MESSAGE_REFUSALS: [MessageRefusal; 3] = [
+    MessageRefusal::NoSuchRoute,
+    MessageRefusal::BadMethod,
+    MessageRefusal::BadMessage,
+];
+
 impl MessageRefusal {
     ghost use Rattle.life_pages.specs.Fault.{label_of};
+    ghost use Rattle.life_pages.specs.Reply.{page_status};
 
     /// The refusal's number. Those below it are the archive's.
     pub fn number(self) -> u8
@@ -30,6 +38,17 @@ impl MessageRefusal {
             MessageRefusal::NoSuchRoute => "no-such-page",
             MessageRefusal::BadMethod => "bad-method",
             MessageRefusal::BadMessage => "bad-message",
+        }
+    }
+
+    /// The status of the reply.
+    pub fn status(self) -> u16
+        ensures { result ≡ page_status self }
+    {
+        match self {
+            MessageRefusal::NoSuchRoute => 404,
+            MessageRefusal::BadMethod => 405,
+            MessageRefusal::BadMessage => 400,
         }
     }
 }

@@ -16,5 +16,6 @@ mod route;
 mod serving;
 
 pub use archive::{serve, serve_in_memory};
-pub use fault::{IoFault, MessageRefusal};
+pub use fault::{IoFault, MESSAGE_REFUSALS, MessageRefusal};
 pub use message_laws::{laws_of_heads, laws_of_messages};
+pub use route::{Method, Route, Template, routes};

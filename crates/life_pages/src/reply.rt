@@ -3,7 +3,7 @@ ghost use Rattle.std.specs.Prelude.{◌≡◌, ℕ, ◌+◌, ◌≤◌, ◌<◌,
 ghost use Rattle.http.specs.StatusCode.{code_digits, reason_phrase, IsStatusCode};
 ghost use Rattle.life_desk.specs.Refusals as refusals;
 ghost use Rattle.life_desk.specs.Replies.{is_shown};
-ghost use Rattle.life_pages.specs.Reply.{phrase, reply_bytes, json, number_body, refusal_body, fault_part, bytes_of, refusal_status, reply_status, type_of, reply_body, message_refusal_bytes, bad_bytes, unavailable_bytes};
+ghost use Rattle.life_pages.specs.Reply.{phrase, reply_bytes, json, number_body, refusal_body, fault_part, bytes_of, reply_status, type_of, reply_body, message_refusal_bytes, bad_bytes, unavailable_bytes};
 ghost use Rattle.life_pages.specs.ReplyState.{Writes};
 
 use crate::fault::MessageRefusal;
@@ -135,17 +135,9 @@ fn add_refusal(out: &mut Vec<u8>, refusal: &Refusal)
 
 /// The status of a refusal.
 fn status_of(refusal: &Refusal) -> StatusCode
-    ensures { result ≡ refusal_status refusal.now }
+    ensures { result ≡ refusals.status_of refusal.now }
 {
-    match refusal {
-        Refusal::NoSuchDeposit | Refusal::NoSuchCensus => StatusCode::NOT_FOUND,
-        Refusal::BadMember | Refusal::BadToken | Refusal::OutOfLimit => StatusCode::BAD_REQUEST,
-        Refusal::TokenReused | Refusal::Full => StatusCode::CONFLICT,
-        Refusal::BadPattern(_) | Refusal::BadRule | Refusal::BadCode => {
-            StatusCode::UNPROCESSABLE_ENTITY
-        }
-        Refusal::Unavailable => StatusCode::SERVICE_UNAVAILABLE,
-    }
+    StatusCode::from_u16(refusal.status()).unwrap()
 }
 
 /// Writes a reply of one number, which is short.
@@ -168,7 +160,7 @@ fn write_number(out: &mut Vec<u8>, body: &mut Vec<u8>, status: StatusCode, name:
 pub(crate) fn write_refusal(out: &mut Vec<u8>, body: &mut Vec<u8>, refusal: &Refusal)
     requires room { REPLY_ROOM ≤ vec_capacity out.old }
     requires body_room { BODY_ROOM ≤ vec_capacity body.old }
-    ensures bytes { out.new.items ≡ reply_bytes (refusal_status refusal.now) json (refusal_body (refusals.name_of refusal.now) (refusals.number_of refusal.now) (fault_part refusal.now)) }
+    ensures bytes { out.new.items ≡ reply_bytes (refusals.status_of refusal.now) json (refusal_body (refusals.name_of refusal.now) (refusals.number_of refusal.now) (fault_part refusal.now)) }
     ensures room { vec_capacity out.old ≤ vec_capacity out.new }
     ensures body_room { vec_capacity body.old ≤ vec_capacity body.new }
 {

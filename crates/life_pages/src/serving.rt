@@ -16,7 +16,7 @@ use crate::desk::Desk;
 use crate::fault::{IoFault, MessageRefusal};
 use crate::message::{HEAD_LIMIT, Next, are_blank, next_message};
 use crate::reply::{add, page_reply};
-use crate::route::{Template, route_table};
+use crate::route::{Method, Template, route_table};
 use life_rle::{Failed, Inlet, Outlet, put_all};
 use matchit::Router;
 use std::alloc::{AllocError, Global};
@@ -66,7 +66,7 @@ fn put_bad<O: Outlet>(output: &mut O) -> Result<(), Failed>
 #[tactic(auto, using(crate::proofs::MessageStanding::wants_none))]
 fn serve_one<O: Outlet, D: Desk>(
     alloc: Global,
-    routes: &Router<Template>,
+    routes: &Router<(Method, Template)>,
     desk: &mut D,
     output: &mut O,
     held: &mut Vec<u8>,
@@ -117,7 +117,7 @@ fn serve_one<O: Outlet, D: Desk>(
 /// Answers all complete messages that are held. Returns whether the stream has ended.
 fn serve_held<O: Outlet, D: Desk>(
     alloc: Global,
-    routes: &Router<Template>,
+    routes: &Router<(Method, Template)>,
     desk: &mut D,
     output: &mut O,
     held: &mut Vec<u8>,
@@ -280,7 +280,7 @@ fn finish<O: Outlet, D: Desk>(desk: &D, output: &mut O, held: &[u8]) -> Result<(
 /// The memory that serving needs.
 #[derive(Drop)]
 struct Ready {
-    routes: Router<Template>,
+    routes: Router<(Method, Template)>,
     held: Vec<u8>,
     /// No message is whole before this many bytes are held.
     wanted: usize,

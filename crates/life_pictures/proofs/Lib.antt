@@ -8,3 +8,4 @@ pub mod PartLemmas
 pub mod RunsLemmas
 pub mod TitleLemmas
 pub mod WordsLemmas
+pub mod ProgramLemmas

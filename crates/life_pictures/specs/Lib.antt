@@ -10,3 +10,4 @@ pub mod FramesState
 pub mod Jobs
 pub mod Words
 pub mod Laws
+pub mod Program

@@ -127,6 +127,13 @@ module _ {D : Type 0} {g : Ghosts D} (was last : FileStore D g) (files : Files D
       → AreLetGo was files
   let_go_numbered is quiet sound numbered = let_go is quiet sound (λ none up. numbered none)
 
+  -- each image that a crash may leave of an open store holds what was committed
+  pub left_same : SeenMayStay g → IsTrue (view was).is_open → AreLeftOf was files → AreClean g files.log files.db
+      → (image : Image) → outcomes g files.log files.db image → ∥ HoldsDatabase image (view was).committed ∥₁
+  left_same stays up allowed clean image may =
+      ∥∥₁_map (allowed clean image may)
+      (λ found. subst (HoldsDatabase image) (settled_at was stays found.0 up found.1) found.2)
+
   pub left_held : (k : Kept) → SeenMayStay g → IsTrue (view was).is_open
       → ((db : Trees) → recovers was db → TreesHold db k) → AreLeftOf was files → AreClean g files.log files.db
       → LeftHold g files k
@@ -134,9 +141,7 @@ module _ {D : Type 0} {g : Ghosts D} (was last : FileStore D g) (files : Files D
       let hold = trees (view was).committed (stays_at was stays up) in
       record {
         trees = (view was).committed;
-        held =
-            ∥∥₁_map (allowed clean image may)
-            (λ found. subst (HoldsDatabase image) (settled_at was stays found.0 up found.1) found.2);
+        held = left_same stays up allowed clean image may;
         sound = hold.sound;
         holds = hold.holds;
       }

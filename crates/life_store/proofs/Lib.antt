@@ -28,3 +28,4 @@ pub mod CommitLemmas
 pub mod BlankLemmas
 pub mod RepresentingLemmas
 pub mod TreesLemmas
+pub mod FoundLemmas

@@ -29,7 +29,7 @@ use Rattle.sqlite.specs.Files.{HoldsDatabase, AreFoundIn, LeavesFiles, image_of}
 use Rattle.life_store.specs.Migration.{HoldsFirst, TreesMigrated}
 use Rattle.life_store.specs.Kept.{Kept}
 use Rattle.life_store.specs.Layout.{first_schema, archive_schema, no_schema}
-use Rattle.life_store.specs.Tables.{tables_in, Holds}
+use Rattle.life_store.specs.Tables.{ArchiveView, tables_in, Holds}
 
 -- from 1 to 1,000,000
 abbrev pub is_capacity : ℕ → Bool
@@ -106,6 +106,18 @@ pub record FilesMigrated (image : Image) (k : Kept) : Type 0 where
   pub trees : Trees
   pub held : ∥ HoldsDatabase image trees ∥₁
   pub migrated : TreesMigrated trees k
+
+-- What is shown of files of this image is the database that they are found to hold, whosever it is: the store's trees
+-- are its trees, the schema is its schema, and the rows are those of the trees that an archive's tables have.
+pub record ShowsFound {D : Type 0} {g : Ghosts D} (image : Image) (a : ArchiveView (FileStore D g)) : Type 0 where
+  pub found : AreFoundIn image (view a.store).committed
+  pub sound : IsSound a.tables.schema (view a.store).committed
+  pub committed : a.tables.in_transaction ≡ false
+  pub layout : a.tables.layout ≡ (view a.store).committed 0
+  pub deposits : a.tables.deposits ≡ (view a.store).committed 1
+  pub censuses : a.tables.censuses ≡ (view a.store).committed 3
+  pub census_rows : a.tables.census_rows ≡ (view a.store).committed 5
+  pub census_flags : a.tables.census_flags ≡ (view a.store).committed 7
 
 -- Whatever the files are found to hold lists no table. So it is of two files with no byte: a law says it.
 abbrev pub ListNothing : Image → Type 0

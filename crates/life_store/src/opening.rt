@@ -332,8 +332,8 @@ fn archive_over<D: Disk + Drop>(
 impl<D: Disk + Drop> Archive<FileStore<D>> {
     /// The archive that the files hold; if they hold none of its tables, a new one. An archive of schema version 1 is
     /// migrated in one transaction, in which each census gets its flag; if that fails, it is Unavailable, and the files
-    /// hold the old archive, or the migrated one if the disk failed in the commit. What the capacity was before plays no
-    /// part. A refused opening gives the files back: with BadCapacity as they were, and with NotOurs once they were closed.
+    /// hold the old archive or the migrated one. What the capacity was before plays no part. A refused opening gives the
+    /// files back: with BadCapacity as they were, and with NotOurs once they were closed.
     pub fn open_files(
         alloc: Global,
         files: Files<D>,

@@ -4,7 +4,7 @@ ghost use Rattle.std.specs.Prelude.{◌≡◌, IsTrue, IfOk};
 ghost use Rattle.sqlite.specs.Files.{over_files};
 ghost use Rattle.sqlite_wal.specs.Files.{image_at};
 ghost use Rattle.life_store.specs.Kept.{Kept};
-ghost use Rattle.life_store.specs.Opening.{FilesHold};
+ghost use Rattle.life_store.specs.Opening.{FilesHold, ShowsFound};
 ghost use Rattle.life_store.specs.Tables.{Holds, IsHealthyIfClean};
 
 use crate::archive::Archive;
@@ -49,6 +49,8 @@ impl<T: Start> Archive<FileStore<FileFrom<T>>> {
         ensures capacity { IfOk result (λ found. found.0.capacity ≡ capacity) }
         ensures healthy { IfOk result (λ found. IsHealthyIfClean over_files found.0) }
         ensures found { IfOk result (λ found. (k : Kept) → IsTrue found.0.tables.is_healthy → FilesHold (image_at T.Start) k → Holds found.0.tables k) }
+        // No table is created or migrated, whatever the files hold.
+        ensures shows { IfOk result (λ found. IsTrue found.0.tables.is_healthy → ShowsFound (image_at T.Start) found.0) }
     {
         if has_nothing(rt, path) {
             return Err(None);

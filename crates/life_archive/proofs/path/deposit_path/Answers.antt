@@ -25,4 +25,5 @@ returns-in-Err-clause-deposits g c = inl (
   unopened _ _ c.in-Err.fault c.opening_stop.result c.in-Err.files c.refused.result c.opening_stop.ensures
       c.refused.ensures c.in-Err.ensures.ours,
   refl,
+  refl,
 )

@@ -2,7 +2,7 @@ use Rattle.std.specs.Prelude.{List, IsSome}
 use Rattle.sqlite_trees.specs.View.{IsClean}
 use Rattle.life_store.specs.declared.kept.Deposit.{Deposit}
 use Rattle.life_check.specs.WalkState.{IsCalm}
-use Rattle.life_check.specs.CountState.{AreFiled, AreTallied, AwaitsRest, HasCounted}
+use Rattle.life_check.specs.CountState.{AreFiled, AreTallied, AwaitsRest, HasCounted, IsKnown, IsInsideSquare}
 use Rattle.life_check.proofs.censuses.censuses.Given as goal
 
 abbrev pub invariant-loop-count : goal.invariant-loop-count
@@ -13,3 +13,4 @@ invariant-loop-count g l =
     → HasCounted l.quick ds l.count l.read (g.S.Store.view l.fn.store) (g.S.Store.view l.store))
     × (IsClean (g.S.Store.view l.store) → (ds : List Deposit) → AreFiled (g.S.Store.view l.fn.store).trees ds
     → AreTallied (g.S.Store.view l.fn.store).trees ds → AwaitsRest ds l.count l.read (g.S.Store.view l.store))
+    × (IsClean (g.S.Store.view l.store) → IsKnown (g.S.Store.view l.store) l.last) × IsInsideSquare l.last

@@ -1,10 +1,11 @@
-use Rattle.std.proofs.Common.{rules, ◌≡◌, ◌∙◌, ◌+◌, ◌∷◌, [], length, map, None, Some, false, sym, subst, arith}
-use Rattle.sqlite_trees.specs.View.{IsClean}
+use Rattle.std.proofs.Common.{rules, ◌≡◌, ◌∙◌, ◌+◌, ◌∷◌, [], length, map, None, Some, false, sym, ap, subst, arith}
+use Rattle.sqlite_trees.specs.Tree.{Trees}
+use Rattle.sqlite_trees.specs.View.{IsClean, View}
 use Rattle.life_census.specs.Rows.{TallyCounts, row_seen}
 use Rattle.life_store.specs.Kept.{numbered}
 use Rattle.life_store.specs.Stored.{rows_by, count_cells, tagged}
 use Rattle.life_check.specs.ReadState.{census_row_of, flag_row_of}
-use Rattle.life_check.specs.CountState.{Takes}
+use Rattle.life_check.specs.CountState.{AreFiled, Takes}
 use Rattle.life_check.proofs.WalkLemmas.{no_both}
 use Rattle.life_check.proofs.CountLemmas.{follows, none_is_not_some}
 use Rattle.life_check.proofs.AwaitLemmas.{deposit_there, total_there, rows_there, flag_there}
@@ -13,7 +14,7 @@ use Rattle.life_check.proofs.censuses.counted_follows.Goals as goal
 pub returns-clause-follow : goal.returns-clause-follow
 returns-clause-follow g c clean ds filed =
     let v0 = g.S.Store.view c.args.store.now in
-    let v1 = g.S.Store.view c.deposit_at.new.store in
+    let v1 = g.S.Store.view c.deposit_from.new.store in
     let v2 = g.S.Store.view c.rows_follow.new.store in
     let v3 = g.S.Store.view c.flag_follows.new.store in
     let clean_2 : IsClean v2 = omega (arith, c.flag_follows.ensures.calm.clean, clean) in
@@ -30,6 +31,20 @@ returns-clause-follow g c clean ds filed =
     c.args.census.now c.in-Some.deposit c.in_ok-tally.tally c.in_ok-tally.steady c.as_slice.result.now
     c.requires.askable there c.in_ok-tally.ensures.is c.in_ok-tally.ensures.flag c.in_ok-tally.ensures.ordered
     c.in_ok-tally.ensures.adds_up row_is (c.in_ok-deposit.ensures.same clean_1) rows taken last
+
+pub returns-clause-known : goal.returns-clause-known
+returns-clause-known g c clean ds filed =
+    let v1 = g.S.Store.view c.deposit_from.new.store in
+    let v2 = g.S.Store.view c.rows_follow.new.store in
+    let v3 = g.S.Store.view c.flag_follows.new.store in
+    let clean_2 : IsClean v2 = omega (arith, c.flag_follows.ensures.calm.clean, clean) in
+    let clean_1 : IsClean v1 = omega (arith, c.rows_follow.ensures.calm.clean, clean_2) in
+    let taken : (c.in-Some-2.more ≡ c.args.before + length c.as_slice.result.now) × Takes 1 (rows_by count_cells
+    (c.args.before + 1) (tagged c.args.id (map row_seen c.as_slice.result.now))) v1 v2 = search rules in
+    let last : Takes 2 (flag_row_of c.args.id c.in_ok-tally.steady ∷ []) v2 v3 = search rules in
+    let trees = last.trees ∙ taken.1.trees ∙ ap (λ (v : View). v.trees) (c.in_ok-deposit.ensures.same clean_1) in
+    sym (sym c.in-Some.is
+    ∙ c.in_ok-deposit.ensures.found clean_1 ds (subst (λ (t : Trees). AreFiled t ds) trees filed))
 
 pub returns-in_default-clause-none : goal.returns-in_default-clause-none
 returns-in_default-clause-none g c clean none ds filed t same awaits =
@@ -55,7 +70,7 @@ returns-then-not-branch-clause-none g c clean none ds filed t same awaits =
 pub returns-in_default-2-clause-none : goal.returns-in_default-2-clause-none
 returns-in_default-2-clause-none g c clean none ds filed t same awaits =
     let v0 = g.S.Store.view c.args.store.now in
-    let v1 = g.S.Store.view c.deposit_at.new.store in
+    let v1 = g.S.Store.view c.deposit_from.new.store in
     let clean_1 : IsClean v1 = omega (arith, c.rows_follow.ensures.calm.clean, clean) in
     let there : Some c.in-Some.deposit ≡ numbered ds c.args.census.now.deposit = sym c.in-Some.is
     ∙ c.in_ok-deposit.ensures.found clean_1 ds filed in
@@ -70,7 +85,7 @@ returns-in_default-2-clause-none g c clean none ds filed t same awaits =
 pub returns-then-not-branch-2-clause-none : goal.returns-then-not-branch-2-clause-none
 returns-then-not-branch-2-clause-none g c clean none ds filed t same awaits =
     let v0 = g.S.Store.view c.args.store.now in
-    let v1 = g.S.Store.view c.deposit_at.new.store in
+    let v1 = g.S.Store.view c.deposit_from.new.store in
     let v2 = g.S.Store.view c.rows_follow.new.store in
     let clean_2 : IsClean v2 = omega (arith, c.flag_follows.ensures.calm.clean, clean) in
     let clean_1 : IsClean v1 = omega (arith, c.rows_follow.ensures.calm.clean, clean_2) in

@@ -13,8 +13,8 @@ returns-in_default-clause-finds g c clean =
     found (c.in_ok-next.ensures.ok clean) in
     let before = c.loop-count.invariant.2 (omega (arith, c.next.ensures.calm.clean, clean)) in
     let none : c.in_ok-deposit.field-0 ≡ None = search rules in
-    (walk_wrong deposit_cells IsNamed IsFiled 0 1 c.loop-count.count _ _ _ c.next.new.row before goes
-    (λ it. c.in_ok-deposit.ensures.none none it)).0
+    walk_wrong deposit_cells IsNamed IsFiled 0 1 c.loop-count.count _ _ _ c.next.new.row before goes
+    (λ it. c.in_ok-deposit.ensures.none none it)
 
 pub returns-then-not-are_names-clause-finds : goal.returns-then-not-are_names-clause-finds
 returns-then-not-are_names-clause-finds g c clean =
@@ -23,13 +23,13 @@ returns-then-not-are_names-clause-finds g c clean =
     found (c.in_ok-next.ensures.ok clean) in
     let before = c.loop-count.invariant.2 (omega (arith, c.next.ensures.calm.clean, clean)) in
     let other : c.are_names.result ≡ false = search rules in
-    (walk_wrong deposit_cells IsNamed IsNamed 0 1 c.loop-count.count _ _ _ c.next.new.row before goes
+    walk_wrong deposit_cells IsNamed IsNamed 0 1 c.loop-count.count _ _ _ c.next.new.row before goes
     (λ it.
     let same : c.in-Some.deposit ≡ it.0 =
     some_is _ _ (sym c.in-Some.is ∙ c.in_ok-deposit.ensures.value it.0 it.1.filed it.2) in
     let named : AreNames c.in-Some.deposit.member c.in-Some.deposit.token =
     subst (λ (d : Deposit). AreNames d.member d.token) (sym same) it.1.named in
-    no_both c.are_names.result (c.are_names.ensures.1 named) other)).0
+    no_both c.are_names.result (c.are_names.ensures.1 named) other)
 
 pub loop-count-preserved : goal.loop-count-preserved
 loop-count-preserved g c = (

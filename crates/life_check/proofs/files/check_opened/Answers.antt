@@ -1,5 +1,5 @@
 use Rattle.std.proofs.Common.{refl, arith}
-use Rattle.life_store.proofs.LeftLemmas.{left_honest, left_allowed, left_held}
+use Rattle.life_store.proofs.LeftLemmas.{left_honest, left_allowed, left_held, left_same}
 use Rattle.life_check.proofs.files.check_opened.Goals as goal
 
 pub returns-clause-check : goal.returns-clause-check
@@ -16,4 +16,7 @@ returns-clause-check g c =
           left_held was last files k g.met.D.Disk.seen_may_stay
           (c.law_of_open_stores.ensures healthy) (c.law_of_crashes.ensures healthy k holds)
           (left_allowed was last files c.close.ensures end.numbered end.databases end.calm.outcomes) clean;
+      stays = λ healthy.
+          left_same was last files g.met.D.Disk.seen_may_stay (c.law_of_open_stores.ensures healthy)
+          (left_allowed was last files c.close.ensures end.numbered end.databases end.calm.outcomes);
     }

@@ -1,4 +1,4 @@
-use Rattle.std.proofs.Common.{inr, refl}
+use Rattle.std.proofs.Common.{inl, inr, refl, None, Some}
 use Rattle.life_check.proofs.FileLemmas.{is_path_check}
 use Rattle.life_check.proofs.files.check_path.Goals as goal
 
@@ -10,5 +10,12 @@ returns-in-Ok-clause-check g c =
       end.result.2,
       refl,
       is_path_check c.args.quick c.in-Ok.archive end.result.0 end.result.1.items end.result.2 end.ensures.check
-          _ c.args.capacity (record { capacity = it.capacity; healthy = it.healthy; found = it.found }),
+          _ c.args.capacity
+          (record { capacity = it.capacity; healthy = it.healthy; found = it.found; shows = it.shows }),
     )
+
+pub returns-in-Err-Some-clause-check : goal.returns-in-Err-Some-clause-check
+returns-in-Err-Some-clause-check g c = inl (_, refl, Some c.in-Err-Some.files, refl)
+
+pub returns-in-Err-None-clause-check : goal.returns-in-Err-None-clause-check
+returns-in-Err-None-clause-check g c = inl (_, refl, None, refl)

@@ -1,12 +1,11 @@
-//! Counting a census again from its deposit, as the desk does before it is stored.
+//! Counting a census from its deposit: before it is stored, and again when an archive is checked.
 
 ghost use Rattle.std.specs.Prelude.{◌≡◌, ◌≤◌, Some, IfOk};
 ghost use Rattle.life_core.specs.Pattern.{IsWithin};
 ghost use Rattle.life_rle.specs.Record.{IsInside};
 ghost use Rattle.life_census.specs.Steady.{is_steady};
 ghost use Rattle.life_store.specs.Tables.{HasOrder};
-ghost use Rattle.life_desk.specs.Archive.{tally_for, tally_of_cells, steady_for};
-ghost use Rattle.life_check.specs.CountState.{AddsUp};
+ghost use Rattle.life_desk.specs.Archive.{AddsUp, tally_for, tally_of_cells, steady_for};
 
 use life_census::{Tally, laws_of_tallies, tally_and_steady};
 use life_code::{PERIOD_LIMIT, settled_generation};
@@ -34,7 +33,7 @@ fn count(
 }
 
 /// The tally of the census's generation of its deposit, and whether that generation is steady.
-pub(crate) fn counted(
+pub fn counted(
     alloc: Global,
     deposit: &Deposit,
     census: &Census,

@@ -1,0 +1,74 @@
+//! From the arguments of `life-haul` to its status.
+ghost use Rattle.std.specs.Prelude.{map, MatchResult};
+ghost use Rattle.life_program.specs.Job.{IsStatus};
+ghost use Rattle.life_jobs.specs.Streams.{PutsOnce};
+ghost use Rattle.life_hauls.specs.Words.{words_job};
+ghost use Rattle.life_hauls.specs.Program.{DoesJob, HaulEnd};
+
+use crate::haul_arguments::{Job, haul_command, read_words};
+use crate::haul_jobs::{run_haul, run_soup};
+use crate::watch::Watch;
+use life_jobs::Stop;
+use life_program::{print_fault, print_stop};
+use life_rle::{FromWrite, Outlet};
+use life_words::words_of;
+use std::alloc::Global;
+use std::convert::AsStr;
+use std::io;
+use std::process::ExitCode;
+
+/// Does the job. The watch gets the progress of a haul.
+fn do_job<O: Outlet, W: Watch>(
+    alloc: Global,
+    job: Job<'_>,
+    output: &mut O,
+    watch: &mut W,
+) -> Result<(), Stop>
+    ensures does { DoesJob job.entry (O.already output.old) (O.already output.new) result }
+    ensures once { PutsOnce output.old output.new (O.failures output.old) (O.failures output.new) (O.last_failed output.new) result }
+{
+    match job {
+        Job::Haul(words) => run_haul(alloc, words, output, watch),
+        Job::Soup(words) => run_soup(alloc, words, output),
+    }
+}
+
+/// The status after a job; prints the line of a stop on standard error.
+fn print_done(rt: &HostRuntime, done: Result<(), Stop>) -> io::Result<ExitCode>
+    ensures { MatchResult done (λ _. IsStatus result 0) (λ _. IsStatus result 1) }
+{
+    match done {
+        Ok(()) => Ok(ExitCode::SUCCESS),
+        Err(stop) => print_stop(rt, stop.line()),
+    }
+}
+
+/// Does the job that the arguments name; the first argument is the program's name. Returns the status of the process: 0; 1 if the job stopped,
+/// with a line on standard error; 2 if the arguments name no job, with the text from `clap`. Calls the watch's `ended` before it prints anything.
+pub fn run_words<O: Outlet, W: Watch>(
+    rt: &HostRuntime,
+    words: &[String],
+    output: &mut O,
+    watch: &mut W,
+) -> io::Result<ExitCode>
+    ensures { HaulEnd O.Outlet (words_job (map ⟦<String as AsStr>⟧.text words.now)) output.old output.new result }
+{
+    match read_words(rt.alloc(), words) {
+        Ok(job) => {
+            let done = do_job(rt.alloc(), job, output, watch);
+            watch.ended();
+            print_done(rt, done)
+        }
+        Err(fault) => print_fault(rt, fault),
+    }
+}
+
+/// Like [`run_words`], with the arguments of the process and standard output.
+pub fn run_program<W: Watch>(rt: &HostRuntime, watch: &mut W) -> io::Result<ExitCode> {
+    let words = match words_of(rt, || haul_command(rt.alloc())) {
+        Ok(words) => words,
+        Err(fault) => return print_fault(rt, fault),
+    };
+    let mut output = FromWrite::new(io::writer(rt));
+    run_words(rt, words.as_slice(), &mut output, watch)
+}

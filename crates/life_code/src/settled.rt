@@ -69,6 +69,7 @@ fn start_of<A: Allocator>(pattern: &Pattern<A>) -> Start {
 
 /// Whether to look at generation `i` of `n` whether the field has settled. Random fields of 16 by 16 cells settle after 490 generations on
 /// average, half of them after 250. The longer a field has not settled, the longer it will take, and the fewer looks are worth their time.
+/// Looks at such a field come in pairs, all periods apart: only if it has as many cells at the second as at the first is it examined.
 fn is_look(start: Start, i: u32, n: u32) -> bool {
     let left = n.saturating_sub(i);
     if left < LEAST_LEFT || left % ALL_PERIODS != 0 {
@@ -76,7 +77,9 @@ fn is_look(start: Start, i: u32, n: u32) -> bool {
     }
     let twelfth = i / ALL_PERIODS;
     match start {
-        Start::Soup => matches!(twelfth, 5 | 10 | 17 | 28 | 44 | 62 | 78 | 95 | 114 | 136),
+        Start::Soup => {
+            matches!(twelfth, 12 | 13) || twelfth >= 24 && matches!(twelfth % 16, 8 | 9)
+        }
         Start::Other => matches!(twelfth, 47 | 93 | 136),
         Start::Scattered => matches!(twelfth, 93 | 136),
         Start::Large => false,

@@ -1,6 +1,6 @@
 -- The rows after a step by blocks represent the next set.
 use Rattle.std.specs.Prelude.{◌≡◌, ◌⊎◌, ℕ, ℤ, pos, zero, suc, ◌+◌, ◌-◌, ◌*◌, ◌/◌, ◌%◌, ◌<◌, ◌≤◌, ◌+ℤ◌, Bool, true}
-use Rattle.std.specs.Prelude.{false, List, length, nat_eq, refl, slice_index_or}
+use Rattle.std.specs.Prelude.{false, List, length, nat_eq, refl}
 use Rattle.std.proofs.Common.{sym, ap, ◌∙◌, inl, inr, arith}
 use Rattle.std.proofs.lemmas.Int.{ints}
 use Rattle.std.proofs.lemmas.Bool.{cases_lt}
@@ -49,19 +49,19 @@ edges_by_room f rows top height wide size room = record {
 
 -- after a step by blocks of a set that keeps away from the first and the last line by a cell, the rows are the next
 -- set's
-pub next_rows : (f : Frame) (columns lines : ℕ) (r : RuleSets) (rows old new : List ℕ) (marks flags nm nl : List Bool)
+pub next_rows : (f : Frame) (columns lines : ℕ) (r : RuleSets) (rows old new marks nm : List ℕ)
     → IsOfBlocks f columns lines → 3 ≤ lines → set.contains r.birth 0 ≡ false
     → f.height * f.words ≡ length rows → f.height * f.words ≡ length new
     → HasRoom f.left (f.top +ℤ pos 16) (64 * f.words) (f.height - 32) (framed f rows)
     → ((x y : ℕ) → x < 64 * f.words → y < f.height → (y < 16) ⊎ (f.height ≤ y + 16)
     → place new (y * (64 * f.words) + x) ≡ 0)
     → ((z c i p : ℕ) → 1 ≤ z → z + 2 ≤ lines → c < columns → i < 16 → p < 128
-    → (slice_index_or flags z false ≡ false) ⊎ (slice_index_or marks (mark_at columns z c) false ≡ false)
+    → place marks (mark_at columns z c) ≡ 0
     → place old (place_at columns z c i p) ≡ next_at f r rows z c i p)
     → ((z c : ℕ) → 1 ≤ z → z + 2 ≤ lines → c < columns
-    → IsAdvanced (flat_next r rows (64 * (2 * columns))) columns z c marks flags old new nm nl)
+    → IsAdvanced (flat_next r rows (64 * (2 * columns))) columns z c marks old new nm)
     → framed f new ≡ next r (framed f rows)
-next_rows f columns lines r rows old new marks flags nm nl of many quiet size size_new room guards settled steps =
+next_rows f columns lines r rows old new marks nm of many quiet size size_new room guards settled steps =
     rows_are f.left f.top (64 * f.words) f.height new (next r (framed f rows))
     (omega (arith, of.wide, of.some)) long inside places
   where
@@ -110,7 +110,7 @@ next_rows f columns lines r rows old new marks flags nm nl of many quiet size si
             let q : y * (64 * f.words) + x ≡ place_at columns z c i p = (λ t. sym row t * W t + sym column t)
             ∙ place_of columns z c i p in
             ap (place new) q
-            ∙ block_done f columns lines r rows old new marks flags nm nl of quiet size
+            ∙ block_done f columns lines r rows old new marks nm of quiet size
             (edges_by_room f rows (f.top +ℤ pos 16) (f.height - 32) wide size room) z c i p first
             last within small narrow (settled z c i p first last within small narrow) (steps z c first last within)
             ∙ (λ t. one_if (set.contains (next r (framed f rows)) (cell_in f.left f.top (column t) (row t))))

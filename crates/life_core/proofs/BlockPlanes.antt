@@ -1,8 +1,6 @@
 -- A generation of a frame of whole blocks, and which blocks have it already.
-use Rattle.std.specs.Prelude.{◌≡◌, ◌⊎◌, ℕ, ◌+◌, ◌-◌, ◌*◌, ◌<◌, ◌≤◌, Bool, true, false, List, length, nat_eq, refl}
-use Rattle.std.specs.Prelude.{slice_index_or}
+use Rattle.std.specs.Prelude.{◌≡◌, ◌⊎◌, ℕ, ◌+◌, ◌-◌, ◌*◌, ◌<◌, ◌≤◌, false, List, length, nat_eq}
 use Rattle.std.proofs.Common.{sym, ap, subst, ◌∙◌, inl, inr, arith}
-use Rattle.std.proofs.lemmas.Bool.{false≢true}
 use Rattle.std.specs.FinSet as set
 use Rattle.life_core.specs.declared.packed.frame.Frame.{Frame}
 use Rattle.life_core.specs.Rule.{RuleSets, lives_at}
@@ -42,25 +40,20 @@ block_is f columns lines r rows of quiet size dead z c i p first last within row
     (omega (arith, of.wide, within, narrow)) (omega (arith, first)) (omega (arith, of.tall, last, row))
 
 -- a block that was stepped has its next, and so has one that was not, where it had it already
-pub block_done : (f : Frame) (columns lines : ℕ) (r : RuleSets) (rows old new : List ℕ) (marks flags nm nl : List Bool)
+pub block_done : (f : Frame) (columns lines : ℕ) (r : RuleSets) (rows old new marks nm : List ℕ)
     → IsOfBlocks f columns lines → set.contains r.birth 0 ≡ false → f.height * f.words ≡ length rows
     → HasDeadEdges (64 * f.words) f.height rows
     → (z c i p : ℕ) → 1 ≤ z → z + 2 ≤ lines → c < columns → i < 16 → p < 128
-    → ((slice_index_or flags z false ≡ false) ⊎ (slice_index_or marks (mark_at columns z c) false ≡ false)
-    → place old (place_at columns z c i p) ≡ next_at f r rows z c i p)
-    → IsAdvanced (flat_next r rows (64 * (2 * columns))) columns z c marks flags old new nm nl
+    → (place marks (mark_at columns z c) ≡ 0 → place old (place_at columns z c i p) ≡ next_at f r rows z c i p)
+    → IsAdvanced (flat_next r rows (64 * (2 * columns))) columns z c marks old new nm
     → place new (place_at columns z c i p) ≡ next_at f r rows z c i p
-block_done f columns lines r rows old new marks flags nm nl of quiet size dead z c i p first
-    last within row narrow settled step =
-    by (slice_index_or flags z false) (slice_index_or marks (mark_at columns z c) false) refl refl
-  where
-    by : (a b : Bool) → slice_index_or flags z false ≡ a → slice_index_or marks (mark_at columns z c) false ≡ b
-        → place new (place_at columns z c i p) ≡ next_at f r rows z c i p
-    by false b flag mark = step.idle i p row narrow flag ∙ settled (inl flag)
-    by true false flag mark = step.kept i p row narrow mark ∙ settled (inr mark)
-    by true true flag mark =
-        step.next i p row narrow flag mark
-        ∙ block_is f columns lines r rows of quiet size dead z c i p first last within row narrow
+block_done f columns lines r rows old new marks nm of quiet size dead z c i p first last within row narrow settled step =
+    elim step [
+      | inl s ↦
+          s.next i p row narrow
+          ∙ block_is f columns lines r rows of quiet size dead z c i p first last within row narrow
+      | inr k ↦ k.kept i p row narrow ∙ settled k.unmarked
+    ]
 
 -- ---- which blocks are settled
 
@@ -73,65 +66,61 @@ abbrev pub IsColumnBeside : ℕ → ℕ → ℕ → Type 0
 IsColumnBeside c x p = (x ≡ c) ⊎ (((x ≡ c + 1) × (p ≡ 0)) ⊎ ((x + 1 ≡ c) × (p ≡ 127)))
 
 -- what a change reaches is marked
-pub reached : (columns z c y x i p : ℕ) (nm nl : List Bool) → IsWoken columns y (mark_at columns y x) i p nm nl
-    → IsLineBeside z y i → IsColumnBeside c x p → IsMarked nm (mark_at columns z c) × IsMarked nl z
-reached columns z c y x i p nm nl w (inl line) (inl column) =
-    (subst (IsMarked nm) (λ t. mark_at columns (line t) (column t)) w.own, subst (IsMarked nl) line w.own_line)
-reached columns z c y x i p nm nl w (inl line) (inr (inl e)) =
+pub reached : (columns z c y x i p : ℕ) (nm : List ℕ) → IsWoken columns (mark_at columns y x) i p nm
+    → IsLineBeside z y i → IsColumnBeside c x p → IsMarked nm (mark_at columns z c)
+reached columns z c y x i p nm w (inl line) (inl column) =
+    subst (IsMarked nm) (λ t. mark_at columns (line t) (column t)) w.own
+reached columns z c y x i p nm w (inl line) (inr (inl e)) =
     let at : mark_at columns y x - 1 ≡ mark_at columns z c = (let up : mark_at columns y x - 1 ≡ mark_at columns y c =
     omega (arith, e.0) in up ∙ ap (λ (m : ℕ). mark_at columns m c) line) in
-    (subst (IsMarked nm) at (w.left e.1), subst (IsMarked nl) line w.own_line)
-reached columns z c y x i p nm nl w (inl line) (inr (inr e)) =
+    subst (IsMarked nm) at (w.left e.1)
+reached columns z c y x i p nm w (inl line) (inr (inr e)) =
     let at : mark_at columns y x + 1 ≡ mark_at columns z c = (let up : mark_at columns y x + 1 ≡ mark_at columns y c =
     omega (arith, e.0) in up ∙ ap (λ (m : ℕ). mark_at columns m c) line) in
-    (subst (IsMarked nm) at (w.right e.1), subst (IsMarked nl) line w.own_line)
-reached columns z c y x i p nm nl w (inr (inl d)) (inl column) =
+    subst (IsMarked nm) at (w.right e.1)
+reached columns z c y x i p nm w (inr (inl d)) (inl column) =
     let up : mark_at columns y x - columns ≡ mark_at columns z c =
     (let e : y * columns ≡ z * columns + columns = ap (λ (m : ℕ). m * columns) d.0
     ∙ (let f : (z + 1) * columns ≡ z * columns + columns = omega arith in f) in omega (arith, e, column)) in
-    let line : y - 1 ≡ z = omega (arith, d.0) in
-    (subst (IsMarked nm) up (w.above d.1), subst (IsMarked nl) line (w.line_above d.1))
-reached columns z c y x i p nm nl w (inr (inl d)) (inr (inl b)) =
+    subst (IsMarked nm) up (w.above d.1)
+reached columns z c y x i p nm w (inr (inl d)) (inr (inl b)) =
     let up : mark_at columns y x - columns - 1 ≡ mark_at columns z c =
     (let e : y * columns ≡ z * columns + columns = ap (λ (m : ℕ). m * columns) d.0
     ∙ (let f : (z + 1) * columns ≡ z * columns + columns = omega arith in f) in omega (arith, e, b.0)) in
-    let line : y - 1 ≡ z = omega (arith, d.0) in
-    (subst (IsMarked nm) up (w.above_left d.1 b.1), subst (IsMarked nl) line (w.line_above d.1))
-reached columns z c y x i p nm nl w (inr (inl d)) (inr (inr b)) =
+    subst (IsMarked nm) up (w.above_left d.1 b.1)
+reached columns z c y x i p nm w (inr (inl d)) (inr (inr b)) =
     let up : mark_at columns y x - columns + 1 ≡ mark_at columns z c =
     (let e : y * columns ≡ z * columns + columns = ap (λ (m : ℕ). m * columns) d.0
     ∙ (let f : (z + 1) * columns ≡ z * columns + columns = omega arith in f) in omega (arith, e, b.0)) in
-    let line : y - 1 ≡ z = omega (arith, d.0) in
-    (subst (IsMarked nm) up (w.above_right d.1 b.1), subst (IsMarked nl) line (w.line_above d.1))
-reached columns z c y x i p nm nl w (inr (inr d)) (inl column) =
+    subst (IsMarked nm) up (w.above_right d.1 b.1)
+reached columns z c y x i p nm w (inr (inr d)) (inl column) =
     let up : mark_at columns y x + columns ≡ mark_at columns z c =
     (let e : z * columns ≡ y * columns + columns = ap (λ (m : ℕ). m * columns) (sym d.0)
     ∙ (let f : (y + 1) * columns ≡ y * columns + columns = omega arith in f) in omega (arith, e, column)) in
-    (subst (IsMarked nm) up (w.below d.1), subst (IsMarked nl) d.0 (w.line_below d.1))
-reached columns z c y x i p nm nl w (inr (inr d)) (inr (inl b)) =
+    subst (IsMarked nm) up (w.below d.1)
+reached columns z c y x i p nm w (inr (inr d)) (inr (inl b)) =
     let up : mark_at columns y x + columns - 1 ≡ mark_at columns z c =
     (let e : z * columns ≡ y * columns + columns = ap (λ (m : ℕ). m * columns) (sym d.0)
     ∙ (let f : (y + 1) * columns ≡ y * columns + columns = omega arith in f) in omega (arith, e, b.0)) in
-    (subst (IsMarked nm) up (w.below_left d.1 b.1), subst (IsMarked nl) d.0 (w.line_below d.1))
-reached columns z c y x i p nm nl w (inr (inr d)) (inr (inr b)) =
+    subst (IsMarked nm) up (w.below_left d.1 b.1)
+reached columns z c y x i p nm w (inr (inr d)) (inr (inr b)) =
     let up : mark_at columns y x + columns + 1 ≡ mark_at columns z c =
     (let e : z * columns ≡ y * columns + columns = ap (λ (m : ℕ). m * columns) (sym d.0)
     ∙ (let f : (y + 1) * columns ≡ y * columns + columns = omega arith in f) in omega (arith, e, b.0)) in
-    (subst (IsMarked nm) up (w.below_right d.1 b.1), subst (IsMarked nl) d.0 (w.line_below d.1))
+    subst (IsMarked nm) up (w.below_right d.1 b.1)
 
--- a place beside a block that is not marked, or whose line is not, did not change
-pub unchanged_beside : (N : ℕ → ℕ) (columns z c y x i p : ℕ) (marks flags nm nl : List Bool) (old new : List ℕ)
-    → IsAdvanced N columns y x marks flags old new nm nl → i < 16 → p < 128 → IsLineBeside z y i → IsColumnBeside c x p
-    → (slice_index_or nl z false ≡ false) ⊎ (slice_index_or nm (mark_at columns z c) false ≡ false)
+-- a place beside a block that is not marked did not change
+pub unchanged_beside : (N : ℕ → ℕ) (columns z c y x i p : ℕ) (marks nm old new : List ℕ)
+    → IsAdvanced N columns y x marks old new nm → i < 16 → p < 128 → IsLineBeside z y i → IsColumnBeside c x p
+    → place nm (mark_at columns z c) ≡ 0
     → place new (place_at columns y x i p) ≡ place old (place_at columns y x i p)
-unchanged_beside N columns z c y x i p marks flags nm nl old new step row narrow line column idle =
-    elim (step.woken i p row narrow) [
-      | inl same ↦ same
-      | inr w ↦ elim idle [
-        | inl no_line ↦ absurd (false≢true (sym no_line ∙ (reached columns z c y x i p nm nl w line column).1))
-        | inr no_mark ↦ absurd (false≢true (sym no_mark ∙ (reached columns z c y x i p nm nl w line column).0))
-      ]
-    ]
+unchanged_beside N columns z c y x i p marks nm old new step row narrow line column idle = elim step [
+  | inr k ↦ k.kept i p row narrow
+  | inl s ↦ elim (s.woken i p row narrow) [
+    | inl same ↦ same
+    | inr w ↦ absurd (omega (arith, idle, reached columns z c y x i p nm w line column))
+  ]
+]
 
 -- where the nine places round one are the same, so is its next
 pub same_next : (r : RuleSets) (W q : ℕ) (old new : List ℕ)

@@ -6,12 +6,13 @@ use Rattle.std.proofs.lemmas.Bool.Decides.{nat_tests}
 use Rattle.std.proofs.lemmas.Int.{ints}
 use Rattle.std.proofs.lemmas.Nat.{mul-le}
 use Rattle.life_core.specs.declared.packed.frame.Frame.{Frame}
+use Rattle.life_core.specs.declared.packed.margins.Wider.{Wider}
 use Rattle.life_core.specs.Pattern.{Cells}
 use Rattle.life_core.specs.Rule.{RuleSets}
 use Rattle.life_core.specs.Generations.{next}
 use Rattle.life_core.specs.PackedRow.{place}
 use Rattle.life_core.specs.PackedFrameState.{cell_in, framed, HasRoom}
-use Rattle.life_core.specs.PackedMarginsState.{HasSlack, renewed}
+use Rattle.life_core.specs.PackedMarginsState.{HasSlack, IsWider, renewed}
 use Rattle.life_core.proofs.LanePlaces.{place-lt}
 use Rattle.life_core.proofs.PackedCells.{place_is_live}
 use Rattle.life_core.proofs.PackedSteps.{next_in}
@@ -42,6 +43,19 @@ slack_of_more f m n X room less = record {
         to_right = omega (arith, ints, a.to_right, less);
         from_top = omega (arith, ints, a.from_top, less);
         to_bottom = omega (arith, ints, a.to_bottom, less);
+      };
+}
+
+-- as much room in a wider frame
+pub slack_in_wider : (f : Frame) (w : Wider) (n : ℕ) (X : Cells) → IsWider f w → HasSlack f n X → HasSlack w.frame n X
+slack_in_wider f w n X wider room = record {
+  away = λ c h.
+      let a = room.away c h in
+      record {
+        from_left = omega (arith, ints, a.from_left, wider.left);
+        to_right = omega (arith, ints, a.to_right, wider.left, wider.wide);
+        from_top = omega (arith, ints, a.from_top, wider.top);
+        to_bottom = omega (arith, ints, a.to_bottom, wider.top, wider.tall);
       };
 }
 

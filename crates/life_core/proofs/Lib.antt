@@ -38,6 +38,7 @@ pub mod LanePlaces
 pub mod LifeLanes
 pub mod BlockRows
 pub mod BlockChanges
+pub mod BlockMarks
 pub mod BlockLines
 pub mod FlatSteps
 pub mod BlockPlanes

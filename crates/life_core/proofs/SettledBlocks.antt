@@ -1,6 +1,5 @@
 -- For blocks that no change reached, the rows before already have the next generation.
-use Rattle.std.specs.Prelude.{◌≡◌, ◌⊎◌, ℕ, zero, suc, ◌+◌, ◌-◌, ◌*◌, ◌/◌, ◌<◌, ◌≤◌, Bool, false, List, length, nat_eq}
-use Rattle.std.specs.Prelude.{refl, slice_index_or}
+use Rattle.std.specs.Prelude.{◌≡◌, ◌⊎◌, ℕ, zero, suc, ◌+◌, ◌-◌, ◌*◌, ◌/◌, ◌<◌, ◌≤◌, false, List, length, nat_eq, refl}
 use Rattle.std.proofs.Common.{get_or, sym, ap, subst, ◌∙◌, inl, inr, arith}
 use Rattle.std.proofs.lemmas.Bool.{cases_lt}
 use Rattle.std.specs.FinSet as set
@@ -23,14 +22,14 @@ bit_is zero lt = refl
 bit_is (suc zero) lt = refl
 bit_is (suc (suc b)) lt = absurd (omega arith)
 
-module _ (N : ℕ → ℕ) (columns lines : ℕ) (marks flags nm nl : List Bool) (old new : List ℕ)
+module _ (N : ℕ → ℕ) (columns lines : ℕ) (marks nm old new : List ℕ)
     (guards : (j : ℕ) → (j < block_at columns 1 0) ⊎ (block_at columns (lines - 1) 0 ≤ j)
     → get_or new j 0 ≡ get_or old j 0)
-    (steps : (y x : ℕ) → 1 ≤ y → y + 2 ≤ lines → x < columns → IsAdvanced N columns y x marks flags old new nm nl)
+    (steps : (y x : ℕ) → 1 ≤ y → y + 2 ≤ lines → x < columns → IsAdvanced N columns y x marks old new nm)
     (dead_old : HasDeadEdges (64 * (2 * columns)) (16 * lines) old)
     (dead_new : HasDeadEdges (64 * (2 * columns)) (16 * lines) new)
     (z c : ℕ) (within : c < columns)
-    (idle : (slice_index_or nl z false ≡ false) ⊎ (slice_index_or nm (mark_at columns z c) false ≡ false))
+    (idle : place nm (mark_at columns z c) ≡ 0)
   where
     same_block : (y x i p : ℕ) → y < lines → x < columns → i < 16 → p < 128 → IsLineBeside z y i
         → IsColumnBeside c x p → place new (place_at columns y x i p) ≡ place old (place_at columns y x i p)
@@ -43,7 +42,7 @@ module _ (N : ℕ → ℕ) (columns lines : ℕ) (marks flags nm nl : List Bool)
           place_word new old (place_at columns y x i p) (guards (place_at columns y x i p / 64) (inl lt))
       | inr later ↦ elim (cases_lt (y + 1) lines) [
         | inl before ↦
-            unchanged_beside N columns z c y x i p marks flags nm nl old new
+            unchanged_beside N columns z c y x i p marks nm old new
             (steps y x later (omega arith) near) row narrow line column idle
         | inr last ↦
             let e : y ≡ lines - 1 = omega (arith, last, low) in

@@ -1,5 +1,5 @@
-//! Lines of blocks, and all lines.
-ghost use Rattle.std.specs.Prelude.{◌≡◌, ◌⊎◌, ℕ, ◌+◌, ◌-◌, ◌*◌, ◌≤◌, ◌<◌, ◌≢◌, length, slice_index_or, false, IsTrue};
+//! The marked blocks of all lines.
+ghost use Rattle.std.specs.Prelude.{◌≡◌, ◌⊎◌, ℕ, ◌+◌, ◌-◌, ◌*◌, ◌^◌, ◌≤◌, ◌<◌, length, slice_index_or, IsTrue};
 ghost use Rattle.life_core.specs.Rule.{RuleSets};
 ghost use Rattle.life_core.specs.PackedBlocksState.{flat_next, IsOutside};
 ghost use Rattle.life_core.specs.PackedMarksState.{KeepsMarks, IsMarked, IsStepped, IsAdvanced, block_at, mark_at};
@@ -7,10 +7,10 @@ ghost use Rattle.life_core.specs.PackedMarksState.{KeepsMarks, IsMarked, IsStepp
 use crate::packed::blocks::block_step;
 use crate::packed::lane_rule::LaneRule;
 use crate::packed::lanes::{left_half, right_half};
-use crate::packed::marks::wake_round;
+use crate::packed::marks::{is_marked, next_mark, wake_round};
 use crate::packed::wide_blocks::wide_step;
 
-/// Steps a marked block. Its mark is cleared.
+/// Steps the block in a line and a column.
 #[inline(always)]
 fn single_step<R: LaneRule<4>>(
     rule: &R,
@@ -18,28 +18,19 @@ fn single_step<R: LaneRule<4>>(
     line: usize,
     column: usize,
     rows: &[u64],
-    marks: &mut [bool],
     out: &mut [u64],
-    next_marks: &mut [bool],
-    next_lines: &mut [bool],
+    next_marks: &mut [u64],
 )
     requires column { column < columns }
-    requires line { (1 ≤ line) × (line + 2 ≤ length next_lines.old) }
-    requires rows { length rows.now ≡ (16 * length next_lines.old) * (2 * columns) }
+    requires line { 1 ≤ line }
+    requires rows { block_at columns (line + 2) 0 ≤ length rows.now }
     requires out { length out.old ≡ length rows.now }
-    requires marks { length marks.old ≡ length next_lines.old * columns + 2 }
-    requires next_marks { length next_marks.old ≡ length marks.old }
-    requires marked { IsMarked marks.old (mark_at columns line column) }
+    requires next_marks { mark_at columns (line + 2) 0 < 64 * length next_marks.old }
     ensures out { length out.new ≡ length out.old }
-    ensures marks { length marks.new ≡ length marks.old }
     ensures next_marks { KeepsMarks next_marks.old next_marks.new }
-    ensures next_lines { KeepsMarks next_lines.old next_lines.new }
-    ensures others { (j : ℕ) → j ≢ mark_at columns line column → slice_index_or marks.new j false ≡ slice_index_or marks.old j false }
     ensures rest { (j : ℕ) → IsOutside 2 (block_at columns line column) (2 * columns) 16 j → slice_index_or out.new j 0 ≡ slice_index_or out.old j 0 }
-    ensures block { (r : RuleSets) → R.is_of rule.now r → IsStepped (flat_next r rows.now (64 * (2 * columns))) columns line column marks.old out.old out.new next_marks.new next_lines.new }
+    ensures block { (r : RuleSets) → R.is_of rule.now r → IsStepped (flat_next r rows.now (64 * (2 * columns))) columns line column out.old out.new next_marks.new }
 {
-    let b = 1 + line * columns + column;
-    marks[b] = false;
     let changes = block_step(
         rule,
         rows,
@@ -52,48 +43,12 @@ fn single_step<R: LaneRule<4>>(
         changes.top,
         changes.bottom,
         columns,
-        line,
-        b,
+        1 + line * columns + column,
         next_marks,
-        next_lines,
     );
 }
 
-/// Steps the block in a line and a column, if it is marked. Its mark is cleared.
-#[inline(always)]
-fn column_step<R: LaneRule<4>>(
-    rule: &R,
-    columns: usize,
-    line: usize,
-    column: usize,
-    rows: &[u64],
-    marks: &mut [bool],
-    out: &mut [u64],
-    next_marks: &mut [bool],
-    next_lines: &mut [bool],
-)
-    requires column { column < columns }
-    requires line { (1 ≤ line) × (line + 2 ≤ length next_lines.old) }
-    requires rows { length rows.now ≡ (16 * length next_lines.old) * (2 * columns) }
-    requires out { length out.old ≡ length rows.now }
-    requires marks { length marks.old ≡ length next_lines.old * columns + 2 }
-    requires next_marks { length next_marks.old ≡ length marks.old }
-    ensures out { length out.new ≡ length out.old }
-    ensures marks { length marks.new ≡ length marks.old }
-    ensures next_marks { KeepsMarks next_marks.old next_marks.new }
-    ensures next_lines { KeepsMarks next_lines.old next_lines.new }
-    ensures others { (j : ℕ) → j ≢ mark_at columns line column → slice_index_or marks.new j false ≡ slice_index_or marks.old j false }
-    ensures rest { (j : ℕ) → IsOutside 2 (block_at columns line column) (2 * columns) 16 j → slice_index_or out.new j 0 ≡ slice_index_or out.old j 0 }
-    ensures block { (r : RuleSets) → R.is_of rule.now r → IsStepped (flat_next r rows.now (64 * (2 * columns))) columns line column marks.old out.old out.new next_marks.new next_lines.new }
-{
-    if marks[1 + line * columns + column] {
-        single_step(
-            rule, columns, line, column, rows, marks, out, next_marks, next_lines,
-        );
-    }
-}
-
-/// Steps two marked neighbouring blocks of a line at once. Their marks are cleared.
+/// Steps two neighbouring blocks of a line at once.
 #[inline(always)]
 fn pair_step<R: LaneRule<4>>(
     rule: &R,
@@ -101,30 +56,21 @@ fn pair_step<R: LaneRule<4>>(
     line: usize,
     column: usize,
     rows: &[u64],
-    marks: &mut [bool],
     out: &mut [u64],
-    next_marks: &mut [bool],
-    next_lines: &mut [bool],
+    next_marks: &mut [u64],
 )
     requires column { column + 2 ≤ columns }
-    requires line { (1 ≤ line) × (line + 2 ≤ length next_lines.old) }
-    requires rows { length rows.now ≡ (16 * length next_lines.old) * (2 * columns) }
+    requires line { 1 ≤ line }
+    requires rows { block_at columns (line + 2) 0 ≤ length rows.now }
     requires out { length out.old ≡ length rows.now }
-    requires marks { length marks.old ≡ length next_lines.old * columns + 2 }
-    requires next_marks { length next_marks.old ≡ length marks.old }
-    requires marked { IsMarked marks.old (mark_at columns line column) × IsMarked marks.old (mark_at columns line (column + 1)) }
+    requires next_marks { mark_at columns (line + 2) 0 < 64 * length next_marks.old }
     ensures out { length out.new ≡ length out.old }
-    ensures marks { length marks.new ≡ length marks.old }
     ensures next_marks { KeepsMarks next_marks.old next_marks.new }
-    ensures next_lines { KeepsMarks next_lines.old next_lines.new }
-    ensures others { (j : ℕ) → j ≢ mark_at columns line column → j ≢ mark_at columns line (column + 1) → slice_index_or marks.new j false ≡ slice_index_or marks.old j false }
     ensures rest { (j : ℕ) → IsOutside 4 (block_at columns line column) (2 * columns) 16 j → slice_index_or out.new j 0 ≡ slice_index_or out.old j 0 }
-    ensures left { (r : RuleSets) → R.is_of rule.now r → IsStepped (flat_next r rows.now (64 * (2 * columns))) columns line column marks.old out.old out.new next_marks.new next_lines.new }
-    ensures right { (r : RuleSets) → R.is_of rule.now r → IsStepped (flat_next r rows.now (64 * (2 * columns))) columns line (column + 1) marks.old out.old out.new next_marks.new next_lines.new }
+    ensures left { (r : RuleSets) → R.is_of rule.now r → IsStepped (flat_next r rows.now (64 * (2 * columns))) columns line column out.old out.new next_marks.new }
+    ensures right { (r : RuleSets) → R.is_of rule.now r → IsStepped (flat_next r rows.now (64 * (2 * columns))) columns line (column + 1) out.old out.new next_marks.new }
 {
     let b = 1 + line * columns + column;
-    marks[b] = false;
-    marks[b + 1] = false;
     let changes = wide_step(
         rule,
         rows,
@@ -137,35 +83,31 @@ fn pair_step<R: LaneRule<4>>(
         left_half(changes.top),
         left_half(changes.bottom),
         columns,
-        line,
         b,
         next_marks,
-        next_lines,
     );
     wake_round(
         right_half(changes.all),
         right_half(changes.top),
         right_half(changes.bottom),
         columns,
-        line,
         b + 1,
         next_marks,
-        next_lines,
     );
 }
 
-/// Whether the block in the column and its right neighbour are both marked.
+/// Whether the right neighbour of the block in the column is marked.
 #[inline(always)]
-fn are_marked(columns: usize, line: usize, column: usize, marks: &[bool]) -> bool
+fn is_pair(columns: usize, line: usize, column: usize, marks: &[u64]) -> bool
     requires column { column < columns }
-    requires marks { mark_at columns line columns < length marks.now }
-    ensures { IsTrue result → (column + 2 ≤ columns) × (IsMarked marks.now (mark_at columns line column) × IsMarked marks.now (mark_at columns line (column + 1))) }
+    requires marks { mark_at columns line columns < 64 * length marks.now }
+    requires few { mark_at columns line columns < 2 ^ 63 }
+    ensures { IsTrue result → column + 2 ≤ columns }
 {
-    let b = 1 + line * columns + column;
-    column + 1 < columns && marks[b] && marks[b + 1]
+    column + 1 < columns && is_marked(marks, 1 + line * columns + column + 1)
 }
 
-/// Steps the block in a line and a column, together with its right neighbour if both are marked. Returns the next
+/// Steps the block in a line and a column, together with its right neighbour if that is marked. Returns the next
 /// column.
 #[inline(always)]
 fn columns_step<R: LaneRule<4>>(
@@ -174,134 +116,74 @@ fn columns_step<R: LaneRule<4>>(
     line: usize,
     column: usize,
     rows: &[u64],
-    marks: &mut [bool],
+    marks: &[u64],
     out: &mut [u64],
-    next_marks: &mut [bool],
-    next_lines: &mut [bool],
+    next_marks: &mut [u64],
 ) -> usize
     requires column { column < columns }
-    requires line { (1 ≤ line) × (line + 2 ≤ length next_lines.old) }
-    requires rows { length rows.now ≡ (16 * length next_lines.old) * (2 * columns) }
+    requires line { 1 ≤ line }
+    requires rows { block_at columns (line + 2) 0 ≤ length rows.now }
     requires out { length out.old ≡ length rows.now }
-    requires marks { length marks.old ≡ length next_lines.old * columns + 2 }
-    requires next_marks { length next_marks.old ≡ length marks.old }
+    requires marks { mark_at columns line columns < 64 * length marks.now }
+    requires next_marks { mark_at columns (line + 2) 0 < 64 * length next_marks.old }
     ensures result { (column < result) × (result ≤ columns) }
     ensures out { length out.new ≡ length out.old }
-    ensures marks { length marks.new ≡ length marks.old }
     ensures next_marks { KeepsMarks next_marks.old next_marks.new }
-    ensures next_lines { KeepsMarks next_lines.old next_lines.new }
-    ensures others { (j : ℕ) → mark_at columns line result ≤ j → slice_index_or marks.new j false ≡ slice_index_or marks.old j false }
     ensures rest { (j : ℕ) → ((c : ℕ) → column ≤ c → c < result → IsOutside 2 (block_at columns line c) (2 * columns) 16 j) → slice_index_or out.new j 0 ≡ slice_index_or out.old j 0 }
-    ensures blocks { (r : RuleSets) (c : ℕ) → R.is_of rule.now r → column ≤ c → c < result → IsStepped (flat_next r rows.now (64 * (2 * columns))) columns line c marks.old out.old out.new next_marks.new next_lines.new }
+    ensures blocks { (r : RuleSets) (c : ℕ) → R.is_of rule.now r → column ≤ c → c < result → IsStepped (flat_next r rows.now (64 * (2 * columns))) columns line c out.old out.new next_marks.new }
 {
-    if are_marked(columns, line, column, marks) {
-        pair_step(
-            rule, columns, line, column, rows, marks, out, next_marks, next_lines,
-        );
+    if is_pair(columns, line, column, marks) {
+        pair_step(rule, columns, line, column, rows, out, next_marks);
         return column + 2;
     }
-    column_step(
-        rule, columns, line, column, rows, marks, out, next_marks, next_lines,
-    );
+    single_step(rule, columns, line, column, rows, out, next_marks);
     column + 1
 }
 
-/// Steps the marked blocks of a line.
-fn line_step<R: LaneRule<4>>(
-    rule: &R,
-    columns: usize,
-    line: usize,
-    rows: &[u64],
-    marks: &mut [bool],
-    out: &mut [u64],
-    next_marks: &mut [bool],
-    next_lines: &mut [bool],
-)
-    requires line { (1 ≤ line) × (line + 2 ≤ length next_lines.old) }
-    requires rows { length rows.now ≡ (16 * length next_lines.old) * (2 * columns) }
-    requires out { length out.old ≡ length rows.now }
-    requires marks { length marks.old ≡ length next_lines.old * columns + 2 }
-    requires next_marks { length next_marks.old ≡ length marks.old }
-    ensures out { length out.new ≡ length out.old }
-    ensures marks { length marks.new ≡ length marks.old }
-    ensures next_marks { KeepsMarks next_marks.old next_marks.new }
-    ensures next_lines { KeepsMarks next_lines.old next_lines.new }
-    ensures others { (j : ℕ) → mark_at columns (line + 1) 0 ≤ j → slice_index_or marks.new j false ≡ slice_index_or marks.old j false }
-    ensures rest { (j : ℕ) → (j < block_at columns line 0) ⊎ (block_at columns (line + 1) 0 ≤ j) → slice_index_or out.new j 0 ≡ slice_index_or out.old j 0 }
-    ensures blocks { (r : RuleSets) (column : ℕ) → R.is_of rule.now r → column < columns → IsStepped (flat_next r rows.now (64 * (2 * columns))) columns line column marks.old out.old out.new next_marks.new next_lines.new }
+/// The line of the block at `b`, which is in this line or in a later one.
+#[inline(always)]
+fn line_of(columns: usize, line: usize, b: usize) -> usize
+    requires some { 1 ≤ columns }
+    requires from { mark_at columns line 0 ≤ b }
+    requires fits { mark_at columns (line + 1) 0 < 2 ^ 63 }
+    ensures line { line ≤ result }
+    ensures from { mark_at columns result 0 ≤ b }
+    ensures to { b < mark_at columns (result + 1) 0 }
 {
-    let mut column = 0;
-    while column < columns {
-        column = columns_step(
-            rule, columns, line, column, rows, marks, out, next_marks, next_lines,
-        );
+    if b < 1 + (line + 1) * columns {
+        return line;
     }
+    (b - 1) / columns
 }
 
-/// Steps the marked blocks of a line, if the line is marked. Its mark is cleared.
-fn marked_line_step<R: LaneRule<4>>(
-    rule: &R,
-    columns: usize,
-    line: usize,
-    rows: &[u64],
-    marks: &mut [bool],
-    lines: &mut [bool],
-    out: &mut [u64],
-    next_marks: &mut [bool],
-    next_lines: &mut [bool],
-)
-    requires line { (1 ≤ line) × (line + 2 ≤ length next_lines.old) }
-    requires lines { length lines.old ≡ length next_lines.old }
-    requires rows { length rows.now ≡ (16 * length next_lines.old) * (2 * columns) }
-    requires out { length out.old ≡ length rows.now }
-    requires marks { length marks.old ≡ length next_lines.old * columns + 2 }
-    requires next_marks { length next_marks.old ≡ length marks.old }
-    ensures out { length out.new ≡ length out.old }
-    ensures marks { length marks.new ≡ length marks.old }
-    ensures lines { length lines.new ≡ length lines.old }
-    ensures next_marks { KeepsMarks next_marks.old next_marks.new }
-    ensures next_lines { KeepsMarks next_lines.old next_lines.new }
-    ensures others { (j : ℕ) → mark_at columns (line + 1) 0 ≤ j → slice_index_or marks.new j false ≡ slice_index_or marks.old j false }
-    ensures later { (j : ℕ) → line < j → slice_index_or lines.new j false ≡ slice_index_or lines.old j false }
-    ensures rest { (j : ℕ) → (j < block_at columns line 0) ⊎ (block_at columns (line + 1) 0 ≤ j) → slice_index_or out.new j 0 ≡ slice_index_or out.old j 0 }
-    ensures blocks { (r : RuleSets) (column : ℕ) → R.is_of rule.now r → column < columns → IsAdvanced (flat_next r rows.now (64 * (2 * columns))) columns line column marks.old lines.old out.old out.new next_marks.new next_lines.new }
-{
-    if !lines[line] {
-        return;
-    }
-    lines[line] = false;
-    line_step(
-        rule, columns, line, rows, marks, out, next_marks, next_lines,
-    );
-}
-
-/// Steps all lines except the first and the last.
+/// Steps the marked blocks of all lines except the first and the last.
 pub(crate) fn advance_blocks<R: LaneRule<4>>(
     rule: &R,
     columns: usize,
+    lines: usize,
     rows: &[u64],
-    marks: &mut [bool],
-    lines: &mut [bool],
+    marks: &[u64],
     out: &mut [u64],
-    next_marks: &mut [bool],
-    next_lines: &mut [bool],
+    next_marks: &mut [u64],
 )
-    requires lines { (1 ≤ length lines.old) × (length lines.old ≡ length next_lines.old) }
-    requires rows { length rows.now ≡ (16 * length next_lines.old) * (2 * columns) }
+    requires columns { 1 ≤ columns }
+    requires lines { 3 ≤ lines }
+    requires rows { length rows.now ≡ block_at columns lines 0 }
     requires out { length out.old ≡ length rows.now }
-    requires marks { length marks.old ≡ length next_lines.old * columns + 2 }
-    requires next_marks { length next_marks.old ≡ length marks.old }
+    requires marks { mark_at columns lines 0 < 64 * length marks.now }
+    requires next_marks { mark_at columns lines 0 < 64 * length next_marks.old }
     ensures out { length out.new ≡ length out.old }
-    ensures marks { length marks.new ≡ length marks.old }
-    ensures lines { length lines.new ≡ length lines.old }
     ensures next_marks { KeepsMarks next_marks.old next_marks.new }
-    ensures next_lines { KeepsMarks next_lines.old next_lines.new }
-    ensures guards { (j : ℕ) → (j < block_at columns 1 0) ⊎ (block_at columns (length lines.old - 1) 0 ≤ j) → slice_index_or out.new j 0 ≡ slice_index_or out.old j 0 }
-    ensures blocks { (r : RuleSets) (line column : ℕ) → R.is_of rule.now r → 1 ≤ line → line + 2 ≤ length lines.old → column < columns → IsAdvanced (flat_next r rows.now (64 * (2 * columns))) columns line column marks.old lines.old out.old out.new next_marks.new next_lines.new }
+    ensures guards { (j : ℕ) → (j < block_at columns 1 0) ⊎ (block_at columns (lines - 1) 0 ≤ j) → slice_index_or out.new j 0 ≡ slice_index_or out.old j 0 }
+    ensures blocks { (r : RuleSets) (line column : ℕ) → R.is_of rule.now r → 1 ≤ line → line + 2 ≤ lines → column < columns → IsAdvanced (flat_next r rows.now (64 * (2 * columns))) columns line column marks.now out.old out.new next_marks.new }
 {
-    for line in 1..lines.len() - 1 {
-        marked_line_step(
-            rule, columns, line, rows, marks, lines, out, next_marks, next_lines,
-        );
+    let end = 1 + (lines - 1) * columns;
+    let mut line = 1;
+    let mut b = next_mark(marks, 1 + columns, end);
+    while b < end {
+        line = line_of(columns, line, b);
+        let start = 1 + line * columns;
+        let next = columns_step(rule, columns, line, b - start, rows, marks, out, next_marks);
+        b = next_mark(marks, start + next, end);
     }
 }

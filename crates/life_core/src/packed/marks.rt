@@ -1,5 +1,5 @@
-//! Marks of the blocks that a change reaches.
-ghost use Rattle.std.specs.Prelude.{◌≡◌, ℕ, ◌+◌, ◌-◌, ◌*◌, ◌≤◌, ◌<◌, length, slice_index_or, IsTrue, IsFalse, true, false};
+//! Marks of the blocks that a change reaches, a bit each.
+ghost use Rattle.std.specs.Prelude.{◌≡◌, ℕ, ◌+◌, ◌-◌, ◌*◌, ◌^◌, ◌≤◌, ◌<◌, length, slice_index_or, IsTrue, IsFalse};
 ghost use Rattle.life_core.specs.PackedRow.{place};
 ghost use Rattle.life_core.specs.PackedMarksState.{KeepsMarks, IsMarked, IsWoken};
 
@@ -30,26 +30,66 @@ fn last(words: u64x2) -> bool
     words.to_array()[1] >> 63 != 0
 }
 
+/// Whether a mark is set.
+#[inline(always)]
+pub(crate) fn is_marked(marks: &[u64], j: usize) -> bool
+    requires { j < 64 * length marks.now }
+    ensures { IsTrue result → IsMarked marks.now j }
+{
+    (marks[j / 64] >> (j % 64)) % 2 == 1
+}
+
+/// The first mark from `from` on that is set, or `to`.
+#[inline(always)]
+pub(crate) fn next_mark(marks: &[u64], from: usize, to: usize) -> usize
+    requires from { from ≤ to }
+    requires to { to ≤ 64 * length marks.now }
+    requires few { to < 2 ^ 63 }
+    ensures from { from ≤ result }
+    ensures to { result ≤ to }
+    ensures none { (j : ℕ) → from ≤ j → j < result → place marks.now j ≡ 0 }
+{
+    let mut j = from;
+    while j < to {
+        let rest = marks[j / 64] >> (j % 64);
+        if rest != 0 {
+            return (j + rest.trailing_zeros() as usize).min(to);
+        }
+        j = 64 * (j / 64 + 1);
+    }
+    to
+}
+
+/// Sets a mark.
+#[inline(always)]
+fn set_mark(marks: &mut [u64], j: usize)
+    requires { j < 64 * length marks.old }
+    ensures kept { KeepsMarks marks.old marks.new }
+    ensures set { IsMarked marks.new j }
+{
+    marks[j / 64] |= 1 << (j % 64);
+}
+
 /// Sets a mark, if asked.
 #[inline(always)]
-fn raise(marks: &mut [bool], j: usize, is_asked: bool)
-    requires { j < length marks.old }
+fn raise(marks: &mut [u64], j: usize, is_asked: bool)
+    requires { j < 64 * length marks.old }
     ensures kept { KeepsMarks marks.old marks.new }
     ensures raised { IsTrue is_asked → IsMarked marks.new j }
 {
-    marks[j] |= is_asked;
+    if is_asked {
+        set_mark(marks, j);
+    }
 }
 
 /// Marks the block at `b` of a line and those beside it, if changed places in this row of its columns
 /// reach them.
 #[inline(always)]
-fn wake(changed: u64x2, line: usize, b: usize, marks: &mut [bool], lines: &mut [bool])
-    requires line { line < length lines.old }
+fn wake(changed: u64x2, b: usize, marks: &mut [u64])
     requires first { 1 ≤ b }
-    requires last { b + 2 ≤ length marks.old }
+    requires last { b + 1 < 64 * length marks.old }
+    requires few { b + 1 < 2 ^ 63 }
     ensures marks { KeepsMarks marks.old marks.new }
-    ensures lines { KeepsMarks lines.old lines.new }
-    ensures line { (p : ℕ) → p < 128 → place changed p ≡ 1 → IsMarked lines.new line }
     ensures own { (p : ℕ) → p < 128 → place changed p ≡ 1 → IsMarked marks.new b }
     ensures left { place changed 0 ≡ 1 → IsMarked marks.new (b - 1) }
     ensures right { place changed 127 ≡ 1 → IsMarked marks.new (b + 1) }
@@ -57,8 +97,7 @@ fn wake(changed: u64x2, line: usize, b: usize, marks: &mut [bool], lines: &mut [
     if !any(changed) {
         return;
     }
-    lines[line] = true;
-    marks[b] = true;
+    set_mark(marks, b);
     raise(marks, b - 1, first(changed));
     raise(marks, b + 1, last(changed));
 }
@@ -71,19 +110,16 @@ pub(crate) fn wake_round(
     top: u64x2,
     bottom: u64x2,
     columns: usize,
-    line: usize,
     b: usize,
-    marks: &mut [bool],
-    lines: &mut [bool],
+    marks: &mut [u64],
 )
-    requires line { (1 ≤ line) × (line + 2 ≤ length lines.old) }
     requires first { columns + 1 ≤ b }
-    requires last { b + columns + 2 ≤ length marks.old }
+    requires last { b + columns + 1 < 64 * length marks.old }
+    requires few { b + columns + 1 < 2 ^ 63 }
     ensures marks { KeepsMarks marks.old marks.new }
-    ensures lines { KeepsMarks lines.old lines.new }
-    ensures woken { (i p : ℕ) → p < 128 → place all p ≡ 1 → (i ≡ 0 → place top p ≡ 1) → (i ≡ 15 → place bottom p ≡ 1) → IsWoken columns line b i p marks.new lines.new }
+    ensures woken { (i p : ℕ) → p < 128 → place all p ≡ 1 → (i ≡ 0 → place top p ≡ 1) → (i ≡ 15 → place bottom p ≡ 1) → IsWoken columns b i p marks.new }
 {
-    wake(all, line, b, marks, lines);
-    wake(top, line - 1, b - columns, marks, lines);
-    wake(bottom, line + 1, b + columns, marks, lines);
+    wake(all, b, marks);
+    wake(top, b - columns, marks);
+    wake(bottom, b + columns, marks);
 }

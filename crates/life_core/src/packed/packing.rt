@@ -103,6 +103,23 @@ pub(crate) fn list_cells<A: Allocator>(
     Ok(cells)
 }
 
+/// Goes over words from `k` on that have no live cell, four at a time. All words up to the result are such.
+fn skip_blank(rows: &[u64], k: usize) -> usize
+    requires { k ≤ length rows.now }
+    ensures after { k ≤ result }
+    ensures inside { result ≤ length rows.now }
+    ensures blank { (j : ℕ) → k ≤ j → j < result → slice_index_or rows.now j 0 ≡ 0 }
+{
+    let mut next = k;
+    while rows.len() - next >= 4 {
+        if rows[next] | rows[next + 1] | rows[next + 2] | rows[next + 3] != 0 {
+            return next;
+        }
+        next += 4;
+    }
+    next
+}
+
 /// The first word from `k` on that has a live cell, or the number of words.
 fn next_word(rows: &[u64], k: usize) -> usize
     requires { k ≤ length rows.now }
@@ -110,7 +127,8 @@ fn next_word(rows: &[u64], k: usize) -> usize
     ensures inside { result ≤ length rows.now }
     ensures blank { (j : ℕ) → k ≤ j → j < result → slice_index_or rows.now j 0 ≡ 0 }
 {
-    for j in k..rows.len() {
+    let start = skip_blank(rows, k);
+    for j in start..rows.len() {
         if rows[j] != 0 {
             return j;
         }

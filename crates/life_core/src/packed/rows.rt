@@ -4,7 +4,7 @@ ghost use Rattle.life_core.specs.Generations.{next};
 ghost use Rattle.life_core.specs.PackedBlocksState.{flat_next};
 ghost use Rattle.life_core.specs.PackedFrameState.{framed, IsFrame};
 ghost use Rattle.life_core.specs.PackedMarginsState.{HasSlack, IsWhole};
-ghost use Rattle.life_core.specs.PackedMarksState.{IsAdvanced, IsMarked, KeepsMarks, block_at};
+ghost use Rattle.life_core.specs.PackedMarksState.{IsAdvanced, IsMarked, KeepsMarks, block_at, mark_at};
 ghost use Rattle.life_core.specs.PackedRowsState.{AreMarks, AreSettled};
 
 use crate::fault::Fault;
@@ -32,25 +32,17 @@ pub struct PackedRows<A: Allocator = Global> {
     rows: Vec<u64, A>,
     /// The generation before; the next one is written here.
     spare: Vec<u64, A>,
-    /// The blocks that the next step computes.
-    marks: Marks<A>,
+    /// The blocks that the next step computes: a bit for each, line by line, with one more before the first and one after
+    /// the last.
+    marks: Vec<u64, A>,
     /// The marks for the step after that.
-    next_marks: Marks<A>,
+    next_marks: Vec<u64, A>,
     /// The rule of the last step.
     rule: Rule,
     /// Whether `rows` is the generation after `spare` under that rule.
     follows: bool,
     /// For how many more generations there is room.
     slack: u32,
-}
-
-/// Marks of the blocks that a change reached.
-#[derive(Debug, Drop)]
-struct Marks<A: Allocator> {
-    /// Line by line, with one more before the first and one after the last.
-    blocks: Vec<bool, A>,
-    /// A mark for each line. Without it, none of its blocks counts as marked.
-    lines: Vec<bool, A>,
 }
 
 impl<A: Allocator> Model for PackedRows<A> {
@@ -64,7 +56,7 @@ impl<A: Allocator> Model for PackedRows<A> {
 
     ghost view = { λ a. framed a.frame a.rows.items };
 
-    ghost invariant = { λ a. IsPacked a.frame a.rows.items a.spare.items a.marks.blocks.items a.marks.lines.items a.next_marks.blocks.items a.next_marks.lines.items a.rule a.follows a.slack };
+    ghost invariant = { λ a. IsPacked a.frame a.rows.items a.spare.items a.marks.items a.next_marks.items a.rule a.follows a.slack };
 }
 
 impl<A: Allocator + Copy> Plane<A> for PackedRows<A> {
@@ -96,26 +88,23 @@ impl<A: Allocator + Copy> Plane<A> for PackedRows<A> {
         if let Some(wider) = with_room(self.frame, &self.rows, self.slack) {
             let alloc = *self.rows.allocator();
             let rows = moved_rows(alloc, self.frame, &self.rows, wider)?;
-            let spare = zeros(alloc, rows.len())?;
-            let marks = marks_of(alloc, wider.frame)?;
+            let spare = moved_rows(alloc, self.frame, &self.spare, wider)?;
+            let marks = all_marks(alloc, wider.frame)?;
             let next_marks = marks_of(alloc, wider.frame)?;
             self.frame = wider.frame;
             self.rows = rows;
             self.spare = spare;
             self.marks = marks;
             self.next_marks = next_marks;
-            self.follows = false;
         }
         advance(
             rule,
             self.frame,
             both(self.follows, self.rule == *rule),
             &self.rows,
-            &mut self.marks.blocks,
-            &mut self.marks.lines,
+            &mut self.marks,
             &mut self.spare,
-            &mut self.next_marks.blocks,
-            &mut self.next_marks.lines,
+            &mut self.next_marks,
         );
         mem::swap(&mut self.rows, &mut self.spare);
         mem::swap(&mut self.marks, &mut self.next_marks);
@@ -147,28 +136,39 @@ impl<A: Allocator + Copy> Plane<A> for PackedRows<A> {
     }
 }
 
-/// Marks for the lines and blocks of the frame, all set.
-fn marks_of<A: Allocator + Copy>(alloc: A, frame: Frame) -> Result<Marks<A>, AllocError>
+/// How many words the marks of a frame's blocks take.
+fn mark_words(frame: Frame) -> usize
     requires { IsFrame frame }
-    ensures { IfOk result (λ m. AreMarks frame m.blocks.items m.lines.items) }
+    ensures { mark_at (frame.words / 2) (frame.height / 16) 0 < 64 * result }
 {
-    let lines = frame.height / 16;
-    Ok(Marks {
-        blocks: vec![in alloc; true; lines * (frame.words / 2) + 2]?,
-        lines: vec![in alloc; true; lines]?,
-    })
+    ((frame.height / 16) * (frame.words / 2) + 1) / 64 + 1
 }
 
-/// Keeps as many marks as a narrower frame has.
-fn keep_marks<A: Allocator>(marks: &mut Marks<A>, frame: Frame)
-    requires frame { IsFrame frame }
-    requires blocks { (frame.height / 16) * (frame.words / 2) + 2 ≤ length marks.old.blocks.items }
-    requires lines { frame.height / 16 ≤ length marks.old.lines.items }
-    ensures { AreMarks frame marks.new.blocks.items marks.new.lines.items }
+/// Marks for the blocks of the frame, none of them set.
+fn marks_of<A: Allocator>(alloc: A, frame: Frame) -> Result<Vec<u64, A>, AllocError>
+    requires { IsFrame frame }
+    ensures { IfOk result (λ m. AreMarks frame m.items) }
 {
-    let lines = frame.height / 16;
-    marks.blocks.truncate(lines * (frame.words / 2) + 2);
-    marks.lines.truncate(lines);
+    zeros(alloc, mark_words(frame))
+}
+
+/// Marks for the blocks of the frame, all set.
+fn all_marks<A: Allocator>(alloc: A, frame: Frame) -> Result<Vec<u64, A>, AllocError>
+    requires { IsFrame frame }
+    ensures marks { IfOk result (λ m. AreMarks frame m.items) }
+    ensures set { IfOk result (λ m. (j : ℕ) → j < 64 * length m.items → IsMarked m.items j) }
+{
+    let marks = vec![in alloc; u64::MAX; mark_words(frame)]?;
+    Ok(marks)
+}
+
+/// Keeps as many marks as a narrower frame needs.
+fn keep_marks<A: Allocator>(marks: &mut Vec<u64, A>, frame: Frame)
+    requires frame { IsFrame frame }
+    requires enough { mark_at (frame.words / 2) (frame.height / 16) 0 < 64 * length marks.old.items }
+    ensures { AreMarks frame marks.new.items }
+{
+    marks.truncate(mark_words(frame));
 }
 
 /// Whether both hold.
@@ -181,54 +181,51 @@ fn both(a: bool, b: bool) -> bool
 /// Writes the rows one generation later into `out`, and what it changes into the marks for the step
 /// after this one. If a block is not marked, `out` already has its next generation, provided that
 /// `rows` come after `out`. If they don't, all blocks are computed, in this step and in the next.
+/// The marks of this step are cleared.
 fn advance(
     rule: &Rule,
     frame: Frame,
     follows: bool,
     rows: &[u64],
-    blocks: &mut [bool],
-    lines: &mut [bool],
+    marks: &mut [u64],
     out: &mut [u64],
-    next_blocks: &mut [bool],
-    next_lines: &mut [bool],
+    next_marks: &mut [u64],
 )
     requires frame { IsFrame frame }
     requires whole { IsWhole frame }
     requires rows { frame.height * frame.words ≡ length rows.now }
     requires room { HasSlack frame 1 (framed frame rows.now) }
-    requires marks { AreMarks frame blocks.old lines.old }
+    requires marks { AreMarks frame marks.old }
     requires out { length out.old ≡ length rows.now }
     requires out_room { HasSlack frame 0 (framed frame out.old) }
-    requires next_marks { AreMarks frame next_blocks.old next_lines.old }
-    requires settled { IsTrue follows → AreSettled frame rule.now rows.now out.old blocks.old lines.old }
+    requires next_marks { AreMarks frame next_marks.old }
+    requires settled { IsTrue follows → AreSettled frame rule.now rows.now out.old marks.old }
     requires follows { IsTrue follows → framed frame rows.now ≡ next rule.now (framed frame out.old) }
     ensures rows { framed frame out.new ≡ next rule.now (framed frame rows.now) }
-    ensures settled { AreSettled frame rule.now out.new rows.now next_blocks.new next_lines.new }
+    ensures settled { AreSettled frame rule.now out.new rows.now next_marks.new }
 {
     let _flags = rule.flags();
-    set_unless(follows, blocks);
-    set_unless(follows, lines);
+    set_unless(follows, marks);
     rule_blocks(
         rule,
         frame.words / 2,
+        frame.height / 16,
         rows,
-        blocks,
-        lines,
+        marks,
         out,
-        next_blocks,
-        next_lines,
+        next_marks,
     );
-    set_unless(follows, next_blocks);
-    set_unless(follows, next_lines);
+    set_unless(follows, next_marks);
+    marks.fill(0);
 }
 
 /// Sets all marks, unless they are still valid.
-fn set_unless(kept: bool, marks: &mut [bool])
+fn set_unless(kept: bool, marks: &mut [u64])
     ensures kept { KeepsMarks marks.old marks.new }
-    ensures set { IsFalse kept → (j : ℕ) → j < length marks.new → IsMarked marks.new j }
+    ensures set { IsFalse kept → (j : ℕ) → j < 64 * length marks.new → IsMarked marks.new j }
 {
     if !kept {
-        marks.fill(true);
+        marks.fill(u64::MAX);
     }
 }
 
@@ -236,36 +233,26 @@ fn set_unless(kept: bool, marks: &mut [bool])
 fn rule_blocks(
     rule: &Rule,
     columns: usize,
+    lines: usize,
     rows: &[u64],
-    marks: &mut [bool],
-    lines: &mut [bool],
+    marks: &[u64],
     out: &mut [u64],
-    next_marks: &mut [bool],
-    next_lines: &mut [bool],
+    next_marks: &mut [u64],
 )
-    requires lines { (1 ≤ length lines.old) × (length lines.old ≡ length next_lines.old) }
-    requires rows { length rows.now ≡ (16 * length next_lines.old) * (2 * columns) }
+    requires columns { 1 ≤ columns }
+    requires lines { 3 ≤ lines }
+    requires rows { length rows.now ≡ block_at columns lines 0 }
     requires out { length out.old ≡ length rows.now }
-    requires marks { length marks.old ≡ length next_lines.old * columns + 2 }
-    requires next_marks { length next_marks.old ≡ length marks.old }
-    ensures guards { (j : ℕ) → (j < block_at columns 1 0) ⊎ (block_at columns (length lines.old - 1) 0 ≤ j) → slice_index_or out.new j 0 ≡ slice_index_or out.old j 0 }
-    ensures blocks { (line column : ℕ) → 1 ≤ line → line + 2 ≤ length lines.old → column < columns → IsAdvanced (flat_next rule.now rows.now (64 * (2 * columns))) columns line column marks.old lines.old out.old out.new next_marks.new next_lines.new }
+    requires marks { mark_at columns lines 0 < 64 * length marks.now }
+    requires next_marks { mark_at columns lines 0 < 64 * length next_marks.old }
+    ensures next_marks { KeepsMarks next_marks.old next_marks.new }
+    ensures guards { (j : ℕ) → (j < block_at columns 1 0) ⊎ (block_at columns (lines - 1) 0 ≤ j) → slice_index_or out.new j 0 ≡ slice_index_or out.old j 0 }
+    ensures blocks { (line column : ℕ) → 1 ≤ line → line + 2 ≤ lines → column < columns → IsAdvanced (flat_next rule.now rows.now (64 * (2 * columns))) columns line column marks.now out.old out.new next_marks.new }
 {
     if rule.is_life() {
-        advance_blocks(
-            &ConwayLife,
-            columns,
-            rows,
-            marks,
-            lines,
-            out,
-            next_marks,
-            next_lines,
-        );
+        advance_blocks(&ConwayLife, columns, lines, rows, marks, out, next_marks);
         return;
     }
     let form = RuleForm::of(rule);
-    advance_blocks(
-        &form, columns, rows, marks, lines, out, next_marks, next_lines,
-    );
+    advance_blocks(&form, columns, lines, rows, marks, out, next_marks);
 }

@@ -1,21 +1,14 @@
-use Rattle.std.proofs.Common.{◌+◌, ◌*◌, length, arith}
-use Rattle.std.proofs.lemmas.Nat.{mul-le}
+use Rattle.std.proofs.Common.{◌*◌}
 use Rattle.life_core.specs.PackedBlocksState.{flat_next}
 use Rattle.life_core.proofs.BlockLines.{stepped_block}
 use Rattle.life_core.proofs.packed.lines.single_step.Goals as goal
-
-pub wake_round-requires-clause-last : goal.wake_round-requires-clause-last
-wake_round-requires-clause-last g c =
-    let lines = length c.args.next_lines.now in
-    let room = mul-le (c.args.line + 2) c.args.columns lines c.args.columns c.requires.line.1 (omega arith) in
-    omega (arith, room, c.requires.column, c.requires.marks, c.requires.next_marks)
 
 pub returns-clause-block : goal.returns-clause-block
 returns-clause-block g c r is =
     let block = c.block_step-changes.ensures.block r is in
     let ch = c.block_step-changes.result in
     stepped_block (flat_next r c.args.rows.now (64 * (2 * c.args.columns))) c.args.columns
-    c.args.line c.args.column c.args.marks.now c.args.out.now c.block_step-changes.new.out
-    ch.all ch.top ch.bottom c.wake_round.new.marks c.wake_round.new.lines
-    c.requires.marked block.all.next block.all.same block.top block.bottom
+    c.args.line c.args.column c.args.out.now c.block_step-changes.new.out
+    ch.all ch.top ch.bottom c.wake_round.new.marks
+    block.all.next block.all.same block.top block.bottom
     (λ i p narrow. c.wake_round.ensures.woken i p narrow)

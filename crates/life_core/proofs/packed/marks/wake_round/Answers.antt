@@ -5,19 +5,14 @@ use Rattle.life_core.proofs.packed.marks.wake_round.Goals as goal
 
 pub returns-clause-woken : goal.returns-clause-woken
 returns-clause-woken c i p narrow all top bottom =
-    let line = c.args.line in
     let b = c.args.b in
     let columns = c.args.columns in
     let keeps =
     λ (j : ℕ) (h : IsMarked c.wake.new.marks j). c.wake-3.ensures.marks.set j (c.wake-2.ensures.marks.set j h) in
-    let keeps_line =
-    λ (j : ℕ) (h : IsMarked c.wake.new.lines j). c.wake-3.ensures.lines.set j (c.wake-2.ensures.lines.set j h) in
     record {
-      own_line = keeps_line line (c.wake.ensures.line p narrow all);
       own = keeps b (c.wake.ensures.own p narrow all);
       left = λ e. keeps (b - 1) (c.wake.ensures.left (ap (place c.args.all) (sym e) ∙ all));
       right = λ e. keeps (b + 1) (c.wake.ensures.right (ap (place c.args.all) (sym e) ∙ all));
-      line_above = λ f. c.wake-3.ensures.lines.set (line - 1) (c.wake-2.ensures.line p narrow (top f));
       above = λ f. c.wake-3.ensures.marks.set (b - columns) (c.wake-2.ensures.own p narrow (top f));
       above_left =
           λ f e. c.wake-3.ensures.marks.set (b - columns - 1)
@@ -25,7 +20,6 @@ returns-clause-woken c i p narrow all top bottom =
       above_right =
           λ f e. c.wake-3.ensures.marks.set (b - columns + 1)
           (c.wake-2.ensures.right (ap (place c.args.top) (sym e) ∙ top f));
-      line_below = λ f. c.wake-3.ensures.line p narrow (bottom f);
       below = λ f. c.wake-3.ensures.own p narrow (bottom f);
       below_left = λ f e. c.wake-3.ensures.left (ap (place c.args.bottom) (sym e) ∙ bottom f);
       below_right = λ f e. c.wake-3.ensures.right (ap (place c.args.bottom) (sym e) ∙ bottom f);

@@ -1,14 +1,15 @@
-use Rattle.std.proofs.Common.{◌≡◌, ℕ, ◌-◌, Bool, false, List, length, drop, sym, ap, subst, ◌∙◌, refl, arith}
-use Rattle.std.proofs.lemmas.Bool.{false≢true}
+use Rattle.std.proofs.Common.{◌≡◌, ℕ, ◌-◌, List, length, drop, sym, ap, subst, ◌∙◌, refl, arith}
 use Rattle.std.proofs.lemmas.List.{take_at}
+use Rattle.std.specs.Prelude.{IsTrue}
 use Rattle.life_core.specs.Pattern.{IsWithin}
+use Rattle.life_core.specs.Rule.{RuleSets}
 use Rattle.life_core.specs.Generations.{next}
 use Rattle.life_core.specs.PackedFrameState.{framed}
 use Rattle.life_core.specs.PackedMarginsState.{HasSlack, renewed}
 use Rattle.life_core.specs.PackedRowsState.{AreSettled, IsPacked}
 use Rattle.life_core.proofs.GenerationsLaws.{next_within}
-use Rattle.life_core.proofs.PackedCells.{no_live}
-use Rattle.life_core.proofs.BlockRoom.{slack_less, slack_of_more, renewed_some}
+use Rattle.life_core.proofs.BlockRoom.{slack_less, slack_of_more, slack_in_wider, renewed_some}
+use Rattle.life_core.proofs.BlockSteps.{all_settled}
 use Rattle.life_core.proofs.packed.rows.PackedRowsPlane.step.Goals as goal
 use Rattle.life_core.proofs.packed.rows.PackedRowsPlane.step.Goals.{in-Some+in_ok-rows+in_ok-spare+in_ok-marks+in_ok-next_marks}
 use Rattle.life_core.proofs.packed.rows.PackedRowsPlane.step.Goals.{in_default}
@@ -69,59 +70,74 @@ advance-requires-clause-out_room g c =
     let room : HasSlack s.frame 0 (framed s.frame s.spare.items) = elim c.match-with_room.branch [
       | in-Some+in_ok-rows+in_ok-spare+in_ok-marks+in_ok-next_marks w ↦
           let n = w.in-Some.wider.frame in
-          subst (λ z. HasSlack z.frame 0 (framed z.frame z.spare.items)) (sym w.self-inside-is) (record {
-            away =
-                λ d h.
-                absurd (false≢true (sym (no_live n w.in_ok-spare.spare.items w.in-Some.ensures.frame.wide (omega (
-                  arith,
-                  w.in_ok-spare.ensures.len,
-                  w.len.ensures,
-                  w.in_ok-rows.rows.ok,
-                  w.in_ok-rows.ensures.len,
-                )) w.in_ok-spare.ensures.zeros d) ∙ h));
-          })
+          subst (λ z. HasSlack z.frame 0 (framed z.frame z.spare.items)) (sym w.self-inside-is)
+          (subst (HasSlack n 0) (sym (w.in_ok-spare.ensures.cells
+          ∙ ap (framed c.self.inside.frame) w.deref-in-Some-2.ensures.value))
+          (slack_in_wider c.self.inside.frame w.in-Some.wider 0 (framed c.self.inside.frame c.self.inside.spare.items)
+          w.in-Some.ensures.wider c.self.invariant.spare_room))
       | in_default w ↦
           subst (λ z. HasSlack z.frame 0 (framed z.frame z.spare.items))
           (sym w.self-inside-is) c.self.invariant.spare_room
     ] in
-    subst (λ (rows : List ℕ). HasSlack s.frame 0 (framed s.frame rows)) (sym c.deref_mut-3.ensures.value) room
+    subst (λ (rows : List ℕ). HasSlack s.frame 0 (framed s.frame rows)) (sym c.deref_mut-2.ensures.value) room
+
+pub advance-requires-clause-settled : goal.advance-requires-clause-settled
+advance-requires-clause-settled g c t =
+    let s = c.match-with_room.self-inside in
+    let parts = c.both.ensures.0 t in
+    let rule : s.rule ≡ c.args.rule.now = c.eq.ensures.same.0 parts.1 in
+    let settled : IsTrue s.follows → AreSettled s.frame s.rule s.rows.items s.spare.items s.marks.items =
+    elim c.match-with_room.branch [
+      | in-Some+in_ok-rows+in_ok-spare+in_ok-marks+in_ok-next_marks w ↦
+          subst (λ z. IsTrue z.follows → AreSettled z.frame z.rule z.rows.items z.spare.items z.marks.items)
+          (sym w.self-inside-is) (λ follows. all_settled w.in-Some.wider.frame c.self.inside.rule
+          w.in_ok-rows.rows.items w.in_ok-spare.spare.items w.in_ok-marks.marks.items
+          w.in_ok-marks.ensures.marks w.in_ok-marks.ensures.set)
+      | in_default w ↦
+          subst (λ z. IsTrue z.follows → AreSettled z.frame z.rule z.rows.items z.spare.items z.marks.items)
+          (sym w.self-inside-is) c.self.invariant.settled
+    ] in
+    subst (λ (p : ((List ℕ × List ℕ) × List ℕ) × RuleSets). AreSettled s.frame p.1 p.0.0.0 p.0.0.1 p.0.1)
+    (λ i. (((sym c.deref-2.ensures.value i, sym c.deref_mut-2.ensures.value i), sym c.deref_mut.ensures.value i), rule i))
+    (settled parts.0)
 
 pub invariant_of-self : goal.invariant_of-self
 invariant_of-self g c =
     let s = c.match-with_room.self-inside in
     let V = framed c.self.inside.frame c.self.inside.rows.items in
-    let J : IsPacked s.frame s.rows.items s.spare.items s.marks.blocks.items s.marks.lines.items
-    s.next_marks.blocks.items s.next_marks.lines.items s.rule s.follows (renewed s.slack)
+    let J : IsPacked s.frame s.rows.items s.spare.items s.marks.items s.next_marks.items s.rule s.follows
+    (renewed s.slack)
     × (framed s.frame s.rows.items ≡ V) = elim c.match-with_room.branch [
       | in-Some+in_ok-rows+in_ok-spare+in_ok-marks+in_ok-next_marks w ↦
           let n = w.in-Some.wider.frame in
           let same : framed n w.in_ok-rows.rows.items ≡ V = w.in_ok-rows.ensures.cells
           ∙ ap (framed c.self.inside.frame) w.deref-in-Some.ensures.value in
-          let long : length w.in_ok-spare.spare.items ≡ length w.in_ok-rows.rows.items =
-          omega (arith, w.in_ok-spare.ensures.len, w.len.ensures, w.in_ok-rows.rows.ok) in
-          let new : IsPacked n w.in_ok-rows.rows.items w.in_ok-spare.spare.items w.in_ok-marks.marks.blocks.items
-          w.in_ok-marks.marks.lines.items w.in_ok-next_marks.next_marks.blocks.items
-          w.in_ok-next_marks.next_marks.lines.items c.self.inside.rule false (renewed c.self.inside.slack) = record {
+          let before : framed n w.in_ok-spare.spare.items ≡ framed c.self.inside.frame c.self.inside.spare.items =
+          w.in_ok-spare.ensures.cells ∙ ap (framed c.self.inside.frame) w.deref-in-Some-2.ensures.value in
+          let new : IsPacked n w.in_ok-rows.rows.items w.in_ok-spare.spare.items w.in_ok-marks.marks.items
+          w.in_ok-next_marks.next_marks.items c.self.inside.rule c.self.inside.follows (renewed c.self.inside.slack) = record {
             frame = w.in-Some.ensures.frame;
             whole = w.in-Some.ensures.whole;
             size = w.in_ok-rows.ensures.len;
-            long = long;
-            marks = w.in_ok-marks.ensures;
+            long = omega (arith, w.in_ok-spare.ensures.len, w.in_ok-rows.ensures.len);
+            marks = w.in_ok-marks.ensures.marks;
             next_marks = w.in_ok-next_marks.ensures;
             within = subst (IsWithin 1000000000) (sym same) c.self.invariant.within;
             room =
                 subst (HasSlack n (renewed c.self.inside.slack))
                 (ap (framed c.self.inside.frame) c.deref.ensures.value ∙ sym same) w.in-Some.ensures.room;
-            spare_room = record {
-              away =
-                  λ d h. absurd (false≢true (sym (no_live n w.in_ok-spare.spare.items w.in-Some.ensures.frame.wide
-                  (omega (arith, long, w.in_ok-rows.ensures.len)) w.in_ok-spare.ensures.zeros d) ∙ h));
-            };
-            settled = λ never. absurd (false≢true never);
-            after = λ never. absurd (false≢true never);
+            spare_room =
+                subst (HasSlack n 0) (sym before)
+                (slack_in_wider c.self.inside.frame w.in-Some.wider 0
+                (framed c.self.inside.frame c.self.inside.spare.items) w.in-Some.ensures.wider
+                c.self.invariant.spare_room);
+            settled =
+                λ t. all_settled n c.self.inside.rule w.in_ok-rows.rows.items w.in_ok-spare.spare.items
+                w.in_ok-marks.marks.items w.in_ok-marks.ensures.marks w.in_ok-marks.ensures.set;
+            after = λ t. same ∙ c.self.invariant.after t ∙ ap (next c.self.inside.rule) (sym before);
           } in
-          subst (λ z. IsPacked z.frame z.rows.items z.spare.items z.marks.blocks.items z.marks.lines.items
-          z.next_marks.blocks.items z.next_marks.lines.items z.rule z.follows (renewed z.slack)
+          subst (λ z. IsPacked z.frame z.rows.items z.spare.items z.marks.items z.next_marks.items z.rule z.follows
+          (renewed z.slack)
           × (framed z.frame z.rows.items ≡ V)) (sym w.self-inside-is) (new, same)
       | in_default w ↦
           let f = c.self.inside.frame in
@@ -129,8 +145,8 @@ invariant_of-self g c =
           let room : HasSlack f (renewed c.self.inside.slack) V =
           subst (λ (rows : List ℕ). HasSlack f (renewed c.self.inside.slack) (framed f rows)) c.deref.ensures.value
           (w.in_default.ensures.none refl) in
-          subst (λ z. IsPacked z.frame z.rows.items z.spare.items z.marks.blocks.items z.marks.lines.items
-          z.next_marks.blocks.items z.next_marks.lines.items z.rule z.follows (renewed z.slack)
+          subst (λ z. IsPacked z.frame z.rows.items z.spare.items z.marks.items z.next_marks.items z.rule z.follows
+          (renewed z.slack)
           × (framed z.frame z.rows.items ≡ V)) (sym w.self-inside-is) (
             record {
               frame = old.frame;
@@ -150,27 +166,18 @@ invariant_of-self g c =
     ] in
     let r = c.args.rule.now in
     let a = c.advance.new in
-    let long : length a.out ≡ length s.spare.items = omega (arith, ap length c.deref_mut-3.ensures.value) in
+    let long : length a.out ≡ length s.spare.items = omega (arith, ap length c.deref_mut-2.ensures.value) in
     let x : c.swap.new.x.items ≡ a.out = ap (λ v. v.items) c.swap.ensures.x_after
     ∙ take_at a.out (drop (length a.out) s.spare.items) s.spare.len (omega (arith, long, s.spare.ok)) in
     let y : c.swap.new.y.items ≡ s.rows.items = ap (λ v. v.items) c.swap.ensures.y_after in
-    let blocks : length a.blocks ≡ length s.marks.blocks.items = omega (arith, ap length c.deref_mut.ensures.value) in
-    let lines : length a.lines ≡ length s.marks.lines.items = omega (arith, ap length c.deref_mut-2.ensures.value) in
-    let next_blocks : length a.next_blocks ≡ length s.next_marks.blocks.items =
-    omega (arith, ap length c.deref_mut-4.ensures.value) in
-    let next_lines : length a.next_lines ≡ length s.next_marks.lines.items =
-    omega (arith, ap length c.deref_mut-5.ensures.value) in
-    let xb : c.swap-2.new.x.blocks.items ≡ a.next_blocks = ap (λ v. v.blocks.items) c.swap-2.ensures.x_after
-    ∙ take_at a.next_blocks (drop (length a.next_blocks) s.next_marks.blocks.items) s.next_marks.blocks.len
-    (omega (arith, next_blocks, s.next_marks.blocks.ok)) in
-    let xl : c.swap-2.new.x.lines.items ≡ a.next_lines = ap (λ v. v.lines.items) c.swap-2.ensures.x_after
-    ∙ take_at a.next_lines (drop (length a.next_lines) s.next_marks.lines.items) s.next_marks.lines.len
-    (omega (arith, next_lines, s.next_marks.lines.ok)) in
-    let yb : c.swap-2.new.y.blocks.items ≡ a.blocks = ap (λ v. v.blocks.items) c.swap-2.ensures.y_after
-    ∙ take_at a.blocks (drop (length a.blocks) s.marks.blocks.items) s.marks.blocks.len
-    (omega (arith, blocks, s.marks.blocks.ok)) in
-    let yl : c.swap-2.new.y.lines.items ≡ a.lines = ap (λ v. v.lines.items) c.swap-2.ensures.y_after ∙ take_at a.lines
-    (drop (length a.lines) s.marks.lines.items) s.marks.lines.len (omega (arith, lines, s.marks.lines.ok)) in
+    let marks : length a.marks ≡ length s.marks.items = omega (arith, ap length c.deref_mut.ensures.value) in
+    let next_marks : length a.next_marks ≡ length s.next_marks.items =
+    omega (arith, ap length c.deref_mut-3.ensures.value) in
+    let xm : c.swap-2.new.x.items ≡ a.next_marks = ap (λ v. v.items) c.swap-2.ensures.x_after
+    ∙ take_at a.next_marks (drop (length a.next_marks) s.next_marks.items) s.next_marks.len
+    (omega (arith, next_marks, s.next_marks.ok)) in
+    let ym : c.swap-2.new.y.items ≡ a.marks = ap (λ v. v.items) c.swap-2.ensures.y_after
+    ∙ take_at a.marks (drop (length a.marks) s.marks.items) s.marks.len (omega (arith, marks, s.marks.ok)) in
     let on : framed s.frame c.swap.new.x.items ≡ next r (framed s.frame s.rows.items) = ap (framed s.frame) x
     ∙ c.advance.ensures.rows ∙ ap (λ (rows : List ℕ). next r (framed s.frame rows)) c.deref-2.ensures.value in
     let eq : framed s.frame c.swap.new.x.items ≡ next r c.args.self.now = on ∙ ap (next r) (J.1 ∙ c.self.view_is) in
@@ -180,14 +187,8 @@ invariant_of-self g c =
       whole = J.0.whole;
       size = omega (arith, J.0.size, J.0.long, long, ap length x);
       long = omega (arith, J.0.long, long, ap length x, ap length y);
-      marks = record {
-        line_count = omega (arith, J.0.next_marks.line_count, next_lines, ap length xl);
-        block_count = omega (arith, J.0.next_marks.block_count, next_blocks, ap length xb);
-      };
-      next_marks = record {
-        line_count = omega (arith, J.0.marks.line_count, lines, ap length yl);
-        block_count = omega (arith, J.0.marks.block_count, blocks, ap length yb);
-      };
+      marks = record { count = omega (arith, J.0.next_marks.count, next_marks, ap length xm) };
+      next_marks = record { count = omega (arith, J.0.marks.count, marks, ap length ym) };
       within = subst (IsWithin 1000000000) (sym eq) (next_within r 999999999 c.args.self.now c.requires);
       room =
           subst (λ (n : ℕ). HasSlack s.frame n (framed s.frame c.swap.new.x.items)) slack
@@ -197,7 +198,7 @@ invariant_of-self g c =
           subst (λ (rows : List ℕ). HasSlack s.frame 0 (framed s.frame rows)) (sym y)
           (slack_of_more s.frame 0 (renewed s.slack) (framed s.frame s.rows.items) J.0.room (omega arith));
       settled =
-          λ t. subst (λ (p : (List ℕ × List ℕ) × (List Bool × List Bool)). AreSettled s.frame r p.0.0 p.0.1 p.1.0 p.1.1)
-          (λ i. ((sym x i, (c.deref-2.ensures.value ∙ sym y) i), (sym xb i, sym xl i))) c.advance.ensures.settled;
+          λ t. subst (λ (p : (List ℕ × List ℕ) × List ℕ). AreSettled s.frame r p.0.0 p.0.1 p.1)
+          (λ i. ((sym x i, (c.deref-2.ensures.value ∙ sym y) i), sym xm i)) c.advance.ensures.settled;
       after = λ t. on ∙ ap (λ (rows : List ℕ). next r (framed s.frame rows)) (sym y);
     }

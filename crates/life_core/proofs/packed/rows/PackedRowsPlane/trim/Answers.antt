@@ -52,26 +52,26 @@ copy_part-requires-clause-out g c =
     sym (ap length (c.deref_mut.ensures.value ∙ c.truncate.ensures.items)
     ∙ length-front s.spare.items _ (omega (arith, few, c.self.invariant.size, c.self.invariant.long)))
 
-pub keep_marks-requires-clause-blocks : goal.keep_marks-requires-clause-blocks
-keep_marks-requires-clause-blocks g c =
+pub keep_marks-requires-clause-enough : goal.keep_marks-requires-clause-enough
+keep_marks-requires-clause-enough g c =
     let f = c.self.inside.frame in
     let n = c.in-Some.narrower.frame in
     let narrow = c.in-Some.ensures.frame.wider in
     omega (
       arith,
-      c.self.invariant.marks.block_count,
+      c.self.invariant.marks.count,
       mul-le (n.height / 16) (n.words / 2) (f.height / 16) (f.words / 2) (omega (arith, narrow.tall))
           (omega (arith, narrow.wide)),
     )
 
-pub keep_marks-requires-in-Some-clause-blocks : goal.keep_marks-requires-in-Some-clause-blocks
-keep_marks-requires-in-Some-clause-blocks g c =
+pub keep_marks-requires-in-Some-clause-enough : goal.keep_marks-requires-in-Some-clause-enough
+keep_marks-requires-in-Some-clause-enough g c =
     let f = c.self.inside.frame in
     let n = c.in-Some.narrower.frame in
     let narrow = c.in-Some.ensures.frame.wider in
     omega (
       arith,
-      c.self.invariant.next_marks.block_count,
+      c.self.invariant.next_marks.count,
       mul-le (n.height / 16) (n.words / 2) (f.height / 16) (f.words / 2) (omega (arith, narrow.tall))
           (omega (arith, narrow.wide)),
     )

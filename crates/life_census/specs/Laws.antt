@@ -14,8 +14,8 @@ use Rattle.life_census.specs.Rows.{TallyCounts}
 use Rattle.life_census.specs.Counting.{row_cmp, how_often, occurrences_of, IsTally}
 
 -- `clusters_of` lists the clusters of each set ..
-abbrev pub PartsAreParts : Type 0
-PartsAreParts = (X : Cells) → AreClustersOf X (clusters_of X)
+abbrev pub ClustersAreListed : Type 0
+ClustersAreListed = (X : Cells) → AreClustersOf X (clusters_of X)
 
 -- .. and no other list does.
 abbrev pub OneListOfClusters : Type 0

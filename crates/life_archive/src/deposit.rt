@@ -1,7 +1,10 @@
 //! Depositing the pattern file on the input.
-ghost use Rattle.std.specs.Prelude.{◌≡◌, ◌≢◌, ◌∷◌, [], IfOk, OnOk, OnErr, Err};
+ghost use Rattle.std.specs.Prelude.{◌≡◌, ◌≢◌, ◌∷◌, [], IfOk, IsTrue, OnOk, OnErr, Err};
 ghost use Rattle.std.specs.Fmt.{decimal};
 ghost use Rattle.life_rle.specs.Stream.{FailsLast, Appends, AppendsSome};
+ghost use Rattle.sqlite_trees.specs.Tree.{Trees};
+ghost use Rattle.life_store.specs.Kept.{Kept};
+ghost use Rattle.life_store.specs.Tables.{Holds, TreesHold};
 ghost use Rattle.life_desk.specs.declared.request.Request.TheVariants as ask;
 ghost use Rattle.life_desk.specs.Run.{Answered};
 ghost use Rattle.life_jobs.specs.Streams.{TakesFile, PutsOnce};
@@ -141,6 +144,8 @@ pub fn run_deposit<S: Alter, I: Inlet, O: Outlet>(
     ensures crash { IsDepositSafe S.Store archive.old archive.new member.now token.now (I.to_come input.old) (O.already output.old) (O.already output.new) result }
     ensures takes { TakesFile (I.to_come input.old) (I.to_come input.new) (I.failures input.old) (I.failures input.new) (I.ends input.old) (I.ends input.new) (I.last_take input.new) (by_streams result) }
     ensures once { PutsOnce output.old output.new (O.failures output.old) (O.failures output.new) (O.last_failed output.new) (by_streams result) }
+    // The law of crashes too, so that a caller passes on the traits of its store once.
+    ensures law { IsTrue archive.old.tables.is_healthy → (k : Kept) → Holds archive.old.tables k → (db : Trees) → S.Store.recovers archive.old.store db → TreesHold db k }
 {
     archive.law_of_crashes();
     let file = match take_file(alloc, input) {

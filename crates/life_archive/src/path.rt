@@ -55,7 +55,6 @@ fn deposit_opened<D: Disk + Drop, I: Inlet, O: Outlet>(
 {
     law_of_migrated_archives();
     let mut archive = archive;
-    archive.law_of_crashes();
     let done = run_deposit(alloc, &mut archive, member, token, input, output);
     match archive.close_files() {
         Ok(files) => (done, Ok(files)),

@@ -1,14 +1,17 @@
 //! Sessions: connections, one after the other, and archives in files that are opened for them.
-ghost use Rattle.std.specs.Prelude.{◌≡◌, ◌≢◌, ◌↔◌, false, IsTrue, IfOk, IfErr, OnErr};
+ghost use Rattle.std.specs.Prelude.{◌≡◌, ◌≢◌, ◌↔◌, false, IsTrue, IfOk, IfErr, OnErr, OnOk};
 ghost use Rattle.sqlite_wal.specs.Reads.{AreClean};
 ghost use Rattle.sqlite.specs.Files.{image_of};
+ghost use Rattle.sqlite_trees.specs.Tree.{Trees};
 ghost use Rattle.life_store.specs.Kept.{Kept};
+ghost use Rattle.life_store.specs.Crash.{NoMore};
+ghost use Rattle.life_store.specs.Tables.{Holds, TreesHold, IsTransition, HoldsTheSame, IsHealthyIfClean};
 ghost use Rattle.life_store.specs.Opening.{is_capacity, FilesHold, ListNothing};
 ghost use Rattle.life_archive.specs.Session.{Traffic, CannotListen, ServesOne, ServesSome, ServesConnections, AreUsable, either, EndsSession, IsSession, SessionsCompose, SessionsComposeOverCrashes};
 
 use crate::stop::ArchiveStop;
 use life_desk::law_of_migrated_archives;
-use life_store::{Archive, OpenFault};
+use life_store::{Archive, OpenFault, Unavailable};
 use sqlite::{Alter, FileStore, Files};
 use sqlite_disk::Disk;
 use std::alloc::Global;
@@ -72,6 +75,22 @@ fn reopenable<D: Disk>(files: Files<D>) -> Result<Files<D>, Files<D>>
     Ok(files)
 }
 
+/// Serves this many connections, and counts the deposits after them. It stands alone, so that `serve_opened` passes on the store's traits once.
+fn serve_and_count<S: Alter, C: Connections>(
+    alloc: Global,
+    archive: &mut Archive<S>,
+    connections: &mut C,
+    count: u64,
+) -> Result<u64, Unavailable>
+    ensures run { (mid : _) × ServesSome S.Store count archive.old mid (C.traffic connections.old) (C.traffic connections.new) × IsTransition S.Store NoMore mid archive.new × HoldsTheSame mid.tables archive.new.tables }
+    ensures healthy { OnOk result (IsHealthyIfClean S.Store archive.new) }
+    ensures law { IsTrue archive.old.tables.is_healthy → (k : Kept) → Holds archive.old.tables k → (db : Trees) → S.Store.recovers archive.old.store db → TreesHold db k }
+{
+    archive.law_of_crashes();
+    serve_each(alloc, archive, connections, count);
+    archive.count_deposits()
+}
+
 /// Serves by an archive over files, and lets it go. Ok says that the database was sound to the end, and that the files may be opened again.
 fn serve_opened<D: Disk + Drop, C: Connections>(
     alloc: Global,
@@ -83,9 +102,7 @@ fn serve_opened<D: Disk + Drop, C: Connections>(
     ensures usable { IfOk result (AreUsable D.Disk) }
 {
     let mut archive = archive;
-    archive.law_of_crashes();
-    serve_each(alloc, &mut archive, connections, count);
-    match archive.count_deposits() {
+    match serve_and_count(alloc, &mut archive, connections, count) {
         Ok(_count) => reopenable(archive.into_files()),
         Err(_) => Err(archive.into_files()),
     }

@@ -2,9 +2,12 @@
 
 ghost use Rattle.std.specs.Prelude.{◌≡◌, List, IfOk, IsTrue};
 ghost use Rattle.sqlite_value.specs.Order.{Row};
+ghost use Rattle.sqlite_trees.specs.Tree.{Trees};
 ghost use Rattle.sqlite_trees.specs.View.{IsClean};
 ghost use Rattle.sqlite_wal.specs.Files.{image_at};
 ghost use Rattle.sqlite.specs.Held.{AreDatabases};
+ghost use Rattle.life_store.specs.Kept.{Kept};
+ghost use Rattle.life_store.specs.Tables.{Holds, TreesHold};
 ghost use Rattle.life_check.specs.WalkState.{IsCalm};
 ghost use Rattle.life_check.specs.Files.{EndsCheck, ChecksPath};
 ghost use Rattle.life_check.specs.Listed.{AreFurther, AreWrongThere, StopsBeforeCensuses};
@@ -54,7 +57,12 @@ fn check_and_list<S: Alter + Drop, W: Watch>(
     ensures calm { IsCalm S.Store archive.store result.2 }
     ensures numbered { IsClean (S.Store.view result.2) → IsTrue (S.Store.view result.2).is_numbered }
     ensures databases { IsClean (S.Store.view result.2) → AreDatabases (S.Store.recovers result.2) }
+    // Two laws of the archive too, so that a caller passes on the traits of its store once.
+    ensures crash { IsTrue archive.tables.is_healthy → (k : Kept) → Holds archive.tables k → (db : Trees) → S.Store.recovers archive.store db → TreesHold db k }
+    ensures was_open { IsTrue archive.tables.is_healthy → IsTrue (S.Store.view archive.store).is_open }
 {
+    archive.law_of_crashes();
+    archive.law_of_open_stores();
     let (checked, mut store) = check(archive, alloc, quick, watch);
     let further = errors_of(&mut store, alloc, quick, &checked, watch);
     (checked, further, store)
@@ -70,8 +78,6 @@ fn check_opened<D: Disk + Drop, W: Watch>(
     ensures check { EndsCheck quick D.Disk archive result.0 result.1.items result.2 }
     ensures further { AreFurther result.0 result.1.items }
 {
-    archive.law_of_crashes();
-    archive.law_of_open_stores();
     let (checked, further, store) = check_and_list(alloc, archive, quick, watch);
     watch.ended();
     (checked, further, store.close())

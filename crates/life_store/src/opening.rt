@@ -3,6 +3,7 @@
 
 ghost use Rattle.std.specs.Prelude.{◌≡◌, ◌≢◌, ◌↔◌, ◌≤◌, ◌⊎◌, Ok, Err, false, List, [], IsTrue, IfOk, IfErr, OnOk};
 ghost use Rattle.sqlite_value.specs.declared.value.Value.{Value};
+ghost use Rattle.sqlite_trees.specs.Tree.{Trees};
 ghost use Rattle.sqlite_trees.specs.View.{doubt, IsClean, IsQuiet};
 ghost use Rattle.sqlite_store.specs.FileStore.{view};
 ghost use Rattle.sqlite.specs.State.{HasCleanDisk};
@@ -20,7 +21,7 @@ ghost use Rattle.life_store.specs.CreatingState.{HasTables};
 ghost use Rattle.life_store.specs.Layout.{no_schema};
 ghost use Rattle.life_store.specs.Opening.{is_capacity, nothing_kept, without_log, IsLayout, FilesHaveVersions, FilesHold, FilesHoldFirst, LeftHold, AreLeftOf, AreLetGo, HaveFailedSince, AreUnharmed, AreRefusedAs, ListNothing};
 ghost use Rattle.life_store.specs.OpeningState.{IsSettled, IsMadeOfOld, IsMadeOf, AreLeftMade, HaveVersions, has_table, has_view, has_name, has_some, column_of, version_shown, version_with, rows_of_version, schema_of};
-ghost use Rattle.life_store.specs.Tables.{tables_of, Holds, HoldsTheSame, IsHealthyIfClean};
+ghost use Rattle.life_store.specs.Tables.{tables_of, Holds, TreesHold, HoldsTheSame, IsHealthyIfClean};
 
 use crate::archive::Archive;
 use crate::creating::create_tables;
@@ -242,7 +243,10 @@ fn idle_connection<S: Alter + Drop>(archive: Archive<S>) -> Result<Connection<S>
     ensures numbered { IfErr result (λ store. IsClean (S.Store.view store) → IsTrue (S.Store.view store).is_numbered) }
     ensures sound { IfErr result (λ store. IsClean (S.Store.view store) → AreDatabases (S.Store.recovers store)) }
     ensures was_open { IfErr result (λ _. IsTrue archive.tables.is_healthy → IsTrue (S.Store.view archive.store).is_open) }
+    // The law of crashes too, so that a caller passes on the traits of its store once.
+    ensures crash { IsTrue archive.tables.is_healthy → (k : Kept) → Holds archive.tables k → (db : Trees) → S.Store.recovers archive.store db → TreesHold db k }
 {
+    archive.law_of_crashes();
     let conn = archive.into_connection();
     // What it says of the tables is wanted: a connection obeys them.
     let _tables = conn.schema();
@@ -250,6 +254,18 @@ fn idle_connection<S: Alter + Drop>(archive: Archive<S>) -> Result<Connection<S>
         return Err(conn.into_store());
     }
     Ok(conn)
+}
+
+/// The store of the archive. A function of its own, so that `into_files` passes on the traits of its store once.
+fn store_of<S: Alter + Drop>(archive: Archive<S>) -> S
+    ensures numbered { IsClean (S.Store.view result) → IsTrue (S.Store.view result).is_numbered }
+    ensures sound { IsClean (S.Store.view result) → AreDatabases (S.Store.recovers result) }
+    ensures quiet { IsQuiet S.Store.view S.Store.faults S.Store.recovers S.Store.is_shielded archive.store result }
+    ensures was_open { IsTrue archive.tables.is_healthy → IsTrue (S.Store.view archive.store).is_open }
+    ensures crash { IsTrue archive.tables.is_healthy → (k : Kept) → Holds archive.tables k → (db : Trees) → S.Store.recovers archive.store db → TreesHold db k }
+{
+    archive.law_of_crashes();
+    archive.into_connection().into_store()
 }
 
 /// Closes the connection as its `close_files` does, and returns its files, even if closing fails. In between it holds the store itself, so that
@@ -379,7 +395,6 @@ impl<D: Disk + Drop> Archive<FileStore<D>> {
         ensures refused { IfErr result (λ e. AreLetGo self.store e.1) }
         ensures kept { IfErr result (λ e. (k : Kept) → IsTrue self.tables.is_healthy → Holds self.tables k → AreClean D.Disk e.1.log e.1.db → LeftHold D.Disk e.1 k ⊎ HaveFailedSince self.store e.1) }
     {
-        self.law_of_crashes();
         match idle_connection(self) {
             Ok(conn) => match close(conn) {
                 Ok(files) => Ok(files),
@@ -396,8 +411,7 @@ impl<D: Disk + Drop> Archive<FileStore<D>> {
         ensures left { AreLeftOf self.store result }
         ensures held { (k : Kept) → IsTrue self.tables.is_healthy → Holds self.tables k → AreClean D.Disk result.log result.db → LeftHold D.Disk result k }
     {
-        self.law_of_crashes();
-        self.into_connection().into_store().close()
+        store_of(self).close()
     }
 }
 

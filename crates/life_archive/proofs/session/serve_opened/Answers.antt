@@ -8,9 +8,8 @@ use Rattle.life_archive.proofs.session.serve_opened.Goals as goal
 pub returns-in-Ok-clause-ends : goal.returns-in-Ok-clause-ends
 returns-in-Ok-clause-ends g c =
     let a = c.args.archive in
-    let mid = c.serve_each.new.archive in
-    let last = c.count_deposits.new.self in
-    let some = c.serve_each.ensures in
+    let (mid, some, counted, same_held) = c.serve_and_count.ensures.run in
+    let last = c.serve_and_count.new.archive in
     let ms = messages_of some.exchanges in
     let bytes = replies_of some.exchanges in
     let it = run_answered over_files a mid ms bytes some.run in
@@ -24,21 +23,20 @@ returns-in-Ok-clause-ends g c =
       carried = some.carried;
       own_refusals = own_refusals;
       honest =
-          λ clean. it.taken.transition.crash.honest (c.count_deposits.ensures.transition.crash.honest
+          λ clean. it.taken.transition.crash.honest (counted.crash.honest
           (sound (either_clean g.D.Disk files c.reopenable.result same clean)));
       leaves = λ A up m. leaves_either g.D.Disk A ms bytes files c.reopenable.result same
-          (end_ok a mid last files ms bytes it c.count_deposits.ensures.transition sound c.count_deposits.ensures.same
+          (end_ok a mid last files ms bytes it counted sound same_held
           c.in-Ok.ensures.healthy c.into_files.ensures.held A m)
-          (end_err a mid last files ms bytes it c.count_deposits.ensures.transition sound c.law_of_crashes.ensures
+          (end_err a mid last files ms bytes it counted sound c.serve_and_count.ensures.law
           c.into_files.ensures.left A up m);
     }
 
 pub returns-in-Err-clause-ends : goal.returns-in-Err-clause-ends
 returns-in-Err-clause-ends g c =
     let a = c.args.archive in
-    let mid = c.serve_each.new.archive in
-    let last = c.count_deposits.new.self in
-    let some = c.serve_each.ensures in
+    let (mid, some, counted, same_held) = c.serve_and_count.ensures.run in
+    let last = c.serve_and_count.new.archive in
     let ms = messages_of some.exchanges in
     let bytes = replies_of some.exchanges in
     let it = run_answered over_files a mid ms bytes some.run in
@@ -50,8 +48,8 @@ returns-in-Err-clause-ends g c =
       own_refusals = own_refusals;
       honest =
           λ clean. it.taken.transition.crash.honest
-          (c.count_deposits.ensures.transition.crash.honest (c.into_files-in-Err.ensures.honest clean));
+          (counted.crash.honest (c.into_files-in-Err.ensures.honest clean));
       leaves =
-          λ A up m. end_err a mid last c.into_files-in-Err.result ms bytes it c.count_deposits.ensures.transition
-          c.into_files-in-Err.ensures.honest c.law_of_crashes.ensures c.into_files-in-Err.ensures.left A up m;
+          λ A up m. end_err a mid last c.into_files-in-Err.result ms bytes it counted
+          c.into_files-in-Err.ensures.honest c.serve_and_count.ensures.law c.into_files-in-Err.ensures.left A up m;
     }

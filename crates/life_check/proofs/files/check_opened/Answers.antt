@@ -14,9 +14,9 @@ returns-clause-check g c =
       lists = λ clean. end.wrong (left_honest last last last files c.close.ensures refl (omega arith) clean);
       held = λ k healthy holds clean.
           left_held was last files k g.met.D.Disk.seen_may_stay
-          (c.law_of_open_stores.ensures healthy) (c.law_of_crashes.ensures healthy k holds)
+          (end.was_open healthy) (end.crash healthy k holds)
           (left_allowed was last files c.close.ensures end.numbered end.databases end.calm.outcomes) clean;
       stays = λ healthy.
-          left_same was last files g.met.D.Disk.seen_may_stay (c.law_of_open_stores.ensures healthy)
+          left_same was last files g.met.D.Disk.seen_may_stay (end.was_open healthy)
           (left_allowed was last files c.close.ensures end.numbered end.databases end.calm.outcomes);
     }

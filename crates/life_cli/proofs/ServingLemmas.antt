@@ -1,5 +1,5 @@
 -- What a deposit and a check return; and what serving returns if no connection failed before.
-use Rattle.std.proofs.Common.{◌≡◌, ℕ, Bool, List, Option, None, Some, Result, Ok, Err, MatchResult, sym, refl, subst}
+use Rattle.std.proofs.Common.{◌≡◌, ℕ, Bool, List, None, Some, Result, Ok, Err, MatchResult, sym, refl, subst}
 use Rattle.std.proofs.Common.{inl, inr}
 use Rattle.std.specs.Prelude.{OnOk, IfErr}
 use Rattle.sqlite_disk.specs.declared.Disk as disk

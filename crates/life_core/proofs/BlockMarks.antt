@@ -40,7 +40,8 @@ set_keeps marks j inside = record {
 
 -- no mark up to the lowest bit of what is left of a word
 pub none_below : (marks : List ℕ) (j left m : ℕ) → get_or marks (j / 64) 0 < 2 ^ 64
-    → left ≡ get_or marks (j / 64) 0 / 2 ^ (j % 64) → 0 < left → j ≤ m → m < j + trailing_zeros w64 left → place marks m ≡ 0
+    → left ≡ get_or marks (j / 64) 0 / 2 ^ (j % 64) → 0 < left → j ≤ m → m < j + trailing_zeros w64 left
+    → place marks m ≡ 0
 none_below marks j left m fits is some from to =
     let w = get_or marks (j / 64) 0 in
     let lowest = lowest_run w (j % 64) left fits is some in
@@ -75,7 +76,8 @@ ones_keep old new long ones = record {
   set = λ j h. elim (cases_lt (j / 64) (length new)) [
     | inl inside ↦ all_ones new j (ones (j / 64) inside)
     | inr past ↦
-        let none : place old j ≡ 0 = ap (λ w. bit_at w (j % 64)) (get_or_past old (j / 64) 0 (omega (arith, past, long)))
+        let none : place old j ≡ 0 =
+        ap (λ w. bit_at w (j % 64)) (get_or_past old (j / 64) 0 (omega (arith, past, long)))
         ∙ bit_at-zero (j % 64) in
         absurd (omega (arith, none, h))
   ];

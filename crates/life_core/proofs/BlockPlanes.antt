@@ -47,7 +47,8 @@ pub block_done : (f : Frame) (columns lines : ℕ) (r : RuleSets) (rows old new 
     → (place marks (mark_at columns z c) ≡ 0 → place old (place_at columns z c i p) ≡ next_at f r rows z c i p)
     → IsAdvanced (flat_next r rows (64 * (2 * columns))) columns z c marks old new nm
     → place new (place_at columns z c i p) ≡ next_at f r rows z c i p
-block_done f columns lines r rows old new marks nm of quiet size dead z c i p first last within row narrow settled step =
+block_done f columns lines r rows old new marks nm of quiet size dead z c i p first last within row narrow settled
+    step =
     elim step [
       | inl s ↦
           s.next i p row narrow

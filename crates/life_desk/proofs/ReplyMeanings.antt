@@ -29,7 +29,8 @@ use Rattle.life_desk.specs.declared.request.Reply.TheVariants as says
 use Rattle.life_desk.specs.declared.request.Shown.{Shown}
 use Rattle.life_desk.specs.Archive.{Archive, clusters_with, tally_at, tally_for, tally_of_cells, steady_at, steady_for}
 use Rattle.life_desk.specs.Validation.{is_generation, is_limit, fault_in, validated_by}
-use Rattle.life_desk.specs.Replies.{IsReply, IsReplyBy, IsTotalUnder, after, at_reply, file_reply, kind_reply, shown_reply}
+use Rattle.life_desk.specs.Replies.{IsReply, IsReplyBy, IsTotalUnder, after, at_reply, file_reply, kind_reply}
+use Rattle.life_desk.specs.Replies.{shown_reply}
 use Rattle.life_desk.specs.Represents.{EachHasDeposit, IsRepresentable}
 use Rattle.life_store.specs.Tables.{ArchiveView, StaysHealthy}
 use Rattle.life_desk.specs.Run.{RequestRun, IsAnswered, IsLater, Answered}

@@ -1,6 +1,6 @@
 -- What the job that the arguments name does, and the status of the program. `Answers` of life_words says which job the
 -- arguments name.
-use Rattle.std.specs.Prelude.{◌≡◌, ◌↔◌, ℕ, List, Option, Some, Result, Ok, Err}
+use Rattle.std.specs.Prelude.{◌≡◌, ◌↔◌, ℕ, List, Option, Some, Result, Err}
 use Rattle.std.specs.declared.process.ExitCode.{ExitCode}
 use Rattle.life_rle.specs.declared.stream.Outlet as outlet
 use Rattle.life_words.specs.declared.fault.WordFault.{WordFault}

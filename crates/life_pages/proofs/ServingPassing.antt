@@ -5,7 +5,7 @@ use Rattle.std.proofs.Common.{append-nil, length-append, length-take-le, arith}
 use Rattle.std.proofs.lemmas.Grind.{common_steps}
 use Rattle.std.proofs.lemmas.List.Folds.{list_all-append}
 use Rattle.std.proofs.Math.Nat.{min-le_left}
-use Rattle.life_rle.specs.Stream.{incremented, last_count, Consumes, ConsumesUpTo, IsEnded}
+use Rattle.life_rle.specs.Stream.{incremented, last_count, Consumes, ConsumesUpTo}
 use Rattle.life_rle.specs.declared.stream.Failed.{Failed}
 use Rattle.life_rle.specs.Stream.{Appends, AppendsSome}
 use Rattle.life_rle.proofs.StreamLemmas.{appends_more, appends_none, consumes_on}

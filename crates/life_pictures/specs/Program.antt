@@ -1,6 +1,6 @@
 -- What the picture that the arguments name does, and the status of the program. `Answers` of life_words says which
 -- picture the arguments name.
-use Rattle.std.specs.Prelude.{◌≡◌, ◌↔◌, ℕ, Option, Some, Result, Ok, Err}
+use Rattle.std.specs.Prelude.{◌≡◌, ◌↔◌, Option, Some, Result, Err}
 use Rattle.std.specs.declared.process.ExitCode.{ExitCode}
 use Rattle.life_rle.specs.declared.stream.Inlet as inlet
 use Rattle.life_rle.specs.declared.stream.Outlet as outlet

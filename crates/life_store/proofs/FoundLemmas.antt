@@ -1,12 +1,12 @@
 -- What a connection over files that were just opened shows of them.
-use Rattle.std.proofs.Common.{◌≡◌, ℕ, ap, sym, subst}
+use Rattle.std.proofs.Common.{◌≡◌, ℕ, ap, subst}
 use Rattle.sqlite_disk.specs.declared.Disk.{Ghosts}
 use Rattle.sqlite_wal.specs.Recovery.{Image}
 use Rattle.sqlite_trees.specs.Tree.{Trees}
 use Rattle.sqlite_catalog.specs.Listing.{IsSound}
 use Rattle.sqlite_store.specs.declared.store.FileStore.{FileStore}
 use Rattle.sqlite.specs.Effect.{Database}
-use Rattle.sqlite.specs.State.{State, IsLive, Opens}
+use Rattle.sqlite.specs.State.{IsLive, Opens}
 use Rattle.sqlite.specs.Files.{AreFoundIn, file_state}
 use Rattle.sqlite.specs.Held.{Held}
 use Rattle.life_store.specs.Opening.{ShowsFound}

@@ -19,7 +19,8 @@ returns-clause-left g c r is =
     (λ p narrow blank. block.top p (omega (arith, narrow)) (sym (c.left_half-2.ensures p narrow) ∙ blank))
     (λ p narrow blank. block.bottom p (omega (arith, narrow)) (sym (c.left_half-3.ensures p narrow) ∙ blank))
     (λ i p narrow all top bottom. woken_more columns (mark_at columns line column) i p
-    c.wake_round.new.marks c.wake_round-2.new.marks c.wake_round-2.ensures.marks (c.wake_round.ensures.woken i p narrow all top bottom))
+    c.wake_round.new.marks c.wake_round-2.new.marks c.wake_round-2.ensures.marks
+    (c.wake_round.ensures.woken i p narrow all top bottom))
 
 pub returns-clause-right : goal.returns-clause-right
 returns-clause-right g c r is =
@@ -46,4 +47,5 @@ returns-clause-right g c r is =
     (λ p narrow blank. let e : 64 * (block_at columns line (column + 1) + 15 * words) + p
     ≡ 64 * (at + 15 * words) + (128 + p) = omega arith in ap (place new) e ∙ block.bottom (128 + p)
     (omega (arith, narrow)) (sym (c.right_half-3.ensures p narrow) ∙ blank) ∙ ap (place old) (sym e))
-    (λ i p narrow all top bottom. subst (λ (b : ℕ). IsWoken columns b i p c.wake_round-2.new.marks) next_mark (c.wake_round-2.ensures.woken i p narrow all top bottom))
+    (λ i p narrow all top bottom. subst (λ (b : ℕ). IsWoken columns b i p c.wake_round-2.new.marks) next_mark
+    (c.wake_round-2.ensures.woken i p narrow all top bottom))

@@ -98,7 +98,8 @@ advance-requires-clause-settled g c t =
           (sym w.self-inside-is) c.self.invariant.settled
     ] in
     subst (λ (p : ((List ℕ × List ℕ) × List ℕ) × RuleSets). AreSettled s.frame p.1 p.0.0.0 p.0.0.1 p.0.1)
-    (λ i. (((sym c.deref-2.ensures.value i, sym c.deref_mut-2.ensures.value i), sym c.deref_mut.ensures.value i), rule i))
+    (λ i.
+    (((sym c.deref-2.ensures.value i, sym c.deref_mut-2.ensures.value i), sym c.deref_mut.ensures.value i), rule i))
     (settled parts.0)
 
 pub invariant_of-self : goal.invariant_of-self
@@ -115,7 +116,8 @@ invariant_of-self g c =
           let before : framed n w.in_ok-spare.spare.items ≡ framed c.self.inside.frame c.self.inside.spare.items =
           w.in_ok-spare.ensures.cells ∙ ap (framed c.self.inside.frame) w.deref-in-Some-2.ensures.value in
           let new : IsPacked n w.in_ok-rows.rows.items w.in_ok-spare.spare.items w.in_ok-marks.marks.items
-          w.in_ok-next_marks.next_marks.items c.self.inside.rule c.self.inside.follows (renewed c.self.inside.slack) = record {
+          w.in_ok-next_marks.next_marks.items c.self.inside.rule c.self.inside.follows
+          (renewed c.self.inside.slack) = record {
             frame = w.in-Some.ensures.frame;
             whole = w.in-Some.ensures.whole;
             size = w.in_ok-rows.ensures.len;

@@ -17,7 +17,7 @@ from ledger import Deposit, Ledger
 GLIDER = GLIDER_TEXT.decode()
 # A command that has ended.
 Done = subprocess.CompletedProcess[str]
-VERSION = "1.0.0"
+VERSION = "1.1.0"
 LATER, LATEST = f"{VERSION}+later", f"{VERSION}+latest"
 ARCHIVE, COPIES, SITE, SETTINGS = (
     "/var/lib/life/club.db",

@@ -1,5 +1,4 @@
 """The checks of tests/test_documents.py: each is a function of the texts of the documents, and of what they repeat."""
-import csv
 import fnmatch
 import functools
 import os
@@ -291,17 +290,6 @@ def proofs(pages: Pages) -> Problems:
 # ---- TESTING.md
 
 
-def edits(pages: Pages) -> Problems:
-    """Each mutation has its row, and each row names one of its crate."""
-    found = re.findall(r"(?m)^\| (life_\w+) \| ((?:`\w+`(?:, )?)+) \|", pages[TESTING])
-    named = {(crate, name) for crate, several in found for name in re.findall(r"`(\w+)`", several)}
-    files = [re.fullmatch(r"crates/(\w+)/must-fail/(\w+)\.edit", path) for path in FILES]
-    there = {edit.groups() for edit in files if edit}
-    for crate, name in sorted(named ^ there):
-        yield f"{TESTING}: {crate}: the mutation {name} has no {'row' if (crate, name) in there else 'file'}"
-    yield from [None] * len(named & there)
-
-
 def parts(pages: Pages) -> Problems:
     """Each part of the gate has its row."""
     run = set(re.findall(r"tests/(?:test_)?([a-z]+)\b", read(".ci/run").split("room=", 1)[1])) - {"cases"}
@@ -479,11 +467,7 @@ def wording(pages: Pages) -> Problems:
 # What ./check lists for these paths: crates and parts.
 LISTED = [
     (["crates/life_hauls/src/lib.rt"], "life_hauls life_haul haul_tests", "documents finds hauls slurm"),
-    (
-        ["crates/life_haul/src/main.rt", "crates/planes/src/main.rt"],
-        "life_haul planes",
-        "documents finds hauls planes slurm",
-    ),
+    (["crates/life_haul/src/main.rt"], "life_haul", "documents finds hauls slurm"),
     (["web/main.js"], "", "documents lint web"),
     (["tests/web_haul.py"], "", "lint web"),
     (["deploy/bundle"], "", "boot gateway lint web"),
@@ -515,7 +499,6 @@ CHECKS: list[Callable[[Pages], Problems]] = [
     quotations,
     laws,
     proofs,
-    edits,
     parts,
     copies,
     beside,

@@ -3,9 +3,10 @@
 Links lead to a file and a heading that are there, and so do paths. Every name in backquotes in docs/PROOFS.md is a name
 of the sources. Each clause of each public function of a library has its row there, and no row names another. Each link
 of README.md to a row has the name of its function or clause. Each definition that docs/DEFINITIONS.md quotes is line by
-line the one of its file, and has a law. Each mutation and each part of the gate has its row in docs/TESTING.md. What
-docs/make-tables writes is as it would write it. Pages have their lengths. No file that a person reads has one of the
-phrases of tests/phrases.py. At the end the same checks read files that were changed, and have to fail.
+line the one of its file, and has a law. Each part of the gate has its row in docs/TESTING.md. What docs/make-tables
+writes is as it would write it. Pages have their lengths. No file that a person reads has one of the phrases of
+tests/phrases.py. At the end the same checks read files that were changed, and have to fail. Mutation tests change what
+is there.
 
 Each link, name, row, quotation, place, page, file and change is one check. The checks are in document_checks.py, the
 changes in document_changes.py.
@@ -20,6 +21,7 @@ from clients import check, same
 from document_changes import CHANGES, PLANTED
 from document_checks import API, CHECKS, FILES, OTHERS, PARTS, PROXY, ROUTES, SITE, TABLES, Pages, Problems, read
 from tables import places
+from tables.sources import libraries
 
 pytestmark = pytest.mark.quick
 
@@ -39,7 +41,7 @@ def test_pages(problems: Callable[[Pages], Problems]) -> None:
         check(problem or problems.__name__, not problem)
 
 
-ROUTE_MORE = "GET,/deposits/{id}/cells/{n}/{code},some cells,their text,fixed,dear\n"
+ROUTE_MORE = "GET,/deposits/{id}/cells/{n}/{code},some cells,their text,fixed,slow\n"
 
 
 def test_route_more() -> None:
@@ -59,6 +61,27 @@ def test_route_more() -> None:
     pages |= written
     again = places.compare(lambda path: pages[path] if path in pages else read(path))
     same("what is written again", [problem for problem in again if problem], [])
+
+
+# How many mutation tests a library has at most, and how many of them the gate tries.
+MOST_MUTATIONS, MOST_TRIED = 10, 6
+
+
+@pytest.mark.parametrize("crate", libraries())
+def test_mutations(crate: str) -> None:
+    """A library has mutation tests, but not too many, and what each of them changes is in its source once."""
+    tried, left = (
+        [path for path in FILES if re.fullmatch(rf"crates/{crate}/{folder}/\w+\.edit", path)]
+        for folder in ("must-fail", "mutations")
+    )
+    check(f"{crate} has {len(tried)} mutation tests for the gate", 1 <= len(tried) <= MOST_TRIED)
+    check(f"{crate} has {len(left)} more", len(tried) + len(left) <= MOST_MUTATIONS)
+    for name in tried + left:
+        source = re.findall(r"(?m)^file: (.+)$", read(name))
+        same(f"{name} names one source", len(source), 1)
+        text = read(f"crates/{crate}/{source[0]}")
+        for old in re.findall(r"(?m)^old: (.+)$", read(name)):
+            same(f"{name}: how often its source has {old}", text.count(old), 1)
 
 
 def test_no_source_is_written() -> None:

@@ -1,6 +1,5 @@
 """The game for all tests and benches: rules, sets of cells and their generations, pattern files and codes, from
-docs/FORMATS.md. It shares no code with the program. The limits are those of docs/limits.csv. Only tests/test_planes.py
-has a stepper of its own, which steps large fields as one number.
+docs/FORMATS.md. It shares no code with the program. The limits are those of docs/limits.csv.
 
 A set of cells is a frozenset of pairs (column, row).
 """

@@ -57,7 +57,7 @@ def files_like(form: str) -> List[str]:
 def libraries() -> List[str]:
     """The crates that are libraries, except those for tests."""
     names = [path.split("/")[1] for path in files_like(r"crates/\w+/src/lib\.rt")]
-    return [name for name in names if not name.endswith("_tests") and name != "planes"]
+    return [name for name in names if not name.endswith("_tests")]
 
 
 def exported(crate: str, read: Read) -> Set[str]:

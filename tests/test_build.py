@@ -5,6 +5,7 @@ and --clean leaves the programs.
 import contextlib
 import json
 import os
+import re
 import shutil
 import signal
 import subprocess
@@ -238,14 +239,16 @@ def test_kit(tree: Tree, monkeypatch: pytest.MonkeyPatch) -> None:
 def test_smaller_program(tree: Tree) -> None:
     """A command over a file needs no crate of the archive. Of two crates on one, the second is built in a copy of the
     tree."""
-    # However busy the machine is, life_words ends before life_core, and life_rle and life_code run at the same time.
+    # However busy the machine is, life_words ends before life_core, and life_rle runs while life_code does.
     answer = tree.life(
         "generation",
         "1",
-        awaited={"life_core": "end life_words", "life_rle": "begin life_code", "life_code": "begin life_rle"},
+        awaited={"life_core": "end life_words", "life_rle": "begin life_code", "life_code": "end life_rle"},
     )
     log = tree.log()
     same("the smaller program answers", answer_of(answer), (0, "life_patterns: generation 1\n"))
+    linked = [words for what, name, _, words in log if (what, name) == ("begin", "life_patterns")]
+    same("it is linked for the processor that LIFE_CPU names", linked, ["run --cpu=x86-64-v2 -- --help"])
     check(
         f"standard error says how far it is, and nothing else: {answer.stderr}",
         all(line.startswith("life: ") for line in answer.stderr.splitlines()),
@@ -336,6 +339,24 @@ def test_whole_program(tree: Tree) -> None:
     check_order(log, tree.below, 2, before)
     same("the smaller program's dependencies are not built again", before & {name for _, name, _, _ in log}, set())
     same("the whole program answers", tree.life("kind", "4").stdout, "life_cli: kind 4\n")
+
+
+def archive_jobs() -> list[str]:
+    """The subcommands that need the archive: the smaller program refuses each of them."""
+    with open(os.path.join(TOP, "crates", "life_program", "src", "job.rt"), encoding="utf-8") as file:
+        trait = file.read().split("pub trait ArchiveJobs")[1].split("\n}\n")[0]
+    return re.findall(r"^    fn (\w+)", trait, re.M)
+
+
+@pytest.mark.parametrize("name", archive_jobs())
+def test_archive_jobs(tree: Tree, name: str) -> None:
+    """In a clone that has only the smaller program, a subcommand that needs the archive builds the whole one."""
+    tree.has("life_patterns")
+    with contextlib.suppress(FileNotFoundError):
+        os.remove(tree.out("life_cli", "life_cli"))
+    answer = tree.life(name, "--db", "club.db")
+    same(f"{name} is answered by the whole program", answer_of(answer), (0, f"life_cli: {name} --db club.db\n"))
+    check(f"{name} has built it", "life_cli" in {crate for _, crate, _, _ in tree.log()})
 
 
 def test_failure(tree: Tree) -> None:

@@ -1,14 +1,13 @@
 """A second implementation of the archive for the tests, from docs/API.md and docs/FORMATS.md. It shares no code with
-the program. Numbers, names and statuses of refusals and faults are those of docs/refusals.csv, and limits those of
+the program. Numbers, names and statuses of refusals and faults are those of these pages, and limits those of
 docs/limits.csv.
 
 `Archive.replies(stream)` gives the bytes that a stream of messages is answered with. Nothing here is fast.
 """
-import csv
 import json
 import os
 import re
-from collections.abc import Callable, Iterable
+from collections.abc import Callable, Iterable, Iterator
 from typing import Any, TypeVar
 
 import life
@@ -20,17 +19,15 @@ Asked = tuple[int, int, int]
 Content = TypeVar("Content")
 
 
-def of_kind(kind: str) -> list[dict[str, str]]:
-    """The rows of docs/refusals.csv that are of a kind."""
-    with open(
-        os.path.join(os.path.dirname(os.path.abspath(__file__)), "..", "docs", "refusals.csv"),
-        newline="",
-        encoding="ascii",
-    ) as table:
-        return [row for row in csv.DictReader(table) if row["kind"] == kind]
+def rows_of(page: str, part: str) -> Iterator[list[str]]:
+    """The rows that begin with a number and a name, of a table in docs/."""
+    with open(os.path.join(os.path.dirname(os.path.abspath(__file__)), "..", "docs", page), encoding="utf-8") as file:
+        table = file.read().split(f"<!-- {part}:")[1].split(f"<!-- end of {part} -->")[0]
+    for row in re.findall(r"(?m)^\| (\d+ \| `.*) \|$", table):
+        yield [cell.strip("`") for cell in row.split(" | ")]
 
 
-RLE_NAMES = {int(row["number"]): row["name"] for row in of_kind("file")}
+RLE_NAMES = {int(number): name for number, name, *_ in rows_of("FORMATS.md", "faults of files")}
 
 
 class Refused(Exception):
@@ -90,7 +87,7 @@ def is_steady(rule: life.Rule, cells: Iterable[life.Cell], limit: int) -> bool:
 
 # ---- the archive
 
-NAMES = {int(row["number"]): (row["name"], int(row["status"])) for row in of_kind("refusal")}
+NAMES = {int(number): (name, int(status)) for number, name, status, *_ in rows_of("API.md", "refusals")}
 PHRASES = {
     200: "OK",
     201: "Created",

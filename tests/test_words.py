@@ -43,7 +43,9 @@ def said(called: str, *words: str, stdout: int | IO[str] = subprocess.PIPE) -> t
 
 def explanations() -> dict[str, str]:
     """The lines for each name, as documents and web pages have them."""
-    return {name: "".join(f"{line}\n" for line in lines) for name, lines in read_program(read_file).explanations.items()}
+    return {
+        name: "".join(f"{line}\n" for line in lines) for name, lines in read_program(read_file).explanations.items()
+    }
 
 
 EXPLANATIONS = explanations()

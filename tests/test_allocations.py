@@ -1,4 +1,5 @@
-"""Refused allocations: a library, built with a C compiler, refuses each allocation of the program in turn.
+"""Refused allocations: a library, built with a C compiler, refuses each allocation of the program in turn. Other tests
+build their libraries with `preloaded`.
 
 Whatever is not answered has changed nothing: before anything is sent again, the archive's tables are read, and they are
 as they were.
@@ -32,7 +33,7 @@ from clients import (
     run,
 )
 
-pytestmark = [pytest.mark.full, pytest.mark.usefixtures("program", "compiler")]
+pytestmark = [pytest.mark.full, pytest.mark.usefixtures("program")]
 
 # Over all requests every 25th allocation is refused.
 STEP = 25
@@ -87,21 +88,20 @@ DONE, REFUSED = (0, b"deposit 1\n", b""), (1, b"", b"refused: unavailable\n")
 NO_TABLES = ["BEGIN TRANSACTION;", "COMMIT;"]
 
 
-@pytest.fixture(scope="module")
-def compiler() -> None:
-    """Fails the tests if there is no C compiler, which builds the library."""
+def preloaded(folder: str, name: str, source: str) -> str:
+    """Builds a library for LD_PRELOAD from a source in C; its path."""
     assert shutil.which("cc"), "a C compiler is not installed"
+    library = os.path.join(folder, f"{name}.so")
+    words = ["cc", "-shared", "-fPIC", "-O1", "-x", "c", "-o", library, "-", "-ldl"]
+    subprocess.run(words, input=source.encode(), check=True)
+    return library
 
 
 class Refusing:
     """A preloaded library that refuses one allocation of a program."""
 
     def __init__(self, folder: str) -> None:
-        self.library, self.mark = os.path.join(folder, "refusing.so"), os.path.join(folder, "refused")
-        source = os.path.join(folder, "refusing.c")
-        with open(source, "w") as file:
-            file.write(SHIM)
-        subprocess.run(["cc", "-shared", "-fPIC", "-O1", "-o", self.library, source, "-ldl"], check=True)
+        self.library, self.mark = preloaded(folder, "refusing", SHIM), os.path.join(folder, "refused")
 
     def environment(self, allocation: int) -> dict[str, str]:
         if os.path.exists(self.mark):
@@ -135,6 +135,11 @@ def tables(database: str) -> list[str]:
         kept.close()
 
 
+def size_of(archive: reference.Archive) -> tuple[int, int]:
+    """How many deposits and censuses an archive of the reference has."""
+    return len(archive.deposits), len(archive.censuses)
+
+
 def has_all(database: str, archive: reference.Archive) -> bool:
     """Whether the tables are sound and hold as much as this archive, which has two deposits and a census at most."""
     kept = sqlite3.connect(database)
@@ -144,7 +149,7 @@ def has_all(database: str, archive: reference.Archive) -> bool:
     sound = kept.execute("PRAGMA integrity_check").fetchall() == [("ok",)]
     kept.close()
     rows = sum(len(archive.counted(number + 1)[3][0]) for number in range(len(archive.censuses)))
-    return sound and counts == [len(archive.deposits), len(archive.censuses), rows]
+    return sound and counts == [*size_of(archive), rows]
 
 
 # ---- the work of several processes
@@ -264,7 +269,8 @@ def answered_in_turn(
 ) -> tuple[bool, int]:
     """Sends messages one by one over the server's only connection. Whether each is answered as by this archive of the
     reference, or is unavailable, or ends the connection without a reply; and whether the tables, read before the next
-    one is sent, changed with each 201 and with nothing else. And how many are unavailable."""
+    one is sent, changed with each reply that makes the reference grow and with nothing else. And how many are
+    unavailable."""
     unavailable, before, ended = 0, tables(database), True
     with socket.create_connection(("127.0.0.1", server.port), timeout=60) as peer:
         for one in messages:
@@ -275,8 +281,10 @@ def answered_in_turn(
                 ended = has_ended(peer) and server.ended() is not None
             after = tables(database)
             unavailable += back == UNAVAILABLE
+            # A repeated token is answered 201 like a new one, and stores nothing.
+            size = size_of(archive)
             good = ended and (back == b"" or is_answered(archive, [one], back))
-            good = good and (after != before) == back.startswith(b"HTTP/1.1 201 ")
+            good = good and (after != before) == (size_of(archive) != size)
             if not good:
                 print(
                     f"{one[:60]!r} was answered {back[:200]!r}; tables as before it: {after == before}",
@@ -335,7 +343,7 @@ def refused_share(
                 and is_answered(archive, messages, again)
             )
             good = good and server.ended() == 0
-        good = good and has_all(database, archive) and (len(archive.deposits), len(archive.censuses)) == kept
+        good = good and has_all(database, archive) and size_of(archive) == kept
         if not good:
             wrong += 1
             print(f"allocation {allocation} over {name} refused: failed", flush=True)
@@ -345,9 +353,9 @@ def refused_share(
 
 
 # Each allocation of one deposit; of two reads of a deposit that is kept already, the second of which closes and has
-# bytes after it; of a census, whose deposits are kept already; and some of a run of all requests. Each run has the
-# messages before it, its own messages, how many deposits and censuses are kept in the end, and the step from one
-# allocation to the next.
+# bytes after it; of a census of a deposit that is kept already: it is taken, repeated under its token, and read in both
+# forms; and some of a run of all requests. Each run has the messages before it, its own messages, how many deposits and
+# censuses are kept in the end, and the step from one allocation to the next.
 RUNS = {
     "one deposit": ([], MESSAGES[:1], (1, 0), 1),
     "two reads": (
@@ -358,7 +366,7 @@ RUNS = {
     ),
     "a census": (
         [one for one in MESSAGES if one.startswith(b"POST /deposits ")],
-        [one for one in MESSAGES if b"/censuses/0/1 " in one],
+        [one for one in MESSAGES if b"/censuses/0/1 " in one] + [one for one in MESSAGES if b"/censuses/" in one],
         (2, 1),
         1,
     ),

@@ -1,6 +1,7 @@
 """Runs the built program on an archive in a file, as members would: `life deposit` and `life serve` on this machine's
 loopback, with curl if it is installed, raw sockets and sqlite3. It kills the program and continues.
 """
+import itertools
 import os
 import random
 import re
@@ -36,6 +37,7 @@ from clients import (
 )
 from old_archives import LAYOUT, first_archive, version_kept
 from seeded_messages import seeded_message
+from test_allocations import preloaded, replied
 
 # How many bits of a file are turned, how many streams are sent, how often the program is killed, and how many censuses
 # it migrates.
@@ -417,6 +419,60 @@ def test_stops(folder: str) -> None:
         good = good and out == f"deposit {rows.get(f'after-{stop}')}\n".encode()
         check(f"stop {stop + 1}", good)
     check("deposits were answered between the stops", len(answered) > STOPS)
+
+
+# ---- syncs
+
+# Adds a byte to the file SYNCS for each sync that succeeds.
+COUNTED_SYNCS = r"""
+#define _GNU_SOURCE
+#include <dlfcn.h>
+#include <fcntl.h>
+#include <stdlib.h>
+#include <unistd.h>
+
+static int counted(const char *name, int file) {
+  int (*next)(int) = dlsym(RTLD_NEXT, name);
+  if (next(file)) return -1;
+  int counts = open(getenv("SYNCS"), O_WRONLY | O_APPEND);
+  if (write(counts, "s", 1) != 1) abort();
+  close(counts);
+  return 0;
+}
+
+int fsync(int file) { return counted("fsync", file); }
+int fdatasync(int file) { return counted("fdatasync", file); }
+"""
+# SQLite's documentation of `synchronous=FULL`: a write-ahead log is synced after each commit. The kit says that most
+# commits sync as often where `main` opens files as `sqlite::Unknown`, and that each syncs twice as `sqlite::Wary`. The
+# first commit after an opening may sync more than once, since it begins the log.
+SYNCS_OF_A_COMMIT = 1
+
+
+@pytest.mark.parametrize("stored", [0, 1], ids=["new", "existing"])
+def test_syncs(folder: str, stored: int) -> None:
+    """Each deposit after a server's first one is synced once by the time its reply comes: in a new archive, and in one
+    that has a deposit already."""
+    name = "an existing archive" if stored else "a new archive"
+    database, counts = fresh(folder, f"synced-{stored}.db"), os.path.join(folder, f"syncs-{stored}")
+    if stored:
+        run("deposit", "--db", database, "ann", "t1", data=GLIDER)
+    library = preloaded(folder, "counted-syncs", COUNTED_SYNCS)
+    with open(counts, "w"):
+        pass
+    with Server(database, 1, {**os.environ, "LD_PRELOAD": library, "SYNCS": counts}) as server:
+        with socket.create_connection(("127.0.0.1", server.port), timeout=60) as peer:
+            totals = [os.path.getsize(counts)]
+            for number in range(stored + 1, stored + 9):
+                reply = replied(peer, deposit("ann", f"t{number}", BLOCKS))
+                totals.append(os.path.getsize(counts))
+                same(f"deposit {number} in {name}", reply, reference.json_reply(201, {"deposit": number}))
+            shown = reference.reply(200, "text/plain", GLIDER_TEXT if stored else BLOCKS_TEXT)
+            same(f"the first deposit in {name}", replied(peer, message("GET", "/deposits/1")), shown)
+        same(f"the end of a server on {name}", server.ended(), 0)
+    first, *others = [after - before for before, after in itertools.pairwise(totals)]
+    check(f"{first} syncs of the first commit in {name}", first >= SYNCS_OF_A_COMMIT)
+    same(f"syncs of the other commits in {name}", others, [SYNCS_OF_A_COMMIT] * len(others))
 
 
 # ---- archives of schema version 1

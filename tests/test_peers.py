@@ -3,6 +3,7 @@ and two programs on one file.
 
 The tests wait more than they work, so they may run side by side: -n 8.
 """
+import errno
 import http.client
 import os
 import shutil
@@ -19,6 +20,7 @@ import pytest
 import clients
 import reference
 from clients import BLOCKS, GLIDER, GLIDER_TEXT, Server, check, deposit, exchanged, message, run, same
+from test_allocations import preloaded
 
 pytestmark = [pytest.mark.full, pytest.mark.usefixtures("program")]
 
@@ -385,6 +387,43 @@ def test_many_reads(folder: str) -> None:
             break
         print(f"the sender had to wait: {found}")
     same("the line of too many reads", found, (0, b"connection: too-many-reads\n"))
+
+
+# Refuses the first accept with the error ERRNO, as the system does if a peer has gone before it was accepted, or if the
+# program has too many files open.
+REFUSED_ACCEPT = r"""
+#define _GNU_SOURCE
+#include <dlfcn.h>
+#include <errno.h>
+#include <stdlib.h>
+
+static int is_refused(void) {
+  static int calls;
+  if (calls++) return 0;
+  errno = atoi(getenv("ERRNO"));
+  return 1;
+}
+
+int accept(int listener, void *address, void *length) {
+  int (*next)(int, void *, void *) = dlsym(RTLD_NEXT, "accept");
+  return is_refused() ? -1 : next(listener, address, length);
+}
+
+int accept4(int listener, void *address, void *length, int flags) {
+  int (*next)(int, void *, void *, int) = dlsym(RTLD_NEXT, "accept4");
+  return is_refused() ? -1 : next(listener, address, length, flags);
+}
+"""
+
+
+@pytest.mark.parametrize("name", ["ECONNABORTED", "EMFILE"])
+def test_refused_accept(folder: str, name: str) -> None:
+    """An accept that the system refuses counts as a connection, and has a line. The next connection is served."""
+    library = preloaded(folder, "refused-accept", REFUSED_ACCEPT)
+    environment = {**os.environ, "LD_PRELOAD": library, "ERRNO": str(getattr(errno, name))}
+    with Server(new_archive(folder, f"{name}.db"), 2, environment) as server:
+        same(f"a client after {name}", exchanged(server.port, [message("GET", "/deposits/1")]), SHOWN)
+        same(f"the line of {name}", end_of(server), (0, b"connection: read\n"))
 
 
 def test_without_standard_error(folder: str) -> None:

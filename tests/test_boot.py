@@ -12,11 +12,14 @@ import signal
 import subprocess
 import tempfile
 from collections.abc import Iterator
+from pathlib import Path
 from types import FrameType
 
 import pytest
 
+import clients
 import machine
+import scripts
 from booted import (
     ARCHIVE,
     COPIES,
@@ -190,12 +193,18 @@ def test_lintian(built: Packages) -> None:
     same(f"lintian is silent: {done.stdout}", (done.returncode, done.stdout), (0, ""))
 
 
-def test_manual_pages(room: str, built: Packages) -> None:
-    """The manual pages of the package name only documents and manual pages that it has."""
-    tree = os.path.join(room, "tree")
+@pytest.fixture(scope="module")
+def tree(room: str, built: Packages) -> str:
+    """The files of the package, in a folder."""
+    path = os.path.join(room, "tree")
     subprocess.run(
-        ["dpkg-deb", "--extract", os.path.join(built.out, f"life_{VERSION}_amd64.deb"), tree], check=True, timeout=60
+        ["dpkg-deb", "--extract", os.path.join(built.out, f"life_{VERSION}_amd64.deb"), path], check=True, timeout=60
     )
+    return path
+
+
+def test_manual_pages(tree: str) -> None:
+    """The manual pages of the package name only documents and manual pages that it has."""
     pages = {
         os.path.relpath(path, tree): os.path.realpath(path) for path in glob.glob(f"{tree}/usr/share/man/man*/*.gz")
     }
@@ -214,6 +223,99 @@ def test_manual_pages(room: str, built: Packages) -> None:
             if "usr/share/man/man{1}/{0}.{1}.gz".format(*one) not in pages
         ]
         check(f"{name} names what is there: {gone}", gone == [] and not re.search("docs/[A-Z]", text))
+
+
+def test_links(tree: str) -> None:
+    """Each relative link or picture of a document in the package leads to a file that the package has."""
+    folder, found = f"{tree}/usr/share/doc/life", {}
+    for path in glob.glob(f"{folder}/*.*.gz"):
+        with gzip.open(path, "rt", encoding="utf-8") as file:
+            text = re.sub(r"`[^`\n]*`", "``", file.read())
+        targets = re.findall(r"\]\(([^)]*)\)", text) + re.findall(r'(?:src|href)="([^"]*)"', text)
+        relative = [one.split("#")[0] for one in targets if not re.match("[a-z]+:|#", one)]
+        gone = [one for one in relative if not os.path.isfile(os.path.join(folder, one))]
+        same(f"what {os.path.basename(path)} leads to and is missing", gone, [])
+        found[os.path.basename(path)] = len(relative)
+    check(f"README still leads to other documents: {found}", found["README.md.gz"] > 20)
+
+
+# A haul of a few soups, and the two ranges that it is made of.
+RANGE, RANGES = ("0", "20"), (("0", "10"), ("10", "10"))
+# In place of Slurm's: runs all tasks of a job at once.
+SBATCH = """#!/bin/sh
+cat > "$0.job"
+tasks=1
+for word; do case $word in --array=1-*) tasks=${word#--array=1-} ;; esac; done
+for task in $(seq "$tasks"); do SLURM_ARRAY_TASK_ID=$task sh "$0.job" || exit; done
+echo 1
+"""
+
+
+class Scripts:
+    """The scripts of the package. They run in a folder, with the package's programs first on their PATH."""
+
+    def __init__(self, tree: str, folder: str) -> None:
+        self.examples, self.folder = f"{tree}/usr/share/doc/life/examples", folder
+        self.environment = {"PATH": f"{folder}/bin:{tree}/usr/bin:/usr/bin:/bin", "HOME": folder}
+        self.tried: set[str] = set()
+
+    def run(self, name: str, *words: str) -> str:
+        """What a script prints, which has to succeed."""
+        self.tried.add(name)
+        return self.output(f"{self.examples}/{name}", *words)
+
+    def output(self, *words: str) -> str:
+        status, output, errors = scripts.said(*words, env=self.environment, cwd=self.folder)
+        same(f"{os.path.basename(words[0])} succeeds: {errors}", status, 0)
+        return output
+
+    def haul(self, path: str, first: str, count: str) -> str:
+        """A haul by the program, whose table is also written into a file."""
+        table = self.output("life-haul", "ann-2026", first, count, "500", "60")
+        with open(os.path.join(self.folder, path), "w", encoding="ascii") as file:
+            file.write(table)
+        return table
+
+
+@pytest.fixture
+def packaged(tree: str, tmp_path: Path) -> Scripts:
+    """The scripts of the package, with a stand-in for Slurm."""
+    scripts.needs("curl", "parallel", "sqlite3")
+    (tmp_path / "bin").mkdir()
+    (tmp_path / "bin" / "sbatch").write_text(SBATCH)
+    (tmp_path / "bin" / "sbatch").chmod(0o755)
+    return Scripts(tree, str(tmp_path))
+
+
+def test_scripts(tree: str, packaged: Scripts, monkeypatch: pytest.MonkeyPatch) -> None:
+    """Each script finds in the package what it runs and reads."""
+    run, folder = packaged.run, packaged.folder
+    whole = packaged.haul("ann.csv", *RANGE)
+    for first, count in RANGES:
+        packaged.haul(f"{first}.csv", first, count)
+    words = ["ann-2026", *RANGE, "500", "60", "--size", "10", "--folder"]
+    same("the sum of two tables", run("scripts/add-hauls", *[f"{first}.csv" for first, _ in RANGES]), whole)
+    same("a haul by GNU Parallel", run("haul/parallel", *words, "by-parallel"), whole)
+    check("a haul by Slurm", run("haul/slurm", *words, "by-slurm").startswith("pieces: 2 of 2, jobs 1\n"))
+    with open(f"{folder}/by-slurm/sum.csv", encoding="ascii") as file:
+        same("its sum", file.read(), whole)
+    check("a picture names the block", ">block</text>" in run("scripts/plot-haul", "ann.csv"))
+    monkeypatch.setattr(clients, "PROGRAM", f"{tree}/usr/bin/life")
+    with clients.Server(f"{folder}/club.db", 1000) as server:
+        url, many = scripts.url(server), len(glob.glob(f"{packaged.examples}/*.rle"))
+        check("there are patterns", many > 2)
+        for name, *more in (
+            ("put-folder", "ann", packaged.examples),
+            ("get-folder", "copies"),
+            ("census-all", "ann", "0", "60"),
+        ):
+            same(f"lines of {name}", len(run(f"scripts/{name}", url, *more).splitlines()), many)
+        finds = run("scripts/deposit-finds", url, "ann.csv", "ann", "2").splitlines()
+        check(f"two finds: {finds}", len(finds) == 2 and all(f"\n{find.split()[0]}," in whole for find in finds))
+    # Those that the others include.
+    included = {"haul/pieces.py", "scripts/asking.sh", "scripts/record.sh"}
+    there = {f"{place}/{name}" for place in ("haul", "scripts") for name in os.listdir(f"{packaged.examples}/{place}")}
+    same("each script of the package is tried", packaged.tried | included, there)
 
 
 def test_old_processor(fresh: Debian) -> None:

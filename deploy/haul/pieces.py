@@ -6,11 +6,13 @@ import dataclasses
 import json
 import os
 import re
+import shutil
 import subprocess
 import sys
 from typing import NoReturn
 
-# The repository, found from the path under which the script was called.
+# The repository, found from the path under which the script was called. In the package, the folder of the documents,
+# which has the same `examples`.
 TOP = os.path.join(os.path.dirname(os.path.abspath(sys.argv[0])), "..", "..")
 ADD = os.path.join(TOP, "examples", "scripts", "add-hauls")
 # The most soups for one call of the program, and the most tables that fit on the command line of `add-hauls`.
@@ -70,6 +72,12 @@ def absolute(path: str) -> str:
     return os.path.abspath(path)
 
 
+def usual_program() -> str:
+    """The repository's `life-haul` or, in the package, the one on the PATH."""
+    own = os.path.join(TOP, "life-haul")
+    return own if os.path.exists(own) else shutil.which("life-haul") or own
+
+
 def parser_of(description: str | None) -> argparse.ArgumentParser:
     """A parser for the arguments that all scripts have."""
     parser = argparse.ArgumentParser(
@@ -82,7 +90,7 @@ def parser_of(description: str | None) -> argparse.ArgumentParser:
     parser.add_argument("--size", type=positive, default=10_000)
     parser.add_argument("--rule", default="B3/S23")
     parser.add_argument("--symmetry", default="C1")
-    parser.add_argument("--program", type=absolute, default=os.path.join(TOP, "life-haul"))
+    parser.add_argument("--program", type=absolute, default=usual_program())
     return parser
 
 

@@ -28,8 +28,8 @@ FIRST_PORT = 9900
 GROWING = "B34/S12345678"
 LETTERS = "0123456789abcdefghijklmnopqrstuv"
 HONEST = 10
-# How long a request has to take the program to be a dear one here, in seconds, and for how long strangers ask for such.
-DEAR, ASKING = 0.7, 120
+# How long a request has to take the program to be a slow one here, in seconds, and for how long strangers ask for such.
+SLOW, ASKING = 0.7, 120
 # Above this share of time that the host took away, a bound in seconds that was missed shows nothing.
 MOST_TAKEN_AWAY = 0.1
 # What logs may grow by in an hour, in bytes.
@@ -176,7 +176,7 @@ def soup(side: int) -> bytes:
     return (f"x = {side}, y = {side}, rule = {GROWING}\n" + "$\n".join(rows) + "!\n").encode()
 
 
-class Dear:
+class Slow:
     """Requests that take the program long: of each route one with the least limit that does. No two are the same."""
 
     def __init__(self, site: Site, number: int) -> None:
@@ -195,7 +195,7 @@ class Dear:
     def found(self, site: Site, method: str, path: Callable[[int], str]) -> int:
         """The least limit at which one takes long: 64, 128 and so on. Asked of the program itself, at its own port."""
         limit, took = 32, 0.0
-        while took < DEAR and limit < 2048:
+        while took < SLOW and limit < 2048:
             limit *= 2
             begun = time.monotonic()
             peer = http.client.HTTPConnection("127.0.0.1", site.gateway.life_port, timeout=170)
@@ -214,12 +214,12 @@ class Dear:
             return method, path(self.least[which] + self.turn // len(self.routes) % 48)
 
 
-def strange(site: Site, dear: Dear, over: threading.Event, statuses: list[int]) -> None:
+def strange(site: Site, slow: Slow, over: threading.Event, statuses: list[int]) -> None:
     """One client that asks for what takes long, as often as it may, from sixteen connections."""
 
     def asking(_: int) -> None:
         while not over.is_set():
-            status = site.asked(201, *dear.next())[0]
+            status = site.asked(201, *slow.next())[0]
             statuses.append(status)
             if status == 429:
                 time.sleep(0.1)
@@ -283,7 +283,7 @@ def beside_strangers(site: Site) -> None:
     are answered."""
     status, answer = site.deposit(202, "soup", soup(600))
     same("a soup that grows", status, 201)
-    dear = Dear(site, json.loads(answer)["deposit"])
+    slow = Slow(site, json.loads(answer)["deposit"])
     before, lives, begun = site.log_bytes(), len(site.gateway.lives), time.monotonic()
     at_first = processor_times()
     over = threading.Event()
@@ -292,7 +292,7 @@ def beside_strangers(site: Site) -> None:
     statuses: list[int] = []
     ended: list[int] = []
     people = [
-        threading.Thread(target=strange, args=(site, dear, over, statuses)),
+        threading.Thread(target=strange, args=(site, slow, over, statuses)),
         threading.Thread(target=watching, args=(site, over, ended)),
     ]
     people += [
@@ -306,14 +306,14 @@ def beside_strangers(site: Site) -> None:
         one.join()
     seconds = sorted(took for _, took in waits)
     note(
-        f"{len(waits)} honest requests beside {len(statuses)} that take up to {dear.longest:.1f} s: "
+        f"{len(waits)} honest requests beside {len(statuses)} that take up to {slow.longest:.1f} s: "
         f"median {seconds[len(seconds) // 2]:.2f} s, "
         f"99 % within {seconds[len(seconds) * 99 // 100]:.2f} s, all within {seconds[-1]:.2f} s"
     )
     check("honest clients are answered", {status for status, _ in waits} <= {200, 201} and len(waits) > 10 * HONEST)
-    # A second on a quiet machine. Whoever had to wait for two dear requests waits longer; sixteen of them are there all
+    # A second on a quiet machine. Whoever had to wait for two slow requests waits longer; sixteen of them are there all
     # the time.
-    bound = 1 + 2.5 * dear.longest
+    bound = 1 + 2.5 * slow.longest
     is_within = seconds[len(seconds) * 99 // 100] < bound
     if not is_within and taken_away(at_first) > MOST_TAKEN_AWAY:
         left_out(

@@ -82,7 +82,7 @@ def of_gateway(facts: Facts) -> List[Place]:
             for cache, cost in routes.CLASSES
         ),
         known("long searches", routes.site_realm(facts.routes)),
-        marked(routes.PROXY, routes.ROUTES, "dear routes", routes.proxy_dear(facts.routes)),
+        marked(routes.PROXY, routes.ROUTES, "slow routes", routes.proxy_slow(facts.routes)),
         site(
             "titles",
             routes.site_titles(facts.addresses, facts.limits) + routes.site_deposit(facts.addresses, facts.limits),

@@ -63,7 +63,7 @@ def explained(program: Program) -> Dict[Tuple[str, str], Dict[str, str]]:
 
 
 def read_refusals(read: Read, limits: Limits, program: Program) -> List[Refusal]:
-    """The rows of the table, each with what the program says, and with the numbers of limits in place of their names."""
+    """The rows of the table, each with what the program says, and the numbers of limits in place of their names."""
     known = explained(program)
     rows = []
     for row in rows_of(read, PATH, COLUMNS):

@@ -14,8 +14,8 @@ from .program import Program
 from .texts import Fault, Read, markdown, rows_of
 
 ROUTES, ADDRESSES = "docs/routes.csv", "docs/addresses.csv"
-# `cache` says how long the gateway caches a reply: a `fixed` one never changes, a `moving` one may grow. `cost` says how
-# long a reply may take: a `dear` one up to a minute, a `cheap` one milliseconds.
+# `cache` says how long the gateway caches a reply: a `fixed` one never changes, a `moving` one may grow. `cost` says
+# how long a reply may take: a `slow` one up to a minute, a `quick` one milliseconds.
 ROUTE_COLUMNS = ["method", "path", "request", "reply", "cache", "cost"]
 # An address may lack what is in brackets. `title` is what a preview of a link says: with brackets for both forms of the
 # address, without them for the short one.
@@ -29,7 +29,7 @@ NUMBER, PART, DIGITS = "[0-9]{1,15}", "[^/]+", "[0-9]+"
 IN_ROUTES = {"id": DIGITS, "n": DIGITS, "limit": DIGITS, "rule": PART, "code": "[0-9a-z_]+"}
 IN_FIXED = {**IN_ROUTES, "id": "[1-9][0-9]*"}
 # The classes of routes that only read: each has a location of the site.
-CLASSES = [("fixed", "cheap"), ("moving", "cheap"), ("fixed", "dear"), ("moving", "dear")]
+CLASSES = [("fixed", "quick"), ("moving", "quick"), ("fixed", "slow"), ("moving", "slow")]
 # A limit above 256, with zeros before it.
 LONG = "0*(25[7-9]|2[6-9][0-9]|[3-9][0-9][0-9]|[1-9][0-9]{3,})"
 # A title is put into HTML, so it has no character that HTML would read.
@@ -60,8 +60,8 @@ def read_routes(read: Read, limits: Limits) -> List[Route]:
     routes = []
     for row in rows_of(read, ROUTES, ROUTE_COLUMNS):
         kept = ("fixed", "moving") if row["method"] == "GET" else ("",)
-        if row["method"] not in ("GET", "POST") or row["cache"] not in kept or row["cost"] not in ("cheap", "dear"):
-            raise Fault(f"{ROUTES}: {row['path']}: GET with fixed or moving, or POST; and cheap or dear")
+        if row["method"] not in ("GET", "POST") or row["cache"] not in kept or row["cost"] not in ("quick", "slow"):
+            raise Fault(f"{ROUTES}: {row['path']}: GET with fixed or moving, or POST; and quick or slow")
         request, reply = limits.put_into(row["request"]), limits.put_into(row["reply"])
         routes.append(Route(row["method"], row["path"], request, reply, row["cache"], row["cost"]))
     return routes
@@ -94,7 +94,7 @@ def compare(routes: List[Route], program: Program, read: Read) -> Iterator[Optio
         found = page[1] if page else ""
         kept = f"{SITE}: replies of {route.path} are kept as '{found}', and as '{route.cache}' in {ROUTES}"
         yield None if found == route.cache else kept
-        cost = "dear" if "life_client_dear_at_once" in location else "cheap"
+        cost = "slow" if "life_client_slow_at_once" in location else "quick"
         limited = f"{SITE}: {route.path} has the limits of {cost} routes, and is {route.cost} in {ROUTES}"
         yield None if cost == route.cost else limited
 
@@ -165,27 +165,27 @@ def site_location(routes: List[Route], cache: str, cost: str) -> List[str]:
 
 def site_realm(routes: List[Route]) -> List[str]:
     """The map that has the routes on which a long search needs a password. They end in the limit."""
-    known = reading(routes, "dear")
+    known = reading(routes, "slow")
     paths = [re.sub(r"/\{limit\}$", "", route.path[1:]) for route in known if route.path.endswith("/{limit}")]
     forms = "|".join(expression(path, {**IN_ROUTES, "code": PART}) for path in paths)
     return [f'@MEMBERS_FILE?@map $life_path $life_realm {{ default off; "~^/({forms})/{LONG}$" club; }}']
 
 
-def proxy_dear(routes: List[Route]) -> List[str]:
-    """How HAProxy tells the dear routes that only read: by a part of their path or, if no cheap route begins so, by its
+def proxy_slow(routes: List[Route]) -> List[str]:
+    """How HAProxy tells the slow routes that only read: by a part of their path or, if no quick route begins so, by its
     beginning."""
-    cheap = [expression(route.path, EXAMPLES) for route in routes if route.cost == "cheap"]
+    quick = [expression(route.path, EXAMPLES) for route in routes if route.cost == "quick"]
     inside, begins = [], []
-    for route in reading(routes, "dear"):
+    for route in reading(routes, "slow"):
         begin = "/".join(route.path.split("/")[:2]) + "/"
-        if not any(path.startswith(begin) for path in cheap):
+        if not any(path.startswith(begin) for path in quick):
             begins.append(begin)
             continue
         inside.append(re.split(r"\{\w+\}", route.path)[1])
-        if any(inside[-1] in path for path in cheap):
-            raise Fault(f"{ROUTES}: '{inside[-1]}' does not tell {route.path} from a cheap route")
+        if any(inside[-1] in path for path in quick):
+            raise Fault(f"{ROUTES}: '{inside[-1]}' does not tell {route.path} from a quick route")
     words = [("path_sub", inside), ("path_beg", begins)]
-    return [f"    acl is_read_dear {word} {' '.join(dict.fromkeys(parts))}" for word, parts in words if parts]
+    return [f"    acl is_read_slow {word} {' '.join(dict.fromkeys(parts))}" for word, parts in words if parts]
 
 
 def site_pages(addresses: List[Address], limits: Limits) -> List[str]:

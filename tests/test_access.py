@@ -17,7 +17,7 @@ from collections.abc import Callable
 import pytest
 
 from clients import GLIDER, certify, check, free_port, same
-from gateways import DEPLOY, Gateway, Reply, asked, listed, log, missing, pattern, requests
+from gateways import DEPLOY, Gateway, Reply, address, asked, listed, log, missing, pattern, requests
 
 # These gateways begin at the port of those of tests/test_gateway.py, so one process runs both files, except for
 # test_scripts.
@@ -119,6 +119,23 @@ def long_searches(gateway: Gateway) -> None:
         same(f"{path} without a password and with one: {found}", found, (alone, with_password))
 
 
+def guesses(gateway: Gateway) -> None:
+    """Of wrong passwords at a long search one a second is tried, and each is in the log with its name."""
+    wrong = {"authorization": "Basic " + base64.b64encode(b"eve:a-guess").decode()}
+    begun = time.monotonic()
+    statuses = [
+        asked(gateway.port, 301, "GET", f"/deposits/1/kind/{300 + turn}", headers=wrong)[0] for turn in range(60)
+    ]
+    took = time.monotonic() - begun
+    tried = statuses.count(401)
+    check(
+        f"of 60 guesses {tried} are tried in {took:.1f} s",
+        20 <= tried <= 22 + took and tried + statuses.count(429) == 60,
+    )
+    names = [line["member"] for line in requests(gateway) if (line["address"], line["status"]) == (address(301), 401)]
+    same("each of them is in the log", names, ["eve"] * tried)
+
+
 def test_members(servers: None, folder: str) -> None:
     """With a file of members the name whose password came is the member, whatever a request says."""
     passwords = os.path.join(folder, "members")
@@ -143,6 +160,7 @@ def test_members(servers: None, folder: str) -> None:
         same("the member is the one with the password", [row["member"] for row in listed(gateway.life_port)], ["ann"])
         same("anybody reads", asked(gateway.port, 0, "GET", "/deposits/1")[0], 200)
         long_searches(gateway)
+        guesses(gateway)
         claimed = {"x-member": "bob", "authorization": "Basic " + base64.b64encode(b"bob:of-bob").decode()}
         same(
             "a read with a password that nobody asks for",

@@ -9,6 +9,7 @@ import shutil
 import signal
 import subprocess
 import sys
+import tempfile
 
 import pytest
 
@@ -332,6 +333,30 @@ def test_alarms(program: str, folder: str) -> None:
         )
 
 
+def test_slow_refusals(folder: str) -> None:
+    """systemd gives up on an archive that is refused again and again, even if each time takes half a minute: within ten
+    minutes that is an alarm."""
+    unit = os.path.join(configured(folder), "life.service")
+    burst, interval = values(unit, "StartLimitBurst")[0], values(unit, "StartLimitIntervalSec")[0]
+    seconds = 60 * int(interval[:-3]) if interval.endswith("min") else int(interval)
+    check(f"{burst} starts in {interval}", 30 * int(burst) <= 600 < seconds)
+
+
+def test_stopped_watch(folder: str) -> None:
+    """A watch that systemd stops, since the archive is stopped or restarted, has not failed."""
+    unit = os.path.join(configured(folder), "life-watch.service")
+    same("a signal that ends the watch", values(unit, "SuccessExitStatus"), ["SIGTERM"])
+
+
+def test_certificate_checked(folder: str) -> None:
+    """Every ten minutes the certificate is checked, if there is TLS, after all else, and by root."""
+    for tls, wanted in (("no", []), ("yes", ["+/usr/lib/life/life-age --certificate /srv/cert.pem"])):
+        room = configured(folder, TLS=tls, TLS_CERTIFICATE="/srv/cert.pem")
+        starts = values(os.path.join(room, "life-age.service"), "ExecStart")
+        same(f"checks with TLS={tls}", starts[1:], wanted)
+        check("the port is looked at", " --port 8081 " in starts[0])
+
+
 def test_verified(program: str, folder: str) -> None:
     """systemd itself finds no fault in the units, and those that run all the time or often are shut in."""
     if not shutil.which("systemd-analyze"):
@@ -503,6 +528,43 @@ def test_unread_members(folder: str) -> None:
     )
 
 
+def test_members_for_all() -> None:
+    """A file of members that every user of the machine can read, as `htpasswd -c` makes it, is refused before anything
+    is written. An upgrade says so and continues."""
+    if os.geteuid() != 0 or any(
+        subprocess.run(["id", user], capture_output=True, check=False).returncode for user in ("www-data", "nobody")
+    ):
+        pytest.skip("this is not root, or there is no www-data, so the look at a file of members is left out")
+    with tempfile.TemporaryDirectory() as room:
+        members, settings = os.path.join(room, "members"), os.path.join(room, "etc", "life", "settings")
+        os.makedirs(os.path.dirname(settings))
+        for path, text in ((members, "ann:of-ann\n"), (settings, f"TLS=yes\nMEMBERS_FILE={members}\n")):
+            with open(path, "w", encoding="utf-8") as file:
+                file.write(text)
+        os.chmod(room, 0o755)
+        os.chmod(members, 0o644)
+        said = f"life-configure: MEMBERS_FILE={members}: every user of this machine can read it: "
+        said += "chown root:www-data, chmod 640\n"
+
+        def configured(*words: str, **environment: str) -> tuple[int, str]:
+            done = subprocess.run(
+                [os.path.join(TOP, "deploy", "life-configure"), *words, "--root", room],
+                capture_output=True,
+                text=True,
+                timeout=60,
+                env=os.environ | environment,
+                check=False,
+            )
+            return done.returncode, done.stderr
+
+        same("a file for everybody", (configured(), os.listdir(os.path.join(room, "etc"))), ((1, said), ["life"]))
+        same("an upgrade writes", configured("--files-only", DPKG_MAINTSCRIPT_NAME="postinst"), (0, said))
+        same("and loads", configured(DPKG_MAINTSCRIPT_NAME="postinst"), (0, said))
+        os.chmod(members, 0o640)
+        shutil.chown(members, "root", "www-data")
+        same("a file for nginx", configured(), (0, ""))
+
+
 @pytest.mark.parametrize("words", [["READS=x"], ["NOPE=1"], ["--first-port", "70000"]], ids=" ".join)
 def test_refused_try(program: str, folder: str, monkeypatch: pytest.MonkeyPatch, words: list[str]) -> None:
     """A trial with a wrong setting, or without ports, ends with one line and leaves nothing."""
@@ -547,6 +609,27 @@ def test_optional_parts(folder: str, words: dict[str, str], has_numbers: bool, l
         (has_numbers, has_numbers),
     )
     same(f"logs with {words}", re.findall(r"(?m)^(/.*) \{$", rotated), logs)
+
+
+def test_logs_from_the_start(folder: str) -> None:
+    """Before nginx writes a line, the logs belong to it, and only its user and the group adm read them; so it is with
+    logs of an earlier release."""
+    if os.geteuid() != 0 or not shutil.which("systemd-tmpfiles"):
+        pytest.skip("this is not root, or systemd-tmpfiles is not installed")
+    room = os.path.join(folder, "logs-from-the-start")
+    lines = content(os.path.join(TOP, "deploy", "debian", "life-gateway.tmpfiles")).decode()
+    settings = content(os.path.join(TOP, "deploy", "settings")).decode()
+    logs = [room + path for path in re.findall(r"(?m)^WEB_(?:LOG|ERRORS)=(.*)$", settings)]
+    os.makedirs(os.path.dirname(logs[0]))
+    with open(logs[0], "w", encoding="ascii") as file:
+        file.write("a line\n")
+    with open(f"{room}/made", "w", encoding="ascii") as file:
+        file.write(re.sub(r"(?m)^([df] )(?=/var/log)", rf"\1{room}", "\n".join(re.findall("(?m)^.*/log/.*$", lines))))
+    same("what makes them", subprocess.run(["systemd-tmpfiles", "--create", f"{room}/made"], timeout=60).returncode, 0)
+    for log in logs:
+        done = subprocess.run(["stat", "-c", "%a %U %G", log], capture_output=True, text=True, check=False)
+        same(log, done.stdout, "640 www-data adm\n")
+    same("what was in a log", content(logs[0]), b"a line\n")
 
 
 def test_room_beside_the_cache(folder: str) -> None:

@@ -275,6 +275,17 @@ def test_kept_pages(gateway: Gateway, filled: None) -> None:
     )
 
 
+def test_both_forms(gateway: Gateway, filled: None) -> None:
+    """A cache at the edge learns that a reply has a compressed form, from either form."""
+    for form in ("identity", "gzip"):
+        lines = asked(gateway.port, 252, "GET", "/deposits/after/0", headers={"accept-encoding": form})[2]
+        same(
+            f"the list as {form}",
+            (lines.get("content-encoding", "identity"), lines.get("vary")),
+            (form, "Accept-Encoding"),
+        )
+
+
 def test_limits(gateway: Gateway, filled: None) -> None:
     """A client that asks too much is answered 429, and no other."""
     # Some are let through at once, and some in each second, so the share of 1,500 depends on how long they take.
@@ -447,6 +458,12 @@ def test_no_heads(gateway: Gateway) -> None:
             f"the head {head[:20]!r} of {len(head)} bytes",
             reply.startswith(b"HTTP/1.1 400 ") and reply.endswith(b'\r\n\r\n{"error":"bad-message","refusal":14}'),
         )
+    for head, status in (
+        (b"TRACE / HTTP/1.1\r\nhost: x\r\n\r\n", b"405"),
+        (b"POST /deposits HTTP/1.1\r\nhost: x\r\ntransfer-encoding: xchunked\r\n\r\n", b"501"),
+    ):
+        reply = exchanged(gateway.port, [head])
+        check(f"{head[:20]!r} gets a page of nginx", reply.split(b" ")[1] == status and b"<center>nginx" in reply)
     errors = log(gateway, "error.log")[before:]
     same(f"malformed heads leave {errors} in the log of errors", errors, [])
     same(

@@ -3,16 +3,25 @@ are named with their line, and files that somebody has changed by hand. systemd 
 has a real one.
 """
 import contextlib
+import fcntl
 import getpass
+import http.client
 import os
 import pathlib
 import re
 import shutil
+import signal
+import socket
+import ssl
+import stat
 import subprocess
+import sys
 import time
+from collections.abc import Iterator
 
 import pytest
 
+import clients
 import clubs
 from archives import new_archive
 from clients import BLOCKS, GLIDER, GLIDER_TEXT, HERE, Server, check, deposit, exchanged, same
@@ -113,6 +122,10 @@ def test_alarms(folder: str) -> None:
     check("another reason is one", "has room for 31,457,280" in desk.alarm()[2])
     write(os.path.join(desk.room, "last"), "life-copy: /var/backups/life has room for 12,288 bytes\n")
     same("another number is no new alarm", desk.alarm()[2], "")
+    told = os.path.join(desk.alarms, UNIT)
+    write(told, re.sub("(?m)^[0-9]+", str(int(time.time()) - 86401), content(told)))
+    check("a reason that has not come for a day is one", "has room for 12,288" in desk.alarm()[2])
+    same("once", desk.alarm()[2], "")
     journal, _, mail = desk.alarm("--ended")
     check(
         "its end is an alarm",
@@ -145,9 +158,10 @@ class Place:
         for path in (os.path.dirname(self.archive), self.copies, self.state):
             os.makedirs(path)
 
-    def age(self, limit: str = "2h") -> tuple[int, str]:
+    def age(self, limit: str = "2h", port: int | None = None) -> tuple[int, str]:
+        words = ["--port", str(port)] if port else []
         status, out, err = script(
-            "life-age", "--state", self.state, "--root", self.root, self.archive, self.copies, limit
+            "life-age", "--state", self.state, *words, "--root", self.root, self.archive, self.copies, limit
         )
         return status, out + err
 
@@ -229,6 +243,73 @@ def test_away(folder: str) -> None:
     same("it runs", (place.age()[0], os.path.exists(seen)), (0, False))
     os.rmdir(place.group("life-gateway.service"))
     same("the ten minutes start over", place.age()[0], 0)
+
+
+def test_not_serving(folder: str) -> None:
+    """A service that has a process but never listens, as while its archive is refused again and again, is a failure
+    after ten minutes. What counts is its own port."""
+    place = Place(os.path.join(folder, "refused"))
+    place.copied()
+    place.enable("life.service")
+    os.makedirs(place.group("life.service"))
+    write(place.archive, "")
+    os.makedirs(os.path.join(place.root, "proc"))
+    os.symlink("/proc/self", os.path.join(place.root, "proc", "self"))
+    seen = os.path.join(place.state, "life.service")
+    with open(place.archive, "rb+") as opened, socket.socket() as listener:
+        # The program locks the file before it reads it: 510 bytes of SQLite's, by which only the other process sees it.
+        fcntl.lockf(opened, fcntl.LOCK_EX, 510, (1 << 30) + 2)
+        listener.bind(("127.0.0.1", 0))
+        port = listener.getsockname()[1]
+        same("it may just be starting", place.age(port=port)[0], 0)
+        os.utime(seen, (time.time() - 599, time.time() - 599))
+        same(
+            "at the check ten minutes later",
+            place.age(port=port),
+            (1, f"life-age: life.service runs, but does not serve: nothing listens at port {port}\n"),
+        )
+        listener.listen()
+        same("it serves", (place.age(port=port)[0], os.path.exists(seen)), (0, False))
+        listener.close()
+        same("the ten minutes start over", place.age(port=port)[0], 0)
+
+
+@pytest.mark.parametrize("table, values", [("deposits", "'B3/S23', 5, x''"), ("censuses", "1, 0, 4, 0, 0")])
+def test_nearly_full(folder: str, table: str, values: str) -> None:
+    """Nine tenths of the rows that an archive may have are a failure, by the greatest number in the newest copy."""
+    place = Place(os.path.join(folder, f"full-{table}"))
+    capacity = re.search("(?m)^CAPACITY,([0-9]+),", content(os.path.join(HERE, "..", "docs", "limits.csv")))
+    assert capacity
+    most = int(capacity[1])
+    enough = most * 9 // 10
+    with contextlib.closing(new_archive(place.copied())) as database:
+        database.execute(f"INSERT INTO {table} VALUES ({enough - 1}, 'ann', 't1', {values})")
+        database.commit()
+        same("nearly nine tenths", place.age()[0], 0)
+        database.execute(f"UPDATE {table} SET id = {enough}")
+        database.commit()
+        wanted = f"life-age: {place.archive} is nearly full: it has {enough:,} of at most {most:,} {table}\n"
+        same("nine tenths", place.age(), (1, wanted))
+
+
+def test_certificate(folder: str) -> None:
+    """A certificate that expires within two weeks, or can't be read, is a failure. In a chain the server's is first."""
+    if not shutil.which("openssl"):
+        pytest.skip("openssl is not installed")
+    made = {days: os.path.join(folder, f"{days}-days.pem") for days in (13, 15)}
+    for days, path in made.items():
+        words = "openssl req -x509 -newkey rsa:2048 -nodes -subj /CN=x -keyout /dev/null"
+        subprocess.run([*words.split(), "-days", str(days), "-out", path], capture_output=True, check=True, timeout=60)
+    same("of 15 days", script("life-age", "--certificate", made[15]), (0, f"life-age: {made[15]} is valid\n", ""))
+    status, _, err = script("life-age", "--certificate", made[13])
+    check(f"of 13 days: {err}", status == 1 and err.startswith(f"life-age: {made[13]} expires on "))
+    chain = os.path.join(folder, "chain.pem")
+    for first, second, wanted in ((15, 13, 0), (13, 15, 1)):
+        write(chain, content(made[first]) + content(made[second]))
+        same(f"of {first} days, by one of {second}", script("life-age", "--certificate", chain)[0], wanted)
+    os.remove(chain)
+    gone = (1, "", f"life-age: {chain} can't be read as a certificate\n")
+    same("none", script("life-age", "--certificate", chain), gone)
 
 
 def test_room(folder: str) -> None:
@@ -417,3 +498,263 @@ def test_changed_by_hand(folder: str) -> None:
     check("a file of release 1.0.0 is written again", root.configured()[0] == 0 and "8r/s" in content(site))
     digest = re.search(r"(?s)location = /\.life-configured .*?return 200 '([0-9a-f]{64})'", content(site))
     check("the site answers with its digest", digest is not None and digest[1] in content(site))
+
+
+def modes(folder: str) -> set[tuple[int, int]]:
+    """The modes and owners of all files below /etc in a folder, without the settings."""
+    below = os.path.join(folder, "etc")
+    found = [os.path.join(where, name) for where, _, names in os.walk(below) for name in names if name != "settings"]
+    return {(stat.S_IMODE(os.stat(path).st_mode), os.stat(path).st_uid) for path in found}
+
+
+@pytest.mark.parametrize("umask", ["000", "077"])
+def test_umasks(folder: str, umask: str) -> None:
+    """Files are for everybody to read and for root to change, whatever root's umask is. Another mode or owner counts as
+    a change."""
+    root, own = Root(os.path.join(folder, f"umask-{umask}")), (0o644, os.geteuid())
+    words = [os.path.join(DEPLOY, "life-configure"), "--files-only", "--root", root.folder]
+    done = subprocess.run(["sh", "-c", 'umask "$0"; exec "$@"', umask, *words], capture_output=True, timeout=60)
+    same("their modes and owners", (done.returncode, modes(root.folder)), (0, {own}))
+    same("nothing has to be changed then", root.configured()[1], "changed: nothing\n")
+    proxy, unit = root.path("etc/life/haproxy.cfg"), root.path("etc/systemd/system/life-watch.service")
+    os.chmod(proxy, 0o600)
+    os.chmod(unit, 0o666)
+    same("other modes", root.configured()[1], "changed: haproxy.cfg, life-watch.service\n")
+    if os.geteuid() == 0:
+        os.chown(proxy, 65534, 65534)
+        same("another owner", root.configured()[1], "changed: haproxy.cfg\n")
+    same("all is as it was", modes(root.folder), {own})
+
+
+# ---- locks
+
+
+# Runs life-index with a short wait for the lock of its folder.
+INDEXING = """
+import sys
+sys.path.insert(0, sys.argv[1])
+from life_operate import index
+index.LOCKED_WITHIN = 0.5
+sys.argv = sys.argv[1:]
+index.main()
+"""
+
+
+def test_locked_index(folder: str) -> None:
+    """A folder of the index that somebody has locked, as every user can, is a failure after a while."""
+    path, copy = os.path.join(folder, "index"), os.path.join(folder, "indexed.db")
+    os.makedirs(path)
+    new_archive(copy).close()
+    number = os.open(path, os.O_RDONLY)
+    fcntl.flock(number, fcntl.LOCK_EX)
+    words = [sys.executable, "-c", INDEXING, DEPLOY, copy, path]
+    done = subprocess.run(words, capture_output=True, text=True, timeout=10, check=False)
+    same("it is said", (done.returncode, done.stderr), (1, f"life-index: another program has locked {path}\n"))
+    os.close(number)
+    done = subprocess.run(words, capture_output=True, text=True, timeout=60, check=False)
+    same(f"once it is free: {done.stderr}", done.returncode, 0)
+
+
+def test_locked_settings(folder: str) -> None:
+    """life-configure waits for another one. What it locks only root can open."""
+    root = Root(os.path.join(folder, "locked"))
+    number = os.open(root.path("etc/life"), os.O_RDONLY)
+    fcntl.flock(number, fcntl.LOCK_EX)
+    begun = time.monotonic()
+    same("a lock on the folder of the settings", (root.configured()[0], time.monotonic() - begun < 60), (0, True))
+    os.close(number)
+    lock = root.path("run/life-configure.lock")
+    same("who can open the lock", stat.S_IMODE(os.stat(lock).st_mode), 0o600)
+    with open(lock, "rb") as file:
+        fcntl.flock(file, fcntl.LOCK_EX)
+        words = [os.path.join(DEPLOY, "life-configure"), "--files-only", "--root", root.folder]
+        with subprocess.Popen(words, stdout=subprocess.PIPE, text=True) as waiting:
+            assert waiting.stdout is not None
+            same(
+                "another life-configure waits",
+                waiting.stdout.readline(),
+                "another life-configure is at work: waiting until it is done\n",
+            )
+            fcntl.flock(file, fcntl.LOCK_UN)
+            same("until it is done", (waiting.wait(60), waiting.stdout.read()), (0, "changed: nothing\n"))
+
+
+# ---- what nginx and HAProxy load
+
+
+# Loads the files of a folder, in which systemctl and nginx are stand-ins.
+LOADING = """
+import sys
+sys.path.insert(0, sys.argv[1])
+from life_operate import loading
+from life_operate.settings import Wrong
+
+folder, port = sys.argv[2:4]
+loading.ENABLED_SITE = site = f"{folder}/nginx.conf"
+loading.NGINX_READ, loading.TAKEN_WITHIN = f"{folder}/nginx.read", 3
+loading.HAPROXY, loading.HAPROXY_READ = f"{folder}/haproxy.cfg", f"{folder}/haproxy.read"
+try:
+    loading.load([], {"LISTEN": f"127.0.0.1:{port}", "HOST": "", "TLS": "no"}, site)
+except Wrong as fault:
+    sys.exit(str(fault))
+"""
+LOADED_SYSTEMCTL = """#!/bin/sh
+cd "$(dirname "$0")/.."
+case $* in
+  *=ActiveState*life-gateway*) cat haproxy.state ;;
+  *=ActiveState*) echo active ;;
+  *=ActiveEnterTimestamp*) echo @0 ;;
+  *=MainPID,*) cat pid moment ;;
+  *=MainPID*) cat pid ;;
+  "reload nginx.service") date +%s%N > moment; exec bin/nginx -s reload ;;
+esac
+"""
+LOADED_NGINX = """{user}
+pid {folder}/pid;
+events {{ worker_connections 64; }}
+http {{
+    access_log off;
+    client_body_temp_path {folder}/temporary; proxy_temp_path {folder}/temporary; fastcgi_temp_path {folder}/temporary;
+    uwsgi_temp_path {folder}/temporary; scgi_temp_path {folder}/temporary;
+    server {{
+        listen 127.0.0.1:{port};
+        listen 127.0.0.1:{secure} ssl;
+        ssl_certificate {folder}/cert.pem;
+        ssl_certificate_key {folder}/key.pem;
+        root {folder}/pages;
+        location = /.life-configured {{
+            return 200 '{digest}';
+        }}
+        include {folder}/site.d/*.conf;
+    }}
+}}
+"""
+AGAIN = "nginx has to read its files again\nsystemctl reload nginx.service\n"
+
+
+class Loaded:
+    """nginx itself, a stand-in for systemctl, and the club's own lines."""
+
+    def __init__(self, folder: str) -> None:
+        self.folder, self.port, self.secure = folder, clients.free_port(), clients.free_port()
+        nginx = shutil.which("nginx", path=os.environ["PATH"] + ":/usr/sbin")
+        write(os.path.join(folder, "bin", "systemctl"), LOADED_SYSTEMCTL, 0o755)
+        line = f'exec {nginx} -e {folder}/error.log -c {folder}/nginx.conf "$@"'
+        write(os.path.join(folder, "bin", "nginx"), f"#!/bin/sh\n{line}\n", 0o755)
+        values = {"folder": folder, "port": self.port, "secure": self.secure, "digest": "0" * 64}
+        user = "user root;" if os.geteuid() == 0 else ""
+        write(os.path.join(folder, "nginx.conf"), LOADED_NGINX.format(user=user, **values))
+        write(os.path.join(folder, "pages", "index.html"), "a page")
+        for name in ("moment", "haproxy.cfg"):
+            write(os.path.join(folder, name), "")
+        write(os.path.join(folder, "haproxy.state"), "inactive")
+        self.certify()
+        subprocess.run([os.path.join(folder, "bin", "nginx")], check=True, timeout=30)
+
+    def certify(self) -> None:
+        clients.certify(os.path.join(self.folder, "cert.pem"), os.path.join(self.folder, "key.pem"))
+
+    def own_line(self, text: str) -> None:
+        write(os.path.join(self.folder, "site.d", "own.conf"), text)
+
+    def load(self) -> tuple[int, str, str]:
+        path = f"{self.folder}/bin:{os.environ['PATH']}"
+        done = subprocess.run(
+            [sys.executable, "-c", LOADING, DEPLOY, self.folder, str(self.port)],
+            capture_output=True,
+            text=True,
+            timeout=60,
+            env=os.environ | {"PATH": path},
+            check=False,
+        )
+        return done.returncode, done.stdout, done.stderr
+
+    def asked(self, address: str) -> int:
+        """The status of the page for a client with this address."""
+        connection = http.client.HTTPConnection("127.0.0.1", self.port, timeout=30, source_address=(address, 0))
+        try:
+            connection.request("GET", "/")
+            return connection.getresponse().status
+        finally:
+            connection.close()
+
+    def certificate(self) -> str:
+        """The certificate that is given out."""
+        return ssl.get_server_certificate(("127.0.0.1", self.secure))
+
+    def end(self) -> None:
+        # `nginx -s stop` would first read what was broken.
+        os.kill(int(content(os.path.join(self.folder, "pid"))), signal.SIGTERM)
+
+
+@pytest.fixture
+def loaded(folder: str) -> Iterator[Loaded]:
+    if not shutil.which("nginx", path=os.environ["PATH"] + ":/usr/sbin") or not shutil.which("openssl"):
+        pytest.skip("nginx or openssl is not installed")
+    place = Loaded(os.path.join(folder, "loaded"))
+    yield place
+    place.end()
+    shutil.rmtree(place.folder)
+
+
+def test_own_lines(loaded: Loaded) -> None:
+    """nginx loads the club's own lines if they have changed. What it refuses is said, each time, also what it refuses
+    only while it runs."""
+    same("the first time", loaded.load(), (0, AGAIN, ""))
+    same("nothing has changed", loaded.load(), (0, "", ""))
+    same("nobody is barred", loaded.asked("127.0.0.9"), 200)
+    loaded.own_line("deny 127.0.0.9;")
+    same("an own line", loaded.load(), (0, AGAIN, ""))
+    same("somebody is barred", (loaded.asked("127.0.0.9"), loaded.asked("127.0.0.8")), (403, 200))
+    same("once", loaded.load(), (0, "", ""))
+    loaded.own_line("denny 127.0.0.9;")
+    for turn in ("a broken line", "a broken line that stays"):
+        status, out, err = loaded.load()
+        check(
+            f"{turn}: {err}",
+            (status, out) == (1, "")
+            and err.startswith('nginx was not reloaded, since it refuses its files: unknown directive "denny" in /')
+            and err.endswith("own.conf:1\n"),
+        )
+    with socket.socket() as other:
+        other.bind(("127.0.0.1", 0))
+        other.listen()
+        loaded.own_line(f"deny 127.0.0.8; listen 127.0.0.1:{other.getsockname()[1]};")
+        for turn in ("a port that is taken", "a port that stays taken"):
+            status, out, err = loaded.load()
+            check(f"{turn}: {err}", (status, out) == (1, AGAIN) and err.startswith("nginx keeps the old site"))
+    same("the old lines count", (loaded.asked("127.0.0.9"), loaded.asked("127.0.0.8")), (403, 200))
+    loaded.own_line("deny 127.0.0.9;")
+    same("the lines of before", loaded.load(), (0, AGAIN, ""))
+    write(os.path.join(loaded.folder, "moment"), "somebody else has had nginx load its files")
+    same("after another load", [loaded.load()[1], loaded.load()[1]], [AGAIN, ""])
+
+
+def test_renewed_certificate(loaded: Loaded) -> None:
+    """A renewed certificate is loaded. One that does not fit its key is refused, with nginx's words."""
+    loaded.load()
+    first = loaded.certificate()
+    loaded.certify()
+    same("a renewed certificate", loaded.load(), (0, AGAIN, ""))
+    second = loaded.certificate()
+    check("it is given out", second != first)
+    with open(os.path.join(loaded.folder, "key.pem"), encoding="ascii") as file:
+        key = file.read()
+    loaded.certify()
+    write(os.path.join(loaded.folder, "key.pem"), key)
+    status, out, err = loaded.load()
+    check(f"a key that does not fit: {err}", (status, out) == (1, "") and "key values mismatch" in err)
+    same("the second one is given out", loaded.certificate(), second)
+
+
+def test_failed_proxy(loaded: Loaded) -> None:
+    """HAProxy is started with a new configuration if it has failed with the old one, and not if it was stopped."""
+    loaded.load()
+    for state, wanted in (
+        ("inactive", ""),
+        ("failed", "systemctl reset-failed life-gateway.service\nsystemctl reload-or-restart life-gateway.service\n"),
+        ("active", ""),
+    ):
+        write(os.path.join(loaded.folder, "haproxy.state"), state)
+        same(f"HAProxy is {state}", loaded.load(), (0, wanted, ""))
+        os.utime(os.path.join(loaded.folder, "haproxy.cfg"), (time.time() - 9, time.time() - 9))

@@ -1,25 +1,31 @@
 """Reports problems of a club's archive. Run by life-age.timer, as the user of the archive.
 
-    life-age [--state FOLDER] [--root FOLDER] ARCHIVE COPIES AGE
+    life-age [--state FOLDER] [--port PORT] [--root FOLDER] ARCHIVE COPIES AGE
+    life-age --certificate FILE
 
 The status is 1, with a line on standard error, as long as one of these holds: the folder COPIES has no copy younger
 than AGE (such as 2h); the archive's file is not the one that the service has open; the service, its gateway or nginx is
-enabled, but has not been active for ten minutes; the disk of the archive is nearly full. If there is no copy at all,
-the last change of COPIES counts. The folder --state records since when a unit has not been active. --root replaces /.
+enabled, but has not been active for ten minutes; for that long nothing has listened at PORT, the service's port; the
+disk of the archive is nearly full; the archive has nine tenths of the rows that it may have. If there is no copy at
+all, the last change of COPIES counts. The folder --state records since when a unit has not been active. --root replaces
+/. The second form, for root, checks a certificate: two weeks before it expires the status is 1.
 """
 import argparse
 import datetime
 import errno
 import fcntl
 import os
+import pathlib
+import re
 import shutil
 import struct
+import subprocess
 import sys
 import time
 from collections.abc import Iterator
 
 from life_operate import settings as life_settings
-from life_operate.archive import LOCK_LENGTH, LOCK_START, STAMP, Copies, line_of
+from life_operate.archive import LOCK_LENGTH, LOCK_START, STAMP, TABLES, Copies, Database, Refused, line_of
 
 UTC = datetime.timezone.utc
 # A flock of Linux on 64 bits: type, whence, start, length, process.
@@ -28,10 +34,14 @@ FLOCK = "hhqqi4x"
 SERVICES = ("life.service", "life-gateway.service", "nginx.service")
 WANTED_BY = "etc/systemd/system/multi-user.target.wants"
 GROUPS = "sys/fs/cgroup/system.slice"
-# A unit may be stopped on purpose for this many seconds.
-AWAY_SECONDS = 600
+# A unit may be stopped on purpose from one check to the next, ten minutes later. A timer is up to a minute late.
+AWAY_SECONDS = 500
 # A disk is nearly full if it has fewer bytes left than this, or than a tenth of the archive.
 LEAST_ROOM = 64 << 20
+# How many rows an archive may have of each table: CAPACITY in docs/limits.csv.
+CAPACITY = 1_000_000
+# How many seconds before the end of a certificate there is an alarm: two weeks.
+EXPIRES_WITHIN = 14 * 86400
 # How often, and how many seconds apart, to check a file that nobody has open: the service may just be starting.
 LOOKS, PAUSE = 5, 1.0
 
@@ -63,6 +73,20 @@ def age_of(archive: str, folder: str, age: str) -> tuple[str, str]:
     return f"no good copy for {age}: {words}", ""
 
 
+def nearly_full(archive: str, folder: str) -> Iterator[str]:
+    """The tables that are nearly full, by the newest copy. If it can't be read, life-copy and life-sound say so."""
+    try:
+        copies = Copies(archive, folder)
+        path = copies.path(copies.past()[0])
+        copy = Database(path, pathlib.Path(path).as_uri() + "?mode=ro&immutable=1")
+        rows = {table: copy.first_row(f"SELECT coalesce(max(id), 0) FROM {table}")[0] for table in TABLES}
+    except (OSError, IndexError, Refused):
+        return
+    for table, count in rows.items():
+        if count >= CAPACITY * 9 // 10:
+            yield f"{archive} is nearly full: it has {count:,} of at most {CAPACITY:,} {table}"
+
+
 # ---- the service
 
 
@@ -77,6 +101,23 @@ def is_open(path: str) -> bool:
 def is_active(root: str, unit: str) -> bool:
     """Whether a unit has processes, by its control group."""
     return os.path.exists(os.path.join(root, GROUPS, unit))
+
+
+def listens(root: str, port: int) -> bool:
+    """Whether a program listens at a port of 127.0.0.1. A test connection would hold up others for a second, so this
+    reads the system's table of ports."""
+    with open(os.path.join(root, "proc/self/net/tcp"), encoding="ascii") as file:
+        return any(words[1:4:2] == [f"0100007F:{port:04X}", "0A"] for words in map(str.split, file))
+
+
+def lack_of(root: str, unit: str, port: int | None) -> str:
+    """Why an enabled unit does not do its work now, if so. While the archive can't be opened, its unit has a process
+    most of the time, but never listens."""
+    if not is_active(root, unit):
+        return f"{unit} is enabled but not running"
+    if unit == "life.service" and port and not listens(root, port):
+        return f"{unit} runs, but does not serve: nothing listens at port {port}"
+    return ""
 
 
 def served(root: str, archive: str) -> str:
@@ -99,12 +140,12 @@ def served(root: str, archive: str) -> str:
     )
 
 
-def away(root: str, state: str) -> Iterator[str]:
-    """The services that are enabled but have not been active for a while. A file for each records when that was first
-    seen."""
+def away(root: str, state: str, port: int | None) -> Iterator[str]:
+    """The services that are enabled but have not done their work for a while. A file for each records when that was
+    first seen."""
     for unit in SERVICES:
-        seen = os.path.join(state, unit)
-        if is_active(root, unit) or not os.path.lexists(os.path.join(root, WANTED_BY, unit)):
+        seen, lack = os.path.join(state, unit), lack_of(root, unit, port)
+        if not lack or not os.path.lexists(os.path.join(root, WANTED_BY, unit)):
             if os.path.exists(seen):
                 os.remove(seen)
             continue
@@ -112,7 +153,7 @@ def away(root: str, state: str) -> Iterator[str]:
             with open(seen, "w", encoding="ascii"):
                 pass
         if time.time() - os.path.getmtime(seen) >= AWAY_SECONDS:
-            yield f"{unit} is enabled but not running"
+            yield lack
 
 
 def room(archive: str) -> str:
@@ -122,26 +163,53 @@ def room(archive: str) -> str:
     return f"{os.path.dirname(archive)} has only {free >> 20} MiB left" if free < max(LEAST_ROOM, size // 10) else ""
 
 
+# ---- the certificate
+
+
+def expiring(certificate: str) -> str:
+    """The problem with a certificate, if there is one. In a file with a chain the first one is the server's."""
+    words = ["openssl", "x509", "-in", certificate, "-noout", "-enddate", "-checkend", str(EXPIRES_WITHIN)]
+    done = subprocess.run(
+        words, stdin=subprocess.DEVNULL, capture_output=True, text=True, errors="replace", check=False
+    )
+    if done.returncode == 0:
+        return ""
+    end = re.search(r"notAfter=(.+)", done.stdout)
+    return f"{certificate} expires on {end[1]}" if end else f"{certificate} can't be read as a certificate"
+
+
+# ---- all of it
+
+
 def faults_of(words: argparse.Namespace) -> tuple[list[str], str]:
     """All problems, and the line to print if there are none."""
+    if words.certificate and not shutil.which("openssl"):
+        return [], f"{words.certificate} was not checked: openssl is not installed"
+    if words.certificate:
+        return [fault for fault in [expiring(words.certificate)] if fault], f"{words.certificate} is valid"
     archive, folder = os.path.realpath(words.archive), os.path.realpath(words.copies)
     fault, well = age_of(archive, folder, words.age)
     faults = [
         fault,
         served(words.root, archive),
-        *(away(words.root, words.state) if words.state else []),
+        *(away(words.root, words.state, words.port) if words.state else []),
         room(archive),
+        *nearly_full(archive, folder),
     ]
     return [fault for fault in faults if fault], well
 
 
 def main() -> None:
     parser = argparse.ArgumentParser(description=__doc__, formatter_class=argparse.RawDescriptionHelpFormatter)
+    parser.add_argument("--certificate", metavar="FILE")
     parser.add_argument("--state", metavar="FOLDER")
+    parser.add_argument("--port", metavar="PORT", type=int)
     parser.add_argument("--root", default="/", metavar="FOLDER")
     for name in ("archive", "copies", "age"):
-        parser.add_argument(name, metavar=name.upper())
+        parser.add_argument(name, metavar=name.upper(), nargs="?")
     words = parser.parse_args()
+    if (words.age is None) == (words.certificate is None):
+        parser.error("an archive, its copies and an age, or a certificate")
     try:
         faults, well = faults_of(words)
     except OSError as fault:

@@ -5,9 +5,9 @@
 
 The first form is for a unit that has failed: it writes a line into the journal, at priority crit, and sends mail if
 there is a sendmail that accepts it. A file in /run/life-alarm lists the reasons: if the unit fails again for one of
-them before it has worked, no mail is sent, and the line has priority err. The second form is for a unit that has done
-its work: if an alarm was sent, it says that it is over. The default of ADDRESS is in the settings. The environment may
-name another sendmail (SENDMAIL) and another folder (LIFE_ALARMS).
+them before it has worked, and within a day, no mail is sent, and the line has priority err. The second form is for a
+unit that has done its work: if an alarm was sent, it says that it is over. The default of ADDRESS is in the settings.
+The environment may name another sendmail (SENDMAIL) and another folder (LIFE_ALARMS).
 """
 import argparse
 import os
@@ -15,12 +15,16 @@ import platform
 import re
 import subprocess
 import sys
+import time
 
 from life_operate.settings import USUAL, end_if_unusable
 
 # How far back to look for a unit's last line.
 SAID_WITHIN = "-2min"
 SIGNALED = {"signal", "core-dump"}
+# A reason that has not come for this many seconds is a new one. Some last for months, such as an archive that is nearly
+# full, and others come and go meanwhile.
+FORGOTTEN_AFTER = 86400
 
 
 def output_of(*words: str) -> list[str]:
@@ -89,16 +93,19 @@ def told_of(unit: str) -> str:
 
 
 def is_new(unit: str, reason: str) -> bool:
-    """Whether this reason is new since the unit last worked, numbers aside. It is recorded as sent."""
+    """Whether this reason, numbers aside, is new since the unit last worked, or has not come for a day. It is recorded
+    as sent, with its time."""
     told = told_of(unit)
     os.makedirs(os.path.dirname(told), exist_ok=True)
     with open(told, "a+", encoding="utf-8") as file:
         file.seek(0)
-        line = re.sub(r"[0-9][0-9,.:T-]*", "0", reason) + "\n"
-        if line in file.readlines():
-            return False
-        file.write(line)
-    return True
+        seen = {line[2]: int(line[1]) for line in re.finditer(r"(?m)^([0-9]+) (.*)$", file.read())}
+        line, now = re.sub(r"[0-9][0-9,.:T-]*", "0", reason), int(time.time())
+        new = seen.get(line, 0) < now - FORGOTTEN_AFTER
+        seen[line] = now
+        file.truncate(0)
+        file.writelines(f"{moment} {reason}\n" for reason, moment in seen.items())
+    return new
 
 
 def begin(unit: str, address: str) -> None:

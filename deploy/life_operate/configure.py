@@ -7,26 +7,29 @@ site, HAProxy's configuration and a file for logrotate go to their places. A fil
 refuses is not kept. A file that was changed by hand stays, and the new one is put beside it as FILE.dpkg-dist; with
 --replace it is moved to FILE.dpkg-old instead.
 
-Unless --files-only is given, everything that is newer than what runs is then loaded, and nginx is asked whether it has
-accepted the site: it refuses some changes only while it runs. FOLDER replaces /.
+Unless --files-only is given, everything that is newer than what runs is then loaded. For nginx that is whatever it
+reads: the site, the club's own lines, other sites, certificates. nginx is asked whether it has accepted the site: it
+refuses some changes only while it runs. FOLDER replaces /.
+
+Each file is for everybody to read and for root to change, whatever root's umask is.
 
 A signal ends it after the current file, which is then wholly the old one or the new one; the next life-configure does
 the rest. After a kill it first puts back what nginx, HAProxy or logrotate had not yet accepted.
 """
 import argparse
 import contextlib
-import fcntl
 import hashlib
 import os
 import re
 import shutil
+import stat
 import subprocess
 import sys
 from collections.abc import Callable
 
 from life_operate import settings as life_settings
 from life_operate.archive import Refused
-from life_operate.exchange import folder_lock
+from life_operate.exchange import own_lock
 from life_operate.loading import load
 from life_operate.settings import Wrong
 from life_operate.signals import Interrupted, Signals, end_by
@@ -37,7 +40,10 @@ MARK = "# Made by life-configure from /etc/life/settings"
 MARKED = re.compile(re.escape(MARK) + r"(?:, digest ([0-9a-f]{64}))?\.\n")
 # A file that is being written, and what was there until its program has taken the new one. logrotate passes over both.
 NEW, BEFORE = ".dpkg-new", ".dpkg-tmp"
-# How long it waits for another life-configure, in seconds.
+# HAProxy's user reads its file, and users who may change a unit could become root.
+MODE = 0o644
+# Only one life-configure works at a time. How long it waits for another one, in seconds.
+LOCK = "run/life-configure.lock"
 WITHIN = 120
 PLACES = {
     "life-site.conf": "etc/nginx/sites-available/life",
@@ -58,9 +64,18 @@ def content(path: str) -> str | None:
         return file.read()
 
 
+def is_as_written(path: str, text: str | None) -> bool:
+    """Whether a file has this text, and the mode and the owner that `write` gives it; without a text, whether there is
+    no file."""
+    if content(path) != text:
+        return False
+    state = os.stat(path) if text is not None else None
+    return not state or (stat.S_IMODE(state.st_mode), state.st_uid, state.st_gid) == (MODE, os.geteuid(), os.getegid())
+
+
 def write(path: str, text: str | None) -> bool:
     """Writes a file, or removes it if there is no text; returns whether that changed it."""
-    if content(path) == text:
+    if is_as_written(path, text):
         return False
     if text is None:
         os.remove(path)
@@ -68,6 +83,8 @@ def write(path: str, text: str | None) -> bool:
     os.makedirs(os.path.dirname(path), exist_ok=True)
     try:
         with open(path + NEW, "w", encoding="utf-8", errors="surrogateescape") as file:
+            os.fchown(file.fileno(), os.geteuid(), os.getegid())
+            os.fchmod(file.fileno(), MODE)
             file.write(text)
         os.replace(path + NEW, path)
     finally:
@@ -137,7 +154,7 @@ def put_checked(root: str, name: str, text: str, replace: bool) -> bool:
     """Writes a file that its program, if installed, has to accept; otherwise the old file stays. Returns whether
     something changed."""
     path = os.path.join(root, PLACES[name])
-    if stays(path, marked(text), replace) or content(path) == marked(text):
+    if stays(path, marked(text), replace) or is_as_written(path, marked(text)):
         return False
     # With --root, the files are not those that the programs of this machine read.
     if root != "/" or not shutil.which(CHECKS[name][0]):
@@ -167,11 +184,13 @@ def put_all(root: str, settings: dict[str, str], replace: bool, signals: Signals
 
 
 def judge(settings: dict[str, str], files_only: bool) -> None:
-    """Ends if passwords would travel unencrypted or could not be read. An upgrade, which only writes files, reports
-    that and continues. Times that don't fit together are only reported, since those of release 1.0.0 don't fit."""
+    """Ends if passwords would travel unencrypted, or if nginx can't read them or everybody can. An upgrade, which only
+    writes files, reports that and continues. If everybody can read the passwords, it loads the files too: that was so
+    before. Times that don't fit together are only reported, since those of release 1.0.0 don't fit."""
     judges: list[tuple[Callable[[dict[str, str]], None], bool]] = [
         (life_settings.judge_passwords, True),
         (life_settings.judge_reader, True),
+        (life_settings.judge_secrecy, "DPKG_MAINTSCRIPT_NAME" not in os.environ),
         (life_settings.judge_times, False),
     ]
     for judged, is_firm in judges:
@@ -200,12 +219,14 @@ def main() -> None:
     parser.add_argument("--replace", action="store_true")
     parser.add_argument("--root", default="/", metavar="FOLDER")
     words = parser.parse_args()
+    # For folders.
+    os.umask(0o022)
     path = os.path.join(words.root, life_settings.USUAL.lstrip("/"))
     settings = life_settings.end_if_wrong("life-configure", path)
     judge(settings, words.files_only)
     try:
         signals = Signals()
-        with folder_lock(os.path.dirname(path), fcntl.LOCK_EX, WITHIN, "another life-configure is at work"):
+        with own_lock(os.path.join(words.root, LOCK), WITHIN, "another life-configure is at work"):
             configure(words, settings, signals)
     except (OSError, Refused, Wrong) as fault:
         sys.exit(f"life-configure: {fault}")

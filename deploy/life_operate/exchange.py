@@ -42,10 +42,22 @@ def say(line: str) -> None:
 # ---- locks and rooms
 
 
+def folder_lock(folder: str, kind: int, within: float, refusal: str) -> contextlib.AbstractContextManager[None]:
+    """A lock on a folder itself: it leaves no file, and ends with the process. Whoever can open the folder can hold
+    it."""
+    return descriptor_lock(os.open(folder, os.O_RDONLY | os.O_DIRECTORY), kind, within, refusal)
+
+
+def own_lock(path: str, within: float, refusal: str) -> contextlib.AbstractContextManager[None]:
+    """A lock on a file that no other user can open. The file stays."""
+    os.makedirs(os.path.dirname(path), exist_ok=True)
+    number = os.open(path, os.O_RDWR | os.O_CREAT | os.O_NOFOLLOW, 0o600)
+    return descriptor_lock(number, fcntl.LOCK_EX, within, refusal)
+
+
 @contextlib.contextmanager
-def folder_lock(folder: str, kind: int, within: float, refusal: str) -> Iterator[None]:
-    """A lock on a folder itself: it leaves no file, and ends with the process."""
-    number = os.open(folder, os.O_RDONLY | os.O_DIRECTORY)
+def descriptor_lock(number: int, kind: int, within: float, refusal: str) -> Iterator[None]:
+    """A lock on an open file or folder, which is closed at the end."""
     try:
         end, said = time.monotonic() + within, False
         while True:

@@ -25,6 +25,7 @@ If the copy is damaged or not an archive, all files stay as they are. If the ind
 error says why, and the status is 1.
 """
 import argparse
+import contextlib
 import datetime
 import fcntl
 import hashlib
@@ -42,6 +43,7 @@ from typing import Any
 from xml.sax.saxutils import escape
 
 from life_operate.archive import Copies, Refused, sync
+from life_operate.exchange import folder_lock
 
 VERSION = 1
 BLOCK = 1000
@@ -54,6 +56,8 @@ NAMES_FILE = re.compile(r"names-[0-9]+\.txt")
 BLOCK_NAME = re.compile(r"(deposits|censuses|objects|comments)-[0-9]+-([0-9a-f]{16})\.json")
 # Blocks that are no longer listed stay for this many seconds: a browser may still have the list that names them.
 STAYS = 3600
+# How many seconds a run waits for another one.
+LOCKED_WITHIN = 600
 # The texts and the header of a canonical pattern file. Its texts have at most 13,500 bytes (docs/FORMATS.md).
 BEGIN_OF_FILE = 14_000
 TEXTS = re.compile(rb"(?:#N (.+)\n)?(?:#O (.+)\n)?((?:#C.*\n)*)x = ([0-9]+), y = ([0-9]+), rule = (.+)\n")
@@ -211,9 +215,10 @@ class Folder:
     def __init__(self, path: str) -> None:
         self.path = path
         os.makedirs(path, exist_ok=True)
-        # Two runs at the same time would remove each other's blocks. The lock ends with the program.
-        self.lock = os.open(path, os.O_RDONLY)
-        fcntl.flock(self.lock, fcntl.LOCK_EX)
+        # Two runs at the same time would remove each other's blocks. The lock ends with the program. Any user of the
+        # machine can hold it, so the wait has an end.
+        self.lock = contextlib.ExitStack()
+        self.lock.enter_context(folder_lock(path, fcntl.LOCK_EX, LOCKED_WITHIN, f"another program has locked {path}"))
         self.head = self.read_head()
 
     def read_head(self) -> dict[str, Any]:

@@ -1,4 +1,5 @@
 """Has systemd, HAProxy and nginx load what is newer than what runs, and checks that nginx accepted it."""
+import hashlib
 import http.client
 import os
 import re
@@ -21,6 +22,12 @@ HAPROXY = "/etc/life/haproxy.cfg"
 # When HAProxy last read its configuration. It is gone after a start of the machine, at which HAProxy reads it anyway.
 HAPROXY_READ = "/run/life-gateway.read"
 ENABLED_SITE = "/etc/nginx/sites-enabled/life"
+# What nginx read when life-configure last had it load its files: their digest, and what systemd says of that moment. If
+# somebody else reloads or restarts nginx, the moment is another one, and nginx loads them once more.
+NGINX_READ = "/run/life-nginx.read"
+NGINX_MOMENT = "MainPID,StateChangeTimestampMonotonic"
+# The files that nginx reads and `nginx -T` does not print: certificates, keys and the like.
+TLS_FILE = re.compile(rb"(?m)^\s*ssl_[a-z_]+\s+\"?([^;\"\s]+)\"?\s*;")
 DIGEST_ROUTE = "/.life-configured"
 # How long nginx may take until its new workers answer, in seconds.
 TAKEN_WITHIN = 10
@@ -49,14 +56,17 @@ def load_units(changed: list[str]) -> None:
 
 
 def load_haproxy() -> None:
-    """Loads HAProxy's configuration, if it is newer than what HAProxy has read."""
-    if not os.path.exists(HAPROXY) or shown("life-gateway.service", "ActiveState") != "active":
+    """Loads HAProxy's configuration, if it is newer than what HAProxy has read. An HAProxy that failed is started."""
+    state = shown("life-gateway.service", "ActiveState")
+    if not os.path.exists(HAPROXY) or state not in ("active", "failed"):
         return
     begun = float(shown("life-gateway.service", "ActiveEnterTimestamp").lstrip("@") or 0)
     read = os.path.getmtime(HAPROXY_READ) if os.path.exists(HAPROXY_READ) else 0.0
     written = os.path.getmtime(HAPROXY)
     # systemd gives times in whole seconds here, so a file from the same second may be newer.
     if written >= max(begun, read):
+        if state == "failed":
+            systemctl("reset-failed", "life-gateway.service")
         systemctl("reload-or-restart", "life-gateway.service")
         with open(HAPROXY_READ, "w", encoding="ascii"):
             pass
@@ -104,26 +114,73 @@ def digest_in(path: str) -> str:
     return found[1] if found else ""
 
 
-def load_nginx(changed: list[str], settings: dict[str, str], site: str) -> None:
-    """Loads the site, if nginx has read another one. Some changes nginx refuses only while it runs, such as another
+def text_of(path: str) -> str:
+    """The text of a file, or nothing."""
+    try:
+        with open(path, encoding="ascii", errors="replace") as file:
+            return file.read()
+    except (FileNotFoundError, ProcessLookupError):
+        return ""
+
+
+def digest_of_files() -> str:
+    """The digest of all that nginx would read now: each file of its configuration, the club's own lines and other sites
+    too, and the files of TLS. What nginx refuses is refused, with its words."""
+    # A session of its own keeps a Ctrl-C away, which would look like a refusal.
+    done = subprocess.run(
+        ["nginx", "-T", "-q"], stdin=subprocess.DEVNULL, capture_output=True, start_new_session=True, check=False
+    )
+    if done.returncode:
+        said = done.stderr.decode(errors="replace").strip()
+        why = re.search(r"\[emerg\] (?:[0-9#]+: )?(.+)", said)
+        raise Wrong(f"nginx was not reloaded, since it refuses its files: {why[1] if why else said}")
+    digest = hashlib.sha256(done.stdout)
+    for name in TLS_FILE.findall(done.stdout):
+        path = os.path.join(b"/etc/nginx", name)
+        if os.path.isfile(path):
+            with open(path, "rb") as file:
+                digest.update(hashlib.sha256(file.read()).digest())
+    return digest.hexdigest()
+
+
+def workers() -> set[str]:
+    """The processes of nginx that accept connections. For each load its main process starts new ones, and then tells
+    the old ones to finish what they have."""
+    main = shown("nginx.service", "MainPID")
+    children = text_of(f"/proc/{main}/task/{main}/children").split()
+    return {child for child in children if "is shutting down" not in text_of(f"/proc/{child}/cmdline")}
+
+
+def load_nginx(settings: dict[str, str], site: str) -> None:
+    """Has nginx load its files, if it has read others. Some changes nginx refuses only while it runs, such as another
     cache folder; its log says so."""
-    if not os.path.exists(ENABLED_SITE) or shown("nginx.service", "ActiveState") != "active":
+    if not os.path.exists(ENABLED_SITE):
         return
-    wanted = digest_in(site)
-    if "life-site.conf" not in changed and wanted and digest_served(settings) == wanted:
+    digest = digest_of_files()
+    if shown("nginx.service", "ActiveState") != "active":
         return
+    wanted, before = digest_in(site), workers()
+
+    def is_served() -> bool:
+        return not wanted or digest_served(settings) == wanted
+
+    if text_of(NGINX_READ) == f"{digest} {shown('nginx.service', NGINX_MOMENT)}" and is_served():
+        return
+    print("nginx has to read its files again", flush=True)
     systemctl("reload", "nginx.service")
     until = time.monotonic() + TAKEN_WITHIN
-    while wanted and digest_served(settings) != wanted:
+    while workers() & before or not is_served():
         if time.monotonic() > until:
             raise Wrong(
                 "nginx keeps the old site; its error log says why. To load the new one: systemctl restart nginx.service"
             )
         time.sleep(0.2)
+    with open(NGINX_READ, "w", encoding="ascii") as file:
+        file.write(f"{digest} {shown('nginx.service', NGINX_MOMENT)}")
 
 
 def load(changed: list[str], settings: dict[str, str], site: str) -> None:
     """Loads what has changed, now or before. A stopped service stays stopped."""
     load_units(changed)
     load_haproxy()
-    load_nginx(changed, settings, site)
+    load_nginx(settings, site)

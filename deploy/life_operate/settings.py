@@ -175,10 +175,22 @@ def judge_reader(settings: dict[str, str], user: str = "www-data") -> None:
     """Refuses a members file that nginx, running as this user, can't read. Only root can check that, and only if the
     user exists."""
     path = settings["MEMBERS_FILE"]
-    if not path or os.geteuid() != 0 or subprocess.run(["id", user], capture_output=True, check=False).returncode:
-        return
-    if subprocess.run(["runuser", "-u", user, "--", "test", "-r", path], check=False).returncode:
+    if path and can_read(user, path) is False:
         raise Wrong(f"MEMBERS_FILE={path}: {user} can't read it: chown root:{user}, chmod 640")
+
+
+def judge_secrecy(settings: dict[str, str]) -> None:
+    """Refuses a members file that every user of this machine can read: hashes can be guessed."""
+    path = settings["MEMBERS_FILE"]
+    if path and can_read("nobody", path):
+        raise Wrong(f"MEMBERS_FILE={path}: every user of this machine can read it: chown root:www-data, chmod 640")
+
+
+def can_read(user: str, path: str) -> bool | None:
+    """Whether a user can read a file. None if this is not root, or there is no such user."""
+    if os.geteuid() != 0 or subprocess.run(["id", user], capture_output=True, check=False).returncode:
+        return None
+    return subprocess.run(["runuser", "-u", user, "--", "test", "-r", path], check=False).returncode == 0
 
 
 def judge(settings: dict[str, str]) -> None:

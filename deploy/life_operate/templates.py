@@ -5,6 +5,7 @@ In a template @NAME@ becomes the setting. A line that begins with @NAME?@ is kep
 text.
 """
 import hashlib
+import math
 import os
 import re
 
@@ -16,12 +17,15 @@ GATEWAY = os.path.join(TEMPLATES, "gateway")
 
 def with_derived(settings: dict[str, str]) -> dict[str, str]:
     """The settings, and what is derived from them: a second place on this machine, no HSTS without TLS, nginx's line
-    for each proxy in front of it, and the logs that Debian's logrotate file for nginx does not cover."""
+    for each proxy in front of it, the logs that Debian's logrotate file for nginx does not cover, and the seconds after
+    which a client may send its next census."""
     place, logs = settings["SECOND_PLACE"], {settings["WEB_LOG"], settings["WEB_ERRORS"]}
+    censuses, unit = settings["CENSUSES"].split("r/")
     return settings | {
         "SECOND_FOLDER": place if place.startswith("/") else "",
         "HSTS": settings["HSTS"] if settings["TLS"] == "yes" else "",
         "FRONT_LINES": " ".join(f"set_real_ip_from {one};" for one in settings["FRONT_PROXIES"].split()),
+        "CENSUS_WAIT": str(math.ceil((60 if unit == "m" else 1) / int(censuses))),
         "OWN_LOGS": " ".join(sorted(log for log in logs if not re.fullmatch(r"/var/log/nginx/[^/]+\.log", log))),
     }
 

@@ -31,6 +31,7 @@ import web_deposits
 import web_drawings
 import web_firefox
 import web_files
+import web_layout
 import web_many
 import web_members
 import web_pictures
@@ -404,7 +405,7 @@ def test_lost(gateway: Gateway, browser: Browser) -> None:
         browser.one("#send").click()
         check(
             "a lost reply is reported",
-            browser.until(lambda: "sending it again with the same token" in browser.text("form > div:first-child")),
+            browser.until(lambda: "sending it again with the same token" in browser.text("#sent")),
         )
         relay.left = 0
         check("a deposit whose reply was lost is shown", browser.at(f"/d/{before + 1}"))
@@ -413,9 +414,7 @@ def test_lost(gateway: Gateway, browser: Browser) -> None:
         browser.type("#pattern", "#N Lost again\nx = 2, y = 2\n2o$2o!")
         relay.left = 1000
         browser.one("#send").click()
-        found = browsers.until(
-            lambda: "send it again with the same token" in browser.text("form > div:first-child .refusal"), 30
-        )
+        found = browsers.until(lambda: "send it again with the same token" in browser.text("#sent .refusal"), 30)
         check("a missing reply is reported", found and browser.text("#send") == "Send again")
         relay.left = 0
         browser.one("#send").click()
@@ -567,6 +566,7 @@ PARTS: list[Callable[..., None]] = [
     *web_colors.PARTS,
     *web_pictures.PARTS,
     *web_waiting.PARTS,
+    *web_layout.PARTS,
     *web_search.PARTS,
     *web_club.PARTS,
     *web_members.PARTS,

@@ -23,7 +23,7 @@ PROGRAMS = [None, "*/*", "application/json", "text/plain, text/csv"]
 # Addresses with a page, what a preview calls them, and what their title is in a browser; and addresses without one.
 GUN = "Gosper glider gun"
 ADDRESSES = [
-    ("/", "", "Deposits"),
+    ("/", "", ""),
     ("/d", "", "Deposits"),
     ("/d/after/3", "", "Deposits"),
     ("/d/of/ann", "Deposits of ann · ", "Deposits of ann"),
@@ -32,20 +32,20 @@ ADDRESSES = [
     ("/d/4/at/30", "Deposit 4, generation 30 · ", f"{GUN}, generation 30"),
     ("/c", "", "Censuses"),
     ("/c/1", "Census 1 · ", "Census 1"),
-    ("/o/B3-S23/xq4_153", "xq4_153 · ", "xq4_153"),
+    ("/o/B3-S23/xq4_153", "xq4_153 · ", "glider (xq4_153)"),
     ("/o", "", "Objects"),
     ("/o/B3-S23", "", "Objects of B3/S23"),
     ("/about", "", "About"),
     ("/new", "", "Deposit a file"),
     ("/find", "", "Find"),
-    ("/find?text=gun", "", "Found"),
+    ("/find?text=gun", "", "gun · Found"),
     ("/haul", "", "Haul"),
     ("/D/4", "Deposit 4 · ", GUN),
     ("/d/4/", "Deposit 4 · ", GUN),
     ("/d/4//", "Deposit 4 · ", GUN),
     ("/d/4/at/30/", "Deposit 4, generation 30 · ", f"{GUN}, generation 30"),
     ("/d/", "", "Deposits"),
-    ("/o/B3-S23/xq4_153/", "xq4_153 · ", "xq4_153"),
+    ("/o/B3-S23/xq4_153/", "xq4_153 · ", "glider (xq4_153)"),
     ("/c/", "", "Censuses"),
     ("/about/", "", "About"),
 ]
@@ -311,7 +311,7 @@ def titles(_gateway: Gateway, browser: Browser, base: str, _folder: str) -> None
         browser.open(base + path)
         check(
             f"the title of {path}",
-            browser.until(lambda: browser.run("return document.title") == f"{title} · {SITE_NAME}"),
+            browser.until(lambda: browser.run("return document.title") == (f"{title} · " if title else "") + SITE_NAME),
         )
     browser.open(f"{base}/d/4")
     browser.until(lambda: browser.run("return document.getElementById('generation').value") == "0")

@@ -194,19 +194,25 @@ def boxed(gateway: Gateway, browser: Browser, base: str, folder: str) -> None:
         ("B36/S23", "/find?rule=B36%2FS23"),
         ("23/36", "/find?rule=B36%2FS23"),
         ("xq4_153 B36/S23", "/o/B36-S23/xq4_153"),
+        ("xp15", "/o?text=xp15"),
+        ("XS7_", "/o?text=xs7_"),
+        ("Period 3", "/o?kind=p&period=3"),
     ):
         sought(browser, text)
         check(f"the box with {text}", browser.at(wanted))
-    sought(browser, "loaves")
-    check(
-        "an object by its name",
-        browser.until(
-            lambda: browser.run(
-                "return [...document.querySelectorAll('#named-objects a')].map((link) => link.pathname)"
-            )
-            == ["/o/B3-S23/xs7_2596"]
-        ),
-    )
+    named = "return [...document.querySelectorAll('#named-objects a')].map((link) => link.pathname.split('/')[3])"
+    for text, code in (("loaves", "xs7_2596"), ("lwss", "xq4_6frc"), ("fishhook", "xs7_178c"), ("PD", "xp15_4r4z4r4")):
+        sought(browser, text)
+        check(
+            f"an object by the name {text}",
+            browser.at(f"/find?text={text}") and browser.until(lambda: browser.run(named)) == [code],
+        )
+    for text in ("滑翔", "كونواي", "??", "c++"):
+        sought(browser, text)
+        check(
+            f"no object by the text {text}",
+            browser.until(lambda: browser.text(".count") != "") and browser.all("#named-objects") == [],
+        )
     sought(browser, "morley")
     check("a rule by its name", browser.until(lambda: "B368/S245" in browser.text(".named")))
     sought(browser, "greene")
@@ -292,6 +298,33 @@ def objects(gateway: Gateway, browser: Browser, base: str, folder: str) -> None:
     browser.screen()
 
 
+def census_split(gateway: Gateway, browser: Browser, base: str, _folder: str) -> None:
+    """The groups of a census can be split: their objects count separately, and single objects stay."""
+    number = kept(gateway, "club-split", b"x = 21, y = 2\n2ob2o5b2ob2o5b2o$2ob2o5b2ob2o5b2o!\n")
+    names = ("x-member: ann", "x-token: club-split")
+    counted = exchanged(gateway.life_port, [message("POST", f"/deposits/{number}/censuses/0/4", b"", *names)])
+    census = json.loads(counted.partition(b"\r\n\r\n")[2])["census"]
+    browser.open(f"{base}/c/{census}")
+    rows = (
+        "return [...document.querySelectorAll('.census tbody th')].map((head) => "
+        "[head.firstChild.textContent, head.nextSibling.textContent])"
+    )
+    whole = [["xs8_rr", "2"], ["xs4_33", "1"], ["unresolved", "0"]]
+    same("groups are clusters", browser.run(rows), whole)
+    check("blocks in groups", browser.until(lambda: "4 more in groups" in browser.text(".census tbody")))
+    browser.one("#split").click()
+    same("their blocks", browser.run(rows), [["xs4_33", "5"], ["unresolved", "0"]])
+    browser.one(".census tbody a").click()
+    browser.at("/o/B3-S23/xs4_33")
+    browser.driver.back()
+    check(
+        "split for who comes back",
+        browser.until(lambda: browser.run(rows) == [["xs4_33", "5"], ["unresolved", "0"]]),
+    )
+    browser.one("#split").click()
+    same("groups again", browser.run(rows), whole)
+
+
 def scripted(gateway: Gateway, browser: Browser, base: str, _folder: str) -> None:
     """The scripts of LifeViewer in comments are not shown."""
     number = kept(
@@ -353,10 +386,17 @@ return [...document.querySelectorAll('button[aria-label]')].filter((button) => /
 
 
 def spoken(_gateway: Gateway, browser: Browser, base: str, _folder: str) -> None:
-    """Who says what is seen on a button gets that button."""
+    """Who says what is seen on a button gets that button, and buttons that do different things have different names."""
     browser.open(f"{base}/d/1")
     check("where it is back", browser.until(lambda: browser.all("#back-at")))
     same("buttons with another name than they show", browser.run(MISNAMED), [])
+    for path in ("/d", "/find"):
+        browser.open(base + path)
+        same(f"{path}: buttons with another name than they show", browser.run(MISNAMED), [])
+        names = browser.run(
+            "return [...document.querySelectorAll('main form button')].map((one) => one.ariaLabel ?? one.textContent)"
+        )
+        check(f"{path}: {names}", len(names) == len(set(names)) > 1)
 
 
 def sorts(gateway: Gateway, browser: Browser, base: str, folder: str) -> None:
@@ -370,6 +410,13 @@ def sorts(gateway: Gateway, browser: Browser, base: str, folder: str) -> None:
     browser.one("[data-column=code] button").click()
     same("a census by codes, descending", browser.run(codes), sorted(most_first, reverse=True))
     same("its last row stays", browser.text(".census tbody tr:last-child th").split("no code")[0], "unresolved")
+    browser.one(".census tbody a").click()
+    browser.at("/o/B3-S23/xs6_696")
+    browser.driver.back()
+    check(
+        "the order is kept for who comes back",
+        browser.at("/c/1") and browser.until(lambda: browser.run(codes) == sorted(most_first, reverse=True)),
+    )
     browser.one("[data-column=count] button").click()
     same("a census by counts", browser.run(codes), most_first)
     browser.open(f"{base}/c")
@@ -426,6 +473,7 @@ PARTS = [
     cited,
     boxed,
     objects,
+    census_split,
     sorts,
     spoken,
     printed,

@@ -58,7 +58,8 @@ def pasted(gateway: Gateway, browser: Browser, base: str, tokens: set[str]) -> N
     check(
         "its kind and code",
         browser.until(
-            lambda: "spaceship of period 4, moves 1 column to the right and 1 row down" in browser.text(".facts")
+            lambda: "spaceship of period 4, c/4 diagonal, moves 1 column to the right and 1 row down"
+            in browser.text(".facts")
         )
         and browser.until(lambda: "xq4_153 glider" in browser.text(".facts")),
     )
@@ -156,7 +157,7 @@ def too_long(gateway: Gateway, browser: Browser, base: str, folder: str) -> None
     browser.one("#send").click()
     check(
         "it is said again by the button",
-        browser.until(lambda: browser.text("form > div:first-child .refusal p") == usual)
+        browser.until(lambda: browser.text("#sent .refusal p") == usual)
         and browser.driver.current_url.endswith("/new"),
     )
     same("no file that is too long is sent", told(gateway, "/deposits/after/0"), before)
@@ -177,7 +178,7 @@ def faults(browser: Browser, base: str) -> None:
         and "Line 3: 3o" in browser.text(".preview"),
     )
     browser.one("#send").click()
-    told_after = browser.until(lambda: browser.text("form > div:first-child .refusal"))
+    told_after = browser.until(lambda: browser.text("#sent .refusal"))
     check(
         "a refused file is explained",
         "Add it at the end" in told_after
@@ -185,10 +186,10 @@ def faults(browser: Browser, base: str) -> None:
         and "no-end" in told_after
         and browser.driver.current_url.endswith("/new"),
     )
-    same("a refusal is heard", browser.one("form > div:first-child .refusal").get_attribute("role"), "alert")
+    same("a refusal is heard", browser.one("#sent .refusal").get_attribute("role"), "alert")
     browser.picture("refused")
     for rule, wanted in (
-        ("HighLife", "Write it in digits"),
+        ("LowLife", "Write it in digits"),
         ("LifeHistory", "Generations, isotropic and LifeHistory rules are not taken"),
         ("B2/S/C3", "Generations, isotropic and LifeHistory rules are not taken"),
         ("23/3/8", "Generations, isotropic and LifeHistory rules are not taken"),
@@ -204,7 +205,7 @@ def faults(browser: Browser, base: str) -> None:
     browser.one("#send").click()
     check(
         "and so is the archive's refusal",
-        browser.until(lambda: "are not taken" in browser.text("form > div:first-child .refusal")),
+        browser.until(lambda: "are not taken" in browser.text("#sent .refusal")),
     )
     # The token of another pattern.
     browser.type("#pattern", "x = 1, y = 1\no!")
@@ -213,7 +214,7 @@ def faults(browser: Browser, base: str) -> None:
     browser.one("#send").click()
     check(
         "a used token is explained",
-        browser.until(lambda: "Take another token" in browser.text("form > div:first-child .refusal")),
+        browser.until(lambda: "Take another token" in browser.text("#sent .refusal")),
     )
 
 

@@ -217,6 +217,42 @@ def too_many(gateway: Gateway, browser: Browser, base: str, folder: str) -> None
     browser.run("sessionStorage.clear()")
 
 
+def marked(_gateway: Gateway, browser: Browser, base: str, _folder: str) -> None:
+    """Marks that forums put around a pattern are left out, and a well-known rule may have its name. Both are said."""
+    glider, row = "x = 3, y = 3, rule = B3/S23\nbo$2bo$3o!\n", "x = 3, y = 1, rule = {}\n3o!\n"
+    marks, named = "The marks around the pattern are not sent.", "The rule {} is sent as {}."
+    plain = "x = 3, y = 3, rule = B3/S23\nbo$2bo$3o!\n"
+    browser.open(f"{base}/new")
+    for text, sent, notes in (
+        (f"[code]\n{glider}[/code]\n", glider, [marks]),
+        (f"[code]{glider}[/code]", glider, [marks]),
+        (f"\n```rle\n{glider}```\n", glider, [marks]),
+        ("[CODE=rle]\n.O\n..O\nOOO\n[/CODE]", plain, [marks, "Read as plaintext, and sent as RLE."]),
+        (row.format("Conway's Life"), row.format("B3/S23"), [named.format("Conway's Life", "B3/S23")]),
+        (row.format("Life"), row.format("B3/S23"), [named.format("Life", "B3/S23")]),
+        (row.format("Day & Night"), row.format("B3678/S34678"), [named.format("Day & Night", "B3678/S34678")]),
+        ("#r HighLife\nx = 3, y = 1\n3o!\n", "#r B36/S23\nx = 3, y = 1\n3o!\n", [named.format("HighLife", "B36/S23")]),
+        (
+            f"[code]\n{row.format('HighLife')}[/code]",
+            row.format("B36/S23"),
+            [marks, named.format("HighLife", "B36/S23")],
+        ),
+    ):
+        browser.type("#pattern", text)
+        check(
+            f"what is sent of {text!r}",
+            browser.until(lambda: browser.run(TOKEN) == hashlib.sha256(sent.encode()).hexdigest()),
+        )
+        same(
+            f"what is said of {text!r}",
+            browser.run("return [...document.querySelectorAll('.preview .note')].map((note) => note.textContent)"),
+            notes,
+        )
+    browser.type("#pattern", "[code]\nx = 3, y = 1\n3q!\n[/code]")
+    check("a fault has the line of the text", browser.until(lambda: "Line 3: 3q!" in browser.text(".preview .refusal")))
+    browser.run("sessionStorage.clear()")
+
+
 def nothing(_gateway: Gateway, browser: Browser, base: str, folder: str) -> None:
     """A folder without a pattern file, and a paste without a pattern, are answered by a sentence."""
     room = os.path.join(folder, "papers")
@@ -231,7 +267,12 @@ def nothing(_gateway: Gateway, browser: Browser, base: str, folder: str) -> None
     browser.open(f"{base}/new")
     browser.one("#folder").send_keys(room)
     check("a folder that is chosen", browser.until(lambda: "no pattern file" in browser.text(".nothing")))
-    for text, goes in (("Dear Ann,\nsee you at the club", False), ("!Name: Pasted\nOOO\n", True), ("bo$2bo$3o!", True)):
+    for text, goes in (
+        ("Dear Ann,\nsee you at the club", False),
+        ("!Name: Pasted\nOOO\n", True),
+        ("bo$2bo$3o!", True),
+        ("[code]bo$2bo$3o![/code]", True),
+    ):
         browser.open(f"{base}/new")
         browser.type("#pattern", text)
         browser.one("#pattern").send_keys(CONTROL, "a")
@@ -253,4 +294,4 @@ def nothing(_gateway: Gateway, browser: Browser, base: str, folder: str) -> None
     browser.run("sessionStorage.clear()")
 
 
-PARTS = [forms, other, old_text, too_many, nothing]
+PARTS = [forms, other, old_text, too_many, marked, nothing]

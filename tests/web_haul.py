@@ -155,6 +155,7 @@ def dropped(_gateway: Gateway, browser: Browser, base: str, folder: str) -> None
     """A table that is dropped is shown with drawings, names and bars, and nobody is asked for anything but the
     names."""
     check("the page of hauls", at_haul(browser, base) and browser.text("h1") == "A haul")
+    check("it says whose tables it can't read", "Tables of apgsearch" in browser.text("#haul-file-hint"))
     browser.keep_logs()
     asked = len(browser.asked)
     browser.drop([written(folder, "ann.csv", table())], "main")
@@ -266,6 +267,32 @@ def more(_gateway: Gateway, browser: Browser, base: str, folder: str) -> None:
         same(f"all of them by {head}", browser.run(shown), wanted)
 
 
+def split(_gateway: Gateway, browser: Browser, base: str, folder: str) -> None:
+    """Groups can be split: their objects count separately. That and the order are as they were when one comes back
+    from a soup."""
+    at_haul(browser, base)
+    browser.drop([written(folder, "ann.csv", table())], "main")
+    check("a table with groups", is_shown(browser, HAUL, LIFE))
+    in_groups = 4 * HAUL[TRAFFIC_LIGHT][0] + 3 * HAUL[THREE_BLINKERS][0]
+    blinkers = "return document.querySelector('a[href$=xp2_7]').closest('tr').textContent"
+    check("groups are found", browser.until(lambda: f"{in_groups:,} more in groups" in browser.run(blinkers)))
+    browser.one("#split").click()
+    browser.one("th[data-column=code] button").click()
+    counts = {code: count for code, (count, _) in HAUL.items() if code not in (None, TRAFFIC_LIGHT, THREE_BLINKERS)}
+    counts["xp2_7"] += in_groups
+    wanted = [[code, f"{counts[code]:,}"] for code in sorted(counts, key=str)]
+    shown = "return [...document.querySelectorAll('main tbody tr')].map((row) => "
+    shown += "[row.querySelector('th code').textContent, row.querySelector('.number').textContent])"
+    same("split, by code", browser.run(shown), wanted)
+    check("how many were in groups", f"{in_groups:,} of them in groups" in browser.run(blinkers))
+    browser.one("main tbody button").click()
+    check("a soup of it", browser.at("/new"))
+    browser.driver.back()
+    check("as it was before", browser.at("/haul") and browser.until(lambda: browser.run(shown) == wanted))
+    browser.one("#split").click()
+    check("groups again", [TRAFFIC_LIGHT, "611"] in browser.run(shown))
+
+
 # ---- what is refused
 
 
@@ -356,4 +383,4 @@ def is_shown_on_phone(browser: Browser, width: int) -> Any:
     )
 
 
-PARTS = [dropped, chosen, elsewhere, more, refused, on_a_phone, soup_deposited]
+PARTS = [dropped, chosen, elsewhere, more, split, refused, on_a_phone, soup_deposited]

@@ -221,15 +221,14 @@ def folders(gateway: Gateway, browser: Browser, base: str, folder: str) -> None:
         ),
     )
     check(
-        "if a file has a name, the others are not named by themselves",
-        not browser.run("return document.getElementById('many-name').checked"),
+        "the file without a name is to get its file's",
+        browser.run("return document.getElementById('many-name').checked"),
     )
     check(
         "the folder is offered as a comment, and not added by itself",
         browser.one("#many-folder").is_displayed()
         and not browser.run("return document.getElementById('many-folder').checked"),
     )
-    browser.one("#many-name").click()
     browser.one("#many-folder").click()
     browser.type("#many-author", "Cid")
     browser.one("#send-many").click()
@@ -292,6 +291,16 @@ def nameless(gateway: Gateway, browser: Browser, base: str, folder: str) -> None
     browser.run("localStorage.setItem('member', 'ann')")
 
 
+def named_in_part(_gateway: Gateway, browser: Browser, base: str, folder: str) -> None:
+    """If one file of a folder has a name and another none, the names of files are taken for those without."""
+    room = os.path.join(folder, "disk-with-a-name")
+    written(room, {"named.rle": b"#N Named\nx = 2, y = 1\n2o!\n", "plain.rle": b"#C Plain\nx = 3, y = 1\n3o!\n"})
+    browser.open(f"{base}/new")
+    browser.drop([room], ".drop")
+    browser.until(lambda: browser.text(".many .count") == "2 files: 2 to deposit.")
+    check("names are taken from files", browser.run("return document.getElementById('many-name').checked"))
+
+
 def broken_off(gateway: Gateway, browser: Browser, _base: str, folder: str) -> None:
     """If replies stay away it says so, and the same button continues; nothing is kept twice. After a reload the page
     lists what was not sent."""
@@ -347,4 +356,4 @@ def broken_off(gateway: Gateway, browser: Browser, _base: str, folder: str) -> N
         relay.end()
 
 
-PARTS = [names, dropped, folders, nameless, broken_off]
+PARTS = [names, dropped, folders, nameless, named_in_part, broken_off]

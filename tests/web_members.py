@@ -36,7 +36,7 @@ def passwords(_gateway: Gateway, browser: Browser, _base: str, folder: str) -> N
         browser.type("#pattern", "#N First\nx = 1, y = 1\no!")
         browser.type("#member", "bob")
         browser.one("#send").click()
-        check("no password", until(lambda: "checks passwords" in browser.text("form > div:first-child .refusal"), 20))
+        check("no password", until(lambda: "checks passwords" in browser.text("#sent .refusal"), 20))
         browser.open(f"{base}/new")
         same("the field is gone after a refusal", browser.run(FIELD), 0)
         check(

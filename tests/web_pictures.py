@@ -2,6 +2,7 @@
 """
 import base64
 import os
+import random
 import re
 import struct
 import subprocess
@@ -10,7 +11,7 @@ import zlib
 from typing import Any
 
 import life
-from browser import Browser
+from browser import Browser, until
 from clients import HERE, check, left_out, run, same
 from gateways import Gateway
 from pages import asked, content, kept
@@ -44,7 +45,8 @@ const { phasesOf } = await import('/sources/pages/object.js');
 const { readFile } = await import('/sources/patterns/rle.js');
 const { cellsOf } = await import('/sources/patterns/pattern.js');
 const { pattern, rule } = readFile(new TextEncoder().encode(words[0]));
-return (await phasesOf(pattern, rule, words[1], new AbortController().signal)).map((phase) => [...cellsOf(phase)]);
+const { phases } = await phasesOf(pattern, rule, words[1], new AbortController().signal);
+return phases.map((phase) => [...cellsOf(phase)]);
 """
 
 
@@ -279,6 +281,7 @@ for (let frameIndex = 0; frameIndex < frameCount; frameIndex += 1) {
       if (data[4 * (Math.floor((y + 0.5) * size) * width + Math.floor((x + 0.5) * size))] < 128)
         cells.push([x - 1, y - 1]);
   frames.push([image.duration, cells]);
+  image.close();
 }
 return [frameCount, String(repetitionCount), frames];
 """
@@ -315,6 +318,77 @@ def moving(gateway: Gateway, browser: Browser, base: str, folder: str) -> None:
     )
     numbers = [struct.unpack(">I", data[:4])[0] for kind, data in chunks(png) if kind in ("fcTL", "fdAT")]
     same("the numbers of its chunks", numbers, list(range(25)))
+
+
+def large(gateway: Gateway, browser: Browser, base: str, folder: str) -> None:
+    """An animation says how many generations have come, and can be stopped. A large SVG is saved after a question."""
+    chance = random.Random(12)
+    cells = {(x, y) for x in range(500) for y in range(500) if chance.random() < 0.35}
+    number = kept(gateway, "large", life.file_text((b"Large", None, (), life.LIFE, life.normal(cells))))
+    browser.open(f"{base}/d/{number}")
+    section = "return document.getElementById('save-moving').closest('section').textContent"
+    browser.type("#frames", "240")
+    browser.one("#save-moving").click()
+    check(
+        "it counts",
+        until(lambda: re.search(r"Requesting the generations: [1-9]\d* of 240…", browser.run(section)), 60),
+    )
+    browser.one("#stop-saving").click()
+    check(
+        "it stops",
+        browser.until(lambda: "Stopped." in browser.run(section)) and browser.one("#save-moving").is_enabled(),
+    )
+    browser.type("#frames", "20")
+    name = f"deposit-{number}-from-0.svg"
+    browser.one("#save-animation").click()
+    found = until(lambda: re.search(r"This SVG has (\d+) MB\. A PNG is usually", browser.run(section)), 60)
+    check("it is not saved yet", not os.path.exists(os.path.join(folder, DOWNLOADS, name)))
+    svg = saved(browser, folder, "#save-large", name)
+    check(
+        f"a large SVG: {found and found[0]} {len(svg)}",
+        found and len(svg) > 5_000_000 and int(found[1]) == round(len(svg) / 1e6) and svg.endswith(b"</svg>\n"),
+    )
+
+
+# The facts on a page: each term with what it is.
+FACTS = (
+    "return Object.fromEntries([...document.querySelectorAll('.facts div')].map((fact) => "
+    "[fact.querySelector('dt').textContent, fact.querySelector('dd').textContent]))"
+)
+
+
+def has_facts(browser: Browser, wanted: dict[str, str]) -> bool:
+    return bool(browser.until(lambda: browser.run(FACTS) == wanted))
+
+
+def facts(_gateway: Gateway, browser: Browser, base: str, _folder: str) -> None:
+    """An object's page has the cells of its smallest phase, which need not be the one that the code spells, and a
+    spaceship's speed; a deposit's page has the speed, too."""
+    for code, wanted in (
+        ("xs6_696", {"Kind": "still life", "Period": "1", "Cells": "6"}),
+        ("xp2_7", {"Kind": "oscillator", "Period": "2", "Cells": "3"}),
+        (
+            "xp3_co9nas0san9oczgoldlo0oldlogz1047210127401",
+            {"Kind": "oscillator", "Period": "3", "Cells": "48 in the smallest phase"},
+        ),
+        ("xq4_153", {"Kind": "spaceship", "Period": "4", "Cells": "5", "Speed": "c/4 diagonal"}),
+        (
+            "xq4_6frc",
+            {"Kind": "spaceship", "Period": "4", "Cells": "9 in the smallest phase", "Speed": "c/2 orthogonal"},
+        ),
+    ):
+        browser.open(f"{base}/o/B3-S23/{code}")
+        check(f"the facts of {code}", has_facts(browser, wanted))
+    moves = [(1, 1, 4), (-2, 0, 4), (0, 2, 5), (2, -1, 6), (0, 1, 1), (12, 6, 60)]
+    same(
+        "speeds",
+        browser.wait_for(
+            "const { speedText } = await import('/sources/patterns/pattern.js'); "
+            "return words[0].map((move) => speedText(...move));",
+            moves,
+        ),
+        ["c/4 diagonal", "c/2 orthogonal", "2c/5 orthogonal", "(2,1)c/6", "c orthogonal", "(2,1)c/10"],
+    )
 
 
 def objects(_gateway: Gateway, browser: Browser, base: str, folder: str) -> None:
@@ -375,4 +449,4 @@ def objects(_gateway: Gateway, browser: Browser, base: str, folder: str) -> None
     browser.screen()
 
 
-PARTS = [pictures, copied, animations, moving, objects]
+PARTS = [pictures, copied, animations, moving, large, facts, objects]

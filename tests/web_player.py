@@ -211,6 +211,11 @@ def controls(gateway: Gateway, browser: Browser, base: str, _folder: str) -> Non
         "plot.dispatchEvent(new MouseEvent('click', { clientX: box.left + box.width / 2, bubbles: true }))"
     )
     check("a press on the plot leads to its generation", browser.until(lambda: 1020 <= browser.run(GENERATION) <= 1028))
+    browser.type("#generation", "3000" + ENTER)
+    check(
+        "a generation beyond the last one is the last one, and the page says so",
+        browser.at(f"/d/{gun}/at/2048") and browser.until(lambda: "2,048 is the last" in browser.text(".end")),
+    )
     browser.picture("player")
     browser.screen(320, 780)
     browser.open(f"{base}/d/{gun}")

@@ -6,7 +6,7 @@ import time
 from browser import Browser, Relay
 from clients import check, same
 from gateways import Gateway
-from pages import kept
+from pages import asked, kept, listed
 
 VISIBLE = (
     "const style = getComputedStyle(document.querySelector('.page'), '::after'); "
@@ -70,6 +70,27 @@ def waiting(gateway: Gateway, browser: Browser, _base: str, _folder: str) -> Non
         )
     finally:
         relay.end()
+
+
+def rated(gateway: Gateway, browser: Browser, base: str, _folder: str) -> None:
+    """A census that the gateway refuses for its rate waits, says so, and is sent again by itself."""
+    path, names = "/deposits/1/censuses/0/4", {"x-member": "ann", "x-token": "g0-l4-d1"}
+    browser.open(f"{base}/d/1")
+    browser.type("#census-member", "ann")
+    browser.type("#census-limit", "4")
+    for _ in range(20):
+        status, body, lines = asked(gateway.port, path, "POST", b"", names)
+        if status == 429:
+            break
+    same("when it may be sent again", (status, lines["retry-after"]), (429, "5"))
+    same("other requests may come sooner", asked(gateway.port, "/deposits/1")[0], 200)
+    browser.one("#count").click()
+    check(
+        "it waits",
+        browser.until(lambda: "sent again every 5 seconds" in browser.text(".waiting"))
+        and "this one waits" in browser.text("#status"),
+    )
+    check("it is counted", browser.at("/c/2") and browser.text("h1") == "Census 2")
 
 
 def already(_gateway: Gateway, browser: Browser, base: str, _folder: str) -> None:
@@ -223,6 +244,86 @@ def kept_places(gateway: Gateway, browser: Browser, base: str, _folder: str) -> 
     browser.run("localStorage.removeItem('speed')")
 
 
+def kept_texts(_gateway: Gateway, browser: Browser, base: str, _folder: str) -> None:
+    """A name and an author that are typed for a file without them are kept with its text, until it is deposited."""
+    token = "return document.getElementById('token').value"
+    texts = "return ['text-name', 'text-author'].map((name) => document.getElementById(name)?.value)"
+    browser.open(f"{base}/new")
+    browser.type("#pattern", "x = 9, y = 1\n9o!")
+    browser.type("#text-name", "Typed")
+    browser.type("#text-author", "Ann")
+    wanted = browser.run(token)
+    browser.go("/find")
+    browser.at("/find")
+    browser.driver.back()
+    check("both are in their fields", browser.until(lambda: browser.run(texts) == ["Typed", "Ann"]))
+    same("they are sent", browser.run(token), wanted)
+    browser.type("#member", "ann")
+    browser.one("#send").click()
+    check("they are deposited", browser.until(lambda: browser.text("h1").startswith("Typed ")))
+    browser.open(f"{base}/new")
+    browser.type("#pattern", "x = 9, y = 2\n9o!")
+    same("another text has none of them", browser.run(texts), ["", ""])
+    browser.run("sessionStorage.clear()")
+
+
+def no_cells(gateway: Gateway, browser: Browser, base: str, _folder: str) -> None:
+    """Before it stores a pattern without cells, the page asks, once."""
+    last = len(listed(gateway))
+    browser.open(f"{base}/new")
+    browser.type("#pattern", "#N Nothing\nx = 0, y = 0\n!")
+    browser.type("#member", "ann")
+    browser.one("#send").click()
+    check("it asks", browser.until(lambda: "has no live cells" in browser.text("#sent")))
+    same("nothing is stored", len(listed(gateway)), last)
+    browser.one("#send").click()
+    check("it is stored by the second press", browser.at(f"/d/{last + 1}"))
+
+
+# Answers in place of an archive without deposits and without an index.
+EMPTY = """
+window.fetch = async (path) => (String(path).startsWith('/deposits/after/')
+  ? new Response('{"deposits":[]}', { status: 200 })
+  : new Response('', { status: 404 }));
+"""
+
+
+def nothing_yet(gateway: Gateway, browser: Browser, base: str, _folder: str) -> None:
+    """The first page of an empty archive has no example that leads nowhere. Without scripts, a page has links to the
+    archive's own texts."""
+    examples = "return [...document.querySelectorAll('.examples a')].map((link) => link.textContent)"
+    browser.open(f"{base}/")
+    same("examples", browser.run(examples), ["loaf", "xq4_153", "B36/S23", "#1"])
+    browser.open(f"{base}/about")
+    browser.run(EMPTY)
+    browser.go("/")
+    check("an empty archive", browser.until(lambda: "There is nothing here yet" in browser.text(".empty")))
+    same("examples of an empty archive", browser.run(examples), ["loaf", "xq4_153", "B36/S23"])
+    check("no room is kept for objects", browser.all(".frequent.coming") == [])
+    without = asked(gateway.port, "/")[1].decode().split("<noscript>")[1].split("</noscript>")[0]
+    check("links without scripts", '<a href="/deposits/1">' in without and '<a href="/deposits/after/0">' in without)
+
+
+def followed(_gateway: Gateway, browser: Browser, base: str, _folder: str) -> None:
+    """Back in a list the focus is on the card that was opened, so that the keys continue from there."""
+    focus = "return document.activeElement.pathname ?? document.activeElement.tagName"
+    browser.open(f"{base}/d/after/3")
+    same("the focus of a list at first", browser.run(focus), "H1")
+    for _ in range(5):
+        browser.press("j")
+    card = browser.run(focus)
+    browser.press("\ue007")
+    check("a card is opened", browser.at(card) and browser.run(focus) == "H1")
+    browser.driver.back()
+    check(
+        "the focus is on its card again", browser.at("/d/after/3") and browser.until(lambda: browser.run(focus) == card)
+    )
+    browser.press("j")
+    check("the next one", browser.run(focus) == f"/d/{int(card.split('/')[2]) - 1}")
+    browser.open(f"{base}/d/after/3")
+    same("a list that is opened again begins at its heading", browser.run(focus), "H1")
+
+
 # The least contrast of the border of what can be used with what is round it (WCAG 2.1, 1.4.11: 3).
 CONTRAST = """
 const channel = (part) => (part <= 0.03928 ? part / 12.92 : ((part + 0.055) / 1.055) ** 2.4);
@@ -315,4 +416,20 @@ def light(_gateway: Gateway, browser: Browser, base: str, _folder: str) -> None:
     )
 
 
-PARTS = [light, waiting, already, neighbours, capitals, last_number, kept_places, contrasts, shaded, phone]
+PARTS = [
+    light,
+    waiting,
+    rated,
+    already,
+    neighbours,
+    capitals,
+    last_number,
+    kept_places,
+    kept_texts,
+    no_cells,
+    nothing_yet,
+    followed,
+    contrasts,
+    shaded,
+    phone,
+]

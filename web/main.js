@@ -75,8 +75,9 @@ class Page {
     this.#end.abort(new DOMException('another page', 'AbortError'));
   }
 
+  /** Sets the title of the window; without a text it is that of the site alone. */
   title(text) {
-    document.title = `${text} · Life archive`;
+    document.title = text ? `${text} · Life archive` : 'Life archive';
   }
 
   say(text) {
@@ -159,8 +160,14 @@ function fillBox(path) {
   box.value = path === '/find' ? new URLSearchParams(location.search).get('text') ?? '' : '';
 }
 
+/** The link of a page by which it was left before, if there is one, and otherwise its heading. */
+const focusOf = (page, followed) => (
+  [...page.root.querySelectorAll('a')].find((link) => link.getAttribute('href') === followed)
+    ?? page.root.querySelector('h1')
+);
+
 async function show() {
-  const { scroll = 0 } = entryState();
+  const { scroll = 0, followed } = entryState();
   clearTimeout(scrolled);
   current?.end();
   const page = current = new Page();
@@ -182,7 +189,7 @@ async function show() {
   }
   if (current !== page) return;
   main.removeAttribute('aria-busy');
-  page.root.querySelector('h1')?.focus({ preventScroll: true });
+  focusOf(page, followed)?.focus({ preventScroll: true });
   scrollTo(0, scroll);
   if (scroll === 0 && location.hash) document.getElementById(location.hash.slice(1))?.scrollIntoView();
 }
@@ -332,6 +339,7 @@ document.addEventListener('click', (event) => {
     || event.ctrlKey || event.metaKey || event.shiftKey || event.altKey) return;
   if (link.origin !== location.origin || link.hasAttribute('download') || !pageOf(link.pathname)) return;
   event.preventDefault();
+  if (main.contains(link)) keepEntryState({ followed: link.getAttribute('href') });
   go(link.pathname + link.search + link.hash);
 });
 show();

@@ -13,6 +13,8 @@ const LONGEST_SIDE = 2048;
 /** The same for an animation, which forums and chats show smaller. */
 const LONGEST_MOVING = 800;
 const LARGEST_CELL = 16;
+/** From this size on, in bytes, an animated SVG is saved only after a question. */
+const LARGE = 5_000_000;
 // For how many milliseconds a frame is shown.
 const FRAME_TIME = 125;
 
@@ -96,13 +98,17 @@ function movingPng(frames, from, signal) {
   );
 }
 
-/** This many generations of a deposit, from the archive, with positions that the page computes. */
-async function framesOf(number, record, from, count, signal) {
+/**
+ * This many generations of a deposit, from the archive, with positions that the page computes. `came` gets how many
+ * have arrived.
+ */
+async function framesOf(number, record, from, count, came, signal) {
   const end = new AbortController();
   const maker = new Maker(record, GENERATION_LIMIT, /** @type {any} */ (AbortSignal).any([signal, end.signal]));
   try {
     const frames = [];
-    for (let at = from; at < from + count && at <= GENERATION_LIMIT; at += 1) {
+    for (let at = from; at < from + count; at += 1) {
+      came(at - from);
       const [{ record: { pattern } }, made] = await Promise.all([generation(number, at, signal), maker.get(at)]);
       if (!isSame(pattern, made.pattern)) throw new Refused('unknown');
       frames.push({ pattern, corner: made.corner });
@@ -118,6 +124,12 @@ export function save(content, name, type) {
   make('a', { href: url, download: name }).click();
   setTimeout(() => URL.revokeObjectURL(url), 10_000);
 }
+
+/** The question whether to save a large SVG. @param {number} size in bytes @param {() => void} act */
+const sizeQuestion = (size, act) => [
+  make('p', {}, `This SVG has ${Math.round(size / 1e6)} MB. A PNG is usually much smaller.`),
+  make('button', { type: 'button', id: 'save-large', click: act }, 'Save the SVG'),
+];
 
 /**
  * The buttons that save pictures of the generation that is seen, or of some from there on.
@@ -154,24 +166,36 @@ export function saveSection(shown, page) {
       'image/png',
     );
   });
-  /** Requests the generations, and saves what `form` makes of them. */
+  /** Requests the generations, and saves what `form` makes of them, unless it is stopped. */
   const saveMoving = async (ending, type, form) => {
     const { at, url } = shown;
-    said.replaceChildren('Requesting the generations…');
-    const frames = await framesOf(
-      number,
-      first,
-      at,
-      Math.min(Math.max(1, Math.trunc(Number(count.value)) || 1), MOST_FRAMES),
-      page.signal,
-    );
-    const origin = `Generations ${at} to ${at + frames.length - 1} of deposit ${number}, ${url}`;
-    save(
-      await form(frames, { title: first.name, origin }, page.signal),
-      `deposit-${number}-from-${at}.${ending}`,
-      type,
-    );
-    said.replaceChildren();
+    const asked = Math.min(Math.max(1, Math.trunc(Number(count.value)) || 1), MOST_FRAMES, GENERATION_LIMIT + 1 - at);
+    const stop = new AbortController();
+    const signal = /** @type {any} */ (AbortSignal).any([page.signal, stop.signal]);
+    const line = make('span');
+    const came = (many) => line.replaceChildren(`Requesting the generations: ${many} of ${asked}…`);
+    said.replaceChildren(make('p', { class: 'row' },
+      line,
+      make('button', { type: 'button', id: 'stop-saving', click: () => stop.abort() }, 'Stop'),
+    ));
+    animation.disabled = moving.disabled = true;
+    try {
+      const frames = await framesOf(number, first, at, asked, came, signal);
+      line.replaceChildren('Making the file…');
+      const origin = `Generations ${at} to ${at + frames.length - 1} of deposit ${number}, ${url}`;
+      const content = await form(frames, { title: first.name, origin }, signal);
+      const saveIt = () => {
+        said.replaceChildren();
+        save(content, `deposit-${number}-from-${at}.${ending}`, type);
+      };
+      if (ending === 'svg' && content.length > LARGE) said.replaceChildren(...sizeQuestion(content.length, saveIt));
+      else saveIt();
+    } catch (error) {
+      if (!stop.signal.aborted) throw error;
+      said.replaceChildren('Stopped.');
+    } finally {
+      animation.disabled = moving.disabled = false;
+    }
   };
   const animation = button('save-animation', 'SVG', () => saveMoving('svg', 'image/svg+xml', animationOf));
   const moving = button('save-moving', 'PNG', () => saveMoving('png', 'image/png', movingPng));

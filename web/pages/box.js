@@ -1,54 +1,23 @@
 // The search box in the head of each page: the address that its text leads to, and what it names besides deposits.
 
 import { censusAddress, depositAddress, memberAddress, objectAddress } from '../shared/address.js';
-import { objectNames, patternOf } from '../patterns/code.js';
+import { patternOf, wellKnown } from '../patterns/code.js';
 import { make } from '../shared/dom.js';
 import { thumbnail } from '../drawing/draw.js';
 import { folded } from '../requests/index.js';
 import { readRule, ruleText } from '../patterns/rule.js';
+import { ruleNamed } from '../patterns/rules.js';
 
 const CODE = /^x[spq][1-9][0-9]{0,5}_[0-9a-z]+$/;
+/** What codes begin with, and the objects of a period. Both lead to the list of objects. */
+const BEGINNING = /^x[spq][1-9][0-9]{0,5}_?$/;
+const PERIOD = /^period\s*([1-9][0-9]{0,3})$/;
 const DEPOSIT = /^(?:#|no\.?|deposit)?\s*#?\s*([0-9]{1,15})$/i;
 const CENSUS = /^(?:census|c)\s*#?\s*([0-9]{1,15})$/i;
 /** A rule as it is written in searches: with a digit or a slash, since "bs" is a word. */
 const RULE = /[0-9/]/;
 const SIDE = 48;
 const MOST_OBJECTS = 8;
-
-/** Well-known rules by their names (LifeWiki, List of Life-like rules). */
-const RULES = new Map(Object.entries({
-  life: 'B3/S23',
-  'conway’s life': 'B3/S23',
-  highlife: 'B36/S23',
-  'day & night': 'B3678/S34678',
-  'day and night': 'B3678/S34678',
-  seeds: 'B2/S',
-  morley: 'B368/S245',
-  move: 'B368/S245',
-  replicator: 'B1357/S1357',
-  '2x2': 'B36/S125',
-  '34 life': 'B34/S34',
-  diamoeba: 'B35678/S5678',
-  anneal: 'B4678/S35678',
-  maze: 'B3/S12345',
-  mazectric: 'B3/S1234',
-  coral: 'B3/S45678',
-  'life without death': 'B3/S012345678',
-  flakes: 'B3/S012345678',
-  drylife: 'B37/S23',
-  'pedestrian life': 'B38/S23',
-  flock: 'B3/S12',
-  amoeba: 'B357/S1358',
-  'long life': 'B345/S5',
-  gnarl: 'B1/S1',
-  stains: 'B3678/S235678',
-  'walled cities': 'B45678/S2345',
-  serviettes: 'B234/S',
-  'live free or die': 'B2/S0',
-  'pseudo life': 'B357/S238',
-  assimilation: 'B345/S4567',
-  coagulations: 'B378/S235678',
-}));
 
 /** The canonical text of a rule; nothing if the text is not a rule. */
 function ruleOf(text) {
@@ -58,7 +27,7 @@ function ruleOf(text) {
 
 /**
  * The address that a text leads to: an object by its code, a deposit or a census by its number, the deposits of a rule,
- * or a search.
+ * the objects whose codes begin so or that have a period, or a search.
  * @param {string} given
  */
 export function addressOf(given) {
@@ -71,6 +40,10 @@ export function addressOf(given) {
   if (deposit) return depositAddress(Number(deposit));
   if (census) return censusAddress(Number(census));
   if (ruleOf(text)) return `/find?${new URLSearchParams({ rule: ruleOf(text) })}`;
+  const objects = text.toLowerCase();
+  if (BEGINNING.test(objects)) return `/o?${new URLSearchParams({ text: objects })}`;
+  const period = PERIOD.exec(objects)?.[1];
+  if (period) return `/o?${new URLSearchParams({ kind: 'p', period })}`;
   return `/find?${new URLSearchParams({ text })}`;
 }
 
@@ -83,14 +56,17 @@ export const isSearch = (address) => address.startsWith('/find?text=');
 function fitOf(name, text) {
   if (name === text || name === text.replace(/s$/, '') || name === text.replace(/ves$/, 'f')) return 3;
   if (name.startsWith(text)) return 2;
-  return new RegExp(`(^|[^a-z0-9])${text.replace(/[^a-z0-9 ]/g, '.')}`).test(name) ? 1 : 0;
+  // A sign in the text stands for any sign in the name, so "r-pentomino" is found by "r pentomino". Names of objects
+  // have no letters of other scripts.
+  if (!/^[a-z0-9][ -~]*$/.test(text)) return 0;
+  return new RegExp(`(^|[^a-z0-9])${text.replace(/[^a-z0-9]/g, '[^a-z0-9]')}`).test(name) ? 1 : 0;
 }
 
 /** The objects of Conway's Life that have such a name, the best first. */
 async function namedObjects(text) {
   const found = [];
-  for (const [code, name] of await objectNames()) {
-    const fit = fitOf(folded(name), text);
+  for (const [name, code, also] of await wellKnown()) {
+    const fit = Math.max(fitOf(folded(name), text), also ? fitOf(folded(also), text) : 0);
     if (fit > 0) found.push({ code, name, fit });
   }
   return found.sort((one, other) => other.fit - one.fit || one.name.length - other.name.length).slice(0, MOST_OBJECTS);
@@ -120,7 +96,7 @@ export async function namedLines(given, members) {
   const text = folded(given.trim());
   if (text === '') return [];
   const objects = await namedObjects(text);
-  const rule = RULES.get(text);
+  const rule = ruleNamed(text);
   const lines = [];
   if (objects.length > 0) {
     lines.push(make('section', { class: 'named', id: 'named-objects' },

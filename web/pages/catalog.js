@@ -5,6 +5,7 @@ import { limitOf, objectNames, patternOf } from '../patterns/code.js';
 import { field, make, plural, withCommas } from '../shared/dom.js';
 import { thumbnail } from '../drawing/draw.js';
 import { indexHead, indexNote, objectsOfRule, rulesWithObjects } from '../requests/index.js';
+import { KINDS } from './object.js';
 import { groupsOf } from '../patterns/parts.js';
 import { save } from '../drawing/picture.js';
 import { Refused } from '../requests/refusals.js';
@@ -14,7 +15,6 @@ import { Heads, sorted } from '../shared/sorts.js';
 const LIFE = 'B3/S23';
 const SHOWN = 100;
 const SIDE = 48;
-const KINDS = { s: 'still life', p: 'oscillator', q: 'spaceship' };
 
 /**
  * @typedef {object} Row an object of the table

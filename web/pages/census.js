@@ -7,7 +7,8 @@ import { copyButton, make, plural, withCommas } from '../shared/dom.js';
 import { thumbnail } from '../drawing/draw.js';
 import { groupsOf } from '../patterns/parts.js';
 import { ruleText } from '../patterns/rule.js';
-import { Heads, sorted } from '../shared/sorts.js';
+import { entryState, keepEntryState } from '../shared/kept.js';
+import { Heads, keepOrder, keptOrder, sorted } from '../shared/sorts.js';
 
 const SIDE = 48;
 
@@ -18,14 +19,19 @@ function barOf(count, most, more = '') {
   return make('td', { class: 'bars' }, bar);
 }
 
+const LIFE = 'B3/S23';
+
 /**
  * What the objects of a table are called: the names of well-known ones, the parts of groups, and how often an object is
- * in groups. Groups are found after the table is shown.
+ * in groups. Groups are found after the table is shown. The window's history keeps whether they are split.
  */
 export class Labels {
   #names;
   #groups = { texts: new Map(), grouped: new Map() };
   #lines = new Map();
+  #isSplit = Boolean(entryState().isSplit);
+  /** Shows the table again; called when groups are split, or found. */
+  changed = () => {};
 
   /**
    * @param {string} rule
@@ -33,7 +39,42 @@ export class Labels {
    */
   constructor(rule, names) {
     this.rule = rule;
-    this.#names = rule === 'B3/S23' ? names : new Map();
+    this.#names = rule === LIFE ? names : new Map();
+  }
+
+  /**
+   * The rows with their counts. If groups are split, they are missing, and their objects count separately.
+   * @template {{code: string, count: number}} Row
+   * @param {Row[]} rows
+   * @returns {Row[]}
+   */
+  counted(rows) {
+    const { texts, grouped } = this.#groups;
+    return this.#isSplit
+      ? rows
+        .filter(({ code }) => !texts.has(code))
+        .map((row) => ({ ...row, count: row.count + (grouped.get(row.code) ?? 0) }))
+      : rows;
+  }
+
+  /** The choice to split groups, if there is one: parts are known only in Conway's Life. */
+  get choice() {
+    const box = make('input', {
+      id: 'split',
+      type: 'checkbox',
+      checked: this.#isSplit,
+      change: () => {
+        this.#isSplit = box.checked;
+        keepEntryState({ isSplit: box.checked });
+        this.changed();
+      },
+    });
+    return this.rule === LIFE
+      ? [make('p', { class: 'check' },
+        box,
+        make('label', { for: box.id, title: 'Count each object in a group separately' }, 'Split groups'),
+      )]
+      : [];
   }
 
   /** The line below a code, which is updated when the groups are known. */
@@ -52,7 +93,7 @@ export class Labels {
     ];
     const groups = [
       parts && `${name ? ': ' : ''}${parts}`,
-      grouped && `${name || parts ? ' · ' : ''}${withCommas(grouped)} more in groups`,
+      grouped && `${name || parts ? ' · ' : ''}${withCommas(grouped)} ${this.#isSplit ? 'of them' : 'more'} in groups`,
     ].filter(Boolean);
     this.#lines.get(code)?.replaceChildren(...[
       name ? make('span', { class: 'name' }, name) : null,
@@ -68,6 +109,7 @@ export class Labels {
   async findGroups(rows, signal) {
     this.#groups = await groupsOf(rows, this.rule, signal);
     for (const code of this.#lines.keys()) this.#fill(code);
+    if (this.#isSplit) this.changed();
   }
 }
 
@@ -113,18 +155,28 @@ const COLUMNS = [
   { id: 'count', head: 'Count', value: (row) => row.count, isNumber: true },
 ];
 
+/** The greatest count of a table. */
+export const mostOf = (rows, unresolved) => (
+  rows.reduce((most, { count }) => Math.max(most, count), Math.max(1, unresolved))
+);
+
 /** The table of the objects; the archive sorts by code, and this table by count at first. */
 function objectsTable(number, found, labels) {
-  const most = Math.max(1, found.unresolved, ...found.rows.map((row) => row.count));
-  const lines = new Map(found.rows.map((row) => [row, objectRow(row, most, labels)]));
   const body = make('tbody');
-  const last = unresolvedRow(found.unresolved, most);
-  const show = (order) => body.replaceChildren(
-    ...sorted(found.rows, COLUMNS, order).map((row) => lines.get(row)),
-    last,
-  );
-  const heads = new Heads(COLUMNS, { sort: 'count', isUp: false }, show);
-  show(heads.order);
+  let [rows, lines, last] = [[], new Map(), null];
+  const show = (order) => body.replaceChildren(...sorted(rows, COLUMNS, order).map((row) => lines.get(row)), last);
+  const heads = new Heads(COLUMNS, keptOrder({ sort: 'count', isUp: false }), (order) => {
+    keepOrder(order);
+    show(order);
+  });
+  labels.changed = () => {
+    rows = labels.counted(found.rows);
+    const most = mostOf(rows, found.unresolved);
+    lines = new Map(rows.map((row) => [row, objectRow(row, most, labels)]));
+    last = unresolvedRow(found.unresolved, most);
+    show(heads.order);
+  };
+  labels.changed();
   return make('table', { class: 'census' }, make('caption', { class: 'aside' }, `Objects of census ${number}`),
     make('thead', {}, make('tr', {}, make('td', {}), heads.cells, make('td', {}))), body);
 }
@@ -162,6 +214,7 @@ export async function censusPage(page, given) {
     ].map(([term, told]) => make('div', {}, make('dt', {}, term), make('dd', {}, told)))),
     make('p', { class: found.steady ? 'steady yes' : 'steady' }, steadyText(found)),
     countNote(),
+    ...labels.choice,
     objectsTable(number, found, labels),
     make('p', { class: 'row' },
       make('a', { class: 'button', href: `/censuses/${number}/csv`, download: `census-${number}.csv` }, 'Download CSV'),

@@ -10,7 +10,7 @@ import {
   indexedCensus,
   indexedDeposit,
 } from '../requests/index.js';
-import { Heads, sorted } from '../shared/sorts.js';
+import { Heads, keepOrder, keptOrder, sorted } from '../shared/sorts.js';
 
 /** How many lines a table shows at first, and adds with each press. */
 const LINES = 20;
@@ -51,7 +51,7 @@ async function censusTable(page, rows, caption, counts) {
   const body = make('tbody');
   const more = make('button', { type: 'button', class: 'more' });
   const columns = COLUMNS.filter(({ id }) => counts || id !== 'count');
-  let shown = rows;
+  let shown = [];
   const show = async () => {
     const [from, own] = [body.childElementCount, shown];
     const lines = await Promise.all(own.slice(from, from + LINES).map((row) => censusLine(row, counts?.get(row.id))));
@@ -63,11 +63,13 @@ async function censusTable(page, rows, caption, counts) {
     more.textContent = `Show ${withCommas(Math.min(LINES, rows.length - body.childElementCount))} more `
       + `of ${withCommas(rows.length)}`;
   };
-  const heads = new Heads(columns, { sort: 'census', isUp: false }, (order) => {
+  const heads = new Heads(columns, keptOrder({ sort: 'census', isUp: false }), (order) => {
+    keepOrder(order);
     shown = sorted(rows, columns, order, counts);
     body.replaceChildren();
     show();
   });
+  shown = sorted(rows, columns, heads.order, counts);
   more.addEventListener('click', show);
   await show();
   return [

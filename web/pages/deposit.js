@@ -24,6 +24,7 @@ import { countAll } from '../player/maker.js';
 import { learnMember, memberPart, rememberMember } from '../shared/member.js';
 import { noteOf } from '../shared/passed.js';
 import { saveSection } from '../drawing/picture.js';
+import { speedText } from '../patterns/pattern.js';
 import { Player } from '../player/player.js';
 import { Refused } from '../requests/refusals.js';
 import { ruleText } from '../patterns/rule.js';
@@ -48,7 +49,8 @@ function kindText(found, limit) {
     case 'empty': return 'empty: no cell is live';
     case 'still': return 'still life';
     case 'oscillator': return `oscillator of period ${withCommas(found.period)}`;
-    case 'ship': return `spaceship of period ${withCommas(found.period)}, moves ${across(found.dx, found.dy)}`;
+    case 'ship': return `spaceship of period ${withCommas(found.period)}, `
+      + `${speedText(found.dx, found.dy, found.period)}, moves ${across(found.dx, found.dy)}`;
     default: return `does not return within ${plural(limit, 'generation')}`;
   }
 }
@@ -123,6 +125,13 @@ function censusPart(shown, page) {
       if (!isMember(name.value)) throw new Refused('bad-member');
       rememberMember(name.value);
       page.say('Counting…');
+      const waiting = (time) => {
+        said.replaceChildren(make('p', { class: 'waiting' },
+          'Many censuses come from your address, so this one waits. '
+            + `It is sent again every ${plural(Math.ceil(time / 1000), 'second')}…`,
+        ));
+        page.say(said.textContent);
+      };
       const [at, within] = [shown.at, Math.trunc(Number(limit.value))];
       const number = await sendCensus(
         name.value,
@@ -130,6 +139,7 @@ function censusPart(shown, page) {
         shown.number,
         at,
         within,
+        waiting,
         page.signal,
       );
       go(censusAddress(number));

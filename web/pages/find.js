@@ -6,7 +6,7 @@ import { limitOf, objectNames, patternOf } from '../patterns/code.js';
 import { addLater, copyButton, field, make, plural } from '../shared/dom.js';
 import { thumbnail } from '../drawing/draw.js';
 import { indexHead } from '../requests/index.js';
-import { objectParts } from './object.js';
+import { objectFacts, objectParts } from './object.js';
 import { partsOf, partsText } from '../patterns/parts.js';
 import { rulePart, ruleOfAddress } from '../patterns/rule.js';
 import { occurrences } from './censuses.js';
@@ -18,7 +18,10 @@ function numberForm(id, label, addressOf) {
     event.preventDefault();
     go(addressOf(Math.trunc(Number(input.value))));
   };
-  return make('form', { submit }, field(label, input), make('button', {}, 'Show'));
+  return make('form', { submit },
+    field(label, input),
+    make('button', { 'aria-label': `Show the ${label.toLowerCase()}` }, 'Show'),
+  );
 }
 
 function codeForm(code = '', rule = 'B3/S23') {
@@ -46,12 +49,13 @@ function codeForm(code = '', rule = 'B3/S23') {
   return make('form', { class: 'code', submit },
     field('Code of an object', codeInput),
     field('Rule', ruleInput),
-    make('button', { class: 'main' }, 'Show'),
+    make('button', { class: 'main', 'aria-label': 'Show the object' }, 'Show'),
   );
 }
 
 export async function findPage(page, query) {
-  page.title(query ? 'Found' : 'Find');
+  const text = new URLSearchParams(query).get('text');
+  page.title([text, query ? 'Found' : 'Find'].filter(Boolean).join(' · '));
   const head = await indexHead();
   page.root.append(
     make('h1', { tabindex: -1 }, query ? 'Found' : 'Find'),
@@ -135,15 +139,21 @@ export async function codePage(page, givenRule, givenCode) {
   const name = plain === 'B3/S23' ? (await objectNames()).get(code) : null;
   const group = plain === 'B3/S23' ? await partsOf(code) : null;
   const called = [name, group ? partsText(group) : null].filter(Boolean).join(': ');
-  if (called) page.root.querySelector('h1').append(make('small', {}, ` ${called}`));
+  if (called) {
+    page.title(`${called} (${code})`);
+    page.root.querySelector('h1').append(make('small', {}, ` ${called}`));
+  }
   const url = location.origin + objectAddress(plain, code);
   const command = `life object ${plain} ${code} ${limit}`;
   const pattern = patternOf(code);
   const picture = make('div', { class: 'picture' }, thumbnail(pattern, 320, 200, `The object ${code}`));
-  const parts = make('div');
+  const parts = make('div', { class: 'object-parts' });
   const alone = make('div');
+  const period = code.startsWith('xs') ? 1 : limit;
+  const facts = objectFacts(code, period, pattern);
   page.root.append(
     picture,
+    facts.list,
     ...(group ? [groupPart(group), alone] : []),
     make('p', { class: 'total' },
       make('strong', {}, plural(count, 'time')),
@@ -170,11 +180,11 @@ export async function codePage(page, givenRule, givenCode) {
   addLater(page, parts, objectParts(
     pattern,
     code,
-    code.startsWith('xs') ? 1 : limit,
+    period,
     plain,
     picture,
     page,
-    { title: called, isGroup: group !== null },
+    { title: called, isGroup: group !== null, told: facts.told },
   ));
   if (group) addLater(page, alone, confirmedParts(group, page.signal));
   const occurs = make('div');

@@ -2,12 +2,12 @@
 // most frequent first; press a head to sort.
 
 import { go } from '../shared/address.js';
-import { Labels, countNote, objectRow, unresolvedRow } from './census.js';
+import { Labels, countNote, mostOf, objectRow, unresolvedRow } from './census.js';
 import { objectNames } from '../patterns/code.js';
 import { field, make, plural, withCommas } from '../shared/dom.js';
-import { draft, keepDraft } from '../shared/kept.js';
+import { draft, entryState, keepDraft, keepEntryState } from '../shared/kept.js';
 import { passFiles, passedFiles } from '../shared/passed.js';
-import { Heads, sorted } from '../shared/sorts.js';
+import { Heads, keepOrder, keptOrder, sorted } from '../shared/sorts.js';
 import { sumOf } from '../patterns/sum.js';
 
 /** How many objects are shown at first, and how many more by each press. Each has a drawing. */
@@ -109,12 +109,22 @@ const COLUMNS = [
   { id: 'first', head: 'First soup', isNumber: true, isUp: true, value: ({ first }) => first },
 ];
 
-/** The table of objects, which its heads sort, with a button that shows more. */
+/** The last row of the table: the clusters without a code. */
+function lastRow(haul, most) {
+  const row = unresolvedRow(haul.unresolved, most);
+  row.append(make('td'));
+  return row;
+}
+
+/**
+ * The table of objects, which its heads sort, with a button that shows more. The window's history keeps the order, and
+ * how many are shown.
+ */
 function objectsOf(haul, labels) {
-  const most = haul.objects.reduce((greatest, { count }) => Math.max(greatest, count), Math.max(1, haul.unresolved));
-  const body = make('tbody');
+  const [body, foot] = [make('tbody'), make('tfoot')];
   const more = make('button', { type: 'button' });
   let objects = [];
+  let most = 1;
   let shown = 0;
   const showUpTo = (end) => {
     body.append(...objects.slice(shown, end).map((object) => rowOf(object, most, haul, labels)));
@@ -123,25 +133,34 @@ function objectsOf(haul, labels) {
     const next = Math.min(SHOWN, objects.length - shown);
     more.textContent = `Show ${withCommas(next)} more of ${withCommas(objects.length)}`;
   };
-  const sort = (order) => {
+  const show = () => {
     const end = Math.max(shown, SHOWN);
-    objects = sorted(haul.objects, COLUMNS, order);
+    const rows = labels.counted(haul.objects);
+    most = mostOf(rows, haul.unresolved);
+    objects = sorted(rows, COLUMNS, heads.order);
+    foot.replaceChildren(lastRow(haul, most));
     body.replaceChildren();
     shown = 0;
     showUpTo(end);
   };
-  more.addEventListener('click', () => showUpTo(shown + SHOWN));
-  const heads = new Heads(COLUMNS, { sort: 'count', isUp: false }, sort);
-  sort(heads.order);
-  const last = unresolvedRow(haul.unresolved, most);
-  last.append(make('td'));
+  more.addEventListener('click', () => {
+    showUpTo(shown + SHOWN);
+    keepEntryState({ shown });
+  });
+  const heads = new Heads(COLUMNS, keptOrder({ sort: 'count', isUp: false }), (order) => {
+    keepOrder(order);
+    show();
+  });
+  labels.changed = show;
+  shown = entryState().shown ?? SHOWN;
+  show();
   const [code, count, first] = heads.cells;
   return [
     make('table', { class: 'census haul' },
       make('caption', { class: 'aside' }, 'Objects of the haul'),
       make('thead', {}, make('tr', {}, make('td'), code, count, make('td', { class: 'bars' }), first)),
       body,
-      make('tfoot', {}, last),
+      foot,
     ),
     make('p', {}, more),
   ];
@@ -165,6 +184,7 @@ function shownHaul(haul, labels) {
       make('div', {}, make('dt', {}, term), make('dd', {}, told))
     ))),
     countNote(),
+    ...labels.choice,
     ...objectsOf(haul, labels),
     make('p', { class: 'hint' },
       'This page shows the file’s table, which the archive has not checked. '
@@ -211,7 +231,8 @@ export async function haulPage(page) {
       'A table of life-haul',
       input,
       'Choose it, or drop it anywhere on the page. '
-        + 'It never leaves this computer, and this window keeps it until you close it.',
+        + 'It never leaves this computer, and this window keeps it until you close it. '
+        + 'Tables of apgsearch can’t be read here.',
     ),
     place,
   );

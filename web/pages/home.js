@@ -1,6 +1,7 @@
 // The first page: what this is, the most frequent objects, and the newest deposits.
 
 import { make } from '../shared/dom.js';
+import { indexHead } from '../requests/index.js';
 import { deposits } from './list.js';
 
 /** Examples for the search box, one of each kind, and where they lead. */
@@ -17,7 +18,7 @@ const idle = () => new Promise((resolve) => {
   else setTimeout(resolve, 200);
 });
 
-/** Adds the most frequent objects, whose files are loaded after the deposits. Without an index it adds nothing. */
+/** Adds the most frequent objects, whose files are loaded after the deposits. */
 async function addFrequent(page, place) {
   try {
     await idle();
@@ -27,13 +28,12 @@ async function addFrequent(page, place) {
   } catch {
     // The page is complete without them.
   }
-  place.classList.remove('coming');
 }
 
 /** The first page of the archive. */
 export async function homePage(page) {
   const examples = EXAMPLES.flatMap(([text, href]) => [' ', make('a', { class: 'example', href }, text)]);
-  const frequent = make('div', { class: 'frequent coming' });
+  const frequent = make('div', { class: 'frequent' });
   page.root.append(
     make('h1', { tabindex: -1 }, 'A club’s archive of Game of Life patterns'),
     make('p', { class: 'lead' },
@@ -44,6 +44,11 @@ export async function homePage(page) {
     make('p', { class: 'examples' }, 'Try the search box:', examples),
     frequent,
   );
-  await deposits(page);
-  addFrequent(page, frequent);
+  // There are objects only after a census. They have room from the beginning, so that nothing moves when they come.
+  const hasObjects = (await indexHead())?.counts.censuses > 0;
+  frequent.classList.toggle('coming', hasObjects);
+  page.signal.throwIfAborted();
+  const last = await deposits(page);
+  if (last === 0) page.root.querySelector('.examples a[href="/d/1"]').remove();
+  if (hasObjects) addFrequent(page, frequent);
 }

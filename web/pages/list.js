@@ -81,8 +81,14 @@ function forms(page, after, member) {
     else page.root.querySelector('.forms').after(refusal(new Refused('bad-member')));
   };
   return make('div', { class: 'forms' },
-    make('form', { submit: byNumber }, field('After no.', number), make('button', {}, 'Show')),
-    make('form', { submit: byMember }, field('Member', name), make('button', {}, 'Show')));
+    make('form', { submit: byNumber },
+      field('After no.', number),
+      make('button', { 'aria-label': 'Show the deposits after this number' }, 'Show'),
+    ),
+    make('form', { submit: byMember },
+      field('Member', name),
+      make('button', { 'aria-label': 'Show the deposits of this member' }, 'Show'),
+    ));
 }
 
 /** The links to older and newer deposits, which have keys. */
@@ -132,11 +138,13 @@ const nothing = () => make('p', { class: 'empty' },
   ' and be the first.',
 );
 
-/** The deposits after a number, the greatest first; without a number, the newest. */
+/**
+ * The deposits after a number, the greatest first; without a number, the newest. Returns the greatest number of all.
+ */
 export async function deposits(page, given) {
-  page.title('Deposits');
   // The first page has its own heading, and no forms.
   const isFirst = page.root.querySelector('h1') !== null;
+  page.title(isFirst ? '' : 'Deposits');
   page.root.append(isFirst ? make('h2', {}, 'Newest deposits') : make('h1', { tabindex: -1 }, 'Deposits'));
   const last = await lastDeposit(page.signal);
   const after = given === undefined ? Math.max(0, last - SHOWN) : Number(given);
@@ -149,7 +157,7 @@ export async function deposits(page, given) {
       make('a', { href: depositAddress(last) }, withCommas(last)),
       '.',
     ));
-    return;
+    return last;
   }
   const [first, end] = [rows.at(-1).id, rows[0].id];
   page.root.append(
@@ -162,6 +170,7 @@ export async function deposits(page, given) {
     ),
   );
   page.say(`${plural(rows.length, 'deposit')}, ${first} to ${end}.`);
+  return last;
 }
 
 /** The deposits after a number, list by list up to the newest one. */

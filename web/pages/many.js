@@ -306,8 +306,8 @@ export class Table {
       await row.load();
       if (this.rows !== rows || this.page.signal.aborted) return;
     }
-    // Without names, these deposits would be listed by their numbers for ever.
-    this.name.checked = this.open.every((row) => row.record.name === null);
+    // Without names, these deposits would be listed by their numbers for ever. Files that have one keep it.
+    this.name.checked = this.open.some((row) => row.record.name === null);
     this.old.hidden = !rows.some((row) => row.read?.isOld);
     this.folders.hidden = !rows.some((row) => folderOf(row.name));
     this.folder.checked = false;

@@ -41,13 +41,31 @@ class Content {
   }
 
   #textInput(id, placeholder) {
-    return make('input', {
+    const input = make('input', {
       id,
       maxlength: LONGEST_TEXT,
       autocomplete: 'off',
       placeholder,
-      input: () => this.#compose(),
+      input: () => {
+        keepDraft(id, input.value);
+        this.#compose();
+      },
     });
+    return input;
+  }
+
+  /** The name and the author that the window keeps with a text that was typed. */
+  get drafts() {
+    return Object.values(this.texts).map((input) => draft(input.id));
+  }
+
+  /** Puts them into their fields again. @param {(string | null)[]} texts */
+  restore(texts) {
+    for (const [at, input] of Object.values(this.texts).entries()) {
+      if (!input.disabled && texts[at]) input.value = texts[at];
+      keepDraft(input.id, texts[at]);
+    }
+    this.#compose();
   }
 
   /** Sets the bytes. */
@@ -81,6 +99,7 @@ class Content {
   #offer(isNew) {
     for (const [name, input] of Object.entries(this.texts)) {
       const has = this.record?.[name] ?? null;
+      if (isNew) keepDraft(input.id, null);
       if (isNew || input.disabled || has !== null) input.value = has ?? '';
       input.disabled = has !== null || !this.record;
     }
@@ -211,7 +230,7 @@ async function send(content, { input: name, typed }, said, page) {
   const last = await lastDeposit(page.signal).catch(() => 0);
   const number = await sendDeposit(name.value, content.token.value, content.bytes, waiting, page.signal);
   page.say(`Stored as deposit ${number}.`);
-  keepDraft('pattern', null);
+  for (const name of ['pattern', 'text-name', 'text-author']) keepDraft(name, null);
   keepNote(number, number > last ? 'Deposited.' : 'You had already deposited this; it keeps its number.', typed());
   go(depositAddress(number));
 }
@@ -219,11 +238,20 @@ async function send(content, { input: name, typed }, said, page) {
 /** The fields for one file, and what happens when they are sent. */
 function singlePart(content, token, page) {
   const member = memberPart('member', `Your name here: 1 to ${LONGEST_MEMBER} characters, a to z, 0 to 9 and "-".`);
-  const said = make('div');
+  const said = make('div', { id: 'sent' });
   const button = make('button', { class: 'main', id: 'send' }, 'Deposit');
+  let asked = '';
   const submit = async (event) => {
     event.preventDefault();
     said.replaceChildren();
+    // A deposit stays for good, so it asks once whether an empty one is meant.
+    if (content.record?.pattern.population === 0 && asked !== token.value) {
+      asked = token.value;
+      said.replaceChildren(make('p', { class: 'refusal', role: 'alert' },
+        'This pattern has no live cells. Press Deposit again to store it all the same.',
+      ));
+      return;
+    }
     button.disabled = true;
     try {
       await send(content, member, said, page);
@@ -237,16 +265,18 @@ function singlePart(content, token, page) {
     }
   };
   const part = make('div', {},
-    field('Name', content.texts.name, 'A name and an author are added if the file has none.'),
-    make('p', {}, content.offer),
-    field('Author', content.texts.author),
+    make('div', { class: 'texts' },
+      field('Name', content.texts.name, 'Both are added if the file has none.'),
+      field('Author', content.texts.author),
+    ),
+    content.offer,
     member.part,
+    make('p', { class: 'row' }, button, make('span', { class: 'hint' }, 'A deposit can’t be changed or deleted.')),
+    said,
     make('details', {},
       make('summary', {}, 'Token'),
       field('Token', token, 'Made of the file. Sent again under the same token, a file is kept once.'),
     ),
-    button,
-    said,
   );
   return { part, submit };
 }
@@ -282,7 +312,7 @@ export function depositForm(page) {
   page.title('Deposit a file');
   const text = make('textarea', {
     id: 'pattern',
-    rows: 10,
+    rows: 6,
     spellcheck: 'false',
     autocapitalize: 'none',
     autocomplete: 'off',
@@ -298,13 +328,15 @@ export function depositForm(page) {
   const content = new Content(text, token, make('div', { class: 'preview', 'aria-live': 'polite' }));
   const { part, submit } = singlePart(content, token, page);
   const form = make('form', { class: 'deposit', submit },
-    make('div', {}, dropPart(content, (files) => page.taken(files), page), part),
-    content.preview,
+    dropPart(content, (files) => page.taken(files), page),
+    make('div', {}, content.preview, part),
   );
   page.root.append(make('h1', { tabindex: -1 }, 'Deposit a file'), form);
   page.taken = takerOf(form, part, content, page);
   const typed = draft('pattern');
+  const texts = content.drafts;
   const passed = passedFiles();
   content.take(passed || !typed ? new Uint8Array() : new TextEncoder().encode(typed), true);
   if (passed) page.taken(passed);
+  else if (typed) content.restore(texts);
 }

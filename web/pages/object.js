@@ -1,10 +1,12 @@
-// An object's pattern: its phases, played or side by side, its text, and where else to look it up.
+// An object's pattern: its kind, cells and speed, its phases, played or side by side, its text, and where else to look
+// it up.
 
 import { objectAddress } from '../shared/address.js';
-import { copyButton, make, plural } from '../shared/dom.js';
+import { copyButton, make, plural, withCommas } from '../shared/dom.js';
 import { thumbnail } from '../drawing/draw.js';
 import { Maker } from '../player/maker.js';
 import { save } from '../drawing/picture.js';
+import { speedText } from '../patterns/pattern.js';
 import { readRule, ruleText } from '../patterns/rule.js';
 import { fileOf, withOrigin } from '../patterns/writer.js';
 
@@ -13,13 +15,51 @@ const MOST_PHASES = 60;
 /** For how many milliseconds a phase is shown. */
 const SHOWN = 250;
 
-/** The phases of a pattern, moved into one box. */
+/** What objects are called by the second letter of their code. */
+export const KINDS = { s: 'still life', p: 'oscillator', q: 'spaceship' };
+
+/**
+ * The kind, the period and the cells of an object, and a spaceship's speed. What only the phases say is added by
+ * `told`.
+ * @param {string} code
+ * @param {number} period
+ * @param {object} pattern
+ */
+export function objectFacts(code, period, pattern) {
+  const cells = make('span', {}, period === 1 ? withCommas(pattern.population) : '…');
+  const speed = make('span', {}, '…');
+  const facts = [
+    ['Kind', KINDS[code[1]]],
+    ['Period', withCommas(period)],
+    ['Cells', cells],
+    code[1] === 'q' ? ['Speed', speed] : null,
+  ].filter(Boolean);
+  const told = ({ least, isSame, moved }) => {
+    cells.replaceChildren(`${withCommas(least)}${isSame ? '' : ' in the smallest phase'}`);
+    speed.replaceChildren(speedText(moved.column, moved.row, period));
+  };
+  const list = make('dl', { class: 'facts' }, facts.map(([term, said]) => (
+    make('div', {}, make('dt', {}, term), make('dd', {}, said))
+  )));
+  return { list, told };
+}
+
+/**
+ * The first phases of a pattern, moved into one box; of all of them the least population, and whether all have it; and
+ * how far it moves in a period.
+ */
 export async function phasesOf(pattern, rule, period, signal) {
-  const maker = new Maker({ pattern, rule }, MOST_PHASES, signal);
+  const maker = new Maker({ pattern, rule }, period, signal);
   try {
     const made = [];
-    for (let at = 0; at < Math.min(period, MOST_PHASES); at += 1) made.push(await maker.get(at));
-    return boxed(made);
+    let [least, isSame] = [pattern.population, true];
+    for (let at = 0; at < period; at += 1) {
+      const phase = await maker.get(at);
+      if (at < MOST_PHASES) made.push(phase);
+      isSame &&= phase.pattern.population === pattern.population;
+      least = Math.min(least, phase.pattern.population);
+    }
+    return { phases: boxed(made), least, isSame, moved: (await maker.get(period)).corner };
   } finally {
     maker.end();
   }
@@ -96,7 +136,7 @@ export async function objectParts(
   ruleWord,
   picture,
   page,
-  { title = '', isGroup = false } = {},
+  { title = '', isGroup = false, told = (_found) => {} } = {},
 ) {
   const rule = readRule(ruleWord);
   const text = () => textOf(pattern, code, ruleText(rule), title);
@@ -106,7 +146,9 @@ export async function objectParts(
     click: () => save(text(), `${code}.rle`, 'text/plain'),
   }, 'Download');
   const copy = copyButton('Copy as RLE', text, page.say);
-  const phases = period > 1 ? await phasesOf(pattern, rule, period, page.signal) : [];
+  const found = period > 1 ? await phasesOf(pattern, rule, period, page.signal) : null;
+  if (found) told(found);
+  const phases = found?.phases ?? [];
   const play = phases.length > 1 ? playButton(picture, phases, code, page.signal) : null;
   const said = period > MOST_PHASES
     ? `The first ${MOST_PHASES} of ${plural(period, 'phase')}, computed by your browser`

@@ -55,16 +55,26 @@ export function patternOf(code) {
   return { width: Math.max(...rows.map((runs) => runs.at(-1) ?? 0)), height: rows.length, population, rows };
 }
 
+let rows = null;
 let names = null;
 
-/** The names of objects of Conway's Life by their codes. */
+/**
+ * The well-known objects of Conway's Life: of each its name, its code, and another name, which may be empty.
+ * @returns {Promise<string[][]>}
+ */
+export function wellKnown() {
+  rows ??= fetch(OBJECTS).then((reply) => (reply.ok ? reply.text() : '')).catch(() => '').then((text) => (
+    text
+      .split('\n')
+      .filter((line) => line.includes(',') && !line.startsWith('#'))
+      .slice(1)
+      .map((line) => line.split(','))
+  ));
+  return rows;
+}
+
+/** The names of objects of Conway's Life by their codes. @returns {Promise<Map<string, string>>} */
 export function objectNames() {
-  names ??= fetch(OBJECTS).then((reply) => (reply.ok ? reply.text() : '')).catch(() => '').then((text) => {
-    const lines = text.split('\n').filter((line) => line.includes(',') && !line.startsWith('#')).slice(1);
-    return new Map(lines.map((line) => {
-      const [name, code] = line.split(',');
-      return [code, name];
-    }));
-  });
+  names ??= wellKnown().then((all) => new Map(all.map(([name, code]) => [code, name])));
   return names;
 }

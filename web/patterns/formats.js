@@ -156,8 +156,25 @@ export const isOtherRule = (text) => (
     .test(text.replace(/[ \t\r]/g, '').replace(/:.*/, ''))
 );
 
-/** Whether a text can be a pattern: what is pasted on a page may be anything. @param {string} text */
-export const mayBePattern = (text) => /^\s*(#|x\s*=)/i.test(text) || readOther(text) !== null;
+/** What forums and chats put around a pattern: `[code]` and `[/code]`, or a fence of backticks. */
+const OPENING = /^\s*(?:\[(?:code|rle|viewer)[^\]\n]*\]|```[a-z]*(?=[ \t]*\r?\n))[ \t]*\r?\n?/i;
+const CLOSING = /(?:\[\/(?:code|rle|viewer)\]|```)\s*$/i;
+
+/**
+ * Where the text inside such marks begins and ends; null without them.
+ * @param {string} text
+ * @returns {[number, number] | null}
+ */
+export function insideMarks(text) {
+  const opening = OPENING.exec(text);
+  return opening && [opening[0].length, CLOSING.exec(text)?.index ?? text.length];
+}
+
+/** Whether a text can be a pattern: what is pasted on a page may be anything. @param {string} given */
+export function mayBePattern(given) {
+  const text = given.slice(...insideMarks(given) ?? []);
+  return /^\s*(#|x\s*=)/i.test(text) || readOther(text) !== null;
+}
 
 /**
  * A text whose bytes are not UTF-8, read as windows-1252, which has the letters of Latin-1; null for UTF-8.

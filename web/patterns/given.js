@@ -2,13 +2,15 @@
 // says about that.
 
 import { make } from '../shared/dom.js';
-import { isOtherRule, readOld, readOther } from './formats.js';
+import { insideMarks, isOtherRule, readOld, readOther } from './formats.js';
 import { MOST_COMMENTS } from '../shared/limits.js';
 import { Refused } from '../requests/refusals.js';
 import { Fault, readFile } from './rle.js';
+import { ruleNamed } from './rules.js';
 
-/** The number of the fault of a file without a header. */
+/** The numbers of the faults of a file without a header, and of one whose rule can't be read. */
 const NO_HEADER = 3;
+const BAD_RULE = 5;
 const encoded = (text) => new TextEncoder().encode(text);
 
 /**
@@ -37,15 +39,43 @@ function without(bytes, lines) {
   return Uint8Array.from([...parts.flat(), ...bytes.subarray(place)]);
 }
 
-/** The line that has a fault, if it can be shown. */
-function lineOf(bytes, number) {
+/** The line that has a fault, if it can be shown; `before` lines of the text come before the bytes. */
+function lineOf(bytes, number, before) {
   if (number === 0) return null;
   const line = new TextDecoder().decode(bytes).split('\n')[number - 1] ?? '';
-  return `Line ${number}: ${line.length > 80 ? `${line.slice(0, 80)}…` : line}`;
+  return `Line ${before + number}: ${line.length > 80 ? `${line.slice(0, 80)}…` : line}`;
+}
+
+/**
+ * A file whose rule has a name, with the rule in digits.
+ * @param {Uint8Array} bytes
+ * @param {number} number of the line that has the rule
+ */
+function withDigits(bytes, number) {
+  const lines = new TextDecoder('latin1').decode(bytes).split('\n');
+  const [, before, name] = /^(.*(?:#r|rule\s*=))\s*([^\r]*?)\s*$/i.exec(lines[number - 1]);
+  const rule = ruleNamed(name);
+  lines[number - 1] = `${before} ${rule}`;
+  return {
+    bytes: Uint8Array.from(lines.join('\n'), (byte) => byte.charCodeAt(0)),
+    note: `The rule ${name} is sent as ${rule}.`,
+  };
 }
 
 /** Reads a file of the archive's form. @param {Uint8Array} bytes @param {Choices} choices */
-function readOwn(bytes, { isCut }) {
+function readOwn(bytes, choices) {
+  try {
+    return readDigits(bytes, choices);
+  } catch (error) {
+    if (!(error instanceof Fault) || error.number !== BAD_RULE || !ruleNamed(error.rule)) throw error;
+    const named = withDigits(bytes, error.line);
+    const read = readDigits(named.bytes, choices);
+    return { ...read, notes: [named.note, ...read.notes] };
+  }
+}
+
+/** The same, if its rule is in digits. @param {Uint8Array} bytes @param {Choices} choices */
+function readDigits(bytes, { isCut }) {
   const record = readFile(bytes, { isCut });
   if (record.left.length === 0) return { bytes, record, notes: [] };
   const all = record.left.length + MOST_COMMENTS;
@@ -83,6 +113,9 @@ function readConverted(other, choices) {
   }
 }
 
+/** What is said if marks around a pattern, such as `[code]`, are left out. */
+const MARKED = 'The marks around the pattern are not sent.';
+
 /**
  * @param {Uint8Array} bytes
  * @param {Choices} choices
@@ -90,14 +123,18 @@ function readConverted(other, choices) {
  */
 export function readGiven(bytes, choices) {
   const old = readOld(bytes);
-  const own = old !== null && choices.asOld ? encoded(old) : bytes;
+  const whole = old !== null && choices.asOld ? encoded(old) : bytes;
   const isOld = old !== null;
+  const text = new TextDecoder('latin1').decode(whole);
+  const inside = insideMarks(text);
+  const own = inside ? whole.slice(...inside) : whole;
   try {
     const read = readAny(own, choices);
-    return { ...read, isOld, fault: null, line: null };
+    return { ...read, isOld, fault: null, line: null, notes: [...(inside ? [MARKED] : []), ...read.notes] };
   } catch (error) {
     if (!(error instanceof Fault)) throw error;
-    return { bytes: own, record: null, isOld, fault: error, line: lineOf(own, error.line), notes: [] };
+    const before = inside ? text.slice(0, inside[0]).split('\n').length - 1 : 0;
+    return { bytes: own, record: null, isOld, fault: error, line: lineOf(own, error.line, before), notes: [] };
   }
 }
 

@@ -1,6 +1,6 @@
 // A pattern is a set of live cells whose least column and row are 0, as `rle.js` reads it: width, height, population,
 // and for each row its runs `[begin, end, begin, end, ..]`. The archive gives each generation that way, so this module
-// computes how far its corner has moved.
+// computes how far its corner has moved, and how a speed is written.
 
 const EMPTY = [];
 
@@ -60,4 +60,22 @@ export function* cellsOf(pattern) {
       for (let column = runs[at]; column < runs[at + 1]; column += 1) yield [column, row];
     }
   }
+}
+
+const divisor = (one, other) => (other === 0 ? one : divisor(other, one % other));
+
+/**
+ * The speed of a spaceship that moves by columns and rows in a period, as it is usually written: `c/4 diagonal`,
+ * `2c/5 orthogonal`, `(2,1)c/6`.
+ * @param {number} columns
+ * @param {number} rows
+ * @param {number} period
+ */
+export function speedText(columns, rows, period) {
+  const [near, far] = [Math.abs(columns), Math.abs(rows)].sort((one, other) => one - other);
+  const common = divisor(divisor(far, near), period);
+  const [less, more, time] = [near, far, period].map((number) => number / common);
+  const over = time === 1 ? 'c' : `c/${time}`;
+  if (less !== 0 && less !== more) return `(${more},${less})${over}`;
+  return `${more === 1 ? '' : more}${over} ${less === 0 ? 'orthogonal' : 'diagonal'}`;
 }

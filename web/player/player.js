@@ -268,10 +268,13 @@ export class Player {
     return Math.max(1, Math.round(this.speed / MOST_PICTURES));
   }
 
-  /** Jumps to a generation, and stops. */
-  go(at) {
+  /** Jumps to a generation, or to the last one if it is beyond that, and stops. */
+  async go(at) {
     this.pause();
-    return this.show(Math.min(Math.max(Math.trunc(at) || 0, 0), GENERATION_LIMIT));
+    const wanted = Math.max(Math.trunc(at) || 0, 0);
+    const isShown = await this.show(Math.min(wanted, GENERATION_LIMIT));
+    if (isShown && wanted > GENERATION_LIMIT) this.told.ended();
+    return isShown;
   }
 
   /** Moves some generations forward or back, and stops. */

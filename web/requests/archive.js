@@ -1,5 +1,6 @@
 // Requests to the archive's routes (docs/API.md). If no reply comes, reads are retried, and deposits are sent again
-// with the same token. A census is not, since it may be what keeps the archive busy.
+// with the same token. A census is not, since it may be what keeps the archive busy; it is only sent again if the
+// gateway refused it for its rate.
 
 import { indexHead } from './index.js';
 import { keepSetting, setting } from '../shared/kept.js';
@@ -11,6 +12,8 @@ import { rulePart } from '../patterns/rule.js';
 const TOGETHER = 4;
 const PAUSES = [500, 1000, 2000];
 const SEND_PAUSES = [1000, 2000, 4000];
+/** For how many milliseconds a census that is refused for its rate is sent again: enough for a class of 50. */
+const CENSUS_PATIENCE = 300_000;
 
 const pause = (time, signal) => new Promise((resolve, reject) => {
   const stopped = () => reject(signal.reason);
@@ -196,10 +199,21 @@ export async function sendDeposit(member, token, bytes, said, signal) {
   return number;
 }
 
-/** Requests a census once, and returns its number. */
-export async function sendCensus(member, token, number, at, limit, signal) {
-  return parsed(
-    await askAgain(`/deposits/${number}/censuses/${at}/${limit}`, sent(member, token, null, signal), []),
-    'census',
-  ).census;
+/**
+ * Requests a census, and returns its number. If the gateway refuses it for its rate, it never reached the archive:
+ * `said` is called with the milliseconds until it is sent again.
+ */
+export async function sendCensus(member, token, number, at, limit, said, signal) {
+  const end = performance.now() + CENSUS_PATIENCE;
+  for (;;) {
+    try {
+      const path = `/deposits/${number}/censuses/${at}/${limit}`;
+      return parsed(await askOnce(path, sent(member, token, null, signal)), 'census').census;
+    } catch (error) {
+      if (error.name !== 'too-many-requests' || performance.now() > end) throw error;
+      const wait = Math.max(error.wait, PAUSES[0]);
+      said(wait);
+      await pause(wait, signal);
+    }
+  }
 }

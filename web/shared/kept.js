@@ -1,5 +1,5 @@
-// What this browser stores, if it may: settings permanently; unfinished work until the window is closed; and the scroll
-// position of each page.
+// What this browser stores, if it may: settings permanently; unfinished work until the window is closed; and for each
+// page its scroll position, and the link by which it was left.
 
 function read(store, name) {
   try {

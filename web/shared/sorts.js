@@ -1,6 +1,7 @@
 // Tables that a press on a column's head sorts.
 
 import { make } from './dom.js';
+import { entryState, keepEntryState } from './kept.js';
 
 /**
  * @typedef {object} Column
@@ -16,6 +17,12 @@ import { make } from './dom.js';
  * By which column a table is sorted, and whether in ascending order.
  * @typedef {{ sort: string, isUp: boolean }} Order
  */
+
+/** The order that the window's history has kept for a table, or its first one. @param {Order} first */
+export const keptOrder = (first) => entryState().order ?? first;
+
+/** Keeps the order of a table, so that it is the same when one comes back. @param {Order} order */
+export const keepOrder = (order) => keepEntryState({ order });
 
 /**
  * Sorted rows; those with equal values stay in their order.

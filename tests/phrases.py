@@ -69,7 +69,7 @@ UNREAD = re.compile(
     r"tests/cases/.*|tests/(?:phrases|document_changes)\.py|LICENSE-.*|.*\.(?:svg|png|ico|rle|edit|rattle)"
 )
 # Crates whose texts are only names of tests.
-OF_TESTS = re.compile(r"crates/(?:\w+_tests|planes)/.*")
+OF_TESTS = re.compile(r"crates/\w+_tests/.*")
 
 
 def only(kept: str, text: str) -> str:

@@ -240,8 +240,8 @@ def test_shellcheck() -> None:
 
 # ---- deploy/haul/parallel
 
-# A piece of 1,000 soups takes a while, so that a worker is found to be killed.
-SHARED = ("ann-2026", 1000, 20000, 600, 2)
+# A piece of 3,000 soups takes a while, so that a worker is found to be killed, on a busy machine too.
+SHARED = ("ann-2026", 1000, 60000, 600, 2)
 PIECES = 20
 
 

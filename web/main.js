@@ -75,7 +75,7 @@ class Page {
     this.#end.abort(new DOMException('another page', 'AbortError'));
   }
 
-  /** Sets the title of the window; without a text it is that of the site alone. */
+  /** Sets the title of the window. Without a text it is the name of the site. */
   title(text) {
     document.title = text ? `${text} · Life archive` : 'Life archive';
   }

@@ -105,7 +105,7 @@ CHANGES = [
     (parts, TESTING, rf"(?m)^\| `{re.escape(PARTS['peers'])}`.*\n", ""),
     (lengths, "README.md", r"\n", "\n" * 3),
     (lengths, "docs/OPERATING.md", r"\n", " " * 121 + "\n"),
-    (decisions, DECISIONS, r"(?m)^### 59\.", "### 44."),
+    (decisions, DECISIONS, r"(?m)^\*\*59\.", "**44."),
     (table, REFUSALS, "when,script", "when,scripts"),
     (table, REFUSALS, "no-end", "No-End"),
     (table, REFUSALS, r"(?m)^file,text-limit,.*\n", ""),

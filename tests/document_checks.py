@@ -213,6 +213,8 @@ PACKAGES = {
     "Leftover",
     "Read",
     "dac8208d650f15bf",
+    "docs/make-tables --clauses",
+    "CLAUSES.md.gz",
     "curl",
     "ensures",
     "specs/",
@@ -220,9 +222,10 @@ PACKAGES = {
 
 
 def names(pages: Pages) -> Problems:
-    """Each text in backquotes of PROOFS.md is one of the sources."""
-    for name in re.findall(r"`([^`\n]+)`", pages[PROOFS]):
-        yield None if is_known(name, *names_of_sources()) else f"{PROOFS}: nothing is called `{name}`"
+    """Each text in backquotes of PROOFS.md, and of the sentences about clauses, is one of the sources."""
+    for path in (PROOFS, CLAUSES):
+        for name in re.findall(r"`([^`\n]+)`", pages[path]):
+            yield None if is_known(name, *names_of_sources()) else f"{path}: nothing is called `{name}`"
 
 
 def promises(pages: Pages) -> Problems:

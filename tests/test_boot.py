@@ -237,6 +237,7 @@ def test_links(tree: str) -> None:
         same(f"what {os.path.basename(path)} leads to and is missing", gone, [])
         found[os.path.basename(path)] = len(relative)
     check(f"README still leads to other documents: {found}", found["README.md.gz"] > 20)
+    check("the rows of all clauses are beside PROOFS", found["CLAUSES.md.gz"] > 0)
 
 
 # A haul of a few soups, and the two ranges that it is made of.

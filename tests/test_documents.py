@@ -1,9 +1,9 @@
 """Compares the documents with one another and with the sources.
 
 Links lead to a file and a heading that are there, and so do paths. Every name in backquotes in docs/PROOFS.md is a name
-of the sources. Each clause of each public function of a library has its row there, and no row names another. Each link
-of README.md to a row has the name of its function or clause. Each definition that docs/DEFINITIONS.md quotes is line by
-line the one of its file, and has a law. Each part of the gate has its row in docs/TESTING.md. What docs/make-tables
+of the sources. Each clause of each public function of a library has a sentence, and no sentence is about another. Each
+link of README.md to a row has the name of its function or clause. Each definition that docs/DEFINITIONS.md quotes is
+line by line the one of its file, and has a law. Each part of the gate has its row in docs/TESTING.md. What docs/make-tables
 writes is as it would write it. Pages have their lengths. No file that a person reads has one of the phrases of
 tests/phrases.py. At the end the same checks read files that were changed, and have to fail. Mutation tests change what
 is there.
@@ -20,7 +20,7 @@ import pytest
 from clients import check, same
 from document_changes import CHANGES, PLANTED
 from document_checks import API, CHECKS, FILES, OTHERS, PARTS, PROXY, ROUTES, SITE, TABLES, Pages, Problems, read
-from tables import places
+from tables import clauses, places
 from tables.sources import libraries
 
 pytestmark = pytest.mark.quick
@@ -89,6 +89,20 @@ def test_no_source_is_written() -> None:
     written, problems = places.written(read)
     same("problems", problems, [])
     same("sources that it writes", [path for path in written if path.startswith("crates/")], [])
+
+
+def test_all_clauses() -> None:
+    """The document of all clauses has a row for each clause of each public function, with its file."""
+    facts = places.read_facts(read)
+    page = clauses.document(facts.rows, facts.libraries)
+    for crate, functions in facts.libraries.items():
+        of_crate = page.split(f"\n## {crate}\n")[1].split("\n## ")[0].splitlines()
+        for name, found in functions.items():
+            for clause in found.names:
+                rows = [
+                    line for line in of_crate if f"[`{name}`](../{found.path})" in line and f" | `{clause}` | " in line
+                ]
+                same(f"{crate}: {name}: rows of {clause}", len(rows), 1)
 
 
 @pytest.mark.parametrize("problems, path, before, after", CHANGES)

@@ -1,4 +1,4 @@
-"""docs/clauses.txt: what docs/PROOFS.md says about each clause. The rest of a row is written from the sources."""
+"""docs/clauses.txt: a sentence about each clause. The rest of a row is written from the sources."""
 from __future__ import annotations
 
 import re
@@ -10,14 +10,25 @@ from .texts import Fault, Read, markdown
 
 PATH, PROOFS = "docs/clauses.txt", "docs/PROOFS.md"
 NAME = r"\w+(?:::\w+)?"
+# The tables of PROOFS: each has rows of these crates.
+SECTIONS = (
+    ("life_core", "life_rle"),
+    ("life_code", "life_census"),
+    ("life_store", "life_desk", "life_check"),
+    ("life_pages",),
+    ("life_words", "life_jobs", "life_archive", "life_program"),
+    ("life_pictures", "life_hauls"),
+)
 
 
 class Row(NamedTuple):
-    """A row of a crate's table: functions with a clause of this name, anchors for links to it, and the sentence."""
+    """A row of a table: functions with a clause of this name, whether PROOFS has it, anchors for links to it there, and
+    the sentence."""
 
     crate: str
     functions: Tuple[str, ...]
     clause: str
+    in_proofs: bool
     anchors: Tuple[str, ...]
     sentence: str
 
@@ -39,14 +50,14 @@ def read_rows(read: Read, limits: Limits) -> List[Row]:
     functions: Tuple[str, ...] = ("",)
     for line in joined(read(PATH)):
         section = re.fullmatch(r"\[(\w+)\]", line)
-        clause = re.fullmatch(r"  (\w+)((?: #[\w-]+)*): (.+)", line)
+        clause = re.fullmatch(r"  (\*?)(\w+)((?: #[\w-]+)*): (.+)", line)
         if section:
             crate, functions = section[1], ("",)
         elif re.fullmatch(f"{NAME}(?:, {NAME})*", line) and crate:
             functions = tuple(line.split(", "))
-        elif clause and functions != ("",):
-            anchors = tuple(anchor[1:] for anchor in clause[2].split())
-            rows.append(Row(crate, functions, clause[1], anchors, limits.put_into(clause[3])))
+        elif clause and functions != ("",) and (clause[1] or not clause[3]):
+            anchors = tuple(anchor[1:] for anchor in clause[3].split())
+            rows.append(Row(crate, functions, clause[2], bool(clause[1]), anchors, limits.put_into(clause[4])))
         else:
             raise Fault(f"{PATH}: this line is no crate, no functions, and no clause of a function: {line[:60]}")
     return rows
@@ -55,6 +66,8 @@ def read_rows(read: Read, limits: Limits) -> List[Row]:
 def compare(rows: List[Row], libraries: Libraries) -> Iterator[Optional[str]]:
     """For each clause of a function, the problem if it has no sentence or two, and for each sentence, if it has no
     clause."""
+    placed = [crate for crates in SECTIONS for crate in crates]
+    yield None if sorted(placed) == sorted(libraries) else f"{PROOFS}: a library has no table, or two: see SECTIONS"
     wanted = {
         (crate, name, clause)
         for crate, functions in libraries.items()
@@ -80,11 +93,28 @@ def links(row: Row, libraries: Libraries) -> str:
     return ", ".join(f"[`{name}`](../{functions[name].path})" for name in row.functions if name in functions)
 
 
-def table(rows: List[Row], crate: str, libraries: Libraries) -> List[str]:
-    """The table of a crate."""
+def table(rows: List[Row], libraries: Libraries) -> List[str]:
+    """A table of these rows."""
     lines = []
     for row in rows:
-        if row.crate == crate:
-            anchors = "".join(f'<a id="{anchor}"></a>' for anchor in row.anchors)
-            lines.append(f"{anchors}{links(row, libraries)} | `{row.clause}` | {row.sentence}")
+        anchors = "".join(f'<a id="{anchor}"></a>' for anchor in row.anchors)
+        lines.append(f"{anchors}{links(row, libraries)} | `{row.clause}` | {row.sentence}")
     return markdown("Function | Clause | What it says", lines)
+
+
+def table_of_proofs(rows: List[Row], crates: Tuple[str, ...], libraries: Libraries) -> List[str]:
+    """A table of PROOFS: the chosen rows of some crates."""
+    return table([row for row in rows if row.crate in crates and row.in_proofs], libraries)
+
+
+def document(rows: List[Row], libraries: Libraries) -> str:
+    """A document with the rows of all clauses, for the same folder as PROOFS."""
+    lines = [
+        "# All clauses",
+        "",
+        f"[PROOFS](PROOFS.md) says how to read a row. `docs/make-tables --clauses` printed these.",
+    ]
+    for crate in [crate for crates in SECTIONS for crate in crates]:
+        named = [row._replace(anchors=()) for row in rows if row.crate == crate]
+        lines += ["", f"## {crate}", *table(named, libraries)[:-1]]
+    return "\n".join(lines).replace("](#", "](PROOFS.md#") + "\n"

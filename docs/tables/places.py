@@ -106,9 +106,16 @@ def of_documents(facts: Facts) -> List[Place]:
 
 
 def of_proofs(facts: Facts) -> List[Place]:
-    """The tables of the libraries in PROOFS."""
-    tables = {crate: clauses.table(facts.rows, crate, facts.libraries) for crate in facts.libraries}
-    return [marked(clauses.PROOFS, clauses.PATH, f"clauses of {crate}", lines) for crate, lines in tables.items()]
+    """The tables of PROOFS."""
+    return [
+        marked(
+            clauses.PROOFS,
+            clauses.PATH,
+            f"clauses of {', '.join(crates)}",
+            clauses.table_of_proofs(facts.rows, crates, facts.libraries),
+        )
+        for crates in clauses.SECTIONS
+    ]
 
 
 def of_names(facts: Facts) -> List[Place]:
@@ -159,7 +166,7 @@ def compare(read: Read) -> Iterator[Optional[str]]:
 
 
 def compare_with_sources(facts: Facts, read: Read) -> Iterator[Optional[str]]:
-    """The problems of facts that a crate and a table both have, if they differ. docs/make-tables can't mend these."""
+    """The problems of facts that a crate and a table both have, if they differ. docs/make-tables can't repair these."""
     yield from refusals.compare(facts.refusals, facts.program, read)
     yield from limits.compare(facts.limits, read)
     yield from routes.compare(facts.routes, facts.program, read)

@@ -60,7 +60,7 @@ MOST_LINES, MOST_COLUMNS, MOST_WORDS_OF_A_CELL = 250, texts.most_columns(), 40
 # something up in.
 OTHER_LENGTHS = {
     "README.md": 170,
-    "bench/README.md": 300,
+    "bench/README.md": 190,
     "docs/COMMANDS.md": 280,
     DECISIONS: 370,
     "docs/OPERATING.md": 340,

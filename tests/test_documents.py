@@ -3,10 +3,10 @@
 Links lead to a file and a heading that are there, and so do paths. Every name in backquotes in docs/PROOFS.md is a name
 of the sources. Each clause of each public function of a library has a sentence, and no sentence is about another. Each
 link of README.md to a row has the name of its function or clause. Each definition that docs/DEFINITIONS.md quotes is
-line by line the one of its file, and has a law. Each part of the gate has its row in docs/TESTING.md. What docs/make-tables
-writes is as it would write it. Pages have their lengths. No file that a person reads has one of the phrases of
-tests/phrases.py. At the end the same checks read files that were changed, and have to fail. Mutation tests change what
-is there.
+line by line the one of its file, and has a law. Each part of the gate has its row in docs/TESTING.md. Everything that
+docs/make-tables writes is as it would write it. Pages have their lengths. No file that a person reads has one of the
+phrases of tests/phrases.py. At the end the same checks read files that were changed, and have to fail. Each mutation
+test changes a line that its source has.
 
 Each link, name, row, quotation, place, page, file and change is one check. The checks are in document_checks.py, the
 changes in document_changes.py.

@@ -268,7 +268,7 @@ NEEDS_MORE = re.compile("<tab>|--port$|completions|deploy/|man -l|--help|8081")
 TYPED_PAGES = [
     ("README.md", 9, 0),
     ("docs/COMMANDS.md", 18, 5),
-    ("docs/DEFINITIONS.md", 35, 0),
+    ("docs/DEFINITIONS.md", 33, 0),
     ("docs/API.md", 6, 0),
     ("docs/GUIDE.md", 35, 1),
 ]

@@ -108,6 +108,7 @@ CHANGES = [
     (proofs, ARCHITECTURE, "`PeriodLemmas`", "`PeriodLemma`"),
     (parts, TESTING, rf"(?m)^\| `{re.escape(PARTS['peers'])}`.*\n", ""),
     (lengths, "README.md", r"\n", "\n" * 3),
+    (lengths, DEFINITIONS, r"\n", "\n" * 3),
     (lengths, "docs/OPERATING.md", r"\n", " " * 121 + "\n"),
     (decisions, DECISIONS, r"(?m)^\*\*59\.", "**44."),
     (table, REFUSALS, "when,script", "when,scripts"),

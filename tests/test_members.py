@@ -267,7 +267,7 @@ NEEDS_MORE = re.compile("<tab>|--port$|completions|deploy/|man -l|--help|8081")
 # of its own.
 TYPED_PAGES = [
     ("README.md", 9, 0),
-    ("docs/COMMANDS.md", 18, 5),
+    ("docs/COMMANDS.md", 20, 1),
     ("docs/DEFINITIONS.md", 33, 0),
     ("docs/API.md", 6, 0),
     ("docs/GUIDE.md", 35, 1),

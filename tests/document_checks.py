@@ -58,6 +58,7 @@ LENGTHS = {
     "README.md": 170,
     "bench/README.md": 200,
     "docs/GUIDE.md": 520,
+    "docs/HAULS.md": 180,
     API: 280,
     COMMANDS: 190,
     DECISIONS: 370,

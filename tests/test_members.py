@@ -269,7 +269,7 @@ TYPED_PAGES = [
     ("README.md", 9, 0),
     ("docs/COMMANDS.md", 20, 1),
     ("docs/DEFINITIONS.md", 33, 0),
-    ("docs/API.md", 6, 0),
+    ("docs/API.md", 4, 0),
     ("docs/GUIDE.md", 35, 1),
 ]
 

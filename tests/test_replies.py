@@ -3,9 +3,12 @@ passwords of a gateway, what is kept already, and what no archive says. The test
 side by side with `-n 8`.
 """
 import os
+import re
 import signal
 import subprocess
 import time
+import urllib.error
+from collections.abc import Callable, Iterator
 
 import pytest
 
@@ -14,6 +17,7 @@ from clients import BLOCKS, GLIDER, certify, check, same
 from scripts import (
     EXAMPLES,
     NOT_THERE,
+    TOP,
     UNFINISHED,
     Pretender,
     Reply,
@@ -59,6 +63,27 @@ def test_unavailable_for_a_while(room: str) -> None:
             (0, f"7\t{folder}/glider.rle\n", ""),
         )
         same("what is sent four times", server.sent, [("/deposits", "ann", digest(GLIDER), GLIDER)] * 4)
+
+
+def test_client_in_python() -> None:
+    """The client in Python of docs/API.md waits while the archive is busy, sends the same again, reads all lists."""
+    with open(os.path.join(TOP, "docs", "API.md"), encoding="utf-8") as page:
+        source = re.findall(r"(?ms)^```python\n(.*?)^```$", page.read())
+    same("clients in Python", len(source), 1)
+    client: dict[str, Callable[..., object]] = {}
+    exec(source[0], client)
+    with Pretender(BUSY, (429, b"", "0"), (201, b'{"deposit":7}')) as server:
+        same("the number of its deposit", client["deposit"](url(server), "ann", GLIDER), 7)
+        same("what it sends", server.sent, [("/deposits", "ann", digest(GLIDER), GLIDER)] * 3)
+    with Pretender((409, b'{"error":"full","refusal":10}')) as server:
+        with pytest.raises(urllib.error.HTTPError, match="409"):
+            client["deposit"](url(server), "ann", GLIDER)
+        same("how often it sends what is refused", len(server.sent), 1)
+    with Pretender(listed(7), listed(9), NO_DEPOSITS) as server:
+        found = client["deposits"](url(server))
+        assert isinstance(found, Iterator)
+        same("the deposits that it finds", [one["id"] for one in found], [7, 9])
+        same("the lists that it reads", server.read, [f"/deposits/after/{number}" for number in (0, 7, 9)])
 
 
 def test_unavailable_for_good(room: str) -> None:

@@ -1,4 +1,4 @@
-# Completion of the words of life-haul for bash. Made by docs/make-words from the help of the program.
+# Completion of the words of life-haul for bash. Made by tools/make-words from the help of the program.
 # To use it: source this file, or put it as 'life-haul' where bash-completion looks.
 
 _life_haul() {

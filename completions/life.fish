@@ -1,4 +1,4 @@
-# Completion of the words of life for fish. Made by docs/make-words from the help of the program.
+# Completion of the words of life for fish. Made by tools/make-words from the help of the program.
 # To use it: put this file as 'life.fish' into ~/.config/fish/completions.
 
 complete -c life -f

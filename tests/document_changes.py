@@ -69,7 +69,7 @@ PLANTED = {
     "crates/core_tests/src/planes.rt": ("//! Patterns", "//! So many patterns"),
     "crates/life_core/specs/Rule.antt": ("-- a finite set", "-- as far as it goes, a set"),
     "crates/life_core/proofs/BlockChanges.antt": ("-- The blocks", "-- The blocks that come again, and those"),
-    "docs/tables/version.py": ("in all other places", "wherever it stands,"),
+    "tools/tables/version.py": ("in all other places", "wherever it stands,"),
     PARTS["web"]: ("an unknown address", "an address that is none"),
 }
 # A check, a page, what is changed in it, and what stands there instead.

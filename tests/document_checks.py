@@ -218,7 +218,7 @@ PACKAGES = {
     "Leftover",
     "Read",
     "dac8208d650f15bf",
-    "docs/make-tables --clauses",
+    "tools/make-tables --clauses",
     "CLAUSES.md.gz",
     "curl",
     "ensures",
@@ -306,16 +306,16 @@ def parts(pages: Pages) -> Problems:
         yield None if re.search(rf"(?m)^\| `{re.escape(path)}` \|", pages[TESTING]) else f"{TESTING}: {path} has no row"
 
 
-# ---- what docs/make-tables writes
+# ---- what tools/make-tables writes
 
 
 def copies(pages: Pages) -> Problems:
     """Each place that repeats a refusal, a limit, a route, an address or the version is written from its table."""
     for problem in places.compare(lambda path: pages[path] if path in pages else read(path)):
-        yield f"{problem}; then run docs/make-tables" if problem else None
+        yield f"{problem}; then run tools/make-tables" if problem else None
 
 
-# A row as docs/make-tables writes it, by its page.
+# A row as tools/make-tables writes it, by its page.
 WRITTEN = {
     API: r"\| (?:\d+ \| `[a-z-]+` \| \d+|`(?:GET|POST) /[^`]*`) \|",
     FORMATS: r"\| \d+ \| `[a-z-]+` \|",
@@ -325,10 +325,10 @@ WRITTEN = {
 
 
 def beside(pages: Pages) -> Problems:
-    """Such a row is only in the parts that docs/make-tables writes."""
+    """Such a row is only in the parts that tools/make-tables writes."""
     for path, form in WRITTEN.items():
         found = [line for line in texts.without_marked(pages[path]).split("\n") if re.match(form, line)]
-        yield f"{path}: not written by docs/make-tables: {found[0][:60]}" if found else None
+        yield f"{path}: not written by tools/make-tables: {found[0][:60]}" if found else None
 
 
 # The kinds of refusals in their order, and those that have numbers.
@@ -477,7 +477,8 @@ LISTED = [
     (["tests/web_haul.py"], "", "lint web"),
     (["deploy/bundle"], "", "boot gateway lint web"),
     (["bench/soup.py"], "", "lint"),
-    (["docs/make-tables", "docs/tables/limits.py", "docs/clauses.txt"], "", "documents lint"),
+    (["tools/make-tables", "tools/tables/limits.py", "docs/clauses.txt"], "", "documents lint"),
+    (["tools/make-words"], "", "documents lint members"),
     (["docs/limits.csv"], "", "documents words"),
     (["deploy/templates/gateway/life-site.conf"], "", "boot deploy documents gateway health index lint restores"),
 ]

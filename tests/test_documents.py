@@ -4,7 +4,7 @@ Links lead to a file and a heading that are there, and so do paths. Every name i
 of the sources. Each clause of each public function of a library has a sentence, and no sentence is about another. Each
 link of README.md to a row has the name of its function or clause. Each definition that docs/DEFINITIONS.md quotes is
 line by line the one of its file, and has a law. Each part of the gate has its row in docs/TESTING.md. Everything that
-docs/make-tables writes is as it would write it. Pages have their lengths. No file that a person reads has one of the
+tools/make-tables writes is as it would write it. Pages have their lengths. No file that a person reads has one of the
 phrases of tests/phrases.py. At the end the same checks read files that were changed, and have to fail. Each mutation
 test changes a line that its source has.
 
@@ -85,7 +85,7 @@ def test_mutations(crate: str) -> None:
 
 
 def test_no_source_is_written() -> None:
-    """docs/make-tables writes nothing below crates/."""
+    """tools/make-tables writes nothing below crates/."""
     written, problems = places.written(read)
     same("problems", problems, [])
     same("sources that it writes", [path for path in written if path.startswith("crates/")], [])

@@ -2,7 +2,7 @@
 
 Each picture is compared with the cells that are decoded here from the file: a text character by character, an SVG
 document by an XML parser and its path rectangle by rectangle. Some pictures are compared with texts that were written
-by hand. The pictures of docs/pictures are drawn again by docs/make-pictures, which also needs the program `life`, and
+by hand. The pictures of docs/pictures are drawn again by tools/make-pictures, which also needs the program `life`, and
 compared, also with generations that are computed here.
 """
 import os
@@ -436,9 +436,9 @@ def test_kept_pictures(folder: str) -> None:
     kept, made = os.path.join(TOP, "docs", "pictures"), os.path.join(folder, "pictures")
     os.mkdir(made)
     done = subprocess.run(
-        [os.path.join(TOP, "docs", "make-pictures"), made, LIFE, PROGRAM], capture_output=True, timeout=60, check=False
+        [os.path.join(TOP, "tools", "make-pictures"), made, LIFE, PROGRAM], capture_output=True, timeout=60, check=False
     )
-    same("docs/make-pictures", (done.returncode, done.stdout, done.stderr), (0, b"", b""))
+    same("tools/make-pictures", (done.returncode, done.stdout, done.stderr), (0, b"", b""))
     names = sorted(os.listdir(made))
     check(f"the pictures of docs/pictures: {names}", names == sorted(os.listdir(kept)) and len(names) >= 5)
     for name in names:

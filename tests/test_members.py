@@ -180,7 +180,7 @@ EDITS = [
 
 def test_words_of_help(room: str, programs: dict[str, str]) -> None:
     """The manual pages and the completions are those of the help, and of another help they are not."""
-    made = os.path.join(TOP, "docs", "make-words")
+    made = os.path.join(TOP, "tools", "make-words")
     same("words are made of the help", said(made, *programs.values(), "--check"), (0, "", ""))
     for called, edit, differing in EDITS:
         other = os.path.join(room, f"other-{called}")
@@ -189,7 +189,7 @@ def test_words_of_help(room: str, programs: dict[str, str]) -> None:
                 f"#!/usr/bin/env bash\n(exec -a {called} '{programs[called]}' \"$@\") 2>&1 | sed '{edit}' >&2\nexit 2\n"
             )
         os.chmod(other, 0o755)
-        wanted = "".join(f"make-words: {name} differs from the help: run docs/make-words\n" for name in differing)
+        wanted = "".join(f"make-words: {name} differs from the help: run tools/make-words\n" for name in differing)
         same(
             f"words of another help, by {edit}",
             said(made, *(programs | {called: other}).values(), "--check"),

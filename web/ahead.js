@@ -28,7 +28,7 @@
 // deploy/bundle lists them in index.html.
 {
   const ask = (attributes) => document.head.append(Object.assign(document.createElement('link'), attributes));
-  // addresses: written by docs/make-tables from docs/addresses.csv
+  // addresses: written by tools/make-tables from docs/addresses.csv
   const ADDRESS = /^\/d\/([0-9]{1,15})(?:\/at\/([0-9]{1,15}))?$/i;
   // end of addresses
   const number = ADDRESS.exec(location.pathname)?.[1];

@@ -16,7 +16,7 @@ const later = (name, begin) => async (page, ...given) => {
   if (!page.signal.aborted) await module[begin](page, ...given);
 };
 
-// addresses: written by docs/make-tables from docs/addresses.csv
+// addresses: written by tools/make-tables from docs/addresses.csv
 const ADDRESSES = {
   home: /^\/$/i,
   deposits: /^\/d$/i,

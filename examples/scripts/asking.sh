@@ -27,7 +27,7 @@ end() {
   exit "${2:-1}"
 }
 
-# limits: written by docs/make-tables from docs/limits.csv
+# limits: written by tools/make-tables from docs/limits.csv
 longest_file=1048576
 longest_member=32
 # end of limits
@@ -130,7 +130,7 @@ number_of() {
   printf '%s\n' "$body" | sed -n "s/^{\"$1\":\([0-9]*\)}\$/\1/p"
 }
 
-# faults: written by docs/make-tables from docs/refusals.csv
+# faults: written by tools/make-tables from docs/refusals.csv
 # Prints the fault of a pattern file that has this number.
 fault() {
   case $1 in
@@ -149,7 +149,7 @@ fault() {
 }
 # end of faults
 
-# refusals: written by docs/make-tables from docs/refusals.csv
+# refusals: written by tools/make-tables from docs/refusals.csv
 # Prints the refusal that has this name.
 refusal() {
   case $1 in

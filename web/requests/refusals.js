@@ -1,6 +1,6 @@
 // Why something was refused, and what to do.
 
-// sentences: written by docs/make-tables from docs/refusals.csv
+// sentences: written by tools/make-tables from docs/refusals.csv
 export const REFUSALS = {
   'no-such-deposit': 'There is no deposit with this number. Look at the newest deposits, or check the number against '
     + 'your source.',

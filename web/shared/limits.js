@@ -1,4 +1,4 @@
-// Limits of the archive, which docs/limits.csv explains. Written by docs/make-tables.
+// Limits of the archive, which docs/limits.csv explains. Written by tools/make-tables.
 
 export const GENERATION_LIMIT = 2048;
 export const PERIOD_LIMIT = 2048;

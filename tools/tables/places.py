@@ -1,4 +1,4 @@
-"""The places that docs/make-tables writes: for each file, the part and its source."""
+"""The places that tools/make-tables writes: for each file, the part and its source."""
 from __future__ import annotations
 
 import os
@@ -166,7 +166,7 @@ def compare(read: Read) -> Iterator[Optional[str]]:
 
 
 def compare_with_sources(facts: Facts, read: Read) -> Iterator[Optional[str]]:
-    """The problems of facts that a crate and a table both have, if they differ. docs/make-tables can't repair these."""
+    """The problems of facts that a crate and a table both have, if they differ. No script repairs these."""
     yield from refusals.compare(facts.refusals, facts.program, read)
     yield from limits.compare(facts.limits, read)
     yield from routes.compare(facts.routes, facts.program, read)

@@ -62,14 +62,14 @@ MARK = r"(?m)^[ \t]*(?://|#|<!--) "
 
 
 def without_marked(text: str) -> str:
-    """The text without the parts that docs/make-tables writes."""
-    return re.sub(MARK + r"(.*): written by docs/make-tables from (?s:.*?)(?://|#|<!--) end of \1\b", "", text)
+    """The text without the parts that tools/make-tables writes."""
+    return re.sub(MARK + r"(.*): written by tools/make-tables from (?s:.*?)(?://|#|<!--) end of \1\b", "", text)
 
 
 def with_marked(text: str, name: str, lines: List[str]) -> str:
     """The text with these lines between the two comments of that name."""
-    begins = list(re.finditer(MARK + re.escape(name) + r": written by docs/make-tables from .*\n", text))
+    begins = list(re.finditer(MARK + re.escape(name) + r": written by tools/make-tables from .*\n", text))
     ends = list(re.finditer(MARK + f"end of {re.escape(name)}(?: -->)?$", text))
     if len(begins) != 1 or len(ends) != 1 or ends[0].start() < begins[0].end():
-        raise Fault(f"needs the comments '{name}: written by docs/make-tables from ..' and 'end of {name}' once each")
+        raise Fault(f"needs the comments '{name}: written by tools/make-tables from ..' and 'end of {name}' once each")
     return text[: begins[0].end()] + "".join(line + "\n" for line in lines) + text[ends[0].start() :]

@@ -110,7 +110,7 @@ def expression(path: str, patterns: Patterns, form: Callable[[str, str], str] = 
 
     def parameter(found: re.Match[str]) -> str:
         if found[1] not in patterns:
-            raise Fault(f"docs/tables/routes.py does not say what {{{found[1]}}} may be in {path}")
+            raise Fault(f"tools/tables/routes.py does not say what {{{found[1]}}} may be in {path}")
         return form(found[1], patterns[found[1]])
 
     return re.sub(r"\{(\w+)\}", parameter, path.replace("[", "(?:").replace("]", ")?"))

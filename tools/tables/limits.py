@@ -104,7 +104,7 @@ def script_module(limits: Limits) -> str:
     """The constants of the web pages."""
     values = {limit.name: written(limit.value).replace(",", "_") for limit in limits.values() if limit.web}
     lines = [
-        f"// Limits of the archive, which {PATH} explains. Written by docs/make-tables.",
+        f"// Limits of the archive, which {PATH} explains. Written by tools/make-tables.",
         "",
         *(f"export const {name} = {value};" for name, value in values.items()),
     ]

@@ -112,7 +112,7 @@ def document(rows: List[Row], libraries: Libraries) -> str:
     lines = [
         "# All clauses",
         "",
-        "[PROOFS](PROOFS.md) says how to read a row. `docs/make-tables --clauses` printed these.",
+        "[PROOFS](PROOFS.md) says how to read a row. `tools/make-tables --clauses` printed these.",
     ]
     for crate in [crate for crates in SECTIONS for crate in crates]:
         named = [row._replace(anchors=()) for row in rows if row.crate == crate]

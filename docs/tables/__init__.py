@@ -1,1 +1,0 @@
-"""What docs/make-tables writes: the places that repeat a refusal, a limit, a route, an address or the version."""

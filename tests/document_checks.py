@@ -57,7 +57,7 @@ OTHERS = [
 LENGTHS = {
     "README.md": 170,
     "bench/README.md": 200,
-    "docs/GUIDE.md": 520,
+    "docs/GUIDE.md": 490,
     "docs/HAULS.md": 180,
     API: 280,
     COMMANDS: 190,

@@ -19,7 +19,7 @@ use Rattle.std.proofs.lemmas.List.Elements.{at_from_Contains, Contains-from_at, 
 use Rattle.std.proofs.lemmas.List.Sorted.{ranks_by, sorted_far}
 use Rattle.life_core.specs.declared.cell.Cell.{Cell}
 use Rattle.life_core.specs.Cell.{cell_cmp, moved_cell}
-use Rattle.life_core.proofs.CellListStep.{cell_cmp-moved}
+use Rattle.life_core.proofs.CellLemmas.{cell_cmp-moved}
 use Rattle.life_core.proofs.PatternMembers.{cell_cmp_total, same_answer}
 use Rattle.life_code.proofs.ApartNear.{near_within, near_symmetric}
 use Rattle.life_code.specs.Apart.{within_two, near}

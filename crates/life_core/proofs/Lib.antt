@@ -17,7 +17,6 @@ pub mod GenerationsLaws
 pub mod CellListStep
 pub mod PatternShifts
 pub mod OrientationLemmas
-pub mod CellCountsLemmas
 pub mod Placements
 pub mod PatternCorners
 pub mod PatternExtents

@@ -13,8 +13,6 @@ pub mod RunsState
 pub mod PatternState
 pub mod Generations
 pub mod Orientation
-pub mod CellCountsState
-pub mod CellListState
 pub mod PackedRow
 pub mod PackedRowSets
 pub mod PackedRowState

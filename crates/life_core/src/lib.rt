@@ -2,7 +2,6 @@
 #![tactic(auto)]
 
 pub mod cell;
-mod cell_counts;
 pub mod cell_list;
 mod constant_laws;
 pub mod fault;

@@ -3,7 +3,7 @@ use Rattle.std.specs.FinSet as set
 use Rattle.std.proofs.lemmas.Int.{to_z-of_z}
 use Rattle.std.proofs.lemmas.List.Elements.{All-same, All-map}
 use Rattle.std.specs.List.Sorted.{IsStrictlySortedBy}
-use Rattle.life_core.proofs.CellListStep.{sorted-moved}
+use Rattle.life_core.proofs.CellLemmas.{sorted-moved}
 use Rattle.life_core.proofs.PatternCorners.{moved_origin}
 use Rattle.life_core.proofs.PatternMembers.{image_within, image-list}
 use Rattle.life_core.specs.Cell.{cell_cmp, IsCellWithin, moved_cell}

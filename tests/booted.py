@@ -246,8 +246,8 @@ def alarms(debian: Debian, unit: str) -> int:
 
 
 def over(debian: Debian, unit: str) -> int:
-    """How often an alarm said that a unit is well again."""
-    return said_of(debian, f": {unit} is well again")
+    """How often an alarm said that a unit has recovered."""
+    return said_of(debian, f": {unit} has recovered")
 
 
 def copies(debian: Debian) -> list[str]:

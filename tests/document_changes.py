@@ -50,6 +50,7 @@ from document_checks import (
 PLANTED = {
     "README.md": (r"Members deposit patterns", "There are so many deposits"),
     "docs/life-haul.1": ("Counts the objects", "Counts so many objects"),
+    "docs/clauses.txt": ("exactly when", "exactly if"),
     "docs/refusals.csv": ("no deposit has the number", "no deposit is told by the number"),
     "completions/life.fish": ("Prints what", "Prints so many what"),
     "deploy/settings": ("# The ports on", "# What stands on"),
@@ -96,6 +97,7 @@ CHANGES = [
     (copies, CLAUSES, r"\n\[life_code\]\n", "\n"),
     (copies, CLAUSES, r" #generation:", ":"),
     (rows, CLAUSES, r"(\nsame_object\n  .*)", r"\1" + " and so on" * 20),
+    (rows, CLAUSES, r"(\nsame_object\n  .ensures: )True", r"\1It is true"),
     (promises, "README.md", "`one_cluster`", "`one_part`"),
     (promises, PROOFS, r"(?m)^(\| <a id=\"codes\".*)`complete`", r"\1`spells`"),
     (quotations, DEFINITIONS, r"next r X = ", "next r X == "),

@@ -178,8 +178,13 @@ def cells_of(line: str) -> list[str]:
     return [cell.strip() for cell in line.strip().strip("|").split(" | ")] if line.startswith("| ") else []
 
 
+# How a sentence begins that needs the row above it.
+NEEDS_ANOTHER = re.compile("(?:The same|As of|As in|So|Nor|Then|It|They|Also) ")
+
+
 def rows(pages: Pages) -> Problems:
-    """No sentence about a clause is long, nor a line of its file. `copies` looks whether each clause has one row."""
+    """No sentence about a clause is long, nor a line of its file, and each can be read without the others. `copies`
+    looks whether each clause has one."""
     for at, line in enumerate(pages[CLAUSES].split("\n"), 1):
         yield f"{CLAUSES}: line {at} is over {MOST_COLUMNS} columns" if len(line) > MOST_COLUMNS else None
     for row in clauses.read_rows(lambda path: pages[path], limits.read_limits(lambda path: pages[path])):
@@ -187,6 +192,8 @@ def rows(pages: Pages) -> Problems:
         yield (
             f"{CLAUSES}: {row.crate}: {row.clause}: a sentence of {words} words"
             if words > MOST_WORDS_OF_A_CELL
+            else f"{CLAUSES}: {row.crate}: {row.clause}: '{row.sentence.split()[0]}' needs another row"
+            if NEEDS_ANOTHER.match(row.sentence)
             else None
         )
 

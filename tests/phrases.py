@@ -11,12 +11,15 @@ from typing import Iterator, List, NamedTuple, Tuple
 
 class Phrase(NamedTuple):
     """A phrase as a regular expression, and what to write instead. A space in it is any white space, also over the end
-    of a line."""
+    of a line. The paths of files that may have it begin in the last way."""
 
     form: str
     instead: str
+    spared: str = "(?!)"
 
 
+# Comments of a crate are changed only with its code, since it is then proved again.
+CRATES = "crates/"
 # What is said there, by other words: each phrase is one that people write, and that nobody says.
 PHRASES: List[Phrase] = [
     Phrase(*row)
@@ -55,6 +58,12 @@ PHRASES: List[Phrase] = [
         (r"\balso (?:if|when|after)\b", "'even if', 'even after'"),
         (r"\banew\b", "'again', 'starts over', 'restarts'"),
         (r"\bmay be asked for\b", "'valid', 'in range'"),
+        (r"\bexactly if\b", "'exactly when', 'if and only if'", CRATES),
+        (r"\bit is seen that\b", "'we can show that'", CRATES),
+        (r"\blikewise\b", "'also', 'the same'"),
+        (r"\bmend(?:s|ing)? (?:it|them|an?|the|this)\b", "'repair', 'fix'"),
+        (r"\bgive the same command\b", "'run the same command'"),
+        (r"\b(?:is|are) well again\b", "'has recovered'"),
     )
 ]
 
@@ -98,6 +107,8 @@ def found(path: str, text: str) -> Iterator[Tuple[int, str, str]]:
         return
     read = prose(path, text)
     for phrase in PHRASES:
+        if re.match(phrase.spared, path):
+            continue
         for match in re.finditer(phrase.form.replace(" ", r"\s+"), read, re.IGNORECASE):
             words = " ".join(match[0].split())
             if (path, words) not in EXCEPTIONS:

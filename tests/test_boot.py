@@ -456,7 +456,7 @@ def test_ages(debian: Debian) -> None:
             and copies(debian)[-1] in status_of(debian, "life-age.service"),
         )
         check(
-            "one alarm says that it is well again",
+            "one alarm says that it has recovered",
             until(lambda: over(debian, "life-age.service") == before + 1),
         )
 

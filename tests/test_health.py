@@ -129,7 +129,7 @@ def test_alarms(folder: str) -> None:
     journal, _, mail = desk.alarm("--ended")
     check(
         "its end is an alarm",
-        f"{UNIT} is well again" in mail and "--priority=crit" in journal and f"{UNIT} is well again" in journal,
+        f"{UNIT} has recovered" in mail and "--priority=crit" in journal and f"{UNIT} has recovered" in journal,
     )
     same("once", desk.alarm("--ended"), ["", "", ""])
     check("after that it is a new alarm", "has room for 12,288" in desk.alarm()[2])

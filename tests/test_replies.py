@@ -44,7 +44,7 @@ def test_certificate(room: str) -> None:
         check(
             "a certificate that curl doesn't know",
             is_unanswered(
-                result, "", f"put-folder: {folder}/a.rle: no reply from {secure}; give the same command again\n"
+                result, "", f"put-folder: {folder}/a.rle: no reply from {secure}; run the same command again\n"
             )
             and result[2].startswith("curl: (60) SSL certificate problem"),
         )

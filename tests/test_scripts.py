@@ -184,7 +184,7 @@ def test_folder_over_a_restart(room: str, program: str) -> None:
 def test_folder_without_server(room: str) -> None:
     folder, _ = mixed(room, "nobody")
     nobody = f"http://127.0.0.1:{clients.free_port()}"
-    wanted = f"put-folder: {folder}/glider.rle: no reply from {nobody}; give the same command again\n"
+    wanted = f"put-folder: {folder}/glider.rle: no reply from {nobody}; run the same command again\n"
     check("a folder without a server", is_unanswered(script("put-folder", nobody, "ann", folder), "", wanted))
     # A password in the URL is not shown.
     with_password = nobody.replace("//", "//ann:secret@")
@@ -201,7 +201,7 @@ def test_reasons_for_no_reply(room: str) -> None:
         result = script(name, "http://life.invalid", *words, env=os.environ | {"no_proxy": "*"})
         check(
             f"{name} for a host that is not there",
-            is_unanswered(result, "", f"{name}: {kind}no reply from http://life.invalid; give the same command again\n")
+            is_unanswered(result, "", f"{name}: {kind}no reply from http://life.invalid; run the same command again\n")
             and re.match(r"curl: \(6\) .*life\.invalid|curl: \(28\) Resolving timed out", result[2]),
         )
 
@@ -441,7 +441,7 @@ def test_censuses_over_a_restart(room: str, program: str) -> None:
         same("the end of the server of files", server.ended(), 0)
     # A list and two censuses.
     with Server(database, 3) as first:
-        left = f"census-all: deposit 3: no reply from {url(first)}; give the same command again\n"
+        left = f"census-all: deposit 3: no reply from {url(first)}; run the same command again\n"
         check(
             "censuses of a server that ends",
             is_unanswered(script("census-all", url(first), "ann", "0", "60"), "1\t1\n2\t2\n", left),

@@ -313,7 +313,7 @@ def end_run(command: list[str], folder: str) -> None:
         running.terminate()
         output, errors = running.communicate()
     last = errors.decode().splitlines()[-1:]
-    wanted = 1, b"", ["haul/parallel: not all pieces are counted; give the same command again"]
+    wanted = 1, b"", ["haul/parallel: not all pieces are counted; run the same command again"]
     same("a run that is ended", (running.returncode, output, last), wanted)
     check(f"pieces are left: {logged(folder)}", 10 <= len(logged(folder)) < PIECES)
 

@@ -168,7 +168,7 @@ def test_resumed(room: str, slurm: None) -> None:
         f"a haul of which a worker was killed: {running.returncode}, {output}{errors}",
         running.returncode == 1
         and output.startswith("pieces: 20 of 20, jobs ")
-        and errors.endswith("not all pieces are counted; give the same command again\n"),
+        and errors.endswith("not all pieces are counted; run the same command again\n"),
     )
     before = times_of(folder, counted(folder))
     same("all pieces but its own are counted", len(before), PIECES - 1)

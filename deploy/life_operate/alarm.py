@@ -124,7 +124,7 @@ def end(unit: str, address: str) -> None:
     if not os.path.exists(told):
         return
     os.remove(told)
-    subject = f"life on {platform.node()}: {unit} is well again"
+    subject = f"life on {platform.node()}: {unit} has recovered"
     journal("crit", subject)
     mail(address, subject, "Nothing has to be done.")
 

@@ -121,9 +121,9 @@ class Helper:
             self.line.send(json.dumps(words).encode())
             message, files, _, _ = socket.recv_fds(self.line, MOST_OF_MESSAGE, 1)
         except OSError as fault:
-            raise Gone(f"the helper is gone: {fault}") from fault
+            raise Gone(f"the root helper process died: {fault}") from fault
         if not message:
-            raise Gone("the helper is gone")
+            raise Gone("the root helper process died")
         good, text = json.loads(message)
         if not good:
             raise Refused(text)

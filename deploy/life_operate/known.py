@@ -34,7 +34,7 @@ class CurrentArchive:
 
     def __init__(self, archive: str, room: str) -> None:
         self.archive, self.state = archive, self.state_now(archive)
-        self.contents, self.words = None, "its log alone" if has_commit(archive) else "there was no archive"
+        self.contents, self.words = None, "only its log" if has_commit(archive) else "there was no archive"
         if os.path.exists(archive):
             try:
                 self.contents = read_archive(archive, os.path.join(room, "there.db"), archive)

@@ -231,7 +231,7 @@ class Restore:
         """Says where everything is, and the command that goes back."""
         there, aside = self.findings.there, os.path.join(self.folder, self.aside)
         if os.path.isdir(aside):
-            say(f"what was at {self.archive} is in {aside}: {there.words}")
+            say(f"the files of {self.archive} are in {aside}: {there.words}")
         if there.contents and differences(self.found, there.contents):
             say(f"it is a different archive from {self.archive} now: the same numbers name other deposits")
         elif there.contents and (gone := lost_numbers(self.found, there.contents)):

@@ -13,13 +13,13 @@ LINE = re.compile(r"([A-Z_]+)=([A-Za-z0-9_./:@%+*,\[\] -]*)")
 PORT = (r"[1-9][0-9]{0,4}", "a port from 1 to 65535")
 COUNT = (r"[1-9][0-9]{0,8}", "a number from 1 on")
 PATH = (r"/[A-Za-z0-9_./@+:-]*", "an absolute path without spaces")
-PATH_OR_NONE = (PATH[0] + "|", PATH[1] + ", or nothing")
+PATH_OR_NONE = (PATH[0] + "|", PATH[1] + ", or empty")
 USER = (r"[a-z_][a-z0-9_-]*", "the name of a user")
 RATE = (r"[1-9][0-9]{0,5}r/[sm]", "a rate such as 5r/s or 12r/m")
 TIME = (r"[1-9][0-9]{0,5}(ms|s|m|h)", "a time such as 30s")
 ADDRESS_OR_NONE = (
     r"|([A-Za-z0-9_.*-]+:|\[[0-9a-f:.]+\]:)?[1-9][0-9]{0,4}",
-    "a port, an address and a port such as [::]:80, or nothing",
+    "a port, an address and a port such as [::]:80, or empty",
 )
 CALENDAR = (r"[A-Za-z0-9*].*", "a systemd calendar such as *:0/15")
 # For each setting, the regular expression of its values, and what to say about them.
@@ -35,12 +35,12 @@ FORMS = {
     "LIFE_MEMORY": (r"[1-9][0-9]{0,8}[KMGT]", "an amount of memory such as 400M"),
     "LIFE_PORT": PORT,
     "PROXY_PORT": PORT,
-    "METRICS_PORT": (PORT[0] + "|", PORT[1] + ", or nothing"),
+    "METRICS_PORT": (PORT[0] + "|", PORT[1] + ", or empty"),
     "LISTEN": (ADDRESS_OR_NONE[0][1:], "a port, or an address and a port such as 127.0.0.1:80"),
     "LISTEN_ALSO": ADDRESS_OR_NONE,
     "REDIRECT": ADDRESS_OR_NONE,
     "REDIRECT_ALSO": ADDRESS_OR_NONE,
-    "HOST": (r"([A-Za-z0-9_.*-]+( [A-Za-z0-9_.*-]+)*)?", "names of hosts, or nothing"),
+    "HOST": (r"([A-Za-z0-9_.*-]+( [A-Za-z0-9_.*-]+)*)?", "names of hosts, or empty"),
     "TLS": (r"yes|no", "yes or no"),
     "TLS_CERTIFICATE": PATH,
     "TLS_KEY": PATH,
@@ -51,7 +51,7 @@ FORMS = {
     "OWN_SITE": PATH_OR_NONE,
     "FRONT_PROXIES": (
         r"([0-9a-f:.]+(/[0-9]{1,3})?( [0-9a-f:.]+(/[0-9]{1,3})?)*)?",
-        "addresses or networks such as 10.0.0.7 192.0.2.0/24, or nothing",
+        "addresses or networks such as 10.0.0.7 192.0.2.0/24, or empty",
     ),
     "FRONT_HEADER": (r"[A-Za-z][A-Za-z0-9-]*", "the name of a header such as X-Forwarded-For"),
     "PAGES": RATE,
@@ -88,7 +88,7 @@ FORMS = {
     "KEEP_MONTHS": COUNT,
     "SECOND_PLACE": (
         r"|([A-Za-z0-9_.@-]+:)?/[A-Za-z0-9_./@+-]*",
-        "a folder such as /mnt/club or club@host:/srv/club, or nothing",
+        "a folder such as /mnt/club or club@host:/srv/club, or empty",
     ),
     "ALARM_TO": (r"[A-Za-z0-9_.@+-]+", "a mail address"),
 }
@@ -150,7 +150,7 @@ def judge_passwords(settings: dict[str, str]) -> None:
     """Refuses a gateway that sends passwords unencrypted. Copies and restores don't check this."""
     if settings["MEMBERS_FILE"] and settings["TLS"] == "no" and not is_here_alone(settings):
         raise Wrong(
-            "MEMBERS_FILE needs TLS=yes, or LISTEN and LISTEN_ALSO on 127.0.0.1 and [::1] alone: "
+            "MEMBERS_FILE needs TLS=yes, or LISTEN and LISTEN_ALSO only on 127.0.0.1 and [::1]: "
             "otherwise passwords travel unencrypted"
         )
 

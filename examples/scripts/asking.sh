@@ -98,7 +98,7 @@ ask_again() {
 # Ends because no reply came, after printing curl's own error. The argument goes in front of the message.
 no_reply() {
   sed -n 1p "$room/errors" >&2
-  end "${1-}no reply from $archive; give the same command again"
+  end "${1-}no reply from $archive; run the same command again"
 }
 
 # Sets 'listed' to a line 'NUMBER MEMBER' for each of the deposits after number 'last', at most 100 of them, and then 'last' to the greatest
@@ -155,8 +155,8 @@ refusal() {
   case $1 in
     token-reused) echo 'token-reused: the token of this request was already used for something else' ;;
     out-of-limit) echo 'out-of-limit: a generation is 0 to 2048, a limit 1 to 2048' ;;
-    full) echo 'full: the archive takes no more' ;;
-    unavailable) echo 'unavailable: the archive could not do it now; give the same command again, nothing is stored twice' ;;
+    full) echo 'full: the archive has no room for more' ;;
+    unavailable) echo 'unavailable: the archive could not do it now; run the same command again, nothing is stored twice' ;;
     no-such-page) echo 'no-such-page: the URL is not that of an archive, such as http://localhost:8080' ;;
     password) echo 'password: the club knows its members by passwords; write yours into ~/.netrc' ;;
     *) echo "$1" ;;

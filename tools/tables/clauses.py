@@ -16,7 +16,7 @@ SECTIONS = (
     ("life_code", "life_census"),
     ("life_store", "life_desk", "life_check"),
     ("life_pages",),
-    ("life_words", "life_jobs", "life_archive", "life_program"),
+    ("life_words", "life_jobs", "life_archive", "life_program", "life_cli"),
     ("life_pictures", "life_hauls"),
 )
 

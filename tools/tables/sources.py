@@ -54,15 +54,20 @@ def files_like(form: str) -> List[str]:
     return sorted(path for path in files_of_repository() if re.fullmatch(form, path))
 
 
+def roots() -> Dict[str, str]:
+    """The file of each crate that says what it exports, except those for tests."""
+    found = {path.split("/")[1]: path for path in files_like(r"crates/\w+/src/(lib|main)\.rt")}
+    return {crate: path for crate, path in found.items() if not crate.endswith("_tests")}
+
+
 def libraries() -> List[str]:
     """The crates that are libraries, except those for tests."""
-    names = [path.split("/")[1] for path in files_like(r"crates/\w+/src/lib\.rt")]
-    return [name for name in names if not name.endswith("_tests")]
+    return [crate for crate, path in roots().items() if path.endswith("/lib.rt")]
 
 
 def exported(crate: str, read: Read) -> Set[str]:
-    """The names that a crate's `lib.rt` gives to other crates."""
-    uses = re.findall(r"pub use ([^;]*);", read(f"crates/{crate}/src/lib.rt"))
+    """The names that a crate exports: a library to other crates, a program the laws of its jobs."""
+    uses = re.findall(r"pub use ([^;]*);", read(roots()[crate]))
     named = [use.split("{")[1] if "{" in use else use.split("::")[-1] for use in uses]
     return {name for names in named for name in re.findall(r"\w+", names)}
 
@@ -117,11 +122,11 @@ def records_of_clauses(read: Read) -> Dict[str, List[str]]:
 
 
 def public_clauses(read: Read) -> Libraries:
-    """For each library, each public function with a contract, with its file and its clauses. A clause without
+    """For each crate, each public function with a contract, with its file and its clauses. A clause without
     a name is `ensures`. One that cites a record about its call's result counts as a clause for each field."""
     records = records_of_clauses(read)
     found: Libraries = {}
-    for crate in libraries():
+    for crate in roots():
         out = exported(crate, read)
         for path in files_like(rf"crates/{crate}/src/.*\.rt"):
             for one in functions(read(path)):

@@ -3,5 +3,3 @@ pub mod DepositCrashes
 pub mod SessionLemmas
 pub mod PathLemmas
 pub mod PathJobs
-pub mod CheckLemmas
-pub mod PutLemmas

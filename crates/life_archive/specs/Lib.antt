@@ -2,4 +2,3 @@ pub mod Stop
 pub mod Deposit
 pub mod Session
 pub mod Path
-pub mod Checking

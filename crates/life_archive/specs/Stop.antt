@@ -5,7 +5,7 @@ use Rattle.life_jobs.specs.Stop as jobs
 use Rattle.life_pages.specs.declared.fault.IoFault.{IoFault}
 use Rattle.life_pages.specs.declared.fault.IoFault.TheVariants as fault
 use Rattle.life_archive.specs.declared.stop.ArchiveStop.{ArchiveStop}
-use Rattle.life_archive.specs.declared.stop.ArchiveStop.TheVariants.{Job, Desk, NotOurs, NoPort, NotSound}
+use Rattle.life_archive.specs.declared.stop.ArchiveStop.TheVariants.{Job, Desk, NotOurs, NoPort}
 
 -- the line of a stop
 abbrev pub line_of : ArchiveStop → List ℕ
@@ -13,7 +13,6 @@ line_of (Job stop) = jobs.line_of stop
 line_of (Desk refusal) = refusals.line_of refusal
 line_of NotOurs = codes "refused: not-ours"
 line_of NoPort = codes "refused: no-port"
-line_of NotSound = codes "refused: not-sound"
 
 -- the line for a connection that failed
 abbrev pub connection_line : IoFault → List ℕ

@@ -1,13 +1,11 @@
 //! The jobs of `life` over an archive, on any streams, and why they stop.
 #![tactic(auto)]
 
-mod checking;
 mod deposit;
 mod path;
 mod session;
 mod stop;
 
-pub use checking::{law_of_checked_files, run_check};
 pub use deposit::run_deposit;
 pub use life_pages::serve as run_serve;
 pub use path::{PathFiles, deposit_path, law_of_path_jobs, serve_path};

@@ -17,8 +17,6 @@ pub enum ArchiveStop {
     NotOurs,
     /// The program can't listen at the port.
     NoPort,
-    /// The file was checked, and is not an archive as this program writes it.
-    NotSound,
 }
 
 impl ArchiveStop {
@@ -31,7 +29,6 @@ impl ArchiveStop {
             ArchiveStop::Desk(refusal) => refusal.line(),
             ArchiveStop::NotOurs => "refused: not-ours",
             ArchiveStop::NoPort => "refused: no-port",
-            ArchiveStop::NotSound => "refused: not-sound",
         }
     }
 }

@@ -6,3 +6,4 @@ pub mod SoundLemmas
 pub mod FileLemmas
 pub mod NameLemmas
 pub mod ListedLemmas
+pub mod ReportLemmas

@@ -5,3 +5,4 @@ pub mod Sound
 pub mod Listed
 pub mod Schemas
 pub mod Files
+pub mod Report

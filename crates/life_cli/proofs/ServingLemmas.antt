@@ -14,7 +14,8 @@ use Rattle.life_archive.specs.declared.stop.ArchiveStop.{ArchiveStop}
 use Rattle.life_archive.specs.Deposit.{by_streams}
 use Rattle.life_archive.specs.Path.{PathFiles, DepositsAt, IsPathSession, IsUnserved, AnswersDeposit, AnswersServing}
 use Rattle.life_archive.specs.Path.{line_after}
-use Rattle.life_archive.specs.Checking.{by_output, ChecksAt, AnswersCheck}
+use Rattle.life_check.specs.declared.report.CheckStop.{CheckStop}
+use Rattle.life_check.specs.Report as report
 
 module _ {D L : Type 0} (g : disk.Ghosts D) (image : Image) (capacity count failures : ℕ) (x : Traffic)
     (same : x ≡ unknown 0) (text : L → List ℕ) where
@@ -56,14 +57,14 @@ module _ {D I O L : Type 0} (g : disk.Ghosts D) (i : inlet.Ghosts I) (o : outlet
       record { answer = answer; left = left; deposits = deposits; takes = takes; once = once; printed = sym is }
 
 module _ {D O L : Type 0} (quick : Bool) (g : disk.Ghosts D) (o : outlet.Ghosts O) (image : Image)
-    (capacity : ℕ) (output sent : O) (answer : Result (Unit {0}) ArchiveStop) (left : CheckedFiles D)
-    (checks : ChecksAt quick g image capacity (o.already output) (o.already sent) answer left)
-    (once : PutsOnce output sent (o.failures output) (o.failures sent) (o.last_failed sent) (by_output answer))
+    (capacity : ℕ) (output sent : O) (answer : Result (Unit {0}) CheckStop) (left : CheckedFiles D)
+    (checks : report.ChecksAt quick g image capacity (o.already output) (o.already sent) answer left)
+    (once : PutsOnce output sent (o.failures output) (o.failures sent) (o.last_failed sent) (report.by_output answer))
     (text : L → List ℕ) where
   -- a check, with the line of its stop
   pub check_answers : (r : Result (Unit {0}) L)
-      → MatchResult r (λ u. line_after answer ≡ None) (λ line. line_after answer ≡ Some (text line))
-      → MatchResult r (λ u. AnswersCheck quick g o image capacity output sent None)
-      (λ line. AnswersCheck quick g o image capacity output sent (Some (text line)))
+      → MatchResult r (λ u. report.line_after answer ≡ None) (λ line. report.line_after answer ≡ Some (text line))
+      → MatchResult r (λ u. report.AnswersCheck quick g o image capacity output sent None)
+      (λ line. report.AnswersCheck quick g o image capacity output sent (Some (text line)))
   check_answers (Ok u) is = record { answer = answer; left = left; checks = checks; once = once; printed = sym is }
   check_answers (Err line) is = record { answer = answer; left = left; checks = checks; once = once; printed = sym is }

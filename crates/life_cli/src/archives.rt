@@ -2,11 +2,12 @@
 ghost use Rattle.std.specs.Prelude.{◌≡◌, None, Some, MatchResult};
 ghost use Rattle.sqlite_wal.specs.Files.{image_at};
 ghost use Rattle.life_archive.specs.Path.{AnswersDeposit, AnswersServing, line_after};
-ghost use Rattle.life_archive.specs.Checking.{AnswersCheck};
+ghost use Rattle.life_check.specs.Report.{AnswersCheck, line_after as line_after_check};
 
 use crate::net::Port;
 use crate::progress::CheckProgress;
-use life_archive::{ArchiveStop, deposit_path, run_check, serve_path};
+use life_archive::{ArchiveStop, deposit_path, serve_path};
+use life_check::{CheckStop, run_check};
 use life_program::ArchiveJobs;
 use life_rle::{Inlet, Outlet};
 use sqlite::{FileFrom, Start};
@@ -18,6 +19,16 @@ const CAPACITY: u64 = 1_000_000;
 /// Turns a stop into its line.
 fn or_line(done: Result<(), ArchiveStop>) -> Result<(), &'static str>
     ensures { MatchResult result (λ _. line_after done ≡ None) (λ line. line_after done ≡ Some line.now) }
+{
+    match done {
+        Ok(()) => Ok(()),
+        Err(stop) => Err(stop.line()),
+    }
+}
+
+/// Turns the stop of a check into its line.
+fn or_line_of_check(done: Result<(), CheckStop>) -> Result<(), &'static str>
+    ensures { MatchResult result (λ _. line_after_check done ≡ None) (λ line. line_after_check done ≡ Some line.now) }
 {
     match done {
         Ok(()) => Ok(()),
@@ -75,6 +86,6 @@ impl<T: Start> ArchiveJobs for InFiles<T> {
     ) -> Result<(), &'static str> {
         let mut progress = CheckProgress::begin(rt);
         let (done, _left) = run_check(rt, file, CAPACITY, self.start, quick, &mut progress, output);
-        or_line(done)
+        or_line_of_check(done)
     }
 }

@@ -2,9 +2,12 @@
 #![tactic(auto)]
 
 mod archives;
+mod laws;
 mod net;
 mod peer;
 mod progress;
+
+pub use laws::law_of_checked_files;
 
 use archives::InFiles;
 use life_program::run_program;

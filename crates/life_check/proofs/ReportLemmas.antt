@@ -6,10 +6,10 @@ use Rattle.life_jobs.specs.declared.stop.Stop.TheVariants.{Unavailable, Unwritab
 use Rattle.life_jobs.specs.Streams.{PutsText, PutsOnce}
 use Rattle.life_check.specs.declared.judging.Verdict.{Verdict}
 use Rattle.life_check.specs.declared.judging.Verdict.TheVariants.{Sound, SoundButForCounts, NotSound}
-use Rattle.life_archive.specs.declared.stop.ArchiveStop.{ArchiveStop}
-use Rattle.life_archive.specs.declared.stop.ArchiveStop.TheVariants as stops
+use Rattle.life_check.specs.declared.report.CheckStop.{CheckStop}
+use Rattle.life_check.specs.declared.report.CheckStop.TheVariants as stops
 use Rattle.life_check.specs.declared.judging.Wrong.{Wrong}
-use Rattle.life_archive.specs.Checking.{checked_lines, answer_of, PutsVerdict, by_output}
+use Rattle.life_check.specs.Report.{checked_lines, answer_of, PutsVerdict, by_output}
 
 -- the lines were not put
 pub stopped_verdict : (v : Verdict) (further : List Wrong) (before after : Option (List ℕ)) (stop : Stop)
@@ -25,7 +25,7 @@ stopped_verdict v further before after Unreadable put = absurd put
 
 -- they were
 pub put_answer : (v : Verdict) (further : List Wrong) (before after : Option (List ℕ))
-    (answer : Result (Unit {0}) ArchiveStop) → answer ≡ answer_of v
+    (answer : Result (Unit {0}) CheckStop) → answer ≡ answer_of v
     → PutsText before after (checked_lines v further) (Ok tt) → PutsVerdict v further before after answer
 put_answer v further before after answer is put = inl (is, put)
 
@@ -34,8 +34,8 @@ by_answer (Sound d c) = refl
 by_answer (SoundButForCounts d c) = refl
 by_answer (NotSound w) = refl
 
-pub put_once : {O : Type 0} (old new : O) (a b : ℕ) (last : Bool) (v : Verdict) (answer : Result (Unit {0}) ArchiveStop)
+pub put_once : {O : Type 0} (old new : O) (a b : ℕ) (last : Bool) (v : Verdict) (answer : Result (Unit {0}) CheckStop)
     → answer ≡ answer_of v → PutsOnce old new a b last (Ok tt) → PutsOnce old new a b last (by_output answer)
 put_once old new a b last v answer is once =
-    subst (λ (r : Result (Unit {0}) ArchiveStop). PutsOnce old new a b last (by_output r))
+    subst (λ (r : Result (Unit {0}) CheckStop). PutsOnce old new a b last (by_output r))
     (sym is) (subst (λ (r : Result (Unit {0}) Stop). PutsOnce old new a b last r) (sym (by_answer v)) once)

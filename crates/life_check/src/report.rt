@@ -4,16 +4,37 @@ ghost use Rattle.std.specs.List.{flat_map};
 ghost use Rattle.life_core.specs.Ascii.{line_feed};
 ghost use Rattle.sqlite_wal.specs.Files.{image_at};
 ghost use Rattle.life_jobs.specs.Streams.{PutsText, PutsOnce};
-ghost use Rattle.life_archive.specs.Checking.{wrong_words, error_line, verdict_words, verdict_line, checked_lines, answer_of, PutsChecked, by_output, ChecksAt, CheckedFilesBegin};
+ghost use Rattle.life_check.specs.Report.{line_of, wrong_words, error_line, verdict_words, verdict_line, checked_lines, answer_of, PutsChecked, by_output, ChecksAt};
 
-use crate::stop::ArchiveStop;
-use life_check::{CheckedFiles, Verdict, Watch, Wrong, check_path};
+use crate::files::{CheckedFiles, check_path};
+use crate::judging::{Verdict, Wrong};
+use crate::watch::Watch;
 use life_jobs::{Stop, put_text};
 use life_rle::Outlet;
 use life_store::Unavailable;
 use sqlite::{FileFrom, Start};
-use sqlite_disk::Disk;
 use std::alloc::{AllocError, Global};
+
+/// Why a check stopped.
+#[derive(Clone, Copy, Debug, PartialEq, Eq)]
+pub enum CheckStop {
+    /// A stop that a job without an archive may have too.
+    Job(Stop),
+    /// The file was checked, and is not an archive as this program writes it.
+    NotSound,
+}
+
+impl CheckStop {
+    /// The line for standard error, without its line end. It is empty if nothing is printed.
+    pub fn line(&self) -> &'static str
+        ensures { result.now ≡ line_of self.now }
+    {
+        match self {
+            CheckStop::Job(stop) => stop.line(),
+            CheckStop::NotSound => "refused: not-sound",
+        }
+    }
+}
 
 /// An error, in words.
 fn wrong_words(alloc: Global, wrong: Wrong) -> Result<Vec<u8>, AllocError>
@@ -89,13 +110,13 @@ fn checked_lines(alloc: Global, verdict: Verdict, further: &[Wrong]) -> Result<V
 }
 
 /// The answer once the lines of the result were put.
-fn answer_of(verdict: Verdict) -> Result<(), ArchiveStop>
+fn answer_of(verdict: Verdict) -> Result<(), CheckStop>
     ensures { result ≡ answer_of verdict }
 {
     match verdict {
         Verdict::Sound(_, _) => Ok(()),
         Verdict::SoundButForCounts(_, _) => Ok(()),
-        Verdict::NotSound(_) => Err(ArchiveStop::NotSound),
+        Verdict::NotSound(_) => Err(CheckStop::NotSound),
     }
 }
 
@@ -121,16 +142,16 @@ fn put_checked<O: Outlet>(
     checked: Result<Verdict, Unavailable>,
     further: &[Wrong],
     output: &mut O,
-) -> Result<(), ArchiveStop>
+) -> Result<(), CheckStop>
     ensures puts { PutsChecked checked further.now (O.already output.old) (O.already output.new) result }
     ensures once { PutsOnce output.old output.new (O.failures output.old) (O.failures output.new) (O.last_failed output.new) (by_output result) }
 {
     let Ok(verdict) = checked else {
-        return Err(ArchiveStop::Job(Stop::Unavailable));
+        return Err(CheckStop::Job(Stop::Unavailable));
     };
     match put_verdict(alloc, verdict, further, output) {
         Ok(()) => answer_of(verdict),
-        Err(stop) => Err(ArchiveStop::Job(stop)),
+        Err(stop) => Err(CheckStop::Job(stop)),
     }
 }
 
@@ -143,7 +164,7 @@ pub fn run_check<T: Start, W: Watch, O: Outlet>(
     quick: bool,
     watch: &mut W,
     output: &mut O,
-) -> (Result<(), ArchiveStop>, CheckedFiles<T>)
+) -> (Result<(), CheckStop>, CheckedFiles<T>)
     ensures checks { ChecksAt quick ⟦<FileFrom<T> as Disk>⟧ (image_at T.Start) capacity (O.already output.old) (O.already output.new) result.0 result.1 }
     ensures once { PutsOnce output.old output.new (O.failures output.old) (O.failures output.new) (O.last_failed output.new) (by_output result.0) }
 {
@@ -151,9 +172,3 @@ pub fn run_check<T: Start, W: Watch, O: Outlet>(
     let done = put_checked(rt.alloc(), checked, further.as_slice(), output);
     (done, left)
 }
-
-/// What `life check` calls sound, without `--quick`, is an archive, whoever wrote it, and the next `life serve` or `life deposit` begins
-/// with it. A law: calling it does nothing.
-pub fn law_of_checked_files<D: Disk, E: Disk>()
-    ensures { CheckedFilesBegin D.Disk E.Disk }
-{}

@@ -1,32 +1,26 @@
--- What the program prints of a check of the file of a path, and the job that opens the file next.
-use Rattle.std.specs.Prelude.{◌≡◌, ◌⊎◌, ◌∷◌, ◌++◌, [], ℕ, Bool, false, List, length, codes, Option, Some, Result, Ok}
+-- What the program prints of a check of the file of a path.
+use Rattle.std.specs.Prelude.{◌≡◌, ◌⊎◌, ◌∷◌, ◌++◌, [], ℕ, Bool, List, codes, Option, None, Some, Result, Ok}
 use Rattle.std.specs.Prelude.{Err}
 use Rattle.std.specs.Fmt.{decimal}
 use Rattle.std.specs.List.{flat_map}
 use Rattle.life_core.specs.Ascii.{line_feed}
 use Rattle.sqlite_disk.specs.declared.Disk as disk
-use Rattle.sqlite_disk.specs.declared.Files.{Files}
-use Rattle.sqlite_wal.specs.Files.{outcomes}
-use Rattle.sqlite_wal.specs.Reads.{AreClean}
 use Rattle.sqlite_wal.specs.Recovery.{Image}
 use Rattle.life_rle.specs.declared.stream.Outlet as outlet
 use Rattle.life_rle.specs.Stream.{Appends, AppendsSome}
 use Rattle.life_jobs.specs.declared.stop.Stop.{Stop}
 use Rattle.life_jobs.specs.declared.stop.Stop.TheVariants.{Unavailable, Unwritable}
+use Rattle.life_jobs.specs.Stop as jobs
 use Rattle.life_jobs.specs.Streams.{PutsOnce}
 use Rattle.life_store.specs.declared.fault.Unavailable.{Unavailable as Failed}
-use Rattle.life_desk.specs.Archive.{Archive}
 use Rattle.life_check.specs.declared.judging.Verdict.{Verdict}
 use Rattle.life_check.specs.declared.judging.Verdict.TheVariants.{Sound, SoundButForCounts, NotSound}
 use Rattle.life_check.specs.declared.judging.Wrong.{Wrong}
 use Rattle.life_check.specs.declared.judging.Wrong.TheVariants as wrong
 use Rattle.life_check.specs.Files.{CheckedFiles, ChecksPath}
 use Rattle.life_check.specs.Listed.{AreFurther}
-use Rattle.life_archive.specs.declared.stop.ArchiveStop.{ArchiveStop}
-use Rattle.life_archive.specs.declared.stop.ArchiveStop.TheVariants as stops
-use Rattle.life_archive.specs.Deposit.{by_streams}
-use Rattle.life_archive.specs.Path.{PathJob, BecomesBy, LeavesOne, line_after}
-use Rattle.life_archive.specs.Session.{under}
+use Rattle.life_check.specs.declared.report.CheckStop.{CheckStop}
+use Rattle.life_check.specs.declared.report.CheckStop.TheVariants as stops
 
 -- ---- what is printed
 
@@ -59,7 +53,7 @@ abbrev pub checked_lines : Verdict → List Wrong → List ℕ
 checked_lines v further = verdict_line v ++ flat_map error_line further
 
 -- the answer once these were put
-abbrev pub answer_of : Verdict → Result (Unit {0}) ArchiveStop
+abbrev pub answer_of : Verdict → Result (Unit {0}) CheckStop
 answer_of (Sound d c) = Ok tt
 answer_of (SoundButForCounts d c) = Ok tt
 answer_of (NotSound w) = Err stops.NotSound
@@ -67,7 +61,7 @@ answer_of (NotSound w) = Err stops.NotSound
 -- What is put and answered for the result and the errors after the first: their lines; a prefix of them, if a put
 -- failed; or nothing, if memory ran out.
 abbrev pub PutsVerdict : Verdict → List Wrong → Option (List ℕ) → Option (List ℕ)
-    → Result (Unit {0}) ArchiveStop → Type 0
+    → Result (Unit {0}) CheckStop → Type 0
 PutsVerdict v further before after answer =
     ((answer ≡ answer_of v) × Appends before after (checked_lines v further))
     ⊎ (((answer ≡ Err (stops.Job Unwritable)) × AppendsSome before after (checked_lines v further))
@@ -75,43 +69,43 @@ PutsVerdict v further before after answer =
 
 -- The same of a check that gave no result.
 abbrev pub PutsChecked : Result Verdict Failed → List Wrong → Option (List ℕ) → Option (List ℕ)
-    → Result (Unit {0}) ArchiveStop → Type 0
+    → Result (Unit {0}) CheckStop → Type 0
 PutsChecked (Ok v) further before after answer = PutsVerdict v further before after answer
 PutsChecked (Err e) further before after answer = answer ≡ Err (stops.Job Unavailable)
 
 -- the answer as the output sees it: the line of an unsound file was put
-abbrev pub by_output : Result (Unit {0}) ArchiveStop → Result (Unit {0}) Stop
+abbrev pub by_output : Result (Unit {0}) CheckStop → Result (Unit {0}) Stop
+by_output (Ok done) = Ok done
+by_output (Err (stops.Job stop)) = Err stop
 by_output (Err stops.NotSound) = Ok tt
-by_output answer = by_streams answer
+
+-- ---- the line on standard error
+
+-- the line of a stop, without its line end
+abbrev pub line_of : CheckStop → List ℕ
+line_of (stops.Job stop) = jobs.line_of stop
+line_of stops.NotSound = codes "refused: not-sound"
+
+-- the line that is printed after an answer, if any
+abbrev pub line_after : Result (Unit {0}) CheckStop → Option (List ℕ)
+line_after (Ok done) = None
+line_after (Err stop) = Some (line_of stop)
 
 -- ---- the files of a path
 
 -- The file could not be opened, and nothing was put; or it was checked, and what was found was put.
 abbrev pub ChecksAt : {D : Type 0} → Bool → disk.Ghosts D → Image → ℕ → Option (List ℕ) → Option (List ℕ)
-    → Result (Unit {0}) ArchiveStop → CheckedFiles D → Type 0
+    → Result (Unit {0}) CheckStop → CheckedFiles D → Type 0
 ChecksAt quick g image capacity before after answer left =
     (checked : Result Verdict Failed) × (further : List Wrong) × ChecksPath quick g image capacity checked further left
     × AreFurther checked further × PutsChecked checked further before after answer
-
--- Files were checked, with each census counted again, and the answer Ok, and `life serve` or `life deposit` opens them
--- next, maybe on another disk, or what a crash left of them. If the disk was honest, there is an archive A with which
--- that job begins: what it leaves it leaves of A, under its own capacity. The line that was put has the numbers of
--- deposits and censuses of A. Nothing is supposed about who wrote the files.
-abbrev pub CheckedFilesBegin : {D E : Type 0} → disk.Ghosts D → disk.Ghosts E → Type 0
-CheckedFilesBegin {D} {E} g h =
-    (image again : Image) (capacity next : ℕ) (before after : Option (List ℕ)) (files : Files D)
-    (left : Result (Files E) (Files E))
-    → ChecksAt false g image capacity before after (Ok tt) (Some (Ok files)) → (two : PathJob h again next left)
-    → AreClean g files.log files.db → outcomes g files.log files.db again
-    → (A : Archive) × Appends before after (verdict_line (Sound (length A.deposits) (length A.censuses)))
-    × LeavesOne h (BecomesBy two (under next A)) left
 
 -- ---- what the program prints
 
 -- A check, with the line that is printed if it stops.
 pub record AnswersCheck {D O : Type 0} (quick : Bool) (g : disk.Ghosts D) (o : outlet.Ghosts O)
     (image : Image) (capacity : ℕ) (output sent : O) (line : Option (List ℕ)) : Type 0 where
-  pub answer : Result (Unit {0}) ArchiveStop
+  pub answer : Result (Unit {0}) CheckStop
   pub left : CheckedFiles D
   pub checks : ChecksAt quick g image capacity (o.already output) (o.already sent) answer left
   pub once : PutsOnce output sent (o.failures output) (o.failures sent) (o.last_failed sent) (by_output answer)

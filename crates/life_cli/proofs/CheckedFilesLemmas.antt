@@ -15,14 +15,15 @@ use Rattle.life_check.specs.declared.judging.Verdict.TheVariants.{Sound, SoundBu
 use Rattle.life_check.specs.declared.judging.Wrong.{Wrong}
 use Rattle.life_check.specs.Files.{ChecksPath, IsPathCheck}
 use Rattle.life_check.specs.Listed.{AreFurther}
-use Rattle.life_archive.specs.declared.stop.ArchiveStop.{ArchiveStop}
 use Rattle.life_archive.specs.Path.{PathJob, BecomesBy, LeavesOne}
 use Rattle.life_archive.specs.Session.{under}
-use Rattle.life_archive.specs.Checking.{verdict_line, checked_lines, PutsVerdict, PutsChecked, CheckedFilesBegin}
+use Rattle.life_check.specs.declared.report.CheckStop.{CheckStop}
+use Rattle.life_check.specs.Report.{verdict_line, checked_lines, PutsVerdict, PutsChecked}
+use Rattle.life_cli.specs.CheckedFiles.{CheckedFilesBegin}
 use Rattle.life_archive.proofs.PathJobs.{job_leaves}
 
 -- an answer Ok is not that of a stop
-done_is_no_stop : {stop : ArchiveStop} {done : Unit {0}} → Ok done ≡ Err stop → ⊥
+done_is_no_stop : {stop : CheckStop} {done : Unit {0}} → Ok done ≡ Err stop → ⊥
 done_is_no_stop same = cc
 
 whole_is_not_quick : false ≡ true → ⊥

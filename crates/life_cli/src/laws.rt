@@ -1,0 +1,10 @@
+//! What follows from the contracts of two jobs together.
+ghost use Rattle.life_cli.specs.CheckedFiles.{CheckedFilesBegin};
+
+use sqlite_disk::Disk;
+
+/// What `life check` calls sound, without `--quick`, is an archive, whoever wrote it, and the next `life serve` or `life deposit` begins
+/// with it. A law: calling it does nothing.
+pub fn law_of_checked_files<D: Disk, E: Disk>()
+    ensures { CheckedFilesBegin D.Disk E.Disk }
+{}

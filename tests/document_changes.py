@@ -67,7 +67,7 @@ PLANTED = {
     "web/index.html": ("<title>", "<title>No page and no archive: "),
     "crates/life_words/src/life_arguments.rt": ("Stores the pattern", "Stores so many patterns"),
     "crates/life_core/src/rule.rt": ("/// A rule", "/// It is no rule. A rule"),
-    "crates/core_tests/src/planes.rt": ("//! Patterns", "//! So many patterns"),
+    "crates/life_tests/src/planes.rt": ("//! Patterns", "//! So many patterns"),
     "crates/life_core/specs/Rule.antt": ("-- a finite set", "-- as far as it goes, a set"),
     "crates/life_core/proofs/BlockChanges.antt": ("-- The blocks", "-- The blocks that come again, and those"),
     "tools/tables/version.py": ("in all other places", "wherever it stands,"),

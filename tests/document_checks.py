@@ -478,7 +478,7 @@ def wording(pages: Pages) -> Problems:
 
 # What ./check lists for these paths: crates and parts.
 LISTED = [
-    (["crates/life_hauls/src/lib.rt"], "life_hauls life_haul haul_tests", "documents finds hauls slurm"),
+    (["crates/life_hauls/src/lib.rt"], "life_hauls life_haul life_tests archive_tests", "documents finds hauls slurm"),
     (["crates/life_haul/src/main.rt"], "life_haul", "documents finds hauls slurm"),
     (["web/main.js"], "", "documents lint web"),
     (["tests/web_haul.py"], "", "lint web"),

@@ -5,7 +5,7 @@ use life_desk::Refusal;
 use life_jobs::Stop;
 use life_rle::RleFault;
 use life_store::Archive;
-use shared_tests::job_streams::Flow;
+use life_tests::job_streams::Flow;
 use sqlite::Alter;
 use std::alloc::Global;
 use std::test::Fail;

@@ -6,7 +6,7 @@ use crate::pages::{
 use crate::requests::{Example, other_in_memory};
 use life_pages::IoFault;
 use life_store::Archive;
-use shared_tests::job_streams::Flow;
+use life_tests::job_streams::Flow;
 use sqlite::Alter;
 use std::alloc::{AllocError, Global};
 use std::test::Fail;

@@ -6,7 +6,7 @@ use life_archive::run_serve;
 use life_pages::IoFault;
 use life_rle::{PieceInlet, PieceOutlet};
 use life_store::Archive;
-use shared_tests::job_streams::Flow;
+use life_tests::job_streams::Flow;
 use sqlite::Alter;
 use std::alloc::{AllocError, Global};
 use std::test::Fail;

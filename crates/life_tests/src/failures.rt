@@ -1,6 +1,8 @@
 //! Failing each allocation of a call in turn, and each take and each put of a stream in turn.
 ghost use Rattle.std.specs.Prelude.{◌<◌};
 
+use crate::allocations::refuse_each;
+use crate::refusing::Refusing;
 use life_census::{Tally, clusters, csv, steady, tally, tally_and_steady};
 use life_code::{CodeFault, Kind, code, kind, open_code};
 use life_core::{Fault, PLANE, Pattern, Rule, generation};
@@ -8,8 +10,6 @@ use life_rle::{
     PieceInlet, PieceOutlet, ReadFault, Record, RleFault, WriteFault, read, read_from, write,
     write_to,
 };
-use shared_tests::allocations::refuse_each;
-use shared_tests::refusing::Refusing;
 use std::alloc::{Allocator, Global};
 
 /// A file, and its canonical text.

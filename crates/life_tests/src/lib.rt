@@ -1,6 +1,15 @@
-//! Tests over the crates of patterns.
+//! Tests over patterns, jobs, pictures and hauls; and what these share with `archive_tests`: an allocator that fails, calls whose
+//! allocations fail in turn, jobs on streams that fail at a call, and command lines.
 #![tactic(auto)]
 
+pub mod allocations;
+pub mod arguments;
+#[cfg(test)]
+mod draw_command_lines;
+#[cfg(test)]
+mod drawing;
+#[cfg(test)]
+mod drawing_allocations;
 #[cfg(test)]
 mod failures;
 #[cfg(test)]
@@ -8,6 +17,22 @@ mod fields;
 #[cfg(test)]
 mod files;
 #[cfg(test)]
+mod haul_command_lines;
+#[cfg(test)]
+mod hauls;
+#[cfg(test)]
+mod job_runs;
+pub mod job_streams;
+#[cfg(test)]
 mod kinds;
+#[cfg(test)]
+mod life_command_lines;
+#[cfg(test)]
+mod planes;
+pub mod refusing;
+#[cfg(test)]
+mod rows;
+#[cfg(test)]
+mod rules;
 #[cfg(test)]
 mod settled;

@@ -1,9 +1,9 @@
 //! Each allocation of a picture refused in turn.
+use crate::allocations::refuse_each;
+use crate::refusing::Refusing;
 use life_core::Fault;
 use life_pictures::{Picture, animation, svg, text};
 use life_rle::{Record, RleFault, read};
-use shared_tests::allocations::refuse_each;
-use shared_tests::refusing::Refusing;
 
 /// A file whose document is longer than a few allocations give room for.
 const FILE: &[u8] = b"#N A & B\nx = 9, y = 3\nobobobobo2$bobobobo!\n";

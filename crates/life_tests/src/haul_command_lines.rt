@@ -1,6 +1,6 @@
 //! Command lines of `life-haul`, and the jobs that their arguments name.
+use crate::arguments::{is_named, other_line};
 use life_hauls::{HaulWords, Job, SoupWords, Symmetry, read_words};
-use shared_tests::arguments::{is_named, other_line};
 use std::alloc::Global;
 
 /// A thousand soups under Conway's Life.

@@ -34,11 +34,11 @@ use denote.Triple.Call.{calls_at}
 use denote.Triple.Clauses.{Ended, Clauses}
 use denote.Triple.Statement.{Triple}
 use denote.Triple.Walked.{Stays, stay_dropped, walk_of, ends_at, Goes-dropped}
-use Rattle.shared_tests.specs.contracts.refusing.Refusing as refusing
-use Rattle.shared_tests.specs.contracts.refusing.RefusingAllocator.deallocate as F
-use Rattle.shared_tests.specs.contracts.refusing.RefusingAllocator.deallocate.Key as key
-use Rattle.shared_tests.proofs.refusing.RefusingAllocator.deallocate.Statement.{statement}
-use Rattle.shared_tests.proofs.refusing.RefusingAllocator.deallocate.Code as code
+use Rattle.life_tests.specs.contracts.refusing.Refusing as refusing
+use Rattle.life_tests.specs.contracts.refusing.RefusingAllocator.deallocate as F
+use Rattle.life_tests.specs.contracts.refusing.RefusingAllocator.deallocate.Key as key
+use Rattle.life_tests.proofs.refusing.RefusingAllocator.deallocate.Statement.{statement}
+use Rattle.life_tests.proofs.refusing.RefusingAllocator.deallocate.Code as code
 
 module _ (Z : Al) where
   abbrev args : Args

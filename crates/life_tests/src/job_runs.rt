@@ -1,8 +1,8 @@
 //! Jobs over streams in memory: whole, byte by byte, and with a take or a put that fails.
+use crate::job_streams::{End, Run, other_run};
 use life_code::CodeFault;
 use life_jobs::{Stop, run_census, run_generation, run_kind, run_object};
 use life_rle::{PieceInlet, PieceOutlet, RleFault};
-use shared_tests::job_streams::{End, Run, other_run};
 use std::alloc::Global;
 
 /// A job, with its numbers and arguments.

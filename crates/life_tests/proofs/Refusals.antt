@@ -17,7 +17,7 @@ use denote.RattleType.{RattleType}
 use denote.Steps.{nothing, only}
 use denote.Triple.Spec.{triple_of}
 use denote.Triple.Statement.{Contract}
-use Rattle.shared_tests.specs.contracts.refusing.is_refused as f
+use Rattle.life_tests.specs.contracts.refusing.is_refused as f
 
 abbrev pub Count : RattleType
 Count = cell.the_row u64

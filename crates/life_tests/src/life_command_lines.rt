@@ -1,6 +1,6 @@
 //! Command lines, and the jobs that their arguments name.
+use crate::arguments::{is_named, other_line};
 use life_words::{Job, explanation, read_words, refusal_names};
-use shared_tests::arguments::{is_named, other_line};
 use std::alloc::Global;
 use std::test::Fail;
 

@@ -38,14 +38,14 @@ use denote.Triple.Clauses.{Ended, Clauses}
 use denote.Triple.Statement.{Triple}
 use denote.Triple.Table.{cited}
 use denote.Triple.Walked.{Stays, stay_dropped, walk_of, ends_at, Goes-dropped}
-use Rattle.shared_tests.proofs.Refusals.{Asks, at_asks, Asks-goes, Asks-gives}
-use Rattle.shared_tests.proofs.refusing.is_refused.Symbol as asks_key
-use Rattle.shared_tests.proofs.refusing.is_refused.Met as asks
-use Rattle.shared_tests.specs.contracts.refusing.Refusing as refusing
-use Rattle.shared_tests.specs.contracts.refusing.RefusingAllocator.allocate as F
-use Rattle.shared_tests.specs.contracts.refusing.RefusingAllocator.allocate.Key as key
-use Rattle.shared_tests.proofs.refusing.RefusingAllocator.allocate.Statement.{statement}
-use Rattle.shared_tests.proofs.refusing.RefusingAllocator.allocate.Code as code
+use Rattle.life_tests.proofs.Refusals.{Asks, at_asks, Asks-goes, Asks-gives}
+use Rattle.life_tests.proofs.refusing.is_refused.Symbol as asks_key
+use Rattle.life_tests.proofs.refusing.is_refused.Met as asks
+use Rattle.life_tests.specs.contracts.refusing.Refusing as refusing
+use Rattle.life_tests.specs.contracts.refusing.RefusingAllocator.allocate as F
+use Rattle.life_tests.specs.contracts.refusing.RefusingAllocator.allocate.Key as key
+use Rattle.life_tests.proofs.refusing.RefusingAllocator.allocate.Statement.{statement}
+use Rattle.life_tests.proofs.refusing.RefusingAllocator.allocate.Code as code
 
 module _ (Z : Al) where
   abbrev args : Args
@@ -155,7 +155,7 @@ allocate_spec 𝓤 𝓛 𝓜 𝓡 wired Y L g d d' met _ =
     let 𝓣 : Tables 𝓤 𝓛.H = tables_of 𝓤 𝓛.H 𝓜 (tables 𝓤 𝓛.H 𝓜 𝓡 𝓡.env) in
     let numbers = Goes-dropped 𝓛 2 (plain (λ _. usize)) yes (λ κs x f. refl) in
     let counts = cited 𝓤 𝓛.H _ 𝓜 𝓡 𝓡.env asks_key.name (𝓡.env asks_key.name) refl
-    (asks.met 𝓤 𝓛 𝓜 𝓡 (code.calls-shared_tests::refusing::is_refused 𝓡.env wired)) in
+    (asks.met 𝓤 𝓛 𝓜 𝓡 (code.calls-life_tests::refusing::is_refused 𝓡.env wired)) in
     proved 𝓛 (ended Z) (stayed Z) (F.clauses Y g d d' 𝓛 𝓜.mem 𝓡.returns) 𝓜 𝓡
     (Goes-dropped 𝓛 2 (self Z) yes (λ κs x f. refl), (numbers, (numbers, tt)))
     (key.name (args Z)) (here Z) (code.unfolded 𝓤 𝓛.H 𝓜 𝓡 wired (Y, tt) d d')

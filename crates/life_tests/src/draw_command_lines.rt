@@ -1,6 +1,6 @@
 //! Command lines of `life-draw`, and the pictures that their arguments name.
+use crate::arguments::{is_named, other_line};
 use life_pictures::{Picture, read_words};
-use shared_tests::arguments::{is_named, other_line};
 use std::alloc::Global;
 
 /// Command lines, and the picture that each names; `None` for a usage error.

@@ -1,8 +1,8 @@
 //! Files that are drawn over streams in memory: whole, byte by byte, and with a take or a put that fails.
+use crate::job_streams::{End, Run, other_run};
 use life_jobs::Stop;
 use life_pictures::{Picture, laws_of_pictures, run_draw};
 use life_rle::{PieceInlet, PieceOutlet, RleFault};
-use shared_tests::job_streams::{End, Run, other_run};
 use std::alloc::Global;
 
 const GLIDER: &str = "#N Glider\nx = 3, y = 3\nbo$2bo$3o!\n";

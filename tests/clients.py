@@ -181,6 +181,11 @@ def run(*words: str, data: bytes = b"") -> tuple[int, bytes, bytes]:
     return done.returncode, done.stdout, done.stderr
 
 
+def unavailable(path: str, reason: str) -> tuple[int, bytes, bytes]:
+    """What a command answers if it can't use the file of an archive."""
+    return 1, b"", f"refused: unavailable\n{path}: {reason}\n".encode()
+
+
 def is_answered(archive: Archive, messages: Iterable[bytes], back: bytes) -> bool:
     """Whether each reply is that of this reference archive, or unavailable. The archive then includes the messages that
     were answered."""

@@ -34,6 +34,7 @@ from clients import (
     message,
     run,
     same,
+    unavailable,
 )
 from old_archives import LAYOUT, first_archive, version_kept
 from seeded_messages import seeded_message
@@ -630,7 +631,8 @@ def test_no_database(folder: str) -> None:
     bytes_of_junk = random.Random(4).randbytes(8192)
     with open(junk, "wb") as file:
         file.write(bytes_of_junk)
-    same("no database", run("deposit", "--db", junk, "ann", "t1", data=GLIDER), (1, b"", b"refused: unavailable\n"))
+    answer = run("deposit", "--db", junk, "ann", "t1", data=GLIDER)
+    same("no database", answer, unavailable(junk, "not an SQLite database"))
     with open(junk, "rb") as file:
         same("no database is written over", file.read(), bytes_of_junk)
     check("no log is left beside it", not os.path.exists(junk + "-wal"))
@@ -640,7 +642,7 @@ def test_without_a_name() -> None:
     same(
         "a file without a name",
         run("deposit", "--db", "", "ann", "t1", data=GLIDER),
-        (1, b"", b"refused: unavailable\n"),
+        unavailable("", "no such file"),
     )
 
 

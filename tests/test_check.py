@@ -1,5 +1,6 @@
 """`life check` on sound archives, on archives that sqlite3 damaged in one place, and on files that are no archives.
 """
+import contextlib
 import os
 import pty
 import random
@@ -14,7 +15,21 @@ import pytest
 
 import archives
 from archives import BLANK
-from clients import BLOCKS, GLIDER, GLIDER_TEXT, PROGRAM, Server, check, deposit, exchanged, fresh, message, run, same
+from clients import (
+    BLOCKS,
+    GLIDER,
+    GLIDER_TEXT,
+    PROGRAM,
+    Server,
+    check,
+    deposit,
+    exchanged,
+    fresh,
+    message,
+    run,
+    same,
+    unavailable,
+)
 
 pytestmark = [pytest.mark.full, pytest.mark.usefixtures("program")]
 
@@ -23,6 +38,9 @@ Change = tuple[str, list[Any]]
 BLOCK_TEXT = b"x = 2, y = 2, rule = B3/S23\n2o$2o!\n"
 OTHER_TEXT = b"x = 3, y = 3, rule = B3/S23\nbo$2bo$ooo!\n"
 UNSOUND = b"refused: not-sound\n"
+# Why a file is unavailable: its pages do not match their checksums, or a server has it open.
+SPOILED = "damaged, cut short, or changed by another program; life-restore puts back the newest copy"
+OPEN = "another program has it open"
 NO_TABLES = "the tables are not those of an archive"
 LAYOUT = "layout: its row is wrong or missing"
 
@@ -158,7 +176,7 @@ def test_other_members(folder: str, statement: str) -> None:
 
 def test_refused_change(folder: str) -> None:
     refused = written(folder, "refused.db", [(REFUSED, [])])
-    checks_as(REFUSED, refused, (1, b"", b"refused: unavailable\n"))
+    checks_as(REFUSED, refused, unavailable(refused, SPOILED))
 
 
 @pytest.mark.parametrize("statement, values, wrong", DAMAGED, ids=[statement for statement, _, _ in DAMAGED])
@@ -190,7 +208,7 @@ def test_archives_of_the_program(folder: str) -> None:
     with Server(database, 3) as server:
         asked = message("POST", "/deposits/1/censuses/30/4", b"", "x-member: ann", "x-token: c1")
         check("a census", exchanged(server.port, [asked]).startswith(b"HTTP/1.1 201 "))
-        same("while it is served", run("check", "--db", database), (1, b"", b"refused: unavailable\n"))
+        same("while it is served", run("check", "--db", database), unavailable(database, OPEN))
         exchanged(server.port, [deposit("ann", "t3", GLIDER)])
         server.process.kill()
         server.process.wait()
@@ -206,12 +224,12 @@ def test_archives_of_the_program(folder: str) -> None:
 def test_other_files(folder: str) -> None:
     """Files that are no archives."""
     missing = fresh(folder, "missing.db")
-    checks_as("a missing file", missing, (1, b"", b"refused: unavailable\n"))
+    checks_as("a missing file", missing, unavailable(missing, "no such file"))
     check("it is not created", not os.path.exists(missing))
     empty = fresh(folder, "empty.db")
     with open(empty, "wb"):
         pass
-    checks_as("an empty file", empty, (1, b"", b"refused: unavailable\n"))
+    checks_as("an empty file", empty, unavailable(empty, "an empty file"))
     other = fresh(folder, "other.db")
     kept = sqlite3.connect(other)
     kept.execute("CREATE TABLE songs (name TEXT)")
@@ -221,7 +239,30 @@ def test_other_files(folder: str) -> None:
     text = fresh(folder, "text.db")
     with open(text, "wb") as file:
         file.write(b"no database\n" * 1000)
-    checks_as("a text", text, (1, b"", b"refused: unavailable\n"))
+    checks_as("a text", text, unavailable(text, "not an SQLite database"))
+    folder_itself = os.path.join(folder, "folder.db")
+    os.mkdir(folder_itself)
+    same("a folder", run("check", "--db", folder_itself), unavailable(folder_itself, "a folder, not a file"))
+
+
+def test_spoiled_files(folder: str) -> None:
+    """Of an archive with checksums: a row that sqlite3 changed, a file that was cut short, and no right to write."""
+    good = fresh(folder, "good.db")
+    run("deposit", "--db", good, "ann", "t1", data=GLIDER)
+    changed, short, shut = (fresh(folder, name) for name in ("changed.db", "short.db", "shut.db"))
+    for path in (changed, short, shut):
+        shutil.copyfile(good, path)
+    with contextlib.closing(sqlite3.connect(changed)) as rows:
+        rows.execute("UPDATE deposits SET member = 'bob'")
+        rows.commit()
+    checks_as("a row that sqlite3 changed", changed, unavailable(changed, SPOILED))
+    os.truncate(short, os.path.getsize(short) // 2)
+    checks_as("a file that was cut short", short, unavailable(short, SPOILED))
+    os.chmod(shut, 0o400)
+    as_nobody = ["setpriv", "--reuid=65534", "--regid=65534", "--clear-groups"] if os.geteuid() == 0 else []
+    os.chmod(folder, 0o755)
+    done = subprocess.run([*as_nobody, PROGRAM, "check", "--db", shut], capture_output=True)
+    check(f"a file without the right to read it: {done.stderr!r}", done.stderr.endswith(b": permission denied\n"))
 
 
 # ---- several errors
@@ -323,7 +364,7 @@ def test_one_token_twice(folder: str, table: str, places: list[int]) -> None:
         data[found[place] : found[place] + len(own)] = other
     with open(database, "wb") as file:
         file.write(data)
-    checks_as("one token twice", database, (1, b"", b"refused: unavailable\n"))
+    checks_as("one token twice", database, unavailable(database, SPOILED))
 
 
 @pytest.mark.parametrize("table", TWICE)
@@ -381,11 +422,12 @@ def test_single_bytes(folder: str) -> None:
         with open(database, "wb") as file:
             file.write(changed)
         status, output, errors = run("check", "--db", database)
-        found.add(errors)
+        found.add(errors.split(b"\n")[0])
         if status == 0:
             same(f"byte {place}: the rows", rows_in(database), before)
         else:
-            check(f"byte {place}: it is refused", status == 1 and errors in (UNSOUND, b"refused: unavailable\n"))
+            is_refused = errors == UNSOUND or errors.startswith(b"refused: unavailable\n")
+            check(f"byte {place}: it is refused", status == 1 and is_refused)
             same(f"byte {place}: an error is named", bool(output), errors == UNSOUND)
     same("all three results came", len(found), 3)
 

@@ -19,7 +19,7 @@ import pytest
 
 import clients
 import reference
-from clients import BLOCKS, GLIDER, GLIDER_TEXT, Server, check, deposit, exchanged, message, run, same
+from clients import BLOCKS, GLIDER, GLIDER_TEXT, Server, check, deposit, exchanged, message, run, same, unavailable
 from test_allocations import preloaded
 
 pytestmark = [pytest.mark.full, pytest.mark.usefixtures("program")]
@@ -464,12 +464,12 @@ def test_two_programs(folder: str) -> None:
         same(
             "a deposit beside a server",
             run("deposit", "--db", database, "bob", "t1", data=BLOCKS),
-            (1, b"", b"refused: unavailable\n"),
+            unavailable(database, "another program has it open"),
         )
         same(
             "a server beside a server",
             run("serve", "--db", database, "--port", str(clients.free_port()), "--connections", "1"),
-            (1, b"", b"refused: unavailable\n"),
+            unavailable(database, "another program has it open"),
         )
         same(
             "the server continues",

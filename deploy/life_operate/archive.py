@@ -270,7 +270,8 @@ class Opened:
         assert out and errors, "both are pipes"
         if not (select.select([out], [], [], OPENED_WITHIN)[0] and out.readline()):
             self.process.kill()
-            raise Refused(f"{name} can't be opened by the program: {errors.read().decode().strip()}")
+            said = errors.read().decode().splitlines() or ["it printed nothing"]
+            raise Refused(f"{name} can't be opened by the program: {said[0]}")
         return answered(self.port, route)
 
     def ended(self) -> bool:

@@ -13,6 +13,7 @@ use life_jobs::{Stop, put_text};
 use life_rle::Outlet;
 use life_store::Unavailable;
 use sqlite::{FileFrom, Start};
+use sqlite_disk::Disk;
 use std::alloc::{AllocError, Global};
 
 /// Why a check stopped.

@@ -6,6 +6,7 @@ ghost use Rattle.life_check.specs.Report.{AnswersCheck, line_after as line_after
 
 use crate::net::Port;
 use crate::progress::CheckProgress;
+use crate::reason::reason_of;
 use life_archive::{ArchiveStop, deposit_path, serve_path};
 use life_check::{CheckStop, run_check};
 use life_program::ArchiveJobs;
@@ -14,7 +15,7 @@ use sqlite::{FileFrom, Start};
 use sqlite_disk::Disk;
 
 /// How many deposits and how many censuses an archive takes.
-const CAPACITY: u64 = 1_000_000;
+pub const CAPACITY: u64 = 1_000_000;
 
 /// Turns a stop into its line.
 fn or_line(done: Result<(), ArchiveStop>) -> Result<(), &'static str>
@@ -87,5 +88,12 @@ impl<T: Start> ArchiveJobs for InFiles<T> {
         let mut progress = CheckProgress::begin(rt);
         let (done, _left) = run_check(rt, file, CAPACITY, self.start, quick, &mut progress, output);
         or_line_of_check(done)
+    }
+
+    fn say_why(rt: &HostRuntime, file: &str) {
+        if let Some(reason) = reason_of(rt, file) {
+            // If standard error fails, the reason can't be reported.
+            let _told = eprintln!(rt; "{file}: {reason}");
+        }
     }
 }

@@ -6,6 +6,7 @@ mod laws;
 mod net;
 mod peer;
 mod progress;
+mod reason;
 
 pub use laws::law_of_checked_files;
 

@@ -52,6 +52,8 @@ impl ArchiveJobs for NoArchive {
     ) -> Result<(), &'static str> {
         Err(Stop::Unavailable.line())
     }
+
+    fn say_why(_rt: &HostRuntime, _file: &str) {}
 }
 
 fn main(rt: HostRuntime) -> io::Result<ExitCode> {

@@ -58,6 +58,10 @@ pub trait ArchiveJobs: Drop {
         ensures { MatchResult result
             (λ _. checks O O.Outlet file.now quick output.old output.new None)
             (λ line. checks O O.Outlet file.now quick output.old output.new (Some line.now)) };
+
+    /// Prints a line on standard error that says why the file could not be used, if a second look at it tells. It follows the line of a job that
+    /// was unavailable.
+    fn say_why(rt: &HostRuntime, file: &str);
 }
 
 /// Turns a stop into its line.

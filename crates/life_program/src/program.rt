@@ -6,6 +6,7 @@ ghost use Rattle.life_program.specs.Job.{IsStatus, WordsEnd};
 use crate::job::{ArchiveJobs, do_job};
 use crate::printing::{print_fault, print_stop};
 use crate::tip::print_fault_of;
+use life_jobs::Stop;
 use life_rle::{FromRead, FromWrite, Inlet, Outlet};
 use life_words::{Job, life_command, read_words, words_of};
 use std::convert::AsStr;
@@ -20,14 +21,35 @@ fn reads_pattern(rt: &HostRuntime, words: &[String]) -> bool {
     )
 }
 
-/// The status after a job; prints the line on standard error if it stopped.
-fn print_done(rt: &HostRuntime, done: Result<(), &'static str>) -> io::Result<ExitCode>
+/// The file of a job over an archive.
+fn archive_of<'a>(job: &Job<'a>) -> Option<&'a str> {
+    match job {
+        Job::Deposit { file, .. } => Some(*file),
+        Job::Serve { file, .. } => Some(*file),
+        Job::Check { file, .. } => Some(*file),
+        _ => None,
+    }
+}
+
+/// The status after a job. If it stopped, standard error gets its line and, if its archive was unavailable, a line that says why.
+fn print_done<J: ArchiveJobs>(
+    rt: &HostRuntime,
+    done: Result<(), &'static str>,
+    file: Option<&str>,
+) -> io::Result<ExitCode>
     ensures { MatchResult done.entry (λ _. IsStatus result 0) (λ line. IsStatus result 1) }
 {
-    match done {
-        Ok(()) => Ok(ExitCode::SUCCESS),
-        Err(line) => print_stop(rt, line),
+    let line = match done {
+        Ok(()) => return Ok(ExitCode::SUCCESS),
+        Err(line) => line,
+    };
+    let status = print_stop(rt, line)?;
+    if let Some(file) = file
+        && line == Stop::Unavailable.line()
+    {
+        J::say_why(rt, file);
     }
+    Ok(status)
 }
 
 /// Does the job that the arguments name on these streams; the first argument is the program's name. Returns the status of the process: 0; 1 if
@@ -42,7 +64,10 @@ pub fn run_words<J: ArchiveJobs, I: Inlet, O: Outlet>(
     ensures { WordsEnd I.Inlet O.Outlet J.deposits J.serves J.checks (words_job (map ⟦<String as AsStr>⟧.text words.now)) input.old input.new output.old output.new result }
 {
     match read_words(rt.alloc(), words) {
-        Ok(job) => print_done(rt, do_job::<J, I, O>(rt, archives, job, input, output)),
+        Ok(job) => {
+            let file = archive_of(&job);
+            print_done::<J>(rt, do_job::<J, I, O>(rt, archives, job, input, output), file)
+        }
         Err(fault) => print_fault_of(rt, fault, words, |words| reads_pattern(rt, words)),
     }
 }

@@ -1,5 +1,6 @@
-"""How clients reach the gateway of deploy/: members with passwords, TLS and plain HTTP, by IPv4 and IPv6, and the
-members' scripts with its limits as they are. Each test starts a gateway of its own, as deploy/try runs it.
+"""How clients reach the gateway of deploy/: members with passwords, TLS and plain HTTP, by IPv4 and IPv6, deposits that
+were withdrawn, and the members' scripts with its limits as they are. Each test starts a gateway of its own, as
+deploy/try runs it.
 
 The members' scripts wait more than they work, so they can run beside everything else: `pytest -n 2 --dist loadgroup`.
 """
@@ -18,6 +19,7 @@ import pytest
 
 from clients import GLIDER, certify, check, free_port, same
 from gateways import DEPLOY, Gateway, Reply, address, asked, listed, log, missing, pattern, requests
+from withdrawals import withdrawals
 
 # These gateways begin at the port of those of tests/test_gateway.py, so one process runs both files, except for
 # test_scripts.
@@ -297,6 +299,14 @@ def test_both_protocols(servers: None, folder: str) -> None:
             same(f"what a certificate is given for at {name}", given[:2], (200, b"a-token.of-the-account"))
     finally:
         gateway.end()
+
+
+# ---- withdrawn deposits
+
+
+def test_withdrawals(servers: None, folder: str) -> None:
+    """The gateway, its cache and the search index without a deposit, by one command; and with it again."""
+    withdrawals(folder, FIRST_PORT)
 
 
 # ---- limits

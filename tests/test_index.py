@@ -38,13 +38,13 @@ def time_of_children() -> float:
     return used.ru_utime + used.ru_stime
 
 
-def life_index(copy: str, folder: str, day: Day = FIRST_DAY) -> tuple[tuple[int, str, str], float]:
+def life_index(copy: str, folder: str, day: Day = FIRST_DAY, *words: str) -> tuple[tuple[int, str, str], float]:
     """The status of life-index, what it prints on its two streams, and how long a processor worked on it, which other
     work beside it hardly changes."""
     begun = time_of_children()
     own = os.environ | {"SOURCE_DATE_EPOCH": str(day[1])}
     done = subprocess.run(
-        [os.path.join(DEPLOY, "life-index"), copy, folder], capture_output=True, text=True, timeout=300, env=own
+        [os.path.join(DEPLOY, "life-index"), *words, copy, folder], capture_output=True, text=True, timeout=300, env=own
     )
     return (done.returncode, done.stdout, done.stderr), time_of_children() - begun
 
@@ -228,7 +228,11 @@ def test_grown(folder: str) -> None:
     for name in os.listdir(steps):
         os.utime(os.path.join(steps, name), (1, 1))
     same("an old index again", life_index(copy, steps)[0][0], 0)
-    named = {name for names in head_of(steps)["blocks"].values() for name in names} | {"index.json", "feed.xml"}
+    named = {name for names in head_of(steps)["blocks"].values() for name in names} | {
+        "index.json",
+        "feed.xml",
+        "rows.json",
+    }
     named |= {f"names-{thousand}.txt" for thousand in range(3)}
     same("blocks that are no longer named are removed", set(os.listdir(steps)), named)
     # A block of the folder that is not as it was written is made again.
@@ -282,6 +286,77 @@ def test_other_archives(folder: str) -> None:
             days(room, "deposits"),
             {number: wanted(number)[0] for number in range(1, len(members) + 1)},
         )
+
+
+def with_phones(entries: list[Entry], numbers: list[int]) -> None:
+    """Has deposits name a person in each of their texts."""
+    for number in numbers:
+        entry = entries[number - 1]
+        entry.name, entry.author, entry.member = f"call {number}", f"Person {number}", f"person-{number}"
+        entry.file = (
+            f"#N {entry.name}\n#O {entry.author}\n#C Phone 555-{number}.\nx = 1, y = 1, rule = B3/S23\no!\n"
+        ).encode()
+        entry.rule, entry.cells, entry.width, entry.height = "B3/S23", 1, 1, 1
+
+
+def named_in(folder: str, number: int) -> list[str]:
+    """The files of an index that have a text of such a deposit, or lead to it."""
+    texts = (f"call {number}", f"Person {number}", f"person-{number}", f"555-{number}", f'"/d/{number}"')
+    return sorted(
+        name.split("-")[0] for name, data in files(folder).items() if any(text.encode() in data for text in texts)
+    )
+
+
+def test_withdrawn(folder: str) -> None:
+    """No file has a text of a withdrawn deposit, at once and also in a full block; the others keep their days, and it
+    is back with its own day if it is no longer withdrawn."""
+    chance, copy, room = random.Random(31), os.path.join(folder, "kept.db"), os.path.join(folder, "kept")
+    entries = [Entry(number, chance) for number in range(1, 1501)]
+    with_phones(entries, [150, 1490])
+    database = new_archive(copy)
+    fill(database, entries, 1)
+    add_census(database, 1, 150, {"xs4_33": 2}, 1)
+    same("an index before", life_index(copy, room)[0][0], 0)
+    everything = ["comments", "deposits", "names"]
+    same("it has them", [named_in(room, 150), named_in(room, 1490)], [everything, sorted([*everything, "feed.xml"])])
+    before = said(room), days(room, "deposits")
+    withdrawn = os.path.join(folder, "withdrawn")
+    with open(withdrawn, "w", encoding="utf-8") as file:
+        file.write("# Ours.\n150 a telephone number\n01490\n9999 is not there yet\n")
+    words = "--withdrawn", withdrawn
+    same("an index without them", life_index(copy, room, SECOND_DAY, *words)[0][0], 0)
+    same("no file has them", [named_in(room, 150), named_in(room, 1490)], [[], []])
+    same("their numbers are said", [block["withdrawn"] for block in blocks(room, "deposits")], [[150], [1490]])
+    nothing = "", "", "", "", 0, 0, 0
+    wanted = [nothing if number in (150, 1490) else row for number, row in enumerate(before[0], 1)]
+    same("all others are said", said(room), wanted)
+    same("each has its day", days(room, "deposits"), before[1])
+    same("the same again", life_index(copy, room, THIRD_DAY)[0][0], 0)
+    same("it is all back, with its days", (said(room), days(room, "deposits")), before)
+    with open(withdrawn, "w", encoding="utf-8") as file:
+        file.write("150\nseven\n")
+    (status, _, err), _ = life_index(copy, room, THIRD_DAY, *words)
+    check(f"a line without a number: {err}", status == 1 and "withdrawn, line 2: " in err and said(room) == before[0])
+    database.close()
+
+
+def test_changed_row(folder: str) -> None:
+    """A row in the middle of a full block that has changed is said as it is now. Other blocks stay."""
+    chance, copy, room = random.Random(32), os.path.join(folder, "edited.db"), os.path.join(folder, "edited")
+    entries = [Entry(number, chance) for number in range(1, 2301)]
+    with_phones(entries, [150])
+    database = new_archive(copy)
+    fill(database, entries, 1)
+    same("an index before", life_index(copy, room)[0][0], 0)
+    names = head_of(room)["blocks"]["deposits"]
+    database.execute(
+        "UPDATE deposits SET rle = ?, member = 'ann' WHERE id = 150", (b"x = 1, y = 1, rule = B3/S23\no!\n",)
+    )
+    database.commit()
+    same("an index after", life_index(copy, room, SECOND_DAY)[0][0], 0)
+    same("the row as it is now", said(room)[149], ("", "", "ann", "B3/S23", 1, 1, 1))
+    same("the other blocks", head_of(room)["blocks"]["deposits"][1:], names[1:])
+    database.close()
 
 
 def test_of_one_club(folder: str) -> None:

@@ -39,6 +39,7 @@ import web_player
 import web_search
 import web_visits
 import web_waiting
+import web_withdrawn
 from web_drawings import later, runs_of, seen
 
 pytestmark = pytest.mark.full
@@ -571,6 +572,7 @@ PARTS: list[Callable[..., None]] = [
     *web_club.PARTS,
     *web_members.PARTS,
     *web_visits.PARTS,
+    *web_withdrawn.PARTS,
 ]
 
 

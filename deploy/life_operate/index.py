@@ -1,9 +1,10 @@
 """Builds the search index of an archive from a copy: static files for a web server.
 
-    life-index [--archive FILE] COPY FOLDER
+    life-index [--archive FILE] [--withdrawn LIST] COPY FOLDER
 
 COPY is a copy that life-copy made, or a folder of copies, from which it takes the newest; with --archive, the newest
-copy of FILE. It writes these files into FOLDER, which it creates if necessary:
+copy of FILE. The deposits in LIST are left out: their texts are empty, their sizes 0. It writes these files into
+FOLDER, which it creates if necessary:
 
     index.json            how many deposits and censuses there are, and the names of all blocks
     deposits-N-SUM.json   up to 1,000 deposits from N on: name, author, member, rule, population, width, height, the day
@@ -15,11 +16,12 @@ copy of FILE. It writes these files into FOLDER, which it creates if necessary:
     feed.xml              the newest deposits, as Atom
     names-K.txt           the names of deposits 1,000 K to 1,000 K + 999: the gateway writes them into the titles of
                           pages
+    rows.json             for life-index only: a digest of the rows of each block, and the deposits that are left out
 
-SUM is the beginning of the file's SHA-256 digest, so a file with a given name never changes. A block of 1,000 is full:
-as long as the archive only grows, it is not made again. An archive has no dates: the day is when this program first saw
-the row, in UTC, or that of SOURCE_DATE_EPOCH. Nothing about the index is proved; what it links to comes from the
-archive itself.
+SUM is the beginning of the file's SHA-256 digest, so a file with a given name never changes. A block is made again if a
+row of it has changed. A block that is no longer listed stays for an hour, or goes at once if a deposit was withdrawn.
+An archive has no dates: the day is when this program first saw the row, in UTC, or that of SOURCE_DATE_EPOCH. Nothing
+about the index is proved; what it links to comes from the archive itself.
 
 If the copy is damaged or not an archive, all files stay as they are. If the index can't be built, one line on standard
 error says why, and the status is 1.
@@ -38,17 +40,21 @@ import sqlite3
 import sys
 import time
 import uuid
-from collections.abc import Iterable
+from collections.abc import Collection, Iterable
 from typing import Any
 from xml.sax.saxutils import escape
 
 from life_operate.archive import Copies, Refused, sync
 from life_operate.exchange import folder_lock
+from life_operate.settings import Wrong
+from life_operate.withdrawals import reasons_in
 
 VERSION = 1
 BLOCK = 1000
 HEAD = "index.json"
 FEED = "feed.xml"
+# What the next run compares with. nginx does not serve it.
+ROWS = "rows.json"
 IN_FEED = 50
 # Names for titles are cut after this many characters.
 MOST_OF_NAME = 80
@@ -63,6 +69,13 @@ BEGIN_OF_FILE = 14_000
 TEXTS = re.compile(rb"(?:#N (.+)\n)?(?:#O (.+)\n)?((?:#C.*\n)*)x = ([0-9]+), y = ([0-9]+), rule = (.+)\n")
 TABLES = ("deposits", "censuses")
 KINDS = ("deposits", "censuses", "objects", "comments")
+# The rows of a block, from a number on.
+ROWS_OF = {
+    "deposits": f"SELECT id, member, rule, population, substr(rle, 1, {BEGIN_OF_FILE}) FROM deposits"
+    " WHERE id >= ? ORDER BY id LIMIT ?",
+    "censuses": "SELECT deposit, gens, lim, clusters, unresolved, steady"
+    " FROM censuses LEFT JOIN census_flags ON census = id WHERE id >= ? ORDER BY id LIMIT ?",
+}
 # How many characters of a deposit's comments the index keeps. Titles and authors are usually in the first lines.
 MOST_OF_COMMENTS = 1000
 
@@ -89,7 +102,7 @@ def newest(path: str, archive: str | None) -> str:
 class Archive:
     """The content of a copy. The file is only read; a log beside it is ignored."""
 
-    def __init__(self, path: str) -> None:
+    def __init__(self, path: str, withdrawn: Collection[int] = ()) -> None:
         self.path = path
         with open(path, "rb"):
             pass
@@ -100,6 +113,7 @@ class Archive:
         if found != [("ok",)]:
             raise Refused(f"{path} is damaged: {found[0][0].splitlines()[-1]}")
         self.counts = {table: self.count(table) for table in TABLES}
+        self.withdrawn = frozenset(number for number in withdrawn if number <= self.counts["deposits"])
 
     def rows(self, statement: str, *values: object) -> list[tuple[Any, ...]]:
         try:
@@ -130,17 +144,22 @@ class Archive:
         ]
         return hashlib.sha256(repr([sorted(found) for found in rows]).encode()).hexdigest()
 
+    def digest(self, table: str, first: int) -> str:
+        """A digest of all that a block is made from. (The rows of a census follow from its numbers.)"""
+        rows = self.rows(ROWS_OF[table], first, BLOCK)
+        withdrawn = self.withdrawn_from(first) if table == "deposits" else {}
+        return hashlib.sha256(repr((rows, withdrawn)).encode()).hexdigest()
+
     # -- the content of blocks, from a number on
 
+    def withdrawn_from(self, first: int) -> dict[str, list[int]]:
+        """The deposits of a block that were withdrawn, if there are any."""
+        found = sorted(number for number in self.withdrawn if first <= number < first + BLOCK)
+        return {"withdrawn": found} if found else {}
+
     def deposits(self, first: int) -> dict[str, Any]:
-        rows = self.rows(
-            "SELECT id, member, rule, population, substr(rle, 1, ?) FROM deposits WHERE id >= ? ORDER BY id LIMIT ?",
-            BEGIN_OF_FILE,
-            first,
-            BLOCK,
-        )
-        names, authors, _, widths, heights = zip(*(self.texts(number, rule, text) for number, _, rule, _, text in rows))
-        _, members, rules, populations, _ = zip(*rows)
+        rows = self.rows(ROWS_OF["deposits"], first, BLOCK)
+        names, authors, members, rules, populations, widths, heights = zip(*(self.deposit(*row) for row in rows))
         return {
             "first": first,
             "name": names,
@@ -150,17 +169,25 @@ class Archive:
             "cells": populations,
             "width": widths,
             "height": heights,
+            **self.withdrawn_from(first),
         }
+
+    def deposit(
+        self, number: int, member: str, rule: str, population: int, text: bytes
+    ) -> tuple[str, str, str, str, int, int, int]:
+        """The columns of a deposit."""
+        if number in self.withdrawn:
+            return "", "", "", "", 0, 0, 0
+        name, author, _, width, height = self.texts(number, rule, text)
+        return name, author, member, rule, population, width, height
 
     def comments(self, first: int) -> dict[str, Any]:
         """The comments of each deposit as one text."""
-        rows = self.rows(
-            "SELECT id, rule, substr(rle, 1, ?) FROM deposits WHERE id >= ? ORDER BY id LIMIT ?",
-            BEGIN_OF_FILE,
-            first,
-            BLOCK,
-        )
-        return {"first": first, "text": [self.texts(*row)[2] for row in rows]}
+        rows = self.rows(ROWS_OF["deposits"], first, BLOCK)
+        texts = [
+            "" if number in self.withdrawn else self.texts(number, rule, text)[2] for number, _, rule, _, text in rows
+        ]
+        return {"first": first, "text": texts, **self.withdrawn_from(first)}
 
     def texts(self, number: int, rule: str, text: bytes) -> tuple[str, str, str, int, int]:
         """The name, author, comments, width and height that the stored file begins with."""
@@ -172,13 +199,7 @@ class Archive:
         return name, author, " ".join(filter(None, lines))[:MOST_OF_COMMENTS], int(found[4]), int(found[5])
 
     def censuses(self, first: int) -> dict[str, Any]:
-        rows = self.rows(
-            "SELECT deposit, gens, lim, clusters, unresolved, steady"
-            " FROM censuses LEFT JOIN census_flags ON census = id"
-            " WHERE id >= ? ORDER BY id LIMIT ?",
-            first,
-            BLOCK,
-        )
+        rows = self.rows(ROWS_OF["censuses"], first, BLOCK)
         names = ("deposit", "generation", "limit", "clusters", "unresolved", "steady")
         if any(None in row for row in rows):
             raise Refused(f"{self.path}: a census from {first} on has no flag")
@@ -220,6 +241,17 @@ class Folder:
         self.lock = contextlib.ExitStack()
         self.lock.enter_context(folder_lock(path, fcntl.LOCK_EX, LOCKED_WITHIN, f"another program has locked {path}"))
         self.head = self.read_head()
+        # The digest of the rows of each block, and the deposits that were left out.
+        self.rows, self.withdrawn = self.read_rows()
+
+    def read_rows(self) -> tuple[dict[str, str], frozenset[int]]:
+        """What the last run wrote for this one. Without it all blocks are made again."""
+        try:
+            with open(os.path.join(self.path, ROWS), "rb") as file:
+                found = json.load(file)
+            return dict(found["digests"]), frozenset(found["withdrawn"])
+        except (OSError, ValueError, KeyError, TypeError):
+            return {}, frozenset()
 
     def read_head(self) -> dict[str, Any]:
         """The list in index.json. It is empty if the file is missing or has another version."""
@@ -267,10 +299,10 @@ class Folder:
             self.write(name, content)
         return name
 
-    def remove_others(self, head: dict[str, Any]) -> None:
-        """Removes old blocks that are no longer listed."""
+    def remove_others(self, head: dict[str, Any], withdrawn: Collection[int]) -> None:
+        """Removes old blocks that are no longer listed, or all of them if more deposits are withdrawn than before."""
         named = {name for names in head["blocks"].values() for name in names}
-        old = time.time() - STAYS
+        old = time.time() - STAYS if self.withdrawn.issuperset(withdrawn) else float("inf")
         for name in os.listdir(self.path):
             path = os.path.join(self.path, name)
             if BLOCK_NAME.fullmatch(name) and name not in named and os.stat(path).st_mtime < old:
@@ -301,9 +333,11 @@ COMPARED = {
 
 
 def common(kind: str, old: dict[str, Any], new: dict[str, Any]) -> int:
-    """How many rows at their beginning a block and an older one have in common."""
+    """How many rows at their beginning a block and an older one have in common. A withdrawn deposit is like any."""
+    empty = {number - new["first"] for block in (old, new) for number in block.get("withdrawn", [])}
     rows = [zip(*(block[name] for name in COMPARED[kind])) for block in (old, new)]
-    return len(list(itertools.takewhile(lambda pair: pair[0] == pair[1], zip(*rows))))
+    same = (place in empty or row == other for place, (row, other) in enumerate(zip(*rows)))
+    return len(list(itertools.takewhile(bool, same)))
 
 
 def days_of(kind: str, old: dict[str, Any] | None, new: dict[str, Any]) -> list[list[Any]]:
@@ -377,12 +411,14 @@ def feed_of(archive: Archive, folder: Folder, names: list[str]) -> bytes:
 
 
 def entries_of(block: dict[str, Any]) -> list[dict[str, Any]]:
-    """The deposits of a block, one by one."""
-    days = dict(block["seen"])
+    """The deposits of a block that were not withdrawn, one by one."""
+    days, withdrawn = dict(block["seen"]), set(block.get("withdrawn", []))
     day, found = "", []
     for place, name in enumerate(block["name"]):
         number = block["first"] + place
         day = days.get(number, day)
+        if number in withdrawn:
+            continue
         found.append(
             {
                 "number": number,
@@ -433,29 +469,31 @@ def name_line(number: int, name: str) -> str:
 # ---- the index
 
 
-def names_of(kind: str, archive: Archive, folder: Folder, grown: bool) -> list[str]:
-    """The names of all blocks of a kind. Full ones are kept if the archive has only grown."""
-    table = "deposits" if kind in ("deposits", "comments") else "censuses"
-    count, before, names = archive.counts[table], folder.head["counts"][table], []
-    for place, first in enumerate(range(1, count + 1, BLOCK)):
-        # An index of an earlier release has no comments.
-        listed = folder.head["blocks"].get(kind, [])
-        if grown and first + BLOCK - 1 <= before and place < len(listed) and folder.content(listed[place]):
+def names_of(kind: str, archive: Archive, folder: Folder, digests: list[str]) -> list[str]:
+    """The names of all blocks of a kind, whose rows have these digests. A block is kept if its rows are as before."""
+    # An index of an earlier release has no comments.
+    listed, names = folder.head["blocks"].get(kind, []), []
+    for place, digest in enumerate(digests):
+        if place < len(listed) and folder.rows.get(listed[place]) == digest and folder.content(listed[place]):
             names.append(listed[place])
             continue
-        block = getattr(archive, kind)(first)
+        block = getattr(archive, kind)(1 + place * BLOCK)
         if kind in COMPARED:
             block["seen"] = days_of(kind, folder.block(kind, place), block)
         names.append(folder.put(kind, block))
     return names
 
 
-def made(copy: str, path: str, own: str | None) -> str:
+def made(words: argparse.Namespace) -> str:
     """Builds the index, and returns a description of it."""
-    archive, folder = Archive(newest(copy, own)), Folder(path)
-    before = folder.head["counts"]
-    grown = folder.head["mark"] != "" and archive.mark(before) == folder.head["mark"]
-    blocks = {kind: names_of(kind, archive, folder, grown) for kind in KINDS}
+    withdrawn = reasons_in(words.withdrawn) if words.withdrawn else {}
+    archive, folder = Archive(newest(words.copy, words.archive), withdrawn), Folder(words.folder)
+    digests = {
+        table: [archive.digest(table, first) for first in range(1, count + 1, BLOCK)]
+        for table, count in archive.counts.items()
+    }
+    rows = {kind: digests["deposits" if kind in ("deposits", "comments") else "censuses"] for kind in KINDS}
+    blocks = {kind: names_of(kind, archive, folder, rows[kind]) for kind in KINDS}
     head = {
         "version": VERSION,
         "mark": archive.mark(archive.counts),
@@ -466,8 +504,10 @@ def made(copy: str, path: str, own: str | None) -> str:
     folder.write(FEED, feed_of(archive, folder, blocks["deposits"]))
     write_names(folder, blocks["deposits"])
     folder.write(HEAD, json_of(head))
-    sync(path)
-    folder.remove_others(head)
+    folder.remove_others(head, archive.withdrawn)
+    of_blocks = {name: digest for kind in KINDS for name, digest in zip(blocks[kind], rows[kind])}
+    folder.write(ROWS, json_of({"digests": of_blocks, "withdrawn": sorted(archive.withdrawn)}))
+    sync(words.folder)
     return ", ".join(f"{table}: {archive.counts[table]}" for table in TABLES)
 
 
@@ -481,10 +521,11 @@ def line_of(fault: Exception) -> str:
 def main() -> None:
     parser = argparse.ArgumentParser(description=__doc__, formatter_class=argparse.RawDescriptionHelpFormatter)
     parser.add_argument("--archive", metavar="FILE")
+    parser.add_argument("--withdrawn", metavar="LIST")
     parser.add_argument("copy", metavar="COPY")
     parser.add_argument("folder", metavar="FOLDER")
     words = parser.parse_args()
     try:
-        print(f"{words.folder}: {made(words.copy, words.folder, words.archive)}")
-    except (OSError, Refused) as fault:
+        print(f"{words.folder}: {made(words)}")
+    except (OSError, Refused, Wrong) as fault:
         sys.exit(f"life-index: {line_of(fault)}")

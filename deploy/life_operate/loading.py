@@ -87,8 +87,8 @@ def name_of(settings: dict[str, str]) -> str:
     return settings["HOST"].split()[0].replace("*", "life").strip(".") if settings["HOST"] else "life.invalid"
 
 
-def digest_served(settings: dict[str, str]) -> str:
-    """The digest of the site that nginx has read, as it answers, or nothing."""
+def answer_of_nginx(settings: dict[str, str], path: str) -> tuple[int, str]:
+    """The status and the beginning of the answer of this machine's nginx; 0 if there is none."""
     host, port = address_of(settings)
     if settings["TLS"] == "yes":
         asked: http.client.HTTPConnection = http.client.HTTPSConnection(
@@ -97,10 +97,11 @@ def digest_served(settings: dict[str, str]) -> str:
     else:
         asked = http.client.HTTPConnection(host, port, timeout=5)
     try:
-        asked.request("GET", DIGEST_ROUTE, headers={"host": name_of(settings), "connection": "close"})
-        return asked.getresponse().read(100).decode(errors="replace")
+        asked.request("GET", path, headers={"host": name_of(settings), "connection": "close"})
+        reply = asked.getresponse()
+        return reply.status, reply.read(100).decode(errors="replace")
     except (OSError, http.client.HTTPException):
-        return ""
+        return 0, ""
     finally:
         asked.close()
 
@@ -162,7 +163,7 @@ def load_nginx(settings: dict[str, str], site: str) -> None:
     wanted, before = digest_in(site), workers()
 
     def is_served() -> bool:
-        return not wanted or digest_served(settings) == wanted
+        return not wanted or answer_of_nginx(settings, DIGEST_ROUTE)[1] == wanted
 
     if text_of(NGINX_READ) == f"{digest} {shown('nginx.service', NGINX_MOMENT)}" and is_served():
         return

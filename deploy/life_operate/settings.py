@@ -49,6 +49,7 @@ FORMS = {
     "MEMBERS_FILE": PATH_OR_NONE,
     "PAGES_FOLDER": PATH_OR_NONE,
     "OWN_SITE": PATH_OR_NONE,
+    "WITHDRAWN": PATH,
     "FRONT_PROXIES": (
         r"([0-9a-f:.]+(/[0-9]{1,3})?( [0-9a-f:.]+(/[0-9]{1,3})?)*)?",
         "addresses or networks such as 10.0.0.7 192.0.2.0/24, or empty",

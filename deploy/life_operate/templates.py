@@ -10,6 +10,7 @@ import os
 import re
 
 from life_operate.settings import Wrong
+from life_operate.withdrawals import reasons_in
 
 TEMPLATES = os.path.join(os.path.dirname(os.path.dirname(os.path.realpath(__file__))), "templates")
 GATEWAY = os.path.join(TEMPLATES, "gateway")
@@ -17,8 +18,8 @@ GATEWAY = os.path.join(TEMPLATES, "gateway")
 
 def with_derived(settings: dict[str, str]) -> dict[str, str]:
     """The settings, and what is derived from them: a second place on this machine, no HSTS without TLS, nginx's line
-    for each proxy in front of it, the logs that Debian's logrotate file for nginx does not cover, and the seconds after
-    which a client may send its next census."""
+    for each proxy in front of it, the logs that Debian's logrotate file for nginx does not cover, the seconds after
+    which a client may send its next census, and nginx's entries for the deposits that were withdrawn."""
     place, logs = settings["SECOND_PLACE"], {settings["WEB_LOG"], settings["WEB_ERRORS"]}
     censuses, unit = settings["CENSUSES"].split("r/")
     return settings | {
@@ -26,6 +27,7 @@ def with_derived(settings: dict[str, str]) -> dict[str, str]:
         "HSTS": settings["HSTS"] if settings["TLS"] == "yes" else "",
         "FRONT_LINES": " ".join(f"set_real_ip_from {one};" for one in settings["FRONT_PROXIES"].split()),
         "CENSUS_WAIT": str(math.ceil((60 if unit == "m" else 1) / int(censuses))),
+        "WITHDRAWN_ENTRIES": " ".join(f"{number} 1;" for number in sorted(reasons_in(settings["WITHDRAWN"]))),
         "OWN_LOGS": " ".join(sorted(log for log in logs if not re.fullmatch(r"/var/log/nginx/[^/]+\.log", log))),
     }
 

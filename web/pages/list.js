@@ -47,7 +47,9 @@ function card(page, row, watch) {
       picture.replaceChildren(thumbnail(record.pattern, WIDTH, HEIGHT));
       if (record.name) name.replaceChildren(record.name);
     } catch (error) {
-      if (!page.signal.aborted) picture.replaceChildren(error.name === 'unavailable' ? 'unavailable' : 'not drawn');
+      if (page.signal.aborted) return;
+      if (error.name === 'withdrawn') item.remove();
+      else picture.replaceChildren(error.name === 'unavailable' ? 'unavailable' : 'not drawn');
     }
   };
   watch.observe(item);

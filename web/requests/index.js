@@ -66,8 +66,9 @@ export const folded = (text) => text
   .toLowerCase()
   .replace(/[ßøłđæœðþı]/g, (letter) => PLAIN[letter]);
 
-/** The deposits of a block, each with the texts to search. */
+/** The deposits of a block that were not withdrawn, each with the texts to search. */
 function depositsOf(block) {
+  const withdrawn = new Set(block.withdrawn);
   const days = daysOf(block, block.name.length);
   const [authors, members] = [block.author, block.member].map((column) => column.of.map(folded));
   return block.name.map((name, at) => ({
@@ -81,7 +82,7 @@ function depositsOf(block) {
     height: block.height[at],
     day: days[at],
     search: { name: folded(name), author: authors[block.author.at[at]], member: members[block.member.at[at]] },
-  }));
+  })).filter(({ id }) => !withdrawn.has(id));
 }
 
 function censusesOf(block) {

@@ -60,6 +60,9 @@ export const FAULTS = [
 ];
 // end of sentences
 
+/** What only the gateway says: the program has no sentence for it. */
+const WITHDRAWN = 'The club has withdrawn this deposit.';
+
 /** What a read says if no reply came: it sends nothing that the archive would keep. */
 const NO_REPLY_TO_READ = 'No reply came, and nothing has changed. Wait a little and try again; '
   + 'if that does not help, tell whoever runs the archive.';
@@ -89,12 +92,14 @@ export function sentenceOf(error) {
   if (error.sentence) return error.sentence;
   if (error.fault) return FAULTS[error.fault]?.[1] ?? REFUSALS['bad-pattern'];
   if (error.isRead && error.name === 'no-reply') return NO_REPLY_TO_READ;
+  if (error.name === 'withdrawn') return WITHDRAWN;
   return REFUSALS[error.name] ?? GATEWAY[error.name] ?? GATEWAY.unknown;
 }
 
 /** The refusal that a reply of another status than 200 and 201 says. */
 export function refusalOf(status, text) {
   if (status === 401) return new Refused('password');
+  if (status === 410) return new Refused('withdrawn');
   try {
     const { error, refusal, rle } = JSON.parse(text);
     if (error in REFUSALS || error in GATEWAY) return new Refused(error, refusal ?? 0, rle ?? 0);

@@ -112,6 +112,7 @@ def test_lesser_copies(program: str, folder: str) -> None:
             3,
             ["4 deposits, 3 censuses, the first deposit by 'eve'", "another deposit 1"],
         ),
+        ("another second deposit", ["ann", "eve", "cid", "dan"], 3, ["4 deposits, 3 censuses, ", "another deposit 2"]),
         ("another third deposit", ["ann", "bob", "eve", "dan"], 3, ["4 deposits, 3 censuses, ", "another deposit 3"]),
     ]:
         database = archive(folder, "lesser.db", members, censuses)

@@ -1,16 +1,18 @@
 """How the file of a club's archive gives its place to another one: restores and new archives, what they refuse, and
 what undoes them. tests/test_kills.py has restores that are interrupted.
 """
+import contextlib
 import getpass
 import os
 import shutil
 import signal
+import sqlite3
 import stat
 from collections.abc import Callable
 
 import pytest
 
-from clients import Server, check, deposit, exchanged, run, same
+from clients import GLIDER_TEXT, Server, check, deposit, exchanged, run, same
 from clubs import (
     FIVE,
     MEMBERS,
@@ -133,6 +135,26 @@ def test_asked_for(folder: str) -> None:
         "the club's copies are moved away, and copies are made",
         len([name for name in club.files() if name.endswith(".db")]) == 0 and club.copy()[0] == 0,
     )
+    club.systemctl("stop")
+
+
+def test_edited(folder: str) -> None:
+    """A copy in which the text of one deposit was taken out, by way of a dump, is another archive. Asked for, it is put
+    back, and copies are made of it."""
+    club = ClubOfFive(folder, "edited")
+    club.copy()
+    edited = os.path.join(folder, "edited.db")
+    with contextlib.closing(sqlite3.connect(club.newest())) as copy, contextlib.closing(sqlite3.connect(edited)) as new:
+        new.executescript("\n".join(copy.iterdump()))
+        new.execute("UPDATE deposits SET rle = ? WHERE id = 3", (GLIDER_TEXT,))
+        new.commit()
+    check(
+        "it is refused",
+        is_error("life-restore", club.restore(edited), "a different archive from", "another deposit 3", "--other"),
+    )
+    same("asked for", club.restore("--other", edited)[0], 0)
+    same("the deposit without its text", club.ask([("GET", "/deposits/3", {}, b"")])[0], (200, GLIDER_TEXT))
+    same("a copy of it", club.copy()[0], 0)
     club.systemctl("stop")
 
 

@@ -82,6 +82,7 @@ def test_worse(folder: str) -> None:
         ("fewer deposits", MEMBERS[:4], 2, ["fewer deposits"]),
         ("fewer censuses", MEMBERS, 1, ["fewer censuses"]),
         ("another beginning", ["zoe", *MEMBERS[1:], "fay"], 2, ["another deposit 1"]),
+        ("another deposit in the middle", [*MEMBERS[:2], "zoe", *MEMBERS[3:]], 2, ["another deposit 3"]),
         ("another last deposit", [*MEMBERS[:4], "zoe", "fay"], 2, ["another deposit 5"]),
     ]:
         fill(club.archive, members, censuses)

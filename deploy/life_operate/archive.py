@@ -8,7 +8,9 @@ a crash at that moment would have left. SQLite then merges the log into the file
 import contextlib
 import datetime
 import fcntl
+import functools
 import http.client
+import itertools
 import os
 import pathlib
 import re
@@ -164,6 +166,13 @@ class Contents(Database):
     def row(self, table: str, number: int) -> tuple[Any, ...]:
         return self.first_row(f"SELECT {TABLES[table][1]} FROM {table} WHERE id = ?", number)
 
+    def rows(self, table: str, last: int) -> Iterator[tuple[Any, ...]]:
+        """The rows of a table up to a number, one by one."""
+        try:
+            yield from self.opened.execute(f"SELECT {TABLES[table][1]} FROM {table} WHERE id <= ? ORDER BY id", (last,))
+        except sqlite3.Error as fault:
+            raise self.refused(fault) from fault
+
     def text(self) -> str:
         return ", ".join(f"{count} {TABLES[table][0] if count == 1 else table}" for table, count in self.counts.items())
 
@@ -181,13 +190,16 @@ class Contents(Database):
         )
 
 
+@functools.cache
 def lacking(new: Contents, there: Contents) -> list[str]:
-    """What the existing archive has and the new one lacks."""
+    """What the existing archive has and the new one lacks: rows, or the first row that is another one. All rows are
+    compared, which takes seconds for a million."""
     found = [f"fewer {table}" for table in TABLES if new.counts[table] < there.counts[table]]
     for table, (one, _) in TABLES.items():
         last = min(new.counts[table], there.counts[table])
-        numbers = sorted({1, last}) if last else []
-        found += [f"another {one} {number}" for number in numbers if new.row(table, number) != there.row(table, number)]
+        pairs = enumerate(zip(new.rows(table, last), there.rows(table, last)), 1)
+        others = (f"another {one} {number}" for number, (row, other) in pairs if row != other)
+        found += itertools.islice(others, 1)
     return found
 
 

@@ -1,13 +1,15 @@
 """What tests/test_gateway.py does to a gateway as strangers: floods, requests that take the program long beside ten
 honest clients, and many addresses of one network of IPv6.
 
-    tests/strangers.py PROGRAM FOLDER    is what it runs in a network of its own, as its root
+    tests/strangers.py PROGRAM FOLDER PART    is what it runs in a network of its own, as its root
 """
 import concurrent.futures
+import contextlib
 import http.client
 import json
 import os
 import random
+import select
 import shutil
 import socket
 import ssl
@@ -15,13 +17,14 @@ import subprocess
 import sys
 import threading
 import time
-from collections.abc import Callable
+from collections.abc import Callable, Iterator
+from typing import Any
 
 import pytest
 
 import clients
 from clients import certify, check, free_port, left_out, note, same
-from gateways import DEPLOY, Gateway
+from gateways import BUSY, DEPLOY, Gateway
 
 FIRST_PORT = 9900
 # A rule under which a soup fills the plane, and nothing says so before it is run.
@@ -345,13 +348,75 @@ def strangers(folder: str) -> None:
         site.gateway.end()
 
 
-# ---- many addresses of one network
+# ---- half heads
 
 
-def one_network(folder: str) -> None:
-    """Two hundred addresses of one network of IPv6 are one client, and another network is another one. They are in a
-    network namespace of their own, which is gone with its last process."""
-    words = ["unshare", "--net", sys.executable, os.path.abspath(__file__), clients.PROGRAM, folder]
+@contextlib.contextmanager
+def half_heads(port: int, client: str, count: int, family: int = socket.AF_INET) -> Iterator[int]:
+    """Connections of one client on which half a head came; how many of this number the server holds. It reads each one
+    before the next one is made, since it may close those that it has not read."""
+    with contextlib.ExitStack() as stack:
+        poll = select.poll()
+        for _ in range(count):
+            peer = stack.enter_context(socket.socket(family))
+            peer.bind((client, 0))
+            with contextlib.suppress(OSError):
+                peer.connect(("127.0.0.1" if family == socket.AF_INET else "::1", port))
+                peer.sendall(b"GET /d")
+            poll.register(peer, select.POLLIN)
+            time.sleep(0.001)
+        yield count - len(poll.poll(0))
+
+
+def connections(folder: str) -> None:
+    """In a network whose packet filter has the rules of the package."""
+    if not shutil.which("nft", path=os.environ["PATH"] + ":/usr/sbin"):
+        pytest.skip("nftables is not installed")
+    found = in_own_network(folder, "filtered")
+    same("connections of one address", found.get("made"), 400)
+    same("of one network of IPv6", found.get("networks"), [400, 1])
+    slowest = found.get("slowest", 0.0)
+    check(f"others wait {slowest:.2f} s", found.get("statuses") == [200] * 30 and slowest < BUSY)
+
+
+def filtered(folder: str) -> None:
+    """What runs in that network. Prints how many connections could be made, and how others were answered."""
+    add_addresses([*(f"{NETWORKS[0]}::{number}" for number in (1, 2)), f"{NETWORKS[1]}::1"])
+    gateway = Gateway(os.path.join(folder, "filtered.db"), FIRST_PORT, f"LISTEN_ALSO=[::1]:{(also := free_port())}")
+    with open(os.path.join(DEPLOY, "debian", "connections.nft"), encoding="utf-8") as file:
+        rules = file.read().replace("{ 80, 443 }", f"{{ {gateway.port}, {also} }}")
+    found: dict[str, object] = {}
+    try:
+        subprocess.run(["nft", "-f", "-"], input=rules, text=True, check=True, timeout=60)
+        with half_heads(gateway.port, "127.2.0.9", 1000) as made:
+            times, statuses = [], []
+            for number in range(30):
+                begun = time.monotonic()
+                statuses.append(sent_from(f"127.2.1.{number}", "127.0.0.1", gateway.port, f"t{number}") // 201 * 200)
+                times.append(time.monotonic() - begun)
+        found = {"made": made, "statuses": statuses, "slowest": max(times)}
+        with half_heads(also, f"{NETWORKS[0]}::1", 390, socket.AF_INET6) as first:
+            with half_heads(also, f"{NETWORKS[0]}::2", 50, socket.AF_INET6) as second:
+                with half_heads(also, f"{NETWORKS[1]}::1", 1, socket.AF_INET6) as other:
+                    found["networks"] = [first + second, other]
+    finally:
+        gateway.end()
+    print(json.dumps(found))
+
+
+# ---- a network of its own
+
+
+def add_addresses(addresses: list[str]) -> None:
+    """The addresses of a separate network, in networks of 64 bits."""
+    lines = [f"address add {one}/64 dev lo nodad" for one in addresses]
+    subprocess.run(["ip", "link", "set", "lo", "up"], check=True, timeout=30)
+    subprocess.run(["ip", "-6", "-batch", "-"], input="\n".join(lines), text=True, check=True, timeout=60)
+
+
+def in_own_network(folder: str, part: str) -> dict[str, Any]:
+    """What a part of this file prints in a network namespace of its own, which is gone with its last process."""
+    words = ["unshare", "--net", sys.executable, os.path.abspath(__file__), clients.PROGRAM, folder, part]
     if (
         not shutil.which("ip")
         or os.geteuid() != 0
@@ -362,10 +427,18 @@ def one_network(folder: str) -> None:
         pytest.skip("a separate network is not available here")
     done = subprocess.run(words, capture_output=True, text=True, timeout=120, check=False)
     try:
-        found = json.loads(done.stdout.splitlines()[-1])
+        return dict(json.loads(done.stdout.splitlines()[-1]))
     except (IndexError, ValueError):
-        found = {}
         print(done.stdout + done.stderr)
+        return {}
+
+
+# ---- many addresses of one network
+
+
+def one_network(folder: str) -> None:
+    """Two hundred addresses of one network of IPv6 are one client, and another network is another one."""
+    found = in_own_network(folder, "addressed")
     check(
         f"of 200 deposits from one network {found.get('one')}",
         20 <= found.get("one", {}).get("201", 0) <= 22 + 5 * found.get("seconds", 0),
@@ -399,11 +472,9 @@ def sent_from(address: str, to: str, port: int, token: str, **headers: str) -> i
         connection.close()
 
 
-def in_the_network(folder: str) -> None:
+def addressed(folder: str) -> None:
     """What runs in the network: its addresses, a gateway, and clients of it. Prints what they were answered."""
-    lines = [f"address add {net}::{number:x}/64 dev lo nodad" for net in NETWORKS for number in range(1, MANY + 2)]
-    subprocess.run(["ip", "link", "set", "lo", "up"], check=True, timeout=30)
-    subprocess.run(["ip", "-6", "-batch", "-"], input="\n".join(lines), text=True, check=True, timeout=60)
+    add_addresses([f"{net}::{number:x}" for net in NETWORKS for number in range(1, MANY + 2)])
     to = f"{NETWORKS[0]}::1"
     also = free_port()
     found: dict[str, object] = {}
@@ -445,4 +516,4 @@ def in_the_network(folder: str) -> None:
 
 if __name__ == "__main__":
     clients.PROGRAM = sys.argv[1]
-    in_the_network(sys.argv[2])
+    {"addressed": addressed, "filtered": filtered}[sys.argv[3]](sys.argv[2])

@@ -183,6 +183,20 @@ def test_slow_clients(gateway: Gateway, filled: None) -> None:
     same("slow clients have kept nothing", [row for row in listed(gateway.life_port) if row["member"] == "slow"], [])
 
 
+def test_half_heads(gateway: Gateway, filled: None) -> None:
+    """Some thousand connections of one client with half a head hold nobody up."""
+    with strangers.half_heads(gateway.port, "127.2.0.9", 3400) as held:
+        slowest, statuses = 0.0, []
+        for turn in range(30):
+            begun = time.monotonic()
+            statuses.append(asked(gateway.port, 270 + turn, "GET", "/deposits/1")[0])
+            slowest = max(slowest, time.monotonic() - begun)
+    check(
+        f"thirty clients beside {held} half heads of one client wait {slowest:.2f} s",
+        held > 3000 and statuses == [200] * 30 and slowest < BUSY,
+    )
+
+
 def test_large_deposits(gateway: Gateway) -> None:
     """A file of 1 MiB is kept, one of a byte more is not."""
     rows = ["".join(random.Random(17 * row).choice("bo") for _ in range(1000)) for row in range(1000)]
@@ -694,6 +708,11 @@ def test_new_archives(servers: None, folder: str) -> None:
 def test_one_network(servers: None, folder: str) -> None:
     """Two hundred addresses of one network of IPv6 are one client, and another network is another one."""
     strangers.one_network(folder)
+
+
+def test_connections(servers: None, folder: str) -> None:
+    """With the packet filter's rules, a client has at most 400 connections, and another one is answered."""
+    strangers.connections(folder)
 
 
 def test_strangers(servers: None, folder: str) -> None:

@@ -611,7 +611,8 @@ esac
 """
 LOADED_NGINX = """{user}
 pid {folder}/pid;
-events {{ worker_connections 64; }}
+worker_rlimit_nofile {files};
+events {{ worker_connections {connections}; }}
 http {{
     access_log off;
     client_body_temp_path {folder}/temporary; proxy_temp_path {folder}/temporary; fastcgi_temp_path {folder}/temporary;
@@ -641,15 +642,18 @@ class Loaded:
         write(os.path.join(folder, "bin", "systemctl"), LOADED_SYSTEMCTL, 0o755)
         line = f'exec {nginx} -e {folder}/error.log -c {folder}/nginx.conf "$@"'
         write(os.path.join(folder, "bin", "nginx"), f"#!/bin/sh\n{line}\n", 0o755)
-        values = {"folder": folder, "port": self.port, "secure": self.secure, "digest": "0" * 64}
-        user = "user root;" if os.geteuid() == 0 else ""
-        write(os.path.join(folder, "nginx.conf"), LOADED_NGINX.format(user=user, **values))
+        self.write_nginx(8192, 20000)
         write(os.path.join(folder, "pages", "index.html"), "a page")
         for name in ("moment", "haproxy.cfg"):
             write(os.path.join(folder, name), "")
         write(os.path.join(folder, "haproxy.state"), "inactive")
         self.certify()
         subprocess.run([os.path.join(folder, "bin", "nginx")], check=True, timeout=30)
+
+    def write_nginx(self, connections: int, files: int) -> None:
+        values = {"folder": self.folder, "port": self.port, "secure": self.secure, "digest": "0" * 64}
+        values |= {"connections": connections, "files": files, "user": "user root;" if os.geteuid() == 0 else ""}
+        write(os.path.join(self.folder, "nginx.conf"), LOADED_NGINX.format(**values))
 
     def certify(self) -> None:
         clients.certify(os.path.join(self.folder, "cert.pem"), os.path.join(self.folder, "key.pem"))
@@ -728,6 +732,17 @@ def test_own_lines(loaded: Loaded) -> None:
     same("the lines of before", loaded.load(), (0, AGAIN, ""))
     write(os.path.join(loaded.folder, "moment"), "somebody else has had nginx load its files")
     same("after another load", [loaded.load()[1], loaded.load()[1]], [AGAIN, ""])
+
+
+def test_room_for_connections(loaded: Loaded) -> None:
+    """It is said each time if nginx has room for too few connections or files."""
+    loaded.load()
+    scarce = "one client can keep others out: set worker_connections 8192; in /etc/nginx/nginx.conf\n"
+    few = "nginx may open too few files for its connections: systemctl restart nginx.service\n"
+    for connections, files, wanted in ((768, 20000, scarce), (8192, 1024, few), (8192, 20000, "")):
+        loaded.write_nginx(connections, files)
+        same(f"{connections} connections, {files} files", loaded.load(), (0, AGAIN, wanted))
+        same("it is said again", loaded.load(), (0, "", wanted))
 
 
 def test_renewed_certificate(loaded: Loaded) -> None:

@@ -5,7 +5,9 @@ import os
 import re
 import ssl
 import subprocess
+import sys
 import time
+from collections.abc import Iterator
 
 from life_operate.settings import Wrong
 
@@ -29,6 +31,8 @@ NGINX_MOMENT = "MainPID,StateChangeTimestampMonotonic"
 # The files that nginx reads and `nginx -T` does not print: certificates, keys and the like.
 TLS_FILE = re.compile(rb"(?m)^\s*ssl_[a-z_]+\s+\"?([^;\"\s]+)\"?\s*;")
 DIGEST_ROUTE = "/.life-configured"
+# For how many connections each process of nginx should have room: one client can hold some thousands with half a head.
+CONNECTIONS = 8192
 # How long nginx may take until its new workers answer, in seconds.
 TAKEN_WITHIN = 10
 
@@ -124,9 +128,9 @@ def text_of(path: str) -> str:
         return ""
 
 
-def digest_of_files() -> str:
-    """The digest of all that nginx would read now: each file of its configuration, the club's own lines and other sites
-    too, and the files of TLS. What nginx refuses is refused, with its words."""
+def configuration() -> bytes:
+    """All of the configuration that nginx would read now, the club's own lines and other sites too. What nginx refuses
+    is refused, with its words."""
     # A session of its own keeps a Ctrl-C away, which would look like a refusal.
     done = subprocess.run(
         ["nginx", "-T", "-q"], stdin=subprocess.DEVNULL, capture_output=True, start_new_session=True, check=False
@@ -135,8 +139,13 @@ def digest_of_files() -> str:
         said = done.stderr.decode(errors="replace").strip()
         why = re.search(r"\[emerg\] (?:[0-9#]+: )?(.+)", said)
         raise Wrong(f"nginx was not reloaded, since it refuses its files: {why[1] if why else said}")
-    digest = hashlib.sha256(done.stdout)
-    for name in TLS_FILE.findall(done.stdout):
+    return done.stdout
+
+
+def digest_of(text: bytes) -> str:
+    """The digest of a configuration, and of the files of TLS that it names."""
+    digest = hashlib.sha256(text)
+    for name in TLS_FILE.findall(text):
         path = os.path.join(b"/etc/nginx", name)
         if os.path.isfile(path):
             with open(path, "rb") as file:
@@ -152,15 +161,30 @@ def workers() -> set[str]:
     return {child for child in children if "is shutting down" not in text_of(f"/proc/{child}/cmdline")}
 
 
+def lack_of_room(text: bytes) -> Iterator[str]:
+    """What to change if one client could take all connections of nginx. Debian's nginx.conf has room for 768."""
+    connections = re.findall(rb"(?m)^[^#\n]*\bworker_connections\s+(\d+)", text)
+    files = re.findall(rb"(?m)^\s*worker_rlimit_nofile\s+(\d+)", text) or re.findall(
+        rb"(?m)^Max open files +(\d+)", text_of(f"/proc/{shown('nginx.service', 'MainPID')}/limits").encode()
+    )
+    if int((connections or [b"512"])[-1]) < CONNECTIONS:
+        yield f"one client can keep others out: set worker_connections {CONNECTIONS}; in /etc/nginx/nginx.conf"
+    if files and int(files[-1]) < 2 * CONNECTIONS:
+        yield "nginx may open too few files for its connections: systemctl restart nginx.service"
+
+
 def load_nginx(settings: dict[str, str], site: str) -> None:
     """Has nginx load its files, if it has read others. Some changes nginx refuses only while it runs, such as another
     cache folder; its log says so."""
     if not os.path.exists(ENABLED_SITE):
         return
-    digest = digest_of_files()
+    text = configuration()
+    digest = digest_of(text)
     if shown("nginx.service", "ActiveState") != "active":
         return
     wanted, before = digest_in(site), workers()
+    for line in lack_of_room(text):
+        print(line, file=sys.stderr, flush=True)
 
     def is_served() -> bool:
         return not wanted or answer_of_nginx(settings, DIGEST_ROUTE)[1] == wanted

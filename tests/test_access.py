@@ -5,6 +5,7 @@ deploy/try runs it.
 The members' scripts wait more than they work, so they can run beside everything else: `pytest -n 2 --dist loadgroup`.
 """
 import base64
+import concurrent.futures
 import http.client
 import os
 import re
@@ -27,6 +28,8 @@ pytestmark = [pytest.mark.full, pytest.mark.xdist_group("gateway")]
 
 FIRST_PORT = 9500
 SCRIPTS = os.path.join(DEPLOY, "..", "examples", "scripts")
+# What OPERATING says to set for a class.
+CLASS = ["CENSUSES=60r/m", "CENSUSES_AT_ONCE=30", "DEAR_CONNECTIONS=30"]
 
 
 @pytest.fixture(scope="session")
@@ -310,6 +313,45 @@ def test_withdrawals(servers: None, folder: str) -> None:
 
 
 # ---- limits
+
+
+def pupil(port: int, number: int) -> tuple[int, float]:
+    """Requests a census as a web page does, from the address of the class: how often, and after how many seconds it was
+    answered."""
+    begun, tries = time.monotonic(), 0
+    while True:
+        tries += 1
+        headers = {"x-member": f"pupil-{number}", "x-token": "t1"}
+        status, _, lines = asked(port, 9, "POST", f"/deposits/{number}/censuses/0/4", None, headers)
+        if status != 429 or tries > 60:
+            same(f"the census of pupil {number}", status, 201)
+            return tries, time.monotonic() - begun
+        check(f"when it may be sent again: {lines}", lines["retry-after"] in ("1", "5"))
+        time.sleep(int(lines["retry-after"]))
+
+
+def school(folder: str, pupils: int, *settings: str) -> list[tuple[int, float]]:
+    """A class behind one address: each pupil's tries and seconds, if all request a census at once."""
+    gateway = Gateway(os.path.join(folder, f"class-{pupils}.db"), FIRST_PORT + 200, *settings, seconds=300)
+    try:
+        for number in range(1, pupils + 1):
+            headers = {"x-member": f"pupil-{number}", "x-token": "t1"}
+            same("a deposit", asked(gateway.port, number, "POST", "/deposits", pattern("c", number), headers)[0], 201)
+        with concurrent.futures.ThreadPoolExecutor(pupils) as pool:
+            return sorted(pool.map(lambda number: pupil(gateway.port, number), range(1, pupils + 1)))
+    finally:
+        gateway.end()
+
+
+@pytest.mark.xdist_group("scripts")
+def test_class(servers: None, folder: str) -> None:
+    """With the usual settings 6 pupils are answered at once, then one every five seconds. With those for a class, all
+    30 are."""
+    found = school(folder, 10)
+    same("pupils that are answered at once", [tries for tries, _ in found[:6]], [1] * 6)
+    check(f"the others, one after the other: {found[6:]}", [round(took / 5) for _, took in found[6:]] == [1, 2, 3, 4])
+    found = school(folder, 30, *CLASS)
+    check(f"all at once: {found}", [tries for tries, _ in found] == [1] * 30 and found[-1][1] < 8)
 
 
 @pytest.mark.xdist_group("scripts")

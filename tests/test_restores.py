@@ -9,6 +9,7 @@ import signal
 import sqlite3
 import stat
 import subprocess
+import sys
 import time
 
 import pytest
@@ -29,6 +30,7 @@ from clubs import (
     other_disk,
     shown,
     small_disk,
+    until,
     write,
     write_wrong_row,
 )
@@ -98,6 +100,65 @@ def test_worse(folder: str) -> None:
         {name: content(os.path.join(club.copies, name)) for name in club.files()},
         before,
     )
+
+
+# Writes to a file all the time, as a program does while large files are deposited, with the lock that it has.
+WRITER = """
+import fcntl, sys, time
+with open(sys.argv[1], "r+b", buffering=0) as file:
+    fcntl.lockf(file, fcntl.LOCK_EX, 512, 1 << 30)
+    print("locked", flush=True)
+    turn = 0
+    while True:
+        turn += 1
+        file.seek(turn % 60 << 20)
+        file.write(turn.to_bytes(8, "big"))
+        time.sleep(0.001)
+"""
+COPIER = """
+import sys, time
+sys.path.insert(0, sys.argv[1])
+from life_operate import archive
+if sys.argv[4] == "forever":
+    archive.copied = lambda *_: time.sleep(600)
+    archive.STOPPED_TRIES = range(1)
+try:
+    archive.copied_in_time(*sys.argv[2:4])
+except archive.Refused as fault:
+    sys.exit(str(fault))
+"""
+
+
+def state_of(process: int) -> str:
+    """The state of a process, as /proc has it: T if it is stopped."""
+    with open(f"/proc/{process}/stat", encoding="ascii") as file:
+        return file.read().rpartition(") ")[2][0]
+
+
+def test_busy_file(folder: str) -> None:
+    """A file that changes all the time is copied while its program is stopped, which then continues; so it does if the
+    copy is killed."""
+    path, new = os.path.join(folder, "busy.db"), os.path.join(folder, "busy-copy.db")
+    with open(path, "wb") as file:
+        file.write(os.urandom(60 << 20))
+    said = f"{path} changes faster than it can be copied: requests wait while it is read\n"
+    words = [sys.executable, "-c", COPIER, DEPLOY, path, new]
+    with subprocess.Popen([sys.executable, "-c", WRITER, path], stdout=subprocess.PIPE, text=True) as writer:
+        assert writer.stdout is not None
+        writer.stdout.readline()
+        done = subprocess.run([*words, "once"], capture_output=True, text=True, timeout=120, check=False)
+        same("a copy", (done.returncode, set(done.stdout.splitlines(True)), done.stderr), (0, {said}, ""))
+        check("the program continues", state_of(writer.pid) != "T")
+        with subprocess.Popen([*words, "forever"], stdout=subprocess.PIPE, text=True) as copier:
+            assert copier.stdout is not None
+            same("a copy that takes long", copier.stdout.readline(), said)
+            same("the program is stopped", state_of(writer.pid), "T")
+            copier.kill()
+        check("it continues after a kill of the copy", until(lambda: state_of(writer.pid) != "T", 20))
+        writer.kill()
+    with open(new, "rb") as copy, open(path, "rb") as file:
+        turns = [int.from_bytes(copy.read(1 << 20)[:8], "big") for _ in range(60)]
+    check("the copy is of one moment", sorted(turns) == list(range(min(turns), min(turns) + 60)))
 
 
 def test_touched(folder: str) -> None:

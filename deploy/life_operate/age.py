@@ -13,23 +13,19 @@ all, the last change of COPIES counts. The folder --state records since when a u
 import argparse
 import datetime
 import errno
-import fcntl
 import os
 import pathlib
 import re
 import shutil
-import struct
 import subprocess
 import sys
 import time
 from collections.abc import Iterator
 
 from life_operate import settings as life_settings
-from life_operate.archive import LOCK_LENGTH, LOCK_START, STAMP, TABLES, Copies, Database, Refused, line_of
+from life_operate.archive import STAMP, TABLES, Copies, Database, Refused, holder, line_of
 
 UTC = datetime.timezone.utc
-# A flock of Linux on 64 bits: type, whence, start, length, process.
-FLOCK = "hhqqi4x"
 # The units that have to run if they are enabled, and where systemd keeps their processes.
 SERVICES = ("life.service", "life-gateway.service", "nginx.service")
 WANTED_BY = "etc/systemd/system/multi-user.target.wants"
@@ -90,14 +86,6 @@ def nearly_full(archive: str, folder: str) -> Iterator[str]:
 # ---- the service
 
 
-def is_open(path: str) -> bool:
-    """Whether a program has the file locked, as `life` does while it serves it."""
-    with open(path, "rb") as file:
-        wanted = struct.pack(FLOCK, fcntl.F_WRLCK, os.SEEK_SET, LOCK_START, LOCK_LENGTH, 0)
-        found: int = struct.unpack(FLOCK, fcntl.fcntl(file, fcntl.F_GETLK, wanted))[0]
-        return found != fcntl.F_UNLCK
-
-
 def is_active(root: str, unit: str) -> bool:
     """Whether a unit has processes, by its control group."""
     return os.path.exists(os.path.join(root, GROUPS, unit))
@@ -126,7 +114,7 @@ def served(root: str, archive: str) -> str:
         if not is_active(root, "life.service"):
             return ""
         try:
-            if is_open(archive):
+            if holder(archive):
                 return ""
             fault = f"{archive} is not the file that life.service has open"
         except OSError as missing:

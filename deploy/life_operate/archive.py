@@ -18,6 +18,7 @@ import select
 import shutil
 import socket
 import sqlite3
+import struct
 import subprocess
 import time
 from collections.abc import Iterable, Iterator
@@ -26,10 +27,18 @@ from typing import Any, BinaryIO
 from life_operate.signals import started
 
 TRIES = 40
+# In these tries the program is stopped, for this many seconds at most: gateways wait 60 for its answer.
+STOPPED_TRIES, STOPPED_WITHIN = range(5, 8), 45
+# Stops a process until its input ends: it continues even if the one that stopped it is killed.
+STOP = 'kill -STOP "$0" && echo stopped && read -r -t "$1"; kill -CONT "$0"'
+# How many bytes of a file are compared at once.
+BLOCK = 1 << 20
 # A log's head, a frame's head and the smallest page of SQLite: a shorter log has no commit.
 LEAST_COMMIT = 32 + 24 + 512
 # The bytes of a file that SQLite and `life` lock while they have the file open.
 LOCK_START, LOCK_LENGTH = 1 << 30, 512
+# A flock of Linux on 64 bits: type, whence, start, length, process.
+FLOCK = "hhqqi4x"
 # How many seconds the program may take to open a copy. A migration takes as long as its censuses took.
 OPENED_WITHIN = 1800
 # The time in the name of a copy, in UTC.
@@ -75,10 +84,24 @@ def state_of(path: str) -> tuple[int, int, int]:
     return state.st_ino, state.st_size, state.st_mtime_ns
 
 
+def renew(file: str, new: str) -> None:
+    """Makes a copy the same as its file. Blocks that are the same are not written, so a further try takes less time."""
+    if not os.path.exists(new):
+        shutil.copyfile(file, new)
+        return
+    with open(file, "rb", buffering=0) as there, open(new, "r+b", buffering=0) as copy:
+        while block := there.read(BLOCK):
+            place = copy.tell()
+            if copy.read(len(block)) != block:
+                copy.seek(place)
+                copy.write(block)
+        copy.truncate(there.tell())
+
+
 def copied(archive: str, new: str) -> bool:
     """Whether the copies of the two files are from one moment."""
     file, (head, length) = state_of(archive), begin_of(archive + "-wal")
-    shutil.copyfile(archive, new)
+    renew(archive, new)
     pathlib.Path(new + "-wal").unlink(missing_ok=True)
     if head:
         shutil.copyfile(archive + "-wal", new + "-wal")
@@ -88,10 +111,12 @@ def copied(archive: str, new: str) -> bool:
 
 
 def copied_in_time(archive: str, new: str) -> None:
-    """Copies the two files, and tries again while they change."""
+    """Copies the two files, and tries again while they change. If they change each time, the program is stopped while
+    they are copied."""
     for turn in range(TRIES):
-        if copied(archive, new):
-            return
+        with stopped(archive) if turn in STOPPED_TRIES else contextlib.nullcontext():
+            if copied(archive, new):
+                return
         time.sleep(0.02 * (turn + 1))
     raise Refused(f"{archive} changed during each of {TRIES} tries")
 
@@ -103,6 +128,35 @@ def sync(path: str) -> None:
         os.fsync(number)
     finally:
         os.close(number)
+
+
+def holder(path: str) -> int:
+    """The process that has a file locked, as `life` has while it serves it, -1 if it can't be known, and 0 if there is
+    none."""
+    with open(path, "rb") as file:
+        wanted = struct.pack(FLOCK, fcntl.F_WRLCK, os.SEEK_SET, LOCK_START, LOCK_LENGTH, 0)
+        kind, _, _, _, process = struct.unpack(FLOCK, fcntl.fcntl(file, fcntl.F_GETLK, wanted))
+        return 0 if kind == fcntl.F_UNLCK else int(process) or -1
+
+
+@contextlib.contextmanager
+def stopped(path: str) -> Iterator[None]:
+    """Stops the program that serves a file for the time of a block, if this user may."""
+    if (process := holder(path)) <= 0:
+        yield
+        return
+    words = ["bash", "-c", STOP, str(process), str(STOPPED_WITHIN)]
+    # Its own session keeps a Ctrl-C away.
+    with subprocess.Popen(
+        words, stdin=subprocess.PIPE, stdout=subprocess.PIPE, stderr=subprocess.DEVNULL, start_new_session=True
+    ) as stop:
+        assert stop.stdin and stop.stdout, "both are pipes"
+        if stop.stdout.readline():
+            print(f"{path} changes faster than it can be copied: requests wait while it is read", flush=True)
+        try:
+            yield
+        finally:
+            stop.stdin.close()
 
 
 def locked(path: str) -> BinaryIO | None:

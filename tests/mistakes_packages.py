@@ -244,8 +244,8 @@ def removes_the_packages(debian: Debian) -> None:
 
 
 def purges_the_packages(debian: Debian) -> None:
-    """The packages are purged: the archive and its copies stay, the other site too, and nothing else. Installed again,
-    they are served."""
+    """The packages are purged: the archive, its copies and its index stay, the other site too, and nothing else.
+    Installed again, they are served."""
     debian.run("systemctl", "stop", "life.service")
     archive = sums(debian.path(ARCHIVE))
     same("removed", debian.run("apt-get", "remove", "--yes", "life", "life-gateway", timeout=300).returncode, 0)
@@ -262,12 +262,14 @@ def purges_the_packages(debian: Debian) -> None:
         done.returncode == 0 and "these archives and copies were kept: " in done.stdout and ARCHIVE in done.stdout,
     )
     check("the copies stay", len(copies(debian)) == there >= 1)
+    days = debian.run("sh", "-c", "grep -l '\"seen\":' /var/lib/life-index/deposits-1-*.json")
+    check("the index stays, with its days", days.returncode == 0)
     same("the archive is as it was", sums(debian.path(ARCHIVE)), archive)
     left = debian.run(
         "sh",
         "-c",
         "ls -d /etc/life /etc/nginx/sites-*/life* /etc/systemd/system/life* /etc/logrotate.d/life* "
-        "/usr/lib/life /var/cache/life /var/lib/life-index /var/lib/life-metrics "
+        "/usr/lib/life /var/cache/life /var/lib/life-metrics "
         "/var/log/nginx/life* /var/log/life-gateway /run/life-alarm 2> /dev/null",
     ).stdout
     same(f"nothing else is left: {left}", left, "")

@@ -197,6 +197,20 @@ def test_half_heads(gateway: Gateway, filled: None) -> None:
     )
 
 
+def test_no_room_for_bodies(gateway: Gateway) -> None:
+    """A body that nginx can't put anywhere is answered in the gateway's words."""
+    bodies = os.path.join(gateway.folder, "web", "body")
+    os.rename(bodies, bodies + ".away")
+    with open(bodies, "w", encoding="ascii"):
+        pass
+    try:
+        status, body, lines = sent(gateway.port, 252, "away", b"#C " + b"a" * 100_000)
+        same("a body that nginx can't write", (status, body, lines["retry-after"]), (503, NO_REPLY, "5"))
+    finally:
+        os.remove(bodies)
+        os.rename(bodies + ".away", bodies)
+
+
 def test_large_deposits(gateway: Gateway) -> None:
     """A file of 1 MiB is kept, one of a byte more is not."""
     rows = ["".join(random.Random(17 * row).choice("bo") for _ in range(1000)) for row in range(1000)]

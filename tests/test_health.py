@@ -5,14 +5,12 @@ has a real one.
 import contextlib
 import fcntl
 import getpass
-import http.client
 import os
 import pathlib
+import pwd
 import re
 import shutil
-import signal
 import socket
-import ssl
 import stat
 import subprocess
 import sys
@@ -21,29 +19,15 @@ from collections.abc import Iterator
 
 import pytest
 
-import clients
 import clubs
 from archives import new_archive
 from clients import BLOCKS, GLIDER, GLIDER_TEXT, HERE, Server, check, deposit, exchanged, same
+from loaded import AGAIN, Loaded, content, write
 
 pytestmark = pytest.mark.full
 
 DEPLOY = os.path.join(HERE, "..", "deploy")
 UNIT = "life-backup.service"
-
-
-def content(path: str) -> str:
-    if not os.path.exists(path):
-        return ""
-    with open(path, encoding="utf-8", errors="replace") as file:
-        return file.read()
-
-
-def write(path: str, text: str, mode: int = 0o644) -> None:
-    os.makedirs(os.path.dirname(path), exist_ok=True)
-    with open(path, "w", encoding="utf-8") as file:
-        file.write(text)
-    os.chmod(path, mode)
 
 
 def script(name: str, *words: str, **environment: str) -> tuple[int, str, str]:
@@ -332,6 +316,32 @@ def test_room(folder: str) -> None:
 
 
 @pytest.mark.parametrize(
+    "options, owner, said",
+    [
+        ("size=8m", "nobody", "{} has only 8 MiB left"),
+        ("size=80m,nr_inodes=100", "nobody", "{} has room for only 99 files"),
+        ("size=80m", "root", "nobody can't write to {}"),
+        ("size=80m,ro", "nobody", "nobody can't write to {}"),
+        ("size=80m", "nobody", ""),
+    ],
+    ids=["bytes", "files", "owner", "read-only", "well"],
+)
+def test_writer(folder: str, options: str, owner: str, said: str) -> None:
+    """A folder to which nginx writes needs room for bytes and files, and nginx has to be able to write there."""
+    disk = os.path.join(folder, "written")
+    os.makedirs(disk, exist_ok=True)
+    os.chmod(folder, 0o755)
+    words = ["mount", "-t", "tmpfs", "-o", f"{options},mode=755,uid={pwd.getpwnam(owner).pw_uid}", "disk", disk]
+    if os.geteuid() != 0 or subprocess.run(words, capture_output=True, check=False).returncode:
+        pytest.skip("no small disk is mounted")
+    try:
+        wanted = (1, "", f"life-age: {said.format(disk)}\n") if said else (0, "life-age: nobody can write\n", "")
+        same(f"a disk with {options}", script("life-age", "--writer", "nobody", disk, f"{disk}/none"), wanted)
+    finally:
+        subprocess.run(["umount", disk], check=True)
+
+
+@pytest.mark.parametrize(
     "words",
     [
         ["life-check"],
@@ -541,18 +551,25 @@ index.main()
 
 
 def test_locked_index(folder: str) -> None:
-    """A folder of the index that somebody has locked, as every user can, is a failure after a while."""
+    """A lock on the folder of the index, which every user can have, holds up nobody. That of another life-index does,
+    which only root and the owner of the folder can open."""
     path, copy = os.path.join(folder, "index"), os.path.join(folder, "indexed.db")
     os.makedirs(path)
+    if os.geteuid() == 0:
+        shutil.chown(path, "nobody")
     new_archive(copy).close()
     number = os.open(path, os.O_RDONLY)
     fcntl.flock(number, fcntl.LOCK_EX)
     words = [sys.executable, "-c", INDEXING, DEPLOY, copy, path]
-    done = subprocess.run(words, capture_output=True, text=True, timeout=10, check=False)
-    same("it is said", (done.returncode, done.stderr), (1, f"life-index: another program has locked {path}\n"))
-    os.close(number)
     done = subprocess.run(words, capture_output=True, text=True, timeout=60, check=False)
-    same(f"once it is free: {done.stderr}", done.returncode, 0)
+    same(f"a lock on the folder: {done.stderr}", done.returncode, 0)
+    os.close(number)
+    state = os.stat(os.path.join(path, "lock"))
+    same("who can open the lock", (stat.S_IMODE(state.st_mode), state.st_uid), (0o600, os.stat(path).st_uid))
+    with open(os.path.join(path, "lock"), "rb") as lock:
+        fcntl.flock(lock, fcntl.LOCK_EX)
+        done = subprocess.run(words, capture_output=True, text=True, timeout=60, check=False)
+        same("another one is said", (done.returncode, done.stderr), (1, "life-index: another life-index is at work\n"))
 
 
 def test_locked_settings(folder: str) -> None:
@@ -580,115 +597,6 @@ def test_locked_settings(folder: str) -> None:
 
 
 # ---- what nginx and HAProxy load
-
-
-# Loads the files of a folder, in which systemctl and nginx are stand-ins.
-LOADING = """
-import sys
-sys.path.insert(0, sys.argv[1])
-from life_operate import loading
-from life_operate.settings import Wrong
-
-folder, port = sys.argv[2:4]
-loading.ENABLED_SITE = site = f"{folder}/nginx.conf"
-loading.NGINX_READ, loading.TAKEN_WITHIN = f"{folder}/nginx.read", 3
-loading.HAPROXY, loading.HAPROXY_READ = f"{folder}/haproxy.cfg", f"{folder}/haproxy.read"
-try:
-    loading.load([], {"LISTEN": f"127.0.0.1:{port}", "HOST": "", "TLS": "no"}, site)
-except Wrong as fault:
-    sys.exit(str(fault))
-"""
-LOADED_SYSTEMCTL = """#!/bin/sh
-cd "$(dirname "$0")/.."
-case $* in
-  *=ActiveState*life-gateway*) cat haproxy.state ;;
-  *=ActiveState*) echo active ;;
-  *=ActiveEnterTimestamp*) echo @0 ;;
-  *=MainPID,*) cat pid moment ;;
-  *=MainPID*) cat pid ;;
-  "reload nginx.service") date +%s%N > moment; exec bin/nginx -s reload ;;
-esac
-"""
-LOADED_NGINX = """{user}
-pid {folder}/pid;
-worker_rlimit_nofile {files};
-events {{ worker_connections {connections}; }}
-http {{
-    access_log off;
-    client_body_temp_path {folder}/temporary; proxy_temp_path {folder}/temporary; fastcgi_temp_path {folder}/temporary;
-    uwsgi_temp_path {folder}/temporary; scgi_temp_path {folder}/temporary;
-    server {{
-        listen 127.0.0.1:{port};
-        listen 127.0.0.1:{secure} ssl;
-        ssl_certificate {folder}/cert.pem;
-        ssl_certificate_key {folder}/key.pem;
-        root {folder}/pages;
-        location = /.life-configured {{
-            return 200 '{digest}';
-        }}
-        include {folder}/site.d/*.conf;
-    }}
-}}
-"""
-AGAIN = "nginx has to read its files again\nsystemctl reload nginx.service\n"
-
-
-class Loaded:
-    """nginx itself, a stand-in for systemctl, and the club's own lines."""
-
-    def __init__(self, folder: str) -> None:
-        self.folder, self.port, self.secure = folder, clients.free_port(), clients.free_port()
-        nginx = shutil.which("nginx", path=os.environ["PATH"] + ":/usr/sbin")
-        write(os.path.join(folder, "bin", "systemctl"), LOADED_SYSTEMCTL, 0o755)
-        line = f'exec {nginx} -e {folder}/error.log -c {folder}/nginx.conf "$@"'
-        write(os.path.join(folder, "bin", "nginx"), f"#!/bin/sh\n{line}\n", 0o755)
-        self.write_nginx(8192, 20000)
-        write(os.path.join(folder, "pages", "index.html"), "a page")
-        for name in ("moment", "haproxy.cfg"):
-            write(os.path.join(folder, name), "")
-        write(os.path.join(folder, "haproxy.state"), "inactive")
-        self.certify()
-        subprocess.run([os.path.join(folder, "bin", "nginx")], check=True, timeout=30)
-
-    def write_nginx(self, connections: int, files: int) -> None:
-        values = {"folder": self.folder, "port": self.port, "secure": self.secure, "digest": "0" * 64}
-        values |= {"connections": connections, "files": files, "user": "user root;" if os.geteuid() == 0 else ""}
-        write(os.path.join(self.folder, "nginx.conf"), LOADED_NGINX.format(**values))
-
-    def certify(self) -> None:
-        clients.certify(os.path.join(self.folder, "cert.pem"), os.path.join(self.folder, "key.pem"))
-
-    def own_line(self, text: str) -> None:
-        write(os.path.join(self.folder, "site.d", "own.conf"), text)
-
-    def load(self) -> tuple[int, str, str]:
-        path = f"{self.folder}/bin:{os.environ['PATH']}"
-        done = subprocess.run(
-            [sys.executable, "-c", LOADING, DEPLOY, self.folder, str(self.port)],
-            capture_output=True,
-            text=True,
-            timeout=60,
-            env=os.environ | {"PATH": path},
-            check=False,
-        )
-        return done.returncode, done.stdout, done.stderr
-
-    def asked(self, address: str) -> int:
-        """The status of the page for a client with this address."""
-        connection = http.client.HTTPConnection("127.0.0.1", self.port, timeout=30, source_address=(address, 0))
-        try:
-            connection.request("GET", "/")
-            return connection.getresponse().status
-        finally:
-            connection.close()
-
-    def certificate(self) -> str:
-        """The certificate that is given out."""
-        return ssl.get_server_certificate(("127.0.0.1", self.secure))
-
-    def end(self) -> None:
-        # `nginx -s stop` would first read what was broken.
-        os.kill(int(content(os.path.join(self.folder, "pid"))), signal.SIGTERM)
 
 
 @pytest.fixture

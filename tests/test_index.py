@@ -232,6 +232,7 @@ def test_grown(folder: str) -> None:
         "index.json",
         "feed.xml",
         "rows.json",
+        "lock",
     }
     named |= {f"names-{thousand}.txt" for thousand in range(3)}
     same("blocks that are no longer named are removed", set(os.listdir(steps)), named)

@@ -2,13 +2,16 @@
 
     life-age [--state FOLDER] [--port PORT] [--root FOLDER] ARCHIVE COPIES AGE
     life-age --certificate FILE
+    life-age --writer USER FOLDER..
 
 The status is 1, with a line on standard error, as long as one of these holds: the folder COPIES has no copy younger
 than AGE (such as 2h); the archive's file is not the one that the service has open; the service, its gateway or nginx is
 enabled, but has not been active for ten minutes; for that long nothing has listened at PORT, the service's port; the
 disk of the archive is nearly full; the archive has nine tenths of the rows that it may have. If there is no copy at
 all, the last change of COPIES counts. The folder --state records since when a unit has not been active. --root replaces
-/. The second form, for root, checks a certificate: two weeks before it expires the status is 1.
+/. The other forms are for root. The second one checks a certificate: two weeks before it expires the status is 1. The
+third one checks the folders to which nginx writes as USER, if they exist: whether it can, and whether their disks have
+room.
 """
 import argparse
 import datetime
@@ -34,6 +37,8 @@ GROUPS = "sys/fs/cgroup/system.slice"
 AWAY_SECONDS = 500
 # A disk is nearly full if it has fewer bytes left than this, or than a tenth of the archive.
 LEAST_ROOM = 64 << 20
+# A disk may also have too few files left.
+LEAST_FILES = 1000
 # How many rows an archive may have of each table: CAPACITY in docs/limits.csv.
 CAPACITY = 1_000_000
 # How many seconds before the end of a certificate there is an alarm: two weeks.
@@ -151,6 +156,21 @@ def room(archive: str) -> str:
     return f"{os.path.dirname(archive)} has only {free >> 20} MiB left" if free < max(LEAST_ROOM, size // 10) else ""
 
 
+# ---- nginx
+
+
+def unwritable(user: str, folder: str) -> str:
+    """The problem with a folder to which a user writes, if there is one. Some disks don't count files."""
+    if not os.path.isdir(folder):
+        return ""
+    if life_settings.can(user, "-w", folder) is False:
+        return f"{user} can't write to {folder}"
+    disk = os.statvfs(folder)
+    if disk.f_bavail * disk.f_frsize < LEAST_ROOM:
+        return f"{folder} has only {disk.f_bavail * disk.f_frsize >> 20} MiB left"
+    return f"{folder} has room for only {disk.f_favail} files" if disk.f_files and disk.f_favail < LEAST_FILES else ""
+
+
 # ---- the certificate
 
 
@@ -175,6 +195,9 @@ def faults_of(words: argparse.Namespace) -> tuple[list[str], str]:
         return [], f"{words.certificate} was not checked: openssl is not installed"
     if words.certificate:
         return [fault for fault in [expiring(words.certificate)] if fault], f"{words.certificate} is valid"
+    if words.writer:
+        user, *folders = words.writer
+        return [fault for folder in folders if (fault := unwritable(user, folder))], f"{user} can write"
     archive, folder = os.path.realpath(words.archive), os.path.realpath(words.copies)
     fault, well = age_of(archive, folder, words.age)
     faults = [
@@ -190,14 +213,15 @@ def faults_of(words: argparse.Namespace) -> tuple[list[str], str]:
 def main() -> None:
     parser = argparse.ArgumentParser(description=__doc__, formatter_class=argparse.RawDescriptionHelpFormatter)
     parser.add_argument("--certificate", metavar="FILE")
+    parser.add_argument("--writer", metavar=("USER", "FOLDER"), nargs="+")
     parser.add_argument("--state", metavar="FOLDER")
     parser.add_argument("--port", metavar="PORT", type=int)
     parser.add_argument("--root", default="/", metavar="FOLDER")
     for name in ("archive", "copies", "age"):
         parser.add_argument(name, metavar=name.upper(), nargs="?")
     words = parser.parse_args()
-    if (words.age is None) == (words.certificate is None):
-        parser.error("an archive, its copies and an age, or a certificate")
+    if [words.age, words.certificate, words.writer].count(None) != 2:
+        parser.error("an archive, its copies and an age, or a certificate, or a user and folders")
     try:
         faults, well = faults_of(words)
     except OSError as fault:

@@ -49,9 +49,12 @@ def folder_lock(folder: str, kind: int, within: float, refusal: str) -> contextl
 
 
 def own_lock(path: str, within: float, refusal: str) -> contextlib.AbstractContextManager[None]:
-    """A lock on a file that no other user can open. The file stays."""
-    os.makedirs(os.path.dirname(path), exist_ok=True)
+    """A lock on a file that only root and the owner of its folder can open. The file stays."""
+    folder = os.path.dirname(path)
+    os.makedirs(folder, exist_ok=True)
     number = os.open(path, os.O_RDWR | os.O_CREAT | os.O_NOFOLLOW, 0o600)
+    if os.geteuid() == 0 and os.fstat(number).st_nlink == 1:
+        os.fchown(number, os.stat(folder).st_uid, os.stat(folder).st_gid)
     return descriptor_lock(number, fcntl.LOCK_EX, within, refusal)
 
 

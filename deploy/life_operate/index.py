@@ -29,7 +29,6 @@ error says why, and the status is 1.
 import argparse
 import contextlib
 import datetime
-import fcntl
 import hashlib
 import itertools
 import json
@@ -45,7 +44,7 @@ from typing import Any
 from xml.sax.saxutils import escape
 
 from life_operate.archive import Copies, Refused, sync
-from life_operate.exchange import folder_lock
+from life_operate.exchange import own_lock
 from life_operate.settings import Wrong
 from life_operate.withdrawals import reasons_in
 
@@ -55,6 +54,7 @@ HEAD = "index.json"
 FEED = "feed.xml"
 # What the next run compares with. nginx does not serve it.
 ROWS = "rows.json"
+LOCK = "lock"
 IN_FEED = 50
 # Names for titles are cut after this many characters.
 MOST_OF_NAME = 80
@@ -236,10 +236,9 @@ class Folder:
     def __init__(self, path: str) -> None:
         self.path = path
         os.makedirs(path, exist_ok=True)
-        # Two runs at the same time would remove each other's blocks. The lock ends with the program. Any user of the
-        # machine can hold it, so the wait has an end.
+        # Two runs at the same time would remove each other's blocks. The lock ends with the program.
         self.lock = contextlib.ExitStack()
-        self.lock.enter_context(folder_lock(path, fcntl.LOCK_EX, LOCKED_WITHIN, f"another program has locked {path}"))
+        self.lock.enter_context(own_lock(os.path.join(path, LOCK), LOCKED_WITHIN, "another life-index is at work"))
         self.head = self.read_head()
         # The digest of the rows of each block, and the deposits that were left out.
         self.rows, self.withdrawn = self.read_rows()

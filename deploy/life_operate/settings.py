@@ -1,5 +1,6 @@
 """The settings of a club's archive: lines NAME=VALUE, the values that each may have, and how they are read."""
 import os
+import pwd
 import re
 import shutil
 import subprocess
@@ -176,22 +177,30 @@ def judge_reader(settings: dict[str, str], user: str = "www-data") -> None:
     """Refuses a members file that nginx, running as this user, can't read. Only root can check that, and only if the
     user exists."""
     path = settings["MEMBERS_FILE"]
-    if path and can_read(user, path) is False:
+    if path and can(user, "-r", path) is False:
         raise Wrong(f"MEMBERS_FILE={path}: {user} can't read it: chown root:{user}, chmod 640")
 
 
 def judge_secrecy(settings: dict[str, str]) -> None:
     """Refuses a members file that every user of this machine can read: hashes can be guessed."""
     path = settings["MEMBERS_FILE"]
-    if path and can_read("nobody", path):
+    if path and can("nobody", "-r", path):
         raise Wrong(f"MEMBERS_FILE={path}: every user of this machine can read it: chown root:www-data, chmod 640")
 
 
-def can_read(user: str, path: str) -> bool | None:
-    """Whether a user can read a file. None if this is not root, or there is no such user."""
-    if os.geteuid() != 0 or subprocess.run(["id", user], capture_output=True, check=False).returncode:
+def can(user: str, what: str, path: str) -> bool | None:
+    """Whether a user can do with a file what test(1) calls -r or -w. None if this is not root, or there is no such
+    user."""
+    try:
+        known = pwd.getpwnam(user)
+    except KeyError:
         return None
-    return subprocess.run(["runuser", "-u", user, "--", "test", "-r", path], check=False).returncode == 0
+    if os.geteuid() != 0:
+        return None
+    groups = os.getgrouplist(user, known.pw_gid)
+    words = ["test", what, path]
+    done = subprocess.run(words, user=known.pw_uid, group=known.pw_gid, extra_groups=groups, check=False)
+    return done.returncode == 0
 
 
 def judge(settings: dict[str, str]) -> None:

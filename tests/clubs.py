@@ -24,6 +24,8 @@ DEPLOY = os.path.join(HERE, "..", "deploy")
 Answer = tuple[int, str, str]
 STAMPED = re.compile(r"club-(\d{4}-\d\d-\d\dT\d{4})\.db")
 MEMBERS = ["ann", "bob", "cid", "dan", "eve"]
+# The form of what `openssl passwd -6` prints.
+HASH = "$6$salt$" + "a" * 86
 # A stand-in for systemctl: it records its arguments, kills the program as a power cut would, and starts it. After a
 # failure it refuses every start until the failure is reset.
 SYSTEMCTL = r"""#!/bin/bash

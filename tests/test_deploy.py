@@ -14,7 +14,7 @@ import tempfile
 import pytest
 
 from clients import GLIDER, HERE, Server, check, deposit, exchanged, message, same
-from clubs import content, file_of, fill
+from clubs import HASH, content, file_of, fill
 
 pytestmark = pytest.mark.full
 
@@ -503,7 +503,7 @@ def test_unread_members(folder: str) -> None:
     room = new_room(folder, "unread")
     members = os.path.join(room, "members")
     with open(members, "w", encoding="utf-8") as file:
-        file.write("ann:of-ann\n")
+        file.write(f"ann:{HASH}\n")
     os.chmod(members, 0o600)
     os.makedirs(os.path.join(room, "etc", "life"))
     with open(os.path.join(room, "etc", "life", "settings"), "w", encoding="utf-8") as file:
@@ -539,7 +539,7 @@ def test_members_for_all() -> None:
     with tempfile.TemporaryDirectory() as room:
         members, settings = os.path.join(room, "members"), os.path.join(room, "etc", "life", "settings")
         os.makedirs(os.path.dirname(settings))
-        for path, text in ((members, "ann:of-ann\n"), (settings, f"TLS=yes\nMEMBERS_FILE={members}\n")):
+        for path, text in ((members, f"ann:{HASH}\n"), (settings, f"TLS=yes\nMEMBERS_FILE={members}\n")):
             with open(path, "w", encoding="utf-8") as file:
                 file.write(text)
         os.chmod(room, 0o755)

@@ -16,12 +16,14 @@ import subprocess
 import sys
 import time
 from collections.abc import Iterator
+from pathlib import Path
 
 import pytest
 
 import clubs
 from archives import new_archive
 from clients import BLOCKS, GLIDER, GLIDER_TEXT, HERE, Server, check, deposit, exchanged, same
+from clubs import HASH
 from loaded import AGAIN, Loaded, content, write
 
 pytestmark = pytest.mark.full
@@ -456,6 +458,34 @@ class Root:
 
     def configured(self, *words: str) -> tuple[int, str, str]:
         return script("life-configure", "--files-only", "--root", self.folder, *words)
+
+
+@pytest.mark.parametrize(
+    "lines, said",
+    [
+        (f"# Ours.\nann:{HASH}\r\n\nbob-2:{{PLAIN}}of-bob:a comment\ncid:abJnggxhB/yWI\n", ""),
+        (f"Ann:{HASH}\n", "line 1: the program refuses the name 'Ann': it has to be 1 to 32 of a to z, 0 to 9 and -"),
+        (f"ann:{HASH}\n\ntwo words:{HASH}\n", "line 3: the program refuses the name 'two words'"),
+        (f"\ufeffann:{HASH}\n", "line 1: the program refuses the name '\\ufeffann'"),
+        (f"{'a' * 33}:{HASH}\n", "line 1: the program refuses the name 'aaa"),
+        ("ann:of-ann\n", "line 1: nginx does not know the form of the hash of ann"),
+        ("ann\n", "line 1: nginx does not know the form of the hash of ann"),
+        ("A:\nB:\nC:\nD:\n", "; and 1 more"),
+        ("# None.\n", "it has no members, so nobody can deposit"),
+    ],
+    ids=["well", "capital", "blank", "mark", "long", "text", "name", "many", "empty"],
+)
+def test_members(tmp_path: Path, lines: str, said: str) -> None:
+    """Lines of the file of members that let nobody deposit are said, and all else is done."""
+    os.makedirs(tmp_path / "etc" / "life")
+    os.chmod(tmp_path, 0o700)
+    (tmp_path / "members").write_bytes(lines.encode())
+    (tmp_path / "etc" / "life" / "settings").write_text(f"TLS=yes\nMEMBERS_FILE={tmp_path}/members\n")
+    words = [os.path.join(DEPLOY, "life-configure"), "--files-only", "--root", str(tmp_path)]
+    done = subprocess.run(words, capture_output=True, text=True, timeout=60, check=False)
+    others = [line for line in done.stderr.splitlines() if "can't read it" not in line]
+    same("it is done", (done.returncode, done.stdout.startswith("changed: ")), (0, True))
+    check(f"what is said: {others}", len(others) == bool(said) and all(said in line for line in others))
 
 
 def test_changed_by_hand(folder: str) -> None:

@@ -186,11 +186,13 @@ def put_all(root: str, settings: dict[str, str], replace: bool, signals: Signals
 def judge(settings: dict[str, str], files_only: bool) -> None:
     """Ends if passwords would travel unencrypted, or if nginx can't read them or everybody can. An upgrade, which only
     writes files, reports that and continues. If everybody can read the passwords, it loads the files too: that was so
-    before. Times that don't fit together are only reported, since those of release 1.0.0 don't fit."""
+    before. Times that don't fit together are only reported, since those of release 1.0.0 don't fit, and so are members
+    who can't deposit."""
     judges: list[tuple[Callable[[dict[str, str]], None], bool]] = [
         (life_settings.judge_passwords, True),
         (life_settings.judge_reader, True),
         (life_settings.judge_secrecy, "DPKG_MAINTSCRIPT_NAME" not in os.environ),
+        (life_settings.judge_members, False),
         (life_settings.judge_times, False),
     ]
     for judged, is_firm in judges:

@@ -94,6 +94,8 @@ FORMS = {
     ),
     "ALARM_TO": (r"[A-Za-z0-9_.@+-]+", "a mail address"),
 }
+# How many lines of a members file are named.
+MOST_FAULTS = 3
 SECONDS = {"ms": 0.001, "s": 1, "m": 60, "h": 3600}
 
 
@@ -186,6 +188,34 @@ def judge_secrecy(settings: dict[str, str]) -> None:
     path = settings["MEMBERS_FILE"]
     if path and can("nobody", "-r", path):
         raise Wrong(f"MEMBERS_FILE={path}: every user of this machine can read it: chown root:www-data, chmod 640")
+
+
+# The names that the program accepts, and the forms of hashes that nginx and Debian's crypt(3) know.
+MEMBER = re.compile(r"[a-z0-9-]{1,32}")
+HASH = re.compile(r"\$(1|2[abxy]|5|6|7|apr1|gy|y)\$.+|\{(PLAIN|SHA|SSHA)\}.+|[./0-9A-Za-z]{13}")
+
+
+def judge_members(settings: dict[str, str]) -> None:
+    """Refuses a members file with lines that let nobody deposit. Whoever can't read the file says nothing."""
+    path = settings["MEMBERS_FILE"]
+    try:
+        lines = lines_of(path) if path else []
+    except OSError:
+        return
+    faults = [f"{place}{why}" for place, line in lines if (why := fault_of_member(line))]
+    if path and not lines:
+        faults = [f"MEMBERS_FILE={path}: it has no members, so nobody can deposit"]
+    if faults:
+        more = f"; and {len(faults) - MOST_FAULTS} more" if len(faults) > MOST_FAULTS else ""
+        raise Wrong("; ".join(faults[:MOST_FAULTS]) + more)
+
+
+def fault_of_member(line: str) -> str:
+    """The problem with a line of a members file, if there is one."""
+    name, _, rest = line.partition(":")
+    if not MEMBER.fullmatch(name):
+        return f"the program refuses the name {name!a}: it has to be 1 to 32 of a to z, 0 to 9 and -"
+    return "" if HASH.fullmatch(rest.partition(":")[0]) else f"nginx does not know the form of the hash of {name}"
 
 
 def can(user: str, what: str, path: str) -> bool | None:

@@ -400,12 +400,13 @@ def table(pages: Pages) -> Problems:
 
 def printed(pages: Pages) -> Problems:
     """The names of refusals in the prose of COMMANDS, and the replies of the gateway that OPERATING lists, are those of
-    the table."""
+    the table. A reply may also be one of the gateway's site, for which the program has no sentence."""
     known = columns(pages, "refusal", "name") + columns(pages, "program", "name")
     for name in sorted(set(re.findall(r"refused: ([a-z-]+)", pages[COMMANDS]))):
         yield None if (name,) in known else f"{COMMANDS}: not in {REFUSALS}: {name}"
     replies = re.findall(r'(?m)^\| ([\d, ]+) \| `\{"error":"([a-z-]+)"(?:,"refusal":(\d+))?\}`', pages[OPERATING])
     wanted = [row for kind in ("refusal", "gateway") for row in columns(pages, kind, "status", "name", "number")]
+    wanted += [(*said, "") for said in re.findall(r"return (\d+) '\{\"error\":\"([a-z-]+)\"\}'", pages[SITE])]
     for status, name, number in replies:
         yield None if (
             status.replace(",", ""),

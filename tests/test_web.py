@@ -29,6 +29,7 @@ import web_club
 import web_colors
 import web_deposits
 import web_drawings
+import web_editor
 import web_firefox
 import web_files
 import web_layout
@@ -566,6 +567,7 @@ PARTS: list[Callable[..., None]] = [
     *web_player.PARTS,
     *web_colors.PARTS,
     *web_pictures.PARTS,
+    *web_editor.PARTS,
     *web_waiting.PARTS,
     *web_layout.PARTS,
     *web_search.PARTS,

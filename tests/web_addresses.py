@@ -36,7 +36,7 @@ ADDRESSES = [
     ("/o", "", "Objects"),
     ("/o/B3-S23", "", "Objects of B3/S23"),
     ("/about", "", "About"),
-    ("/new", "", "Deposit a file"),
+    ("/new", "", "New deposit"),
     ("/find", "", "Find"),
     ("/find?text=gun", "", "gun · Found"),
     ("/haul", "", "Haul"),
@@ -273,7 +273,7 @@ def links(_gateway: Gateway, browser: Browser, base: str, _folder: str) -> None:
     check(
         "a link of the head",
         browser.at("/new")
-        and browser.until(lambda: browser.text("h1") == "Deposit a file")
+        and browser.until(lambda: browser.text("h1") == "New deposit")
         and browser.run("return document.querySelector('[aria-current=page]').textContent") == "New deposit",
     )
     for address in (first, "/d/after/3"):

@@ -64,26 +64,26 @@ def on_its_side(_gateway: Gateway, browser: Browser, base: str, _folder: str) ->
 
 
 def depositing(_gateway: Gateway, browser: Browser, base: str, _folder: str) -> None:
-    """With a pattern in the form, its drawing and the button are seen together; on a phone the drawing follows the
+    """With a pattern in the form, its drawing and the button are seen together; on a phone the drawing and the
     text."""
     for width, height in WINDOWS:
         browser.screen(width, height)
         browser.open(f"{base}/new")
         browser.type("#pattern", "#C A row\nx = 3, y = 1\n3o!")
-        browser.until(lambda: browser.all(".preview canvas"))
+        browser.until(lambda: "3 cells" in browser.text(".preview"))
         browser.run("scrollTo(0, 0)")
-        bottom = browser.run(BOTTOM, "#send")
-        check(f"the button ends at {bottom} of {height}", bottom <= height)
-        check("the drawing is above it", 0 < browser.run(BOTTOM, ".preview canvas") < bottom)
+        for name, selector in (("button", "#send"), ("drawing", "#drawing")):
+            bottom = browser.run(BOTTOM, selector)
+            check(f"the {name} ends at {bottom} of {height}, {width} wide", 0 < bottom <= height)
     for width, height in PHONES:
         browser.screen(width, height)
         browser.open(f"{base}/new")
         browser.type("#pattern", "#C A row\nx = 3, y = 1\n3o!")
-        browser.until(lambda: browser.all(".preview canvas"))
-        top = browser.run("return document.querySelector('.preview canvas').getBoundingClientRect().top")
-        below = top - browser.run(BOTTOM, ".drop")
-        check(f"the drawing begins {below} under the text", 0 <= below <= 20)
-        check("it is before the button", top < browser.run(BOTTOM, "#send"))
+        browser.until(lambda: "3 cells" in browser.text(".preview"))
+        browser.run("scrollTo(0, 150)")
+        top = browser.run("return document.querySelector('#drawing').getBoundingClientRect().top")
+        bottom = browser.run(BOTTOM, "#pattern")
+        check(f"the drawing begins at {top}, and the text ends at {bottom} of {height}", 0 <= top < bottom <= height)
     browser.screen()
     browser.run("sessionStorage.clear()")
 

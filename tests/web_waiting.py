@@ -138,7 +138,7 @@ def capitals(_gateway: Gateway, browser: Browser, base: str, _folder: str) -> No
         ("D/1", "deposit 1"),
         ("o/b3-s23/XQ4_153", "xq4_153 glider"),
         ("d/of/ANN", "Deposits of ann"),
-        ("New", "Deposit a file"),
+        ("New", "New deposit"),
     ):
         browser.open(f"{base}/{address}")
         check(f"the address {address}", wanted in browser.text("h1") and browser.all(".refusal") == [])

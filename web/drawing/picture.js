@@ -4,7 +4,8 @@
 import { generation } from '../requests/archive.js';
 import { make, refusal } from '../shared/dom.js';
 import { GENERATION_LIMIT, MOST_FRAMES } from '../shared/limits.js';
-import { Maker, isSame } from '../player/maker.js';
+import { Maker } from '../player/maker.js';
+import { isSame } from '../patterns/pattern.js';
 import { apngOf, pngOf } from './png.js';
 import { Refused } from '../requests/refusals.js';
 

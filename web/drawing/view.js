@@ -1,4 +1,5 @@
-// The large drawing of a deposit: its position and zoom, and how wheel, fingers, buttons and keys change them.
+// The large drawing of a pattern: its position and zoom, and how wheel, fingers, buttons and keys change them. With a
+// tool, which edits cells (editor.js), one finger or the main button of a mouse is the tool's.
 
 import { boundStep, paint, sizeAt, sizeFor, stepOf } from './draw.js';
 import { Wheel } from './wheel.js';
@@ -19,6 +20,17 @@ export class View {
   #pointers = new Map();
   #grid = true;
   #ages = null;
+  #hasTool = false;
+  /**
+   * What gets the cells under the pointer, if it doesn't move the plane.
+   * @typedef {(cell: [number, number]) => void} Act
+   * @type {{ down: Act, move: Act, up: () => void, cancel: () => void } | null}
+   */
+  tool = null;
+  /** Draws over the cells, if it is set. */
+  over = (_context, _place) => {};
+  /** The largest cell when all of a pattern is shown, in CSS pixels. */
+  largest = LARGEST_AT_FIRST;
   /** The zoom step with its fraction, which adds up small movements. */
   #step = 0;
   /** Whether the whole pattern is kept in view; moving or zooming ends that. */
@@ -37,13 +49,8 @@ export class View {
     canvas.addEventListener('wheel', (event) => this.#wheel(event), { ...options, passive: false });
     canvas.addEventListener('pointerdown', (event) => this.#down(event), options);
     canvas.addEventListener('pointermove', (event) => this.#move(event), options);
-    for (const name of ['pointerup', 'pointercancel']) {
-      canvas.addEventListener(
-        name,
-        (/** @type {PointerEvent} */ event) => this.#pointers.delete(event.pointerId),
-        options,
-      );
-    }
+    canvas.addEventListener('pointerup', (event) => this.#up(event), options);
+    canvas.addEventListener('pointercancel', (event) => this.#up(event, true), options);
     const watch = new ResizeObserver(() => this.#resize());
     watch.observe(canvas);
     signal.addEventListener('abort', () => watch.disconnect());
@@ -92,6 +99,7 @@ export class View {
         grid: this.#grid,
         ages: this.#ages,
       });
+      this.over(this.canvas.getContext('2d'), { left: this.#left, top: this.#top, size: this.#size });
     });
   }
 
@@ -130,6 +138,11 @@ export class View {
     this.#draw();
   }
 
+  /** Draws everything again. */
+  redraw() {
+    this.#draw();
+  }
+
   showGrid(is) {
     this.#grid = is;
     this.#draw();
@@ -144,7 +157,7 @@ export class View {
       height * ROOM + 1,
       this.canvas.width,
       this.canvas.height,
-      LARGEST_AT_FIRST * this.#scale,
+      this.largest * this.#scale,
     ));
     this.#look({ column: this.#place.column + width / 2, row: this.#place.row + height / 2 });
     this.#draw();
@@ -192,6 +205,29 @@ export class View {
     return { x: (event.clientX - box.left) * this.#scale, y: (event.clientY - box.top) * this.#scale };
   }
 
+  /**
+   * The cell at a point of the canvas.
+   * @param {{x: number, y: number}} point
+   * @returns {[number, number]}
+   */
+  #cellAt({ x, y }) {
+    return [Math.floor(this.#left + x / this.#size), Math.floor(this.#top + y / this.#size)];
+  }
+
+  /** The cell in the middle. */
+  get middleCell() {
+    return this.#cellAt({ x: this.canvas.width / 2, y: this.canvas.height / 2 });
+  }
+
+  /** Moves the view just so far that a cell is seen. */
+  see([column, row]) {
+    const [wide, high] = [this.canvas.width / this.#size, this.canvas.height / this.#size];
+    const inside = (at, begin, length) => Math.min(Math.max(begin, at + 2 - length), at - 1);
+    this.#left = inside(column, this.#left, wide);
+    this.#top = inside(row, this.#top, high);
+    this.#draw();
+  }
+
   #wheel(event) {
     const steps = this.wheel.steps(event);
     if (steps !== 0) this.zoom(steps, this.#point(event));
@@ -201,15 +237,29 @@ export class View {
     this.canvas.setPointerCapture(event.pointerId);
     this.#pointers.set(event.pointerId, this.#point(event));
     this.spread = 0;
+    if (this.#hasTool) this.tool?.cancel();
+    this.#hasTool = this.tool !== null && this.#pointers.size === 1 && event.button === 0;
+    if (this.#hasTool) this.tool.down(this.#cellAt(this.#point(event)));
   }
 
-  /** One finger moves the plane, two zoom it. */
+  #up(event, isCancelled = false) {
+    this.#pointers.delete(event.pointerId);
+    if (this.#hasTool && isCancelled) this.tool?.cancel();
+    else if (this.#hasTool) this.tool?.up();
+    this.#hasTool = false;
+  }
+
+  /** One finger moves the plane, unless there is a tool; two zoom and move it. */
   #move(event) {
     const before = this.#pointers.get(event.pointerId);
     if (!before) return;
     const now = this.#point(event);
     this.#pointers.set(event.pointerId, now);
     const points = [...this.#pointers.values()];
+    if (this.#hasTool) {
+      this.tool?.move(this.#cellAt(now));
+      return;
+    }
     this.following = false;
     if (points.length === 1) {
       this.#left -= (now.x - before.x) / this.#size;
@@ -219,6 +269,9 @@ export class View {
     }
     const spread = Math.hypot(points[0].x - points[1].x, points[0].y - points[1].y);
     const middle = { x: (points[0].x + points[1].x) / 2, y: (points[0].y + points[1].y) / 2 };
+    // Each finger moves the middle half as far as itself.
+    this.#left -= (now.x - before.x) / 2 / this.#size;
+    this.#top -= (now.y - before.y) / 2 / this.#size;
     this.spread ||= spread;
     this.zoom(Math.log(spread / this.spread) / Math.log(SPREAD_A_STEP), middle);
     this.spread = spread;

@@ -14,7 +14,7 @@ const sections = () => [
   ['deposit', 'Deposit a pattern', [
     [
       'Drop an RLE file on any page, paste its text, or choose it at ',
-      link('/new', 'Deposit a file'),
+      link('/new', 'Make a deposit'),
       '. The page draws it and, before sending anything, reports any error with its line number. '
         + 'You need no account, only a name for yourself. Some clubs also ask for a password.',
     ],

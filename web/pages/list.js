@@ -136,7 +136,7 @@ export function shownRows(page, rows) {
 
 const nothing = () => make('p', { class: 'empty' },
   'There is nothing here yet. ',
-  make('a', { href: '/new' }, 'Deposit a file'),
+  make('a', { href: '/new' }, 'Make a deposit'),
   ' and be the first.',
 );
 

@@ -1,9 +1,10 @@
-// Depositing: a file is dropped, chosen or pasted, drawn, and sent under a member's name and a token.
+// Depositing: a file is dropped, chosen or pasted, or its cells are drawn, and it is sent under a member's name and a
+// token.
 
 import { depositAddress, go } from '../shared/address.js';
 import { lastDeposit, sendDeposit } from '../requests/archive.js';
 import { field, isMember, make, plural, refusal } from '../shared/dom.js';
-import { thumbnail } from '../drawing/draw.js';
+import { Editor } from '../drawing/editor.js';
 import { cutButton, oldChoice, readGiven, refusedBy } from '../patterns/given.js';
 import { draft, keepDraft } from '../shared/kept.js';
 import { LONGEST_FILE, LONGEST_MEMBER, LONGEST_SIDE, LONGEST_TEXT, LONGEST_TOKEN } from '../shared/limits.js';
@@ -15,11 +16,11 @@ import { Refused } from '../requests/refusals.js';
 import { Fault } from '../patterns/rle.js';
 import { ruleText } from '../patterns/rule.js';
 import { sumOf } from '../patterns/sum.js';
+import { withPattern } from '../patterns/writer.js';
 
-const WIDTH = 320;
-const HEIGHT = 200;
 /** The number of the fault of a file that is too long. */
 const TOO_LONG = 1;
+const NO_PATTERN = { width: 0, height: 0, population: 0, rows: [] };
 const TOKEN = new RegExp(`^[A-Za-z0-9-]{1,${LONGEST_TOKEN}}$`);
 
 /** What to send: the bytes, and the token computed from them. */
@@ -29,11 +30,15 @@ class Content {
   fileName = '';
   /** What the page made of the file; null for an empty one. @type {import('../patterns/given.js').Given | null} */
   read = null;
+  /** The last file without a fault, whose lines stay if its cells are edited. */
+  #good = null;
 
-  constructor(text, token, preview) {
+  constructor(text, token, page) {
     this.text = text;
     this.token = token;
-    this.preview = preview;
+    this.said = make('div', { 'aria-live': 'polite' });
+    this.editor = new Editor(page, (pattern) => this.#draw(pattern));
+    this.preview = make('div', { class: 'preview' }, this.editor.root, this.said);
     this.texts = {
       name: this.#textInput('text-name', 'no name yet'),
       author: this.#textInput('text-author', 'no author yet'),
@@ -75,8 +80,19 @@ class Content {
     this.#read(shown);
   }
 
-  /** Reads the bytes, as the member chose. */
-  #read(shown) {
+  /** Puts the cells that were drawn into the text. */
+  #draw(pattern) {
+    this.given = withPattern(this.#good, pattern);
+    this.#read(true, false);
+    keepDraft('pattern', this.text.value || null);
+  }
+
+  /**
+   * Reads the bytes, as the member chose.
+   * @param {boolean} shown whether the text is put into its field
+   * @param {boolean} isNew whether the cells are not those that the editor shows
+   */
+  #read(shown, isNew = true) {
     this.read = this.given.length > 0 ? readGiven(this.given, this.choices) : null;
     this.own = this.read?.bytes ?? this.given;
     this.record = this.read?.record ?? null;
@@ -85,8 +101,12 @@ class Content {
       this.text.value = new TextDecoder(this.read?.isOld && this.choices.asOld ? 'windows-1252' : 'utf-8')
         .decode(this.given);
     }
-    this.preview.replaceChildren(...this.#seen());
-    this.#offer(shown);
+    if (this.record || !this.read) this.#good = this.record && { bytes: this.own, record: this.record };
+    if (isNew && !this.fault) this.editor.show(this.record?.pattern ?? NO_PATTERN);
+    // A text with a fault has no cells to draw; but what was drawn can still be undone.
+    this.editor.root.hidden = isNew && this.fault !== null;
+    this.said.replaceChildren(...this.#seen());
+    this.#offer(shown && isNew);
     this.#compose();
   }
 
@@ -128,7 +148,8 @@ class Content {
   takeFault(fault) {
     this.take(new Uint8Array(), true);
     this.fault = fault;
-    this.preview.replaceChildren(this.refused(refusedBy(fault)));
+    this.editor.root.hidden = true;
+    this.said.replaceChildren(this.refused(refusedBy(fault)));
   }
 
   get isTooLong() {
@@ -137,7 +158,9 @@ class Content {
 
   /** Shows how this page reads the file, before the archive has it. */
   #seen() {
-    if (!this.read) return [make('p', { class: 'empty' }, 'Your pattern will be drawn here.')];
+    if (!this.read) {
+      return [make('p', { class: 'empty' }, 'Press cells to draw them. Two fingers zoom, and so does the wheel.')];
+    }
     const { record, notes, isOld, fault } = this.read;
     const old = isOld
       ? [oldChoice(
@@ -158,7 +181,6 @@ class Content {
     const facts = `${name ? `${name}: ` : ''}${plural(pattern.population, 'cell')}, `
       + `${pattern.width} by ${pattern.height}, ${ruleText(rule)}`;
     return [
-      thumbnail(pattern, WIDTH, HEIGHT, facts),
       make('p', {}, facts),
       ...notes.map((note) => make('p', { class: 'note' }, note)),
       ...old,
@@ -184,31 +206,34 @@ async function takeFile(content, file, page) {
 function dropPart(content, take, page) {
   const chooser = make('input', {
     id: 'file',
+    class: 'aside',
     type: 'file',
     multiple: true,
     accept: '.rle,.cells,.lif,.life,.txt,text/plain',
     change: () => take([...chooser.files]),
   });
-  const folder = make('input', { id: 'folder', type: 'file', webkitdirectory: true, change: () => {
+  const found = () => {
     const files = patternsOf([...folder.files]);
     if (files.length > 0) take(files);
     else page.sayNothing(NO_FILES);
-  } });
+  };
+  const folder = make('input', { id: 'folder', class: 'aside', type: 'file', webkitdirectory: true, change: found });
   content.text.addEventListener('input', () => {
     content.take(new TextEncoder().encode(content.text.value), false);
     keepDraft('pattern', content.text.value);
   });
   return make('div', { class: 'drop' },
-    make('p', {},
-      make('label', { for: 'file' }, 'Drop files or a folder on this page, or choose files: '),
+    make('p', {}, 'Or drop files or a folder anywhere:'),
+    make('p', { class: 'row' },
       chooser,
+      make('label', { class: 'button', for: 'file' }, 'Choose files'),
+      folder,
+      make('label', { class: 'button', for: 'folder' }, 'Choose a folder'),
     ),
-    make('p', {}, make('label', { for: 'folder' }, 'A folder: '), folder),
     field(
-      'Or paste a file’s text',
+      'Text of the pattern',
       content.text,
-      `RLE, as in Golly and on the LifeWiki: at most 1 MiB, and ${LONGEST_SIDE} by ${LONGEST_SIDE} cells. `
-        + 'Plaintext and Life 1.05 and 1.06 are sent as RLE.',
+      `RLE, plaintext or Life 1.06: at most 1 MiB, and ${LONGEST_SIDE} by ${LONGEST_SIDE} cells.`,
     ),
   );
 }
@@ -266,7 +291,7 @@ function singlePart(content, token, page) {
   };
   const part = make('div', {},
     make('div', { class: 'texts' },
-      field('Name', content.texts.name, 'Both are added if the file has none.'),
+      field('Name', content.texts.name, 'Added if the file has none.'),
       field('Author', content.texts.author),
     ),
     content.offer,
@@ -309,10 +334,10 @@ function takerOf(form, single, content, page) {
 }
 
 export function depositForm(page) {
-  page.title('Deposit a file');
+  page.title('New deposit');
   const text = make('textarea', {
     id: 'pattern',
-    rows: 6,
+    rows: 4,
     spellcheck: 'false',
     autocapitalize: 'none',
     autocomplete: 'off',
@@ -325,13 +350,13 @@ export function depositForm(page) {
     autocomplete: 'off',
     spellcheck: 'false',
   });
-  const content = new Content(text, token, make('div', { class: 'preview', 'aria-live': 'polite' }));
+  const content = new Content(text, token, page);
   const { part, submit } = singlePart(content, token, page);
   const form = make('form', { class: 'deposit', submit },
-    dropPart(content, (files) => page.taken(files), page),
-    make('div', {}, content.preview, part),
+    content.preview,
+    make('div', {}, dropPart(content, (files) => page.taken(files), page), part),
   );
-  page.root.append(make('h1', { tabindex: -1 }, 'Deposit a file'), form);
+  page.root.append(make('h1', { tabindex: -1 }, 'New deposit'), form);
   page.taken = takerOf(form, part, content, page);
   const typed = draft('pattern');
   const texts = content.drafts;

@@ -2,6 +2,7 @@
 
 import { depositAddress, go } from '../shared/address.js';
 import { copyButton, make, withCommas } from '../shared/dom.js';
+import { COPIED, keepDraft } from '../shared/kept.js';
 import { LONGEST_SIDE } from '../shared/limits.js';
 import { save } from '../drawing/picture.js';
 import { passFiles } from '../shared/passed.js';
@@ -82,6 +83,13 @@ export class Shown {
     );
   }
 
+  /** Opens the form for a deposit with these cells. They say where they are from, but have no name yet. */
+  #edit() {
+    const own = new TextEncoder().encode(fileOf(this.seen.record.pattern, ruleText(this.first.rule)));
+    passFiles([new Blob([withOrigin(own, {}, { title: null, origin: this.from.origin })])]);
+    go('/new');
+  }
+
   #save(event) {
     event.preventDefault();
     save(this.file, this.fileName, 'text/plain');
@@ -117,7 +125,11 @@ export class Shown {
   }
 
   parts() {
-    const copied = () => new TextDecoder().decode(this.file);
+    const copied = () => {
+      const text = new TextDecoder().decode(this.file);
+      keepDraft(COPIED, text);
+      return text;
+    };
     return [
       make('section', {},
         make('h2', {}, 'Cite'),
@@ -128,7 +140,11 @@ export class Shown {
       ),
       make('section', {},
         make('h2', {}, this.which),
-        make('p', { class: 'row' }, copyButton('Copy as RLE', copied, this.page.say), this.load),
+        make('p', { class: 'row' },
+          copyButton('Copy as RLE', copied, this.page.say),
+          this.load,
+          make('button', { type: 'button', id: 'edit', click: () => this.#edit() }, 'Edit'),
+        ),
         this.details,
       ),
     ];

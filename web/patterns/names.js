@@ -5,6 +5,17 @@ import { LONGEST_TEXT, MOST_COMMENTS } from '../shared/limits.js';
 
 const bytesOf = (text) => new TextEncoder().encode(text);
 
+/** Bytes one after the other. @param {Uint8Array[]} parts */
+export function joined(...parts) {
+  const all = new Uint8Array(parts.reduce((sum, part) => sum + part.length, 0));
+  let place = 0;
+  for (const part of parts) {
+    all.set(part, place);
+    place += part.length;
+  }
+  return all;
+}
+
 /** A text as one line of at most LONGEST_TEXT bytes, never cut inside a character. */
 function oneLine(text) {
   const plain = text.replace(/[\r\n\t]+/g, ' ').trim();
@@ -51,12 +62,7 @@ export function withTexts(bytes, record, name, author, folder = '') {
     '#C': folderComment(record.comments ?? [], folder),
   };
   const lines = Object.entries(added).map(([sign, text]) => (text ? `${sign} ${text}\n` : '')).join('');
-  if (lines === '') return bytes;
-  const head = bytesOf(lines);
-  const all = new Uint8Array(head.length + bytes.length);
-  all.set(head);
-  all.set(bytes, head.length);
-  return all;
+  return lines === '' ? bytes : joined(bytesOf(lines), bytes);
 }
 
 /** The files of a dropped entry: the file itself, or all files in the folder and its subfolders. */

@@ -5,6 +5,7 @@
 import { limitOf, objectNames, patternOf } from './code.js';
 import { cellsOf } from './pattern.js';
 import { LIFE } from './rule.js';
+import { TURNS } from './turns.js';
 
 /** The limits for separating a cluster: with more cells, a longer period or more pieces it would take too long. */
 const MOST_CELLS = 200;
@@ -136,18 +137,6 @@ function textOf(cells) {
 
 /** @param {Cells} cells @returns {[number, number][]} */
 const placesOf = (cells) => [...cells].map((cell) => [cell % WIDTH, Math.floor(cell / WIDTH)]);
-
-/** @type {((cell: [number, number]) => [number, number])[]} */
-const TURNS = [
-  ([x, y]) => [x, y],
-  ([x, y]) => [-x, y],
-  ([x, y]) => [x, -y],
-  ([x, y]) => [-x, -y],
-  ([x, y]) => [y, x],
-  ([x, y]) => [-y, x],
-  ([x, y]) => [y, -x],
-  ([x, y]) => [-y, -x],
-];
 
 /** Whether a code names a still life or oscillator that is small enough to separate. */
 function isParted(code) {

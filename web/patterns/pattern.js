@@ -62,6 +62,14 @@ export function* cellsOf(pattern) {
   }
 }
 
+/** Whether two patterns have the same cells. */
+export function isSame(one, other) {
+  return one.width === other.width && one.height === other.height && one.population === other.population
+    && one.rows.every((runs, row) => (
+      runs.length === other.rows[row].length && runs.every((column, at) => column === other.rows[row][at])
+    ));
+}
+
 const divisor = (one, other) => (other === 0 ? one : divisor(other, one % other));
 
 /**

@@ -142,7 +142,7 @@ class Body {
 }
 
 /** The cells moved so that the least column and row are 0: for each row its runs, `[begin, end, begin, end, ..]`. */
-function normal(rows) {
+export function normal(rows) {
   const numbers = [...rows.keys()];
   if (numbers.length === 0) return { width: 0, height: 0, population: 0, rows: [] };
   const top = numbers[0];

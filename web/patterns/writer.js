@@ -1,7 +1,8 @@
 // Writing pattern files: the canonical text of a pattern, and where a file that is saved or copied comes from.
 
 import { LONGEST_LINE, LONGEST_TEXT, MOST_COMMENTS } from '../shared/limits.js';
-import { withTexts } from './names.js';
+import { joined, withTexts } from './names.js';
+import { LIFE, ruleText } from './rule.js';
 
 /** The items of a body: runs, and the row ends between rows with live cells. */
 function itemsOf(pattern) {
@@ -37,6 +38,20 @@ export function fileOf(pattern, rule) {
 }
 
 /**
+ * A file with other cells. The lines before its header stay, so without any of them it is empty if no cell is live.
+ * @param {{ bytes: Uint8Array, record: { rule: object } } | null} file null for none
+ * @param {{ width: number, height: number, population: number, rows: ArrayLike<number>[] }} pattern
+ * @returns {Uint8Array}
+ */
+export function withPattern(file, pattern) {
+  // One character a byte, as below.
+  const place = file ? new TextDecoder('latin1').decode(file.bytes).search(/^[ \t\r]*x/im) : 0;
+  const head = file?.bytes.subarray(0, place) ?? new Uint8Array();
+  if (head.length === 0 && pattern.population === 0) return head;
+  return joined(head, new TextEncoder().encode(fileOf(pattern, ruleText(file?.record.rule ?? LIFE))));
+}
+
+/**
  * A file with a `#C` line about its origin in front of its header, and with a name if it has none. The line is left out
  * if the archive would refuse it.
  * @param {Uint8Array} bytes a file from the archive, or one that `fileOf` wrote
@@ -50,9 +65,5 @@ export function withOrigin(bytes, { name = null, comments = [] }, { title, origi
   if (comments.includes(origin) || comments.length >= MOST_COMMENTS || line.length > LONGEST_TEXT + 4) return named;
   // One character a byte, so that a place in the text is a place in the bytes.
   const place = new TextDecoder('latin1').decode(named).search(/^x/m);
-  const all = new Uint8Array(named.length + line.length);
-  all.set(named.subarray(0, place));
-  all.set(line, place);
-  all.set(named.subarray(place), place + line.length);
-  return all;
+  return joined(named.subarray(0, place), line, named.subarray(place));
 }

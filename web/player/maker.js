@@ -16,14 +16,6 @@ function generationOf({ list, ends, width, height, population, column, row }) {
   return { pattern: { width, height, population, rows }, corner: { column, row } };
 }
 
-/** Whether two patterns have the same cells. */
-export function isSame(one, other) {
-  return one.width === other.width && one.height === other.height && one.population === other.population
-    && one.rows.every((runs, row) => (
-      runs.length === other.rows[row].length && runs.every((column, at) => column === other.rows[row][at])
-    ));
-}
-
 const newWorker = () => new Worker(policy ? policy.createScriptURL('') : STEPPER, { type: 'module' });
 
 /** How long to wait until a page that is hidden or busy may be seen and idle, in milliseconds. */

@@ -3,8 +3,8 @@
 
 import { generation } from '../requests/archive.js';
 import { GENERATION_LIMIT } from '../shared/limits.js';
-import { Maker, isSame } from './maker.js';
-import { nextCorner } from '../patterns/pattern.js';
+import { Maker } from './maker.js';
+import { isSame, nextCorner } from '../patterns/pattern.js';
 
 const TOGETHER = 3;
 const KEPT = 160;

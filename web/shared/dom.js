@@ -27,15 +27,15 @@ const ICONS = {
   full: 'M2 6V2h4M10 2h4v4M14 10v4h-4M6 14H2v-4',
 };
 
-/** An icon for a button, which also has a name. */
-export function icon(name) {
+/** An icon for a button, which also has a name; its path is one of those above, or `path`. */
+export function icon(name, path = ICONS[name]) {
   const named = (tag, attributes) => {
     const element = document.createElementNS('http://www.w3.org/2000/svg', tag);
     for (const [key, value] of Object.entries(attributes)) element.setAttribute(key, value);
     return element;
   };
   const drawing = named('svg', { viewBox: '0 0 16 16', class: `icon ${name}`, 'aria-hidden': 'true' });
-  drawing.append(named('path', { d: ICONS[name] }));
+  drawing.append(named('path', { d: path }));
   return drawing;
 }
 

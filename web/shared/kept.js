@@ -25,6 +25,9 @@ export const keepSetting = (name, value) => write(forGood, name, value);
 export const draft = (name) => read(forWindow, name);
 export const keepDraft = (name, value) => write(forWindow, name, value);
 
+/** The draft of what was copied last, on any page: not every browser lets a page read its clipboard. */
+export const COPIED = 'copied';
+
 /** What is stored with an entry in the window's history, so that going back finds the page as it was left. */
 export const entryState = () => history.state ?? {};
 export const keepEntryState = (more) => history.replaceState({ ...history.state, ...more }, '');

@@ -163,7 +163,8 @@ def test_members(servers: None, folder: str) -> None:
                 wanted,
             )
         same("the member is the one with the password", [row["member"] for row in listed(gateway.life_port)], ["ann"])
-        same("anybody reads", asked(gateway.port, 0, "GET", "/deposits/1")[0], 200)
+        status, _, head = asked(gateway.port, 0, "GET", "/deposits/1")
+        same("anybody reads", (status, head.get("access-control-allow-origin")), (200, None))
         long_searches(gateway)
         guesses(gateway)
         claimed = {"x-member": "bob", "authorization": "Basic " + base64.b64encode(b"bob:of-bob").decode()}

@@ -7,10 +7,10 @@ import re
 from typing import Any
 
 import paths
-from browser import Browser
+from browser import Browser, Relay
 from clients import HERE, check, same
 from gateways import Gateway
-from pages import asked, content
+from pages import asked, bundled, content
 
 WEB = os.path.join(HERE, "..", "web")
 NO_PAGE, BAD_METHOD = b'{"error":"no-such-page","refusal":12}', b'{"error":"bad-method","refusal":13}'
@@ -322,4 +322,39 @@ def titles(_gateway: Gateway, browser: Browser, base: str, _folder: str) -> None
     )
 
 
-PARTS = [pages, nowhere, previews, old_ones, links, titles]
+def files(gateway: Gateway, browser: Browser, base: str, _folder: str) -> None:
+    """A deposit's address with .rle after it is its text, which has a name to save it under; scripts of other sites may
+    read that and what the archive itself answers, and nothing else."""
+    for path, route, name in (
+        ("/d/4.rle", "/deposits/4", "deposit-4.rle"),
+        ("/D/004.rle?x=1", "/deposits/4", "deposit-4.rle"),
+        ("/d/4/at/30.rle", "/deposits/4/at/30", "deposit-4-at-30.rle"),
+        ("/d/4/at/000.rle", "/deposits/4/at/0", "deposit-4-at-0.rle"),
+        ("/d/900.rle", "/deposits/900", None),
+        ("/d/4/at/2049.rle", "/deposits/4/at/2049", None),
+    ):
+        own, (status, text, lines) = asked(gateway.life_port, route), asked(gateway.port, path)
+        same(f"the file at {path}", (status, text), own[:2])
+        saved = f'attachment; filename="{name}"' if name else None
+        same(f"the name of {path}", lines.get("content-disposition"), saved)
+        same(f"who may read {path}", lines.get("access-control-allow-origin"), "*")
+        kept_for = "no-store" if name is None else "public, max-age=31536000, immutable"
+        same(f"how long {path} is kept", lines["cache-control"], kept_for)
+    same("a deposit at a file", asked(gateway.port, "/d/4.rle", "POST", b"")[:2], (405, BAD_METHOD))
+    for path in ("/d/4.txt", "/d/x.rle", "/d/4/at/.rle", "/c/1.rle", "/d/4.rle/"):
+        same(f"no file at {path}", asked(gateway.port, path)[:2], (404, NO_PAGE))
+    for path in ("/d/4", "/web/robots.txt", "/x", bundled(gateway, "main.js")):
+        lines = asked(gateway.port, path)[2]
+        check(f"{path} is for this site", {"access-control-allow-origin", "content-disposition"}.isdisjoint(lines))
+    lines = asked(gateway.port, "/deposits", "POST", b"")[2]
+    check("other sites make no deposits", "access-control-allow-origin" not in lines)
+    # Another port is another site. A text has no policy that keeps its page from reading.
+    relay = Relay(gateway.port)
+    browser.driver.get(f"http://127.0.0.1:{relay.port}/deposits/4")
+    read = "return fetch(words[0]).then((reply) => reply.text(), () => 'not read');"
+    found = str(browser.wait_for(read, f"{base}/d/4.rle"))
+    same("a page of another site reads a text", found.split("\n")[0], f"#N {GUN}")
+    relay.end()
+
+
+PARTS = [pages, nowhere, previews, old_ones, links, titles, files]

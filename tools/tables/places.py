@@ -88,6 +88,8 @@ def of_gateway(facts: Facts) -> List[Place]:
             routes.site_titles(facts.addresses, facts.limits) + routes.site_deposit(facts.addresses, facts.limits),
         ),
         site("addresses", routes.site_pages(facts.addresses, facts.limits)),
+        site("files", routes.site_files(facts.addresses, facts.limits)),
+        site("addresses of files", routes.site_file(facts.addresses, facts.limits)),
     ]
 
 

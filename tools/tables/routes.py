@@ -211,6 +211,40 @@ def site_titles(addresses: List[Address], limits: Limits) -> List[str]:
     return [*lines, "}"]
 
 
+def site_files(addresses: List[Address], limits: Limits) -> List[str]:
+    """The maps that have, for a deposit's address with `.rle` after it, the route of its text without leading zeros,
+    and the name under which that is saved."""
+
+    def form(name: str, pattern: str) -> str:
+        return f"0*(?<life_file_{name}>{pattern})"
+
+    found = []
+    for one in [one for one in addresses if one.name == AHEAD]:
+        for path in (re.sub(r"\[.*\]", "", one.path), re.sub(r"[\[\]]", "", one.path)):
+            variables = re.sub(r"\{(\w+)\}", r"$life_file_\1", path)
+            request = f'"~*^{expression(path, in_addresses(limits), form)}\\.rle(?:\\?|$)"'
+            found.append((request, variables.replace("/d/", "/deposits/"), variables.replace("/d/", "")))
+    return [
+        "map $request_uri $life_path {",
+        *(f"    {request} {route};" for request, route, _ in found),
+        '    "~^(?<life_bytes>[^?]*)" $life_bytes;',
+        "}",
+        "map $request_uri $life_saved {",
+        '    default "";',
+        *(
+            f"""    {request} 'attachment; filename="deposit-{file.replace("/", "-")}.rle"';"""
+            for request, _, file in found
+        ),
+        "}",
+    ]
+
+
+def site_file(addresses: List[Address], limits: Limits) -> List[str]:
+    """The first line of the location of these files."""
+    paths = [expression(one.path, in_addresses(limits)) for one in addresses if one.name == AHEAD]
+    return [f'    location ~* "^(?:{"|".join(paths)})\\.rle$" {{']
+
+
 def site_deposit(addresses: List[Address], limits: Limits) -> List[str]:
     """The map that has the number of the deposit which an address names, without leading zeros."""
 

@@ -123,6 +123,10 @@ class Browser:
         field.clear()
         field.send_keys(text)
 
+    def unfold(self) -> None:
+        """Opens all that is folded."""
+        self.run("for (const one of document.querySelectorAll('main details')) one.open = true")
+
     def press(self, *keys: str) -> None:
         """Keys for the page as a whole."""
         self.driver.switch_to.active_element.send_keys(*keys)

@@ -267,6 +267,7 @@ def test_counted(gateway: Gateway, browser: Browser, base: str, downloads: str) 
     """A census is asked for, and shown as a table with bars, whether it is steady, and its CSV."""
     field = kept(gateway, "field", b"x = 34, y = 4\n2o4b2o4b2o5b3o10bo$2o4b2o4b2o17bobo$31bobo$32bo!")
     browser.open(f"{base}/d/{field}")
+    browser.unfold()
     browser.type("#census-limit", "2")
     browser.one("#census-limit").send_keys(ENTER)
     check("a census is shown", browser.at("/c/1"))
@@ -311,9 +312,11 @@ def test_counted(gateway: Gateway, browser: Browser, base: str, downloads: str) 
         browser.until(lambda: os.path.exists(file) and content(file) == told(gateway, "/censuses/1/csv")),
     )
     browser.open(f"{base}/d/1")
+    browser.unfold()
     browser.type("#census-limit", "4" + ENTER)
     check("a census of a glider is not steady", browser.at("/c/2") and browser.text(".steady").startswith("Not steady"))
     browser.open(f"{base}/d/1")
+    browser.unfold()
     browser.type("#census-limit", "4" + ENTER)
     check("the same census again has its number", browser.at("/c/2"))
     browser.open(f"{base}/c/9")
@@ -330,7 +333,7 @@ def test_cited(gateway: Gateway, browser: Browser, base: str) -> None:
         browser.until(lambda: seen(browser)[0] == later(gun, 30))
         and browser.run("return document.getElementById('generation').value") == "30",
     )
-    same("the address to cite", browser.text(".columns .address"), f"{base}/d/4/at/30")
+    same("the address to cite", browser.text(".share .address"), f"{base}/d/4/at/30")
     browser.picture("deposit-gun")
     same(
         "a file to load",

@@ -2,7 +2,7 @@
 scrolling, in windows of several sizes.
 """
 from browser import Browser
-from clients import check
+from clients import check, same
 from gateways import Gateway
 
 # Windows of a desk, and phones, upright and on their side.
@@ -37,7 +37,7 @@ def still(_gateway: Gateway, browser: Browser, base: str, _folder: str) -> None:
 
 
 def proof(_gateway: Gateway, browser: Browser, base: str, _folder: str) -> None:
-    """The sentence that says whose answer is shown is above the fold, even after some generations."""
+    """The mark that says whose answer is shown is above the fold, even after some generations. Pressed, it says more."""
     for width, height in [*WINDOWS, *PHONES]:
         browser.screen(width, height)
         browser.open(f"{base}/d/4")
@@ -47,7 +47,12 @@ def proof(_gateway: Gateway, browser: Browser, base: str, _folder: str) -> None:
         browser.one("#play").click()
         browser.until(lambda: "it matched" in browser.text(".source"))
         bottom = browser.run(BOTTOM, ".source")
-        check(f"the sentence ends at {bottom} of {height}, {width} wide", bottom <= height)
+        check(f"the mark ends at {bottom} of {height}, {width} wide", bottom <= height)
+        at = browser.run("return document.getElementById('generation').value")
+        same("what it says", browser.text(".source summary"), f"✓ Proved: generation {at}")
+        check("no more until it is pressed", not browser.one(".source p").is_displayed())
+        browser.one(".source summary").click()
+        check("more once it is pressed", browser.one(".source a[href='/about#proof']").is_displayed())
     browser.screen()
 
 

@@ -53,6 +53,7 @@ return phases.map((phase) => [...cellsOf(phase)]);
 def saved(browser: Browser, folder: str, button: str, name: str) -> Any:
     """Presses a button, and answers the bytes of the file that comes."""
     path = os.path.join(folder, DOWNLOADS, name)
+    browser.unfold()
     browser.one(button).click()
     browser.until(lambda: os.path.exists(path) and os.path.getsize(path) > 0)
     return content(path) if os.path.exists(path) else b""
@@ -154,6 +155,16 @@ def pictures(gateway: Gateway, browser: Browser, base: str, folder: str) -> None
         same(f"what the PNG of generation {at} says", texts_of(png), {"Title": title, "Description": origin})
 
 
+def for_the_forum(gateway: Gateway, browser: Browser, base: str, _folder: str) -> None:
+    """What is copied for the forum is the text between marks that the forum plays, and a link."""
+    number = kept(gateway, "for-the-forum", b"#N Shared\nx = 3, y = 1\n3o!\n")
+    browser.open(f"{base}/d/{number}/at/1")
+    url = f"{base}/d/{number}/at/1"
+    text = f"#N Shared, generation 1\n#C Generation 1 of deposit {number}, {url}\nx = 1, y = 3, rule = B3/S23\no$o$o!\n"
+    wanted = f"[viewer]\n{text}[/viewer]\n[url]{url}[/url]\n"
+    same("what is copied for the forum", browser.wait_for(COPY, "Copy for the forum"), wanted)
+
+
 def copied(gateway: Gateway, browser: Browser, base: str, _folder: str) -> None:
     """What is copied while it plays is the generation whose address is copied. A file that is copied twice has its
     origin once."""
@@ -221,6 +232,7 @@ def animations(gateway: Gateway, browser: Browser, base: str, folder: str) -> No
     file = b"#N Glides\nx = 3, y = 3\nbo$2bo$3o!\n#\n"
     glider = kept(gateway, "glides", file)
     browser.open(f"{base}/d/{glider}/at/2")
+    browser.unfold()
     browser.type("#frames", "9")
     svg, said = unsigned(saved(browser, folder, "#save-animation", f"deposit-{glider}-from-2.svg"))
     same("where an animation comes from", said, f"Generations 2 to 10 of deposit {glider}, {base}/d/{glider}/at/2")
@@ -291,6 +303,7 @@ def moving(gateway: Gateway, browser: Browser, base: str, folder: str) -> None:
     """An animated PNG has each generation in its own place, as a browser decodes it, and says where it comes from."""
     number = kept(gateway, "moving", b"#N Moves\nx = 3, y = 3\nbo$2bo$3o!\n##\n")
     browser.open(f"{base}/d/{number}/at/1")
+    browser.unfold()
     browser.type("#frames", "13")
     png = saved(browser, folder, "#save-moving", f"deposit-{number}-from-1.png")
     now, made = frozenset({(1, 0), (2, 1), (0, 2), (1, 2), (2, 2)}), []
@@ -327,6 +340,7 @@ def large(gateway: Gateway, browser: Browser, base: str, folder: str) -> None:
     number = kept(gateway, "large", life.file_text((b"Large", None, (), life.LIFE, life.normal(cells))))
     browser.open(f"{base}/d/{number}")
     section = "return document.getElementById('save-moving').closest('section').textContent"
+    browser.unfold()
     browser.type("#frames", "240")
     browser.one("#save-moving").click()
     check(
@@ -416,6 +430,13 @@ def objects(_gateway: Gateway, browser: Browser, base: str, folder: str) -> None
             browser.one("a[href^='https://catagolue']").get_attribute("href"),
             f"https://catagolue.hatsya.com/object/{code}/{rule.lower().replace('/', '')}",
         )
+        wiki = {b"glider": "Glider", b"beehive": "Beehive", b"pentadecathlon": "Pentadecathlon", b"pulsar": "Pulsar"}
+        name = named.get(code, b"")[3:-1] if rule == "B3/S23" else b""
+        same(
+            f"where the name of {code} may be looked up",
+            [link.get_attribute("href") for link in browser.all("a[href^='https://conwaylife.com']")],
+            [f"https://conwaylife.com/wiki/{wiki[name]}"] if name else [],
+        )
         if period == 1:
             check(f"{code} has no phases", browser.all("#phases") == [] and browser.all("#play-object") == [])
             continue
@@ -449,4 +470,4 @@ def objects(_gateway: Gateway, browser: Browser, base: str, folder: str) -> None
     browser.screen()
 
 
-PARTS = [pictures, copied, animations, moving, large, facts, objects]
+PARTS = [pictures, copied, for_the_forum, animations, moving, large, facts, objects]

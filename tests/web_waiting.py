@@ -76,6 +76,7 @@ def rated(gateway: Gateway, browser: Browser, base: str, _folder: str) -> None:
     """A census that the gateway refuses for its rate waits, says so, and is sent again by itself."""
     path, names = "/deposits/1/censuses/0/4", {"x-member": "ann", "x-token": "g0-l4-d1"}
     browser.open(f"{base}/d/1")
+    browser.unfold()
     browser.type("#census-member", "ann")
     browser.type("#census-limit", "4")
     for _ in range(20):

@@ -133,10 +133,11 @@ const sizeQuestion = (size, act) => [
 ];
 
 /**
- * The buttons that save pictures of the generation that is seen, or of some from there on.
+ * The buttons that save the generation that is seen, as a text or a picture, or some from there on.
  * @param {import('../pages/shown.js').Shown} shown
+ * @param {HTMLElement} load what saves the text
  */
-export function saveSection(shown, page) {
+export function saveParts(shown, load, page) {
   const { number, first } = shown;
   const count = make('input', {
     id: 'frames',
@@ -202,11 +203,9 @@ export function saveSection(shown, page) {
   const moving = button('save-moving', 'PNG', () => saveMoving('png', 'image/png', movingPng));
   animation.ariaLabel = 'SVG animation';
   moving.ariaLabel = 'PNG animation';
-  return make('section', {},
-    make('h2', {}, 'Save a picture'),
-    make('p', { class: 'row' }, svg, png),
-    make('p', {}, 'Or the generations from here on, in one box:'),
-    make('p', { class: 'row' }, count, 'as', animation, moving),
+  return [
+    make('p', { class: 'row' }, 'This generation:', load, png, svg),
+    make('p', { class: 'row' }, 'An animation of', count, 'generations from here on:', moving, animation),
     said,
-  );
+  ];
 }

@@ -23,7 +23,6 @@ import { GENERATION_LIMIT, PERIOD_LIMIT } from '../shared/limits.js';
 import { countAll } from '../player/maker.js';
 import { learnMember, memberPart, rememberMember } from '../shared/member.js';
 import { noteOf } from '../shared/passed.js';
-import { saveSection } from '../drawing/picture.js';
 import { speedText } from '../patterns/pattern.js';
 import { Player } from '../player/player.js';
 import { Refused } from '../requests/refusals.js';
@@ -149,10 +148,10 @@ function censusPart(shown, page) {
       send.disabled = false;
     }
   };
-  return make('section', {},
-    make('h2', {}, 'Census'),
+  return make('details', { class: 'panel', id: 'census' },
+    make('summary', {}, 'Count the objects'),
     make('p', {},
-      'Count the objects in this generation. The archive stores the count under a number. ',
+      'A census counts the objects in this generation. The archive stores the count under a number. ',
       make('a', { href: '/about#census' }, 'What is a census?'),
     ),
     make('form', { submit: ask },
@@ -203,6 +202,7 @@ class Stage {
   doubt = make('div');
   end = make('p', { class: 'over end', role: 'status' });
   hint = make('p', { class: 'over', hidden: true }, 'Click the pattern to zoom with the wheel, or hold Ctrl.');
+  badge = make('summary');
   source = make('span');
   equal = make('span');
 
@@ -242,6 +242,7 @@ class Stage {
     );
     this.text.take(at, bytes, record);
     this.plot.add(at, pattern.population);
+    this.badge.replaceChildren(bytes === null ? 'Computing…' : `✓ Proved: generation ${withCommas(at)}`);
     this.source.replaceChildren(bytes === null
       ? 'Computed by your browser, and compared with the archive later.'
       : 'The archive’s own answer.');
@@ -301,7 +302,11 @@ class Stage {
 
   /** What comes below the canvas and its controls. */
   get parts() {
-    return [make('p', { class: 'source' }, this.source, ' ', this.equal), this.doubt, this.said, this.plot.figure];
+    const source = make('details', { class: 'source' },
+      this.badge,
+      make('p', {}, this.source, ' ', this.equal, ' ', make('a', { href: '/about#proof' }, 'What is proved?')),
+    );
+    return [source, this.doubt, this.said, this.plot.figure];
   }
 }
 
@@ -353,7 +358,8 @@ export async function depositPage(page, given, at = '0') {
     make('dl', { class: 'facts' }, list.map(([term, told]) => (
       make('div', {}, make('dt', {}, term), make('dd', {}, told))
     ))),
-    make('div', { class: 'columns' }, ...text.parts(), saveSection(text, page), censusPart(text, page)),
+    text.part(),
+    censusPart(text, page),
     censuses,
     neighbours(number, rows),
   ].filter(Boolean));

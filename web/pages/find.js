@@ -184,7 +184,7 @@ export async function codePage(page, givenRule, givenCode) {
     plain,
     picture,
     page,
-    { title: called, isGroup: group !== null, told: facts.told },
+    { title: called, name, isGroup: group !== null, told: facts.told },
   ));
   if (group) addLater(page, alone, confirmedParts(group, page.signal));
   const occurs = make('div');

@@ -103,15 +103,19 @@ function playButton(picture, phases, code, signal) {
 }
 
 /**
- * Where else to look up an object by the same code. Groups of objects are not listed there under the code that they
- * have here.
+ * Where else to look up an object: by its code, under which a group of objects is not listed there, and by its name.
  */
-function lookUp(code, rule, isGroup) {
+function lookUp(code, rule, { isGroup, name }) {
   const place = rule.toLowerCase().replace('/', '');
-  return isGroup ? null : make('p', {},
+  const page = name && encodeURIComponent((name[0].toUpperCase() + name.slice(1)).replaceAll(' ', '_'));
+  const links = [
+    isGroup ? null : ['Catagolue', `https://catagolue.hatsya.com/object/${code}/${place}`],
+    page ? ['LifeWiki', `https://conwaylife.com/wiki/${page}`] : null,
+  ].filter(Boolean);
+  return links.length === 0 ? null : make('p', { class: 'look-up' },
     'Look it up: ',
-    make('a', { href: `https://catagolue.hatsya.com/object/${code}/${place}`, rel: 'noreferrer' }, 'Catagolue'),
-    ', which has well-known objects under the same code.',
+    links.flatMap(([text, href], at) => [at === 0 ? '' : ', ', make('a', { href, rel: 'noreferrer' }, text)]),
+    '.',
   );
 }
 
@@ -136,7 +140,7 @@ export async function objectParts(
   ruleWord,
   picture,
   page,
-  { title = '', isGroup = false, told = (_found) => {} } = {},
+  { title = '', name = null, isGroup = false, told = (_found) => {} } = {},
 ) {
   const rule = readRule(ruleWord);
   const text = () => textOf(pattern, code, ruleText(rule), title);
@@ -163,6 +167,6 @@ export async function objectParts(
     make('h2', {}, 'As a pattern file'),
     make('p', { class: 'row' }, ...[play, copy, load].filter(Boolean)),
     ...drawn,
-    ...[lookUp(code, ruleText(rule), isGroup)].filter(Boolean),
+    ...[lookUp(code, ruleText(rule), { isGroup, name })].filter(Boolean),
   )];
 }

@@ -4,7 +4,7 @@ import { depositAddress, go } from '../shared/address.js';
 import { copyButton, make, withCommas } from '../shared/dom.js';
 import { COPIED, keepDraft } from '../shared/kept.js';
 import { LONGEST_SIDE } from '../shared/limits.js';
-import { save } from '../drawing/picture.js';
+import { save, saveParts } from '../drawing/picture.js';
 import { passFiles } from '../shared/passed.js';
 import { ruleText } from '../patterns/rule.js';
 import { fileOf, withOrigin } from '../patterns/writer.js';
@@ -27,8 +27,7 @@ export class Shown {
     this.page = page;
     this.address = make('a', { class: 'address' });
     this.text = make('textarea', { id: 'text', readonly: true, rows: 8, spellcheck: 'false', wrap: 'off' });
-    this.load = make('a', { class: 'button', click: (event) => this.#save(event) }, 'Download');
-    this.which = make('span');
+    this.load = make('a', { class: 'button', click: (event) => this.#save(event) }, 'RLE');
     this.details = make('details', { toggle: () => this.#fill() },
       make('summary', {}, 'Text'),
       make('label', { for: 'text', class: 'aside' }, 'Text of the generation'),
@@ -48,7 +47,6 @@ export class Shown {
   take(at, bytes, record) {
     // Only the deposit itself has its texts.
     this.seen = at === 0 ? { at, ...this.own } : { at, bytes, record: { ...record, rule: this.first.rule } };
-    this.which.replaceChildren(at === 0 ? 'The file' : `Generation ${withCommas(at)}`);
     if (bytes === null) return;
     this.whole = this.seen;
     this.address.href = this.url;
@@ -124,29 +122,31 @@ export class Shown {
     return make('button', { type: 'button', id: 'deposit-generation', click }, 'Deposit this generation');
   }
 
-  parts() {
+  /** What is done with the generation that is seen: its address, its text, files of it. */
+  part() {
     const copied = () => {
       const text = new TextDecoder().decode(this.file);
       keepDraft(COPIED, text);
       return text;
     };
-    return [
-      make('section', {},
-        make('h2', {}, 'Cite'),
-        make('p', { class: 'row' },
-          this.address,
-          copyButton('Copy the address', () => this.url, this.page.say),
-        ),
+    // Conway's Life forums play what is between these marks.
+    const forum = () => `[viewer]\n${copied()}[/viewer]\n[url]${this.url}[/url]\n`;
+    const { say } = this.page;
+    return make('section', { class: 'share' },
+      make('h2', {}, 'Share'),
+      make('p', {}, this.address),
+      make('p', { class: 'row' },
+        copyButton('Copy the address', () => this.url, say),
+        copyButton('Copy as RLE', copied, say),
+        copyButton('Copy for the forum', forum, say),
+        make('button', { type: 'button', id: 'edit', click: () => this.#edit() }, 'Edit'),
+        make('button', { type: 'button', click: () => print() }, 'Print'),
       ),
-      make('section', {},
-        make('h2', {}, this.which),
-        make('p', { class: 'row' },
-          copyButton('Copy as RLE', copied, this.page.say),
-          this.load,
-          make('button', { type: 'button', id: 'edit', click: () => this.#edit() }, 'Edit'),
-        ),
-        this.details,
+      make('details', { class: 'panel', id: 'download' },
+        make('summary', {}, 'Download'),
+        saveParts(this, this.load, this.page),
       ),
-    ];
+      this.details,
+    );
   }
 }

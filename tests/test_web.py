@@ -27,6 +27,7 @@ from pages import DIGESTED, asked, bundled, content, kept, told, with_sources
 import web_addresses
 import web_club
 import web_colors
+import web_compare
 import web_deposits
 import web_drawings
 import web_editor
@@ -571,6 +572,7 @@ PARTS: list[Callable[..., None]] = [
     *web_colors.PARTS,
     *web_pictures.PARTS,
     *web_editor.PARTS,
+    *web_compare.PARTS,
     *web_waiting.PARTS,
     *web_layout.PARTS,
     *web_search.PARTS,

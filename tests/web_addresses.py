@@ -36,6 +36,7 @@ ADDRESSES = [
     ("/o", "", "Objects"),
     ("/o/B3-S23", "", "Objects of B3/S23"),
     ("/about", "", "About"),
+    ("/compare?one=4&other=1", "", "Compare"),
     ("/new", "", "New deposit"),
     ("/find", "", "Find"),
     ("/find?text=gun", "", "gun · Found"),

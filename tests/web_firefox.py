@@ -22,6 +22,7 @@ ADDRESSES = (
     "/c/1",
     "/haul",
     "/about",
+    "/compare?one=4&other=1",
 )
 ENTER = "\ue007"
 FILE = b"#N By Firefox\nx = 4, y = 2\no2bo$4o!\n"

@@ -12,6 +12,7 @@ ON_ITS_SIDE = (844, 390)
 # At most so much of the window may move while a page loads: what web.dev calls a good layout shift.
 MOST_SHIFT = 0.1
 PATHS = ["/", "/d", "/d/4", "/d/of/ann", "/c", "/c/1", "/o", "/o/B3-S23/xq4_153", "/find", "/about", "/new", "/haul"]
+PATHS += ["/compare?one=4&other=1"]
 OBSERVE = """
 window.shifts = [];
 new PerformanceObserver((list) => shifts.push(...list.getEntries())).observe({ type: 'layout-shift', buffered: true });
@@ -37,7 +38,7 @@ def still(_gateway: Gateway, browser: Browser, base: str, _folder: str) -> None:
 
 
 def proof(_gateway: Gateway, browser: Browser, base: str, _folder: str) -> None:
-    """The mark that says whose answer is shown is above the fold, even after some generations. Pressed, it says more."""
+    """The mark that says whose answer is shown is above the fold, even after some generations. Press it for more."""
     for width, height in [*WINDOWS, *PHONES]:
         browser.screen(width, height)
         browser.open(f"{base}/d/4")

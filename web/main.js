@@ -30,6 +30,7 @@ const ADDRESSES = {
   haul: /^\/haul$/i,
   objects: /^\/o(?:\/([^/]+))?$/i,
   code: /^\/o\/([^/]+)\/([^/]+)$/i,
+  compare: /^\/compare$/i,
   about: /^\/about$/i,
 };
 // end of addresses
@@ -51,6 +52,7 @@ const PAGES = [
   [ADDRESSES.haul, 'find', later('others', 'haulPage')],
   [ADDRESSES.objects, 'objects', later('others', 'catalogPage')],
   [ADDRESSES.code, 'objects', later('others', 'codePage')],
+  [ADDRESSES.compare, 'deposits', later('others', 'comparePage')],
   [ADDRESSES.about, 'about', later('others', 'aboutPage')],
 ];
 

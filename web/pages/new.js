@@ -3,7 +3,8 @@
 
 import { depositAddress, go } from '../shared/address.js';
 import { lastDeposit, sendDeposit } from '../requests/archive.js';
-import { field, isMember, make, plural, refusal } from '../shared/dom.js';
+import { sameDeposit } from './compare.js';
+import { field, isMember, make, plural, refusal, withCommas } from '../shared/dom.js';
 import { Editor } from '../drawing/editor.js';
 import { cutButton, oldChoice, readGiven, refusedBy } from '../patterns/given.js';
 import { draft, keepDraft } from '../shared/kept.js';
@@ -18,6 +19,8 @@ import { ruleText } from '../patterns/rule.js';
 import { sumOf } from '../patterns/sum.js';
 import { withPattern } from '../patterns/writer.js';
 
+/** After how many milliseconds without a change it is asked whether a deposit has the same cells. */
+const RESTED = 700;
 /** The number of the fault of a file that is too long. */
 const TOO_LONG = 1;
 const NO_PATTERN = { width: 0, height: 0, population: 0, rows: [] };
@@ -32,8 +35,10 @@ class Content {
   read = null;
   /** The last file without a fault, whose lines stay if its cells are edited. */
   #good = null;
+  #resting = 0;
 
   constructor(text, token, page) {
+    this.page = page;
     this.text = text;
     this.token = token;
     this.said = make('div', { 'aria-live': 'polite' });
@@ -108,6 +113,22 @@ class Content {
     this.said.replaceChildren(...this.#seen());
     this.#offer(shown && isNew);
     this.#compose();
+    this.#findSame();
+  }
+
+  /** Says if a deposit has the same cells, once they rest. */
+  #findSame() {
+    clearTimeout(this.#resting);
+    const { record } = this;
+    if (!record?.pattern.population) return;
+    this.#resting = setTimeout(async () => {
+      const found = await sameDeposit(record, this.page.signal).catch(() => null);
+      if (!found || this.record !== record) return;
+      this.said.append(make('p', { class: 'note', id: 'same' },
+        make('a', { href: depositAddress(found.number) }, `Deposit ${withCommas(found.number)}`),
+        ` has the same cells${found.turn ? `, ${found.turn}` : ''}.`,
+      ));
+    }, RESTED);
   }
 
   #choose(more) {

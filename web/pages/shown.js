@@ -122,6 +122,20 @@ export class Shown {
     return make('button', { type: 'button', id: 'deposit-generation', click }, 'Deposit this generation');
   }
 
+  /** Asks for another deposit to compare with. */
+  #compareForm() {
+    const other = make('input', { id: 'compare-with', type: 'number', min: 1, required: true, inputmode: 'numeric' });
+    const submit = (event) => {
+      event.preventDefault();
+      go(`/compare?one=${depositAddress(this.number, this.at).slice(3)}&other=${Math.trunc(Number(other.value))}`);
+    };
+    return make('form', { class: 'inline', submit },
+      make('label', { for: other.id }, 'Compare with no.'),
+      other,
+      make('button', { id: 'compare' }, 'Compare'),
+    );
+  }
+
   /** What is done with the generation that is seen: its address, its text, files of it. */
   part() {
     const copied = () => {
@@ -135,12 +149,13 @@ export class Shown {
     return make('section', { class: 'share' },
       make('h2', {}, 'Share'),
       make('p', {}, this.address),
-      make('p', { class: 'row' },
+      make('div', { class: 'row' },
         copyButton('Copy the address', () => this.url, say),
         copyButton('Copy as RLE', copied, say),
         copyButton('Copy for the forum', forum, say),
         make('button', { type: 'button', id: 'edit', click: () => this.#edit() }, 'Edit'),
         make('button', { type: 'button', click: () => print() }, 'Print'),
+        this.#compareForm(),
       ),
       make('details', { class: 'panel', id: 'download' },
         make('summary', {}, 'Download'),

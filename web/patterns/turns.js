@@ -56,6 +56,9 @@ export const turned = (pattern, turn) => (
   normal(rowsOf([...cellsOf(pattern)].map((cell) => turn(/** @type {Cell} */ (cell)))))
 );
 
+/** The sides of a box, in an order that a turn doesn't change. @param {{ width: number, height: number }} box */
+export const sidesOf = ({ width, height }) => [Math.min(width, height), Math.max(width, height)].join();
+
 /**
  * By which turn or reflection one pattern is another one, wherever they are: its name, which is empty if they are equal
  * without one; null if by none.
@@ -64,7 +67,6 @@ export const turned = (pattern, turn) => (
  * @returns {string | null}
  */
 export function turnBetween(one, other) {
-  const sides = ({ width, height }) => [Math.min(width, height), Math.max(width, height)].join();
-  if (one.population !== other.population || sides(one) !== sides(other)) return null;
+  if (one.population !== other.population || sidesOf(one) !== sidesOf(other)) return null;
   return NAMED_TURNS.find(([, turn]) => isSame(turned(one, turn), other))?.[0] ?? null;
 }

@@ -356,27 +356,24 @@ def test_cited(gateway: Gateway, browser: Browser, base: str) -> None:
 
 
 def test_looked_up(browser: Browser, base: str) -> None:
-    """A code is looked up: how often it occurs, what it looks like as the program opens it, and how the program is
-    asked."""
+    """A code is looked up: how often it occurs, and what it looks like as the program opens it."""
     browser.open(f"{base}/find")
-    browser.type("#code", "xs4_33")
-    browser.one("form.code button").click()
+    browser.type("#box", "xs4_33" + ENTER)
     check(
         "a code",
         browser.at("/o/B3-S23/xs4_33")
         and "3 times in all censuses of deposits under B3/S23." == browser.text(".total"),
     )
-    check(
-        "its name", browser.text("h1") == "xs4_33 block" and browser.text(".command") == "life object B3/S23 xs4_33 1"
-    )
+    same("its name", browser.text("h1"), "block xs4_33")
     browser.picture("code")
-    for address, rule, command in (
-        ("23-3/xq4_153", "B3/S23", "life object B3/S23 xq4_153 4"),
-        ("b36s23/xp2_7", "B36/S23", "life object B36/S23 xp2_7 2"),
+    for address, rule, cited in (
+        ("23-3/xq4_153", "B3/S23", "/o/B3-S23/xq4_153"),
+        ("b36s23/xp2_7", "B36/S23", "/o/B36-S23/xp2_7"),
     ):
         browser.open(f"{base}/o/{address}")
         check(
-            f"a code by {address}", browser.text(".command") == command and f"under {rule}." in browser.text(".total")
+            f"a code by {address}",
+            browser.text(".address") == base + cited and f"under {rule}." in browser.text(".total"),
         )
     for address, part in (
         ("B3-S23/xp2_111", "No object has this code"),
@@ -537,14 +534,21 @@ def test_listed(gateway: Gateway, browser: Browser, base: str) -> None:
         "older ones",
         browser.at(f"/d/after/{last - 48}") and browser.run(links) == list(range(last - 24, max(0, last - 48), -1)),
     )
-    browser.type("#after", "3" + ENTER)
-    check("those after a number", browser.at("/d/after/3") and browser.run(links) == list(range(27, 3, -1)))
-    browser.type("#of", "eve" + ENTER)
+    browser.one(".pager a[href='/d/after/0']").click()
+    check("the oldest", browser.at("/d/after/0") and browser.run(links) == list(range(24, 0, -1)))
+    same(
+        "the links of the oldest",
+        browser.run("return [...document.querySelectorAll('.pager a')].map((link) => link.textContent)"),
+        ["Newer →", "Newest"],
+    )
+    browser.open(f"{base}/d/after/3")
+    check("those after a number", browser.run(links) == list(range(27, 3, -1)))
+    browser.type("#box", "member eve" + ENTER)
     check(
         "those of a member",
         browser.at("/d/of/eve") and browser.run(links) == [last - 1 - 2 * turn for turn in range(24)],
     )
-    browser.type("#of", "nobody" + ENTER)
+    browser.type("#box", "Member nobody" + ENTER)
     check("those of nobody", browser.at("/d/of/nobody") and browser.until(lambda: "None" in browser.text(".count")))
 
 

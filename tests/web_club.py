@@ -225,6 +225,22 @@ def boxed(gateway: Gateway, browser: Browser, base: str, folder: str) -> None:
     )
 
 
+def cells_of_objects(gateway: Gateway, browser: Browser, base: str, folder: str) -> None:
+    """The list of objects has the cells of the smallest phase of each, as a catalogue has them: 48 of a pulsar, whose
+    code spells a phase of 72."""
+    number = kept(
+        gateway, "club-pulsar", b"#N Of three\n" + content(os.path.join(HERE, "..", "examples", "pulsar.rle"))
+    )
+    words = ("x-member: ann", "x-token: club-pulsar")
+    exchanged(gateway.life_port, [message("POST", f"/deposits/{number}/censuses/0/3", b"", *words)])
+    check("an index with a pulsar", index(gateway, os.path.join(folder, "club.db")))
+    browser.open(f"{base}/o?text=pulsar")
+    row = "return [...document.querySelectorAll('.catalog tbody tr')].map((row) => row.children[4].textContent)"
+    check("a pulsar has 48 cells", browser.until(lambda: browser.run(row) == ["48"]))
+    browser.open(f"{base}/o?cells=48")
+    check("it is found by them", browser.until(lambda: "pulsar" in browser.text(".catalog tbody")))
+
+
 def objects(gateway: Gateway, browser: Browser, base: str, folder: str) -> None:
     """The page of objects has the totals of the archive, the most frequent first, sorts and filters them, and names
     groups."""
@@ -473,6 +489,7 @@ PARTS = [
     cited,
     boxed,
     objects,
+    cells_of_objects,
     census_split,
     sorts,
     spoken,

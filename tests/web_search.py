@@ -54,7 +54,7 @@ def without(gateway: Gateway, browser: Browser, base: str, _: object) -> None:
     browser.open(f"{base}/find")
     check(
         "no form to search by",
-        browser.all("form.search") == [] and browser.one("#deposit-number") and browser.one("#code"),
+        browser.all("form.search") == [] and browser.one("#box").is_displayed(),
     )
     browser.open(f"{base}/find?text=glider")
     check(

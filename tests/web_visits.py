@@ -160,7 +160,7 @@ def upgraded(gateway: Gateway, browser: Browser, _base: str, folder: str) -> Non
         upgrade(pages, others, "AAAAAAAA")
         browser.go("/find")
         check("the new release is loaded", browser.until(lambda: browser.all("script[src='/web/main-AAAAAAAA.js']")))
-        check("with the page that was wanted", browser.at("/find") and browser.one("#code") is not None)
+        check("with the page that was wanted", browser.at("/find") and browser.text("h1") == "Find")
         same("that took one load", relay.asked.count("/find"), 1)
         relay.end()
         # Another address of the site, so that the browser keeps nothing of it.

@@ -137,7 +137,7 @@ def capitals(_gateway: Gateway, browser: Browser, base: str, _folder: str) -> No
     """Addresses are taken in capitals, too."""
     for address, wanted in (
         ("D/1", "deposit 1"),
-        ("o/b3-s23/XQ4_153", "xq4_153 glider"),
+        ("o/b3-s23/XQ4_153", "glider xq4_153"),
         ("d/of/ANN", "Deposits of ann"),
         ("New", "New deposit"),
     ):

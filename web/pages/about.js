@@ -76,6 +76,11 @@ const sections = () => [
         + 'and next to “blinker” they say how many more are in groups.',
     ],
     [
+      'In a shell, ',
+      code('life object B3/S23 xq4_153 4'),
+      ' prints the object that a code names, if its period is at most the last number.',
+    ],
+    [
       'A census does not run the pattern until it settles. A cluster that does not return within the limit has no code '
         + 'and counts as unresolved: guns, puffers, and anything still changing. '
         + 'A limit of 60 finds all common objects. Compare censuses only if they have the same limit.',

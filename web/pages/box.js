@@ -2,7 +2,7 @@
 
 import { censusAddress, depositAddress, memberAddress, objectAddress } from '../shared/address.js';
 import { patternOf, wellKnown } from '../patterns/code.js';
-import { make } from '../shared/dom.js';
+import { isMember, make } from '../shared/dom.js';
 import { thumbnail } from '../drawing/draw.js';
 import { folded } from '../requests/index.js';
 import { readRule, ruleText } from '../patterns/rule.js';
@@ -14,6 +14,7 @@ const BEGINNING = /^x[spq][1-9][0-9]{0,5}_?$/;
 const PERIOD = /^period\s*([1-9][0-9]{0,3})$/;
 const DEPOSIT = /^(?:#|no\.?|deposit)?\s*#?\s*([0-9]{1,15})$/i;
 const CENSUS = /^(?:census|c)\s*#?\s*([0-9]{1,15})$/i;
+const MEMBER = /^member\s+([a-z0-9-]+)$/i;
 /** A rule as it is written in searches: with a digit or a slash, since "bs" is a word. */
 const RULE = /[0-9/]/;
 const SIDE = 48;
@@ -26,8 +27,8 @@ function ruleOf(text) {
 }
 
 /**
- * The address that a text leads to: an object by its code, a deposit or a census by its number, the deposits of a rule,
- * the objects whose codes begin so or that have a period, or a search.
+ * The address that a text leads to: an object by its code, a deposit or a census by its number, the deposits of a rule
+ * or a member, the objects whose codes begin so or that have a period, or a search.
  * @param {string} given
  */
 export function addressOf(given) {
@@ -39,6 +40,8 @@ export function addressOf(given) {
   const [deposit, census] = [DEPOSIT, CENSUS].map((form) => form.exec(text)?.[1]);
   if (deposit) return depositAddress(Number(deposit));
   if (census) return censusAddress(Number(census));
+  const member = MEMBER.exec(text)?.[1].toLowerCase();
+  if (isMember(member ?? '')) return memberAddress(member);
   if (ruleOf(text)) return `/find?${new URLSearchParams({ rule: ruleOf(text) })}`;
   const objects = text.toLowerCase();
   if (BEGINNING.test(objects)) return `/o?${new URLSearchParams({ text: objects })}`;

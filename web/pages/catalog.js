@@ -6,7 +6,7 @@ import { field, make, plural, withCommas } from '../shared/dom.js';
 import { thumbnail } from '../drawing/draw.js';
 import { indexHead, indexNote, objectsOfRule, rulesWithObjects } from '../requests/index.js';
 import { KINDS } from './object.js';
-import { groupsOf } from '../patterns/parts.js';
+import { groupsOf, leastCells } from '../patterns/parts.js';
 import { save } from '../drawing/picture.js';
 import { Refused } from '../requests/refusals.js';
 import { readRule, ruleAddress, ruleOfAddress, ruleText } from '../patterns/rule.js';
@@ -23,7 +23,7 @@ const SIDE = 48;
  * @property {string} name its name, or what it is made of; empty if it has neither
  * @property {string} kind
  * @property {number} period
- * @property {number} cells
+ * @property {number} cells those of its smallest phase, once they are counted
  * @property {number} count
  * @property {number} grouped how many more of it are in groups
  * @property {boolean} isGroup whether it is several objects side by side
@@ -297,6 +297,14 @@ class Catalog {
   }
 }
 
+/** Counts the cells of each object's smallest phase, as its page does. */
+async function countCells(catalog, signal) {
+  const rule = /** @type {any} */ (readRule(catalog.rule));
+  const least = await leastCells(catalog.rows.map(({ code }) => code), rule, signal);
+  for (const row of catalog.rows) row.cells = least.get(row.code) ?? row.cells;
+  catalog.show();
+}
+
 /** Finds the groups of other objects, and marks their rows. */
 async function nameGroups(catalog, signal) {
   const { texts, grouped } = await groupsOf(catalog.rows, catalog.rule, signal);
@@ -355,5 +363,5 @@ export async function catalogPage(page, given) {
   const catalog = new Catalog(page, rule, objects.map((object) => rowOf(object, names)), rules);
   page.root.append(catalog.root, indexNote(head));
   page.say(`${plural(objects.length, 'object')} of ${rule}.`);
-  nameGroups(catalog, page.signal).catch(() => {});
+  countCells(catalog, page.signal).then(() => nameGroups(catalog, page.signal)).catch(() => {});
 }

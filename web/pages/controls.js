@@ -9,6 +9,8 @@ import { GENERATION_LIMIT } from '../shared/limits.js';
 const SPEEDS = [1, 2, 5, 10, 20, 40, 60, 120, 240, 480, 960, 1920];
 const STEPS = [1, 10, 100];
 const FIRST_GOAL = 100;
+/** After how many milliseconds the ages of cells are late. */
+const LATE = 300;
 
 const button = (label, text, click, more = {}) => (
   make('button', { type: 'button', 'aria-label': label, title: label, click, ...more }, text)
@@ -48,9 +50,13 @@ function runPart(player) {
 }
 
 function viewParts(view, ages) {
-  const aged = make('input', { id: 'ages', type: 'checkbox', change: () => {
+  const label = make('label', { for: 'ages', title: 'Young cells are orange, old ones blue' }, 'Color by age');
+  const aged = make('input', { id: 'ages', type: 'checkbox', change: async () => {
     keepSetting('ages', aged.checked ? 'yes' : null);
-    ages.turn(aged.checked);
+    const late = setTimeout(() => label.replaceChildren('Counting…'), LATE);
+    await ages.turn(aged.checked);
+    clearTimeout(late);
+    label.replaceChildren('Color by age');
   } });
   ages.isOn = aged.checked = setting('ages') === 'yes';
   const grid = make('input', {
@@ -69,7 +75,7 @@ function viewParts(view, ages) {
     fit,
     marks: [
       pair(grid, make('label', { for: 'grid' }, 'Grid')),
-      pair(aged, make('label', { for: 'ages', title: 'Young cells are orange, old ones blue' }, 'Color by age')),
+      pair(aged, label),
     ],
   };
 }

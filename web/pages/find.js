@@ -1,9 +1,9 @@
-// Finding a deposit or a census by its number, and an object by its code, with its count in all censuses.
+// The page that searches, and that of an object by its code, with its count in all censuses.
 
-import { censusAddress, depositAddress, go, objectAddress } from '../shared/address.js';
+import { objectAddress } from '../shared/address.js';
 import { total } from '../requests/archive.js';
 import { limitOf, objectNames, patternOf } from '../patterns/code.js';
-import { addLater, copyButton, field, make, plural } from '../shared/dom.js';
+import { addLater, copyButton, make, plural } from '../shared/dom.js';
 import { thumbnail } from '../drawing/draw.js';
 import { indexHead } from '../requests/index.js';
 import { objectFacts, objectParts } from './object.js';
@@ -11,47 +11,6 @@ import { partsOf, partsText } from '../patterns/parts.js';
 import { rulePart, ruleOfAddress } from '../patterns/rule.js';
 import { occurrences } from './censuses.js';
 import { formOf, results } from './search.js';
-
-function numberForm(id, label, addressOf) {
-  const input = make('input', { id, type: 'number', min: 1, required: true, inputmode: 'numeric' });
-  const submit = (event) => {
-    event.preventDefault();
-    go(addressOf(Math.trunc(Number(input.value))));
-  };
-  return make('form', { submit },
-    field(label, input),
-    make('button', { 'aria-label': `Show the ${label.toLowerCase()}` }, 'Show'),
-  );
-}
-
-function codeForm(code = '', rule = 'B3/S23') {
-  const codeInput = make('input', {
-    id: 'code',
-    required: true,
-    autocapitalize: 'none',
-    autocomplete: 'off',
-    spellcheck: 'false',
-    placeholder: 'xq4_153',
-  });
-  const ruleInput = make('input', {
-    id: 'rule',
-    required: true,
-    autocapitalize: 'none',
-    autocomplete: 'off',
-    spellcheck: 'false',
-  });
-  codeInput.value = code;
-  ruleInput.value = rule;
-  const submit = (event) => {
-    event.preventDefault();
-    go(objectAddress(ruleInput.value.trim(), codeInput.value.trim()));
-  };
-  return make('form', { class: 'code', submit },
-    field('Code of an object', codeInput),
-    field('Rule', ruleInput),
-    make('button', { class: 'main', 'aria-label': 'Show the object' }, 'Show'),
-  );
-}
 
 export async function findPage(page, query) {
   const text = new URLSearchParams(query).get('text');
@@ -61,7 +20,7 @@ export async function findPage(page, query) {
     make('h1', { tabindex: -1 }, query ? 'Found' : 'Find'),
     ...(head ? [formOf(query)] : [make('p', { class: 'empty' },
       'This archive has no search index, so deposits can’t be searched by name. '
-        + 'Codes, numbers and rules work without one.',
+        + 'Codes, numbers and members work without one: xq4_153, #7, census 3, member ann.',
     )]),
   );
   if (query) {
@@ -69,17 +28,6 @@ export async function findPage(page, query) {
     return;
   }
   page.root.append(
-    make('h2', {}, 'By number'),
-    make('div', { class: 'forms' },
-      numberForm('deposit-number', 'Deposit', depositAddress),
-      numberForm('census-number', 'Census', censusAddress),
-    ),
-    make('h2', {}, 'An object'),
-    codeForm(),
-    make('p', { class: 'hint' },
-      'A code names one object of a rule: a still life (xs), an oscillator (xp) or a spaceship (xq), '
-        + 'wherever it is and however it is rotated or reflected.',
-    ),
     make('h2', {}, 'A haul'),
     make('p', {},
       'The objects in random soups, as counted by ',
@@ -132,7 +80,8 @@ export async function codePage(page, givenRule, givenCode) {
   const code = decodeURIComponent(givenCode).toLowerCase();
   const rule = ruleOfAddress(decodeURIComponent(givenRule));
   page.title(code);
-  page.root.append(make('h1', { tabindex: -1 }, make('code', {}, code)));
+  const heading = make('h1', { tabindex: -1 }, make('code', {}, code));
+  page.root.append(heading);
   const limit = limitOf(code);
   const count = await total(rule, code, limit, page.signal);
   const plain = rulePart(rule).replace('S', '/S');
@@ -141,10 +90,9 @@ export async function codePage(page, givenRule, givenCode) {
   const called = [name, group ? partsText(group) : null].filter(Boolean).join(': ');
   if (called) {
     page.title(`${called} (${code})`);
-    page.root.querySelector('h1').append(make('small', {}, ` ${called}`));
+    heading.replaceChildren(called, make('small', {}, ' ', make('code', {}, code)));
   }
   const url = location.origin + objectAddress(plain, code);
-  const command = `life object ${plain} ${code} ${limit}`;
   const pattern = patternOf(code);
   const picture = make('div', { class: 'picture' }, thumbnail(pattern, 320, 200, `The object ${code}`));
   const parts = make('div', { class: 'object-parts' });
@@ -152,28 +100,24 @@ export async function codePage(page, givenRule, givenCode) {
   const period = code.startsWith('xs') ? 1 : limit;
   const facts = objectFacts(code, period, pattern);
   page.root.append(
-    picture,
-    facts.list,
-    ...(group ? [groupPart(group), alone] : []),
-    make('p', { class: 'total' },
-      make('strong', {}, plural(count, 'time')),
-      ` in all censuses of deposits under ${plain}.`,
+    make('div', { class: 'object' },
+      make('div', {}, picture),
+      make('div', {},
+        facts.list,
+        ...(group ? [groupPart(group), alone] : []),
+        make('p', { class: 'total' },
+          make('strong', {}, plural(count, 'time')),
+          ` in all censuses of deposits under ${plain}.`,
+        ),
+      ),
     ),
-    make('section', {},
-      make('h2', {}, 'Cite'),
+    make('section', { class: 'share' },
+      make('h2', {}, 'Share'),
       make('p', { class: 'row' },
         make('a', { class: 'address', href: url }, url),
         copyButton('Copy the address', () => url, page.say),
       ),
-    ),
-    parts,
-    make('section', {},
-      make('h2', {}, 'In a shell'),
-      make('p', {}, 'The program prints the object that the code names:'),
-      make('p', { class: 'row' },
-        make('code', { class: 'command' }, command),
-        copyButton('Copy', () => command, page.say),
-      ),
+      parts,
     ),
   );
   page.say(`${code}: ${plural(count, 'time')} in all censuses.`);
@@ -188,6 +132,6 @@ export async function codePage(page, givenRule, givenCode) {
   ));
   if (group) addLater(page, alone, confirmedParts(group, page.signal));
   const occurs = make('div');
-  page.root.append(occurs, make('section', {}, make('h2', {}, 'Another object'), codeForm('', plain)));
+  page.root.append(occurs);
   addLater(page, occurs, occurrences(page, plain, code));
 }

@@ -2,12 +2,11 @@
 
 import { afterAddress, depositAddress, go, memberAddress } from '../shared/address.js';
 import { deposit, depositsAfter, lastDeposit } from '../requests/archive.js';
-import { field, isMember, make, plural, refusal, withCommas } from '../shared/dom.js';
+import { make, plural, withCommas } from '../shared/dom.js';
 import { thumbnail } from '../drawing/draw.js';
 import { allDeposits, indexHead, indexNote } from '../requests/index.js';
 import { entryState, keepEntryState } from '../shared/kept.js';
-import { LONGEST_LIST, LONGEST_MEMBER } from '../shared/limits.js';
-import { Refused } from '../requests/refusals.js';
+import { LONGEST_LIST } from '../shared/limits.js';
 
 const SHOWN = 24;
 const WIDTH = 176;
@@ -61,45 +60,15 @@ export function cards(page, rows) {
   return make('ul', { class: 'cards' }, rows.map((row) => card(page, row, watch)));
 }
 
-/** The forms that choose the deposits: those after a number, and those of a member. */
-function forms(page, after, member) {
-  const number = make('input', { id: 'after', type: 'number', min: 0, inputmode: 'numeric', required: true });
-  number.value = after ?? '';
-  const name = make('input', {
-    id: 'of',
-    maxlength: LONGEST_MEMBER,
-    autocapitalize: 'none',
-    spellcheck: 'false',
-    required: true,
-  });
-  name.value = member ?? '';
-  const byNumber = (event) => {
-    event.preventDefault();
-    go(afterAddress(Math.max(0, Math.trunc(Number(number.value)) || 0)));
-  };
-  const byMember = (event) => {
-    event.preventDefault();
-    if (isMember(name.value)) go(memberAddress(name.value));
-    else page.root.querySelector('.forms').after(refusal(new Refused('bad-member')));
-  };
-  return make('div', { class: 'forms' },
-    make('form', { submit: byNumber },
-      field('After no.', number),
-      make('button', { 'aria-label': 'Show the deposits after this number' }, 'Show'),
-    ),
-    make('form', { submit: byMember },
-      field('Member', name),
-      make('button', { 'aria-label': 'Show the deposits of this member' }, 'Show'),
-    ));
-}
-
 /** The links to older and newer deposits, which have keys. */
 function pager(page, older, newer) {
   page.keys['['] = () => { if (older) go(older); };
   page.keys[']'] = () => { if (newer) go(newer); };
   return make('nav', { class: 'pager', 'aria-label': 'More deposits' },
+    older ? make('a', { href: afterAddress(0) }, 'Oldest') : null,
     older ? make('a', { href: older, rel: 'next' }, '← Older') : null,
     newer ? make('a', { href: newer, rel: 'prev' }, 'Newer →') : null,
+    newer ? make('a', { href: '/d' }, 'Newest') : null,
   );
 }
 
@@ -144,14 +113,13 @@ const nothing = () => make('p', { class: 'empty' },
  * The deposits after a number, the greatest first; without a number, the newest. Returns the greatest number of all.
  */
 export async function deposits(page, given) {
-  // The first page has its own heading, and no forms.
+  // The first page has its own heading.
   const isFirst = page.root.querySelector('h1') !== null;
   page.title(isFirst ? '' : 'Deposits');
   page.root.append(isFirst ? make('h2', {}, 'Newest deposits') : make('h1', { tabindex: -1 }, 'Deposits'));
   const last = await lastDeposit(page.signal);
   const after = given === undefined ? Math.max(0, last - SHOWN) : Number(given);
   const rows = (await depositsAfter(after, page.signal)).slice(0, SHOWN).reverse();
-  if (!isFirst) page.root.append(forms(page, given, null));
   walk(page);
   if (rows.length === 0) {
     page.root.append(last === 0 ? nothing() : make('p', { class: 'empty' },
@@ -216,7 +184,7 @@ async function listedOf(member, said, signal) {
 export async function depositsOf(page, member, before = Infinity) {
   page.title(`Deposits of ${member}`);
   const said = make('p', { class: 'count' }, 'Looking…');
-  page.root.append(make('h1', { tabindex: -1 }, `Deposits of ${member}`), forms(page, null, member), said);
+  page.root.append(make('h1', { tabindex: -1 }, `Deposits of ${member}`), said);
   const head = await indexHead();
   const all = head ? await indexedOf(head, member, said, page.signal) : await listedOf(member, said, page.signal);
   const rows = all.filter((row) => row.id < Number(before));

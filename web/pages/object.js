@@ -163,10 +163,10 @@ export async function objectParts(
       make('div', { class: 'phases' }, phases.map((phase, at) => thumbnail(phase, SIDE, SIDE, `Phase ${at}`))),
     )]
     : [];
-  return [make('section', {},
-    make('h2', {}, 'As a pattern file'),
-    make('p', { class: 'row' }, ...[play, copy, load].filter(Boolean)),
+  if (play && !page.signal.aborted) picture.after(make('p', {}, play));
+  return [
+    make('p', { class: 'row' }, copy, load),
     ...drawn,
     ...[lookUp(code, ruleText(rule), { isGroup, name })].filter(Boolean),
-  )];
+  ];
 }

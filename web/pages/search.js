@@ -79,7 +79,7 @@ export function searchForm(asked = NOTHING) {
     const address = addressOf(words);
     go(words === '' || isSearch(address) ? searchAddress({ text: words, ...more }) : address);
   };
-  const open = all.some(({ value }) => [value()].flat().some(Boolean));
+  const open = asked === NOTHING || all.some(({ value }) => [value()].flat().some(Boolean));
   return make('form', { class: 'search', role: 'search', submit },
     make('div', { class: 'row' },
       field('Name, code, rule or comment', text),
@@ -115,4 +115,5 @@ export async function results(page, query) {
   page.root.append(...shownRows(page, rows), indexNote(head));
 }
 
-export const formOf = (query) => searchForm(askedBy(query ?? ''));
+/** The form with a search, or an empty one whose fields are open. */
+export const formOf = (query) => searchForm(query ? askedBy(query) : NOTHING);

@@ -34,14 +34,15 @@ const setOf = (pattern) => (
 );
 
 /**
- * The next generation of Conway's Life.
+ * The next generation.
  * @param {Cells} cells
+ * @param {typeof LIFE} rule
  */
-function following(cells) {
+function following(cells, rule = LIFE) {
   const counts = new Map();
   for (const cell of cells) for (const step of ROUND) counts.set(cell + step, (counts.get(cell + step) ?? 0) + 1);
   const next = new Set();
-  for (const [cell, count] of counts) if (cells.has(cell) ? LIFE.survivals[count] : LIFE.births[count]) next.add(cell);
+  for (const [cell, count] of counts) if (cells.has(cell) ? rule.survivals[count] : rule.births[count]) next.add(cell);
   return next;
 }
 
@@ -52,10 +53,11 @@ const isEqual = (one, other) => one.size === other.size && [...one].every((cell)
  * The generations from 0 to a period.
  * @param {Cells} cells
  * @param {number} period
+ * @param {typeof LIFE} [rule]
  */
-function phasesOf(cells, period) {
+function phasesOf(cells, period, rule) {
   const phases = [cells];
-  while (phases.length <= period) phases.push(following(phases.at(-1)));
+  while (phases.length <= period) phases.push(following(phases.at(-1), rule));
   return phases;
 }
 
@@ -149,6 +151,28 @@ async function rested(begun) {
   if (performance.now() - begun < HELD) return begun;
   await new Promise((resolve) => { setTimeout(resolve); });
   return performance.now();
+}
+
+/**
+ * The cells of the smallest phase of each object. One that is too large to step here has those of the phase that its
+ * code spells.
+ * @param {string[]} codes
+ * @param {typeof LIFE} rule
+ * @param {AbortSignal} signal
+ * @returns {Promise<Map<string, number>>}
+ */
+export async function leastCells(codes, rule, signal) {
+  const found = new Map();
+  let begun = performance.now();
+  for (const code of codes) {
+    const [pattern, period] = [patternOf(code), limitOf(code)];
+    if (pattern && period > 1 && period <= LONGEST_PERIOD && pattern.population <= MOST_CELLS) {
+      found.set(code, Math.min(...phasesOf(setOf(pattern), period, rule).map(({ size }) => size)));
+    }
+    begun = await rested(begun);
+    signal.throwIfAborted();
+  }
+  return found;
 }
 
 let known = null;

@@ -36,9 +36,10 @@ export class Ages {
     this.told = told;
   }
 
-  turn(isOn) {
+  /** Turns ages on or off, and returns once they are shown. */
+  async turn(isOn) {
     this.isOn = isOn;
-    if (isOn) this.show(this.#wanted);
+    if (isOn) await this.show(this.#wanted);
     else this.told(null);
   }
 

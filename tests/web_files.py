@@ -212,6 +212,7 @@ def too_many(gateway: Gateway, browser: Browser, base: str, folder: str) -> None
     browser.drop([path, *written(folder, {"long.rle": b"#C " + b"x" * 201 + b"\nx = 1, y = 1\no!\n"})], ".drop")
     browser.until(lambda: browser.text(".many .count") == "2 files: 2 refused.")
     same("a comment that is too long is not cut", len(browser.all(".files .cut")), 1)
+    browser.unfold()
     browser.one(".files .cut").click()
     check("in a table", browser.until(lambda: browser.text(".many .count") == "2 files: 1 refused, 1 to deposit."))
     browser.run("sessionStorage.clear()")

@@ -152,6 +152,15 @@ def dropped(gateway: Gateway, browser: Browser, base: str, folder: str) -> None:
         and not lines["cut.rle"][1],
     )
     check("a file that is too long is said", "1,048,576 bytes" in lines["long.rle"][0])
+    summaries = "return [...document.querySelectorAll('.refused-files summary')].map((one) => one.textContent)"
+    check(
+        "those that are refused come last, by reason",
+        [line[0] for line in browser.run(LINES)][-2:] == ["cut.rle", "long.rle"]
+        and [text[:11] for text in browser.run(summaries)] == ["1 refused: "] * 2,
+    )
+    check("they are folded", not browser.one(".refused-files table").is_displayed())
+    browser.one(".refused-files summary").click()
+    check("and open with the line", browser.one(".refused-files .outcome").text.strip() == "Line 3: 3o")
     same("nothing is sent before it is asked for", len(listed(gateway)), before)
     browser.type("#many-member", "ann")
     browser.picture("many")

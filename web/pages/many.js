@@ -1,5 +1,5 @@
-// Many files at once: each gets a small drawing or its fault; one press deposits all good ones, one after the other;
-// and a table shows the results, even after a reload.
+// Many files at once: each gets a small drawing; those that are refused are folded by reason. One press deposits all
+// good ones, one after the other, and a table shows the results, even after a reload.
 
 import { depositAddress, memberAddress } from '../shared/address.js';
 import { depositRows, sendDeposit } from '../requests/archive.js';
@@ -27,10 +27,14 @@ const TOO_LONG = 1;
  * @typedef {{ isNamed: boolean, author: string, hasFolder: boolean }} Additions
  */
 
-/** A file in the table. Its result is `kept` with a number, `refused` with a sentence, or nothing yet. */
+/**
+ * A file in the table. Its result is `kept` with a number, `refused` with a sentence and `where` with the line, or
+ * nothing yet.
+ */
 class Row {
   kept = null;
   refused = null;
+  where = '';
   /** What the page made of the file; null before it is read. @type {import('../patterns/given.js').Given | null} */
   read = null;
   choices = { asOld: true, isCut: false };
@@ -89,8 +93,9 @@ class Row {
     return this.read?.record ?? null;
   }
 
-  refuse(error, more = '') {
-    this.refused = sentenceOf(error) + more;
+  refuse(error, where = '') {
+    this.refused = sentenceOf(error);
+    this.where = where;
   }
 
   /**
@@ -124,7 +129,11 @@ class Row {
     if (this.kept !== null) {
       this.outcome.replaceChildren(make('a', { href: depositAddress(this.kept) }, `deposit ${withCommas(this.kept)}`));
     } else {
-      this.outcome.replaceChildren(this.refused ?? text, ...(this.read?.fault?.isTooMany ? [' ', this.#cut()] : []));
+      this.outcome.replaceChildren(
+        make('span', { class: 'reason' }, this.refused ?? ''),
+        this.refused === null ? text : this.where,
+        ...(this.read?.fault?.isTooMany ? [' ', this.#cut()] : []),
+      );
     }
   }
 }
@@ -136,7 +145,7 @@ class Row {
  */
 const keepTable = (rows, member) => keepDraft(DRAFT, JSON.stringify({
   member,
-  rows: rows.map(({ name, kept, refused }) => ({ name, kept, refused })),
+  rows: rows.map(({ name, kept, refused, where }) => ({ name, kept, refused, where })),
 }));
 
 export const forgetTable = () => keepDraft(DRAFT, null);
@@ -148,7 +157,7 @@ export function keptTable() {
     return {
       member,
       rows: rows.map((line) => (
-        Object.assign(new Row({ name: line.name, size: 0 }), { kept: line.kept, refused: line.refused })
+        Object.assign(new Row({ name: line.name, size: 0 }), line)
       )),
     };
   } catch {
@@ -184,6 +193,15 @@ async function sendRow(row, member, more, page) {
     }
   }
 }
+
+/** @param {Row[]} rows @param {string} caption */
+const tableOf = (rows, caption) => make('table', { class: 'census files' },
+  make('caption', { class: 'aside' }, caption),
+  make('thead', {},
+    make('tr', {}, make('td', {}), make('th', { scope: 'col' }, 'File'), make('th', { scope: 'col' }, 'Result')),
+  ),
+  make('tbody', {}, rows.map(({ line }) => line)),
+);
 
 /** The table of some files, and the form that deposits the good ones. */
 export class Table {
@@ -222,7 +240,7 @@ export class Table {
       id: 'text-instead',
       click: ended,
     }, 'Paste a text instead');
-    this.body = make('tbody');
+    this.tables = make('div');
     this.form = make('form', { submit: (event) => this.#submit(event) },
       this.member.part,
       make('p', { class: 'check' },
@@ -240,17 +258,26 @@ export class Table {
       this.form,
       this.said,
       make('p', {}, this.instead),
-      make('table', { class: 'census files' },
-        make('caption', { class: 'aside' }, 'The files and their results'),
-        make('thead', {},
-          make('tr', {},
-            make('td', {}),
-            make('th', { scope: 'col' }, 'File'),
-            make('th', { scope: 'col' }, 'Result'),
-          ),
-        ),
-        this.body,
-      ),
+      this.tables,
+    );
+  }
+
+  /** The good files in one table, and those that are refused in one for each reason, folded. */
+  #arrange() {
+    const groups = new Map();
+    for (const row of this.rows) groups.set(row.refused, [...groups.get(row.refused) ?? [], row]);
+    const good = groups.get(null) ?? [];
+    groups.delete(null);
+    const open = new Set([...this.tables.querySelectorAll('details[open]')].map((one) => one.dataset.reason));
+    this.tables.replaceChildren(
+      ...(good.length ? [tableOf(good, 'The files and their results')] : []),
+      ...[...groups].map(([reason, rows]) => make('details', {
+        class: 'refused-files',
+        'data-reason': reason,
+        open: open.has(reason),
+      },
+      make('summary', {}, `${withCommas(rows.length)} refused: ${reason}`),
+      tableOf(rows, reason))),
     );
   }
 
@@ -271,6 +298,7 @@ export class Table {
     this.count.replaceChildren(`${plural(this.rows.length, 'file')}: ${parts.filter(Boolean).join(', ')}.`);
     this.send.replaceChildren(`Deposit ${plural(this.open.length, 'file')}`);
     this.form.hidden = this.send.disabled = this.open.length === 0;
+    this.#arrange();
     this.#sayWhose(kept);
   }
 
@@ -293,7 +321,6 @@ export class Table {
       }
       row.say();
     }
-    this.body.replaceChildren(...rows.map((row) => row.line));
     this.#say();
   }
 
@@ -301,7 +328,7 @@ export class Table {
   async take(files) {
     const rows = this.rows = files.map((file) => new Row(file, () => this.#chosen()));
     this.instead.hidden = false;
-    this.body.replaceChildren(...rows.map((row) => row.line));
+    this.#arrange();
     for (const row of rows) {
       await row.load();
       if (this.rows !== rows || this.page.signal.aborted) return;

@@ -61,9 +61,9 @@ LENGTHS = {
     "docs/HAULS.md": 180,
     API: 280,
     COMMANDS: 190,
-    DECISIONS: 370,
+    DECISIONS: 380,
     DEFINITIONS: 630,
-    FORMATS: 370,
+    FORMATS: 375,
     OPERATING: 340,
     PROOFS: 390,
 }

@@ -1,5 +1,5 @@
 //! Prints tables of the program `life` as JSON: the explanations of refusals by name, the refusals over HTTP, and the routes. They
-//! are the constants that the program itself uses. docs/make-tables reads what this prints from the file `stdout` beside.
+//! are the constants that the program itself uses. tools/make-tables reads what this prints from the file `stdout` beside.
 #![tactic(auto)]
 
 use life_desk::REFUSALS;

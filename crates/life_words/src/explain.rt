@@ -1,5 +1,5 @@
 //! The explanations of refusals, which documents and web pages repeat: a line for each kind of refusal with the name. The crate
-//! life_tables prints them for docs/make-tables.
+//! life_tables prints them for tools/make-tables.
 ghost use Rattle.std.specs.Prelude.{◌≡◌, IfOk, is_some, map, option_map};
 ghost use Rattle.life_words.specs.Explain.{rows_of, names_of, text_in, refusal_names, is_refusal, explanations, explanation_of};
 

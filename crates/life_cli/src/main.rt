@@ -8,9 +8,8 @@ mod peer;
 mod progress;
 mod reason;
 
-pub use laws::law_of_checked_files;
-
 use archives::InFiles;
+pub use laws::law_of_checked_files;
 use life_program::run_program;
 use sqlite::Unknown;
 use std::io;

@@ -66,7 +66,11 @@ pub fn run_words<J: ArchiveJobs, I: Inlet, O: Outlet>(
     match read_words(rt.alloc(), words) {
         Ok(job) => {
             let file = archive_of(&job);
-            print_done::<J>(rt, do_job::<J, I, O>(rt, archives, job, input, output), file)
+            print_done::<J>(
+                rt,
+                do_job::<J, I, O>(rt, archives, job, input, output),
+                file,
+            )
         }
         Err(fault) => print_fault_of(rt, fault, words, |words| reads_pattern(rt, words)),
     }

@@ -73,7 +73,7 @@ def test_folder_twice(room: str, program: str) -> None:
             (status, printed, refusals),
             (1, f"2\t{folder}/again.rle\n" + wanted[1], wanted[2]),
         )
-        wrong = "no-such-page: the URL is not that of an archive, such as http://localhost:8080\n"
+        wrong = "no-such-page: the URL does not lead to an archive, such as http://localhost:8080\n"
         same(
             "censuses at a wrong path",
             script("census-all", url(server) + "/archive", "ann", "0", "60"),

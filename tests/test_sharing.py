@@ -192,12 +192,12 @@ def test_sums_of_files(tmp_path: Path) -> None:
 
 @pytest.mark.parametrize("name", NOT_TABLES)
 def test_not_a_table(name: str, tmp_path: Path) -> None:
-    """A file that is not a whole table is not added, and the line is said."""
+    """A file that is not a complete table is not added, and the line is said."""
     needs("sqlite3")
     text, wrong = NOT_TABLES[name]
     whole, other = written(tmp_path, "whole.csv", WHOLE), written(tmp_path, "other.csv", AFTER)
     file = written(tmp_path, "not-a-table.csv", text)
-    wanted = f"add-hauls: {file}: not a whole table of a haul: {wrong}\n"
+    wanted = f"add-hauls: {file}: not a complete table of a haul: {wrong}\n"
     same(f"not a table: {name}", run(ADD, whole, file, other), (1, "", wanted))
 
 

@@ -137,7 +137,7 @@ fault() {
     1) echo 'too-long: the file has more than 1,048,576 bytes' ;;
     2) echo 'text-limit: a name, an author or a comment of more than 200 bytes, or more than 64 comments' ;;
     3) echo 'no-header: there is no line "x = 3, y = 3" before the body' ;;
-    4) echo 'bad-header: the header is not "x = 3, y = 3", alone or followed by ", rule = B3/S23"' ;;
+    4) echo 'bad-header: the header is not "x = 3, y = 3", with or without ", rule = B3/S23"' ;;
     5) echo 'bad-rule: the rule is not of the form B3/S23, S23/B3 or 23/3' ;;
     6) echo 'birth-zero: the rule has 0 among its births' ;;
     7) echo 'other-tag: the body has an item other than b, o, $ and !' ;;
@@ -157,7 +157,7 @@ refusal() {
     out-of-limit) echo 'out-of-limit: a generation is 0 to 2048, a limit 1 to 2048' ;;
     full) echo 'full: the archive has no room for more' ;;
     unavailable) echo 'unavailable: the archive could not do it now; run the same command again, nothing is stored twice' ;;
-    no-such-page) echo 'no-such-page: the URL is not that of an archive, such as http://localhost:8080' ;;
+    no-such-page) echo 'no-such-page: the URL does not lead to an archive, such as http://localhost:8080' ;;
     password) echo 'password: the club knows its members by passwords; write yours into ~/.netrc' ;;
     *) echo "$1" ;;
   esac

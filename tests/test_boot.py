@@ -617,6 +617,17 @@ def test_rotation(debian: Debian) -> None:
     )
 
 
+def test_withdrawn(debian: Debian, first_copy: None) -> None:
+    """A deposit is withdrawn and taken back by nginx and by the index, whose user can read the list."""
+    names = "grep -c '\"withdrawn\":\\[2\\]' /var/lib/life-index/deposits-1-*.json"
+    for words, status, listed in ((["2", "a reason"], "410", "0"), (["--undo", "2"], "200", "1")):
+        done = debian.run("life-withdraw", *words)
+        check(f"life-withdraw {words}: {done.stdout}{done.stderr}", done.returncode == 0)
+        same(f"the deposit after {words}", curl(debian, "/deposits/2")[0], status)
+        same(f"the index after {words}", str(debian.run("sh", "-c", names).returncode), listed)
+    same("the others", curl(debian, "/deposits/1"), ("200", pattern(1)))
+
+
 def test_numbers(debian: Debian) -> None:
     """HAProxy's numbers for Prometheus are at the port that is set, from the unit as it is shut in, and nowhere if none
     is."""

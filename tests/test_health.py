@@ -460,6 +460,26 @@ class Root:
         return script("life-configure", "--files-only", "--root", self.folder, *words)
 
 
+def test_withdrawn_list(folder: str) -> None:
+    """life-configure writes the list of withdrawn deposits into the site. A line without a number is named."""
+    root = Root(os.path.join(folder, "withdrawing"))
+    listed = root.path("etc/life/withdrawn")
+    write(root.path("etc/life/settings"), f"WITHDRAWN={listed}\n")
+    site = root.path("etc/nginx/sites-available/life")
+    for text, wanted in (("", ""), ("# Ours.\n7 a reason\n\n0012\n", "7 1; 12 1;"), ("12\n", "12 1;")):
+        write(listed, text)
+        same(f"life-configure with the list {text!r}", root.configured()[0], 0)
+        found = re.search(r"map \$life_numbered \$life_withdrawn { default \"\"; (.*) }", content(site))
+        same("the numbers in the site", found and found[1], wanted)
+    before = content(site)
+    write(listed, "12\nseven\n")
+    status, _, err = root.configured()
+    check(
+        f"a line without a number: {err}",
+        status == 1 and f"{listed}, line 2: not the number of a deposit" in err and content(site) == before,
+    )
+
+
 @pytest.mark.parametrize(
     "lines, said",
     [

@@ -406,11 +406,12 @@ def spoken(_gateway: Gateway, browser: Browser, base: str, _folder: str) -> None
     browser.open(f"{base}/d/1")
     check("where it is back", browser.until(lambda: browser.all("#back-at")))
     same("buttons with another name than they show", browser.run(MISNAMED), [])
-    for path in ("/d", "/find"):
+    for path in ("/d/1", "/new"):
         browser.open(base + path)
+        browser.unfold()
         same(f"{path}: buttons with another name than they show", browser.run(MISNAMED), [])
         names = browser.run(
-            "return [...document.querySelectorAll('main form button')].map((one) => one.ariaLabel ?? one.textContent)"
+            "return [...document.querySelectorAll('main button')].map((one) => one.ariaLabel ?? one.textContent)"
         )
         check(f"{path}: {names}", len(names) == len(set(names)) > 1)
 

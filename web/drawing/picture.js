@@ -8,6 +8,7 @@ import { Maker } from '../player/maker.js';
 import { isSame } from '../patterns/pattern.js';
 import { apngOf, pngOf } from './png.js';
 import { Refused } from '../requests/refusals.js';
+import { save } from '../shared/save.js';
 
 /** The longest side of a picture in pixels, unless it has more cells. */
 const LONGEST_SIDE = 2048;
@@ -120,12 +121,6 @@ async function framesOf(number, record, from, count, came, signal) {
   }
 }
 
-export function save(content, name, type) {
-  const url = URL.createObjectURL(new Blob([content], { type }));
-  make('a', { href: url, download: name }).click();
-  setTimeout(() => URL.revokeObjectURL(url), 10_000);
-}
-
 /** The question whether to save a large SVG. @param {number} size in bytes @param {() => void} act */
 const sizeQuestion = (size, act) => [
   make('p', {}, `This SVG has ${Math.round(size / 1e6)} MB. A PNG is usually much smaller.`),
@@ -133,11 +128,10 @@ const sizeQuestion = (size, act) => [
 ];
 
 /**
- * The buttons that save the generation that is seen, as a text or a picture, or some from there on.
+ * The buttons that save pictures of the generation that is seen, or of some from there on.
  * @param {import('../pages/shown.js').Shown} shown
- * @param {HTMLElement} load what saves the text
  */
-export function saveParts(shown, load, page) {
+export function saveParts(shown, page) {
   const { number, first } = shown;
   const count = make('input', {
     id: 'frames',
@@ -204,7 +198,7 @@ export function saveParts(shown, load, page) {
   animation.ariaLabel = 'SVG animation';
   moving.ariaLabel = 'PNG animation';
   return [
-    make('p', { class: 'row' }, 'This generation:', load, png, svg),
+    make('p', { class: 'row' }, 'A picture:', png, svg),
     make('p', { class: 'row' }, 'An animation of', count, 'generations from here on:', moving, animation),
     said,
   ];

@@ -7,9 +7,9 @@ import { thumbnail } from '../drawing/draw.js';
 import { indexHead, indexNote, objectsOfRule, rulesWithObjects } from '../requests/index.js';
 import { KINDS } from './object.js';
 import { groupsOf, leastCells } from '../patterns/parts.js';
-import { save } from '../drawing/picture.js';
 import { Refused } from '../requests/refusals.js';
 import { readRule, ruleAddress, ruleOfAddress, ruleText } from '../patterns/rule.js';
+import { save } from '../shared/save.js';
 import { Heads, sorted } from '../shared/sorts.js';
 
 const LIFE = 'B3/S23';

@@ -5,9 +5,9 @@ import { objectAddress } from '../shared/address.js';
 import { copyButton, make, plural, withCommas } from '../shared/dom.js';
 import { thumbnail } from '../drawing/draw.js';
 import { Maker } from '../player/maker.js';
-import { save } from '../drawing/picture.js';
 import { speedText } from '../patterns/pattern.js';
 import { readRule, ruleText } from '../patterns/rule.js';
+import { save } from '../shared/save.js';
 import { fileOf, withOrigin } from '../patterns/writer.js';
 
 const SIDE = 120;

@@ -14,3 +14,4 @@ export { NO_FILES, filesOf } from '../patterns/names.js';
 export { comparePage } from './compare.js';
 export { depositForm } from './new.js';
 export { newAddress } from './old.js';
+export { saveParts } from '../drawing/picture.js';

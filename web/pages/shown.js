@@ -1,12 +1,13 @@
 // The generation of a deposit that is shown: its address, its text, and depositing it.
 
 import { depositAddress, go } from '../shared/address.js';
-import { copyButton, make, withCommas } from '../shared/dom.js';
+import { copyButton, make, refusal, withCommas } from '../shared/dom.js';
+import { load } from '../shared/groups.js';
 import { COPIED, keepDraft } from '../shared/kept.js';
 import { LONGEST_SIDE } from '../shared/limits.js';
-import { save, saveParts } from '../drawing/picture.js';
 import { passFiles } from '../shared/passed.js';
 import { ruleText } from '../patterns/rule.js';
+import { save } from '../shared/save.js';
 import { fileOf, withOrigin } from '../patterns/writer.js';
 
 /**
@@ -122,6 +123,25 @@ export class Shown {
     return make('button', { type: 'button', id: 'deposit-generation', click }, 'Deposit this generation');
   }
 
+  /** What saves the generation that is seen. The part for pictures is loaded once this is opened. */
+  #downloads() {
+    const pictures = make('div');
+    const open = async () => {
+      if (pictures.childElementCount > 0) return;
+      try {
+        const { saveParts } = await load('others');
+        pictures.replaceChildren(...saveParts(this, this.page));
+      } catch (error) {
+        pictures.replaceChildren(refusal(error));
+      }
+    };
+    return make('details', { class: 'panel', id: 'download', toggle: open },
+      make('summary', {}, 'Download'),
+      make('p', { class: 'row' }, 'The text:', this.load),
+      pictures,
+    );
+  }
+
   /** Asks for another deposit to compare with. */
   #compareForm() {
     const other = make('input', { id: 'compare-with', type: 'number', min: 1, required: true, inputmode: 'numeric' });
@@ -157,10 +177,7 @@ export class Shown {
         make('button', { type: 'button', click: () => print() }, 'Print'),
         this.#compareForm(),
       ),
-      make('details', { class: 'panel', id: 'download' },
-        make('summary', {}, 'Download'),
-        saveParts(this, this.load, this.page),
-      ),
+      this.#downloads(),
       this.details,
     );
   }

@@ -14,7 +14,7 @@ def withdrawn(_gateway: Gateway, browser: Browser, _base: str, folder: str) -> N
     path = os.path.join(folder, "withdrawn")
     with open(path, "w", encoding="utf-8") as file:
         file.write("2 a telephone number\n")
-    gateway = Gateway(os.path.join(folder, "withdrawn.db"), FIRST_PORT, f"WITHDRAWN={path}")
+    gateway = Gateway(os.path.join(folder, "withdrawn.db"), FIRST_PORT, f"WITHDRAWN={path}", seconds=900)
     base = f"http://127.0.0.1:{gateway.port}"
     try:
         for turn in (1, 2, 3):

@@ -36,7 +36,11 @@ class Site:
     def __init__(self, folder: str, first_port: int) -> None:
         scripts = os.path.join(folder, "scripts")
         self.gateway = Gateway(
-            os.path.join(folder, "withdrawn.db"), first_port, f"LIFE_USER={getpass.getuser()}", f"SCRIPTS={scripts}"
+            os.path.join(folder, "withdrawn.db"),
+            first_port,
+            f"LIFE_USER={getpass.getuser()}",
+            f"SCRIPTS={scripts}",
+            seconds=900,
         )
         self.folder, self.port = self.gateway.folder, self.gateway.port
         self.names = {"folder": self.folder, "deploy": DEPLOY, "port": self.port}

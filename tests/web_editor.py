@@ -196,6 +196,10 @@ def keys(_gateway: Gateway, browser: Browser, base: str, _folder: str) -> None:
     draws(browser, "all turned by a key", {(1 - y, x) for x, y in ((0, 1), (1, 0), (1, 1))})
     drawing.send_keys(DELETE)
     same("all deleted by a key", browser.run(TEXT), "")
+    check("the keys are listed", "draw or erase its cell" in browser.text("#keys"))
+    browser.go("/find")
+    browser.at("/find")
+    check("only while there is a drawing", "draw or erase" not in browser.text("#keys"))
 
 
 def fingers(_gateway: Gateway, browser: Browser, base: str, _folder: str) -> None:

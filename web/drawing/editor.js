@@ -27,10 +27,28 @@ const ACTIONS = {
   paste: ['Paste', 'M5 3H3v11h10V3h-2M5 2h6v3H5zM6 9h4M8 7v4'],
   clear: ['Delete the selected cells, or all', 'M2 4h12M6 4V2h4v2M4 4l1 10h6l1-10'],
 };
+/** What the dialog of keys has for as long as there is a drawing. */
+const KEYS = [
+  ['arrows, space', 'move the cursor, draw or erase its cell'],
+  ['shift and arrows', 'select a box; ctrl a: all'],
+  ['ctrl and arrows', 'move what is selected'],
+  ['r, h, v', 'turn it, reflect it across or up and down'],
+  ['delete, esc', 'delete what is selected, select nothing'],
+  ['ctrl c, x, v', 'copy, cut, paste'],
+  ['ctrl z, y', 'undo, redo'],
+];
 const encoded = (text) => new TextEncoder().encode(text);
 
 /** The pattern in a text of any form that the pages read; null if there is none. @param {string} text */
 const patternIn = (text) => readGiven(encoded(text), { asOld: true, isCut: true }).record?.pattern ?? null;
+
+/** Adds these keys to the dialog. @param {AbortSignal} signal */
+function showKeys(signal) {
+  const lines = KEYS.map(([keys, what]) => make('div', {}, make('dt', {}, keys), make('dd', {}, what)));
+  const part = make('div', {}, make('h2', {}, 'While the drawing has the focus'), make('dl', {}, lines));
+  document.querySelector('#keys dl').after(part);
+  signal.addEventListener('abort', () => part.remove());
+}
 
 export class Editor {
   canvas = make('canvas', { class: 'large', role: 'application', tabindex: 0, id: 'drawing' });
@@ -70,6 +88,7 @@ export class Editor {
       make('div', { class: 'seen' }, this.canvas),
     );
     this.#listen();
+    showKeys(page.signal);
     this.choose('pencil');
     this.#render();
   }

@@ -352,10 +352,11 @@ def test_stopped_watch(folder: str) -> None:
 def test_certificate_checked(folder: str) -> None:
     """Every ten minutes the certificate is checked, if there is TLS, and the folders to which nginx writes, by root."""
     folders = "+/usr/lib/life/life-age --writer www-data /var/cache/life/cache /var/lib/nginx/body /var/lib/nginx/proxy"
-    for tls, wanted in (("no", []), ("yes", ["+/usr/lib/life/life-age --certificate /srv/cert.pem"])):
+    certificate = "+/usr/lib/life/life-age --certificate /srv/cert.pem"
+    for tls, wanted in (("no", [folders]), ("yes", [certificate, folders])):
         room = configured(folder, TLS=tls, TLS_CERTIFICATE="/srv/cert.pem")
         starts = values(os.path.join(room, "life-age.service"), "ExecStart")
-        same(f"checks with TLS={tls}", starts[1:], [*wanted, folders])
+        same(f"checks with TLS={tls}", starts[1:], wanted)
         check("the port is looked at", " --port 8081 " in starts[0])
 
 

@@ -12,6 +12,7 @@ from collections.abc import Callable
 
 import pytest
 
+import archives
 from clients import GLIDER_TEXT, Server, check, deposit, exchanged, run, same
 from clubs import (
     FIVE,
@@ -139,13 +140,15 @@ def test_asked_for(folder: str) -> None:
 
 
 def test_edited(folder: str) -> None:
-    """A copy in which the text of one deposit was taken out, by way of a dump, is another archive. Asked for, it is put
-    back, and copies are made of it."""
+    """A copy in which the text of one deposit was taken out is another archive. Asked for, it is put back, and copies
+    are made of it."""
     club = ClubOfFive(folder, "edited")
     club.copy()
     edited = os.path.join(folder, "edited.db")
-    with contextlib.closing(sqlite3.connect(club.newest())) as copy, contextlib.closing(sqlite3.connect(edited)) as new:
-        new.executescript("\n".join(copy.iterdump()))
+    with contextlib.closing(sqlite3.connect(club.newest())) as copy:
+        rows = copy.execute("SELECT * FROM deposits").fetchall()
+    with contextlib.closing(archives.new_archive(edited)) as new:
+        new.executemany("INSERT INTO deposits VALUES (?, ?, ?, ?, ?, ?)", rows)
         new.execute("UPDATE deposits SET rle = ? WHERE id = 3", (GLIDER_TEXT,))
         new.commit()
     check(

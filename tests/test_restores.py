@@ -152,7 +152,7 @@ def test_busy_file(folder: str) -> None:
         with subprocess.Popen([*words, "forever"], stdout=subprocess.PIPE, text=True) as copier:
             assert copier.stdout is not None
             same("a copy that takes long", copier.stdout.readline(), said)
-            same("the program is stopped", state_of(writer.pid), "T")
+            check("the program is stopped", until(lambda: state_of(writer.pid) == "T", 5))
             copier.kill()
         check("it continues after a kill of the copy", until(lambda: state_of(writer.pid) != "T", 20))
         writer.kill()

@@ -16,6 +16,7 @@ import argparse
 import os
 import subprocess
 import sys
+import time
 from collections.abc import Callable
 
 from life_operate import cache
@@ -34,7 +35,7 @@ NEEDED = (
     *("WEB_FOLDER", "WITHDRAWN"),
 )
 INDEX = "life-index.service"
-# How many seconds to wait for another life-withdraw, and for the program, which may be at a long request.
+# How many seconds to wait for another life-withdraw; and for the program, which may be at a long request, or for nginx.
 WITHIN, ANSWERS_WITHIN = 600, 5
 
 
@@ -62,7 +63,12 @@ def look_for(number: int, port: int) -> None:
 def gateway(settings: dict[str, str], number: int, is_withdrawn: bool) -> str:
     """Has nginx load the list."""
     loaded = run(os.path.join(settings["SCRIPTS"], "life-configure"))
-    status, _ = answer_of_nginx(settings, f"/deposits/{number}")
+    # For a moment after a reload nginx's old processes may still answer.
+    end = time.monotonic() + (ANSWERS_WITHIN if loaded else 0)
+    while (status := answer_of_nginx(settings, f"/deposits/{number}")[0]) != 0 and (status == 410) != is_withdrawn:
+        if time.monotonic() > end:
+            break
+        time.sleep(0.1)
     if (status == 410) != is_withdrawn and status != 0:
         raise Refused(f"it still answers {status} at /deposits/{number}: run life-configure, which says why")
     if not loaded:

@@ -14,7 +14,7 @@ import tempfile
 import pytest
 
 from clients import GLIDER, HERE, Server, check, deposit, exchanged, message, same
-from clubs import HASH, content, file_of, fill
+from clubs import HASH, content, file_of, fill, write
 
 pytestmark = pytest.mark.full
 
@@ -266,6 +266,16 @@ def configured(folder: str, **settings: str) -> str:
     )
     same("the units are configured", done.returncode, 0)
     return room
+
+
+def test_files_of_dpkg(folder: str) -> None:
+    """Files that a killed dpkg has left among the templates are not templates."""
+    shutil.copytree(os.path.join(TOP, "deploy"), copy := os.path.join(folder, "killed"))
+    for name in ("life.service.dpkg-new", "gateway/life-site.conf.dpkg-tmp"):
+        write(os.path.join(copy, "templates", name), "half a templ")
+    room = os.path.join(folder, "of-killed")
+    same("it is configured", subprocess.run([os.path.join(copy, "configure"), room], timeout=60).returncode, 0)
+    same("files of dpkg", [name for name in os.listdir(room) if "dpkg" in name], [])
 
 
 def values(unit: str, key: str) -> list[str]:

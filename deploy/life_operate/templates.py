@@ -50,11 +50,12 @@ def filled(name: str, text: str, settings: dict[str, str]) -> str:
 
 
 def filled_templates(folder: str, settings: dict[str, str]) -> dict[str, str]:
-    """The name of each template in a folder, and its text with the settings. A missing folder has no templates."""
+    """The name of each template in a folder, and its text with the settings. A missing folder has no templates. If dpkg
+    was killed while it unpacked a package, it has left files of its own there."""
     files = {}
     for name in sorted(os.listdir(folder)) if os.path.isdir(folder) else []:
         path = os.path.join(folder, name)
-        if os.path.isfile(path):
+        if os.path.isfile(path) and not name.endswith((".dpkg-new", ".dpkg-tmp")):
             with open(path, encoding="utf-8") as file:
                 text = filled(name, file.read(), with_derived(settings) | {"DIGEST": "@DIGEST@"})
             files[name] = text.replace("@DIGEST@", hashlib.sha256(text.encode()).hexdigest())

@@ -198,7 +198,7 @@ def breaks_the_file(debian: Debian) -> None:
             "a damaged archive",
             DAMAGES,
             f"rm -f {ARCHIVE}*; mv /srv/aside/* /var/lib/life",
-            "reason: refused: unavailable",
+            f"reason: {ARCHIVE}: damaged, cut short, or changed by another program",
         ),
         (
             "a missing archive",

@@ -619,7 +619,8 @@ def test_rotation(debian: Debian) -> None:
 
 def test_withdrawn(debian: Debian, first_copy: None) -> None:
     """A deposit is withdrawn and taken back by nginx and by the index, whose user can read the list."""
-    names = "grep -c '\"withdrawn\":\\[2\\]' /var/lib/life-index/deposits-1-*.json"
+    listed_block = "$(grep -o 'deposits-1-[0-9a-f]*[.]json' /var/lib/life-index/index.json)"
+    names = f"grep -c '\"withdrawn\":\\[2\\]' /var/lib/life-index/{listed_block}"
     for words, status, listed in ((["2", "a reason"], "410", "0"), (["--undo", "2"], "200", "1")):
         done = debian.run("life-withdraw", *words)
         check(f"life-withdraw {words}: {done.stdout}{done.stderr}", done.returncode == 0)

@@ -456,7 +456,7 @@ def objects(_gateway: Gateway, browser: Browser, base: str, folder: str) -> None
         browser.one("#play-object").click()
         check(
             f"{code} is played",
-            browser.until(lambda: "phase" in browser.one(".page > .picture canvas").get_attribute("aria-label"))
+            browser.until(lambda: "phase" in browser.one(".page .picture canvas").get_attribute("aria-label"))
             and browser.text("#play-object") == "Pause",
         )
     browser.picture("object-phases")

@@ -12,7 +12,7 @@ from gateways import Gateway
 from pages import asked, kept
 
 GENERATION = "return Number(document.getElementById('generation').value)"
-SOURCE = "return document.querySelector('.source').textContent"
+SOURCE = "return document.querySelector('.source p').textContent"
 OWN, ENTER = "The archive’s own answer.", "\ue007"
 # The generations that the page has asked the archive for.
 ASKED = (

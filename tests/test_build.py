@@ -345,7 +345,8 @@ def archive_jobs() -> list[str]:
     """The subcommands that need the archive: the smaller program refuses each of them."""
     with open(os.path.join(TOP, "crates", "life_program", "src", "job.rt"), encoding="utf-8") as file:
         trait = file.read().split("pub trait ArchiveJobs")[1].split("\n}\n")[0]
-    return re.findall(r"^    fn (\w+)", trait, re.M)
+    # A job consumes the archives; a function without them only prints.
+    return re.findall(r"^    fn (\w+)(?:<[^(]*>)?\(\s*self,", trait, re.M)
 
 
 @pytest.mark.parametrize("name", archive_jobs())

@@ -199,7 +199,8 @@ def refused_deposits_share(folder: str, share: int, shares: int) -> tuple[int, i
             timeout=60,
             env=refusing.environment(allocation),
         )
-        answer = (done.returncode, done.stdout, done.stderr)
+        # A second line may say why the file can't be used.
+        answer = (done.returncode, done.stdout, b"".join(done.stderr.splitlines(True)[:1]))
         logs += answer == REFUSED and has_commit(database)
         refused, left = refusing.has_refused(), tables(database)
         refusals += answer == REFUSED

@@ -20,9 +20,9 @@ fn two_rows(rows: &[u64], words: usize, k: usize) -> u64x4
     joined(lanes_at(rows, k), lanes_at(rows, k + words))
 }
 
-/// The same, moved up by one place.
+/// Their left neighbours.
 #[inline(always)]
-fn two_rows_up(rows: &[u64], words: usize, k: usize) -> u64x4
+fn two_rows_from_left(rows: &[u64], words: usize, k: usize) -> u64x4
     requires first { 1 ≤ k }
     requires last { k + words + 2 ≤ length rows.now }
     ensures upper { (p : ℕ) → p < 128 → place result p ≡ place rows.now (64 * k + p - 1) }
@@ -31,9 +31,9 @@ fn two_rows_up(rows: &[u64], words: usize, k: usize) -> u64x4
     (two_rows(rows, words, k) << 1) | (two_rows(rows, words, k - 1) >> 63)
 }
 
-/// The same, moved down by one place.
+/// Their right neighbours.
 #[inline(always)]
-fn two_rows_down(rows: &[u64], words: usize, k: usize) -> u64x4
+fn two_rows_from_right(rows: &[u64], words: usize, k: usize) -> u64x4
     requires { k + words + 3 ≤ length rows.now }
     ensures upper { (p : ℕ) → p < 128 → place result p ≡ place rows.now (64 * k + p + 1) }
     ensures lower { (p : ℕ) → p < 128 → place result (128 + p) ≡ place rows.now (64 * (k + words) + p + 1) }
@@ -49,9 +49,9 @@ fn two_sums(rows: &[u64], words: usize, k: usize) -> WideSums
     ensures { AreTwoRows rows.now words k result }
 {
     sums_of(
-        two_rows_up(rows, words, k),
+        two_rows_from_left(rows, words, k),
         two_rows(rows, words, k),
-        two_rows_down(rows, words, k),
+        two_rows_from_right(rows, words, k),
     )
 }
 

@@ -33,9 +33,9 @@ pub(crate) fn lanes_at<const N: usize>(words: &[u64], k: usize) -> Simd<u64, N>
     Simd::from_slice(&words[k..])
 }
 
-/// The words from `k` on, moved up by one place.
+/// The left neighbours of the places of the words from `k` on.
 #[inline(always)]
-pub(crate) fn moved_up<const N: usize>(words: &[u64], k: usize) -> Simd<u64, N>
+pub(crate) fn lanes_from_left<const N: usize>(words: &[u64], k: usize) -> Simd<u64, N>
     requires first { 1 ≤ k }
     requires last { k + N ≤ length words.now }
     ensures { (p : ℕ) → p < 64 * N → place result p ≡ place words.now (64 * k + p - 1) }
@@ -43,9 +43,9 @@ pub(crate) fn moved_up<const N: usize>(words: &[u64], k: usize) -> Simd<u64, N>
     (lanes_at(words, k) << 1) | (lanes_at(words, k - 1) >> 63)
 }
 
-/// The words from `k` on, moved down by one place.
+/// The right neighbours of the places of the words from `k` on.
 #[inline(always)]
-pub(crate) fn moved_down<const N: usize>(words: &[u64], k: usize) -> Simd<u64, N>
+pub(crate) fn lanes_from_right<const N: usize>(words: &[u64], k: usize) -> Simd<u64, N>
     requires { k + N + 1 ≤ length words.now }
     ensures { (p : ℕ) → p < 64 * N → place result p ≡ place words.now (64 * k + p + 1) }
 {

@@ -42,9 +42,9 @@ fn group_sums(words: &[u64], k: usize) -> WideSums
     ensures { AreGroupSums words.now k result }
 {
     sums_of(
-        left_lanes(words, k),
+        group_from_left(words, k),
         lanes_at(words, k),
-        right_lanes(words, k),
+        group_from_right(words, k),
     )
 }
 
@@ -113,9 +113,9 @@ fn lane(word: u64) -> Simd<u64, 1>
     Simd::splat(word)
 }
 
-/// The four words from `k` on, moved up by one place, with a dead place before the row.
+/// The left neighbours of the places of the four words from `k` on. The place before the row is dead.
 #[inline(always)]
-fn left_lanes(words: &[u64], k: usize) -> u64x4
+fn group_from_left(words: &[u64], k: usize) -> u64x4
     requires { k + 4 ≤ length words.now }
     ensures { (p : ℕ) → p < 256 → place result p ≡ place_before words.now (64 * k + p) }
 {
@@ -123,9 +123,9 @@ fn left_lanes(words: &[u64], k: usize) -> u64x4
     (here << 1) | (words_before(words, k) >> 63)
 }
 
-/// The four words from `k` on, moved down by one place, with a dead place after the row.
+/// The right neighbours of the places of the four words from `k` on. The place after the row is dead.
 #[inline(always)]
-fn right_lanes(words: &[u64], k: usize) -> u64x4
+fn group_from_right(words: &[u64], k: usize) -> u64x4
     requires { k + 4 ≤ length words.now }
     ensures { (p : ℕ) → p < 256 → place result p ≡ place words.now (64 * k + p + 1) }
 {

@@ -9,8 +9,8 @@ returns c =
     let k = c.args.k in
     let h = c.two_rows.result in
     let s = c.sums_of.ensures in
-    let l = c.two_rows_up.ensures in
-    let r = c.two_rows_down.ensures in
+    let l = c.two_rows_from_left.ensures in
+    let r = c.two_rows_from_right.ensures in
     record {
       upper =
           let here = λ (p : ℕ) (lt : p < 128).

@@ -5,8 +5,8 @@ use Rattle.life_core.proofs.packed.row_lanes.group_sums.Goals as goal
 pub returns : goal.returns
 returns c =
     let k = c.args.k in
-    let l = c.left_lanes.ensures in
-    let r = c.right_lanes.ensures in
+    let l = c.group_from_left.ensures in
+    let r = c.group_from_right.ensures in
     let h = lane_places c.lanes_at.result c.args.words.now k 4 c.lanes_at.ensures in
     let s = c.sums_of.ensures in
     record {

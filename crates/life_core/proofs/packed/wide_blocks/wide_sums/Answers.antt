@@ -4,8 +4,8 @@ use Rattle.life_core.proofs.packed.wide_blocks.wide_sums.Goals as goal
 
 pub returns : goal.returns
 returns c =
-    let l = c.moved_up.ensures in
-    let r = c.moved_down.ensures in
+    let l = c.lanes_from_left.ensures in
+    let r = c.lanes_from_right.ensures in
     let h = lane_places c.lanes_at.result c.args.rows.now c.args.k 4 c.lanes_at.ensures in
     let s = c.sums_of.ensures in
     record {

@@ -1,7 +1,7 @@
 use Rattle.std.proofs.Common.{lit<, arith}
 use Rattle.std.proofs.lemmas.Simd.{shifts_fit_splat}
 use Rattle.life_core.proofs.LanePlaces.{places_down}
-use Rattle.life_core.proofs.packed.lanes.moved_down.Goals as goal
+use Rattle.life_core.proofs.packed.lanes.lanes_from_right.Goals as goal
 
 pub overflow_shr-result : goal.overflow_shr-result
 overflow_shr-result g c = shifts_fit_splat 64 c.lanes_at.result g.row.N 1 (lit< tt)

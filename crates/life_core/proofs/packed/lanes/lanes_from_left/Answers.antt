@@ -1,7 +1,7 @@
 use Rattle.std.proofs.Common.{lit<, arith}
 use Rattle.std.proofs.lemmas.Simd.{shifts_fit_splat}
 use Rattle.life_core.proofs.LanePlaces.{places_up}
-use Rattle.life_core.proofs.packed.lanes.moved_up.Goals as goal
+use Rattle.life_core.proofs.packed.lanes.lanes_from_left.Goals as goal
 
 pub overflow_shl-result : goal.overflow_shl-result
 overflow_shl-result g c = shifts_fit_splat 64 c.lanes_at.result g.row.N 1 (lit< tt)

@@ -1,6 +1,6 @@
 use Rattle.std.proofs.Common.{arith}
 use Rattle.life_core.proofs.RowLanes.{places_before}
-use Rattle.life_core.proofs.packed.row_lanes.left_lanes.Goals as goal
+use Rattle.life_core.proofs.packed.row_lanes.group_from_left.Goals as goal
 
 pub returns : goal.returns
 returns c p lt =

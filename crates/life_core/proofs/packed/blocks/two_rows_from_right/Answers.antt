@@ -2,7 +2,7 @@ use Rattle.std.proofs.Common.{◌≡◌, ◌+◌, ◌*◌, ◌/◌, ◌%◌, ◌
 use Rattle.std.proofs.lemmas.Simd.{shifts_fit_splat}
 use Rattle.life_core.specs.PackedRow.{place}
 use Rattle.life_core.proofs.LanePlaces.{place_down}
-use Rattle.life_core.proofs.packed.blocks.two_rows_down.Goals as goal
+use Rattle.life_core.proofs.packed.blocks.two_rows_from_right.Goals as goal
 
 pub overflow_shr-result : goal.overflow_shr-result
 overflow_shr-result c = shifts_fit_splat 64 c.two_rows.result 4 1 (lit< tt)

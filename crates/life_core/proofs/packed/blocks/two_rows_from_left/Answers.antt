@@ -2,7 +2,7 @@ use Rattle.std.proofs.Common.{◌≡◌, ◌+◌, ◌-◌, ◌*◌, ◌/◌, ◌
 use Rattle.std.proofs.lemmas.Simd.{shifts_fit_splat}
 use Rattle.life_core.specs.PackedRow.{place}
 use Rattle.life_core.proofs.LanePlaces.{place_up}
-use Rattle.life_core.proofs.packed.blocks.two_rows_up.Goals as goal
+use Rattle.life_core.proofs.packed.blocks.two_rows_from_left.Goals as goal
 
 pub overflow_shl-result : goal.overflow_shl-result
 overflow_shl-result c = shifts_fit_splat 64 c.two_rows.result 4 1 (lit< tt)

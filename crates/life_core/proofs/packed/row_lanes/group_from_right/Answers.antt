@@ -1,6 +1,6 @@
 use Rattle.std.proofs.Common.{arith}
 use Rattle.life_core.proofs.LanePlaces.{places_down}
-use Rattle.life_core.proofs.packed.row_lanes.right_lanes.Goals as goal
+use Rattle.life_core.proofs.packed.row_lanes.group_from_right.Goals as goal
 
 pub returns : goal.returns
 returns c p lt =

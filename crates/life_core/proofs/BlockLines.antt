@@ -7,7 +7,7 @@ use Rattle.life_core.specs.PackedRow.{place}
 use Rattle.life_core.specs.PackedBlocksState.{IsOutside}
 use Rattle.life_core.proofs.LanePlaces.{place-lt}
 use Rattle.life_core.proofs.BlockChanges.{changed_or_same}
-use Rattle.life_core.specs.PackedMarksState.{KeepsMarks, IsWoken, IsStepped, IsAdvanced, block_at, mark_at}
+use Rattle.life_core.specs.PackedMarksState.{KeepsMarks, AreNeighboursMarked, IsStepped, IsAdvanced, block_at, mark_at}
 use Rattle.life_core.specs.PackedMarksState.{place_at}
 
 -- the places of a block are none of another of its line
@@ -105,7 +105,7 @@ line_is columns z c y cl from to = elim (cases_lt z y) [
 ]
 
 pub woken_more : (columns b i p : ℕ) (marks more : List ℕ) → KeepsMarks marks more
-    → IsWoken columns b i p marks → IsWoken columns b i p more
+    → AreNeighboursMarked columns b i p marks → AreNeighboursMarked columns b i p more
 woken_more columns b i p marks more km w = record {
   own = km.set b w.own;
   left = λ e. km.set (b - 1) (w.left e);
@@ -128,22 +128,22 @@ pub stepped_block : (N : ℕ → ℕ) (columns line c : ℕ) (old new all top bo
     → ((p : ℕ) → p < 128 → place bottom p ≡ 0 → place new (64 * (block_at columns line c + 15 * (2 * columns)) + p)
     ≡ place old (64 * (block_at columns line c + 15 * (2 * columns)) + p))
     → ((i p : ℕ) → p < 128 → place all p ≡ 1 → (i ≡ 0 → place top p ≡ 1) → (i ≡ 15 → place bottom p ≡ 1)
-    → IsWoken columns (mark_at columns line c) i p nm)
+    → AreNeighboursMarked columns (mark_at columns line c) i p nm)
     → IsStepped N columns line c old new nm
-stepped_block N columns line c old new all top bottom nm next same first last woken = record {
+stepped_block N columns line c old new all top bottom nm next same first last marked = record {
   next = next;
-  woken = λ i p lt narrow.
+  marked = λ i p lt narrow.
       let at : ℕ = block_at columns line c in
       let words : ℕ = 2 * columns in
       changed_or_same {Same = place new (place_at columns line c i p) ≡ place old (place_at columns line c i p)}
-      {Woken = IsWoken columns (mark_at columns line c) i p nm}
+      {Woken = AreNeighboursMarked columns (mark_at columns line c) i p nm}
       (place all p) (place top p) (place bottom p) i (place-lt all p) (place-lt top p) (place-lt bottom p)
       (λ blank. same i p lt narrow blank)
       (λ zero blank. let e : 64 * at + p ≡ 64 * (at + i * words) + p = omega (arith, ap (λ (m : ℕ). m * words) zero) in
       ap (place new) (sym e) ∙ first p narrow blank ∙ ap (place old) e)
       (λ end blank. subst (λ (m : ℕ). place new (64 * (at + m * words) + p) ≡ place old (64 * (at + m * words) + p))
       (sym end) (last p narrow blank))
-      (λ some f l. woken i p narrow some f l);
+      (λ some f l. marked i p narrow some f l);
 }
 
 -- a block that was stepped or is idle stays so, where its places stay and more is marked
@@ -153,7 +153,7 @@ pub advanced_kept : (N : ℕ → ℕ) (columns line c : ℕ) (marks old mid new 
     → IsAdvanced N columns line c marks old mid nm → IsAdvanced N columns line c marks old new more
 advanced_kept N columns line c marks old mid new nm more stays km (inl s) = inl (record {
   next = λ i p lt narrow. stays i p lt narrow ∙ s.next i p lt narrow;
-  woken = λ i p lt narrow. elim (s.woken i p lt narrow) [
+  marked = λ i p lt narrow. elim (s.marked i p lt narrow) [
     | inl same ↦ inl (stays i p lt narrow ∙ same)
     | inr w ↦ inr (woken_more columns (mark_at columns line c) i p nm more km w)
   ];
@@ -169,7 +169,7 @@ pub stepped_from : (N : ℕ → ℕ) (columns line c : ℕ) (old mid new nm : Li
     → IsStepped N columns line c mid new nm → IsStepped N columns line c old new nm
 stepped_from N columns line c old mid new nm was s = record {
   next = s.next;
-  woken = λ i p lt narrow. elim (s.woken i p lt narrow) [
+  marked = λ i p lt narrow. elim (s.marked i p lt narrow) [
     | inl same ↦ inl (same ∙ was i p lt narrow)
     | inr w ↦ inr w
   ];

@@ -8,7 +8,7 @@ use Rattle.life_core.specs.Generations.{next}
 use Rattle.life_core.specs.PackedRow.{one_if, place}
 use Rattle.life_core.specs.PackedFrameState.{cell_in, framed}
 use Rattle.life_core.specs.PackedBlocksState.{flat_next}
-use Rattle.life_core.specs.PackedMarksState.{IsMarked, IsWoken, IsAdvanced, mark_at, place_at}
+use Rattle.life_core.specs.PackedMarksState.{IsMarked, AreNeighboursMarked, IsAdvanced, mark_at, place_at}
 use Rattle.life_core.proofs.FlatSteps.{HasDeadEdges, flat_is}
 
 -- the block of a place in a row
@@ -67,7 +67,7 @@ abbrev pub IsColumnBeside : ℕ → ℕ → ℕ → Type 0
 IsColumnBeside c x p = (x ≡ c) ⊎ (((x ≡ c + 1) × (p ≡ 0)) ⊎ ((x + 1 ≡ c) × (p ≡ 127)))
 
 -- what a change reaches is marked
-pub reached : (columns z c y x i p : ℕ) (nm : List ℕ) → IsWoken columns (mark_at columns y x) i p nm
+pub reached : (columns z c y x i p : ℕ) (nm : List ℕ) → AreNeighboursMarked columns (mark_at columns y x) i p nm
     → IsLineBeside z y i → IsColumnBeside c x p → IsMarked nm (mark_at columns z c)
 reached columns z c y x i p nm w (inl line) (inl column) =
     subst (IsMarked nm) (λ t. mark_at columns (line t) (column t)) w.own
@@ -117,7 +117,7 @@ pub unchanged_beside : (N : ℕ → ℕ) (columns z c y x i p : ℕ) (marks nm o
     → place new (place_at columns y x i p) ≡ place old (place_at columns y x i p)
 unchanged_beside N columns z c y x i p marks nm old new step row narrow line column idle = elim step [
   | inr k ↦ k.kept i p row narrow
-  | inl s ↦ elim (s.woken i p row narrow) [
+  | inl s ↦ elim (s.marked i p row narrow) [
     | inl same ↦ same
     | inr w ↦ absurd (omega (arith, idle, reached columns z c y x i p nm w line column))
   ]

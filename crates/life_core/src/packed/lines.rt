@@ -7,7 +7,7 @@ ghost use Rattle.life_core.specs.PackedMarksState.{KeepsMarks, IsMarked, IsStepp
 use crate::packed::blocks::block_step;
 use crate::packed::lane_rule::LaneRule;
 use crate::packed::lanes::{left_half, right_half};
-use crate::packed::marks::{is_marked, next_mark, wake_round};
+use crate::packed::marks::{is_marked, next_mark, mark_neighbours};
 use crate::packed::wide_blocks::wide_step;
 
 /// Steps the block in a line and a column.
@@ -38,7 +38,7 @@ fn single_step<R: LaneRule<4>>(
         16 * line * (2 * columns) + 2 * column,
         out,
     );
-    wake_round(
+    mark_neighbours(
         changes.all,
         changes.top,
         changes.bottom,
@@ -78,7 +78,7 @@ fn pair_step<R: LaneRule<4>>(
         16 * line * (2 * columns) + 2 * column,
         out,
     );
-    wake_round(
+    mark_neighbours(
         left_half(changes.all),
         left_half(changes.top),
         left_half(changes.bottom),
@@ -86,7 +86,7 @@ fn pair_step<R: LaneRule<4>>(
         b,
         next_marks,
     );
-    wake_round(
+    mark_neighbours(
         right_half(changes.all),
         right_half(changes.top),
         right_half(changes.bottom),

@@ -1,7 +1,7 @@
 //! Marks of the blocks that a change reaches, a bit each.
 ghost use Rattle.std.specs.Prelude.{◌≡◌, ℕ, ◌+◌, ◌-◌, ◌*◌, ◌^◌, ◌≤◌, ◌<◌, length, slice_index_or, IsTrue, IsFalse};
 ghost use Rattle.life_core.specs.PackedRow.{place};
-ghost use Rattle.life_core.specs.PackedMarksState.{KeepsMarks, IsMarked, IsWoken};
+ghost use Rattle.life_core.specs.PackedMarksState.{KeepsMarks, IsMarked, AreNeighboursMarked};
 
 use std::simd::prelude::*;
 
@@ -70,9 +70,9 @@ fn set_mark(marks: &mut [u64], j: usize)
     marks[j / 64] |= 1 << (j % 64);
 }
 
-/// Sets a mark, if asked.
+/// Sets a mark, if `is_asked`.
 #[inline(always)]
-fn raise(marks: &mut [u64], j: usize, is_asked: bool)
+fn set_mark_if(marks: &mut [u64], j: usize, is_asked: bool)
     requires { j < 64 * length marks.old }
     ensures kept { KeepsMarks marks.old marks.new }
     ensures raised { IsTrue is_asked → IsMarked marks.new j }
@@ -85,7 +85,7 @@ fn raise(marks: &mut [u64], j: usize, is_asked: bool)
 /// Marks the block at `b` of a line and those beside it, if changed places in this row of its columns
 /// reach them.
 #[inline(always)]
-fn wake(changed: u64x2, b: usize, marks: &mut [u64])
+fn mark_block(changed: u64x2, b: usize, marks: &mut [u64])
     requires first { 1 ≤ b }
     requires last { b + 1 < 64 * length marks.old }
     requires few { b + 1 < 2 ^ 63 }
@@ -98,14 +98,14 @@ fn wake(changed: u64x2, b: usize, marks: &mut [u64])
         return;
     }
     set_mark(marks, b);
-    raise(marks, b - 1, first(changed));
-    raise(marks, b + 1, last(changed));
+    set_mark_if(marks, b - 1, first(changed));
+    set_mark_if(marks, b + 1, last(changed));
 }
 
 /// Marks every block that has a neighbour of a changed cell of the block at `b`. The three arguments have the
 /// columns that changed in any row, in the first row and in the last.
 #[inline(always)]
-pub(crate) fn wake_round(
+pub(crate) fn mark_neighbours(
     all: u64x2,
     top: u64x2,
     bottom: u64x2,
@@ -117,9 +117,9 @@ pub(crate) fn wake_round(
     requires last { b + columns + 1 < 64 * length marks.old }
     requires few { b + columns + 1 < 2 ^ 63 }
     ensures marks { KeepsMarks marks.old marks.new }
-    ensures woken { (i p : ℕ) → p < 128 → place all p ≡ 1 → (i ≡ 0 → place top p ≡ 1) → (i ≡ 15 → place bottom p ≡ 1) → IsWoken columns b i p marks.new }
+    ensures marked { (i p : ℕ) → p < 128 → place all p ≡ 1 → (i ≡ 0 → place top p ≡ 1) → (i ≡ 15 → place bottom p ≡ 1) → AreNeighboursMarked columns b i p marks.new }
 {
-    wake(all, b, marks);
-    wake(top, b - columns, marks);
-    wake(bottom, b + columns, marks);
+    mark_block(all, b, marks);
+    mark_block(top, b - columns, marks);
+    mark_block(bottom, b + columns, marks);
 }

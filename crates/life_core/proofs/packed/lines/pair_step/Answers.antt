@@ -1,7 +1,7 @@
 use Rattle.std.proofs.Common.{◌≡◌, ℕ, ◌+◌, ◌*◌, sym, ap, subst, ◌∙◌, arith}
 use Rattle.life_core.specs.PackedRow.{place}
 use Rattle.life_core.specs.PackedBlocksState.{flat_next}
-use Rattle.life_core.specs.PackedMarksState.{IsWoken, block_at, mark_at, place_at}
+use Rattle.life_core.specs.PackedMarksState.{AreNeighboursMarked, block_at, mark_at, place_at}
 use Rattle.life_core.proofs.BlockLines.{stepped_block, woken_more}
 use Rattle.life_core.proofs.packed.lines.pair_step.Goals as goal
 
@@ -13,14 +13,14 @@ returns-clause-left g c r is =
     let block = c.wide_step-changes.ensures.block r is in
     stepped_block (flat_next r c.args.rows.now (64 * (2 * columns))) columns line column
     c.args.out.now c.wide_step-changes.new.out c.left_half.result c.left_half-2.result c.left_half-3.result
-    c.wake_round-2.new.marks
+    c.mark_neighbours-2.new.marks
     (λ i p lt narrow. block.all.next i p lt (omega (arith, narrow)))
     (λ i p lt narrow blank. block.all.same i p lt (omega (arith, narrow)) (sym (c.left_half.ensures p narrow) ∙ blank))
     (λ p narrow blank. block.top p (omega (arith, narrow)) (sym (c.left_half-2.ensures p narrow) ∙ blank))
     (λ p narrow blank. block.bottom p (omega (arith, narrow)) (sym (c.left_half-3.ensures p narrow) ∙ blank))
     (λ i p narrow all top bottom. woken_more columns (mark_at columns line column) i p
-    c.wake_round.new.marks c.wake_round-2.new.marks c.wake_round-2.ensures.marks
-    (c.wake_round.ensures.woken i p narrow all top bottom))
+    c.mark_neighbours.new.marks c.mark_neighbours-2.new.marks c.mark_neighbours-2.ensures.marks
+    (c.mark_neighbours.ensures.marked i p narrow all top bottom))
 
 pub returns-clause-right : goal.returns-clause-right
 returns-clause-right g c r is =
@@ -35,7 +35,7 @@ returns-clause-right g c r is =
     let block = c.wide_step-changes.ensures.block r is in
     let next_mark : mark_at columns line column + 1 ≡ mark_at columns line (column + 1) = omega arith in
     stepped_block N columns line (column + 1) old new c.right_half.result
-    c.right_half-2.result c.right_half-3.result c.wake_round-2.new.marks
+    c.right_half-2.result c.right_half-3.result c.mark_neighbours-2.new.marks
     (λ i p lt narrow. let e : place_at columns line (column + 1) i p ≡ 64 * (at + i * words) + (128 + p) =
     omega arith in ap (place new) e ∙ block.all.next i (128 + p) lt (omega (arith, narrow)) ∙ ap N (sym e))
     (λ i p lt narrow blank. let e : place_at columns line (column + 1) i p ≡ 64 * (at + i * words) + (128 + p) =
@@ -47,5 +47,5 @@ returns-clause-right g c r is =
     (λ p narrow blank. let e : 64 * (block_at columns line (column + 1) + 15 * words) + p
     ≡ 64 * (at + 15 * words) + (128 + p) = omega arith in ap (place new) e ∙ block.bottom (128 + p)
     (omega (arith, narrow)) (sym (c.right_half-3.ensures p narrow) ∙ blank) ∙ ap (place old) (sym e))
-    (λ i p narrow all top bottom. subst (λ (b : ℕ). IsWoken columns b i p c.wake_round-2.new.marks) next_mark
-    (c.wake_round-2.ensures.woken i p narrow all top bottom))
+    (λ i p narrow all top bottom. subst (λ (b : ℕ). AreNeighboursMarked columns b i p c.mark_neighbours-2.new.marks) next_mark
+    (c.mark_neighbours-2.ensures.marked i p narrow all top bottom))

@@ -9,6 +9,6 @@ returns-clause-block g c r is =
     let ch = c.block_step-changes.result in
     stepped_block (flat_next r c.args.rows.now (64 * (2 * c.args.columns))) c.args.columns
     c.args.line c.args.column c.args.out.now c.block_step-changes.new.out
-    ch.all ch.top ch.bottom c.wake_round.new.marks
+    ch.all ch.top ch.bottom c.mark_neighbours.new.marks
     block.all.next block.all.same block.top block.bottom
-    (λ i p narrow. c.wake_round.ensures.woken i p narrow)
+    (λ i p narrow. c.mark_neighbours.ensures.marked i p narrow)

@@ -7,7 +7,7 @@ ghost use Rattle.life_core.specs.PackedMarksState.{KeepsMarks, IsMarked, IsStepp
 use crate::packed::blocks::block_step;
 use crate::packed::lane_rule::LaneRule;
 use crate::packed::lanes::{left_half, right_half};
-use crate::packed::marks::{is_marked, next_mark, mark_neighbours};
+use crate::packed::marks::{is_marked, mark_neighbours, next_mark};
 use crate::packed::wide_blocks::wide_step;
 
 /// Steps the block in a line and a column.

@@ -100,7 +100,7 @@ impl<A: Allocator + Copy> Plane<A> for PackedRows<A> {
         advance(
             rule,
             self.frame,
-            both(self.follows, self.rule == *rule),
+            and_flags(self.follows, self.rule == *rule),
             &self.rows,
             &mut self.marks,
             &mut self.spare,
@@ -171,8 +171,8 @@ fn keep_marks<A: Allocator>(marks: &mut Vec<u64, A>, frame: Frame)
     marks.truncate(mark_words(frame));
 }
 
-/// Whether both hold.
-fn both(a: bool, b: bool) -> bool
+/// Whether both hold, without a branch.
+fn and_flags(a: bool, b: bool) -> bool
     ensures { IsTrue result ↔ (IsTrue a × IsTrue b) }
 {
     a & b

@@ -102,9 +102,9 @@ fn spread<const N: usize>(word: u64) -> Simd<u64, N>
     Simd::splat(word)
 }
 
-/// A part of the form, including the part for live places.
+/// A coefficient of the form, including what live places add.
 #[inline(always)]
-fn part<const N: usize>(rule: &RuleForm, here: Simd<u64, N>, n: usize) -> Simd<u64, N>
+fn coefficient<const N: usize>(rule: &RuleForm, here: Simd<u64, N>, n: usize) -> Simd<u64, N>
     requires { n < 9 }
     ensures { (p : ℕ) → p < 64 * N → place result p ≡ part_bit rule.now (p % 64) (place here.entry p) n }
 {
@@ -113,7 +113,7 @@ fn part<const N: usize>(rule: &RuleForm, here: Simd<u64, N>, n: usize) -> Simd<u
 
 /// The places where both are set.
 #[inline(always)]
-fn both<const N: usize>(a: Simd<u64, N>, b: Simd<u64, N>) -> Simd<u64, N>
+fn and_bits<const N: usize>(a: Simd<u64, N>, b: Simd<u64, N>) -> Simd<u64, N>
     ensures { (p : ℕ) → place result p ≡ min (place a.entry p) (place b.entry p) }
 {
     a & b
@@ -121,7 +121,7 @@ fn both<const N: usize>(a: Simd<u64, N>, b: Simd<u64, N>) -> Simd<u64, N>
 
 /// The places where one of two is set.
 #[inline(always)]
-fn one_of<const N: usize>(a: Simd<u64, N>, b: Simd<u64, N>) -> Simd<u64, N>
+fn xor_bits<const N: usize>(a: Simd<u64, N>, b: Simd<u64, N>) -> Simd<u64, N>
     ensures { (p : ℕ) → place result p ≡ (place a.entry p + place b.entry p) % 2 }
 {
     a ^ b
@@ -129,7 +129,7 @@ fn one_of<const N: usize>(a: Simd<u64, N>, b: Simd<u64, N>) -> Simd<u64, N>
 
 /// The form for the three lower digits of the counts.
 #[inline(always)]
-fn formed<const N: usize>(
+fn eval_form<const N: usize>(
     rule: &RuleForm,
     here: Simd<u64, N>,
     ones: Simd<u64, N>,
@@ -138,10 +138,10 @@ fn formed<const N: usize>(
 ) -> Simd<u64, N>
     ensures { (p : ℕ) → p < 64 * N → place result p ≡ form_bit (part_bit rule.now (p % 64) (place here.entry p)) (place ones.entry p) (place twos.entry p) (place fours.entry p) }
 {
-    let zero = toggled(part(rule, here, 0), ones, part(rule, here, 1));
-    let two = toggled(part(rule, here, 2), ones, part(rule, here, 3));
-    let four = toggled(part(rule, here, 4), ones, part(rule, here, 5));
-    let six = toggled(part(rule, here, 6), ones, part(rule, here, 7));
+    let zero = toggled(coefficient(rule, here, 0), ones, coefficient(rule, here, 1));
+    let two = toggled(coefficient(rule, here, 2), ones, coefficient(rule, here, 3));
+    let four = toggled(coefficient(rule, here, 4), ones, coefficient(rule, here, 5));
+    let six = toggled(coefficient(rule, here, 6), ones, coefficient(rule, here, 7));
     toggled(toggled(zero, twos, two), fours, toggled(four, twos, six))
 }
 
@@ -167,14 +167,14 @@ impl<const N: usize> LaneRule<N> for RuleForm {
         let more = carry(above, sides, below);
         let some = odd(above2, sides2, below2);
         let high = carry(above2, sides2, below2);
-        let twos = one_of(some, more);
-        let rest = both(some, more);
-        let fours = one_of(high, rest);
-        let eights = both(high, rest);
+        let twos = xor_bits(some, more);
+        let rest = and_bits(some, more);
+        let fours = xor_bits(high, rest);
+        let eights = and_bits(high, rest);
         toggled(
-            formed(self, here, ones, twos, fours),
+            eval_form(self, here, ones, twos, fours),
             eights,
-            part(self, here, 8),
+            coefficient(self, here, 8),
         )
     }
 }

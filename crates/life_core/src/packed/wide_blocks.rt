@@ -7,7 +7,7 @@ ghost use Rattle.life_core.specs.Rule.{RuleSets};
 ghost use Rattle.life_core.specs.PackedBlocksState.{flat_next, AreWideSums, IsOutside, IsWideBlock};
 
 use crate::packed::lane_rule::LaneRule;
-use crate::packed::lanes::{lanes_at, lanes_from_right, lanes_from_left};
+use crate::packed::lanes::{lanes_at, lanes_from_left, lanes_from_right};
 use crate::packed::row_kernel::{WideSums, sums_of, wide_row};
 use std::simd::prelude::*;
 
@@ -18,7 +18,11 @@ pub(crate) fn wide_sums(rows: &[u64], k: usize) -> WideSums
     requires last { k + 5 ≤ length rows.now }
     ensures { AreWideSums rows.now k result }
 {
-    sums_of(lanes_from_left(rows, k), lanes_at(rows, k), lanes_from_right(rows, k))
+    sums_of(
+        lanes_from_left(rows, k),
+        lanes_at(rows, k),
+        lanes_from_right(rows, k),
+    )
 }
 
 /// The cells of two blocks that changed: in any of their rows, in their first row and in their last.

@@ -84,7 +84,7 @@ advance-requires-clause-out_room g c =
 pub advance-requires-clause-settled : goal.advance-requires-clause-settled
 advance-requires-clause-settled g c t =
     let s = c.match-with_room.self-inside in
-    let parts = c.both.ensures.0 t in
+    let parts = c.and_flags.ensures.0 t in
     let rule : s.rule ≡ c.args.rule.now = c.eq.ensures.same.0 parts.1 in
     let settled : IsTrue s.follows → AreSettled s.frame s.rule s.rows.items s.spare.items s.marks.items =
     elim c.match-with_room.branch [

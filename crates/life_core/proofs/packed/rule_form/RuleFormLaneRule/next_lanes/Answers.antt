@@ -23,17 +23,17 @@ returns g c r form p lt few =
     let h = place c.args.here p in
     let P : ℕ → ℕ = part_bit c.args.self.now i h in
     let o = place c.odd-ones.result p in
-    let t = place c.one_of-twos.result p in
-    let f = place c.one_of-fours.result p in
-    let e = place c.both-eights.result p in
+    let t = place c.xor_bits-twos.result p in
+    let f = place c.xor_bits-fours.result p in
+    let e = place c.and_bits-eights.result p in
     let ol = place-lt c.odd-ones.result p in
-    let tl = place-lt c.one_of-twos.result p in
-    let fl = place-lt c.one_of-fours.result p in
-    let el = place-lt c.both-eights.result p in
+    let tl = place-lt c.xor_bits-twos.result p in
+    let fl = place-lt c.xor_bits-fours.result p in
+    let el = place-lt c.and_bits-eights.result p in
     let hl = place-lt c.args.here p in
     let low : i < 64 = omega arith in
     let is : place c.toggled.result p ≡ toggled_bit (form_bit P o t f) e (P 8) = c.toggled.ensures p
-    ∙ (λ u. toggled_bit (c.formed.ensures p lt u) e (c.part.ensures p lt u)) in
+    ∙ (λ u. toggled_bit (c.eval_form.ensures p lt u) e (c.coefficient.ensures p lt u)) in
     let sum : o + (2 * t + (4 * f + 8 * e)) ≡ (place c.args.above p + 2 * place c.args.above2 p)
     + ((place c.args.sides p + 2 * place c.args.sides2 p) + (place c.args.below p + 2 * place c.args.below2 p)) =
     omega (
@@ -42,10 +42,10 @@ returns g c r form p lt few =
       c.carry-more.ensures p,
       c.odd-some.ensures p,
       c.carry-high.ensures p,
-      c.one_of-twos.ensures p,
-      c.both-rest.ensures p,
-      c.one_of-fours.ensures p,
-      c.both-eights.ensures p,
+      c.xor_bits-twos.ensures p,
+      c.and_bits-rest.ensures p,
+      c.xor_bits-fours.ensures p,
+      c.and_bits-eights.ensures p,
       place-lt c.args.above p,
       place-lt c.args.above2 p,
       place-lt c.args.sides p,

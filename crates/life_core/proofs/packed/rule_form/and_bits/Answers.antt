@@ -1,6 +1,6 @@
 use Rattle.std.proofs.Common.{arith}
 use Rattle.life_core.proofs.LanePlaces.{place_and}
-use Rattle.life_core.proofs.packed.rule_form.both.Goals as goal
+use Rattle.life_core.proofs.packed.rule_form.and_bits.Goals as goal
 
 pub returns : goal.returns
 returns g c p = place_and c.args.a c.args.b (omega arith) p

@@ -12,7 +12,7 @@ use Rattle.life_core.specs.Rule.{RuleSets}
 use Rattle.life_core.specs.Generations.{next}
 use Rattle.life_core.specs.PackedRow.{place}
 use Rattle.life_core.specs.PackedFrameState.{cell_in, framed, HasRoom}
-use Rattle.life_core.specs.PackedMarginsState.{HasSlack, IsWider, renewed}
+use Rattle.life_core.specs.PackedMarginsState.{HasSlack, IsWider, checked_room}
 use Rattle.life_core.proofs.LanePlaces.{place-lt}
 use Rattle.life_core.proofs.PackedCells.{place_is_live}
 use Rattle.life_core.proofs.PackedSteps.{next_in}
@@ -122,5 +122,5 @@ last_words w x y n low =
     omega (arith, rows)
 
 -- a look gives room for one generation at the least
-pub renewed_some : (n : ℕ) → 1 ≤ renewed n
-renewed_some n = grind (arith, nat_tests)
+pub checked_room_some : (n : ℕ) → 1 ≤ checked_room n
+checked_room_some n = grind (arith, nat_tests)

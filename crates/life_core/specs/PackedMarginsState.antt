@@ -25,8 +25,8 @@ pub record HasSlack (f : Frame) (n : ℕ) (X : Cells) : Type 0 where
   pub away : (c : Cell) → set.contains X c ≡ true → IsAway f n c
 
 -- for how many generations there is room, according to the margins, if there was room for n before
-abbrev pub renewed : ℕ → ℕ
-renewed n = if nat_eq n 0 then 31 else n
+abbrev pub checked_room : ℕ → ℕ
+checked_room n = if nat_eq n 0 then 31 else n
 
 -- a frame that contains f and has this many words and rows in front of it
 pub record IsWider (f : Frame) (w : Wider) : Type 0 where

@@ -6,7 +6,7 @@ ghost use Rattle.life_core.specs.declared.cell.Cell.{Cell};
 ghost use Rattle.life_core.specs.Pattern.{IsWithin};
 ghost use Rattle.life_core.specs.PackedRow.{place};
 ghost use Rattle.life_core.specs.PackedFrameState.{framed, IsFrame};
-ghost use Rattle.life_core.specs.PackedMarginsState.{HasSlack, IsWhole, IsWider, renewed};
+ghost use Rattle.life_core.specs.PackedMarginsState.{HasSlack, IsWhole, IsWider, checked_room};
 
 use crate::cell::PLANE;
 use crate::packed::frame::Frame;
@@ -27,8 +27,8 @@ pub(crate) struct Wider {
 
 /// For how many generations there is room, according to the margins, if there was room for this
 /// many before.
-pub(crate) fn renewed(slack: u32) -> u32
-    ensures { result ≡ renewed slack }
+pub(crate) fn room_after_check(slack: u32) -> u32
+    ensures { result ≡ checked_room slack }
 {
     if slack == 0 { 31 } else { slack }
 }
@@ -41,11 +41,11 @@ pub(crate) fn with_room(frame: Frame, rows: &[u64], slack: u32) -> Option<Wider>
     requires rows { frame.height * frame.words ≡ length rows.now }
     requires within { IsWithin PLANE (framed frame rows.now) }
     requires slack { HasSlack frame slack (framed frame rows.now) }
-    ensures none { IsNone result → HasSlack frame (renewed slack) (framed frame rows.now) }
+    ensures none { IsNone result → HasSlack frame (checked_room slack) (framed frame rows.now) }
     ensures frame { IfSome result (λ w. IsFrame w.frame) }
     ensures whole { IfSome result (λ w. IsWhole w.frame) }
     ensures wider { IfSome result (IsWider frame) }
-    ensures room { IfSome result (λ w. HasSlack w.frame (renewed slack) (framed frame rows.now)) }
+    ensures room { IfSome result (λ w. HasSlack w.frame (checked_room slack) (framed frame rows.now)) }
 {
     if slack > 0 {
         return None;

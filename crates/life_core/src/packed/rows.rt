@@ -11,7 +11,7 @@ use crate::fault::Fault;
 use crate::packed::frame::Frame;
 use crate::packed::lane_rule::ConwayLife;
 use crate::packed::lines::advance_blocks;
-use crate::packed::margins::{renewed, with_room};
+use crate::packed::margins::{room_after_check, with_room};
 use crate::packed::packing::{list_cells, moved_rows, words_of, zeros};
 use crate::packed::rule_form::RuleForm;
 use crate::packed::shifts::shift_of_words;
@@ -110,7 +110,7 @@ impl<A: Allocator + Copy> Plane<A> for PackedRows<A> {
         mem::swap(&mut self.marks, &mut self.next_marks);
         self.rule = *rule;
         self.follows = true;
-        self.slack = renewed(self.slack) - 1;
+        self.slack = room_after_check(self.slack) - 1;
         Ok(())
     }
 

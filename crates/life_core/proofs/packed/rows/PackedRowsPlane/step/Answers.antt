@@ -5,10 +5,10 @@ use Rattle.life_core.specs.Pattern.{IsWithin}
 use Rattle.life_core.specs.Rule.{RuleSets}
 use Rattle.life_core.specs.Generations.{next}
 use Rattle.life_core.specs.PackedFrameState.{framed}
-use Rattle.life_core.specs.PackedMarginsState.{HasSlack, renewed}
+use Rattle.life_core.specs.PackedMarginsState.{HasSlack, checked_room}
 use Rattle.life_core.specs.PackedRowsState.{AreSettled, IsPacked}
 use Rattle.life_core.proofs.GenerationsLaws.{next_within}
-use Rattle.life_core.proofs.BlockRoom.{slack_less, slack_of_more, slack_in_wider, renewed_some}
+use Rattle.life_core.proofs.BlockRoom.{slack_less, slack_of_more, slack_in_wider, checked_room_some}
 use Rattle.life_core.proofs.BlockSteps.{all_settled}
 use Rattle.life_core.proofs.packed.rows.PackedRowsPlane.step.Goals as goal
 use Rattle.life_core.proofs.packed.rows.PackedRowsPlane.step.Goals.{in-Some+in_ok-rows+in_ok-spare+in_ok-marks+in_ok-next_marks}
@@ -48,21 +48,21 @@ moved_rows-requires-clause-rows g c = c.self.invariant.size ∙ ap length (sym c
 pub advance-requires-clause-room : goal.advance-requires-clause-room
 advance-requires-clause-room g c =
     let s = c.match-with_room.self-inside in
-    let room : HasSlack s.frame (renewed s.slack) (framed s.frame s.rows.items) = elim c.match-with_room.branch [
+    let room : HasSlack s.frame (checked_room s.slack) (framed s.frame s.rows.items) = elim c.match-with_room.branch [
       | in-Some+in_ok-rows+in_ok-spare+in_ok-marks+in_ok-next_marks w ↦
           let n = w.in-Some.wider.frame in
-          subst (λ z. HasSlack z.frame (renewed z.slack) (framed z.frame z.rows.items)) (sym w.self-inside-is)
-          (subst (HasSlack n (renewed c.self.inside.slack)) (ap (framed c.self.inside.frame) c.deref.ensures.value
+          subst (λ z. HasSlack z.frame (checked_room z.slack) (framed z.frame z.rows.items)) (sym w.self-inside-is)
+          (subst (HasSlack n (checked_room c.self.inside.slack)) (ap (framed c.self.inside.frame) c.deref.ensures.value
           ∙ sym (w.in_ok-rows.ensures.cells ∙ ap (framed c.self.inside.frame) w.deref-in-Some.ensures.value))
           w.in-Some.ensures.room)
       | in_default w ↦
           let f = c.self.inside.frame in
-          subst (λ z. HasSlack z.frame (renewed z.slack) (framed z.frame z.rows.items)) (sym w.self-inside-is)
-          (subst (λ (rows : List ℕ). HasSlack f (renewed c.self.inside.slack) (framed f rows)) c.deref.ensures.value
+          subst (λ z. HasSlack z.frame (checked_room z.slack) (framed z.frame z.rows.items)) (sym w.self-inside-is)
+          (subst (λ (rows : List ℕ). HasSlack f (checked_room c.self.inside.slack) (framed f rows)) c.deref.ensures.value
           (w.in_default.ensures.none refl))
     ] in
     subst (λ (rows : List ℕ). HasSlack s.frame 1 (framed s.frame rows)) (sym c.deref-2.ensures.value)
-    (slack_of_more s.frame 1 (renewed s.slack) (framed s.frame s.rows.items) room (renewed_some s.slack))
+    (slack_of_more s.frame 1 (checked_room s.slack) (framed s.frame s.rows.items) room (checked_room_some s.slack))
 
 pub advance-requires-clause-out_room : goal.advance-requires-clause-out_room
 advance-requires-clause-out_room g c =
@@ -107,7 +107,7 @@ invariant_of-self g c =
     let s = c.match-with_room.self-inside in
     let V = framed c.self.inside.frame c.self.inside.rows.items in
     let J : IsPacked s.frame s.rows.items s.spare.items s.marks.items s.next_marks.items s.rule s.follows
-    (renewed s.slack)
+    (checked_room s.slack)
     × (framed s.frame s.rows.items ≡ V) = elim c.match-with_room.branch [
       | in-Some+in_ok-rows+in_ok-spare+in_ok-marks+in_ok-next_marks w ↦
           let n = w.in-Some.wider.frame in
@@ -117,7 +117,7 @@ invariant_of-self g c =
           w.in_ok-spare.ensures.cells ∙ ap (framed c.self.inside.frame) w.deref-in-Some-2.ensures.value in
           let new : IsPacked n w.in_ok-rows.rows.items w.in_ok-spare.spare.items w.in_ok-marks.marks.items
           w.in_ok-next_marks.next_marks.items c.self.inside.rule c.self.inside.follows
-          (renewed c.self.inside.slack) = record {
+          (checked_room c.self.inside.slack) = record {
             frame = w.in-Some.ensures.frame;
             whole = w.in-Some.ensures.whole;
             size = w.in_ok-rows.ensures.len;
@@ -126,7 +126,7 @@ invariant_of-self g c =
             next_marks = w.in_ok-next_marks.ensures;
             within = subst (IsWithin 1000000000) (sym same) c.self.invariant.within;
             room =
-                subst (HasSlack n (renewed c.self.inside.slack))
+                subst (HasSlack n (checked_room c.self.inside.slack))
                 (ap (framed c.self.inside.frame) c.deref.ensures.value ∙ sym same) w.in-Some.ensures.room;
             spare_room =
                 subst (HasSlack n 0) (sym before)
@@ -139,16 +139,16 @@ invariant_of-self g c =
             after = λ t. same ∙ c.self.invariant.after t ∙ ap (next c.self.inside.rule) (sym before);
           } in
           subst (λ z. IsPacked z.frame z.rows.items z.spare.items z.marks.items z.next_marks.items z.rule z.follows
-          (renewed z.slack)
+          (checked_room z.slack)
           × (framed z.frame z.rows.items ≡ V)) (sym w.self-inside-is) (new, same)
       | in_default w ↦
           let f = c.self.inside.frame in
           let old = c.self.invariant in
-          let room : HasSlack f (renewed c.self.inside.slack) V =
-          subst (λ (rows : List ℕ). HasSlack f (renewed c.self.inside.slack) (framed f rows)) c.deref.ensures.value
+          let room : HasSlack f (checked_room c.self.inside.slack) V =
+          subst (λ (rows : List ℕ). HasSlack f (checked_room c.self.inside.slack) (framed f rows)) c.deref.ensures.value
           (w.in_default.ensures.none refl) in
           subst (λ z. IsPacked z.frame z.rows.items z.spare.items z.marks.items z.next_marks.items z.rule z.follows
-          (renewed z.slack)
+          (checked_room z.slack)
           × (framed z.frame z.rows.items ≡ V)) (sym w.self-inside-is) (
             record {
               frame = old.frame;
@@ -183,7 +183,7 @@ invariant_of-self g c =
     let on : framed s.frame c.swap.new.x.items ≡ next r (framed s.frame s.rows.items) = ap (framed s.frame) x
     ∙ c.advance.ensures.rows ∙ ap (λ (rows : List ℕ). next r (framed s.frame rows)) c.deref-2.ensures.value in
     let eq : framed s.frame c.swap.new.x.items ≡ next r c.args.self.now = on ∙ ap (next r) (J.1 ∙ c.self.view_is) in
-    let slack : renewed s.slack - 1 ≡ c.renewed.result - 1 = ap (λ (n : ℕ). n - 1) (sym c.renewed.ensures) in
+    let slack : checked_room s.slack - 1 ≡ c.room_after_check.result - 1 = ap (λ (n : ℕ). n - 1) (sym c.room_after_check.ensures) in
     record {
       frame = J.0.frame;
       whole = J.0.whole;
@@ -194,11 +194,11 @@ invariant_of-self g c =
       within = subst (IsWithin 1000000000) (sym eq) (next_within r 999999999 c.args.self.now c.requires);
       room =
           subst (λ (n : ℕ). HasSlack s.frame n (framed s.frame c.swap.new.x.items)) slack
-          (subst (HasSlack s.frame (renewed s.slack - 1)) (sym on)
-          (slack_less r s.frame (renewed s.slack) (framed s.frame s.rows.items) J.0.room (renewed_some s.slack)));
+          (subst (HasSlack s.frame (checked_room s.slack - 1)) (sym on)
+          (slack_less r s.frame (checked_room s.slack) (framed s.frame s.rows.items) J.0.room (checked_room_some s.slack)));
       spare_room =
           subst (λ (rows : List ℕ). HasSlack s.frame 0 (framed s.frame rows)) (sym y)
-          (slack_of_more s.frame 0 (renewed s.slack) (framed s.frame s.rows.items) J.0.room (omega arith));
+          (slack_of_more s.frame 0 (checked_room s.slack) (framed s.frame s.rows.items) J.0.room (omega arith));
       settled =
           λ t. subst (λ (p : (List ℕ × List ℕ) × List ℕ). AreSettled s.frame r p.0.0 p.0.1 p.1)
           (λ i. ((sym x i, (c.deref-2.ensures.value ∙ sym y) i), sym xm i)) c.advance.ensures.settled;

@@ -12,7 +12,8 @@ changed_or_same all top bottom i al tl bl none first last marked = elim (cases_e
     | inl at_first ↦ elim (cases_eq top 0) [
       | inl blank ↦ inl (first at_first blank)
       | inr set ↦
-          inr (marked (omega (arith, some, al)) (λ e. omega (arith, set, tl)) (λ e. absurd (omega (arith, e, at_first))))
+          inr (marked (omega (arith, some, al)) (λ e. omega (arith, set, tl))
+          (λ e. absurd (omega (arith, e, at_first))))
     ]
     | inr later ↦ elim (cases_eq i 15) [
       | inl at_last ↦ elim (cases_eq bottom 0) [

@@ -111,11 +111,11 @@ live_in f rows wide size c h =
 -- rows without a bit have no cell
 pub no_live : (f : Frame) (rows : List ℕ) → 0 < f.words → f.height * f.words ≡ length rows
     → ((j : ℕ) → get_or rows j 0 ≡ 0) → (c : Cell) → fset.contains (framed f rows) c ≡ false
-no_live f rows wide size blank c = same_answer _ _ (λ h. let p = live_place f rows wide size c h in
+no_live f rows wide size dead c = same_answer _ _ (λ h. let p = live_place f rows wide size c h in
     absurd (omega (
       arith,
       p.live,
-      ap (λ w. bit_at w ((p.y * (64 * f.words) + p.x) % 64)) (blank ((p.y * (64 * f.words) + p.x) / 64)),
+      ap (λ w. bit_at w ((p.y * (64 * f.words) + p.x) % 64)) (dead ((p.y * (64 * f.words) + p.x) / 64)),
       bit_at-zero ((p.y * (64 * f.words) + p.x) % 64),
     ))) (λ h. absurd (false≢true h))
 
@@ -309,22 +309,22 @@ cells_of-word left top w k i n first wide fits is =
 pub none_between : (F : ℕ → Cell) (rows : List ℕ) (k n : ℕ)
     → ((j : ℕ) → k ≤ j → j < k + n → get_or rows j 0 ≡ 0)
     → map F (places_below rows (64 * (k + n))) ≡ map F (places_below rows (64 * k))
-none_between F rows k zero blank =
+none_between F rows k zero dead =
     let here : 64 * (k + zero) ≡ 64 * k = omega arith in
     ap (λ m. map F (places_below rows m)) here
-none_between F rows k (suc n) blank =
+none_between F rows k (suc n) dead =
     let here : 64 * (k + suc n) ≡ 64 * (k + n + 1) = omega arith in
-    let none : get_or rows (k + n) 0 / 2 ^ 0 ≡ 0 = omega (arith, blank (k + n) (omega arith) (omega arith)) in
+    let none : get_or rows (k + n) 0 / 2 ^ 0 ≡ 0 = omega (arith, dead (k + n) (omega arith) (omega arith)) in
     let back : 64 * (k + n) + 0 ≡ 64 * (k + n) = omega arith in
     ap (λ m. map F (places_below rows m)) here ∙ none_left F rows (k + n) 0 (omega arith) none
     ∙ ap (λ m. map F (places_below rows m)) back
-    ∙ none_between F rows k n (λ j from to. blank j from (omega (arith, to)))
+    ∙ none_between F rows k n (λ j from to. dead j from (omega (arith, to)))
 
 -- the same, from one word up to another
 pub none_up_to : (F : ℕ → Cell) (rows : List ℕ) (k m : ℕ) → k ≤ m
     → ((j : ℕ) → k ≤ j → j < m → get_or rows j 0 ≡ 0)
     → map F (places_below rows (64 * m)) ≡ map F (places_below rows (64 * k))
-none_up_to F rows k m le blank =
+none_up_to F rows k m le dead =
     let end : m ≡ k + (m - k) = omega arith in
     ap (λ n. map F (places_below rows (64 * n))) end
-    ∙ none_between F rows k (m - k) (λ j from to. blank j from (omega (arith, to)))
+    ∙ none_between F rows k (m - k) (λ j from to. dead j from (omega (arith, to)))

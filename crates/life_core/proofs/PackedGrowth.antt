@@ -109,7 +109,7 @@ pub copied_rows : (f : Frame) (w : Wider) (rows out : List ℕ) → IsFrame f �
     → ((z j : ℕ) → z < w.frame.height → j < w.frame.words → IsBeside f w f.height z j
     → get_or out (z * w.frame.words + j) 0 ≡ 0)
     → framed w.frame out ≡ framed f rows
-copied_rows f w rows out from to wider size long copied blank =
+copied_rows f w rows out from to wider size long copied dead =
     rows_are w.frame.left w.frame.top (64 * w.frame.words) w.frame.height out (framed f rows)
     (omega (arith, to.wide)) (omega (arith, long)) inside at
   where
@@ -127,7 +127,7 @@ copied_rows f w rows out from to wider size long copied blank =
     outside : (x z : ℕ) → x < 64 * w.frame.words → z < w.frame.height → IsBeside f w f.height z (x / 64) → place out
         (z * (64 * w.frame.words) + x) ≡ one_if (set.contains (framed f rows) (cell_in w.frame.left w.frame.top x z))
     outside x z narrow low beside =
-        place_in_row out w.frame.words x z ∙ ap (λ v. bit_at v (x % 64)) (blank z (x / 64) low (omega arith) beside)
+        place_in_row out w.frame.words x z ∙ ap (λ v. bit_at v (x % 64)) (dead z (x / 64) low (omega arith) beside)
         ∙ bit_at-zero (x % 64)
         ∙ ap one_if (sym (same_answer (set.contains (framed f rows) (cell_in w.frame.left w.frame.top x z)) false
         (λ h. absurd (away beside (live_in f rows from.wide size _ h))) (λ h. absurd (false≢true h))))

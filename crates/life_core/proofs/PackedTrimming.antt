@@ -35,12 +35,12 @@ length-front words k fits = search (rules, places)
 
 -- words without a bit
 pub no_words : (words : List ℕ) (n j : ℕ) → words ≡ replicate n 0 → get_or words j 0 ≡ 0
-no_words words n j blank = elim (cases_lt j n) [
-  | inl inside ↦ ap (λ (ws : List ℕ). get_or ws j 0) blank ∙ get_or-replicate n j 0 0 inside
-  | inr past ↦ get_or_past words j 0 (omega (arith, ap length blank, length-replicate {A = ℕ} n 0, past))
+no_words words n j dead = elim (cases_lt j n) [
+  | inl inside ↦ ap (λ (ws : List ℕ). get_or ws j 0) dead ∙ get_or-replicate n j 0 0 inside
+  | inr past ↦ get_or_past words j 0 (omega (arith, ap length dead, length-replicate {A = ℕ} n 0, past))
 ]
 
--- a word with a live place is not blank
+-- a word with a live place is not dead
 pub blank_place : (rows : List ℕ) (words x y : ℕ) → place rows (y * (64 * words) + x) ≡ 1
     → get_or rows (y * words + x / 64) 0 ≡ 0 → ⊥
 blank_place rows words x y live none =

@@ -13,7 +13,7 @@ use Rattle.std.specs.FinSet as set
 use Rattle.life_core.specs.declared.cell.Cell.{Cell}
 use Rattle.life_core.specs.declared.runs.Run.{Run}
 use Rattle.life_core.specs.Runs.{cells_in, IsBehind, IsAhead, in_run, IsInRun, IsRunBefore, AreRunsInOrder}
-use Rattle.life_core.specs.RunsState.{ends_before}
+use Rattle.life_core.specs.RunsState.{is_before_cell}
 use Rattle.life_core.proofs.RunsLaws.{none_in}
 
 lt_from : {a b : ℤ} → a <ℤ b → int_lt a b ≡ true
@@ -22,7 +22,7 @@ lt_from {a} {b} h = true_from_ne_false (int_lt a b) (λ e. subst T e h.lt)
 le_from : {a b : ℤ} → a ≤ℤ b → int_le a b ≡ true
 le_from {a} {b} h = true_from_ne_false (int_le a b) (λ e. subst T e h.le)
 
-pub behind_true : (r : Run) (row column : ℤ) → ends_before r row column ≡ true → IsBehind r row column
+pub behind_true : (r : Run) (row column : ℤ) → is_before_cell r row column ≡ true → IsBehind r row column
 behind_true r row column h =
     elim (or_cases (int_lt r.row row) (int_eq r.row row && int_le (r.first +ℤ pos r.len) column) h) [
       | inl above ↦ inl (record { lt = subst T (sym above) tt })
@@ -31,7 +31,7 @@ behind_true r row column h =
           inr ((signed_Decides r.row row).0 both.0, record { le = subst T (sym both.1) tt })
     ]
 
-pub ahead_false : (r : Run) (row column : ℤ) → ends_before r row column ≡ false → IsAhead r row column
+pub ahead_false : (r : Run) (row column : ℤ) → is_before_cell r row column ≡ false → IsAhead r row column
 ahead_false r row column h = by_lt_z row r.row (λ below. inl below) (λ up. by_lt_z r.row row
     (λ above. absurd (false≢true (sym h ∙ or_left _ _ (lt_from above))))
     (λ down.
@@ -43,19 +43,19 @@ ahead_false r row column h = by_lt_z row r.row (λ below. inl below) (λ up. by_
           ∙ or_right (int_lt r.row row) _ (and_from _ _ ((signed_Decides r.row row).1 on) (le_from low))))),
     )))
 
-pub true_behind : (r : Run) (row column : ℤ) → IsBehind r row column → ends_before r row column ≡ true
+pub true_behind : (r : Run) (row column : ℤ) → IsBehind r row column → is_before_cell r row column ≡ true
 true_behind r row column (inl above) = or_left _ _ (lt_from above)
 true_behind r row column (inr left) =
     or_right (int_lt r.row row) _ (and_from _ _ ((signed_Decides r.row row).1 left.0) (le_from left.1))
 
 -- the runs that end before a place stand before the others
 pub rows_parted : (rs : List Run) (row column : ℤ) → AreRunsInOrder rs
-    → IsPartitionedBy (λ r. ends_before r row column) rs
+    → IsPartitionedBy (λ r. is_before_cell r row column) rs
 rows_parted rs row column order i j d before low h = elim (cases_lt i j) [
   | inl less ↦
       true_behind (get_or rs i d) row column
       (earlier (get_or rs i d) (get_or rs j d) (order i j d less low) (behind_true (get_or rs j d) row column h))
-  | inr same ↦ let one : i ≡ j = omega arith in ap (λ n. ends_before (get_or rs n d) row column) one ∙ h
+  | inr same ↦ let one : i ≡ j = omega arith in ap (λ n. is_before_cell (get_or rs n d) row column) one ∙ h
 ]
   where
     earlier : (r s : Run) → IsRunBefore r s → IsBehind s row column → IsBehind r row column

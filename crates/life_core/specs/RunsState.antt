@@ -9,8 +9,8 @@ use Rattle.life_core.specs.Cell.{coded_cell}
 use Rattle.life_core.specs.Runs.{runs_cells, Joins, AreLongest}
 
 -- whether a run ends before a column of a row, or in a row before it
-abbrev pub ends_before : Run → ℤ → ℤ → Bool
-ends_before r row column = int_lt r.row row || (int_eq r.row row && int_le (r.first +ℤ pos r.len) column)
+abbrev pub is_before_cell : Run → ℤ → ℤ → Bool
+is_before_cell r row column = int_lt r.row row || (int_eq r.row row && int_le (r.first +ℤ pos r.len) column)
 
 -- a run begins in the plane
 pub record IsNear (r : Run) : Type 0 where

@@ -256,7 +256,7 @@ fn shift_between(runs: &[Run], others: &[Run]) -> Option<(i64, i64)>
     let from = runs.first()?;
     let to = others.first()?;
     let shift = run_shift(*from, *to);
-    if are_moved(runs, others, shift) {
+    if are_shifted_to(runs, others, shift) {
         Some(shift)
     } else {
         None
@@ -275,18 +275,18 @@ fn run_shift(from: Run, to: Run) -> (i64, i64)
 }
 
 /// Whether the shift takes the runs of one list, in their order, to those of the other.
-fn are_moved(runs: &[Run], others: &[Run], shift: (i64, i64)) -> bool
+fn are_shifted_to(runs: &[Run], others: &[Run], shift: (i64, i64)) -> bool
     ensures { IsTrue result ↔ (map (moved_run shift.0 shift.1) runs.now ≡ others.now) }
 {
     runs.len() == others.len()
         && runs
             .iter()
             .zip(others)
-            .all(|(run, other)| goes_to(*run, *other, shift))
+            .all(|(run, other)| is_shifted_to(*run, *other, shift))
 }
 
 /// Whether the shift takes the run to the other.
-fn goes_to(run: Run, other: Run, shift: (i64, i64)) -> bool
+fn is_shifted_to(run: Run, other: Run, shift: (i64, i64)) -> bool
     ensures { IsTrue result ↔ (moved_run shift.0 shift.1 run ≡ other) }
 {
     let own = run_shift(run, other);

@@ -6,7 +6,7 @@ ghost use Rattle.std.specs.FinSet as set;
 ghost use Rattle.life_core.specs.declared.runs.Run.{Run as RunValue};
 ghost use Rattle.life_core.specs.Cell.{cell_cmp, moved_cell, IsCellWithin};
 ghost use Rattle.life_core.specs.Runs.{run_cells, runs_cells, first_cell, last_cell, moved_run, cells_in, IsBehind, IsAhead, in_run, IsRunWithin, IsRunBefore, AreRunsInOrder, IsRun, Joins, AreLongest, GainsBeginning};
-ghost use Rattle.life_core.specs.RunsState.{ends_before, IsNear, JoinsLast, LastFits, IsLonger};
+ghost use Rattle.life_core.specs.RunsState.{is_before_cell, IsNear, JoinsLast, LastFits, IsLonger};
 
 use crate::cell::{Cell, PLANE};
 use std::alloc::{AllocError, Allocator, Global};
@@ -333,12 +333,12 @@ pub fn first_from(runs: &[Run], at: Cell) -> usize
     ensures behind { (k : ℕ) (d : RunValue) → k < result → IsBehind (slice_index_or runs.now k d) at.row at.column }
     ensures ahead { (k : ℕ) (d : RunValue) → result ≤ k → k < length runs.now → IsAhead (slice_index_or runs.now k d) at.row at.column }
 {
-    runs.partition_point(|run| ends_before(*run, at))
+    runs.partition_point(|run| ends_before_cell(*run, at))
 }
 
 /// Whether the run ends in an earlier row than the cell's, or in its row before its column.
-fn ends_before(run: Run, at: Cell) -> bool
-    ensures { result ≡ ends_before run at.row at.column }
+fn ends_before_cell(run: Run, at: Cell) -> bool
+    ensures { result ≡ is_before_cell run at.row at.column }
 {
     let own = i64::from(run.row);
     own < at.row || own == at.row && run.end() <= at.column

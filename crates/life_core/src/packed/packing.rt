@@ -104,11 +104,11 @@ pub(crate) fn list_cells<A: Allocator>(
 }
 
 /// Goes over words from `k` on that have no live cell, four at a time. All words up to the result are such.
-fn skip_blank(rows: &[u64], k: usize) -> usize
+fn skip_dead(rows: &[u64], k: usize) -> usize
     requires { k ≤ length rows.now }
     ensures after { k ≤ result }
     ensures inside { result ≤ length rows.now }
-    ensures blank { (j : ℕ) → k ≤ j → j < result → slice_index_or rows.now j 0 ≡ 0 }
+    ensures dead { (j : ℕ) → k ≤ j → j < result → slice_index_or rows.now j 0 ≡ 0 }
 {
     let mut next = k;
     while rows.len() - next >= 4 {
@@ -125,9 +125,9 @@ fn next_word(rows: &[u64], k: usize) -> usize
     requires { k ≤ length rows.now }
     ensures after { k ≤ result }
     ensures inside { result ≤ length rows.now }
-    ensures blank { (j : ℕ) → k ≤ j → j < result → slice_index_or rows.now j 0 ≡ 0 }
+    ensures dead { (j : ℕ) → k ≤ j → j < result → slice_index_or rows.now j 0 ≡ 0 }
 {
-    let start = skip_blank(rows, k);
+    let start = skip_dead(rows, k);
     for j in start..rows.len() {
         if rows[j] != 0 {
             return j;
@@ -198,14 +198,14 @@ pub(crate) fn moved_rows<A: Allocator>(
     Ok(wider)
 }
 
-/// Copies all rows into the rows of a wider frame, which are blank.
+/// Copies all rows into the rows of a wider frame, which are dead.
 fn copy_rows(from: Frame, rows: &[u64], to: Wider, out: &mut [u64])
     requires from { IsFrame from }
     requires to { IsFrame to.frame }
     requires wider { IsWider from to }
     requires rows { from.height * from.words ≡ length rows.now }
     requires out { to.frame.height * to.frame.words ≡ length out.old }
-    requires blank { (j : ℕ) → slice_index_or out.old j 0 ≡ 0 }
+    requires dead { (j : ℕ) → slice_index_or out.old j 0 ≡ 0 }
     ensures { framed to.frame out.new ≡ framed from rows.now }
 {
     for y in 0..from.height {

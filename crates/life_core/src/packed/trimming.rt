@@ -71,12 +71,12 @@ fn part(frame: Frame, left: usize, right: usize, top: usize, bottom: usize) -> F
     }
 }
 
-/// How many rows at the top are blank, not counting the last row.
+/// How many rows at the top are dead, not counting the last row.
 fn top_margin(frame: Frame, rows: &[u64]) -> usize
     requires frame { IsFrame frame }
     requires rows { frame.height * frame.words ≡ length rows.now }
     ensures inside { result < frame.height }
-    ensures blank { (y j : ℕ) → y < result → j < frame.words → slice_index_or rows.now (y * frame.words + j) 0 ≡ 0 }
+    ensures dead { (y j : ℕ) → y < result → j < frame.words → slice_index_or rows.now (y * frame.words + j) 0 ≡ 0 }
 {
     for y in 0..frame.height - 1 {
         if !row_is_dead(frame, rows, y) {
@@ -86,13 +86,13 @@ fn top_margin(frame: Frame, rows: &[u64]) -> usize
     frame.height - 1
 }
 
-/// The row from which all rows are blank; at least the one after row `top`.
+/// The row from which all rows are dead; at least the one after row `top`.
 fn bottom_end(frame: Frame, rows: &[u64], top: usize) -> usize
     requires top { top < frame.height }
     requires rows { frame.height * frame.words ≡ length rows.now }
     ensures some { top < result }
     ensures inside { result ≤ frame.height }
-    ensures blank { (y j : ℕ) → result ≤ y → y < frame.height → j < frame.words → slice_index_or rows.now (y * frame.words + j) 0 ≡ 0 }
+    ensures dead { (y j : ℕ) → result ≤ y → y < frame.height → j < frame.words → slice_index_or rows.now (y * frame.words + j) 0 ≡ 0 }
 {
     let mut end = frame.height;
     while end > top + 1 {
@@ -104,32 +104,32 @@ fn bottom_end(frame: Frame, rows: &[u64], top: usize) -> usize
     end
 }
 
-/// How many columns of words on the left are blank, not counting the last column.
+/// How many columns of words on the left are dead, not counting the last column.
 fn left_margin(frame: Frame, rows: &[u64]) -> usize
     requires frame { IsFrame frame }
     requires rows { frame.height * frame.words ≡ length rows.now }
     ensures inside { result < frame.words }
-    ensures blank { (y j : ℕ) → y < frame.height → j < result → slice_index_or rows.now (y * frame.words + j) 0 ≡ 0 }
+    ensures dead { (y j : ℕ) → y < frame.height → j < result → slice_index_or rows.now (y * frame.words + j) 0 ≡ 0 }
 {
     for j in 0..frame.words - 1 {
-        if !column_is_blank(frame, rows, j) {
+        if !words_are_dead(frame, rows, j) {
             return j;
         }
     }
     frame.words - 1
 }
 
-/// The column of words from which all are blank; at least the one after column `left`.
+/// The column of words from which all are dead; at least the one after column `left`.
 fn right_end(frame: Frame, rows: &[u64], left: usize) -> usize
     requires left { left < frame.words }
     requires rows { frame.height * frame.words ≡ length rows.now }
     ensures some { left < result }
     ensures inside { result ≤ frame.words }
-    ensures blank { (y j : ℕ) → y < frame.height → result ≤ j → j < frame.words → slice_index_or rows.now (y * frame.words + j) 0 ≡ 0 }
+    ensures dead { (y j : ℕ) → y < frame.height → result ≤ j → j < frame.words → slice_index_or rows.now (y * frame.words + j) 0 ≡ 0 }
 {
     let mut end = frame.words;
     while end > left + 1 {
-        if !column_is_blank(frame, rows, end - 1) {
+        if !words_are_dead(frame, rows, end - 1) {
             return end;
         }
         end -= 1;
@@ -137,8 +137,8 @@ fn right_end(frame: Frame, rows: &[u64], left: usize) -> usize
     end
 }
 
-/// Whether the words `j` of all rows are blank.
-fn column_is_blank(frame: Frame, rows: &[u64], j: usize) -> bool
+/// Whether the words `j` of all rows are dead.
+fn words_are_dead(frame: Frame, rows: &[u64], j: usize) -> bool
     requires j { j < frame.words }
     requires rows { frame.height * frame.words ≡ length rows.now }
     ensures { IsTrue result → (y : ℕ) → y < frame.height → slice_index_or rows.now (y * frame.words + j) 0 ≡ 0 }

@@ -42,12 +42,12 @@ loop-i-init g c =
           λ r is. block_more 2 (N r) at words 1 (at + words) old mid new top bottom wide down size
           (block_first 2 (N r) at words old mid top (first r is)) (second r is);
       top =
-          λ r is p lt blank. block_top 2 (N r) at words 1 (at + words) mid new bottom wide (lit≤ tt) down
-          (second r is) p lt ∙ (first r is).same p lt blank;
+          λ r is p lt dead. block_top 2 (N r) at words 1 (at + words) mid new bottom wide (lit≤ tt) down
+          (second r is) p lt ∙ (first r is).same p lt dead;
       bottom =
-          λ r is p lt blank. subst (λ (m : ℕ). place new (64 * m + p) ≡ place old (64 * m + p)) back
+          λ r is p lt dead. subst (λ (m : ℕ). place new (64 * m + p) ≡ place old (64 * m + p)) back
           (block_last 2 (N r) at words 1 (at + words) old mid new top bottom wide down
-          (block_first 2 (N r) at words old mid top (first r is)) (second r is) p lt blank);
+          (block_first 2 (N r) at words old mid top (first r is)) (second r is) p lt dead);
     }
 
 pub loop-i-preserved : goal.loop-i-preserved
@@ -101,14 +101,14 @@ loop-i-preserved g c =
           (block_more 2 (N r) at words (2 * i + 1) (k + words) old mid new both lower.result wide down size_both
           (done r is) (second r is));
       top =
-          λ r is p lt blank. block_top 2 (N r) at words (2 * i + 1) (k + words) mid new lower.result wide
+          λ r is p lt dead. block_top 2 (N r) at words (2 * i + 1) (k + words) mid new lower.result wide
           (omega arith) down (second r is) p lt
           ∙ block_top 2 (N r) at words (2 * i) k out mid upper.result wide some inv.at (first r is) p lt
-          ∙ inv.top r is p lt blank;
+          ∙ inv.top r is p lt dead;
       bottom =
-          λ r is p lt blank. subst (λ (m : ℕ). place new (64 * m + p) ≡ place old (64 * m + p)) back
+          λ r is p lt dead. subst (λ (m : ℕ). place new (64 * m + p) ≡ place old (64 * m + p)) back
           (block_last 2 (N r) at words (2 * i + 1) (k + words) old mid new both lower.result wide down
-          (done r is) (second r is) p lt blank);
+          (done r is) (second r is) p lt dead);
     }
 
 pub returns-clause-block : goal.returns-clause-block
@@ -127,6 +127,6 @@ returns-clause-block g c r is =
       all = subst (λ (n : ℕ). IsBlockStep 2 N at words n old out c.loop-i.all) end (inv.done r is);
       top = inv.top r is;
       bottom =
-          λ p lt blank. subst (λ (m : ℕ). place out (64 * m + p) ≡ place old (64 * m + p)) here
-          (inv.bottom r is p lt blank);
+          λ p lt dead. subst (λ (m : ℕ). place out (64 * m + p) ≡ place old (64 * m + p)) here
+          (inv.bottom r is p lt dead);
     }

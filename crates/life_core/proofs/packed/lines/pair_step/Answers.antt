@@ -15,9 +15,9 @@ returns-clause-left g c r is =
     c.args.out.now c.wide_step-changes.new.out c.left_half.result c.left_half-2.result c.left_half-3.result
     c.mark_neighbours-2.new.marks
     (λ i p lt narrow. block.all.next i p lt (omega (arith, narrow)))
-    (λ i p lt narrow blank. block.all.same i p lt (omega (arith, narrow)) (sym (c.left_half.ensures p narrow) ∙ blank))
-    (λ p narrow blank. block.top p (omega (arith, narrow)) (sym (c.left_half-2.ensures p narrow) ∙ blank))
-    (λ p narrow blank. block.bottom p (omega (arith, narrow)) (sym (c.left_half-3.ensures p narrow) ∙ blank))
+    (λ i p lt narrow dead. block.all.same i p lt (omega (arith, narrow)) (sym (c.left_half.ensures p narrow) ∙ dead))
+    (λ p narrow dead. block.top p (omega (arith, narrow)) (sym (c.left_half-2.ensures p narrow) ∙ dead))
+    (λ p narrow dead. block.bottom p (omega (arith, narrow)) (sym (c.left_half-3.ensures p narrow) ∙ dead))
     (λ i p narrow all top bottom. woken_more columns (mark_at columns line column) i p
     c.mark_neighbours.new.marks c.mark_neighbours-2.new.marks c.mark_neighbours-2.ensures.marks
     (c.mark_neighbours.ensures.marked i p narrow all top bottom))
@@ -38,14 +38,15 @@ returns-clause-right g c r is =
     c.right_half-2.result c.right_half-3.result c.mark_neighbours-2.new.marks
     (λ i p lt narrow. let e : place_at columns line (column + 1) i p ≡ 64 * (at + i * words) + (128 + p) =
     omega arith in ap (place new) e ∙ block.all.next i (128 + p) lt (omega (arith, narrow)) ∙ ap N (sym e))
-    (λ i p lt narrow blank. let e : place_at columns line (column + 1) i p ≡ 64 * (at + i * words) + (128 + p) =
+    (λ i p lt narrow dead. let e : place_at columns line (column + 1) i p ≡ 64 * (at + i * words) + (128 + p) =
     omega arith in ap (place new) e ∙ block.all.same i (128 + p) lt (omega (arith, narrow))
-    (sym (c.right_half.ensures p narrow) ∙ blank) ∙ ap (place old) (sym e))
-    (λ p narrow blank. let e : 64 * block_at columns line (column + 1) + p ≡ 64 * at + (128 + p) = omega arith in
-    ap (place new) e ∙ block.top (128 + p) (omega (arith, narrow)) (sym (c.right_half-2.ensures p narrow) ∙ blank)
+    (sym (c.right_half.ensures p narrow) ∙ dead) ∙ ap (place old) (sym e))
+    (λ p narrow dead. let e : 64 * block_at columns line (column + 1) + p ≡ 64 * at + (128 + p) = omega arith in
+    ap (place new) e ∙ block.top (128 + p) (omega (arith, narrow)) (sym (c.right_half-2.ensures p narrow) ∙ dead)
     ∙ ap (place old) (sym e))
-    (λ p narrow blank. let e : 64 * (block_at columns line (column + 1) + 15 * words) + p
+    (λ p narrow dead. let e : 64 * (block_at columns line (column + 1) + 15 * words) + p
     ≡ 64 * (at + 15 * words) + (128 + p) = omega arith in ap (place new) e ∙ block.bottom (128 + p)
-    (omega (arith, narrow)) (sym (c.right_half-3.ensures p narrow) ∙ blank) ∙ ap (place old) (sym e))
-    (λ i p narrow all top bottom. subst (λ (b : ℕ). AreNeighboursMarked columns b i p c.mark_neighbours-2.new.marks) next_mark
+    (omega (arith, narrow)) (sym (c.right_half-3.ensures p narrow) ∙ dead) ∙ ap (place old) (sym e))
+    (λ i p narrow all top bottom.
+    subst (λ (b : ℕ). AreNeighboursMarked columns b i p c.mark_neighbours-2.new.marks) next_mark
     (c.mark_neighbours-2.ensures.marked i p narrow all top bottom))

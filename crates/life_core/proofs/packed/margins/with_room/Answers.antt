@@ -7,7 +7,8 @@ use Rattle.life_core.proofs.packed.margins.with_room.Goals as goal
 pub returns-then-left-right-eq0-clause-none : goal.returns-then-left-right-eq0-clause-none
 returns-then-left-right-eq0-clause-none c none =
     let zero : c.args.slack ≡ 0 = omega (arith, c.if-slack-gt0.false) in
-    subst (λ (n : ℕ). HasSlack c.args.frame n (framed c.args.frame c.args.rows.now)) (sym (ap checked_room zero)) (record {
+    subst (λ (n : ℕ). HasSlack c.args.frame n (framed c.args.frame c.args.rows.now))
+    (sym (ap checked_room zero)) (record {
       away = λ d live.
           let l = c.left_growth-left.ensures.free d live in
           let r = c.right_growth-right.ensures.free d live in
@@ -62,7 +63,8 @@ returns-clause-whole c =
 pub returns-clause-room : goal.returns-clause-room
 returns-clause-room c =
     let zero : c.args.slack ≡ 0 = omega (arith, c.if-slack-gt0.false) in
-    subst (λ (n : ℕ). HasSlack c.grown.result n (framed c.args.frame c.args.rows.now)) (sym (ap checked_room zero)) (record {
+    subst (λ (n : ℕ). HasSlack c.grown.result n (framed c.args.frame c.args.rows.now))
+    (sym (ap checked_room zero)) (record {
       away = λ d live.
           let n = c.grown.ensures in
           let l = c.left_growth-left.ensures.free d live in

@@ -8,7 +8,8 @@ returns-clause-marked c i p narrow all top bottom =
     let b = c.args.b in
     let columns = c.args.columns in
     let keeps =
-    λ (j : ℕ) (h : IsMarked c.mark_block.new.marks j). c.mark_block-3.ensures.marks.set j (c.mark_block-2.ensures.marks.set j h) in
+    λ (j : ℕ) (h : IsMarked c.mark_block.new.marks j).
+    c.mark_block-3.ensures.marks.set j (c.mark_block-2.ensures.marks.set j h) in
     record {
       own = keeps b (c.mark_block.ensures.own p narrow all);
       left = λ e. keeps (b - 1) (c.mark_block.ensures.left (ap (place c.args.all) (sym e) ∙ all));

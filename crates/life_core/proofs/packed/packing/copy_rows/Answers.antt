@@ -102,10 +102,10 @@ loop-y-preserved c =
                 ∙ copied_here f w out ys y c.requires.wider size low long j inside
                 ∙ row_words rows f.words y j _ wide inside ∙ (λ i. get_or rows (sym same i * f.words + j) 0)
           ];
-      blank =
+      dead =
           λ z j below inside beside. ap (λ o. get_or o (z * w.frame.words + j) 0) c.copy_at.ensures
           ∙ blank_beside f w out ys y c.requires.wider size low long z j inside beside
-          ∙ c.loop-y.invariant.blank z j below inside (earlier f w y z j beside);
+          ∙ c.loop-y.invariant.dead z j below inside (earlier f w y z j beside);
     }
   where
     earlier : (f : Frame) (w : Wider) (y z j : ℕ) → IsBeside f w (y + 1) z j → IsBeside f w y z j
@@ -119,4 +119,4 @@ returns c =
     copied_rows c.args.from c.args.to c.args.rows.now c.loop-y.out c.requires.from c.requires.to
     c.requires.wider c.requires.rows (omega (arith, c.loop-y.invariant.long))
     (λ z j low inside. c.loop-y.invariant.copied z j (omega arith) inside) (λ z j low inside beside.
-    c.loop-y.invariant.blank z j low inside (subst (λ n. IsBeside c.args.from c.args.to n z j) end beside))
+    c.loop-y.invariant.dead z j low inside (subst (λ n. IsBeside c.args.from c.args.to n z j) end beside))

@@ -10,7 +10,7 @@ loop-k-init g c =
     let next = c.next_word-k.ensures in
     record {
       inside = next.inside;
-      listed = c.new-cells.ensures ∙ sym (none_up_to F c.args.rows.now 0 c.next_word-k.result next.after next.blank);
+      listed = c.new-cells.ensures ∙ sym (none_up_to F c.args.rows.now 0 c.next_word-k.result next.after next.dead);
     }
 
 pub loop-k-preserved : goal.loop-k-preserved
@@ -21,5 +21,5 @@ loop-k-preserved g c =
       inside = next.inside;
       listed =
           c.in_ok-list_word.ensures
-          ∙ sym (none_up_to F c.args.rows.now (c.loop-k.k + 1) c.next_word-k-in-loop-k.result next.after next.blank);
+          ∙ sym (none_up_to F c.args.rows.now (c.loop-k.k + 1) c.next_word-k-in-loop-k.result next.after next.dead);
     }

@@ -13,8 +13,8 @@ copy_rows-requires-clause-rows g c = c.requires.rows
 pub copy_rows-requires-clause-out : goal.copy_rows-requires-clause-out
 copy_rows-requires-clause-out g c = sym (ap length c.deref_mut.ensures.value ∙ c.in_ok-wider.ensures.len)
 
-pub copy_rows-requires-clause-blank : goal.copy_rows-requires-clause-blank
-copy_rows-requires-clause-blank g c =
+pub copy_rows-requires-clause-dead : goal.copy_rows-requires-clause-dead
+copy_rows-requires-clause-dead g c =
     λ j. ap (λ (ws : List ℕ). get_or ws j 0) c.deref_mut.ensures.value ∙ c.in_ok-wider.ensures.zeros j
 
 pub returns-clause-len : goal.returns-clause-len

@@ -16,12 +16,12 @@ returns-clause-put g c p lt =
     place_put c.args.out.now c.args.new c.args.k p (omega (arith, size, lt)) (omega (arith, size, c.requires))
 
 pub returns-clause-same : goal.returns-clause-same
-returns-clause-same g c p lt blank =
+returns-clause-same g c p lt dead =
     let old = c.lanes_at-old.result in
     let size : length c.args.new ≡ g.row.N = omega arith in
     let as_long : length old ≡ length c.args.new = omega arith in
     let was : place old p ≡ place c.args.out.now (64 * c.args.k + p) =
     lane_places old c.args.out.now c.args.k g.row.N c.lanes_at-old.ensures p lt in
     let same : place c.args.new p ≡ place c.args.out.now (64 * c.args.k + p) =
-    omega (arith, place_xor old c.args.new as_long p, blank, was, place-lt old p, place-lt c.args.new p) in
+    omega (arith, place_xor old c.args.new as_long p, dead, was, place-lt old p, place-lt c.args.new p) in
     place_put c.args.out.now c.args.new c.args.k p (omega (arith, size, lt)) (omega (arith, size, c.requires)) ∙ same

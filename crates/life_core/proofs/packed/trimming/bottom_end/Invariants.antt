@@ -5,7 +5,7 @@ abbrev pub invariant-loop-end : goal.invariant-loop-end
 invariant-loop-end l = record {
   some : l.top < l.end;
   inside : l.end ≤ l.frame.height;
-  blank : (y j : ℕ) → l.end ≤ y → y < l.frame.height → j < l.frame.words → get_or l.rows (y * l.frame.words + j) 0 ≡ 0;
+  dead : (y j : ℕ) → l.end ≤ y → y < l.frame.height → j < l.frame.words → get_or l.rows (y * l.frame.words + j) 0 ≡ 0;
 }
 
 abbrev pub decreases-loop-end : goal.decreases-loop-end

@@ -117,4 +117,4 @@ returns c =
     }) c.loop-y.out c.args.rows.now c.requires.to.frame c.requires.frame c.requires.to.wider
     (omega (arith, c.requires.out, c.loop-y.invariant.long)) c.requires.rows
     (λ z j low inside. c.loop-y.invariant.copied z j (omega arith) inside)
-    (λ z j low inside beside. c.requires.to.blank z j low inside beside))
+    (λ z j low inside beside. c.requires.to.dead z j low inside beside))

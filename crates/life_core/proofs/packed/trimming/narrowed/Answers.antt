@@ -18,16 +18,16 @@ returns-clause-frame c =
         wide = omega (arith, n.words);
         tall = omega (arith, n.height);
       };
-      blank = λ y j low inside beside. elim beside [
+      dead = λ y j low inside beside. elim beside [
         | inl rows ↦ elim rows [
-          | inl above ↦ c.top_margin-top.ensures.blank y j (omega (arith, above, c.saturating_sub-above.ensures)) inside
+          | inl above ↦ c.top_margin-top.ensures.dead y j (omega (arith, above, c.saturating_sub-above.ensures)) inside
           | inr below ↦
-              b.blank y j (omega (arith, n.height, below, c.saturating_sub-below.ensures, b.inside)) low inside
+              b.dead y j (omega (arith, n.height, below, c.saturating_sub-below.ensures, b.inside)) low inside
         ]
         | inr columns ↦ elim columns [
           | inl before ↦
-              c.left_margin-left.ensures.blank y j low (omega (arith, before, c.saturating_sub-before.ensures))
-          | inr after ↦ r.blank y j low (omega (arith, n.words, after, c.saturating_sub-after.ensures, r.inside)) inside
+              c.left_margin-left.ensures.dead y j low (omega (arith, before, c.saturating_sub-before.ensures))
+          | inr after ↦ r.dead y j low (omega (arith, n.words, after, c.saturating_sub-after.ensures, r.inside)) inside
         ]
       ];
     }
@@ -66,20 +66,20 @@ returns-clause-room c = record {
       let l = c.left_margin-left.result in
       let r = c.right_end-right.result in
       let top : t ≤ p.y = elim (cases_lt p.y t) [
-        | inl before ↦ absurd (never (c.top_margin-top.ensures.blank p.y (p.x / 64) before word))
+        | inl before ↦ absurd (never (c.top_margin-top.ensures.dead p.y (p.x / 64) before word))
         | inr after ↦ after
       ] in
       let bottom : p.y < e = elim (cases_lt p.y e) [
         | inl before ↦ before
-        | inr after ↦ absurd (never (c.bottom_end-bottom.ensures.blank p.y (p.x / 64) after p.low word))
+        | inr after ↦ absurd (never (c.bottom_end-bottom.ensures.dead p.y (p.x / 64) after p.low word))
       ] in
       let left : l ≤ p.x / 64 = elim (cases_lt (p.x / 64) l) [
-        | inl before ↦ absurd (never (c.left_margin-left.ensures.blank p.y (p.x / 64) p.low before))
+        | inl before ↦ absurd (never (c.left_margin-left.ensures.dead p.y (p.x / 64) p.low before))
         | inr after ↦ after
       ] in
       let right : p.x / 64 < r = elim (cases_lt (p.x / 64) r) [
         | inl before ↦ before
-        | inr after ↦ absurd (never (c.right_end-right.ensures.blank p.y (p.x / 64) p.low after word))
+        | inr after ↦ absurd (never (c.right_end-right.ensures.dead p.y (p.x / 64) p.low after word))
       ] in
       record {
         from_left = omega (arith, ints, n.left, p.column, a.from_left, c.saturating_sub-before.ensures, left);

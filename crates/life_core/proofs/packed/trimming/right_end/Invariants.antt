@@ -5,7 +5,7 @@ abbrev pub invariant-loop-end : goal.invariant-loop-end
 invariant-loop-end l = record {
   some : l.left < l.end;
   inside : l.end ≤ l.frame.words;
-  blank : (y j : ℕ) → y < l.frame.height → l.end ≤ j → j < l.frame.words → get_or l.rows (y * l.frame.words + j) 0 ≡ 0;
+  dead : (y j : ℕ) → y < l.frame.height → l.end ≤ j → j < l.frame.words → get_or l.rows (y * l.frame.words + j) 0 ≡ 0;
 }
 
 abbrev pub decreases-loop-end : goal.decreases-loop-end

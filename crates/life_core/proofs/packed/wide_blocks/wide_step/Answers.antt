@@ -23,8 +23,8 @@ loop-i-init g c =
           c.wide_row-top.result (c.wide_row-top.ensures.row r rows words is c.requires.first
           c.wide_sums-before.ensures c.wide_sums-first.ensures c.wide_sums-second.ensures);
       top =
-          λ r is p lt blank. (c.wide_row-top.ensures.row r rows words is c.requires.first c.wide_sums-before.ensures
-          c.wide_sums-first.ensures c.wide_sums-second.ensures).same p lt blank;
+          λ r is p lt dead. (c.wide_row-top.ensures.row r rows words is c.requires.first c.wide_sums-before.ensures
+          c.wide_sums-first.ensures c.wide_sums-second.ensures).same p lt dead;
     }
 
 pub loop-i-preserved : goal.loop-i-preserved
@@ -53,9 +53,9 @@ loop-i-preserved g c =
           c.loop-i.out c.wide_row-changed.new.out c.loop-i.all c.wide_row-changed.result c.requires.wide inv.at size
           (inv.done r is) (row r is);
       top =
-          λ r is p lt blank. block_top 4 (flat_next r rows (64 * words)) at words i k c.loop-i.out
+          λ r is p lt dead. block_top 4 (flat_next r rows (64 * words)) at words i k c.loop-i.out
           c.wide_row-changed.new.out c.wide_row-changed.result c.requires.wide c.loop-i.auto._i inv.at (row r is) p lt
-          ∙ inv.top r is p lt blank;
+          ∙ inv.top r is p lt dead;
     }
 
 pub wide_sums-after-requires-clause-last : goal.wide_sums-after-requires-clause-last
@@ -94,10 +94,10 @@ returns-clause-block g c r is =
     record {
       all = subst (λ (n : ℕ). IsBlockStep 4 N at words n old new all) end whole;
       top =
-          λ p lt blank. block_top 4 N at words i k c.loop-i.out new c.wide_row-bottom.result
-          c.requires.wide c.loop-i.auto._i inv.at row p lt ∙ inv.top r is p lt blank;
+          λ p lt dead. block_top 4 N at words i k c.loop-i.out new c.wide_row-bottom.result
+          c.requires.wide c.loop-i.auto._i inv.at row p lt ∙ inv.top r is p lt dead;
       bottom =
-          λ p lt blank. subst (λ (m : ℕ). place new (64 * m + p) ≡ place old (64 * m + p)) here
+          λ p lt dead. subst (λ (m : ℕ). place new (64 * m + p) ≡ place old (64 * m + p)) here
           (block_last 4 N at words i k old c.loop-i.out new c.loop-i.all c.wide_row-bottom.result c.requires.wide inv.at
-          (inv.done r is) row p lt blank);
+          (inv.done r is) row p lt dead);
     }

@@ -58,7 +58,8 @@ advance-requires-clause-room g c =
       | in_default w ↦
           let f = c.self.inside.frame in
           subst (λ z. HasSlack z.frame (checked_room z.slack) (framed z.frame z.rows.items)) (sym w.self-inside-is)
-          (subst (λ (rows : List ℕ). HasSlack f (checked_room c.self.inside.slack) (framed f rows)) c.deref.ensures.value
+          (subst (λ (rows : List ℕ). HasSlack f (checked_room c.self.inside.slack) (framed f rows))
+          c.deref.ensures.value
           (w.in_default.ensures.none refl))
     ] in
     subst (λ (rows : List ℕ). HasSlack s.frame 1 (framed s.frame rows)) (sym c.deref-2.ensures.value)
@@ -183,7 +184,8 @@ invariant_of-self g c =
     let on : framed s.frame c.swap.new.x.items ≡ next r (framed s.frame s.rows.items) = ap (framed s.frame) x
     ∙ c.advance.ensures.rows ∙ ap (λ (rows : List ℕ). next r (framed s.frame rows)) c.deref-2.ensures.value in
     let eq : framed s.frame c.swap.new.x.items ≡ next r c.args.self.now = on ∙ ap (next r) (J.1 ∙ c.self.view_is) in
-    let slack : checked_room s.slack - 1 ≡ c.room_after_check.result - 1 = ap (λ (n : ℕ). n - 1) (sym c.room_after_check.ensures) in
+    let slack : checked_room s.slack - 1 ≡ c.room_after_check.result - 1 =
+    ap (λ (n : ℕ). n - 1) (sym c.room_after_check.ensures) in
     record {
       frame = J.0.frame;
       whole = J.0.whole;
@@ -195,7 +197,8 @@ invariant_of-self g c =
       room =
           subst (λ (n : ℕ). HasSlack s.frame n (framed s.frame c.swap.new.x.items)) slack
           (subst (HasSlack s.frame (checked_room s.slack - 1)) (sym on)
-          (slack_less r s.frame (checked_room s.slack) (framed s.frame s.rows.items) J.0.room (checked_room_some s.slack)));
+          (slack_less r s.frame (checked_room s.slack) (framed s.frame s.rows.items) J.0.room
+          (checked_room_some s.slack)));
       spare_room =
           subst (λ (rows : List ℕ). HasSlack s.frame 0 (framed s.frame rows)) (sym y)
           (slack_of_more s.frame 0 (checked_room s.slack) (framed s.frame s.rows.items) J.0.room (omega arith));

@@ -1,7 +1,7 @@
 use Rattle.std.proofs.Common.{◌≡◌, ◌+◌, get_or, bit_or, ap, ◌∙◌, inl, inr, arith}
 use Rattle.std.proofs.lemmas.Bool.{cases_lt, cases_eq}
 use Rattle.std.proofs.lemmas.Nat.{le_or_l, le_or_r}
-use Rattle.life_core.proofs.packed.packing.skip_blank.Goals as goal
+use Rattle.life_core.proofs.packed.packing.skip_dead.Goals as goal
 
 pub loop-next-preserved : goal.loop-next-preserved
 loop-next-preserved c =
@@ -18,8 +18,8 @@ loop-next-preserved c =
     record {
       from = omega (arith, inv.from);
       inside = omega (arith, c.loop-next-test.true, inv.inside);
-      blank = λ j from to. elim (cases_lt j n) [
-        | inl before ↦ inv.blank j from before
+      dead = λ j from to. elim (cases_lt j n) [
+        | inl before ↦ inv.dead j from before
         | inr here ↦ elim (cases_eq j n) [
           | inl first ↦
               ap (λ k. get_or rows k 0) first

@@ -1,6 +1,6 @@
 -- The number and the name of each fault of a code.
 use Rattle.std.specs.Prelude.{codes}
-use Rattle.life_core.specs.Fault.{Label, label}
+use Rattle.life_core.specs.CoreFault.{Label, label}
 use Rattle.life_code.specs.declared.fault.CodeFault.{CodeFault}
 use Rattle.life_code.specs.declared.fault.CodeFault.TheVariants.{BadText, NotCanonical, NotWithinLimit, Memory}
 

@@ -1,4 +1,4 @@
-pub mod Fault
+pub mod CoreFault
 pub mod Ascii
 pub mod Cell
 pub mod Rule

@@ -4,8 +4,8 @@ ghost use Rattle.life_core.specs.Generations.{HasRoomFor, GivesGeneration, NextB
 
 use crate::cell::PLANE;
 use crate::cell_list::CellList;
-use crate::fault::Fault;
-use crate::packed::rows::PackedRows;
+use crate::core_fault::Fault;
+use crate::packed::packed_rows::PackedRows;
 use crate::pattern::{Bounds, Pattern};
 use crate::plane::Plane;
 use crate::rule::Rule;

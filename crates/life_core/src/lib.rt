@@ -4,7 +4,7 @@
 pub mod cell;
 pub mod cell_list;
 mod constant_laws;
-pub mod fault;
+pub mod core_fault;
 pub mod generations;
 pub mod orientation;
 pub mod packed;
@@ -18,13 +18,13 @@ mod sorted;
 pub use cell::{Cell, PLANE};
 pub use cell_list::CellList;
 pub use constant_laws::{law_of_life, laws_of_constants};
-pub use fault::Fault;
+pub use core_fault::Fault;
 pub use generations::{
     GENERATION_LIMIT, PACKED_LIMIT, generation, generation_by, is_packed, laws_of_generations,
 };
 pub use orientation::{Orientation, laws_of_symmetries};
+pub use packed::packed_rows::PackedRows;
 pub use packed::row::{laws_of_row_steps, row_step};
-pub use packed::rows::PackedRows;
 pub use pattern::{Bounds, Pattern, laws_of_patterns};
 pub use plane::Plane;
 pub use rule::Rule;

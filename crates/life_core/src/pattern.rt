@@ -10,7 +10,7 @@ ghost use Rattle.life_core.specs.PatternState.{IsCellList, ShiftsListTo};
 ghost use Rattle.life_core.specs.Runs.{runs_cells, moved_run, IsRunWithin, AreLongest};
 
 use crate::cell::{Cell, PLANE};
-use crate::fault::Fault;
+use crate::core_fault::Fault;
 use crate::orientation::Orientation;
 use crate::runs::{Run, Runs, are_in_order, find_cell};
 use crate::sorted::sort_cells;

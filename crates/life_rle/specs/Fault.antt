@@ -1,6 +1,6 @@
 -- Why a file is not read or written: the faults, their numbers and names, and what a function that reads may answer.
 use Rattle.std.specs.Prelude.{◌≡◌, ◌⊎◌, ℕ, List, codes, Result, Ok, Err}
-use Rattle.life_core.specs.Fault.{Label, label}
+use Rattle.life_core.specs.CoreFault.{Label, label}
 use Rattle.life_core.specs.declared.rule_text.RuleFault.{RuleFault}
 use Rattle.life_core.specs.declared.rule_text.RuleFault.TheVariants as rule_faults
 use Rattle.life_rle.specs.declared.fault.RleFault.{RleFault}

@@ -166,7 +166,7 @@ CHANGES = [
         beside,
         PROOFS,
         r"(<!-- end of clauses of life_pages -->\n)",
-        r"\1| [`read`](../crates/life_rle/src/machine.rt) | `none` | Nothing. |\n",
+        r"\1| [`read`](../crates/life_rle/src/file_reader.rt) | `none` | Nothing. |\n",
     ),
     (copies, REFUSALS, "file,bad-rule", "file,bad-rules"),
     (copies, "README.md", "2,048", "4,096"),

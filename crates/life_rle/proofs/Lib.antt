@@ -10,7 +10,7 @@ pub mod BodyLaws
 pub mod BodySteps
 pub mod ReaderLaws
 pub mod StreamLemmas
-pub mod MachineLaws
+pub mod FileReaderLaws
 pub mod RecordPairs
 pub mod WriterRuns
 pub mod WriterLemmas

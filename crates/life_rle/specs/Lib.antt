@@ -12,8 +12,8 @@ pub mod Record
 pub mod File
 pub mod BodyState
 pub mod ReaderState
-pub mod Machine
-pub mod MachineState
+pub mod FileReading
+pub mod FileReaderState
 pub mod Writer
 pub mod WriterState
 pub mod ItemLinesState

@@ -4,9 +4,9 @@
 mod body;
 mod fault;
 mod file_laws;
+mod file_reader;
 mod header;
 mod lines;
-mod machine;
 mod memory;
 mod notes;
 mod pieces;
@@ -21,7 +21,7 @@ pub use fault::{ReadFault, RleFault, WriteFault};
 pub use file_laws::{
     law_of_headers, laws_of_canonical_bodies, laws_of_files, laws_of_lines_and_runs, laws_of_texts,
 };
-pub use machine::{read, read_from, read_kept};
+pub use file_reader::{read, read_from, read_kept};
 pub use memory::{MemoryOutlet, SliceInlet};
 pub use pieces::{PieceInlet, PieceOutlet};
 pub use putting::write_to;

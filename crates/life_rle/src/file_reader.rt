@@ -3,8 +3,8 @@ ghost use Rattle.std.specs.Prelude.{◌≡◌, ℕ, ◌++◌, ◌∷◌, [], Lis
 ghost use Rattle.life_rle.specs.declared.fault.RleFault.TheVariants.{Memory};
 ghost use Rattle.life_rle.specs.Fault.{Gives};
 ghost use Rattle.life_rle.specs.File.{kept, file};
-ghost use Rattle.life_rle.specs.Machine.{ReadsKnown, ReportsFailures};
-ghost use Rattle.life_rle.specs.MachineState.{IsSound, Followed, FollowGives};
+ghost use Rattle.life_rle.specs.FileReading.{ReadsKnown, ReportsFailures};
+ghost use Rattle.life_rle.specs.FileReaderState.{IsSound, Followed, FollowGives};
 ghost use Rattle.life_rle.specs.Record.{HasNoLineEnd, IsInside};
 ghost use Rattle.life_rle.specs.Stream.{ConsumesUpTo, EndsLast, FailedBetween};
 
@@ -23,7 +23,7 @@ const MOST_TAKEN: usize = 1_048_577;
 
 /// A file that is being read line by line: what the whole lines said, and the line that has begun.
 #[derive(Drop)]
-pub(crate) struct Machine<A: Allocator> {
+pub(crate) struct FileReader<A: Allocator> {
     reader: Reader<A>,
     line: Vec<u8, A>,
 }
@@ -36,16 +36,16 @@ fn cut_line(bytes: &[u8]) -> Option<(&[u8], &[u8])>
     Some((&bytes[..end], &bytes[end + 1..]))
 }
 
-impl<A: Allocator + Copy> Machine<A> {
+impl<A: Allocator + Copy> FileReader<A> {
     ghost use Rattle.life_rle.specs.Lines.{lines_after};
-    ghost use Rattle.life_rle.specs.MachineState.{awaited};
+    ghost use Rattle.life_rle.specs.FileReaderState.{awaited};
     ghost use Rattle.life_rle.specs.ReaderState.{resumed};
 
     #[tactic(auto, unfolding(crate::specs::File::kept))]
-    fn new(alloc: A) -> Machine<A>
+    fn new(alloc: A) -> FileReader<A>
         ensures { (bytes : List ℕ) → awaited result bytes ≡ kept bytes }
     {
-        Machine {
+        FileReader {
             reader: Reader::new(alloc),
             line: Vec::new(alloc),
         }
@@ -85,7 +85,7 @@ impl<A: Allocator + Copy> Machine<A> {
         ensures gives { Gives result (awaited self []) }
         ensures inside { IfOk result (λ r. IsInside 1024 r.cells) }
     {
-        let Machine { mut reader, line } = self;
+        let FileReader { mut reader, line } = self;
         reader.line(alloc, &line)?;
         reader.finish()
     }
@@ -96,9 +96,9 @@ pub fn read_kept<A: Allocator + Copy>(alloc: A, bytes: &[u8]) -> Result<Record<A
     ensures gives { Gives result (kept bytes.now) }
     ensures inside { IfOk result (λ r. IsInside 1024 r.cells) }
 {
-    let mut machine = Machine::new(alloc);
-    machine.take_all(alloc, bytes)?;
-    machine.finish(alloc)
+    let mut file_reader = FileReader::new(alloc);
+    file_reader.take_all(alloc, bytes)?;
+    file_reader.finish(alloc)
 }
 
 /// Reads a file of at most 1,048,576 bytes.
@@ -114,15 +114,15 @@ pub fn read<A: Allocator + Copy>(alloc: A, bytes: &[u8]) -> Result<Record<A>, Rl
 }
 
 /// Takes the bytes to their end, or to one more than a file may have; says how many there were.
-fn follow<A: Allocator + Copy, I: Inlet>(
+fn read_stream<A: Allocator + Copy, I: Inlet>(
     alloc: A,
     inlet: &mut I,
-    machine: &mut Machine<A>,
+    file_reader: &mut FileReader<A>,
 ) -> Result<usize, ReadFault>
-    requires followed { Followed (I.to_come inlet.old) (I.to_come inlet.old) machine.old 0 }
-    requires sound { IsSound machine.old }
-    ensures follows { FollowGives (I.to_come inlet.old) (I.failures inlet.old) (I.failures inlet.new) machine.new result }
-    ensures sound { OnOk result (IsSound machine.new) }
+    requires followed { Followed (I.to_come inlet.old) (I.to_come inlet.old) file_reader.old 0 }
+    requires sound { IsSound file_reader.old }
+    ensures follows { FollowGives (I.to_come inlet.old) (I.failures inlet.old) (I.failures inlet.new) file_reader.new result }
+    ensures sound { OnOk result (IsSound file_reader.new) }
     ensures on_failed_take { ReportsFailures (I.failures inlet.old) (I.failures inlet.new) result }
     ensures few { ConsumesUpTo MOST_TAKEN (I.to_come inlet.old) (I.to_come inlet.new) }
     ensures end { EndsLast (I.ends inlet.old) (I.ends inlet.new) (I.last_take inlet.new) }
@@ -136,7 +136,7 @@ fn follow<A: Allocator + Copy, I: Inlet>(
             Err(_) => return Err(ReadFault::Unreadable),
             Ok(0) => return Ok(taken),
             Ok(k) => {
-                match machine.take_all(alloc, &space[..k]) {
+                match file_reader.take_all(alloc, &space[..k]) {
                     Ok(()) => {}
                     Err(fault) => return Err(ReadFault::Rle(fault)),
                 }
@@ -164,12 +164,12 @@ pub fn read_from<A: Allocator + Copy, I: Inlet>(
     ensures end { EndsLast (I.ends inlet.old) (I.ends inlet.new) (I.last_take inlet.new) }
     ensures inside { IfOk result (λ r. IsInside 1024 r.cells) }
 {
-    let mut machine = Machine::new(alloc);
-    let taken = follow(alloc, inlet, &mut machine)?;
+    let mut file_reader = FileReader::new(alloc);
+    let taken = read_stream(alloc, inlet, &mut file_reader)?;
     if taken == MOST_TAKEN {
         return Err(ReadFault::Rle(RleFault::TooLong));
     }
-    match machine.finish(alloc) {
+    match file_reader.finish(alloc) {
         Ok(record) => Ok(record),
         Err(fault) => Err(ReadFault::Rle(fault)),
     }

@@ -1,7 +1,7 @@
 use Rattle.std.proofs.Common.{[], ◌∷◌, ◌∙◌, sym, ap}
 use Rattle.life_rle.specs.Lines.{lines_after}
 use Rattle.life_rle.specs.ReaderState.{resumed}
-use Rattle.life_rle.proofs.machine.Machine.finish.Goals as goal
+use Rattle.life_rle.proofs.file_reader.FileReader.finish.Goals as goal
 
 pub finish-requires : goal.finish-requires
 unfolding lines_after

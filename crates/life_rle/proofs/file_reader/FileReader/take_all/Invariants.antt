@@ -1,6 +1,6 @@
 use Rattle.std.proofs.Common.{◌≡◌, ◌++◌, ℕ, List, length}
-use Rattle.life_rle.specs.MachineState.{awaited}
-use Rattle.life_rle.proofs.machine.Machine.take_all.Given as goal
+use Rattle.life_rle.specs.FileReaderState.{awaited}
+use Rattle.life_rle.proofs.file_reader.FileReader.take_all.Given as goal
 
 abbrev pub invariant-loop-line : goal.invariant-loop-line
 invariant-loop-line g l =

@@ -1,7 +1,7 @@
 use Rattle.std.proofs.Common.{◌≡◌, ◌≤◌, ◌-◌, ℕ}
 use Rattle.life_rle.specs.Stream.{ConsumesUpTo}
-use Rattle.life_rle.specs.MachineState.{IsSound, Followed}
-use Rattle.life_rle.proofs.machine.follow.Given as goal
+use Rattle.life_rle.specs.FileReaderState.{IsSound, Followed}
+use Rattle.life_rle.proofs.file_reader.read_stream.Given as goal
 
 -- so many bytes were taken and read, no take failed, and none found the end
 pub record IsFollowing (Told Sound Few Unfailed Unended : Type 0) (taken : ℕ) : Type 0 where
@@ -14,8 +14,8 @@ pub record IsFollowing (Told Sound Few Unfailed Unended : Type 0) (taken : ℕ) 
 
 abbrev pub invariant-loop-taken : goal.invariant-loop-taken
 invariant-loop-taken g l =
-    IsFollowing (Followed (g.I.Inlet.to_come l.initial.inlet) (g.I.Inlet.to_come l.inlet) l.machine l.taken)
-    (IsSound l.machine) (ConsumesUpTo l.taken (g.I.Inlet.to_come l.initial.inlet) (g.I.Inlet.to_come l.inlet))
+    IsFollowing (Followed (g.I.Inlet.to_come l.initial.inlet) (g.I.Inlet.to_come l.inlet) l.file_reader l.taken)
+    (IsSound l.file_reader) (ConsumesUpTo l.taken (g.I.Inlet.to_come l.initial.inlet) (g.I.Inlet.to_come l.inlet))
     (g.I.Inlet.failures l.inlet ≡ g.I.Inlet.failures l.initial.inlet)
     (g.I.Inlet.ends l.inlet ≡ g.I.Inlet.ends l.initial.inlet) l.taken
 

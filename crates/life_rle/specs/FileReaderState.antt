@@ -1,0 +1,40 @@
+-- Reading a stream line by line: what the file is read as, if these bytes are what is left.
+use Rattle.std.specs.Prelude.{◌≡◌, ℕ, ◌<◌, ◌≤◌, List, ◌++◌, length, take, drop, Option, None, Some, Result, Ok, Err}
+use Rattle.life_rle.specs.declared.fault.RleFault.{RleFault}
+use Rattle.life_rle.specs.declared.fault.RleFault.TheVariants.{Memory}
+use Rattle.life_rle.specs.declared.file_reader.FileReader.{FileReader}
+use Rattle.life_rle.specs.declared.fault.ReadFault.{ReadFault}
+use Rattle.life_rle.specs.declared.fault.ReadFault.TheVariants.{Rle, Unreadable}
+use Rattle.life_rle.specs.Stream.{FailedBetween}
+use Rattle.life_rle.specs.Lines.{lines_after}
+use Rattle.life_rle.specs.Record.{Contents, IsRecord}
+use Rattle.life_rle.specs.File.{kept}
+use Rattle.life_rle.specs.ReaderState.{resumed}
+
+-- what the file is read as, if these bytes are what is left
+abbrev pub awaited : {A : Type 0} → FileReader A → List ℕ → Result Contents RleFault
+awaited m bytes = resumed m.reader (lines_after m.line.items bytes)
+
+-- whatever the file may be read as is a record
+abbrev pub IsSound : {A : Type 0} → FileReader A → Type 0
+IsSound m = (bytes : List ℕ) (r : Contents) → awaited m bytes ≡ Ok r → IsRecord r
+
+-- the reader has read this many of the known bytes, and those after them are still to come
+abbrev pub Followed : {A : Type 0} → Option (List ℕ) → Option (List ℕ) → FileReader A → ℕ → Type 0
+Followed None now file_reader taken = Unit {0}
+Followed (Some bytes) now file_reader taken =
+    (now ≡ Some (drop taken bytes)) × (taken ≤ length bytes)
+    × ((more : List ℕ) → awaited file_reader more ≡ kept (take taken bytes ++ more))
+
+-- the reader has read all the known bytes, or one more than a file may have
+abbrev pub IsFollowed : {A : Type 0} → Option (List ℕ) → FileReader A → ℕ → Type 0
+IsFollowed None file_reader taken = Unit {0}
+IsFollowed (Some bytes) file_reader taken =
+    (taken ≤ length bytes) × (taken ≤ 1048577) × (taken < 1048577 → taken ≡ length bytes)
+    × ((more : List ℕ) → awaited file_reader more ≡ kept (take taken bytes ++ more))
+
+-- what following the known bytes answers, with the counts of failures before and after it
+abbrev pub FollowGives : {A : Type 0} → Option (List ℕ) → ℕ → ℕ → FileReader A → Result ℕ ReadFault → Type 0
+FollowGives told old new file_reader (Ok taken) = IsFollowed told file_reader taken
+FollowGives told old new file_reader (Err (Rle fault)) = fault ≡ Memory
+FollowGives told old new file_reader (Err Unreadable) = FailedBetween old new

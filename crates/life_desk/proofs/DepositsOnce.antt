@@ -5,7 +5,7 @@ use Rattle.std.specs.Str.{bytes_eq}
 use Rattle.std.proofs.lemmas.Bool.{and_parts}
 use Rattle.std.proofs.lemmas.Slice.Eq.{bytes_eq-Decides}
 use Rattle.life_rle.specs.Record.{Contents}
-use Rattle.life_rle.specs.declared.fault.RleFault.{RleFault}
+use Rattle.life_rle.specs.declared.rle_fault.RleFault.{RleFault}
 use Rattle.life_rle.specs.File as files
 use Rattle.life_rle.specs.File.{kept}
 use Rattle.life_rle.specs.Writer.{text}

@@ -5,8 +5,8 @@ use Rattle.life_core.specs.Generations.{generation_of}
 use Rattle.life_core.specs.Pattern.{Cells}
 use Rattle.life_core.specs.Rule.{RuleSets}
 use Rattle.life_core.specs.RuleText.{read_rule}
-use Rattle.life_rle.specs.declared.fault.RleFault.{RleFault}
-use Rattle.life_rle.specs.Fault.{◌>>=◌}
+use Rattle.life_rle.specs.declared.rle_fault.RleFault.{RleFault}
+use Rattle.life_rle.specs.RleFault.{◌>>=◌}
 use Rattle.life_rle.specs.File.{file}
 use Rattle.life_rle.specs.Record.{Contents, plain}
 use Rattle.life_rle.specs.Writer.{text as printed}

@@ -1,8 +1,8 @@
 -- The lines that a job over a file or a code prints on standard error, each without its line end. This program defines
 -- them.
 use Rattle.std.specs.Prelude.{ℕ, List, [], ◌++◌, codes}
-use Rattle.life_rle.specs.declared.fault.RleFault.TheVariants as rle_faults
-use Rattle.life_rle.specs.Fault as rle
+use Rattle.life_rle.specs.declared.rle_fault.RleFault.TheVariants as rle_faults
+use Rattle.life_rle.specs.RleFault as rle
 use Rattle.life_code.specs.declared.fault.CodeFault.TheVariants as code_faults
 use Rattle.life_code.specs.Fault as code
 use Rattle.life_jobs.specs.declared.stop.Stop.{Stop}

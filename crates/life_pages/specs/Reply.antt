@@ -2,7 +2,7 @@
 use Rattle.std.specs.Prelude.{ℕ, List, [], ◌++◌, length, codes, decimal, unwrap_or}
 use Rattle.http.specs.StatusCode.{code_digits, reason_phrase}
 use Rattle.serde_json.specs.Written.{compact_text}
-use Rattle.life_rle.specs.Fault.{fault_number}
+use Rattle.life_rle.specs.RleFault.{fault_number}
 use Rattle.life_desk.specs.declared.refusal.Refusal.{Refusal}
 use Rattle.life_desk.specs.declared.refusal.Refusal.TheVariants.{BadPattern}
 use Rattle.life_desk.specs.declared.request.Reply.{Reply}

@@ -1,6 +1,6 @@
 -- What `life-draw` writes for its input.
 use Rattle.std.specs.Prelude.{ℕ, ◌≤◌, ◌<◌, ◌-◌, List, Result}
-use Rattle.life_rle.specs.declared.fault.RleFault.{RleFault}
+use Rattle.life_rle.specs.declared.rle_fault.RleFault.{RleFault}
 use Rattle.life_rle.specs.Record.{Contents}
 use Rattle.life_jobs.specs.Jobs.{file_text}
 use Rattle.life_pictures.specs.declared.draw_job.Picture.{Picture}

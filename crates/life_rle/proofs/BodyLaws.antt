@@ -5,8 +5,8 @@ use Rattle.std.proofs.Common.{inl, inr}
 use Rattle.std.specs.Char.{is_ascii_digit}
 use Rattle.std.proofs.lemmas.List.{append-nil}
 use Rattle.std.proofs.lemmas.Bool.{cases_eq, cases_lt, ne_eqb, lt-ltb, le-ltb, ltb-false}
-use Rattle.life_rle.specs.declared.fault.RleFault.{RleFault}
-use Rattle.life_rle.specs.declared.fault.RleFault.TheVariants.{BadCount, TooWide, NoEnd}
+use Rattle.life_rle.specs.declared.rle_fault.RleFault.{RleFault}
+use Rattle.life_rle.specs.declared.rle_fault.RleFault.TheVariants.{BadCount, TooWide, NoEnd}
 use Rattle.life_rle.specs.Body.{Item, count_of, is_bad_number, is_end, row_after, column_after, run, placed_after}
 use Rattle.life_rle.specs.Body.{placed, items_after, fault_at, fault_at_tag, unless_faulty, judged_after}
 use Rattle.life_rle.specs.Body.{placed_unless_faulty, body_cells}

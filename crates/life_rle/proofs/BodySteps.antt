@@ -3,8 +3,8 @@ use Rattle.std.proofs.Common.{◌≡◌, ℕ, ◌+◌, ◌<◌, suc, List, ◌�
 use Rattle.std.proofs.Common.{Err, Bool, true, false, not, cond, subst, arith}
 use Rattle.std.proofs.Math.Seq.{drop-cons}
 use Rattle.life_core.specs.RuleText.{is_blank, without_blanks}
-use Rattle.life_rle.specs.declared.fault.RleFault.{RleFault}
-use Rattle.life_rle.specs.declared.fault.RleFault.TheVariants.{Memory}
+use Rattle.life_rle.specs.declared.rle_fault.RleFault.{RleFault}
+use Rattle.life_rle.specs.declared.rle_fault.RleFault.TheVariants.{Memory}
 use Rattle.life_rle.specs.BodyState.{Position, Step, goes, ends, fails, step, going, Took, body_from}
 
 false_is_true : {E : Type 0} → (let r : Result Bool E = Ok false in r) ≡ Ok true → ⊥

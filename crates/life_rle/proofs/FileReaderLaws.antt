@@ -5,10 +5,10 @@ use Rattle.std.proofs.lemmas.List.{append_assoc, take-append-drop, drop_at, take
 use Rattle.std.proofs.lemmas.List.{length-take-le, append-nil, take_all}
 use Rattle.life_rle.specs.declared.file_reader.FileReader.{FileReader}
 use Rattle.std.proofs.lemmas.Bool.{lt-ltb, le-ltb}
-use Rattle.life_rle.specs.declared.fault.RleFault.{RleFault}
-use Rattle.life_rle.specs.declared.fault.RleFault.TheVariants.{TooLong}
-use Rattle.life_rle.specs.declared.fault.ReadFault.TheVariants.{Rle}
-use Rattle.life_rle.specs.Fault.{Fails}
+use Rattle.life_rle.specs.declared.rle_fault.RleFault.{RleFault}
+use Rattle.life_rle.specs.declared.rle_fault.RleFault.TheVariants.{TooLong}
+use Rattle.life_rle.specs.declared.rle_fault.ReadFault.TheVariants.{Rle}
+use Rattle.life_rle.specs.RleFault.{Fails}
 use Rattle.life_rle.specs.Record.{Contents}
 use Rattle.life_rle.specs.File.{kept, file}
 use Rattle.life_rle.specs.Stream.{Consumes, IsEnded}

@@ -7,7 +7,7 @@ use Rattle.std.specs.List.{AllByRecursion}
 use Rattle.std.proofs.lemmas.Bool.{cases_Bool, cases_eq}
 use Rattle.life_core.specs.RuleText.{◌>>=◌}
 use Rattle.life_rle.specs.Header.{after_words, past_digits, after_number, rule_part, header_form}
-use Rattle.life_rle.specs.Laws.{IsNumber, IsRuleEnd, HasHeaderForm, HeadersAreRead}
+use Rattle.life_rle.specs.RleLaws.{IsNumber, IsRuleEnd, HasHeaderForm, HeadersAreRead}
 
 -- ---- words
 

@@ -5,7 +5,7 @@ use Rattle.std.proofs.lemmas.List.{map-append}
 use Rattle.life_core.specs.declared.cell.TheConstants.{PLANE}
 use Rattle.life_rle.specs.WriterState.{InOrder}
 use Rattle.life_rle.specs.Writer.{tags_from, runs_of, item_text, item_texts, laid, pairs_of}
-use Rattle.life_rle.specs.Laws.{AreMaximalRuns, IsCanonical, BodiesAreCanonical}
+use Rattle.life_rle.specs.RleLaws.{AreMaximalRuns, IsCanonical, BodiesAreCanonical}
 use Rattle.life_rle.proofs.LawsCuts.{runs_are_longest}
 use Rattle.life_rle.proofs.LawsLaid.{Fits, fits_by, in_lines}
 use Rattle.life_rle.proofs.LawsRuns.{HaveTags, CountsTo, IsRun, Stays, are_tags, have_tags, tags_end, runs_end}

@@ -13,8 +13,8 @@ use Rattle.life_core.proofs.PatternExtents.{past_from, past_from-above, past_fro
 use Rattle.life_core.proofs.PatternMembers.{has_cell, contains-items}
 use Rattle.life_core.proofs.PatternOrder.{has_cell-in_order}
 use Rattle.life_rle.specs.Body.{Item, items_after, items_of}
-use Rattle.life_rle.specs.Lines.{lines_after, lines_of}
-use Rattle.life_rle.specs.Laws.{tag_bytes, IsCut, AreMaximalRuns}
+use Rattle.life_rle.specs.RleLines.{lines_after, lines_of}
+use Rattle.life_rle.specs.RleLaws.{tag_bytes, IsCut, AreMaximalRuns}
 use Rattle.life_rle.specs.Record.{Contents, HasNoLineEnd, IsRecord}
 use Rattle.life_rle.specs.Writer.{onto_run, runs_of, coordinates, pairs_of, width_of, height_of}
 use Rattle.life_rle.proofs.LinesLaws.{lines_no_end}

@@ -8,7 +8,7 @@ use Rattle.std.proofs.lemmas.List.Concat.{flat_map-append}
 use Rattle.std.proofs.lemmas.Bool.{cases_lt, le-leb, lt-leb}
 use Rattle.std.proofs.lemmas.Fmt.{length-decimal-le}
 use Rattle.life_rle.specs.Writer.{item_text, laid}
-use Rattle.life_rle.specs.Laws.{spelled_runs, AreFull}
+use Rattle.life_rle.specs.RleLaws.{spelled_runs, AreFull}
 
 -- the characters of a line of runs and its end
 abbrev pub ended : List (ℕ × ℕ) → List ℕ

@@ -6,8 +6,8 @@ use Rattle.std.proofs.lemmas.List.{append_assoc, append-nil, length-append}
 use Rattle.std.proofs.lemmas.List.Concat.{flat_map-append}
 use Rattle.std.proofs.lemmas.Bool.{ne_eqb, eq-eqb}
 use Rattle.life_rle.specs.Writer.{tags_from, runs_of, item_text, item_texts, laid}
-use Rattle.life_rle.specs.Laws.{IsTag, AreMaximalRuns, EndInLiveCells, AreFull, spelled_runs, IsCanonical}
-use Rattle.life_rle.specs.Laws.{OneCanonicalBody}
+use Rattle.life_rle.specs.RleLaws.{IsTag, AreMaximalRuns, EndInLiveCells, AreFull, spelled_runs, IsCanonical}
+use Rattle.life_rle.specs.RleLaws.{OneCanonicalBody}
 use Rattle.life_rle.proofs.LawsLaid.{ended, used, laid_here, laid_below, laid_none}
 use Rattle.life_rle.proofs.LawsRuns.{HaveTags, EndLive, gap, no_tags, no_runs, are_tags_by, walk, spelled_out}
 use Rattle.life_rle.proofs.LawsRuns.{runs_placed}

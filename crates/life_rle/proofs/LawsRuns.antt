@@ -11,7 +11,7 @@ use Rattle.std.proofs.lemmas.List.{append_assoc, append-nil}
 use Rattle.std.proofs.lemmas.Bool.{cases_eq, ne_eqb, eq-eqb, eqb-true}
 use Rattle.life_rle.specs.Body.{Item, items_after, items_of, count_of, count, run, row_after, column_after, cells_at}
 use Rattle.life_rle.specs.Body.{placed_after, placed}
-use Rattle.life_rle.specs.Laws.{IsTag, EndInLiveCells, spelled_runs}
+use Rattle.life_rle.specs.RleLaws.{IsTag, EndInLiveCells, spelled_runs}
 use Rattle.life_rle.specs.Writer.{tags_from, onto_run, runs_of, item_text}
 use Rattle.life_rle.specs.WriterState.{InOrder}
 use Rattle.life_rle.proofs.BodyPositions.{row_after_push, column_after_row_end, column_after_push, placed_after-append}

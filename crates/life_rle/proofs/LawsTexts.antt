@@ -6,16 +6,16 @@ use Rattle.std.specs.Option.{option_or}
 use Rattle.std.proofs.lemmas.List.{append_assoc, append-nil}
 use Rattle.std.proofs.lemmas.Bool.{ne_eqb}
 use Rattle.life_core.specs.RuleText.{without_blanks}
-use Rattle.life_rle.specs.declared.fault.RleFault.TheVariants.{TextLimit}
-use Rattle.life_rle.specs.Lines.{Line, passed, named, authored, comment, ruled, header, line_kind, lines_of}
+use Rattle.life_rle.specs.declared.rle_fault.RleFault.TheVariants.{TextLimit}
+use Rattle.life_rle.specs.RleLines.{Line, passed, named, authored, comment, ruled, header, line_kind, lines_of}
 use Rattle.life_rle.specs.Notes.{Notes, no_notes, with_line, notes_of, is_past_limit}
 use Rattle.life_rle.specs.Header.{header_rule}
 use Rattle.life_rle.specs.Body.{body_cells}
 use Rattle.life_rle.specs.Record.{Contents}
 use Rattle.life_rle.specs.File.{front_lines, header_lines, chosen_rule, body_part, contents, after_front, read_lines}
 use Rattle.life_rle.specs.File.{kept}
-use Rattle.life_rle.specs.Laws.{is_name, is_author, is_rule, is_comment, text_of_line, first_text, without_first}
-use Rattle.life_rle.specs.Laws.{NotesAreTheLines, TextsAreTheFile}
+use Rattle.life_rle.specs.RleLaws.{is_name, is_author, is_rule, is_comment, text_of_line, first_text, without_first}
+use Rattle.life_rle.specs.RleLaws.{NotesAreTheLines, TextsAreTheFile}
 use Rattle.life_rle.proofs.RecordLaws.{bind_ok}
 
 -- the lines that give a text

@@ -8,7 +8,7 @@ pub mod RunPairs
 pub mod BodyCounts
 pub mod BodyLaws
 pub mod BodySteps
-pub mod ReaderLaws
+pub mod LineReaderLaws
 pub mod StreamLemmas
 pub mod FileReaderLaws
 pub mod RecordPairs

@@ -4,7 +4,7 @@ use Rattle.std.proofs.Common.{get_or, refl, ap, ◌∙◌, sym, subst, arith}
 use Rattle.std.specs.List.{AllByRecursion}
 use Rattle.std.proofs.lemmas.List.{reverse-append, reverse-reverse, append_assoc, append-nil}
 use Rattle.life_core.specs.RuleText.{is_blank}
-use Rattle.life_rle.specs.Lines.{trim_start, trim_end, trim, lines_after}
+use Rattle.life_rle.specs.RleLines.{trim_start, trim_end, trim, lines_after}
 use Rattle.life_rle.specs.Record.{HasNoLineEnd}
 
 -- the list is empty or begins with no blank

@@ -14,10 +14,10 @@ use Rattle.life_core.specs.RuleText.{is_count_digit, AreCountDigits, HasRuleForm
 use Rattle.life_core.specs.RuleText.{digits_by_form, counts_of_digits, rule_of_digits, read_rule, without_blanks}
 use Rattle.life_core.specs.RuleText.HasRuleForm.{birth_first, survival_first, digits_alone}
 use Rattle.life_core.proofs.RuleTextForms.{digits_by_form-spells}
-use Rattle.life_rle.specs.declared.fault.RleFault.{RleFault}
-use Rattle.life_rle.specs.declared.fault.RleFault.TheVariants.{TooLong, TextLimit, BadCount, TooWide}
-use Rattle.life_rle.specs.Fault.{in_file}
-use Rattle.life_rle.specs.Lines.{lines_of}
+use Rattle.life_rle.specs.declared.rle_fault.RleFault.{RleFault}
+use Rattle.life_rle.specs.declared.rle_fault.RleFault.TheVariants.{TooLong, TextLimit, BadCount, TooWide}
+use Rattle.life_rle.specs.RleFault.{in_file}
+use Rattle.life_rle.specs.RleLines.{lines_of}
 use Rattle.life_rle.specs.Notes.{Notes, no_notes, notes_of, is_past_limit}
 use Rattle.life_rle.specs.Header.{header_rule}
 use Rattle.life_rle.specs.Body.{Item, count, is_end, has_tag, is_counted, is_bad_number, row_after, column_after, run}

@@ -11,11 +11,11 @@ use Rattle.std.specs.FinSet as set
 use Rattle.life_core.specs.Rule.{RuleSets}
 use Rattle.life_core.specs.Pattern.{Cells, normal}
 use Rattle.life_core.specs.RuleText.{is_blank, without_blanks}
-use Rattle.life_rle.specs.declared.fault.RleFault.{RleFault}
-use Rattle.life_rle.specs.declared.fault.RleFault.TheVariants.{TextLimit}
-use Rattle.life_rle.specs.Fault.{◌>>=◌}
-use Rattle.life_rle.specs.Lines.{lines_of, trim_start, trim, Line, passed, named, authored, comment, ruled, header}
-use Rattle.life_rle.specs.Lines.{marked, line_kind}
+use Rattle.life_rle.specs.declared.rle_fault.RleFault.{RleFault}
+use Rattle.life_rle.specs.declared.rle_fault.RleFault.TheVariants.{TextLimit}
+use Rattle.life_rle.specs.RleFault.{◌>>=◌}
+use Rattle.life_rle.specs.RleLines.{lines_of, trim_start, trim, Line, passed, named, authored, comment, ruled, header}
+use Rattle.life_rle.specs.RleLines.{marked, line_kind}
 use Rattle.life_rle.specs.Notes.{Notes, no_notes, with_comment, with_line, notes_of, is_long, is_long_text}
 use Rattle.life_rle.specs.Notes.{is_past_limit}
 use Rattle.life_rle.specs.Header.{header_rule}

@@ -9,7 +9,7 @@ use Rattle.std.proofs.lemmas.List.{append_assoc}
 use Rattle.std.proofs.lemmas.List.Elements.{filter-append}
 use Rattle.std.proofs.lemmas.Bool.{ne_eqb}
 use Rattle.life_core.specs.RuleText.{is_blank, without_blanks}
-use Rattle.life_rle.specs.Lines.{line_kind, passed, header}
+use Rattle.life_rle.specs.RleLines.{line_kind, passed, header}
 use Rattle.life_rle.specs.Header.{past_digits, after_number, rule_part, header_form, header_rule, formed}
 use Rattle.life_rle.specs.Record.{HasNoLineEnd}
 use Rattle.life_rle.proofs.RoundItems.{is_digit}

@@ -9,7 +9,7 @@ use Rattle.std.proofs.lemmas.Fmt.{decimal_is_IsNumeral}
 use Rattle.std.proofs.lemmas.Str.Parse.{digit_from_value}
 use Rattle.std.proofs.lemmas.List.{append_assoc, append-nil}
 use Rattle.std.proofs.lemmas.Bool.{cases_eq, cases_lt, ne_eqb, eq-eqb, le-leb, and_from, le-ltb}
-use Rattle.life_rle.specs.declared.fault.RleFault.TheVariants.{BadCount, TooWide}
+use Rattle.life_rle.specs.declared.rle_fault.RleFault.TheVariants.{BadCount, TooWide}
 use Rattle.life_rle.specs.Body.{run, is_bad_number}
 use Rattle.life_rle.specs.BodyState.{Position, goes, ends, fails, live, item_step, going, body_from, is_bad_count}
 use Rattle.life_rle.specs.Writer.{item_text}

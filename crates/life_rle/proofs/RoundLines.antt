@@ -12,7 +12,7 @@ use Rattle.std.proofs.lemmas.List.{append_assoc, append-nil}
 use Rattle.std.proofs.lemmas.List.Concat.{flat_map-append}
 use Rattle.std.proofs.lemmas.Bool.{not-true, or_parts, ne_eqb}
 use Rattle.life_core.specs.RuleText.{is_blank, without_blanks}
-use Rattle.life_rle.specs.Lines.{lines_after, trim_start, is_mark_line}
+use Rattle.life_rle.specs.RleLines.{lines_after, trim_start, is_mark_line}
 use Rattle.life_rle.specs.Body.{body_cells}
 use Rattle.life_rle.specs.File.{body_part}
 use Rattle.life_rle.specs.Record.{HasNoLineEnd}

@@ -9,20 +9,20 @@ use Rattle.life_core.specs.Rule.{IsRule}
 use Rattle.life_core.specs.RuleText.{without_blanks, rule_text}
 use Rattle.life_core.specs.Pattern.{Cells, normal}
 use Rattle.life_core.proofs.RuleTextLemmas.{read_rule-rule_text, rule_text-one_line, without_blanks-rule_text}
-use Rattle.life_rle.specs.declared.fault.RleFault.TheVariants.{TooLong, TextLimit}
-use Rattle.life_rle.specs.Fault.{in_file, ◌>>=◌}
-use Rattle.life_rle.specs.Lines.{Line, passed, named, authored, comment, line_kind, marked, lines_of, trim}
+use Rattle.life_rle.specs.declared.rle_fault.RleFault.TheVariants.{TooLong, TextLimit}
+use Rattle.life_rle.specs.RleFault.{in_file, ◌>>=◌}
+use Rattle.life_rle.specs.RleLines.{Line, passed, named, authored, comment, line_kind, marked, lines_of, trim}
 use Rattle.life_rle.specs.Notes.{Notes, no_notes, with_line, is_header_kind, is_past_limit, is_long, is_long_text}
 use Rattle.life_rle.specs.Header.{header_rule}
 use Rattle.life_rle.specs.Body.{body_cells}
 use Rattle.life_rle.specs.Record.{Contents, HasNoLineEnd, IsText, IsName, IsRecord}
 use Rattle.life_rle.specs.File.{contents, chosen_rule, body_part, read_lines, kept, file}
-use Rattle.life_rle.specs.ReaderState.{front_rule}
+use Rattle.life_rle.specs.LineReaderState.{front_rule}
 use Rattle.life_rle.specs.Writer.{text_line, optional_line, comment_line, header_line, width_of, height_of, laid}
 use Rattle.life_rle.specs.Writer.{item_texts, pairs_of, text}
-use Rattle.life_rle.specs.Laws.{IsReadAgain, IsFileAgain}
+use Rattle.life_rle.specs.RleLaws.{IsReadAgain, IsFileAgain}
 use Rattle.life_rle.proofs.LinesLaws.{lines_cut}
-use Rattle.life_rle.proofs.ReaderLaws.{read_lines_front, read_lines_header}
+use Rattle.life_rle.proofs.LineReaderLaws.{read_lines_front, read_lines_header}
 use Rattle.life_rle.proofs.RecordPairs.{AllInside, pairs_in_order, pairs_back, pairs_inside}
 use Rattle.life_rle.proofs.RoundLines.{body_lines_round}
 use Rattle.life_rle.proofs.RoundHeader.{header_text, header_round, header_kind, header_no_end}

@@ -5,10 +5,10 @@ use Rattle.std.specs.List.{flat_map}
 use Rattle.std.specs.Fmt.{digits}
 use Rattle.life_core.specs.Rule.{life}
 use Rattle.life_core.specs.RuleText.{without_blanks, read_rule}
-use Rattle.life_rle.specs.declared.fault.RleFault.{RleFault}
-use Rattle.life_rle.specs.declared.fault.RleFault.TheVariants.{TextLimit, NoHeader, BadHeader, BadRule, OtherTag}
-use Rattle.life_rle.specs.declared.fault.RleFault.TheVariants.{BadCount, TooWide, NoEnd}
-use Rattle.life_rle.specs.Lines.{lines_after, lines_of, line_kind}
+use Rattle.life_rle.specs.declared.rle_fault.RleFault.{RleFault}
+use Rattle.life_rle.specs.declared.rle_fault.RleFault.TheVariants.{TextLimit, NoHeader, BadHeader, BadRule, OtherTag}
+use Rattle.life_rle.specs.declared.rle_fault.RleFault.TheVariants.{BadCount, TooWide, NoEnd}
+use Rattle.life_rle.specs.RleLines.{lines_after, lines_of, line_kind}
 use Rattle.life_rle.specs.Notes.{Notes, no_notes, notes_of}
 use Rattle.life_rle.specs.Header.{rule_part, header_form, header_rule}
 use Rattle.life_rle.specs.Body.{items_after, row_after, column_after, run, placed_after, judged_after, body_cells}

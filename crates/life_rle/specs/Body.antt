@@ -7,8 +7,8 @@ use Rattle.std.specs.Char.{is_ascii_digit}
 use Rattle.std.specs.Str.Parse.{digits_value}
 use Rattle.life_rle.specs.Tags.{dead_tag, end_tag, live_tag, row_end_tag}
 use Rattle.life_core.specs.declared.cell.Cell.{Cell}
-use Rattle.life_rle.specs.declared.fault.RleFault.{RleFault}
-use Rattle.life_rle.specs.declared.fault.RleFault.TheVariants.{OtherTag, BadCount, TooWide, NoEnd}
+use Rattle.life_rle.specs.declared.rle_fault.RleFault.{RleFault}
+use Rattle.life_rle.specs.declared.rle_fault.RleFault.TheVariants.{OtherTag, BadCount, TooWide, NoEnd}
 
 -- the digits of a count, and the byte after them; at the end of the body there is no byte
 pub record Item : Type 0 where

@@ -4,8 +4,8 @@ use Rattle.std.specs.Prelude.{if◌then◌else◌, List, [], ◌∷◌, ◌++◌
 use Rattle.std.specs.Prelude.{Err, MatchResult}
 use Rattle.std.specs.Char.{is_ascii_digit}
 use Rattle.life_rle.specs.Tags.{dead_tag, end_tag, live_tag, row_end_tag}
-use Rattle.life_rle.specs.declared.fault.RleFault.{RleFault}
-use Rattle.life_rle.specs.declared.fault.RleFault.TheVariants.{OtherTag, BadCount, TooWide, NoEnd, Memory}
+use Rattle.life_rle.specs.declared.rle_fault.RleFault.{RleFault}
+use Rattle.life_rle.specs.declared.rle_fault.RleFault.TheVariants.{OtherTag, BadCount, TooWide, NoEnd, Memory}
 use Rattle.life_rle.specs.declared.body.Body.{Body}
 use Rattle.life_rle.specs.declared.body.Progress.{Progress}
 use Rattle.life_rle.specs.declared.body.Progress.TheVariants.{More, Ended, Failed}

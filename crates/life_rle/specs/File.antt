@@ -8,10 +8,10 @@ use Rattle.life_core.specs.Cell.{cell_at}
 use Rattle.life_core.specs.Rule.{RuleSets, life}
 use Rattle.life_core.specs.RuleText.{without_blanks, read_rule}
 use Rattle.life_core.specs.Pattern.{normal}
-use Rattle.life_rle.specs.declared.fault.RleFault.{RleFault}
-use Rattle.life_rle.specs.declared.fault.RleFault.TheVariants.{TooLong, TextLimit, NoHeader}
-use Rattle.life_rle.specs.Fault.{in_file, ◌>>=◌}
-use Rattle.life_rle.specs.Lines.{lines_of, is_mark_line}
+use Rattle.life_rle.specs.declared.rle_fault.RleFault.{RleFault}
+use Rattle.life_rle.specs.declared.rle_fault.RleFault.TheVariants.{TooLong, TextLimit, NoHeader}
+use Rattle.life_rle.specs.RleFault.{in_file, ◌>>=◌}
+use Rattle.life_rle.specs.RleLines.{lines_of, is_mark_line}
 use Rattle.life_rle.specs.Notes.{Notes, no_notes, notes_of, is_header, is_past_limit}
 use Rattle.life_rle.specs.Header.{header_rule}
 use Rattle.life_rle.specs.Body.{body_cells}

@@ -1,15 +1,15 @@
 -- Reading a stream line by line: what the file is read as, if these bytes are what is left.
 use Rattle.std.specs.Prelude.{◌≡◌, ℕ, ◌<◌, ◌≤◌, List, ◌++◌, length, take, drop, Option, None, Some, Result, Ok, Err}
-use Rattle.life_rle.specs.declared.fault.RleFault.{RleFault}
-use Rattle.life_rle.specs.declared.fault.RleFault.TheVariants.{Memory}
+use Rattle.life_rle.specs.declared.rle_fault.RleFault.{RleFault}
+use Rattle.life_rle.specs.declared.rle_fault.RleFault.TheVariants.{Memory}
 use Rattle.life_rle.specs.declared.file_reader.FileReader.{FileReader}
-use Rattle.life_rle.specs.declared.fault.ReadFault.{ReadFault}
-use Rattle.life_rle.specs.declared.fault.ReadFault.TheVariants.{Rle, Unreadable}
+use Rattle.life_rle.specs.declared.rle_fault.ReadFault.{ReadFault}
+use Rattle.life_rle.specs.declared.rle_fault.ReadFault.TheVariants.{Rle, Unreadable}
 use Rattle.life_rle.specs.Stream.{FailedBetween}
-use Rattle.life_rle.specs.Lines.{lines_after}
+use Rattle.life_rle.specs.RleLines.{lines_after}
 use Rattle.life_rle.specs.Record.{Contents, IsRecord}
 use Rattle.life_rle.specs.File.{kept}
-use Rattle.life_rle.specs.ReaderState.{resumed}
+use Rattle.life_rle.specs.LineReaderState.{resumed}
 
 -- what the file is read as, if these bytes are what is left
 abbrev pub awaited : {A : Type 0} → FileReader A → List ℕ → Result Contents RleFault

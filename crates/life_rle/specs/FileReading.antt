@@ -1,8 +1,8 @@
 -- What a function answers that reads a file from a stream.
 use Rattle.std.specs.Prelude.{◌≡◌, ℕ, List, Option, None, Some, Result, Ok, Err}
-use Rattle.life_rle.specs.declared.fault.ReadFault.{ReadFault}
-use Rattle.life_rle.specs.declared.fault.ReadFault.TheVariants.{Rle, Unreadable}
-use Rattle.life_rle.specs.Fault.{Fails}
+use Rattle.life_rle.specs.declared.rle_fault.ReadFault.{ReadFault}
+use Rattle.life_rle.specs.declared.rle_fault.ReadFault.TheVariants.{Rle, Unreadable}
+use Rattle.life_rle.specs.RleFault.{Fails}
 use Rattle.life_rle.specs.Stream.{incremented}
 use Rattle.life_rle.specs.Record.{Contents}
 use Rattle.life_rle.specs.File.{file}

@@ -4,8 +4,8 @@ use Rattle.std.specs.Prelude.{Option, Some, None, Result, Ok, Err}
 use Rattle.std.specs.Char.{is_ascii_digit, to_ascii_lowercase}
 use Rattle.life_core.specs.Ascii.{capital_x, letter_x}
 use Rattle.life_core.specs.RuleText.{after_while, ◌>>=◌}
-use Rattle.life_rle.specs.declared.fault.RleFault.{RleFault}
-use Rattle.life_rle.specs.declared.fault.RleFault.TheVariants.{NoHeader, BadHeader}
+use Rattle.life_rle.specs.declared.rle_fault.RleFault.{RleFault}
+use Rattle.life_rle.specs.declared.rle_fault.RleFault.TheVariants.{NoHeader, BadHeader}
 
 -- what follows these words, which are in small letters; in the text the letters may be of either case
 abbrev pub after_words : List ℕ → List ℕ → Option (List ℕ)

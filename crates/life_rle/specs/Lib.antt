@@ -1,9 +1,9 @@
 pub mod Tags
-pub mod Fault
+pub mod RleFault
 pub mod Stream
 pub mod Pieces
-pub mod Lines
-pub mod LinesState
+pub mod RleLines
+pub mod RleLinesState
 pub mod Notes
 pub mod Header
 pub mod HeaderState
@@ -11,11 +11,11 @@ pub mod Body
 pub mod Record
 pub mod File
 pub mod BodyState
-pub mod ReaderState
+pub mod LineReaderState
 pub mod FileReading
 pub mod FileReaderState
 pub mod Writer
 pub mod WriterState
 pub mod ItemLinesState
 pub mod Putting
-pub mod Laws
+pub mod RleLaws

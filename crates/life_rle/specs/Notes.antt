@@ -3,7 +3,7 @@ use Rattle.std.specs.Prelude.{ℕ, Bool, true, false, ◌||◌, List, [], ◌∷
 use Rattle.std.specs.Prelude.{Option, Some, None, is_some}
 use Rattle.std.specs.List.{fold, list_any}
 use Rattle.life_rle.specs.declared.notes.Notes as code
-use Rattle.life_rle.specs.Lines.{Line, passed, named, authored, comment, ruled, header, line_kind}
+use Rattle.life_rle.specs.RleLines.{Line, passed, named, authored, comment, ruled, header, line_kind}
 
 -- the texts so far
 pub record Notes : Type 0 where

@@ -1,7 +1,7 @@
 -- The result of a function that puts a text into a stream.
 use Rattle.std.specs.Prelude.{ℕ, List, Option, Result, Ok, Err}
-use Rattle.life_rle.specs.declared.fault.WriteFault.{WriteFault}
-use Rattle.life_rle.specs.declared.fault.WriteFault.TheVariants.{Unwritable, Memory}
+use Rattle.life_rle.specs.declared.rle_fault.WriteFault.{WriteFault}
+use Rattle.life_rle.specs.declared.rle_fault.WriteFault.TheVariants.{Unwritable, Memory}
 use Rattle.life_rle.specs.Stream.{Appends, AppendsSome}
 
 -- the text was put, or a prefix of it before a put that failed; out of memory has a clause of its own

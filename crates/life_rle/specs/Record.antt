@@ -5,7 +5,7 @@ use Rattle.std.specs.List.{AllByRecursion}
 use Rattle.life_core.specs.Ascii.{line_feed}
 use Rattle.life_core.specs.Rule.{RuleSets, coded_rule}
 use Rattle.life_core.specs.Pattern.{Cells, coded_cells, normal, IsWithin}
-use Rattle.life_rle.specs.Lines.{trim}
+use Rattle.life_rle.specs.RleLines.{trim}
 
 -- a name, an author, comments, a rule and a set of cells
 pub record Contents : Type 0 where

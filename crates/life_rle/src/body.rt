@@ -4,8 +4,8 @@ ghost use Rattle.std.specs.List.{All};
 ghost use Rattle.life_rle.specs.Body.{run, IsPlaced};
 ghost use Rattle.life_rle.specs.Writer.{coordinates};
 
-use crate::fault::RleFault;
-use crate::lines::is_blank;
+use crate::rle_fault::RleFault;
+use crate::rle_lines::is_blank;
 use life_core::{Run, Runs};
 use std::alloc::{AllocError, Allocator};
 
@@ -52,7 +52,7 @@ impl<A: Allocator> Body<A> {
     ghost use Rattle.std.specs.Prelude.{List, ℕ, MatchResult};
     ghost use Rattle.life_core.specs.RuleText.{without_blanks};
     ghost use Rattle.life_rle.specs.BodyState.{Took, Acts, step, item_step, next_count, start, place_reached, body_from, outcome_at};
-    ghost use Rattle.life_rle.specs.declared.fault.RleFault.TheVariants.{Memory};
+    ghost use Rattle.life_rle.specs.declared.rle_fault.RleFault.TheVariants.{Memory};
 
     /// The start of a body.
     fn new(alloc: A) -> Body<A>
@@ -167,7 +167,7 @@ impl<A: Allocator> BodyReader<A> {
     ghost use Rattle.std.specs.Prelude.{List, ℕ, ◌∷◌, MatchResult, Ok, Err, []};
     ghost use Rattle.life_core.specs.RuleText.{without_blanks};
     ghost use Rattle.life_rle.specs.BodyState.{start, body_from, outcome};
-    ghost use Rattle.life_rle.specs.declared.fault.RleFault.TheVariants.{Memory};
+    ghost use Rattle.life_rle.specs.declared.rle_fault.RleFault.TheVariants.{Memory};
 
     pub(crate) fn new(alloc: A) -> BodyReader<A>
         ensures { (rest : List ℕ) → outcome result rest ≡ body_from start rest }

@@ -1,5 +1,5 @@
 //! What holds of all files and records.
-ghost use Rattle.life_rle.specs.Laws.{LinesAreTheFile, ItemsAreTheBody, RunsAreLongest, HeadersGiveTheBox, HeadersAreRead, BodiesAreCanonical, OneCanonicalBody, NotesAreTheLines, TextsAreTheFile, RecordsAreRead, IsReadAgain, IsFileAgain};
+ghost use Rattle.life_rle.specs.RleLaws.{LinesAreTheFile, ItemsAreTheBody, RunsAreLongest, HeadersGiveTheBox, HeadersAreRead, BodiesAreCanonical, OneCanonicalBody, NotesAreTheLines, TextsAreTheFile, RecordsAreRead, IsReadAgain, IsFileAgain};
 
 /// What makes the definitions of files believable: nothing is lost where a file is cut into lines, a
 /// body into items and a row into runs, and a header gives the size of the box.

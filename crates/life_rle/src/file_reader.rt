@@ -1,16 +1,16 @@
 //! Reading a file line by line, from its bytes or from a stream.
 ghost use Rattle.std.specs.Prelude.{◌≡◌, ℕ, ◌++◌, ◌∷◌, [], List, IfOk, OnOk, MatchOption, MatchResult, Err};
-ghost use Rattle.life_rle.specs.declared.fault.RleFault.TheVariants.{Memory};
-ghost use Rattle.life_rle.specs.Fault.{Gives};
+ghost use Rattle.life_rle.specs.declared.rle_fault.RleFault.TheVariants.{Memory};
+ghost use Rattle.life_rle.specs.RleFault.{Gives};
 ghost use Rattle.life_rle.specs.File.{kept, file};
 ghost use Rattle.life_rle.specs.FileReading.{ReadsKnown, ReportsFailures};
 ghost use Rattle.life_rle.specs.FileReaderState.{IsSound, Followed, FollowGives};
 ghost use Rattle.life_rle.specs.Record.{HasNoLineEnd, IsInside};
 ghost use Rattle.life_rle.specs.Stream.{ConsumesUpTo, EndsLast, FailedBetween};
 
-use crate::fault::{ReadFault, RleFault};
-use crate::reader::Reader;
+use crate::line_reader::LineReader;
 use crate::record::Record;
+use crate::rle_fault::{ReadFault, RleFault};
 use crate::stream::Inlet;
 use memchr::memchr;
 use std::alloc::Allocator;
@@ -24,7 +24,7 @@ const MOST_TAKEN: usize = 1_048_577;
 /// A file that is being read line by line: what the whole lines said, and the line that has begun.
 #[derive(Drop)]
 pub(crate) struct FileReader<A: Allocator> {
-    reader: Reader<A>,
+    reader: LineReader<A>,
     line: Vec<u8, A>,
 }
 
@@ -37,22 +37,22 @@ fn cut_line(bytes: &[u8]) -> Option<(&[u8], &[u8])>
 }
 
 impl<A: Allocator + Copy> FileReader<A> {
-    ghost use Rattle.life_rle.specs.Lines.{lines_after};
+    ghost use Rattle.life_rle.specs.RleLines.{lines_after};
     ghost use Rattle.life_rle.specs.FileReaderState.{awaited};
-    ghost use Rattle.life_rle.specs.ReaderState.{resumed};
+    ghost use Rattle.life_rle.specs.LineReaderState.{resumed};
 
     #[tactic(auto, unfolding(crate::specs::File::kept))]
     fn new(alloc: A) -> FileReader<A>
         ensures { (bytes : List ℕ) → awaited result bytes ≡ kept bytes }
     {
         FileReader {
-            reader: Reader::new(alloc),
+            reader: LineReader::new(alloc),
             line: Vec::new(alloc),
         }
     }
 
     /// Reads the line that these bytes end.
-    #[tactic(auto, unfolding(crate::specs::Lines::lines_after))]
+    #[tactic(auto, unfolding(crate::specs::RleLines::lines_after))]
     fn end_line(&mut self, alloc: A, bytes: &[u8]) -> Result<(), RleFault>
         ensures { MatchResult result (λ _. (more : List ℕ) → awaited self.new more ≡ resumed self.old.reader ((self.old.line.items ++ bytes.now) ∷ lines_after [] more)) (λ e. e ≡ Memory) }
     {
@@ -79,7 +79,7 @@ impl<A: Allocator + Copy> FileReader<A> {
     }
 
     /// What the file is read as, if nothing is left.
-    #[tactic(auto, unfolding(crate::specs::Lines::lines_after))]
+    #[tactic(auto, unfolding(crate::specs::RleLines::lines_after))]
     fn finish(self, alloc: A) -> Result<Record<A>, RleFault>
         requires { IsSound self }
         ensures gives { Gives result (awaited self []) }

@@ -4,7 +4,7 @@ ghost use Rattle.std.specs.Option.{option_copied};
 ghost use Rattle.life_rle.specs.Header.{after_words, past_digits, after_number, rule_part, header_form, header_rule};
 ghost use Rattle.life_rle.specs.HeaderState.{rule_copied};
 
-use crate::fault::RleFault;
+use crate::rle_fault::RleFault;
 
 /// What follows the words, if the text begins with them in letters of either case.
 fn after_words<'a>(words: &[u8], text: &'a [u8]) -> Option<&'a [u8]>

@@ -1,11 +1,11 @@
 //! The texts before the header.
 ghost use Rattle.std.specs.Prelude.{◌≡◌, OnOk, IfOk, MatchResult};
-ghost use Rattle.life_rle.specs.declared.fault.RleFault.TheVariants.{Memory};
+ghost use Rattle.life_rle.specs.declared.rle_fault.RleFault.TheVariants.{Memory};
 ghost use Rattle.std.specs.List.{list_any};
 ghost use Rattle.life_rle.specs.Notes.{is_long_text, is_long};
 
-use crate::fault::RleFault;
-use crate::lines::LineKind;
+use crate::rle_fault::RleFault;
+use crate::rle_lines::LineKind;
 use crate::text::{Text, Texts};
 use std::alloc::{AllocError, Allocator};
 
@@ -24,7 +24,7 @@ pub(crate) struct Notes<A: Allocator> {
 }
 
 impl<A: Allocator> Notes<A> {
-    ghost use Rattle.life_rle.specs.LinesState.{kind_of};
+    ghost use Rattle.life_rle.specs.RleLinesState.{kind_of};
     ghost use Rattle.life_rle.specs.Notes.{no_notes, with_comment, with_line, is_past_limit, notes};
 
     pub(crate) fn new(alloc: A) -> Notes<A>

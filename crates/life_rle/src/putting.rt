@@ -4,8 +4,8 @@ ghost use Rattle.life_rle.specs.Putting.{PutsText};
 ghost use Rattle.life_rle.specs.Stream.{FailsLast};
 ghost use Rattle.life_rle.specs.Writer.{text};
 
-use crate::fault::WriteFault;
 use crate::record::Record;
+use crate::rle_fault::WriteFault;
 use crate::stream::{Outlet, put_all};
 use crate::writer::write;
 use std::alloc::Allocator;

@@ -1,6 +1,6 @@
 use Rattle.std.proofs.Common.{[], ◌∷◌, ◌∙◌, sym, ap}
-use Rattle.life_rle.specs.Lines.{lines_after}
-use Rattle.life_rle.specs.ReaderState.{resumed}
+use Rattle.life_rle.specs.RleLines.{lines_after}
+use Rattle.life_rle.specs.LineReaderState.{resumed}
 use Rattle.life_rle.proofs.file_reader.FileReader.finish.Goals as goal
 
 pub finish-requires : goal.finish-requires

@@ -1,8 +1,8 @@
 use Rattle.std.proofs.Common.{◌∙◌, ◌∷◌, ◌++◌, ap, sym}
 use Rattle.std.proofs.lemmas.List.{append_assoc}
-use Rattle.life_rle.specs.Lines.{lines_after}
+use Rattle.life_rle.specs.RleLines.{lines_after}
 use Rattle.life_rle.specs.FileReaderState.{awaited}
-use Rattle.life_rle.specs.ReaderState.{resumed}
+use Rattle.life_rle.specs.LineReaderState.{resumed}
 use Rattle.life_rle.proofs.LinesLaws.{lines_on, lines_cut}
 use Rattle.life_rle.proofs.file_reader.FileReader.take_all.Goals as goal
 

@@ -1,7 +1,7 @@
 -- The kind of a line as the code has it.
-use Rattle.life_rle.specs.declared.lines.LineKind.{LineKind}
-use Rattle.life_rle.specs.declared.lines.LineKind.TheVariants as kinds
-use Rattle.life_rle.specs.Lines.{Line, passed, named, authored, comment, ruled, header}
+use Rattle.life_rle.specs.declared.rle_lines.LineKind.{LineKind}
+use Rattle.life_rle.specs.declared.rle_lines.LineKind.TheVariants as kinds
+use Rattle.life_rle.specs.RleLines.{Line, passed, named, authored, comment, ruled, header}
 
 -- what a line is, with its text as a list
 abbrev pub kind_of : LineKind → Line

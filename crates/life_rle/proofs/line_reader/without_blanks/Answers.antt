@@ -2,8 +2,8 @@ use Rattle.std.proofs.Common.{◌≡◌, ℕ, Bool, ◌+◌, ◌<◌, cond, not,
 use Rattle.std.proofs.Common.{◌∙◌, append-nil}
 use Rattle.std.proofs.lemmas.List.Elements.{filter_more}
 use Rattle.life_core.specs.RuleText.{is_blank, without_blanks}
-use Rattle.life_rle.proofs.reader.without_blanks.Goals as goal
-use Rattle.life_rle.proofs.reader.without_blanks.Goals.{then-not-is_blank+in_ok-push, else-not-is_blank}
+use Rattle.life_rle.proofs.line_reader.without_blanks.Goals as goal
+use Rattle.life_rle.proofs.line_reader.without_blanks.Goals.{then-not-is_blank+in_ok-push, else-not-is_blank}
 
 -- what is kept of one byte more
 next : (line : List ℕ) (i : ℕ) (blank : Bool) → i < length line → is_blank (get_or line i 0) ≡ blank

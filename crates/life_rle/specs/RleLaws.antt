@@ -12,7 +12,7 @@ use Rattle.life_core.specs.declared.cell.TheConstants.{PLANE}
 use Rattle.life_core.specs.Rule.{IsRule}
 use Rattle.life_core.specs.Pattern.{IsBox, IsWithin}
 use Rattle.life_rle.specs.Header.{header_form}
-use Rattle.life_rle.specs.Lines.{Line, named, authored, comment, ruled, line_kind, lines_of}
+use Rattle.life_rle.specs.RleLines.{Line, named, authored, comment, ruled, line_kind, lines_of}
 use Rattle.life_rle.specs.Notes.{no_notes, notes_of}
 use Rattle.life_rle.specs.Body.{Item, items_of, placed}
 use Rattle.life_rle.specs.Record.{Contents, HasNoLineEnd, IsRecord, IsInside}

@@ -1,8 +1,8 @@
 //! What a line is.
 ghost use Rattle.std.specs.Prelude.{◌≡◌};
 ghost use Rattle.life_core.specs.RuleText.{is_blank};
-ghost use Rattle.life_rle.specs.Lines.{trim_start, trim_end, is_mark_line, marked, line_kind};
-ghost use Rattle.life_rle.specs.LinesState.{kind_of};
+ghost use Rattle.life_rle.specs.RleLines.{trim_start, trim_end, is_mark_line, marked, line_kind};
+ghost use Rattle.life_rle.specs.RleLinesState.{kind_of};
 
 /// A space, a tab or a CR.
 pub(crate) fn is_blank(byte: u8) -> bool
@@ -69,7 +69,7 @@ fn marked(letter: u8, text: &[u8]) -> LineKind<'_>
     }
 }
 
-#[tactic(auto, unfolding(crate::specs::Lines::line_kind))]
+#[tactic(auto, unfolding(crate::specs::RleLines::line_kind))]
 pub(crate) fn line_kind(line: &[u8]) -> LineKind<'_>
     ensures { kind_of result ≡ line_kind line.now }
 {

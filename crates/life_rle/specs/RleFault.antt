@@ -3,14 +3,14 @@ use Rattle.std.specs.Prelude.{◌≡◌, ◌⊎◌, ℕ, List, codes, Result, Ok
 use Rattle.life_core.specs.CoreFault.{Label, label}
 use Rattle.life_core.specs.declared.rule_text.RuleFault.{RuleFault}
 use Rattle.life_core.specs.declared.rule_text.RuleFault.TheVariants as rule_faults
-use Rattle.life_rle.specs.declared.fault.RleFault.{RleFault}
-use Rattle.life_rle.specs.declared.fault.RleFault.TheVariants.{TooLong, TextLimit, NoHeader, BadHeader, BadRule}
-use Rattle.life_rle.specs.declared.fault.RleFault.TheVariants.{BirthZero, OtherTag, BadCount, TooWide, NoEnd, Memory}
-use Rattle.life_rle.specs.declared.fault.ReadFault.{ReadFault}
-use Rattle.life_rle.specs.declared.fault.ReadFault.TheVariants.{Rle, Unreadable}
-use Rattle.life_rle.specs.declared.fault.WriteFault.{WriteFault}
-use Rattle.life_rle.specs.declared.fault.WriteFault.TheVariants.{Unwritable}
-use Rattle.life_rle.specs.declared.fault.WriteFault.TheVariants as write_faults
+use Rattle.life_rle.specs.declared.rle_fault.RleFault.{RleFault}
+use Rattle.life_rle.specs.declared.rle_fault.RleFault.TheVariants.{TooLong, TextLimit, NoHeader, BadHeader, BadRule}
+use Rattle.life_rle.specs.declared.rle_fault.RleFault.TheVariants.{BirthZero, OtherTag, BadCount, TooWide, NoEnd, Memory}
+use Rattle.life_rle.specs.declared.rle_fault.ReadFault.{ReadFault}
+use Rattle.life_rle.specs.declared.rle_fault.ReadFault.TheVariants.{Rle, Unreadable}
+use Rattle.life_rle.specs.declared.rle_fault.WriteFault.{WriteFault}
+use Rattle.life_rle.specs.declared.rle_fault.WriteFault.TheVariants.{Unwritable}
+use Rattle.life_rle.specs.declared.rle_fault.WriteFault.TheVariants as write_faults
 
 -- the number and the name of each fault, in the order in which they are judged; the last may come at any point
 abbrev pub label_of : RleFault → Label

@@ -8,23 +8,23 @@ use Rattle.life_core.specs.declared.cell.Cell.{Cell}
 use Rattle.life_core.specs.Rule.{RuleSets}
 use Rattle.life_core.specs.Pattern.{Cells, normal}
 use Rattle.life_core.specs.RuleText.{without_blanks}
-use Rattle.life_rle.specs.declared.fault.RleFault.{RleFault}
-use Rattle.life_rle.specs.declared.fault.RleFault.TheVariants.{TextLimit, Memory}
-use Rattle.life_rle.specs.declared.lines.LineKind.{LineKind}
-use Rattle.life_rle.specs.declared.lines.LineKind.TheVariants as kinds
-use Rattle.life_rle.specs.declared.reader.Reader.{Reader}
-use Rattle.life_rle.specs.declared.reader.Stage.TheVariants as stages
+use Rattle.life_rle.specs.declared.rle_fault.RleFault.{RleFault}
+use Rattle.life_rle.specs.declared.rle_fault.RleFault.TheVariants.{TextLimit, Memory}
+use Rattle.life_rle.specs.declared.rle_lines.LineKind.{LineKind}
+use Rattle.life_rle.specs.declared.rle_lines.LineKind.TheVariants as kinds
+use Rattle.life_rle.specs.declared.line_reader.LineReader.{LineReader}
+use Rattle.life_rle.specs.declared.line_reader.Stage.TheVariants as stages
 use Rattle.life_rle.specs.declared.body.BodyReader.{BodyReader}
-use Rattle.life_rle.specs.Fault.{Fails, ◌>>=◌}
-use Rattle.life_rle.specs.Lines.{line_kind, header}
-use Rattle.life_rle.specs.LinesState.{kind_of}
+use Rattle.life_rle.specs.RleFault.{Fails, ◌>>=◌}
+use Rattle.life_rle.specs.RleLines.{line_kind, header}
+use Rattle.life_rle.specs.RleLinesState.{kind_of}
 use Rattle.life_rle.specs.Notes.{Notes, notes_of, with_line, is_header, is_header_kind, is_past_limit, notes}
 use Rattle.life_rle.specs.Header.{header_rule}
 use Rattle.life_rle.specs.Body.{body_cells, IsPlaced}
 use Rattle.life_rle.specs.BodyState.{outcome, start, body_from}
 use Rattle.life_rle.specs.Record.{Contents, IsRecord, IsInside}
 use Rattle.life_rle.specs.File.{cell_of, contents, chosen_rule, body_part, after_front, read_lines}
-use Rattle.life_rle.specs.ReaderState.{front_rule, resumed, resumed_at}
+use Rattle.life_rle.specs.LineReaderState.{front_rule, resumed, resumed_at}
 use Rattle.life_rle.specs.Writer.{coordinates}
 use Rattle.life_rle.proofs.BodyLaws.{body_from_start}
 use Rattle.life_rle.proofs.RecordCells.{normal_inside}
@@ -80,7 +80,7 @@ not_header (kinds.Author t) line h other = ap is_header_kind (sym h)
 not_header (kinds.Comment t) line h other = ap is_header_kind (sym h)
 not_header (kinds.Rule t) line h other = ap is_header_kind (sym h)
 
-pub front_more : {A : Type 0} (old new : Reader A) (line : List ℕ) (lines : List (List ℕ)) → old.stage ≡ stages.Front
+pub front_more : {A : Type 0} (old new : LineReader A) (line : List ℕ) (lines : List (List ℕ)) → old.stage ≡ stages.Front
     → new.stage ≡ old.stage → (kind : LineKind) → kind_of kind ≡ line_kind line → (kind ≡ kinds.Header → ⊥) →
     notes new.notes ≡ with_line (notes old.notes) (kind_of kind) → resumed new lines ≡ resumed old (line ∷ lines)
 front_more old new line lines front same kind is other after =
@@ -89,7 +89,7 @@ front_more old new line lines front same kind is other after =
     ∙ sym (read_lines_front (notes old.notes) line lines (not_header kind line is other))
     ∙ ap (λ s. resumed_at s old (line ∷ lines)) (sym front)
 
-pub header_more : {A : Type 0} (old : Reader A) (body : BodyReader A) (rule : RuleSets) (line text : List ℕ)
+pub header_more : {A : Type 0} (old : LineReader A) (body : BodyReader A) (rule : RuleSets) (line text : List ℕ)
     (lines : List (List ℕ)) → old.stage ≡ stages.Front → line_kind line ≡ header → text ≡ without_blanks line →
     ((rest : List ℕ) → outcome body rest ≡ body_from start rest) → front_rule (notes old.notes) text ≡ Ok rule →
     (outcome body (flat_map body_part lines) >>= λ cells. Ok (contents (notes old.notes) rule cells))
@@ -108,7 +108,7 @@ fails_is : {X : Type 0} (fault : RleFault) (read : Result X RleFault) → (fault
 fails_is fault read other (inl memory) = absurd (other memory)
 fails_is fault read other (inr e) = sym e
 
-pub header_fault : {A : Type 0} (old : Reader A) (fault : RleFault) (line text : List ℕ) (lines : List (List ℕ))
+pub header_fault : {A : Type 0} (old : LineReader A) (fault : RleFault) (line text : List ℕ) (lines : List (List ℕ))
     → old.stage ≡ stages.Front → line_kind line ≡ header → text ≡ without_blanks line →
     (fault ≡ Memory → ⊥) → Fails fault (front_rule (notes old.notes) text) → Err fault ≡ resumed old (line ∷ lines)
 header_fault old fault line text lines front is same other judged =
@@ -120,7 +120,7 @@ header_fault old fault line text lines front is same other judged =
 
 -- ---- the end
 
-pub body_end : {A : Type 0} (r : Reader A) (cells : List (ℕ × ℕ)) → r.stage ≡ stages.Body → outcome r.body [] ≡ Ok cells
+pub body_end : {A : Type 0} (r : LineReader A) (cells : List (ℕ × ℕ)) → r.stage ≡ stages.Body → outcome r.body [] ≡ Ok cells
     → resumed r [] ≡ Ok (contents (notes r.notes) r.rule cells)
 body_end r cells body read =
     ap (λ s. resumed_at s r []) body ∙ ap (λ a. a >>= λ cells. Ok (contents (notes r.notes) r.rule cells)) read

@@ -1,6 +1,6 @@
 use Rattle.std.proofs.Common.{◌∙◌}
-use Rattle.life_rle.proofs.ReaderLaws.{header_more, header_fault}
-use Rattle.life_rle.proofs.reader.Reader.header.Goals as goal
+use Rattle.life_rle.proofs.LineReaderLaws.{header_more, header_fault}
+use Rattle.life_rle.proofs.line_reader.LineReader.header.Goals as goal
 
 pub returns-in-Ok : goal.returns-in-Ok
 returns-in-Ok g c lines =

@@ -4,7 +4,7 @@ use Rattle.life_core.specs.declared.cell.TheConstants.{PLANE}
 use Rattle.life_core.specs.Pattern.{Cells, IsWithin, normal}
 use Rattle.life_rle.proofs.RecordCells.{cells_within, set_within}
 use Rattle.life_rle.proofs.RecordPairs.{placed_back}
-use Rattle.life_rle.proofs.reader.normal_of.Goals as goal
+use Rattle.life_rle.proofs.line_reader.normal_of.Goals as goal
 
 pub from_runs-requires : goal.from_runs-requires
 from_runs-requires g c = cells_within PLANE (lit< tt) c.args.cells c.requires

@@ -1,7 +1,7 @@
 //! Why a file is not read or written.
 ghost use Rattle.std.specs.Prelude.{◌≡◌};
-ghost use Rattle.life_rle.specs.declared.fault.RleFault.TheVariants.{Memory};
-ghost use Rattle.life_rle.specs.Fault.{fault_of_rule};
+ghost use Rattle.life_rle.specs.declared.rle_fault.RleFault.TheVariants.{Memory};
+ghost use Rattle.life_rle.specs.RleFault.{fault_of_rule};
 
 use life_core::{Fault, RuleFault};
 use std::alloc::{AllocError, AllocFailed};
@@ -34,7 +34,7 @@ pub enum RleFault {
 }
 
 impl RleFault {
-    ghost use Rattle.life_rle.specs.Fault.{fault_number, fault_name};
+    ghost use Rattle.life_rle.specs.RleFault.{fault_number, fault_name};
 
     /// The fault's number, from 1 on.
     pub fn number(self) -> u8
@@ -108,7 +108,7 @@ pub enum ReadFault {
 }
 
 impl ReadFault {
-    ghost use Rattle.life_rle.specs.Fault.{read_fault_number};
+    ghost use Rattle.life_rle.specs.RleFault.{read_fault_number};
 
     /// From 1 to 11 the number of the file's fault, and 12 for a take that failed.
     pub fn number(self) -> u8
@@ -131,7 +131,7 @@ pub enum WriteFault {
 }
 
 impl WriteFault {
-    ghost use Rattle.life_rle.specs.Fault.{write_fault_number};
+    ghost use Rattle.life_rle.specs.RleFault.{write_fault_number};
 
     /// The fault's number, from 1 on.
     pub fn number(self) -> u8

@@ -2,8 +2,8 @@ use Rattle.std.proofs.Common.{map}
 use Rattle.life_rle.specs.Notes.{notes}
 use Rattle.life_rle.specs.File.{contents}
 use Rattle.life_rle.specs.Writer.{coordinates}
-use Rattle.life_rle.proofs.ReaderLaws.{body_end, is_record_with, is_inside_with}
-use Rattle.life_rle.proofs.reader.Reader.finish.Goals as goal
+use Rattle.life_rle.proofs.LineReaderLaws.{body_end, is_record_with, is_inside_with}
+use Rattle.life_rle.proofs.line_reader.LineReader.finish.Goals as goal
 
 pub invariant_of-result : goal.invariant_of-result
 invariant_of-result g c =

@@ -2,12 +2,12 @@
 use Rattle.std.specs.Prelude.{ℕ, List, Result, Ok, Err, if◌then◌else◌}
 use Rattle.std.specs.List.{flat_map}
 use Rattle.life_core.specs.Rule.{RuleSets}
-use Rattle.life_rle.specs.declared.fault.RleFault.{RleFault}
-use Rattle.life_rle.specs.declared.fault.RleFault.TheVariants.{TextLimit}
-use Rattle.life_rle.specs.declared.reader.Stage.{Stage}
-use Rattle.life_rle.specs.declared.reader.Stage.TheVariants as stages
-use Rattle.life_rle.specs.declared.reader.Reader.{Reader}
-use Rattle.life_rle.specs.Fault.{◌>>=◌}
+use Rattle.life_rle.specs.declared.rle_fault.RleFault.{RleFault}
+use Rattle.life_rle.specs.declared.rle_fault.RleFault.TheVariants.{TextLimit}
+use Rattle.life_rle.specs.declared.line_reader.Stage.{Stage}
+use Rattle.life_rle.specs.declared.line_reader.Stage.TheVariants as stages
+use Rattle.life_rle.specs.declared.line_reader.LineReader.{LineReader}
+use Rattle.life_rle.specs.RleFault.{◌>>=◌}
 use Rattle.life_rle.specs.Notes.{Notes, is_past_limit, notes}
 use Rattle.life_rle.specs.Header.{header_rule}
 use Rattle.life_rle.specs.Record.{Contents}
@@ -23,12 +23,12 @@ front_rule notes text =
       chosen_rule given notes.rule
 
 -- what the file is read as by how far it has come, if these lines are what is left
-abbrev pub resumed_at : {A : Type 0} → Stage → Reader A → List (List ℕ) → Result Contents RleFault
+abbrev pub resumed_at : {A : Type 0} → Stage → LineReader A → List (List ℕ) → Result Contents RleFault
 resumed_at stages.Front r lines = read_lines (notes r.notes) lines
 resumed_at stages.Body r lines =
     outcome r.body (flat_map body_part lines) >>= λ cells. Ok (contents (notes r.notes) r.rule cells)
 resumed_at (stages.Failed fault) r lines = Err fault
 
 -- what the file is read as, if these lines are what is left
-abbrev pub resumed : {A : Type 0} → Reader A → List (List ℕ) → Result Contents RleFault
+abbrev pub resumed : {A : Type 0} → LineReader A → List (List ℕ) → Result Contents RleFault
 resumed r lines = resumed_at r.stage r lines

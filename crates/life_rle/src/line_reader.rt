@@ -4,18 +4,18 @@ ghost use Rattle.std.specs.FinSet as set;
 ghost use Rattle.std.specs.List.{All};
 ghost use Rattle.life_core.specs.Pattern.{normal};
 ghost use Rattle.life_core.specs.RuleText.{without_blanks};
-ghost use Rattle.life_rle.specs.declared.fault.RleFault.TheVariants.{Memory};
+ghost use Rattle.life_rle.specs.declared.rle_fault.RleFault.TheVariants.{Memory};
 ghost use Rattle.life_rle.specs.Body.{IsPlaced};
-ghost use Rattle.life_rle.specs.Fault.{Gives};
+ghost use Rattle.life_rle.specs.RleFault.{Gives};
 ghost use Rattle.life_rle.specs.File.{cell_of};
 ghost use Rattle.life_rle.specs.Writer.{coordinates};
 
 use crate::body::BodyReader;
-use crate::fault::RleFault;
 use crate::header::header_rule;
-use crate::lines::{LineKind, is_blank, is_mark_line, line_kind};
 use crate::notes::Notes;
 use crate::record::Record;
+use crate::rle_fault::RleFault;
+use crate::rle_lines::{LineKind, is_blank, is_mark_line, line_kind};
 use life_core::{Pattern, Rule, Runs};
 use std::alloc::{AllocError, Allocator};
 
@@ -29,7 +29,7 @@ pub(crate) enum Stage {
 
 /// A file that is being read line by line; its first fault is kept.
 #[derive(Drop)]
-pub(crate) struct Reader<A: Allocator> {
+pub(crate) struct LineReader<A: Allocator> {
     notes: Notes<A>,
     rule: Rule,
     body: BodyReader<A>,
@@ -49,19 +49,19 @@ fn without_blanks<A: Allocator>(alloc: A, line: &[u8]) -> Result<Vec<u8, A>, All
     Ok(text)
 }
 
-impl<A: Allocator + Copy> Reader<A> {
+impl<A: Allocator + Copy> LineReader<A> {
     ghost use Rattle.std.specs.Option.{option_copied};
-    ghost use Rattle.life_rle.specs.Lines.{line_kind, header};
+    ghost use Rattle.life_rle.specs.RleLines.{line_kind, header};
     ghost use Rattle.life_rle.specs.Notes.{no_notes, notes};
     ghost use Rattle.life_rle.specs.Record.{Contents, IsRecord, IsInside};
     ghost use Rattle.life_rle.specs.File.{read_lines, chosen_rule};
-    ghost use Rattle.life_rle.specs.ReaderState.{front_rule, resumed};
-    ghost use Rattle.life_rle.specs.declared.reader.Stage.TheVariants.{Front, Body};
+    ghost use Rattle.life_rle.specs.LineReaderState.{front_rule, resumed};
+    ghost use Rattle.life_rle.specs.declared.line_reader.Stage.TheVariants.{Front, Body};
 
-    pub(crate) fn new(alloc: A) -> Reader<A>
+    pub(crate) fn new(alloc: A) -> LineReader<A>
         ensures { (lines : List (List ℕ)) → resumed result lines ≡ read_lines no_notes lines }
     {
-        Reader {
+        LineReader {
             notes: Notes::new(alloc),
             rule: Rule::LIFE,
             body: BodyReader::new(alloc),
@@ -83,7 +83,7 @@ impl<A: Allocator + Copy> Reader<A> {
     }
 
     /// Judges a header line without its blanks.
-    #[tactic(auto, unfolding(crate::specs::ReaderState::front_rule))]
+    #[tactic(auto, unfolding(crate::specs::LineReaderState::front_rule))]
     fn judge(&self, text: &[u8]) -> Result<Rule, RleFault>
         ensures { Gives result (front_rule (notes self.now.notes) text.now) }
     {
@@ -162,7 +162,7 @@ impl<A: Allocator + Copy> Reader<A> {
         ensures gives { Gives result (resumed self []) }
         ensures inside { IfOk result (λ r. IsInside 1024 r.cells) }
     {
-        let Reader {
+        let LineReader {
             notes,
             rule,
             body,

@@ -1,6 +1,6 @@
 use Rattle.std.proofs.Common.{refl}
-use Rattle.life_rle.proofs.ReaderLaws.{front_more}
-use Rattle.life_rle.proofs.reader.Reader.front_line.Goals as goal
+use Rattle.life_rle.proofs.LineReaderLaws.{front_more}
+use Rattle.life_rle.proofs.line_reader.LineReader.front_line.Goals as goal
 
 pub returns-in_ok-line-in_default : goal.returns-in_ok-line-in_default
 returns-in_ok-line-in_default g c lines =

@@ -53,9 +53,11 @@ follow_some bytes piece (Some rest) old file_reader taken k some reads loses sam
           ∙ ap kept (sym (append_assoc (take taken bytes) piece more) ∙ ap (λ s. s ++ more) (sym parts.2)),
     )
 
-pub follow_more : {A : Type 0} (told now new : Option (List ℕ)) (piece : List ℕ) (old file_reader : FileReader A) (taken k : ℕ)
+pub follow_more : {A : Type 0} (told now new : Option (List ℕ)) (piece : List ℕ) (old file_reader : FileReader A)
+    (taken k : ℕ)
     → Followed told now old taken → Consumes now new piece → length piece ≡ k →
-    ((more : List ℕ) → awaited file_reader more ≡ awaited old (piece ++ more)) → Followed told new file_reader (taken + k)
+    ((more : List ℕ) → awaited file_reader more ≡ awaited old (piece ++ more))
+    → Followed told new file_reader (taken + k)
 follow_more None now new piece old file_reader taken k f loses same on = tt
 follow_more (Some bytes) now new piece old file_reader taken k f loses same on =
     follow_some bytes piece new old file_reader taken k f.1 f.2 (subst (λ n. Consumes n new piece) f.0 loses) same on
@@ -67,7 +69,8 @@ read_too_long None file_reader taken r past = tt
 read_too_long (Some bytes) file_reader taken r past =
     inr (ap (λ t. cond t (Err TooLong) (kept bytes)) (lt-ltb 1048576 (length bytes) (omega (arith, r.0))))
 
-file_is : {A : Type 0} (bytes : List ℕ) (file_reader : FileReader A) (taken : ℕ) → IsFollowed (Some bytes) file_reader taken
+file_is : {A : Type 0} (bytes : List ℕ) (file_reader : FileReader A) (taken : ℕ)
+    → IsFollowed (Some bytes) file_reader taken
     → (taken ≡ 1048577 → ⊥) → awaited file_reader [] ≡ file bytes
 unfolding file
 file_is bytes file_reader taken r other =
@@ -77,7 +80,8 @@ file_is bytes file_reader taken r other =
     ∙ sym (ap (λ t. cond t (Err TooLong) (kept bytes)) (le-ltb 1048576 (length bytes) (omega arith)))
 
 pub read_ok : {A : Type 0} (told : Option (List ℕ)) (file_reader : FileReader A) (taken : ℕ) (r' : Contents)
-    → IsFollowed told file_reader taken → (taken ≡ 1048577 → ⊥) → awaited file_reader [] ≡ Ok (r') → ReadsKnown told (Ok r')
+    → IsFollowed told file_reader taken → (taken ≡ 1048577 → ⊥) → awaited file_reader [] ≡ Ok (r')
+    → ReadsKnown told (Ok r')
 read_ok None file_reader taken r' r other is = tt
 read_ok (Some bytes) file_reader taken r' r other is = sym (file_is bytes file_reader taken r other) ∙ is
 
@@ -86,7 +90,8 @@ pub read_fault : {A : Type 0} (told : Option (List ℕ)) (file_reader : FileRead
     → ReadsKnown told (Err (Rle fault))
 read_fault None file_reader taken fault r other is = tt
 read_fault (Some bytes) file_reader taken fault r other is =
-    let P : Result Contents RleFault → Type 0 = λ x. Fails fault x in subst P (file_is bytes file_reader taken r other) is
+    let P : Result Contents RleFault → Type 0 = λ x. Fails fault x in
+    subst P (file_is bytes file_reader taken r other) is
 
 -- ---- what is read is a record
 

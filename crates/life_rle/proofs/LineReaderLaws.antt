@@ -80,7 +80,8 @@ not_header (kinds.Author t) line h other = ap is_header_kind (sym h)
 not_header (kinds.Comment t) line h other = ap is_header_kind (sym h)
 not_header (kinds.Rule t) line h other = ap is_header_kind (sym h)
 
-pub front_more : {A : Type 0} (old new : LineReader A) (line : List ℕ) (lines : List (List ℕ)) → old.stage ≡ stages.Front
+pub front_more : {A : Type 0} (old new : LineReader A) (line : List ℕ) (lines : List (List ℕ))
+    → old.stage ≡ stages.Front
     → new.stage ≡ old.stage → (kind : LineKind) → kind_of kind ≡ line_kind line → (kind ≡ kinds.Header → ⊥) →
     notes new.notes ≡ with_line (notes old.notes) (kind_of kind) → resumed new lines ≡ resumed old (line ∷ lines)
 front_more old new line lines front same kind is other after =
@@ -120,7 +121,8 @@ header_fault old fault line text lines front is same other judged =
 
 -- ---- the end
 
-pub body_end : {A : Type 0} (r : LineReader A) (cells : List (ℕ × ℕ)) → r.stage ≡ stages.Body → outcome r.body [] ≡ Ok cells
+pub body_end : {A : Type 0} (r : LineReader A) (cells : List (ℕ × ℕ)) → r.stage ≡ stages.Body
+    → outcome r.body [] ≡ Ok cells
     → resumed r [] ≡ Ok (contents (notes r.notes) r.rule cells)
 body_end r cells body read =
     ap (λ s. resumed_at s r []) body ∙ ap (λ a. a >>= λ cells. Ok (contents (notes r.notes) r.rule cells)) read

@@ -5,7 +5,8 @@ use Rattle.life_core.specs.declared.rule_text.RuleFault.{RuleFault}
 use Rattle.life_core.specs.declared.rule_text.RuleFault.TheVariants as rule_faults
 use Rattle.life_rle.specs.declared.rle_fault.RleFault.{RleFault}
 use Rattle.life_rle.specs.declared.rle_fault.RleFault.TheVariants.{TooLong, TextLimit, NoHeader, BadHeader, BadRule}
-use Rattle.life_rle.specs.declared.rle_fault.RleFault.TheVariants.{BirthZero, OtherTag, BadCount, TooWide, NoEnd, Memory}
+use Rattle.life_rle.specs.declared.rle_fault.RleFault.TheVariants.{BirthZero, OtherTag, BadCount, TooWide, NoEnd}
+use Rattle.life_rle.specs.declared.rle_fault.RleFault.TheVariants.{Memory}
 use Rattle.life_rle.specs.declared.rle_fault.ReadFault.{ReadFault}
 use Rattle.life_rle.specs.declared.rle_fault.ReadFault.TheVariants.{Rle, Unreadable}
 use Rattle.life_rle.specs.declared.rle_fault.WriteFault.{WriteFault}

@@ -3,7 +3,8 @@ use Rattle.life_rle.proofs.file_reader.read_from.Goals as goal
 
 pub returns-then-taken-eq-MOST_TAKEN-clause-exact : goal.returns-then-taken-eq-MOST_TAKEN-clause-exact
 returns-then-taken-eq-MOST_TAKEN-clause-exact g c =
-    read_too_long _ c.read_stream.new.file_reader c.in_ok-taken.taken c.in_ok-taken.ensures.follows c.if-taken-eq-MOST_TAKEN.true
+    read_too_long _ c.read_stream.new.file_reader c.in_ok-taken.taken c.in_ok-taken.ensures.follows
+    c.if-taken-eq-MOST_TAKEN.true
 
 pub returns-in-Ok-clause-exact : goal.returns-in-Ok-clause-exact
 returns-in-Ok-clause-exact g c =
